@@ -1,0 +1,30 @@
+-- Matches as sets of headers.
+use Rattle.std.specs.Prelude.{ℕ, ◌≡◌, ◌<◌, ◌≤◌, ◌-◌, ◌/◌, ◌^◌, Option, Some, None}
+use Rattle.of10_model.specs.declared.pattern.Prefix.{Prefix}
+use Rattle.of10_model.specs.declared.pattern.Pattern.{Pattern}
+use Rattle.of10_model.specs.Header.{Header}
+
+-- a free constraint holds of each value, another of its own value alone
+abbrev pub Meets : Option ℕ → ℕ → Type 0
+Meets None x = Unit {0}
+Meets (Some v) x = x ≡ v
+
+-- a prefix holds of the addresses with the same leading bits
+abbrev pub MeetsPrefix : Option Prefix → ℕ → Type 0
+MeetsPrefix None x = Unit {0}
+MeetsPrefix (Some p) x = x / 2 ^ (32 - p.bits) ≡ p.value / 2 ^ (32 - p.bits)
+
+-- a header is in a match where each constraint holds of its field (OpenFlow 1.0.0, section 3.4)
+pub record Has (m : Pattern) (h : Header) : Type 0 where
+  pub in_port : Meets m.in_port h.in_port
+  pub dl_src : Meets m.dl_src h.dl_src
+  pub dl_dst : Meets m.dl_dst h.dl_dst
+  pub dl_vlan : Meets m.dl_vlan h.dl_vlan
+  pub dl_vlan_pcp : Meets m.dl_vlan_pcp h.dl_vlan_pcp
+  pub dl_type : Meets m.dl_type h.dl_type
+  pub nw_tos : Meets m.nw_tos h.nw_tos
+  pub nw_proto : Meets m.nw_proto h.nw_proto
+  pub nw_src : MeetsPrefix m.nw_src h.nw_src
+  pub nw_dst : MeetsPrefix m.nw_dst h.nw_dst
+  pub tp_src : Meets m.tp_src h.tp_src
+  pub tp_dst : Meets m.tp_dst h.tp_dst

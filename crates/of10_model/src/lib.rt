@@ -1,0 +1,8 @@
+//! What OpenFlow 1.0 means by headers and matches: the definitions that every crate above cites, and
+//! the plain data that definitions and code share.
+#![tactic(auto)]
+
+mod pattern;
+pub mod wire;
+
+pub use pattern::{Pattern, Prefix};
