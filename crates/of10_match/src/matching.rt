@@ -1,5 +1,5 @@
 ghost use Rattle.std.specs.Prelude.{◌≡◌, ◌↔◌, ◌≤◌, ◌-◌, ◌/◌, ◌^◌, IsTrue};
-ghost use Rattle.of10_model.specs.Pattern.{Meets, MeetsPrefix, Has};
+ghost use Rattle.of10_model.specs.Pattern.{Has, has, meets, meets_prefix};
 ghost use Rattle.of10_model.specs.Normal.{IsNormal, IsPrefix};
 
 use crate::header::Header12;
@@ -27,34 +27,54 @@ impl Model for Match {
 }
 
 fn meets_u8(constraint: Option<u8>, field: u8) -> bool
-    ensures { IsTrue result ↔ Meets constraint field }
+    ensures { result ≡ meets constraint field }
 {
     constraint.is_none_or(|value| field == value)
 }
 
 fn meets_u16(constraint: Option<u16>, field: u16) -> bool
-    ensures { IsTrue result ↔ Meets constraint field }
+    ensures { result ≡ meets constraint field }
 {
     constraint.is_none_or(|value| field == value)
 }
 
 fn meets_u64(constraint: Option<u64>, field: u64) -> bool
-    ensures { IsTrue result ↔ Meets constraint field }
+    ensures { result ≡ meets constraint field }
 {
     constraint.is_none_or(|value| field == value)
 }
 
 fn meets_prefix(constraint: Option<Prefix>, address: u32) -> bool
     requires { IsPrefix constraint }
-    ensures { IsTrue result ↔ MeetsPrefix constraint address }
+    ensures { result ≡ meets_prefix constraint address }
 {
     match constraint {
         None => true,
         Some(prefix) => {
             let ignored = 32 - prefix.bits;
-            ignored == 32 || address >> ignored == prefix.value >> ignored
+            address >> ignored == prefix.value >> ignored
         }
     }
+}
+
+#[tactic(auto, unfolding(of10_model::specs::Pattern::has))]
+fn holds(m: &Pattern, h: &Header12) -> bool
+    requires address { IsPrefix m.now.nw_src }
+    requires target { IsPrefix m.now.nw_dst }
+    ensures { result ≡ has m.now h.now }
+{
+    meets_u16(m.in_port, h.in_port)
+        && meets_u64(m.dl_src, h.dl_src)
+        && meets_u64(m.dl_dst, h.dl_dst)
+        && meets_u16(m.dl_vlan, h.dl_vlan)
+        && meets_u8(m.dl_vlan_pcp, h.dl_vlan_pcp)
+        && meets_u16(m.dl_type, h.dl_type)
+        && meets_u8(m.nw_tos, h.nw_tos)
+        && meets_u8(m.nw_proto, h.nw_proto)
+        && meets_prefix(m.nw_src, h.nw_src)
+        && meets_prefix(m.nw_dst, h.nw_dst)
+        && meets_u16(m.tp_src, h.tp_src)
+        && meets_u16(m.tp_dst, h.tp_dst)
 }
 
 impl Match {
@@ -76,20 +96,9 @@ impl Match {
 
     /// Whether each constraint holds of its field.
     pub fn matches(&self, h: &Header12) -> bool
-        ensures { IsTrue result ↔ Has self.now h.now }
+        ensures membership { IsTrue result ↔ Has self.now h.now }
+        ensures value { result ≡ has self.now h.now }
     {
-        let m = &self.pattern;
-        meets_u16(m.in_port, h.in_port)
-            && meets_u64(m.dl_src, h.dl_src)
-            && meets_u64(m.dl_dst, h.dl_dst)
-            && meets_u16(m.dl_vlan, h.dl_vlan)
-            && meets_u8(m.dl_vlan_pcp, h.dl_vlan_pcp)
-            && meets_u16(m.dl_type, h.dl_type)
-            && meets_u8(m.nw_tos, h.nw_tos)
-            && meets_u8(m.nw_proto, h.nw_proto)
-            && meets_prefix(m.nw_src, h.nw_src)
-            && meets_prefix(m.nw_dst, h.nw_dst)
-            && meets_u16(m.tp_src, h.tp_src)
-            && meets_u16(m.tp_dst, h.tp_dst)
+        holds(&self.pattern, h)
     }
 }

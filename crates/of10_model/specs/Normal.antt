@@ -1,5 +1,5 @@
 -- The normal form of a match: what each spelling of 40 bytes means, and which of the matches with the same headers is kept.
-use Rattle.std.specs.Prelude.{ℕ, ◌≡◌, ◌==◌, ◌||◌, ◌&&◌, not, ◌<◌, ◌≤◌, ◌+◌, ◌-◌, ◌*◌, ◌/◌, ◌%◌, ◌^◌, leb, Bool, true, false, if◌then◌else◌, List, drop, Option, Some, None}
+use Rattle.std.specs.Prelude.{ℕ, ◌≡◌, ◌==◌, ◌||◌, ◌&&◌, not, ◌<◌, ◌≤◌, ◌-◌, ◌*◌, ◌/◌, ◌%◌, ◌^◌, leb, Bool, true, false, if◌then◌else◌, List, drop, Option, Some, None}
 use Rattle.byteorder.specs.Endian.{big_number}
 use Rattle.of10_model.specs.declared.pattern.Prefix.{Prefix}
 use Rattle.of10_model.specs.declared.pattern.Pattern.{Pattern}
@@ -40,7 +40,7 @@ spelled bytes =
       nw_src = leading word 8 (number_at bytes 28 4);
       nw_dst = leading word 14 (number_at bytes 32 4);
       tp_src = unless_freed word 6 (number_at bytes 36 2);
-      tp_dst = unless_freed word 7 (number_at bytes 38 2)
+      tp_dst = unless_freed word 7 (number_at bytes 38 2);
     }
 
 -- ---- which constraints mean anything (this proxy's own rule, after OpenFlow 1.0.0, section 3.4)
@@ -113,7 +113,7 @@ applied m =
       nw_src = kept_prefix exact (has_network m.dl_type) m.nw_src;
       nw_dst = kept_prefix exact (has_network m.dl_type) m.nw_dst;
       tp_src = kept exact (has_ports m.dl_type proto) m.tp_src;
-      tp_dst = kept exact (has_ports m.dl_type proto) m.tp_dst
+      tp_dst = kept exact (has_ports m.dl_type proto) m.tp_dst;
     }
 
 -- the normal form of what 40 bytes spell

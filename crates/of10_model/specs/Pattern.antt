@@ -1,5 +1,5 @@
 -- Matches as sets of headers.
-use Rattle.std.specs.Prelude.{ℕ, ◌≡◌, ◌<◌, ◌≤◌, ◌-◌, ◌/◌, ◌^◌, Option, Some, None}
+use Rattle.std.specs.Prelude.{ℕ, ◌≡◌, ◌-◌, ◌/◌, ◌^◌, ◌==◌, ◌&&◌, Bool, true, Option, Some, None}
 use Rattle.of10_model.specs.declared.pattern.Prefix.{Prefix}
 use Rattle.of10_model.specs.declared.pattern.Pattern.{Pattern}
 use Rattle.of10_model.specs.Header.{Header}
@@ -28,3 +28,22 @@ pub record Has (m : Pattern) (h : Header) : Type 0 where
   pub nw_dst : MeetsPrefix m.nw_dst h.nw_dst
   pub tp_src : Meets m.tp_src h.tp_src
   pub tp_dst : Meets m.tp_dst h.tp_dst
+
+-- ---- the same as tests that compute
+
+-- whether a constraint holds of a value
+abbrev pub meets : Option ℕ → ℕ → Bool
+meets None x = true
+meets (Some v) x = x == v
+
+-- whether a prefix holds of an address
+abbrev pub meets_prefix : Option Prefix → ℕ → Bool
+meets_prefix None x = true
+meets_prefix (Some p) x = x / 2 ^ (32 - p.bits) == p.value / 2 ^ (32 - p.bits)
+
+-- whether a header is in a match: each constraint holds of its field
+unfoldable pub has : Pattern → Header → Bool
+has m h =
+    meets m.in_port h.in_port && meets m.dl_src h.dl_src && meets m.dl_dst h.dl_dst && meets m.dl_vlan h.dl_vlan
+    && meets m.dl_vlan_pcp h.dl_vlan_pcp && meets m.dl_type h.dl_type && meets m.nw_tos h.nw_tos && meets m.nw_proto h.nw_proto
+    && meets_prefix m.nw_src h.nw_src && meets_prefix m.nw_dst h.nw_dst && meets m.tp_src h.tp_src && meets m.tp_dst h.tp_dst

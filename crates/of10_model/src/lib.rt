@@ -2,6 +2,7 @@
 //! the plain data that definitions and code share.
 #![tactic(auto)]
 
+pub mod laws;
 mod pattern;
 pub mod wire;
 
