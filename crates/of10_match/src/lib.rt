@@ -3,6 +3,8 @@
 
 mod header;
 mod matching;
+mod normal;
+mod reading;
 
 pub use header::Header12;
 pub use matching::Match;

@@ -1,8 +1,10 @@
 ghost use Rattle.std.specs.Prelude.{◌≡◌, ◌↔◌, ◌≤◌, ◌-◌, ◌/◌, ◌^◌, IsTrue};
 ghost use Rattle.of10_model.specs.Pattern.{Has, has, meets, meets_prefix};
-ghost use Rattle.of10_model.specs.Normal.{IsNormal, IsPrefix};
+ghost use Rattle.of10_model.specs.Normal.{IsNormal, IsPrefix, Norm};
 
 use crate::header::Header12;
+use crate::normal::normal;
+use crate::reading::read;
 use of10_model::{Pattern, Prefix};
 use std::marker::Model;
 
@@ -92,6 +94,19 @@ impl Match {
         ensures { result ≡ pattern }
     {
         Match { pattern }
+    }
+
+    /// The normal form of the match that these bytes spell (OpenFlow 1.0.0, section 5.2.3): a field
+    /// whose wildcard bit is set is free, and so is one that needs another field's value that isn't
+    /// given, as a transport port without TCP, UDP or ICMP. Where no wildcard bit is set such a field is
+    /// zero instead, so that the match stays all-exact (this proxy's own rule). Padding and wildcard
+    /// bits from 22 on are disregarded.
+    pub fn decode(bytes: &[u8; 40]) -> Match
+        ensures { result ≡ Norm bytes.now }
+    {
+        Match {
+            pattern: normal(&read(bytes)),
+        }
     }
 
     /// Whether each constraint holds of its field.

@@ -1,2 +1,4 @@
 pub mod Twelve
 pub mod Membership
+pub mod Ranges
+pub mod Applied

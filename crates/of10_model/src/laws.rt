@@ -1,11 +1,17 @@
 //! Laws of the definitions. Each function's contract is the law; its body does nothing.
 
-ghost use Rattle.std.specs.Prelude.{◌↔◌, IsTrue};
+ghost use Rattle.std.specs.Prelude.{ℕ, List, ◌≡◌, ◌<◌, ◌↔◌, IsTrue, slice_index};
 ghost use Rattle.of10_model.specs.declared.pattern.Pattern.{Pattern};
 ghost use Rattle.of10_model.specs.Header.{Header};
 ghost use Rattle.of10_model.specs.Pattern.{Has, has};
+ghost use Rattle.of10_model.specs.Normal.{Norm, IsNormal};
 
 /// The test of membership, which computes, answers by the relation.
 pub fn membership_is_decided()
     ensures { (m : Pattern) (h : Header) → IsTrue (has m h) ↔ Has m h }
+{}
+
+/// The normal form of any bytes is a normal match.
+pub fn normal_form_is_normal()
+    ensures { (bytes : List ℕ) → ((k : ℕ) → slice_index bytes k < 256) → IsNormal (Norm bytes) }
 {}

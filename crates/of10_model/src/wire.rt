@@ -5,6 +5,14 @@ ghost use Rattle.byteorder.specs.Endian.{big_number, big_bytes};
 
 use byteorder::{BigEndian, ByteOrder};
 
+/// The byte at `at`, as a number of one byte.
+pub fn u8_at(bytes: &[u8], at: usize) -> u8
+    requires { at + 1 ≤ length bytes.now }
+    ensures { result ≡ big_number 1 (drop at bytes.now) }
+{
+    bytes[at]
+}
+
 /// The number in the two bytes from `at`.
 pub fn u16_at(bytes: &[u8], at: usize) -> u16
     requires { at + 2 ≤ length bytes.now }
