@@ -2,3 +2,4 @@ pub mod Twelve
 pub mod Membership
 pub mod Ranges
 pub mod Applied
+pub mod Spelling

@@ -1,3 +1,4 @@
 pub mod Header
 pub mod Pattern
 pub mod Normal
+pub mod Spelling

@@ -5,6 +5,7 @@ ghost use Rattle.of10_model.specs.declared.pattern.Pattern.{Pattern};
 ghost use Rattle.of10_model.specs.Header.{Header};
 ghost use Rattle.of10_model.specs.Pattern.{Has, has};
 ghost use Rattle.of10_model.specs.Normal.{Norm, IsNormal};
+ghost use Rattle.of10_model.specs.Spelling.{Spell};
 
 /// The test of membership, which computes, answers by the relation.
 pub fn membership_is_decided()
@@ -14,4 +15,9 @@ pub fn membership_is_decided()
 /// The normal form of any bytes is a normal match.
 pub fn normal_form_is_normal()
     ensures { (bytes : List ℕ) → ((k : ℕ) → slice_index bytes k < 256) → IsNormal (Norm bytes) }
+{}
+
+/// The normal spelling of a normal match is read as that match.
+pub fn normal_spelling_is_read_again()
+    ensures { (m : Pattern) → IsNormal m → Norm (Spell m) ≡ m }
 {}
