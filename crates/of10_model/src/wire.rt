@@ -1,9 +1,10 @@
 //! Numbers in messages, which are big endian (OpenFlow 1.0.0, section 5).
 
-ghost use Rattle.std.specs.Prelude.{◌≡◌, ◌+◌, ◌<◌, ◌≤◌, ◌^◌, length, drop, take, ◌++◌};
+ghost use Rattle.std.specs.Prelude.{◌≡◌, ◌+◌, ◌<◌, ◌≤◌, ◌^◌, length, drop, take, ◌++◌, OnOk, OnErr};
 ghost use Rattle.byteorder.specs.Endian.{big_number, big_bytes};
 
 use byteorder::{BigEndian, ByteOrder};
+use std::alloc::AllocError;
 
 /// The byte at `at`, as a number of one byte.
 pub fn u8_at(bytes: &[u8], at: usize) -> u8
@@ -44,4 +45,53 @@ pub fn u64_at(bytes: &[u8], at: usize) -> u64
     ensures { result ≡ big_number 8 (drop at bytes.now) }
 {
     BigEndian::read_u64(&bytes[at..])
+}
+
+/// Appends the number as one byte.
+pub fn put_u8(out: &mut Vec<u8>, n: u8) -> Result<(), AllocError>
+    ensures written { OnOk result (out.new.items ≡ out.old.items ++ big_bytes 1 n) }
+    ensures unchanged { OnErr result (out.new.items ≡ out.old.items) }
+{
+    out.extend_from_slice(&[n])
+}
+
+/// Appends the number as two bytes.
+pub fn put_u16(out: &mut Vec<u8>, n: u16) -> Result<(), AllocError>
+    ensures written { OnOk result (out.new.items ≡ out.old.items ++ big_bytes 2 n) }
+    ensures unchanged { OnErr result (out.new.items ≡ out.old.items) }
+{
+    let mut bytes = [0; 2];
+    BigEndian::write_u16(&mut bytes, n);
+    out.extend_from_slice(&bytes)
+}
+
+/// Appends the number as four bytes.
+pub fn put_u32(out: &mut Vec<u8>, n: u32) -> Result<(), AllocError>
+    ensures written { OnOk result (out.new.items ≡ out.old.items ++ big_bytes 4 n) }
+    ensures unchanged { OnErr result (out.new.items ≡ out.old.items) }
+{
+    let mut bytes = [0; 4];
+    BigEndian::write_u32(&mut bytes, n);
+    out.extend_from_slice(&bytes)
+}
+
+/// Appends the number as six bytes: a hardware address.
+pub fn put_u48(out: &mut Vec<u8>, n: u64) -> Result<(), AllocError>
+    requires { n < 2 ^ 48 }
+    ensures written { OnOk result (out.new.items ≡ out.old.items ++ big_bytes 6 n) }
+    ensures unchanged { OnErr result (out.new.items ≡ out.old.items) }
+{
+    let mut bytes = [0; 6];
+    BigEndian::write_u48(&mut bytes, n);
+    out.extend_from_slice(&bytes)
+}
+
+/// Appends the number as eight bytes.
+pub fn put_u64(out: &mut Vec<u8>, n: u64) -> Result<(), AllocError>
+    ensures written { OnOk result (out.new.items ≡ out.old.items ++ big_bytes 8 n) }
+    ensures unchanged { OnErr result (out.new.items ≡ out.old.items) }
+{
+    let mut bytes = [0; 8];
+    BigEndian::write_u64(&mut bytes, n);
+    out.extend_from_slice(&bytes)
 }
