@@ -8,3 +8,6 @@ mod reading;
 
 pub use header::Header12;
 pub use matching::Match;
+
+#[cfg(test)]
+mod tests;

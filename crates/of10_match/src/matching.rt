@@ -1,4 +1,4 @@
-ghost use Rattle.std.specs.Prelude.{◌≡◌, ◌↔◌, ◌≤◌, ◌-◌, ◌/◌, ◌^◌, IsTrue};
+ghost use Rattle.std.specs.Prelude.{◌≡◌, ◌↔◌, IsTrue};
 ghost use Rattle.of10_model.specs.Pattern.{Has, has, meets, meets_prefix};
 ghost use Rattle.of10_model.specs.Normal.{IsNormal, IsPrefix, Norm};
 
@@ -61,8 +61,8 @@ fn meets_prefix(constraint: Option<Prefix>, address: u32) -> bool
 
 #[tactic(auto, unfolding(of10_model::specs::Pattern::has))]
 fn holds(m: &Pattern, h: &Header12) -> bool
-    requires address { IsPrefix m.now.nw_src }
-    requires target { IsPrefix m.now.nw_dst }
+    requires source { IsPrefix m.now.nw_src }
+    requires destination { IsPrefix m.now.nw_dst }
     ensures { result ≡ has m.now h.now }
 {
     meets_u16(m.in_port, h.in_port)

@@ -1,9 +1,11 @@
 //! Which constraints mean anything (OpenFlow 1.0.0, section 3.4).
 
 ghost use Rattle.std.specs.Prelude.{◌≡◌, ◌||◌, if◌then◌else◌};
-ghost use Rattle.of10_model.specs.Normal.{applied, is_exact, is_given, is_value, is_whole, has_vlan, has_network, has_service, has_ports, kept, kept_prefix, meaningless, meaningless_prefix};
+ghost use Rattle.of10_model.specs.Normal.{applied, is_exact, is_value, is_whole, has_vlan, has_network, has_service};
 
 use of10_model::{Pattern, Prefix};
+
+const UNTAGGED: u16 = 0xffff;
 
 const IPV4: u16 = 0x0800;
 
@@ -15,8 +17,6 @@ const TCP: u8 = 6;
 
 const UDP: u8 = 17;
 
-const UNTAGGED: u16 = 0xffff;
-
 fn is_whole(address: Option<Prefix>) -> bool
     ensures { result ≡ is_whole address }
 {
@@ -26,8 +26,7 @@ fn is_whole(address: Option<Prefix>) -> bool
     }
 }
 
-/// Whether no field is free and both addresses are given whole.
-pub fn is_exact(m: &Pattern) -> bool
+fn is_exact(m: &Pattern) -> bool
     ensures { result ≡ is_exact m.now }
 {
     m.in_port.is_some()

@@ -1,0 +1,246 @@
+use crate::{Header12, Match};
+use byteorder::{BigEndian, ByteOrder};
+use of10_model::{Pattern, Prefix};
+
+const FREE: Pattern = Pattern {
+    in_port: None,
+    dl_src: None,
+    dl_dst: None,
+    dl_vlan: None,
+    dl_vlan_pcp: None,
+    dl_type: None,
+    nw_tos: None,
+    nw_proto: None,
+    nw_src: None,
+    nw_dst: None,
+    tp_src: None,
+    tp_dst: None,
+};
+
+/// The header of a TCP packet to a port, which came in on port 1.
+fn to_port(port: u16) -> Header12 {
+    Header12 {
+        in_port: 1,
+        dl_src: 1,
+        dl_dst: 2,
+        dl_vlan: 0xffff,
+        dl_vlan_pcp: 0,
+        dl_type: 0x0800,
+        nw_tos: 0,
+        nw_proto: 6,
+        nw_src: 0x0a000001,
+        nw_dst: 0x0a000002,
+        tp_src: 1024,
+        tp_dst: port,
+    }
+}
+
+fn with_word(word: u32, fill: u8) -> [u8; 40] {
+    let mut bytes = [fill; 40];
+    BigEndian::write_u32(&mut bytes[0..4], word);
+    bytes
+}
+
+fn of_type(word: u32, kind: u16, fill: u8) -> [u8; 40] {
+    let mut bytes = with_word(word, fill);
+    BigEndian::write_u16(&mut bytes[22..24], kind);
+    bytes
+}
+
+fn from_source(word: u32, address: u32) -> [u8; 40] {
+    let mut bytes = of_type(word, 0x0800, 0);
+    BigEndian::write_u32(&mut bytes[28..32], address);
+    bytes
+}
+
+/// IPv4, TCP, to port 80.
+fn web() -> [u8; 40] {
+    let mut bytes = of_type(0x0038204f, 0x0800, 0);
+    bytes[25] = 6;
+    bytes[39] = 80;
+    bytes
+}
+
+#[test]
+fn free_matches_have_many_spellings(rt: HostRuntime) {
+    assert_eq!(rt;
+        *Match::decode(&with_word(0x003fffff, 0xab)).pattern(),
+        FREE,
+        "fields under wildcard bits"
+    );
+    assert_eq!(rt;
+        *Match::decode(&with_word(0xffffffff, 0)).pattern(),
+        FREE,
+        "bits past the last"
+    );
+    let mut port_alone = with_word(0x0038207f, 0);
+    port_alone[39] = 80;
+    assert_eq!(rt;
+        *Match::decode(&port_alone).pattern(),
+        FREE,
+        "a port without a protocol"
+    );
+}
+
+#[test]
+fn counts_of_ignored_bits_make_prefixes(rt: HostRuntime) {
+    let cases = [
+        (
+            0x003808ef,
+            0x0a010200,
+            Some(Prefix {
+                bits: 24,
+                value: 0x0a010200,
+            }),
+        ),
+        (
+            0x00381fef,
+            0x8a010203,
+            Some(Prefix {
+                bits: 1,
+                value: 0x80000000,
+            }),
+        ),
+        (
+            0x003800ef,
+            0x8a010203,
+            Some(Prefix {
+                bits: 32,
+                value: 0x8a010203,
+            }),
+        ),
+        (0x003820ef, 0x8a010203, None),
+        (0x00383fef, 0x8a010203, None),
+    ];
+    for (word, address, nw_src) in cases {
+        let expected = Pattern {
+            dl_type: Some(0x0800),
+            nw_src,
+            ..FREE
+        };
+        assert_eq!(rt;
+            *Match::decode(&from_source(word, address)).pattern(),
+            expected,
+            "at {word:x}"
+        );
+    }
+}
+
+#[test]
+fn fields_with_their_prerequisites_are_kept(rt: HostRuntime) {
+    let expected = Pattern {
+        dl_type: Some(0x0800),
+        nw_proto: Some(6),
+        tp_dst: Some(80),
+        ..FREE
+    };
+    assert_eq!(rt; *Match::decode(&web()).pattern(), expected);
+
+    let tagged = Pattern {
+        dl_vlan: Some(0x0505),
+        dl_vlan_pcp: Some(5),
+        ..FREE
+    };
+    assert_eq!(rt;
+        *Match::decode(&with_word(0x002ffffd, 0x05)).pattern(),
+        tagged,
+        "a tag"
+    );
+    assert_eq!(rt;
+        *Match::decode(&with_word(0x002ffffd, 0xff)).pattern(),
+        Pattern {
+            dl_vlan: Some(0xffff),
+            ..FREE
+        },
+        "untagged"
+    );
+    assert_eq!(rt;
+        *Match::decode(&of_type(0x001fffef, 0x0800, 0xff)).pattern(),
+        Pattern {
+            dl_type: Some(0x0800),
+            nw_tos: Some(0xfc),
+            ..FREE
+        },
+        "a type of service"
+    );
+}
+
+#[test]
+fn all_exact_matches_stay_all_exact(rt: HostRuntime) {
+    let expected = Pattern {
+        in_port: Some(0x4f4f),
+        dl_src: Some(0x4f4f4f4f4f4f),
+        dl_dst: Some(0x4f4f4f4f4f4f),
+        dl_vlan: Some(0x4f4f),
+        dl_vlan_pcp: Some(7),
+        dl_type: Some(0x88cc),
+        nw_tos: Some(0),
+        nw_proto: Some(0),
+        nw_src: Some(Prefix { bits: 32, value: 0 }),
+        nw_dst: Some(Prefix { bits: 32, value: 0 }),
+        tp_src: Some(0),
+        tp_dst: Some(0),
+    };
+    assert_eq!(rt;
+        *Match::decode(&of_type(0, 0x88cc, 0x4f)).pattern(),
+        expected
+    );
+}
+
+#[test]
+fn headers_are_matched_by_each_constraint(rt: HostRuntime) {
+    let all = Match::decode(&with_word(0x003fffff, 0));
+    let web = Match::decode(&web());
+    let net = Match::decode(&from_source(0x003808ef, 0x0a010200));
+    let upper_half = Match::decode(&from_source(0x00381fef, 0x8a010203));
+    let base = to_port(80);
+    let cases = [
+        (all, base, true),
+        (web, base, true),
+        (web, to_port(22), false),
+        (
+            web,
+            Header12 {
+                nw_proto: 17,
+                ..base
+            },
+            false,
+        ),
+        (net, base, false),
+        (
+            net,
+            Header12 {
+                nw_src: 0x0a0102ff,
+                ..base
+            },
+            true,
+        ),
+        (
+            net,
+            Header12 {
+                nw_src: 0x0a010300,
+                ..base
+            },
+            false,
+        ),
+        (
+            upper_half,
+            Header12 {
+                nw_src: 0x80000000,
+                ..base
+            },
+            true,
+        ),
+        (
+            upper_half,
+            Header12 {
+                nw_src: 0x7fffffff,
+                ..base
+            },
+            false,
+        ),
+    ];
+    for (m, h, expected) in &cases {
+        assert_eq!(rt; m.matches(h), *expected, "{m:?} at {h:?}");
+    }
+}
