@@ -20,10 +20,7 @@ const UDP: u8 = 17;
 fn is_whole(address: Option<Prefix>) -> bool
     ensures { result ≡ is_whole address }
 {
-    match address {
-        None => false,
-        Some(prefix) => prefix.bits == 32,
-    }
+    address.is_some_and(|prefix| prefix.bits == 32)
 }
 
 fn is_exact(m: &Pattern) -> bool
@@ -46,37 +43,25 @@ fn is_exact(m: &Pattern) -> bool
 fn has_vlan(vlan: Option<u16>) -> bool
     ensures { result ≡ has_vlan vlan }
 {
-    match vlan {
-        None => false,
-        Some(number) => number != UNTAGGED,
-    }
+    vlan.is_some_and(|number| number != UNTAGGED)
 }
 
 fn has_service(kind: Option<u16>) -> bool
     ensures { result ≡ has_service kind }
 {
-    match kind {
-        None => false,
-        Some(number) => number == IPV4,
-    }
+    kind.is_some_and(|number| number == IPV4)
 }
 
 fn has_network(kind: Option<u16>) -> bool
     ensures { result ≡ has_network kind }
 {
-    match kind {
-        None => false,
-        Some(number) => number == IPV4 || number == ARP,
-    }
+    kind.is_some_and(|number| number == IPV4 || number == ARP)
 }
 
 fn is_transport(protocol: Option<u8>) -> bool
     ensures { result ≡ (is_value 1 protocol || is_value 6 protocol || is_value 17 protocol) }
 {
-    match protocol {
-        None => false,
-        Some(number) => number == ICMP || number == TCP || number == UDP,
-    }
+    protocol.is_some_and(|number| number == ICMP || number == TCP || number == UDP)
 }
 
 fn kept<T: Copy>(exact: bool, needed: bool, constraint: Option<T>, zero: T) -> Option<T>
