@@ -35,6 +35,20 @@ fn to_port(port: u16) -> Header12 {
     }
 }
 
+fn of_protocol(nw_proto: u8) -> Header12 {
+    Header12 {
+        nw_proto,
+        ..to_port(80)
+    }
+}
+
+fn of_host(nw_src: u32) -> Header12 {
+    Header12 {
+        nw_src,
+        ..to_port(80)
+    }
+}
+
 fn with_word(word: u32, fill: u8) -> [u8; 40] {
     let mut bytes = [fill; 40];
     BigEndian::write_u32(&mut bytes[0..4], word);
@@ -193,52 +207,16 @@ fn headers_are_matched_by_each_constraint(rt: HostRuntime) {
     let web = Match::decode(&web());
     let net = Match::decode(&from_source(0x003808ef, 0x0a010200));
     let upper_half = Match::decode(&from_source(0x00381fef, 0x8a010203));
-    let base = to_port(80);
     let cases = [
-        (all, base, true),
-        (web, base, true),
+        (all, to_port(80), true),
+        (web, to_port(80), true),
         (web, to_port(22), false),
-        (
-            web,
-            Header12 {
-                nw_proto: 17,
-                ..base
-            },
-            false,
-        ),
-        (net, base, false),
-        (
-            net,
-            Header12 {
-                nw_src: 0x0a0102ff,
-                ..base
-            },
-            true,
-        ),
-        (
-            net,
-            Header12 {
-                nw_src: 0x0a010300,
-                ..base
-            },
-            false,
-        ),
-        (
-            upper_half,
-            Header12 {
-                nw_src: 0x80000000,
-                ..base
-            },
-            true,
-        ),
-        (
-            upper_half,
-            Header12 {
-                nw_src: 0x7fffffff,
-                ..base
-            },
-            false,
-        ),
+        (web, of_protocol(17), false),
+        (net, to_port(80), false),
+        (net, of_host(0x0a0102ff), true),
+        (net, of_host(0x0a010300), false),
+        (upper_half, of_host(0x80000000), true),
+        (upper_half, of_host(0x7fffffff), false),
     ];
     for (m, h, expected) in &cases {
         assert_eq!(rt; m.matches(h), *expected, "{m:?} at {h:?}");
