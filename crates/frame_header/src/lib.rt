@@ -1,0 +1,6 @@
+//! The header of a packet: its twelve fields as matching sees them (OpenFlow 1.0.0, section 3.4), and
+//! the mark of a probe. No call takes memory.
+#![tactic(auto)]
+
+mod link;
+mod network;
