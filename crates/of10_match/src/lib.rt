@@ -1,0 +1,8 @@
+//! Headers and matches of OpenFlow 1.0, and their 40 bytes.
+#![tactic(auto)]
+
+mod header;
+mod matching;
+
+pub use header::Header12;
+pub use matching::Match;
