@@ -23,7 +23,7 @@ header_from in_port bytes link network = record {
   nw_src = network.nw_src;
   nw_dst = network.nw_dst;
   tp_src = network.tp_src;
-  tp_dst = network.tp_dst
+  tp_dst = network.tp_dst;
 }
 
 -- the header of a packet that came in at a port: each layer reads what the one before it leaves

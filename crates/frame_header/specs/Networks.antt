@@ -11,9 +11,9 @@ no_transport = record { tp_src = 0; tp_dst = 0 }
 unfoldable pub transport_at : ℕ → List ℕ → ℕ → Transport
 transport_at proto packet place =
     if proto == 6 || proto == 17 then
-      (if leb (place + 4) (length packet) then record { tp_src = number_at packet place 2; tp_dst = number_at packet (place + 2) 2 } else no_transport)
+    (if leb (place + 4) (length packet) then record { tp_src = number_at packet place 2; tp_dst = number_at packet (place + 2) 2 } else no_transport)
     else if proto == 1 then
-      (if leb (place + 2) (length packet) then record { tp_src = slice_index packet place; tp_dst = slice_index packet (place + 1) } else no_transport)
+    (if leb (place + 2) (length packet) then record { tp_src = slice_index packet place; tp_dst = slice_index packet (place + 1) } else no_transport)
     else no_transport
 
 abbrev pub no_network : Network
@@ -23,14 +23,14 @@ no_network = record { nw_tos = 0; nw_proto = 0; nw_src = 0; nw_dst = 0; tp_src =
 abbrev pub header_length : List ℕ → ℕ
 header_length packet = slice_index packet 0 % 16 * 4
 
--- a later fragment, or a first one that others follow: its offset or its flag for more isn't 0
-abbrev pub is_whole : List ℕ → Bool
-is_whole packet = number_at packet 6 2 % 0x4000 == 0
+-- an IPv4 packet that is no fragment: neither its offset nor its flag for more fragments is set
+abbrev pub is_unfragmented : List ℕ → Bool
+is_unfragmented packet = number_at packet 6 2 % 0x4000 == 0
 
 -- the transport fields of an IPv4 packet, which a fragment hasn't (this proxy's own rule)
 unfoldable pub transport_of : List ℕ → Transport
 transport_of packet =
-    if is_whole packet then transport_at (slice_index packet 9) packet (header_length packet) else no_transport
+    if is_unfragmented packet then transport_at (slice_index packet 9) packet (header_length packet) else no_transport
 
 -- IPv4: type of service without its two low bits, protocol, both addresses, and the transport; a header below 20 bytes is none
 unfoldable pub ipv4_of : List ℕ → Network
@@ -41,7 +41,7 @@ ipv4_of packet =
       nw_src = number_at packet 12 4;
       nw_dst = number_at packet 16 4;
       tp_src = (transport_of packet).tp_src;
-      tp_dst = (transport_of packet).tp_dst
+      tp_dst = (transport_of packet).tp_dst;
     }
     else no_network
 
@@ -49,7 +49,7 @@ ipv4_of packet =
 unfoldable pub arp_of : List ℕ → Network
 arp_of packet =
     if leb 28 (length packet) then
-      record no_network { nw_proto = slice_index packet 7; nw_src = number_at packet 14 4; nw_dst = number_at packet 24 4 }
+    record no_network { nw_proto = slice_index packet 7; nw_src = number_at packet 14 4; nw_dst = number_at packet 24 4 }
     else no_network
 
 -- the fields of a payload of a given type: IPv4, ARP or none

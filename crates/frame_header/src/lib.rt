@@ -2,5 +2,13 @@
 //! the mark of a probe. No call takes memory.
 #![tactic(auto)]
 
+mod header;
 mod link;
 mod network;
+mod probe;
+
+pub use header::header_of;
+pub use probe::{probe_slot, probe_trailer};
+
+#[cfg(test)]
+mod tests;

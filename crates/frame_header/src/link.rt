@@ -9,16 +9,21 @@ use of10_model::wire::{u16_at, u48_at};
 const NO_TYPE: u16 = 0x05ff;
 /// The least type; a smaller number is the length of an 802.3 frame.
 const LEAST_TYPE: u16 = 0x0600;
+
 const VLAN_TAG: u16 = 0x8100;
+
 const UNTAGGED: u16 = 0xffff;
+
 const SNAP: u64 = 0xaaaa_0300_0000;
 
+#[derive(Clone, Copy)]
 struct TypedPayload<'a> {
     kind: u16,
     payload: &'a [u8],
 }
 
 /// The link layer without its addresses.
+#[derive(Clone, Copy)]
 pub struct LinkLayer<'a> {
     /// The VLAN id, 0xffff where there is no tag.
     pub vlan: u16,

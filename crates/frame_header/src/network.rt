@@ -1,14 +1,18 @@
 //! The network layer, IPv4 and ARP, and the transport layer behind IPv4.
 
 ghost use Rattle.std.specs.Prelude.{◌≡◌, ◌+◌, ◌*◌, ◌/◌, ◌%◌, ◌<◌, ◌≤◌, ◌==◌, ◌↔◌, IsTrue, length, slice_index};
-ghost use Rattle.frame_header.specs.Networks.{transport_at, header_length, is_whole, transport_of, ipv4_of, arp_of, network_of};
+ghost use Rattle.frame_header.specs.Networks.{transport_at, header_length, is_unfragmented, transport_of, ipv4_of, arp_of, network_of};
 
 use of10_model::wire::{u16_at, u32_at};
 
 const IPV4: u16 = 0x0800;
+
 const ARP: u16 = 0x0806;
+
 const ICMP: u8 = 1;
+
 const TCP: u8 = 6;
+
 const UDP: u8 = 17;
 
 /// What is matched of a transport header: two ports, or ICMP's type and code.
@@ -59,9 +63,9 @@ fn without_low_two(byte: u8) -> u8
 }
 
 // Neither the fragment's offset nor its flag for more is set.
-fn is_whole(packet: &[u8]) -> bool
+fn is_unfragmented(packet: &[u8]) -> bool
     requires { 8 ≤ length packet.now }
-    ensures { result ≡ is_whole packet.now }
+    ensures { result ≡ is_unfragmented packet.now }
 {
     u16_at(packet, 6) & 0x3fff == 0
 }
@@ -89,7 +93,7 @@ fn transport_of(packet: &[u8]) -> Transport
     requires { 20 ≤ length packet.now }
     ensures { result ≡ transport_of packet.now }
 {
-    if is_whole(packet) {
+    if is_unfragmented(packet) {
         transport_at(packet[9], packet, header_length(packet))
     } else {
         NO_TRANSPORT
