@@ -30,6 +30,11 @@ const SNAP: [u8; 50] = [
     0x00, 0x00, 0x00, 0x01, 0x0a, 0x00, 0x00, 0x01, 0x00, 0x00, 0x00, 0x00, 0x00, 0x02, 0x0a, 0x00,
     0x00, 0x02,
 ];
+// At most that many bytes from the front.
+fn front(bytes: &[u8], length: usize) -> &[u8] {
+    &bytes[..length.min(bytes.len())]
+}
+
 // The header of a packet with the two addresses above and nothing behind its type.
 fn bare(dl_type: u16) -> Header12 {
     Header12 {
@@ -96,7 +101,7 @@ fn short_packets(rt: HostRuntime) {
     ];
     for (length, want) in table {
         assert_eq!(rt;
-            header_of(1, &IPV4_TCP[..length]),
+            header_of(1, front(&IPV4_TCP, length)),
             want,
             "of {length} bytes"
         );
@@ -112,7 +117,7 @@ fn vlan_tags(rt: HostRuntime) {
     };
     assert_eq!(rt; header_of(1, &TAGGED), want);
     // A tag that is cut off is none.
-    assert_eq!(rt; header_of(1, &TAGGED[..17]), bare(0));
+    assert_eq!(rt; header_of(1, front(&TAGGED, 17)), bare(0));
     let mut twice = TAGGED;
     twice[16] = 0x81;
     twice[17] = 0x00;
@@ -140,7 +145,7 @@ fn vlan_tags(rt: HostRuntime) {
 #[test]
 fn ieee_802_3(rt: HostRuntime) {
     assert_eq!(rt; header_of(1, &SNAP), arp());
-    assert_eq!(rt; header_of(1, &SNAP[..21]), bare(0x05ff));
+    assert_eq!(rt; header_of(1, front(&SNAP, 21)), bare(0x05ff));
     let mut other = SNAP;
     other[19] = 1;
     assert_eq!(rt; header_of(1, &other), bare(0x05ff));
@@ -164,7 +169,7 @@ fn ipv4_headers(rt: HostRuntime) {
     options[41] = 0x78;
     assert_eq!(rt; header_of(1, &options), ipv4(6, 0x1234, 0x5678));
     // The options are cut off, and with them the ports.
-    assert_eq!(rt; header_of(1, &options[..34]), ipv4(6, 0, 0));
+    assert_eq!(rt; header_of(1, front(&options, 34)), ipv4(6, 0, 0));
     let mut too_short = IPV4_TCP;
     too_short[14] = 0x44;
     assert_eq!(rt; header_of(1, &too_short), bare(0x0800));
@@ -196,10 +201,11 @@ fn fragments(rt: HostRuntime) {
 
 #[test]
 fn transports(rt: HostRuntime) {
-    let mut packet = IPV4_TCP;
-    packet[34] = 3;
-    packet[35] = 10;
+    let mut ports = IPV4_TCP;
+    ports[34] = 3;
+    ports[35] = 10;
     for (proto, tp_src, tp_dst) in [(17, 0x030a, 80), (1, 3, 10), (47, 0, 0)] {
+        let mut packet = ports;
         packet[23] = proto;
         assert_eq!(rt;
             header_of(1, &packet),
@@ -207,15 +213,16 @@ fn transports(rt: HostRuntime) {
             "of protocol {proto}"
         );
     }
-    packet[23] = 1;
-    assert_eq!(rt; header_of(1, &packet[..36]), ipv4(1, 3, 10));
-    assert_eq!(rt; header_of(1, &packet[..35]), ipv4(1, 0, 0));
+    let mut icmp = ports;
+    icmp[23] = 1;
+    assert_eq!(rt; header_of(1, front(&icmp, 36)), ipv4(1, 3, 10));
+    assert_eq!(rt; header_of(1, front(&icmp, 35)), ipv4(1, 0, 0));
 }
 
 #[test]
 fn arp_packets(rt: HostRuntime) {
     assert_eq!(rt; header_of(1, &ARP), arp());
-    assert_eq!(rt; header_of(1, &ARP[..41]), bare(0x0806));
+    assert_eq!(rt; header_of(1, front(&ARP, 41)), bare(0x0806));
 }
 
 // An LLDP packet of 16 bytes, filled to 52, and the trailer of a slot.
@@ -251,11 +258,11 @@ fn probes(rt: HostRuntime) {
         (59, 1),
     ] {
         let mut packet = probe(1);
-        packet[place] = value;
+        packet[place % 60] = value;
         assert_eq!(rt; probe_slot(&packet), None, "with {value} at {place}");
     }
     // The mark has to end the packet, and eight bytes alone have no type.
-    assert_eq!(rt; probe_slot(&probe(1)[..59]), None);
-    assert_eq!(rt; probe_slot(&probe(1)[..7]), None);
-    assert_eq!(rt; probe_slot(&probe(1)[52..]), None);
+    assert_eq!(rt; probe_slot(front(&probe(1), 59)), None);
+    assert_eq!(rt; probe_slot(front(&probe(1), 7)), None);
+    assert_eq!(rt; probe_slot(&probe_trailer(1)), None);
 }

@@ -1,4 +1,4 @@
-use Rattle.std.proofs.Common.{rules, ◌≡◌, None}
+use Rattle.std.proofs.Common.{rules, None}
 use Rattle.frame_header.specs.Probes.{probe_slot_of}
 use Rattle.frame_header.proofs.Probes.{exactly}
 use Rattle.frame_header.proofs.probe.probe_slot.Goals as goal
