@@ -59,6 +59,6 @@ unfolding probe_slot_of
 IsProbe-slot bytes slot p =
     rw (IsProbe-kind bytes slot p, EndsIn-trailer_slot bytes slot p.marked) refl
 
--- an answer that is the slot by the last eight bytes is exactly the slot of which the packet is a probe
-pub exactly : (bytes : List ℕ) (answer : Option ℕ) → answer ≡ probe_slot_of bytes → (slot : ℕ) → answer ≡ Some slot ↔ IsProbe bytes slot
-exactly bytes answer e slot = (λ h. slot-IsProbe bytes slot (sym e ∙ h), λ p. e ∙ IsProbe-slot bytes slot p)
+-- the slot that the definition computes is exactly the one of which the packet is a probe
+pub slot-exactly : (bytes : List ℕ) (slot : ℕ) → probe_slot_of bytes ≡ Some slot ↔ IsProbe bytes slot
+slot-exactly bytes slot = (slot-IsProbe bytes slot, IsProbe-slot bytes slot)

@@ -10,10 +10,8 @@ no_transport = record { tp_src = 0; tp_dst = 0 }
 -- TCP (6) and UDP (17) begin with two ports, ICMP (1) with a type and a code; what isn't all there, or of another protocol, is 0
 unfoldable pub transport_at : ℕ → List ℕ → ℕ → Transport
 transport_at proto packet place =
-    if proto == 6 || proto == 17 then
-    (if leb (place + 4) (length packet) then record { tp_src = number_at packet place 2; tp_dst = number_at packet (place + 2) 2 } else no_transport)
-    else if proto == 1 then
-    (if leb (place + 2) (length packet) then record { tp_src = slice_index packet place; tp_dst = slice_index packet (place + 1) } else no_transport)
+    if (proto == 6 || proto == 17) && leb (place + 4) (length packet) then record { tp_src = number_at packet place 2; tp_dst = number_at packet (place + 2) 2 }
+    else if proto == 1 && leb (place + 2) (length packet) then record { tp_src = slice_index packet place; tp_dst = slice_index packet (place + 1) }
     else no_transport
 
 abbrev pub no_network : Network

@@ -30,16 +30,22 @@ fn trailer_slot(bytes: &[u8]) -> Option<u8>
     }
 }
 
-/// The slot of which a packet is a probe: its type is LLDP and its last eight bytes are the slot's
-/// trailer (this proxy's own rule). Any packet may bear such a trailer, also of a slot that no slice has.
 #[tactic(auto, unfolding(crate::specs::Probes::probe_slot_of))]
-pub fn probe_slot(bytes: &[u8]) -> Option<u8>
-    ensures value { result ≡ probe_slot_of bytes.now }
-    ensures exactly { (slot : ℕ) → result ≡ Some slot ↔ IsProbe bytes.now slot }
+fn slot_of(bytes: &[u8]) -> Option<u8>
+    ensures { result ≡ probe_slot_of bytes.now }
 {
     if link_of(bytes).kind == LLDP {
         trailer_slot(bytes)
     } else {
         None
     }
+}
+
+/// The slot of which a packet is a probe: its type is LLDP and its last eight bytes are the slot's
+/// trailer (this proxy's own rule). Any packet may bear such a trailer, also of a slot that no slice has.
+pub fn probe_slot(bytes: &[u8]) -> Option<u8>
+    ensures value { result ≡ probe_slot_of bytes.now }
+    ensures exactly { (slot : ℕ) → result ≡ Some slot ↔ IsProbe bytes.now slot }
+{
+    slot_of(bytes)
 }
