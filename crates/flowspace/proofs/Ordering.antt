@@ -6,14 +6,14 @@ use Rattle.std.proofs.lemmas.List.Sorted.{IsPermutation-refl, IsPermutation-cons
 use Rattle.std.proofs.lemmas.List.Elements.{filter_agree}
 use Rattle.std.specs.List.Sorted.{IsPermutation, IsSortedBy, IsStableBy, ties}
 use Rattle.flowspace.specs.declared.rules.Rule.{Rule}
-use Rattle.flowspace.specs.Order.{placed, in_order, has_priority, IsRuleOrder}
+use Rattle.flowspace.specs.Order.{placed, in_order, has_priority, HasNoLower, IsRuleOrder}
 
 -- ---- how a rule is placed
 
-placed-here : (r q : Rule) (qs : List Rule) → leb q.priority r.priority ≡ true → placed r (q ∷ qs) ≡ r ∷ (q ∷ qs)
+pub placed-here : (r q : Rule) (qs : List Rule) → leb q.priority r.priority ≡ true → placed r (q ∷ qs) ≡ r ∷ (q ∷ qs)
 placed-here r q qs h = cond-true _ _ _ h
 
-placed-later : (r q : Rule) (qs : List Rule) → leb q.priority r.priority ≡ false → placed r (q ∷ qs) ≡ q ∷ placed r qs
+pub placed-later : (r q : Rule) (qs : List Rule) → leb q.priority r.priority ≡ false → placed r (q ∷ qs) ≡ q ∷ placed r qs
 placed-later r q qs h = cond-false _ _ _ h
 
 leb-le : (m n : ℕ) → leb m n ≡ true → m ≤ n
@@ -33,7 +33,7 @@ has_priority-eq p r h = eq-eqb r.priority p h
 swapped : (r q : Rule) (qs : List Rule) → IsPermutation (r ∷ (q ∷ qs)) (q ∷ (r ∷ qs))
 swapped r q qs = IsPermutation-sym _ _ (IsPermutation-middle (q ∷ []) r qs)
 
-IsPermutation-placed : (r : Rule) (qs : List Rule) → IsPermutation (r ∷ qs) (placed r qs)
+pub IsPermutation-placed : (r : Rule) (qs : List Rule) → IsPermutation (r ∷ qs) (placed r qs)
 IsPermutation-placed r [] = IsPermutation-refl (r ∷ [])
 IsPermutation-placed r (q ∷ qs) =
     elim (cases_Bool (leb q.priority r.priority)) [
@@ -124,7 +124,7 @@ AreAtMost-at n [] h j d lt = absurd (omega arith)
 AreAtMost-at n (r ∷ rs) h zero d lt = h.0
 AreAtMost-at n (r ∷ rs) h (suc j) d lt = AreAtMost-at n rs h.1 j d (omega arith)
 
-AllPairs-Falls : (rs : List Rule) → Falls rs → AllPairs (λ earlier later. later.priority ≤ earlier.priority) rs
+AllPairs-Falls : (rs : List Rule) → Falls rs → AllPairs HasNoLower rs
 AllPairs-Falls [] h i j d lt long = absurd (omega arith)
 AllPairs-Falls (r ∷ rs) h i zero d lt long = absurd (omega arith)
 AllPairs-Falls (r ∷ rs) h zero (suc j) d lt long = AreAtMost-at r.priority rs h.0 j d (omega arith)
@@ -178,6 +178,58 @@ same_from_filters (y ∷ ys) (z ∷ zs) left right same =
           sym (filter-dropped p y ys without) ∙ same p ∙ filter-dropped p z zs (ap (has_priority p) (sym head) ∙ without)
     ] in
     ap (λ w. w ∷ ys) head ∙ ap (λ l. z ∷ l) (same_from_filters ys zs left.1 right.1 tails)
+
+-- ---- the rules of a part
+
+AreAtMost-filter : (n : ℕ) (p : Rule → Bool) (rs : List Rule) → AreAtMost n rs → AreAtMost n (filter p rs)
+AreAtMost-filter n p [] h = tt
+AreAtMost-filter n p (r ∷ rs) h =
+    elim (cases_Bool (p r)) [
+      | inl kept ↦ rw (cond-true _ _ _ kept) (h.0, AreAtMost-filter n p rs h.1)
+      | inr left ↦ rw (cond-false _ _ _ left) (AreAtMost-filter n p rs h.1)
+    ]
+
+Falls-filter : (p : Rule → Bool) (rs : List Rule) → Falls rs → Falls (filter p rs)
+Falls-filter p [] h = tt
+Falls-filter p (r ∷ rs) h =
+    elim (cases_Bool (p r)) [
+      | inl kept ↦ rw (cond-true _ _ _ kept) (AreAtMost-filter r.priority p rs h.0, Falls-filter p rs h.1)
+      | inr left ↦ rw (cond-false _ _ _ left) (Falls-filter p rs h.1)
+    ]
+
+kept_by : (p : Rule → Bool) (r : Rule) (rs : List Rule) → p r ≡ true → filter p (r ∷ rs) ≡ r ∷ filter p rs
+kept_by p r rs h = cond-true _ _ _ h
+
+left_by : (p : Rule → Bool) (r : Rule) (rs : List Rule) → p r ≡ false → filter p (r ∷ rs) ≡ filter p rs
+left_by p r rs h = cond-false _ _ _ h
+
+filter-filter : (p q : Rule → Bool) (rs : List Rule) → filter p (filter q rs) ≡ filter q (filter p rs)
+filter-filter p q [] = refl
+filter-filter p q (r ∷ rs) =
+    let rest = filter-filter p q rs in
+    elim (cases_Bool (p r)) [
+      | inl first ↦
+          elim (cases_Bool (q r)) [
+            | inl second ↦
+                ap (filter p) (kept_by q r rs second) ∙ kept_by p r (filter q rs) first ∙ ap (λ l. r ∷ l) rest
+                ∙ sym (ap (filter q) (kept_by p r rs first) ∙ kept_by q r (filter p rs) second)
+            | inr second ↦ ap (filter p) (left_by q r rs second) ∙ rest ∙ sym (ap (filter q) (kept_by p r rs first) ∙ left_by q r (filter p rs) second)
+          ]
+      | inr first ↦
+          elim (cases_Bool (q r)) [
+            | inl second ↦ ap (filter p) (kept_by q r rs second) ∙ left_by p r (filter q rs) first ∙ rest ∙ sym (ap (filter q) (left_by p r rs first))
+            | inr second ↦ ap (filter p) (left_by q r rs second) ∙ rest ∙ sym (ap (filter q) (left_by p r rs first))
+          ]
+    ]
+
+-- the rules of a part stand in the order that they have among all
+pub in_order-filter : (p : Rule → Bool) (rs : List Rule) → in_order (filter p rs) ≡ filter p (in_order rs)
+in_order-filter p rs =
+    same_from_filters (in_order (filter p rs)) (filter p (in_order rs)) (Falls-in_order (filter p rs)) (Falls-filter p (in_order rs) (Falls-in_order rs))
+    (λ n. filter-in_order n (filter p rs) ∙ filter-filter (has_priority n) p rs ∙ ap (filter p) (sym (filter-in_order n rs))
+        ∙ filter-filter p (has_priority n) (in_order rs))
+
+-- ---- what a sort gives
 
 -- the test by which a sort by descending priority compares two rules
 abbrev pub goes_before : Rule → Rule → Bool

@@ -3,7 +3,7 @@ use Rattle.std.specs.Prelude.{ℕ, ◌≡◌, ◌≤◌, ◌==◌, leb, Bool, if
 use Rattle.of10_model.specs.Header.{Header}
 use Rattle.of10_model.specs.Pattern.{has}
 use Rattle.flowspace.specs.declared.rules.Rule.{Rule}
-use Rattle.flowspace.specs.Rules.{holds}
+use Rattle.flowspace.specs.Rules.{holds, Yields}
 
 -- a rule that stood before all of these goes before the first whose priority is no higher
 abbrev pub placed : Rule → List Rule → List Rule
@@ -23,11 +23,19 @@ rules_on datapath rules = in_order (filter (holds datapath) rules)
 abbrev pub has_priority : ℕ → Rule → Bool
 has_priority priority rule = rule.priority == priority
 
+-- a rule has no lower priority than a later one
+abbrev pub HasNoLower : Rule → Rule → Type 0
+HasNoLower earlier later = later.priority ≤ earlier.priority
+
 -- a list has the given rules, of two the earlier has no lower priority, and those of one priority stand as they were given
 pub record IsRuleOrder (given ordered : List Rule) : Type 0 where
   pub same_rules : IsPermutation given ordered
-  pub descending : AllPairs (λ earlier later. later.priority ≤ earlier.priority) ordered
+  pub descending : AllPairs HasNoLower ordered
   pub file_order : (priority : ℕ) → filter (has_priority priority) ordered ≡ filter (has_priority priority) given
+
+-- rules are accepted where each, in rule order, yields to those before it
+abbrev pub IsAccepted : List Rule → Type 0
+IsAccepted rules = AllPairs Yields (in_order rules)
 
 -- the place of the first rule whose match has the header
 abbrev pub first_of : List Rule → Header → Option ℕ
