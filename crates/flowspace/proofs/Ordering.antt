@@ -1,5 +1,5 @@
 -- The order of rules: what `in_order` gives, and that nothing else is in rule order.
-use Rattle.std.proofs.Common.{◌≡◌, ℕ, zero, suc, ◌+◌, ◌<◌, ◌≤◌, Bool, true, false, cond, leb, List, [], ◌∷◌, length, get_or, filter, AllPairs, refl, sym, ap, ◌∙◌, arith, inl, inr, eqb-true, eq-eqb, Option, Some, None, not, ◌&&◌, ◌==◌, is_lt, nat_cmp}
+use Rattle.std.proofs.Common.{◌≡◌, ℕ, zero, suc, ◌+◌, ◌<◌, ◌≤◌, Bool, true, false, cond, leb, List, [], ◌∷◌, length, get_or, filter, AllPairs, refl, sym, ap, ◌∙◌, arith, inl, inr, eqb-true, eq-eqb, None, not, ◌&&◌, ◌==◌, is_lt, nat_cmp}
 use Rattle.std.proofs.lemmas.Bool.{cond-true, cond-false, cases_Bool}
 use Rattle.std.proofs.lemmas.Bool.Decides.{nat_tests}
 use Rattle.std.proofs.lemmas.List.Sorted.{IsPermutation-refl, IsPermutation-cons, IsPermutation-trans, IsPermutation-sym, IsPermutation-middle}
@@ -179,6 +179,13 @@ same_from_filters (y ∷ ys) (z ∷ zs) left right same =
     ] in
     ap (λ w. w ∷ ys) head ∙ ap (λ l. z ∷ l) (same_from_filters ys zs left.1 right.1 tails)
 
+-- no other list is in rule order
+pub in_order-from_IsRuleOrder : (rs ordered : List Rule) → IsRuleOrder rs ordered → ordered ≡ in_order rs
+in_order-from_IsRuleOrder rs ordered h =
+    same_from_filters ordered (in_order rs) (Falls-neighbours ordered (λ k d lt. h.descending k (k + 1) d (omega arith) lt))
+    (Falls-in_order rs)
+    (λ p. h.file_order p ∙ sym (filter-in_order p rs))
+
 -- ---- the rules of a part
 
 AreAtMost-filter : (n : ℕ) (p : Rule → Bool) (rs : List Rule) → AreAtMost n rs → AreAtMost n (filter p rs)
@@ -227,7 +234,7 @@ pub in_order-filter : (p : Rule → Bool) (rs : List Rule) → in_order (filter 
 in_order-filter p rs =
     same_from_filters (in_order (filter p rs)) (filter p (in_order rs)) (Falls-in_order (filter p rs)) (Falls-filter p (in_order rs) (Falls-in_order rs))
     (λ n. filter-in_order n (filter p rs) ∙ filter-filter (has_priority n) p rs ∙ ap (filter p) (sym (filter-in_order n rs))
-        ∙ filter-filter p (has_priority n) (in_order rs))
+    ∙ filter-filter p (has_priority n) (in_order rs))
 
 -- ---- what a sort gives
 

@@ -1,15 +1,15 @@
 -- What holds of a policy holds of its part for one switch.
-use Rattle.std.proofs.Common.{◌≡◌, ℕ, zero, suc, ◌+◌, ◌<◌, ◌≤◌, ◌^◌, Bool, true, false, List, [], ◌∷◌, cond, leb, length, get_or, filter, AllPairs, All, IfSome, IsSomeAnd, Option, Some, None, count_by, refl, sym, ap, ◌∙◌, arith, inl, inr, not}
-use Rattle.std.proofs.lemmas.Bool.{cond-true, cond-false, cases_Bool}
+use Rattle.std.proofs.Common.{◌≡◌, ℕ, suc, ◌<◌, ◌≤◌, ◌^◌, List, [], ◌∷◌, cond, leb, length, filter, AllPairs, All, IfSome, IsSomeAnd, Option, Some, None, count_by, refl, arith, inl, inr, not}
+use Rattle.std.proofs.lemmas.Bool.{cases_Bool}
 use Rattle.std.proofs.lemmas.Nat.{pow_pos}
 use Rattle.std.proofs.lemmas.List.Sorted.{All-permutation, length_permutation, sum_by-IsPermutation}
-use Rattle.std.proofs.lemmas.List.Elements.{All-filter, All-cons, All-head, All-tail, All-weaker, All-nil}
+use Rattle.std.proofs.lemmas.List.Elements.{All-filter, All-cons, All-head, All-tail}
 use Rattle.std.proofs.lemmas.List.Filters.{length-filter_both, sum_by-filter_both}
 use Rattle.std.proofs.lemmas.List.Kept.{AllPairs-filter, AllPairs-cons}
 use Rattle.flowspace.specs.declared.slices.Slice.{Slice}
 use Rattle.flowspace.specs.declared.rules.Rule.{Rule}
 use Rattle.flowspace.specs.Rules.{holds, is_written_by, IsPlainRule, Share, AreApart, Yields}
-use Rattle.flowspace.specs.Order.{placed, in_order, rules_on, IsRuleOrder}
+use Rattle.flowspace.specs.Order.{placed, in_order, rules_on}
 use Rattle.flowspace.specs.Policies.{IsLoadable, AreProper, IsPolicy, IsSwitchPolicy}
 use Rattle.flowspace.proofs.Ordering.{placed-here, placed-later, IsPermutation-placed, IsPermutation-in_order, IsRuleOrder-in_order, in_order-filter}
 

@@ -1,5 +1,5 @@
 -- Rules: where they hold, which values they may have, and when two of them have a header in common. All of this is the proxy's own rule.
-use Rattle.std.specs.Prelude.{ℕ, ◌≡◌, ◌≤◌, ◌⊎◌, ◌==◌, Bool, true, false, IsTrue, IsSome, IfSome, Option, Some, None}
+use Rattle.std.specs.Prelude.{ℕ, ◌≡◌, ◌≤◌, ◌⊎◌, ◌==◌, Bool, true, IsTrue, IsSome, IfSome, Option, Some, None}
 use Rattle.of10_model.specs.Header.{Header, IsHeader}
 use Rattle.of10_model.specs.Pattern.{Has}
 use Rattle.of10_model.specs.Normal.{is_value, has_vlan, has_network, has_service, has_ports}

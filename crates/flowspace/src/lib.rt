@@ -17,3 +17,6 @@ pub use rules::Rule;
 pub use slices::Slice;
 pub use switch::SwitchPolicy;
 pub use text::Text;
+
+#[cfg(test)]
+mod tests;

@@ -8,23 +8,38 @@ use std::alloc::{AllocError, Global};
 use std::cmp::Reverse;
 
 /// What the order of rules means: the rules of a switch are those that hold on it, by descending
-/// priority, and those of one priority as they stand in the file.
+/// priority, and those of one priority as they stand in the file. No other list is that.
 pub fn rules_stand_in_order()
-    ensures { (datapath : ℕ) (rules : List RuleView) → IsRuleOrder (filter (holds datapath) rules) (rules_on datapath rules) }
-{
-}
+    ensures order { (datapath : ℕ) (rules : List RuleView) → IsRuleOrder (filter (holds datapath) rules) (rules_on datapath rules) }
+    ensures only { (datapath : ℕ) (rules ordered : List RuleView) → IsRuleOrder (filter (holds datapath) rules) ordered → ordered ≡ rules_on datapath rules }
+{}
 
 fn held_rules(alloc: Global, rules: &[Rule], datapath: u64) -> Result<Vec<Rule>, AllocError>
     ensures { IfOk result (λ v. v.items ≡ filter (holds datapath) rules.now) }
 {
-    rules.iter().filter(|rule| is_held(rule, datapath)).copied().collect(alloc)
+    rules
+        .iter()
+        .filter(|rule| is_held(rule, datapath))
+        .copied()
+        .collect(alloc)
+}
+
+// A rule of a higher priority comes first.
+fn rank(rule: &Rule) -> Reverse<u32>
+    ensures { result ≡ record { 0 = rule.now.priority } }
+{
+    Reverse(rule.priority)
 }
 
 /// The rules that hold on a switch, in rule order.
-pub fn ordered_rules(alloc: Global, rules: &[Rule], datapath: u64) -> Result<Vec<Rule>, AllocError>
+pub(crate) fn ordered_rules(
+    alloc: Global,
+    rules: &[Rule],
+    datapath: u64,
+) -> Result<Vec<Rule>, AllocError>
     ensures { IfOk result (λ v. v.items ≡ rules_on datapath rules.now) }
 {
     let mut held = held_rules(alloc, rules, datapath)?;
-    held.sort_by_key(|rule| Reverse(rule.priority))?;
+    held.sort_by_key(|rule| rank(rule))?;
     Ok(held)
 }

@@ -18,7 +18,7 @@ pub struct Rule {
 }
 
 /// Whether the rule holds on a switch.
-pub fn is_held(rule: &Rule, datapath: u64) -> bool
+pub(crate) fn is_held(rule: &Rule, datapath: u64) -> bool
     ensures { result ≡ holds datapath rule.now }
 {
     rule.switch.is_none_or(|switch| switch == datapath)

@@ -31,7 +31,7 @@ fn copy_of(alloc: Global, slice: &Slice) -> Result<Slice, AllocError>
 }
 
 /// The same slices, with texts of their own.
-pub fn copies(alloc: Global, slices: &[Slice]) -> Result<Vec<Slice>, AllocError>
+pub(crate) fn copies(alloc: Global, slices: &[Slice]) -> Result<Vec<Slice>, AllocError>
     ensures { IfOk result (λ v. v.items ≡ slices.now) }
 {
     let mut copies = Vec::new(alloc);
