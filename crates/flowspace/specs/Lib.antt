@@ -1,0 +1,4 @@
+pub mod Slices
+pub mod Rules
+pub mod Order
+pub mod Policies

@@ -1,0 +1,57 @@
+-- Rules: where they hold, which values they may have, and when two of them have a header in common. All of this is the proxy's own rule.
+use Rattle.std.specs.Prelude.{ℕ, ◌≡◌, ◌≤◌, ◌⊎◌, ◌==◌, Bool, true, IsTrue, IsSome, IfSome, Option, Some, None}
+use Rattle.of10_model.specs.Header.{Header, IsHeader}
+use Rattle.of10_model.specs.Pattern.{Has}
+use Rattle.of10_model.specs.Normal.{is_value, has_vlan, has_network, has_service, has_ports}
+use Rattle.flowspace.specs.declared.rules.Rule.{Rule}
+
+-- no switch named stands for each
+abbrev pub names : Option ℕ → ℕ → Bool
+names None datapath = true
+names (Some switch) datapath = switch == datapath
+
+-- a rule holds on a switch where its own switch is missing or is that one
+abbrev pub holds : ℕ → Rule → Bool
+holds datapath rule = names rule.switch datapath
+
+-- a rule is written by the slice at a slot
+abbrev pub is_written_by : ℕ → Rule → Bool
+is_written_by slot rule = is_value slot rule.writer
+
+-- a physical port or the switch's own (OpenFlow 1.0.0, section 5.2.1: OFPP_MAX and OFPP_LOCAL)
+abbrev pub IsInPort : ℕ → Type 0
+IsInPort port = (port ≤ 0xff00) ⊎ (port ≡ 0xfffe)
+
+-- a VLAN number of 12 bits, or the mark of an untagged packet (OpenFlow 1.0.0, section 5.2.3)
+abbrev pub IsVlan : ℕ → Type 0
+IsVlan vlan = (vlan ≤ 4095) ⊎ (vlan ≡ 0xffff)
+
+-- a rule is plain where its in_port and dl_vlan are such, and its match constrains a field only where that field means something
+pub record IsPlainRule (r : Rule) : Type 0 where
+  pub in_port : IfSome r.pattern.in_port IsInPort
+  pub dl_vlan : IfSome r.pattern.dl_vlan IsVlan
+  pub dl_vlan_pcp : IsSome r.pattern.dl_vlan_pcp → IsTrue (has_vlan r.pattern.dl_vlan)
+  pub nw_tos : IsSome r.pattern.nw_tos → IsTrue (has_service r.pattern.dl_type)
+  pub nw_proto : IsSome r.pattern.nw_proto → IsTrue (has_network r.pattern.dl_type)
+  pub nw_src : IsSome r.pattern.nw_src → IsTrue (has_network r.pattern.dl_type)
+  pub nw_dst : IsSome r.pattern.nw_dst → IsTrue (has_network r.pattern.dl_type)
+  pub tp_src : IsSome r.pattern.tp_src → IsTrue (has_ports r.pattern.dl_type r.pattern.nw_proto)
+  pub tp_dst : IsSome r.pattern.tp_dst → IsTrue (has_ports r.pattern.dl_type r.pattern.nw_proto)
+
+-- two rules share a header where both hold on a switch and the header is in both matches
+pub record Share (a b : Rule) : Type 0 where
+  pub datapath : ℕ
+  pub on_first : IsTrue (holds datapath a)
+  pub on_second : IsTrue (holds datapath b)
+  pub header : Header
+  pub in_range : IsHeader header
+  pub in_first : Has a.pattern header
+  pub in_second : Has b.pattern header
+
+-- they have no header in common
+abbrev pub AreApart : Rule → Rule → Type 0
+AreApart a b = Share a b → ⊥
+
+-- where a header of the later rule is one of the earlier too, the later one is written by nobody or by the writer of the earlier
+abbrev pub Yields : Rule → Rule → Type 0
+Yields earlier later = Share earlier later → (slot : ℕ) → later.writer ≡ Some slot → earlier.writer ≡ Some slot

@@ -1,0 +1,20 @@
+-- Slices, and which values they may have. All of this is the proxy's own rule.
+use Rattle.std.specs.Prelude.{ℕ, ◌≤◌, Bool, ◌||◌, ◌&&◌, ◌==◌, leb, IsTrue, length, All}
+use Rattle.flowspace.specs.declared.slices.Slice.{Slice}
+
+-- a letter a to z, a digit, `_` or `-`
+abbrev pub is_name_byte : ℕ → Bool
+is_name_byte b = (leb 97 b && leb b 122) || (leb 48 b && leb b 57) || (b == 95) || (b == 45)
+
+-- a slice is plain where its name, its controller, its rate, its burst and its quota are within their limits
+pub record IsPlainSlice (s : Slice) : Type 0 where
+  pub name_some : 1 ≤ length s.name
+  pub name_short : length s.name ≤ 32
+  pub name_bytes : All (λ b. IsTrue (is_name_byte b)) s.name
+  pub controller_some : 1 ≤ length s.controller
+  pub controller_short : length s.controller ≤ 255
+  pub rate_some : 1 ≤ s.rate
+  pub rate_limit : s.rate ≤ 1000000
+  pub burst_some : 1 ≤ s.burst
+  pub burst_limit : s.burst ≤ 1000000
+  pub quota_limit : s.quota ≤ 4096

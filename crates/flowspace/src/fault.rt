@@ -1,0 +1,43 @@
+/// What a policy has too many of.
+#[derive(Clone, Copy, Debug, PartialEq, Eq)]
+pub enum What {
+    Slices,
+    Rules,
+    /// Rules that one slice may write.
+    Writes,
+}
+
+/// A part of a rule: its readers, or one of the twelve fields of its match.
+#[derive(Clone, Copy, Debug, PartialEq, Eq)]
+pub enum Field {
+    Read,
+    InPort,
+    DlSrc,
+    DlDst,
+    DlVlan,
+    DlVlanPcp,
+    DlType,
+    NwTos,
+    NwProto,
+    NwSrc,
+    NwDst,
+    TpSrc,
+    TpDst,
+}
+
+/// Why a policy isn't accepted. Slices and rules are named by their place in the policy, from 0.
+#[derive(Clone, Copy, Debug, PartialEq, Eq)]
+pub enum PolicyFault {
+    /// There are so many, which is more than the limit.
+    TooMany(What, u64),
+    /// An earlier slice has this slice's name.
+    DuplicateSlice(u64),
+    /// The rule names a slice that isn't there.
+    UnknownSlice(u64),
+    /// The rule has a field that may not stand there.
+    Improper(u64, Field),
+    /// The first rule comes before the second, shares a header with it, and has another writer.
+    Overlap(u64, u64),
+    /// Want of memory.
+    Memory,
+}

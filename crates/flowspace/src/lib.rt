@@ -1,0 +1,22 @@
+//! Policies of the proxy: the slices, and the rules that say which packet headers each may write. This
+//! is the proxy's own notion; the standard has nothing of the kind.
+#![tactic(auto)]
+
+mod fault;
+mod order;
+mod policy;
+mod rules;
+mod slices;
+mod switch;
+mod text;
+
+pub use fault::{Field, PolicyFault, What};
+pub use order::rules_stand_in_order;
+pub use policy::Policy;
+pub use rules::Rule;
+pub use slices::Slice;
+pub use switch::SwitchPolicy;
+pub use text::Text;
+
+#[cfg(test)]
+mod tests;

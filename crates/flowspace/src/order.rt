@@ -1,0 +1,45 @@
+ghost use Rattle.std.specs.Prelude.{ℕ, List, ◌≡◌, IfOk, filter};
+ghost use Rattle.flowspace.specs.declared.rules.Rule.{Rule as RuleView};
+ghost use Rattle.flowspace.specs.Rules.{holds};
+ghost use Rattle.flowspace.specs.Order.{rules_on, IsRuleOrder};
+
+use crate::rules::{Rule, is_held};
+use std::alloc::{AllocError, Global};
+use std::cmp::Reverse;
+
+/// What the order of rules means: the rules of a switch are those that hold on it, by descending
+/// priority, and those of one priority as they stand in the file. No other list is that.
+pub fn rules_stand_in_order()
+    ensures order { (datapath : ℕ) (rules : List RuleView) → IsRuleOrder (filter (holds datapath) rules) (rules_on datapath rules) }
+    ensures only { (datapath : ℕ) (rules ordered : List RuleView) → IsRuleOrder (filter (holds datapath) rules) ordered → ordered ≡ rules_on datapath rules }
+{}
+
+fn held_rules(alloc: Global, rules: &[Rule], datapath: u64) -> Result<Vec<Rule>, AllocError>
+    ensures { IfOk result (λ v. v.items ≡ filter (holds datapath) rules.now) }
+{
+    rules
+        .iter()
+        .filter(|rule| is_held(rule, datapath))
+        .copied()
+        .collect(alloc)
+}
+
+// A rule of a higher priority comes first.
+fn rank(rule: &Rule) -> Reverse<u32>
+    ensures { result ≡ record { 0 = rule.now.priority } }
+{
+    Reverse(rule.priority)
+}
+
+/// The rules that hold on a switch, in rule order.
+pub(crate) fn ordered_rules(
+    alloc: Global,
+    rules: &[Rule],
+    datapath: u64,
+) -> Result<Vec<Rule>, AllocError>
+    ensures { IfOk result (λ v. v.items ≡ rules_on datapath rules.now) }
+{
+    let mut held = held_rules(alloc, rules, datapath)?;
+    held.sort_by_key(|rule| rank(rule))?;
+    Ok(held)
+}
