@@ -29,8 +29,8 @@ pub count_at-place : (k : ℕ) (entries : List Entry) (other : Entry) (path : Li
 count_at-place k [] other path h = absurd (omega arith)
 count_at-place k (entry ∷ others) other path h =
     elim (bytes_eq (string_bytes entry.path) path) as (λ b. (if b then 0 else place_of others path + 1) < length (entry ∷ others) → (if b then entry.faults else count_at k others path) ≡ (get_or (entry ∷ others) (if b then 0 else place_of others path + 1) other).faults) [
-      true ↦ λ h. refl
-    | false ↦ λ h. rw (add-one (place_of others path)) (count_at-place k others other path (omega arith))
+      | true ↦ λ h. refl
+      | false ↦ λ h. rw (add-one (place_of others path)) (count_at-place k others other path (omega arith))
     ] h
 
 -- raising a count moves no place
@@ -52,8 +52,8 @@ pub count_at-none : (k : ℕ) (entries : List Entry) (path : List ℕ) → lengt
 count_at-none k [] path h = refl
 count_at-none k (entry ∷ others) path h =
     elim (bytes_eq (string_bytes entry.path) path) as (λ b. length (entry ∷ others) ≤ (if b then 0 else place_of others path + 1) → (if b then entry.faults else count_at k others path) ≡ k) [
-      true ↦ λ h. absurd (omega arith)
-    | false ↦ λ h. count_at-none k others path (omega arith)
+      | true ↦ λ h. absurd (omega arith)
+      | false ↦ λ h. count_at-none k others path (omega arith)
     ] h
 
 pub count_at-elsewhere : (k l : ℕ) (entries : List Entry) (path : List ℕ) → k ≤ l → count_at k entries path ≤ count_at l entries path
@@ -65,8 +65,8 @@ pub file_at-place : (entries : List Entry) (other : Entry) (path : List ℕ) →
 file_at-place [] other path h = absurd (omega arith)
 file_at-place (entry ∷ others) other path h =
     elim (bytes_eq (string_bytes entry.path) path) as (λ b. (if b then 0 else place_of others path + 1) < length (entry ∷ others) → (if b then Some entry.bytes.items else file_at others path) ≡ Some (get_or (entry ∷ others) (if b then 0 else place_of others path + 1) other).bytes.items) [
-      true ↦ λ h. refl
-    | false ↦ λ h. rw (add-one (place_of others path)) (file_at-place others other path (omega arith))
+      | true ↦ λ h. refl
+      | false ↦ λ h. rw (add-one (place_of others path)) (file_at-place others other path (omega arith))
     ] h
 
 -- a file behind the others
@@ -81,6 +81,6 @@ file_at-added (first ∷ others) entry at =
     let told = file_at others at in
     let last = (if bytes_eq (string_bytes entry.path) at then Some entry.bytes.items else None) in
     elim (bytes_eq (string_bytes first.path) at) as (λ b. (if b then Some first.bytes.items else file_at (others ++ entry ∷ []) at) ≡ (if is_some (if b then Some first.bytes.items else told) then (if b then Some first.bytes.items else told) else last)) [
-      true ↦ refl
-    | false ↦ file_at-added others entry at
+      | true ↦ refl
+      | false ↦ file_at-added others entry at
     ]

@@ -2,17 +2,12 @@
 use Rattle.std.specs.Prelude.{ℕ, List, [], ◌∷◌, ◌+◌, Option, Some, None, is_some, if◌then◌else◌}
 use Rattle.std.specs.Str.{bytes_eq}
 use Rattle.std.specs.String.{string_bytes}
-use Rattle.fv_cli.specs.declared.base.memory.MemorySink.{MemorySink}
-use Rattle.fv_cli.specs.declared.base.memory.MemoryFiles.{MemoryFiles}
+use Rattle.fv_cli.specs.declared.base.memory.NeverSink.{NeverSink}
 use Rattle.fv_cli.specs.declared.base.memory.Entry.{Entry}
 
--- what a sink took so far
-abbrev pub sink_bytes : MemorySink → List ℕ
-sink_bytes sink = sink.kept.items
-
--- how many of its calls failed
-abbrev pub sink_faults : MemorySink → ℕ
-sink_faults sink = sink.faults
+-- how many bytes a sink that never fails took
+abbrev pub bytes_taken : NeverSink → ℕ
+bytes_taken sink = sink.taken
 
 -- the bytes of the first file at a path
 abbrev pub file_at : List Entry → List ℕ → Option (List ℕ)
@@ -28,14 +23,6 @@ count_at elsewhere (entry ∷ others) path = if bytes_eq (string_bytes entry.pat
 abbrev pub place_of : List Entry → List ℕ → ℕ
 place_of [] path = 0
 place_of (entry ∷ others) path = if bytes_eq (string_bytes entry.path) path then 0 else place_of others path + 1
-
--- the file that is told at a path
-abbrev pub files_told : MemoryFiles → List ℕ → Option (List ℕ)
-files_told files path = file_at files.entries.items path
-
--- the count for a path
-abbrev pub files_faults : MemoryFiles → List ℕ → ℕ
-files_faults files path = count_at files.elsewhere files.entries.items path
 
 -- what is told at a path after a file was added behind the others
 abbrev pub with_file : (List ℕ → Option (List ℕ)) → List ℕ → List ℕ → List ℕ → Option (List ℕ)

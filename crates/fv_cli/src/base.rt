@@ -3,11 +3,10 @@
 
 mod memory;
 mod outside;
-mod transfer;
-mod words;
-
 #[cfg(test)]
 mod tests;
+mod transfer;
+mod words;
 
 pub use memory::{MemoryFiles, MemorySink, NeverSink};
 pub use outside::{Failed, Files, Sink};

@@ -1,7 +1,7 @@
 //! The outside in memory, which tells its contents.
 
 ghost use Rattle.std.specs.Prelude.{◌≡◌, ◌≤◌, ◌<◌, ℕ, List, [], Some, None, length, drop, IfSome, OnOk, OnErr};
-ghost use Rattle.fv_cli.specs.Memory.{sink_bytes, sink_faults, files_told, files_faults, file_at, count_at, place_of, with_file};
+ghost use Rattle.fv_cli.specs.Memory.{bytes_taken, file_at, count_at, place_of, with_file};
 ghost use Rattle.fv_cli.specs.Told.{Gives, Rose};
 
 use super::{Failed, Files, Sink};
@@ -51,8 +51,8 @@ pub struct MemorySink {
 impl MemorySink {
     /// A sink that takes all bytes of a put.
     pub fn new(alloc: Global) -> MemorySink
-        ensures told { sink_bytes result ≡ [] }
-        ensures count { sink_faults result ≡ 0 }
+        ensures told { ⟦<MemorySink as Sink>⟧.contents result ≡ Some [] }
+        ensures count { ⟦<MemorySink as Sink>⟧.faults result ≡ 0 }
     {
         MemorySink::with_plan(alloc, usize::MAX, Vec::new(alloc))
     }
@@ -60,8 +60,8 @@ impl MemorySink {
     /// A sink that takes at most `most` bytes in one put, and fails at the calls whose numbers, from 0,
     /// are in `failing`. Where `most` is 0 each call fails.
     pub fn with_plan(alloc: Global, most: usize, failing: Vec<u64>) -> MemorySink
-        ensures told { sink_bytes result ≡ [] }
-        ensures count { sink_faults result ≡ 0 }
+        ensures told { ⟦<MemorySink as Sink>⟧.contents result ≡ Some [] }
+        ensures count { ⟦<MemorySink as Sink>⟧.faults result ≡ 0 }
     {
         MemorySink {
             kept: Vec::new(alloc),
@@ -76,14 +76,14 @@ impl MemorySink {
 
     /// What was put so far.
     pub fn as_slice(&self) -> &[u8]
-        ensures { result.now ≡ sink_bytes self.now }
+        ensures { Some result.now ≡ ⟦<MemorySink as Sink>⟧.contents self.now }
     {
         &self.kept
     }
 
     /// How many calls failed.
     pub fn faults(&self) -> u64
-        ensures { result ≡ sink_faults self.now }
+        ensures { result ≡ ⟦<MemorySink as Sink>⟧.faults self.now }
     {
         self.faults
     }
@@ -106,7 +106,7 @@ impl Sink for MemorySink {
 }
 
 /// A sink that never fails. It keeps nothing but the number of bytes that it took, so it tells nothing.
-#[derive(Clone, Copy, Debug, PartialEq, Eq, Default)]
+#[derive(Drop)]
 pub struct NeverSink {
     taken: u64,
 }
@@ -114,14 +114,14 @@ pub struct NeverSink {
 impl NeverSink {
     /// A sink that took nothing yet.
     pub fn new() -> NeverSink
-        ensures { result.taken ≡ 0 }
+        ensures { bytes_taken result ≡ 0 }
     {
         NeverSink { taken: 0 }
     }
 
     /// How many bytes were put; it stays at the last value of a u64.
     pub fn taken(&self) -> u64
-        ensures { result ≡ self.now.taken }
+        ensures { result ≡ bytes_taken self.now }
     {
         self.taken
     }
@@ -202,8 +202,8 @@ pub struct MemoryFiles {
 impl MemoryFiles {
     /// No files; a read gives all bytes that there are and fit.
     pub fn new(alloc: Global) -> MemoryFiles
-        ensures told { (at : List ℕ) → files_told result at ≡ None }
-        ensures count { (at : List ℕ) → files_faults result at ≡ 0 }
+        ensures told { (at : List ℕ) → ⟦<MemoryFiles as Files>⟧.contents result at ≡ None }
+        ensures count { (at : List ℕ) → ⟦<MemoryFiles as Files>⟧.faults result at ≡ 0 }
     {
         MemoryFiles::with_plan(alloc, usize::MAX, Vec::new(alloc))
     }
@@ -211,8 +211,8 @@ impl MemoryFiles {
     /// No files. A read gives at most `most` bytes, and the calls whose numbers, from 0, are in `failing`
     /// fail. Where `most` is 0 each call fails.
     pub fn with_plan(alloc: Global, most: usize, failing: Vec<u64>) -> MemoryFiles
-        ensures told { (at : List ℕ) → files_told result at ≡ None }
-        ensures count { (at : List ℕ) → files_faults result at ≡ 0 }
+        ensures told { (at : List ℕ) → ⟦<MemoryFiles as Files>⟧.contents result at ≡ None }
+        ensures count { (at : List ℕ) → ⟦<MemoryFiles as Files>⟧.faults result at ≡ 0 }
     {
         MemoryFiles {
             alloc,
@@ -228,9 +228,9 @@ impl MemoryFiles {
 
     /// Adds a file behind the others.
     pub fn add(&mut self, path: &str, bytes: &[u8]) -> Result<(), AllocError>
-        ensures told { OnOk result ((at : List ℕ) → files_told self.new at ≡ with_file (files_told self.old) path.now bytes.now at) }
-        ensures same { OnErr result ((at : List ℕ) → files_told self.new at ≡ files_told self.old at) }
-        ensures count { (at : List ℕ) → files_faults self.new at ≡ files_faults self.old at }
+        ensures told { OnOk result ((at : List ℕ) → ⟦<MemoryFiles as Files>⟧.contents self.new at ≡ with_file (⟦<MemoryFiles as Files>⟧.contents self.old) path.now bytes.now at) }
+        ensures same { OnErr result ((at : List ℕ) → ⟦<MemoryFiles as Files>⟧.contents self.new at ≡ ⟦<MemoryFiles as Files>⟧.contents self.old at) }
+        ensures count { (at : List ℕ) → ⟦<MemoryFiles as Files>⟧.faults self.new at ≡ ⟦<MemoryFiles as Files>⟧.faults self.old at }
     {
         let path = String::from_str(self.alloc, path)?;
         let bytes = Vec::from_slice(self.alloc, bytes)?;
@@ -245,7 +245,7 @@ impl MemoryFiles {
 
     /// How many reads of the path failed.
     pub fn faults(&self, path: &str) -> u64
-        ensures { result ≡ files_faults self.now path.now }
+        ensures { result ≡ ⟦<MemoryFiles as Files>⟧.faults self.now path.now }
     {
         let at = place(&self.entries, path);
         if at < self.entries.len() {
@@ -257,11 +257,9 @@ impl MemoryFiles {
 }
 
 impl Files for MemoryFiles {
-    ghost use Rattle.fv_cli.specs.Memory.{files_told, files_faults};
+    ghost contents = { λ files. file_at files.entries.items };
 
-    ghost contents = { files_told };
-
-    ghost faults = { files_faults };
+    ghost faults = { λ files. count_at files.elsewhere files.entries.items };
 
     fn read(&mut self, path: &str, from: u64, into: &mut [u8]) -> Result<usize, Failed> {
         let next = self.plan.next(into.len());

@@ -1,6 +1,6 @@
 //! Whole transfers over the traits of the outside: all bytes put, a whole file loaded.
 
-ghost use Rattle.std.specs.Prelude.{◌≡◌, ◌≤◌, ◌<◌, ◌^◌, ℕ, List, length, IfOk, IfErr, IfSome, OnOk, OnErr};
+ghost use Rattle.std.specs.Prelude.{◌≡◌, ◌≤◌, ◌<◌, ℕ, List, length, IfOk, IfErr, IfSome, OnOk, OnErr};
 ghost use Rattle.fv_cli.specs.Told.{appended, IsPrefix, Rose};
 
 use super::{Failed, Files, Sink};
@@ -45,7 +45,6 @@ pub fn load_file<F: Files>(
     path: &str,
     limit: u64,
 ) -> Result<Vec<u8>, LoadFault>
-    requires { limit < 2 ^ 60 }
     ensures within { IfOk result (λ file. length file.items ≤ limit) }
     ensures whole { IfOk result (λ file. IfSome (F.contents files.old path.now) (λ bytes. file.items ≡ bytes)) }
     ensures cause { IfErr result (λ fault. fault ≡ LoadFault.ReadFault → Rose (F.faults files.old path.now) (F.faults files.new path.now)) }
@@ -67,8 +66,7 @@ fn gather<F: Files>(
     limit: u64,
     buffer: &mut [u8],
 ) -> Result<Vec<u8>, LoadFault>
-    requires some { 0 < length buffer.old }
-    requires limit { limit < 2 ^ 60 }
+    requires { 0 < length buffer.old }
     ensures within { IfOk result (λ file. length file.items ≤ limit) }
     ensures whole { IfOk result (λ file. IfSome (F.contents files.old path.now) (λ bytes. file.items ≡ bytes)) }
     ensures cause { IfErr result (λ fault. fault ≡ LoadFault.ReadFault → Rose (F.faults files.old path.now) (F.faults files.new path.now)) }

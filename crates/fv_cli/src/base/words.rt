@@ -65,8 +65,7 @@ pub fn read_words(words: &Words) -> Result<Form<'_>, WordsFault>
 {
     match words.items.as_slice() {
         [command, policy, recording]
-            if command.as_str() == "replay" && is_plain(policy) && is_plain(recording) =>
-        {
+            if command.as_str() == "replay" && is_plain(policy) && is_plain(recording) => {
             Ok(Form::Replay { policy, recording })
         }
         _ => Err(WordsFault::Usage),

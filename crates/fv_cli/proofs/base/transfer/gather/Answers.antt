@@ -10,7 +10,7 @@ loop-count-init g c = record {
   within = omega arith;
   begun = begins (g.F.Files.contents c.args.files.now c.args.path.now) c.new-file.result.items c.new-file.ensures.items;
   same = search rules;
-  count = search rules
+  count = search rules;
 }
 
 pub returns-then-count-eq0-clause-whole : goal.returns-then-count-eq0-clause-whole
@@ -20,7 +20,7 @@ returns-then-count-eq0-clause-whole g c =
     let place : c.len.result ≡ length file.items = omega arith in
     let Whole : Option (List ℕ) → Type 0 = λ told. IfSome told (λ bytes. file.items ≡ bytes) in
     subst Whole (c.loop-count.invariant.same path)
-      (ends (g.F.Files.contents c.loop-count.files path) file.items c.loop-count.buffer c.read.new.into c.len.result c.in-Ok.count place c.if-count-eq0.true c.loop-count.invariant.begun c.in-Ok.ensures.given)
+    (ends (g.F.Files.contents c.loop-count.files path) file.items c.loop-count.buffer c.read.new.into c.len.result c.in-Ok.count place c.if-count-eq0.true c.loop-count.invariant.begun c.in-Ok.ensures.given)
 
 pub loop-count-preserved : goal.loop-count-preserved
 loop-count-preserved g c =
@@ -35,5 +35,5 @@ loop-count-preserved g c =
       within = grind (arith, common_steps);
       begun = subst Begun (sym (c.in-Ok.ensures.same path)) (rw more (goes_on before file.items c.loop-count.buffer c.read.new.into c.len.result n place c.loop-count.invariant.begun c.in-Ok.ensures.given));
       same = λ at. c.in-Ok.ensures.same at ∙ c.loop-count.invariant.same at;
-      count = λ at. omega (arith, c.in-Ok.ensures.count at, c.loop-count.invariant.count at)
+      count = λ at. omega (arith, c.in-Ok.ensures.count at, c.loop-count.invariant.count at);
     }
