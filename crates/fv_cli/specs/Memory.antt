@@ -1,9 +1,31 @@
 -- What the outside in memory tells.
-use Rattle.std.specs.Prelude.{ℕ, List, [], ◌∷◌, ◌+◌, Option, Some, None, is_some, if◌then◌else◌}
+use Rattle.std.specs.Prelude.{ℕ, List, [], ◌∷◌, ◌+◌, Option, Some, None, is_some, if◌then◌else◌, ◌≡◌, ◌==◌, ◌||◌, min}
+use Rattle.std.specs.List.{list_any}
 use Rattle.std.specs.Str.{bytes_eq}
 use Rattle.std.specs.String.{string_bytes}
+use Rattle.fv_cli.specs.declared.base.memory.Plan.{Plan}
+use Rattle.fv_cli.specs.declared.base.memory.MemorySink.{MemorySink}
+use Rattle.fv_cli.specs.declared.base.memory.MemoryFiles.{MemoryFiles}
 use Rattle.fv_cli.specs.declared.base.memory.NeverSink.{NeverSink}
 use Rattle.fv_cli.specs.declared.base.memory.Entry.{Entry}
+
+-- how many bytes a call moves where this many are there: none where it is to fail
+abbrev pub moved : Plan → ℕ → Option ℕ
+moved plan there = if list_any (λ call. call == plan.calls) plan.failing.items || plan.most == 0 then None else Some (min there plan.most)
+
+-- no call was made yet, a call moves this many bytes at most, and these calls are to fail
+pub record Starts (plan : Plan) (bytes : ℕ) (numbers : List ℕ) : Type 0 where
+  pub most : plan.most ≡ bytes
+  pub failing : plan.failing.items ≡ numbers
+  pub calls : plan.calls ≡ 0
+
+-- how the calls on a sink go
+abbrev pub sink_plan : MemorySink → Plan
+sink_plan sink = sink.plan
+
+-- how the calls on files go
+abbrev pub files_plan : MemoryFiles → Plan
+files_plan files = files.plan
 
 -- how many bytes a sink that never fails took
 abbrev pub bytes_taken : NeverSink → ℕ

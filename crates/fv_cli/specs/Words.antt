@@ -1,5 +1,5 @@
 -- The forms that the program's words may have. This proxy's own rules.
-use Rattle.std.specs.Prelude.{ℕ, List, [], ◌∷◌, Bool, true, false, not, ◌&&◌, ◌==◌, codes, Option, Some, None, if◌then◌else◌}
+use Rattle.std.specs.Prelude.{ℕ, List, [], ◌∷◌, Bool, false, not, ◌&&◌, ◌==◌, codes, Option, Some, None, if◌then◌else◌}
 use Rattle.std.specs.Str.{bytes_eq}
 use Rattle.fv_cli.specs.declared.base.words.Form.{Form}
 use Rattle.fv_cli.specs.declared.base.words.Form.TheVariants.{Replay}

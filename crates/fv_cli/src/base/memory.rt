@@ -1,7 +1,7 @@
 //! The outside in memory, which tells its contents.
 
-ghost use Rattle.std.specs.Prelude.{◌≡◌, ◌≤◌, ◌<◌, ℕ, List, [], Some, None, length, drop, IfSome, OnOk, OnErr};
-ghost use Rattle.fv_cli.specs.Memory.{bytes_taken, file_at, count_at, place_of, with_file};
+ghost use Rattle.std.specs.Prelude.{◌≡◌, ◌≤◌, ◌<◌, ◌+◌, ◌-◌, ◌^◌, min, ℕ, List, [], Some, None, length, drop, IfSome, IsOkAnd, OnOk, OnErr};
+ghost use Rattle.fv_cli.specs.Memory.{Starts, bytes_taken, files_plan, moved, sink_plan, file_at, count_at, place_of, with_file};
 ghost use Rattle.fv_cli.specs.Told.{Gives, Rose};
 
 use super::{Failed, Files, Sink};
@@ -19,6 +19,8 @@ impl Plan {
     // How many of the bytes that are there the next call moves; none where it fails.
     fn next(&mut self, there: usize) -> Option<usize>
         requires { 0 < there }
+        ensures value { result ≡ moved self.old there }
+        ensures counted { self.new ≡ record self.old { calls = min (self.old.calls + 1) (2 ^ 64 - 1) } }
         ensures some { IfSome result (λ n. 0 < n) }
         ensures within { IfSome result (λ n. n ≤ there) }
     {
@@ -53,6 +55,7 @@ impl MemorySink {
     pub fn new(alloc: Global) -> MemorySink
         ensures told { ⟦<MemorySink as Sink>⟧.contents result ≡ Some [] }
         ensures count { ⟦<MemorySink as Sink>⟧.faults result ≡ 0 }
+        ensures plan { Starts (sink_plan result) usize.MAX [] }
     {
         MemorySink::with_plan(alloc, usize::MAX, Vec::new(alloc))
     }
@@ -62,6 +65,7 @@ impl MemorySink {
     pub fn with_plan(alloc: Global, most: usize, failing: Vec<u64>) -> MemorySink
         ensures told { ⟦<MemorySink as Sink>⟧.contents result ≡ Some [] }
         ensures count { ⟦<MemorySink as Sink>⟧.faults result ≡ 0 }
+        ensures plan { Starts (sink_plan result) most failing.items }
     {
         MemorySink {
             kept: Vec::new(alloc),
@@ -132,7 +136,10 @@ impl Sink for NeverSink {
 
     ghost faults = { λ sink. 0 };
 
-    fn put(&mut self, bytes: &[u8]) -> Result<usize, Failed> {
+    fn put(&mut self, bytes: &[u8]) -> Result<usize, Failed>
+        ensures all { IsOkAnd result (λ n. n ≡ length bytes.now) }
+        ensures counted { bytes_taken self.new ≡ min (bytes_taken self.old + length bytes.now) (2 ^ 64 - 1) }
+    {
         self.taken = self.taken.saturating_add(bytes.len() as u64);
         Ok(bytes.len())
     }
@@ -204,6 +211,7 @@ impl MemoryFiles {
     pub fn new(alloc: Global) -> MemoryFiles
         ensures told { (at : List ℕ) → ⟦<MemoryFiles as Files>⟧.contents result at ≡ None }
         ensures count { (at : List ℕ) → ⟦<MemoryFiles as Files>⟧.faults result at ≡ 0 }
+        ensures plan { Starts (files_plan result) usize.MAX [] }
     {
         MemoryFiles::with_plan(alloc, usize::MAX, Vec::new(alloc))
     }
@@ -213,6 +221,7 @@ impl MemoryFiles {
     pub fn with_plan(alloc: Global, most: usize, failing: Vec<u64>) -> MemoryFiles
         ensures told { (at : List ℕ) → ⟦<MemoryFiles as Files>⟧.contents result at ≡ None }
         ensures count { (at : List ℕ) → ⟦<MemoryFiles as Files>⟧.faults result at ≡ 0 }
+        ensures plan { Starts (files_plan result) most failing.items }
     {
         MemoryFiles {
             alloc,

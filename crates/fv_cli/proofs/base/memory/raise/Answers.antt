@@ -1,4 +1,4 @@
-use Rattle.std.proofs.Common.{◌≤◌, ◌<◌, arith, length, sym}
+use Rattle.std.proofs.Common.{◌≤◌, ◌<◌, arith, length}
 use Rattle.fv_cli.specs.Memory.{place_of}
 use Rattle.fv_cli.proofs.Raised.{file_at-raised, count_at-raised, count_at-set, count_at-place, count_at-none, count_at-elsewhere}
 use Rattle.fv_cli.proofs.base.memory.raise.Goals as goal

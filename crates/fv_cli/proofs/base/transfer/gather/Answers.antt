@@ -1,7 +1,7 @@
-use Rattle.std.proofs.Common.{◌≡◌, ◌∙◌, ◌≤◌, ◌++◌, ℕ, List, sym, ap, subst, arith, rules, take, drop, length, IfSome, vec_len}
+use Rattle.std.proofs.Common.{◌≡◌, ◌∙◌, ◌++◌, ℕ, List, sym, subst, arith, rules, take, length, IfSome}
 use Rattle.std.specs.Prelude.{Option}
 use Rattle.std.proofs.lemmas.Grind.{common_steps}
-use Rattle.fv_cli.specs.Told.{IsPrefix, Gives}
+use Rattle.fv_cli.specs.Told.{IsPrefix}
 use Rattle.fv_cli.proofs.Loaded.{begins, ends, goes_on}
 use Rattle.fv_cli.proofs.base.transfer.gather.Goals as goal
 

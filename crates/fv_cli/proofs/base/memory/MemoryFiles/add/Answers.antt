@@ -1,5 +1,4 @@
-use Rattle.std.proofs.Common.{◌≡◌, ◌++◌, ◌∷◌, [], refl, arith}
-use Rattle.fv_cli.specs.Memory.{file_at, count_at, with_file}
+use Rattle.std.proofs.Common.{refl}
 use Rattle.fv_cli.specs.declared.base.memory.Entry.{Entry}
 use Rattle.fv_cli.proofs.Raised.{file_at-added, count_at-added}
 use Rattle.fv_cli.proofs.base.memory.MemoryFiles.add.Goals as goal
