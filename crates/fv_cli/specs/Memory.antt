@@ -1,0 +1,51 @@
+-- What the outside in memory tells.
+use Rattle.std.specs.Prelude.{ℕ, List, [], ◌∷◌, ◌+◌, Option, Some, None, is_some, if◌then◌else◌, ◌≡◌, ◌==◌, ◌||◌, min}
+use Rattle.std.specs.List.{list_any}
+use Rattle.std.specs.Str.{bytes_eq}
+use Rattle.std.specs.String.{string_bytes}
+use Rattle.fv_cli.specs.declared.base.memory.Plan.{Plan}
+use Rattle.fv_cli.specs.declared.base.memory.MemorySink.{MemorySink}
+use Rattle.fv_cli.specs.declared.base.memory.MemoryFiles.{MemoryFiles}
+use Rattle.fv_cli.specs.declared.base.memory.NeverSink.{NeverSink}
+use Rattle.fv_cli.specs.declared.base.memory.Entry.{Entry}
+
+-- how many bytes a call moves where this many are there: none where it is to fail
+abbrev pub moved : Plan → ℕ → Option ℕ
+moved plan there = if list_any (λ call. call == plan.calls) plan.failing.items || plan.most == 0 then None else Some (min there plan.most)
+
+-- no call was made yet, a call moves this many bytes at most, and these calls are to fail
+pub record Starts (plan : Plan) (bytes : ℕ) (numbers : List ℕ) : Type 0 where
+  pub most : plan.most ≡ bytes
+  pub failing : plan.failing.items ≡ numbers
+  pub calls : plan.calls ≡ 0
+
+-- how the calls on a sink go
+abbrev pub sink_plan : MemorySink → Plan
+sink_plan sink = sink.plan
+
+-- how the calls on files go
+abbrev pub files_plan : MemoryFiles → Plan
+files_plan files = files.plan
+
+-- how many bytes a sink that never fails took
+abbrev pub bytes_taken : NeverSink → ℕ
+bytes_taken sink = sink.taken
+
+-- the bytes of the first file at a path
+abbrev pub file_at : List Entry → List ℕ → Option (List ℕ)
+file_at [] path = None
+file_at (entry ∷ others) path = if bytes_eq (string_bytes entry.path) path then Some entry.bytes.items else file_at others path
+
+-- the count of the first file at a path, or that of the paths without one
+abbrev pub count_at : ℕ → List Entry → List ℕ → ℕ
+count_at elsewhere [] path = elsewhere
+count_at elsewhere (entry ∷ others) path = if bytes_eq (string_bytes entry.path) path then entry.faults else count_at elsewhere others path
+
+-- where the first file at a path stands, or how many files there are
+abbrev pub place_of : List Entry → List ℕ → ℕ
+place_of [] path = 0
+place_of (entry ∷ others) path = if bytes_eq (string_bytes entry.path) path then 0 else place_of others path + 1
+
+-- what is told at a path after a file was added behind the others
+abbrev pub with_file : (List ℕ → Option (List ℕ)) → List ℕ → List ℕ → List ℕ → Option (List ℕ)
+with_file told path bytes at = if is_some (told at) then told at else (if bytes_eq path at then Some bytes else None)
