@@ -129,7 +129,7 @@ rule_in-sound slices ms r e =
     let named = bind_some (text_at (codes "write") ms) (λ name. place_of name slices) b.0 b.1 in
     let small : a.0 ≤ 4294967295 = number-small 4294967295 (get_member (codes "priority") ms) a.0 a.1 in
     let port_small : c.0 ≤ 65535 = number-small 65535 (get_member (codes "tp_dst") ms) c.0 c.1 in
-    subst (IsListedRule (length slices)) w.1 (record { priority = omega arith; writer = place_of-within named.0 slices b.0 named.2; port = omega arith })
+    subst (IsListedRule (length slices)) {x = made} w.1 (record { priority = omega arith; writer = place_of-within named.0 slices b.0 named.2; port = omega arith })
 
 rule_of-sound : (slices : List NamedSlice) (d : Data) (r : ListedRule) → rule_of slices d ≡ Some r → IsListedRule (length slices) r
 rule_of-sound slices (table ms) r e = rule_in-sound slices ms r e

@@ -43,7 +43,7 @@ each_item read (item d ds) = do
   others ← each_item read ds
   Some (first ∷ others)
 
--- a text
+-- the bytes of a text
 abbrev pub text : Data → Option (List ℕ)
 text (string s) = Some s
 text d = None
@@ -71,27 +71,30 @@ says key n ms = is_number n (get_member key ms)
 
 -- ---- a slice
 
+-- a to z, 0 to 9, `_` and `-`
 abbrev pub is_name_byte : ℕ → Bool
 is_name_byte c = (nat_le 97 c && nat_le c 122) || (nat_le 48 c && nat_le c 57) || nat_eq c 95 || nat_eq c 45
 
--- 1 to 32 bytes of a to z, 0 to 9, `_` and `-`
+-- 1 to 32 such bytes
 abbrev pub is_name : List ℕ → Bool
 is_name name = (nat_le 1 (length name) && nat_le (length name) 32) && list_all is_name_byte name
 
 -- 1 to 255 bytes
 abbrev pub is_controller : List ℕ → Bool
-is_controller text = nat_le 1 (length text) && nat_le (length text) 255
+is_controller controller = nat_le 1 (length controller) && nat_le (length controller) 255
 
+-- the keys of a slice
 abbrev pub is_slice_key : List ℕ → Bool
 is_slice_key key = bytes_eq key (codes "name") || bytes_eq key (codes "controller")
 
+-- the name, and the controller, that a slice's table gives
 abbrev pub name_of : Members → Option (List ℕ)
 name_of ms = text_at (codes "name") ms >>= (λ name. when (is_name name) name)
 
 abbrev pub controller_of : Members → Option (List ℕ)
-controller_of ms = text_at (codes "controller") ms >>= (λ text. when (is_controller text) text)
+controller_of ms = text_at (codes "controller") ms >>= (λ controller. when (is_controller controller) controller)
 
--- a slice is a table with exactly these two keys
+-- a slice is a table with a name, a controller and no other key
 unfoldable pub slice_in : Members → Option NamedSlice
 slice_in ms = do
   name ← name_of ms
@@ -104,6 +107,7 @@ slice_of d = None
 
 -- ---- a rule
 
+-- the keys of a rule
 abbrev pub is_rule_key : List ℕ → Bool
 is_rule_key key = bytes_eq key (codes "priority") || bytes_eq key (codes "write") || bytes_eq key (codes "dl_type") || bytes_eq key (codes "nw_proto") || bytes_eq key (codes "tp_dst")
 
@@ -111,10 +115,11 @@ is_rule_key key = bytes_eq key (codes "priority") || bytes_eq key (codes "write"
 abbrev pub place_of : List ℕ → List NamedSlice → Option ℕ
 place_of name slices = position (λ s. bytes_eq s.name name) slices
 
+-- the place of the slice that a rule's table names
 abbrev pub writer_of : List NamedSlice → Members → Option ℕ
 writer_of slices ms = text_at (codes "write") ms >>= (λ name. place_of name slices)
 
--- a rule is a table with exactly these five keys: it lists one TCP port over IPv4
+-- a rule is a table with a priority, the name of a slice, a TCP port over IPv4 and no other key
 unfoldable pub rule_in : List NamedSlice → Members → Option ListedRule
 rule_in slices ms = do
   priority ← number_at (codes "priority") 4294967295 ms
@@ -133,6 +138,7 @@ abbrev pub all_distinct : {A : Type 0} → (A → A → Bool) → List A → Boo
 all_distinct equal [] = true
 all_distinct equal (x ∷ xs) = not (list_any (equal x) xs) && all_distinct equal xs
 
+-- 1 to 32
 abbrev pub is_slice_count : ℕ → Bool
 is_slice_count count = nat_le 1 count && nat_le count 32
 
@@ -148,31 +154,35 @@ written_by slot rules = count_by (λ r. nat_eq r.writer slot) rules
 abbrev pub are_rules : List ListedRule → Bool
 are_rules rules = nat_le (length rules) 2048 && all_distinct (λ r q. nat_eq r.port q.port) rules && list_all (λ r. nat_le (written_by r.writer rules) 256) rules
 
+-- the slices are an array
 abbrev pub slices_of : Option Data → Option (List NamedSlice)
 slices_of (Some (array ds)) = each_item slice_of ds >>= (λ slices. when (are_slices slices) slices)
 slices_of d = None
 
--- no rules may stand as an empty array or not at all
+-- the rules are an array, or missing
 abbrev pub rules_of : List NamedSlice → Option Data → Option (List ListedRule)
 rules_of slices None = Some []
 rules_of slices (Some (array ds)) = each_item (rule_of slices) ds >>= (λ rules. when (are_rules rules) rules)
 rules_of slices (Some d) = None
 
+-- the keys of the whole
 abbrev pub is_top_key : List ℕ → Bool
 is_top_key key = bytes_eq key (codes "version") || bytes_eq key (codes "slice") || bytes_eq key (codes "rule")
 
+-- the whole is a table with version 1, slices, perhaps rules and no other key
 unfoldable pub listing_in : Members → Option PortListing
 listing_in ms = do
   slices ← slices_of (get_member (codes "slice") ms)
   rules ← rules_of slices (get_member (codes "rule") ms)
   when (says (codes "version") 1 ms && each_key is_top_key ms) (record { slices = slices; rules = rules })
 
--- what the text says, where it is of the form
+-- what a text says, which is UTF-8, TOML and of the form
 unfoldable pub listing_of : List ℕ → Option PortListing
 listing_of bytes = if is_utf8 bytes then (parse_document bytes >>= listing_in) else None
 
 -- ---- what the code gives
 
+-- the same without where it lies in memory
 abbrev pub slice_view : ListedSlice → NamedSlice
 slice_view s = record { name = string_bytes s.name; controller = string_bytes s.controller }
 
@@ -197,11 +207,13 @@ pub record IsName (name : List ℕ) : Type 0 where
   pub few : length name ≤ 32
   pub allowed : All (λ c. is_name_byte c ≡ true) name
 
+-- its name is one, and its controller is 1 to 255 bytes
 pub record IsListedSlice (s : ListedSlice) : Type 0 where
   pub name : IsName (string_bytes s.name)
   pub some_controller : 1 ≤ length (string_bytes s.controller)
   pub short_controller : length (string_bytes s.controller) ≤ 255
 
+-- a rule whose writer is one of so many slices
 pub record IsListedRule (slots : ℕ) (r : ListedRule) : Type 0 where
   pub priority : r.priority < 2 ^ 32
   pub writer : r.writer < slots

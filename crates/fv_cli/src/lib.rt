@@ -1,4 +1,3 @@
-//! The words of the command line.
 #![tactic(auto)]
 
 pub mod listing;

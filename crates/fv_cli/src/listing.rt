@@ -1,5 +1,12 @@
 //! The first, small form of a policy text: slices, and for each listed TCP port the slice that may
 //! write there. All of the form is this proxy's own rule.
+//!
+//! The text is TOML in UTF-8, with these keys and no others. `version` is 1. `slice` is an array of
+//! 1 to 32 tables, each with a `name` (1 to 32 bytes of `a` to `z`, `0` to `9`, `_` and `-`; no two
+//! are equal) and a `controller` (1 to 255 bytes). `rule` is an array of at most 2,048 tables, or
+//! missing. A rule has a `priority` (0 to 4,294,967,295), in `write` the name of a slice, `dl_type`
+//! 2048, `nw_proto` 6 and a `tp_dst` (0 to 65,535; no two are equal), and a slice is named by at
+//! most 256 rules.
 
 ghost use Rattle.std.specs.Prelude.{◌≡◌, IfOk};
 ghost use Rattle.fv_cli.specs.Listing.{view, Gives, IsListing, listing_of};
@@ -66,7 +73,7 @@ impl<T: Drop> From<AllocFailed<T>> for ListingFault {
     }
 }
 
-/// Reads a policy text.
+/// Reads a policy text of this form.
 pub fn read_listing(alloc: Global, bytes: &[u8]) -> Result<Listing, ListingFault>
     // It is the listing that the text says, and a text that isn't of the form is refused.
     ensures exact { Gives view result (listing_of bytes.now) }

@@ -6,7 +6,7 @@ ghost use Rattle.std.specs.List.{list_any, list_all};
 ghost use Rattle.toml.specs.View.{view, array_view, table_view};
 ghost use Rattle.fv_cli.specs.Listing.{Gives, all_distinct, are_rules, each_item, place_of, rule_in, rule_of, rules_of, slice_views, writer_of, written_by};
 
-use super::fields::{has_known_keys, number_at, says, text_at, Level};
+use super::fields::{Level, has_known_keys, number_at, says, text_at};
 use super::{ListedRule, ListedSlice, ListingFault};
 use std::alloc::Global;
 use toml::value::Array;
@@ -110,7 +110,9 @@ fn written_by(slot: u8, rules: &[ListedRule]) -> usize
 fn have_room(rules: &[ListedRule]) -> bool
     ensures { result ≡ list_all (λ r. nat_le (written_by r.writer rules.now) 256) rules.now }
 {
-    rules.iter().all(|rule| written_by(rule.writer, rules) <= 256)
+    rules
+        .iter()
+        .all(|rule| written_by(rule.writer, rules) <= 256)
 }
 
 fn are_rules(rules: &[ListedRule]) -> bool

@@ -6,7 +6,7 @@ ghost use Rattle.toml.specs.Data.{array};
 ghost use Rattle.toml.specs.View.{view, array_view, table_view};
 ghost use Rattle.fv_cli.specs.Listing.{Gives, all_distinct, are_slices, controller_of, each_item, is_name, is_slice_count, is_name_byte, name_of, slice_in, slice_of, slices_of, slice_view, slice_views};
 
-use super::fields::{has_known_keys, text_at, Level};
+use super::fields::{Level, has_known_keys, text_at};
 use super::{ListedSlice, ListingFault};
 use std::alloc::Global;
 use toml::value::Array;

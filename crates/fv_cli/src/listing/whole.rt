@@ -4,7 +4,7 @@ ghost use Rattle.std.specs.Prelude.{◌≡◌};
 ghost use Rattle.toml.specs.View.{table_view};
 ghost use Rattle.fv_cli.specs.Listing.{Gives, listing_in, listing_of, view};
 
-use super::fields::{has_known_keys, member_of, says, Level};
+use super::fields::{Level, has_known_keys, member_of, says};
 use super::rules::rules_of;
 use super::slices::slices_of;
 use super::{Listing, ListingFault};
