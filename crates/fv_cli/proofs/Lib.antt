@@ -1,3 +1,3 @@
-pub mod Views
-pub mod Loop
-pub mod Sound
+pub mod ListingViews
+pub mod ListingLoop
+pub mod ListingSound

@@ -18,7 +18,7 @@ fn position_of(name: &str, slices: &[ListedSlice]) -> Option<usize>
     slices.iter().position(|slice| slice.name.as_str() == name)
 }
 
-#[tactic(auto, using(crate::proofs::Views::place_seen))]
+#[tactic(auto, using(crate::proofs::ListingViews::place_seen))]
 fn place_of(name: &str, slices: &[ListedSlice]) -> Option<usize>
     ensures { result ≡ place_of name.now (slice_views slices.now) }
 {

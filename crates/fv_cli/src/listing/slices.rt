@@ -113,7 +113,7 @@ fn is_slice_count(count: usize) -> bool
     1 <= count && count <= 32
 }
 
-#[tactic(auto, using(crate::proofs::Views::are_slices_seen))]
+#[tactic(auto, using(crate::proofs::ListingViews::are_slices_seen))]
 fn are_slices(slices: &[ListedSlice]) -> bool
     ensures value { result ≡ are_slices (slice_views slices.now) }
     ensures few { result ≡ true → length slices.now ≤ 32 }

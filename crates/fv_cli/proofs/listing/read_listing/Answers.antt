@@ -1,4 +1,4 @@
-use Rattle.fv_cli.proofs.Sound.{plain}
+use Rattle.fv_cli.proofs.ListingSound.{plain}
 use Rattle.fv_cli.proofs.listing.read_listing.Goals as goal
 
 pub returns-clause-plain : goal.returns-clause-plain

@@ -1,7 +1,7 @@
 use Rattle.std.proofs.Common.{◌≡◌, sym, subst, true≢false}
 use Rattle.toml.specs.View.{table_view}
 use Rattle.fv_cli.specs.Listing.{Gives, listing_in, listing_of, view}
-use Rattle.fv_cli.proofs.Sound.{said, unsaid}
+use Rattle.fv_cli.proofs.ListingSound.{said, unsaid}
 use Rattle.fv_cli.proofs.listing.whole.read.Goals as goal
 
 pub returns-in-Ok : goal.returns-in-Ok

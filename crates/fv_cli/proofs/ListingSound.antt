@@ -1,12 +1,12 @@
 -- A listing that a text says is sound.
-use Rattle.std.proofs.Common.{◌≡◌, ◌≢◌, ◌⊎◌, inl, inr, ℕ, suc, ◌+◌, ◌<◌, ◌≤◌, ◌^◌, pos, negsuc, Bool, true, false, not, ◌&&◌, ◌||◌, cond, nat_le, nat_eq, leb-true, eqb-true, eq-eqb, true≢false, List, [], ◌∷◌, length, map, All, AllPairs, Option, Some, None, Result, Ok, Err, IfOk, IsUtf8, bytes_eq, string_bytes, codes, count_by, position, refl, sym, ap, subst, ◌∙◌, arith, get_or}
+use Rattle.std.proofs.Common.{◌≡◌, ◌≢◌, ◌⊎◌, inl, inr, ℕ, ◌<◌, ◌≤◌, pos, negsuc, Bool, true, false, not, ◌&&◌, ◌||◌, cond, nat_le, nat_eq, leb-true, eqb-true, eq-eqb, true≢false, List, [], ◌∷◌, length, AllPairs, Option, Some, None, Result, Ok, Err, IfOk, IsUtf8, bytes_eq, string_bytes, codes, refl, sym, ap, subst, ◌∙◌, arith}
 use Rattle.std.specs.List.{AllByRecursion, IsDistinct, list_all, list_any}
 use Rattle.std.specs.Str.{is_utf8}
 use Rattle.std.proofs.lemmas.Bool.{and_parts, or_parts}
 use Rattle.std.proofs.lemmas.List.Elements.{All-from_recursion}
 use Rattle.std.proofs.lemmas.List.Quantifiers.{position-Some}
 use Rattle.std.proofs.lemmas.List.Sums.{AllPass-from_list_all, sum_by-cons}
-use Rattle.std.proofs.lemmas.Map.Keys.{IsDistinct-cons, apart_from_distinct}
+use Rattle.std.proofs.lemmas.Map.Keys.{apart_from_distinct}
 use Rattle.std.proofs.lemmas.Str.{is_utf8-from_IsUtf8, IsUtf8-from_is_utf8}
 use Rattle.toml.specs.Data.{Data, string, integer, float, boolean, datetime, array, table, Items, no_items, item, Members, get_member}
 use Rattle.toml.specs.Parse.{parse_document}
@@ -15,7 +15,7 @@ use Rattle.fv_cli.specs.declared.listing.ListedRule.{ListedRule}
 use Rattle.fv_cli.specs.declared.listing.Listing.{Listing}
 use Rattle.fv_cli.specs.declared.listing.ListingFault.{ListingFault}
 use Rattle.fv_cli.specs.Listing.{◌>>=◌, NamedSlice, PortListing, when, each_key, each_item, text_at, number, number_at, says, is_name, is_controller, is_name_byte, is_slice_key, name_of, controller_of, slice_in, slice_of, is_rule_key, place_of, writer_of, rule_in, rule_of, all_distinct, is_slice_count, are_slices, written_by, are_rules, slices_of, rules_of, is_top_key, listing_in, listing_of, slice_view, slice_views, view, Gives, IsName, IsListedSlice, IsListedRule, IsListing}
-use Rattle.fv_cli.proofs.Views.{slices_seen, names_seen}
+use Rattle.fv_cli.proofs.ListingViews.{slices_seen, names_seen}
 
 -- ---- steps
 

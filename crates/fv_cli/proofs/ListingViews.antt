@@ -1,8 +1,8 @@
 -- Tests over slices, before and after they are seen by view.
-use Rattle.std.proofs.Common.{◌≡◌, ◌+◌, ◌<◌, nat_lt, nat_le, ℕ, suc, Bool, true, false, not, ◌&&◌, cond, List, [], ◌∷◌, length, map, Option, Some, None, position, bytes_eq, string_bytes, refl, sym, ap, ◌∙◌, arith}
-use Rattle.std.specs.List.{position_or_len, prefix_len, list_any}
+use Rattle.std.proofs.Common.{◌≡◌, ◌+◌, ℕ, suc, Bool, not, ◌&&◌, cond, List, [], ◌∷◌, length, map, position, bytes_eq, string_bytes, refl, ap}
+use Rattle.std.specs.List.{prefix_len, list_any}
 use Rattle.fv_cli.specs.declared.listing.ListedSlice.{ListedSlice}
-use Rattle.fv_cli.specs.Listing.{NamedSlice, place_of, slice_view, slice_views, all_distinct, is_slice_count, are_slices}
+use Rattle.fv_cli.specs.Listing.{place_of, slice_view, slice_views, all_distinct, is_slice_count, are_slices}
 
 prefix_seen : {A B : Type 0} (f : A → B) (p : B → Bool) (xs : List A) → prefix_len p (map f xs) ≡ prefix_len (λ x. p (f x)) xs
 prefix_seen f p [] = refl
