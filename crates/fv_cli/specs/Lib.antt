@@ -1,3 +1,11 @@
 pub mod Told
 pub mod Memory
 pub mod Words
+pub mod Listing
+pub mod ListingKeys
+pub mod ListedPolicy
+pub mod Recorded
+pub mod RecordedViews
+pub mod Messages
+pub mod Report
+pub mod Endings

@@ -1,0 +1,122 @@
+//! The program: its words, the real files and streams, and the exit status.
+#![tactic(auto)]
+
+mod disk;
+mod stream;
+
+#[cfg(test)]
+mod tests;
+
+use disk::Disk;
+use fv_cli::base::{Sink, Words, put_all};
+use fv_cli::{Ending, offline};
+use std::alloc::AllocError;
+use std::io::{self, BufWriter};
+use std::process::ExitCode;
+use std::{env, io::ErrorKind};
+use stream::Stream;
+
+/// What `--help` prints.
+const HELP: &str = "\
+FlowVisor for OpenFlow 1.0: several controllers share one set of switches.
+
+usage: flowvisor replay POLICY RECORDING
+
+Runs the recorded connections under the policy and writes the report: a line for each message that the
+switch and the slices would get.
+
+The exit status is 0, or 1 for other words, 4 where a file can't be read, 5 where the report can't be
+written, 6 where memory runs out, 7 where a file is too large, and 8 where the policy or the recording
+needs what isn't built yet. Each status but 0 has a line on standard error.
+";
+
+/// What `--version` prints.
+const VERSION: &str = "flowvisor 0.1.0 (OpenFlow 1.0, wire version 0x01)\n";
+
+/// How many bytes of output are gathered before they are written.
+const OUTPUT_PIECE: usize = 262_144;
+
+/// Why the words weren't taken.
+enum WordsRefused {
+    /// One isn't UTF-8.
+    NotText,
+    /// Memory ran out.
+    Memory,
+}
+
+impl From<io::Error> for WordsRefused {
+    fn from(error: io::Error) -> WordsRefused {
+        match error.kind() {
+            ErrorKind::OutOfMemory => WordsRefused::Memory,
+            _ => WordsRefused::NotText,
+        }
+    }
+}
+
+impl From<AllocError> for WordsRefused {
+    fn from(_error: AllocError) -> WordsRefused {
+        WordsRefused::Memory
+    }
+}
+
+/// The words behind the program's name.
+fn words(rt: &HostRuntime) -> Result<Words, WordsRefused> {
+    let mut words = Words::new(rt.alloc());
+    for word in env::args(rt)?.skip(1) {
+        words.push(word.as_str())?;
+    }
+    Ok(words)
+}
+
+/// The text that a lone word asks for.
+fn lone_answer(rt: &HostRuntime) -> Option<&'static str> {
+    let mut words = env::args(rt).ok()?.skip(1);
+    let word = words.next()?;
+    if words.next().is_some() {
+        return None;
+    }
+    match word.as_str() {
+        "--help" => Some(HELP),
+        "--version" => Some(VERSION),
+        _ => None,
+    }
+}
+
+/// Puts the line of an ending on standard error, and answers its status.
+fn end(rt: &HostRuntime, ending: Ending) -> u8 {
+    let _ = put_all(&mut Stream::new(rt.stderr()), ending.line().as_bytes());
+    ending.status()
+}
+
+/// Runs with these words; standard output is gathered and flushed at the end.
+fn run(rt: &HostRuntime, words: &Words) -> u8 {
+    let Ok(writer) = BufWriter::with_capacity(rt.alloc(), OUTPUT_PIECE, rt.stdout()) else {
+        return end(rt, Ending::NoMemory);
+    };
+    let mut out = Stream::new(writer);
+    let mut err = Stream::new(rt.stderr());
+    let mut files = Disk::new(rt);
+    let status = offline(rt.alloc(), words, &mut files, &mut out, &mut err);
+    if out.finish().is_err() && status == 0 {
+        return end(rt, Ending::WriteFault);
+    }
+    status
+}
+
+fn start(rt: &HostRuntime) -> u8 {
+    if let Some(text) = lone_answer(rt) {
+        return match put_all(&mut Stream::new(rt.stdout()), text.as_bytes()) {
+            Ok(()) => Ending::Done.status(),
+            Err(_) => end(rt, Ending::WriteFault),
+        };
+    }
+    match words(rt) {
+        Ok(words) => run(rt, &words),
+        Err(WordsRefused::NotText) => end(rt, Ending::Usage),
+        Err(WordsRefused::Memory) => end(rt, Ending::NoMemory),
+    }
+}
+
+fn main(rt: HostRuntime) -> ExitCode {
+    ExitCode::from(start(&rt))
+}

@@ -1,0 +1,238 @@
+//! Whole calls over files and sinks in memory.
+
+use crate::base::{Files, MemoryFiles, MemorySink, Words};
+use crate::offline;
+use std::alloc::Global;
+use std::process::Abort;
+use std::test::Fail;
+
+/// Two slices: alice has TCP port 80, bob port 22.
+const POLICY: &str = "\
+version = 1
+[[slice]]
+name = \"alice\"
+controller = \"127.0.0.1:6633\"
+[[slice]]
+name = \"bob\"
+controller = \"127.0.0.1:6634\"
+[[rule]]
+priority = 100
+write = \"alice\"
+dl_type = 2048
+nw_proto = 6
+tp_dst = 80
+[[rule]]
+priority = 50
+write = \"bob\"
+dl_type = 2048
+nw_proto = 6
+tp_dst = 22
+";
+
+const MAGIC: &str = "4656524543000001";
+const SWITCH_UP: &str = "00000000000000000000000000000000";
+const ALICE_UP: &str = "03000000000000000000000000000000";
+const BOB_UP: &str = "03000100000000000000000000000000";
+
+/// The switch's features, with four ports.
+const FEATURES: &str = "01000000000000e00000000000000000010600e0ff00000100000000000000a100000100010000000000000000000fff\
+000100000000000000000000000000000000000000000000000000000000000000000000000000000000000000000000\
+000200000000000000000000000000000000000000000000000000000000000000000000000000000000000000000000\
+000300000000000000000000000000000000000000000000000000000000000000000000000000000000000000000000\
+fffe00000000000000000000000000000000000000000000000000000000000000000000000000000000000000000000";
+
+/// A packet-in of 54 bytes at port 1 that isn't buffered: TCP to port 80.
+const WEB_PACKET: &str = "01000000000000480000000000000000010a004800000000ffffffff003600010000\
+000000000002000000000001080045000028000000004006\
+00000a0000010a0000020400005000000000000000005002000000000000";
+
+/// The same to port 22.
+const SHELL_PACKET: &str = "01000000000000480000000000000000010a004800000000ffffffff003600010000\
+000000000002000000000001080045000028000000004006\
+00000a0000010a0000020400001600000000000000005002000000000000";
+
+/// What the switch is sent until its desk is open.
+const OPENING: &str = "\
+0 0 lane 01000008ff000000
+0 0 lane 01050008ff000001
+1 0 lane 0109000cff0000020000ffff
+1 0 lane 010e0048ff000003003820ff0000000000000000000000000000000000000000000000000000000000000000000000000000000000000000000000000003000000000000ffffffffffff0000
+1 0 lane 01120008ff000004
+";
+
+const WEB_REPORT: &str = "\
+2 0 to alice 0100000800000000
+3 0 to bob 0100000800000000
+4 0 to alice 010a004800000000ffffffff003600010000000000000002000000000001080045000028000000004006\
+00000a0000010a0000020400005000000000000000005002000000000000
+end 5
+";
+
+/// What a call answered: its status, its output and its error line.
+#[derive(Drop)]
+struct Answer {
+    status: u8,
+    out: MemorySink,
+    err: MemorySink,
+}
+
+fn call(
+    alloc: Global,
+    words: &[&str],
+    files: &mut MemoryFiles,
+    out: MemorySink,
+) -> Result<Answer, Fail> {
+    let mut list = Words::new(alloc);
+    for word in words {
+        list.push(word)?;
+    }
+    let mut out = out;
+    let mut err = MemorySink::new(alloc);
+    let status = offline(alloc, &list, files, &mut out, &mut err);
+    Ok(Answer { status, out, err })
+}
+
+/// The bytes of hex pieces, one after the other.
+fn bytes_of(alloc: Global, pieces: &[&str]) -> Result<Vec<u8>, Fail> {
+    let mut bytes = Vec::new(alloc);
+    for piece in pieces {
+        bytes.extend_from_slice(&hex::decode(alloc, *piece)?)?;
+    }
+    Ok(bytes)
+}
+
+/// A replay of these records under this policy.
+fn replay(
+    alloc: Global,
+    policy: &str,
+    pieces: &[&str],
+    out: MemorySink,
+) -> Result<Answer, Fail> {
+    let mut files = MemoryFiles::new(alloc);
+    files.add("policy", policy.as_bytes())?;
+    files.add("recording", &bytes_of(alloc, pieces)?)?;
+    call(alloc, &["replay", "policy", "recording"], &mut files, out)
+}
+
+fn expect_answer(rt: &impl Abort, answer: &Answer, status: u8, out: &[&str], err: &str) {
+    assert_eq!(rt; answer.status, status, "status");
+    let mut rest = answer.out.as_slice();
+    for piece in out {
+        assert!(rt; rest.starts_with(piece.as_bytes()), "output before {piece}");
+        rest = &rest[piece.len()..];
+    }
+    assert!(rt; rest.is_empty(), "output ends");
+    assert_eq!(rt; answer.err.as_slice(), err.as_bytes(), "error line");
+}
+
+#[test]
+fn a_packet_reaches_the_slice_that_owns_its_port(rt: HostRuntime) -> Result<(), Fail> {
+    let alloc = rt.alloc();
+    let pieces = [MAGIC, SWITCH_UP, FEATURES, ALICE_UP, BOB_UP, WEB_PACKET];
+    let answer = replay(alloc, POLICY, &pieces, MemorySink::new(alloc))?;
+    expect_answer(&rt, &answer, 0, &[OPENING, WEB_REPORT], "");
+    let slow = MemorySink::with_plan(alloc, 7, Vec::new(alloc));
+    let answer = replay(alloc, POLICY, &pieces, slow)?;
+    expect_answer(&rt, &answer, 0, &[OPENING, WEB_REPORT], "");
+    Ok(())
+}
+
+#[test]
+fn recordings_of_the_form_are_reported(rt: HostRuntime) -> Result<(), Fail> {
+    let alloc = rt.alloc();
+    let cases: [(&[&str], &[&str]); 5] = [
+        (&[MAGIC], &["end 0\n"]),
+        (&[MAGIC, SWITCH_UP, ALICE_UP], &["0 0 lane 01000008ff000000\n0 0 lane 01050008ff000001\n1 0 close alice\nend 2\n"]),
+        (&[MAGIC, SWITCH_UP, FEATURES, ALICE_UP, SHELL_PACKET], &[OPENING, "2 0 to alice 0100000800000000\nend 4\n"]),
+        (&[MAGIC, SWITCH_UP, WEB_PACKET], &["0 0 lane 01000008ff000000\n0 0 lane 01050008ff000001\nend 2\n"]),
+        (&[MAGIC, SWITCH_UP, FEATURES, FEATURES], &[OPENING, "end 3\n"]),
+    ];
+    for (pieces, report) in &cases {
+        let answer = replay(alloc, POLICY, pieces, MemorySink::new(alloc))?;
+        expect_answer(&rt, &answer, 0, report, "");
+    }
+    Ok(())
+}
+
+#[test]
+fn a_sink_that_fails_ends_the_report_at_a_line(rt: HostRuntime) -> Result<(), Fail> {
+    let alloc = rt.alloc();
+    let pieces = [MAGIC, SWITCH_UP, FEATURES, ALICE_UP, BOB_UP, WEB_PACKET];
+    let failing = MemorySink::with_plan(alloc, usize::MAX, vec![in alloc; 1]?);
+    let answer = replay(alloc, POLICY, &pieces, failing)?;
+    expect_answer(&rt, &answer, 5, &["0 0 lane 01000008ff000000\n"], "write fault\n");
+    assert_eq!(rt; answer.out.faults(), 1);
+    Ok(())
+}
+
+#[test]
+fn words_without_a_form_are_answered_by_the_usage(rt: HostRuntime) -> Result<(), Fail> {
+    let alloc = rt.alloc();
+    let usage = "usage: flowvisor check POLICY / replay POLICY RECORDING / gen SEED COUNT / serve POLICY LISTEN COUNT\n";
+    let cases: [&[&str]; 5] = [
+        &[],
+        &["replay", "policy"],
+        &["check", "policy"],
+        &["replay", "policy", "-"],
+        &["serve", "policy", "127.0.0.1:6653", "1"],
+    ];
+    for words in &cases {
+        let mut files = MemoryFiles::new(alloc);
+        let answer = call(alloc, words, &mut files, MemorySink::new(alloc))?;
+        expect_answer(&rt, &answer, 1, &[], usage);
+    }
+    Ok(())
+}
+
+#[test]
+fn a_missing_file_is_a_read_fault(rt: HostRuntime) -> Result<(), Fail> {
+    let alloc = rt.alloc();
+    let words = ["replay", "policy", "recording"];
+    let mut files = MemoryFiles::new(alloc);
+    let answer = call(alloc, &words, &mut files, MemorySink::new(alloc))?;
+    expect_answer(&rt, &answer, 4, &[], "read fault\n");
+    assert_eq!(rt; files.faults("policy"), 1);
+    let mut files = MemoryFiles::new(alloc);
+    files.add("policy", POLICY.as_bytes())?;
+    let answer = call(alloc, &words, &mut files, MemorySink::new(alloc))?;
+    expect_answer(&rt, &answer, 4, &[], "read fault\n");
+    Ok(())
+}
+
+#[test]
+fn a_policy_past_its_limit_is_too_large(rt: HostRuntime) -> Result<(), Fail> {
+    let alloc = rt.alloc();
+    let words = ["replay", "policy", "recording"];
+    let blanks = vec![in alloc; b' '; 1_048_577]?;
+    let mut files = MemoryFiles::new(alloc);
+    files.add("policy", &blanks)?;
+    let answer = call(alloc, &words, &mut files, MemorySink::new(alloc))?;
+    expect_answer(&rt, &answer, 7, &[], "too large\n");
+    let mut files = MemoryFiles::new(alloc);
+    files.add("policy", &blanks[1..])?;
+    let answer = call(alloc, &words, &mut files, MemorySink::new(alloc))?;
+    expect_answer(&rt, &answer, 8, &[], "not built: policy\n");
+    Ok(())
+}
+
+#[test]
+fn what_is_not_built_is_named(rt: HostRuntime) -> Result<(), Fail> {
+    let alloc = rt.alloc();
+    let other_policy = replay(alloc, "version = 2", &["00"], MemorySink::new(alloc))?;
+    expect_answer(&rt, &other_policy, 8, &[], "not built: policy\n");
+    let carol_up = "03000200000000000000000000000000";
+    let slice_bytes = "0400000000000008000000000000000001000008ff000000";
+    let cases: [&[&str]; 6] = [
+        &["00"],
+        &[MAGIC, ALICE_UP],
+        &[MAGIC, SWITCH_UP, SWITCH_UP],
+        &[MAGIC, SWITCH_UP, carol_up],
+        &[MAGIC, SWITCH_UP, ALICE_UP, slice_bytes],
+        &[MAGIC, SWITCH_UP, FEATURES, "00"],
+    ];
+    for pieces in &cases {
+        let answer = replay(alloc, POLICY, pieces, MemorySink::new(alloc))?;
+        expect_answer(&rt, &answer, 8, &[], "not built: recording\n");
+    }
+    Ok(())
+}
