@@ -1,4 +1,4 @@
--- Rules: where they hold, which values they may have, and when two of them have a header in common. All of this is the proxy's own rule.
+-- Rules: where they hold, which values they may have, and when two of them have a header in common. This is the proxy's own rule; the numbers of ports and VLANs are the standard's.
 use Rattle.std.specs.Prelude.{ℕ, ◌≡◌, ◌≤◌, ◌⊎◌, ◌==◌, Bool, true, IsTrue, IsSome, IfSome, Option, Some, None}
 use Rattle.of10_model.specs.Header.{Header, IsHeader}
 use Rattle.of10_model.specs.Pattern.{Has}
