@@ -3,7 +3,7 @@
 ghost use Rattle.std.specs.Prelude.{◌≤◌, length};
 
 use crate::messages::{
-    BARRIER_REQUEST, FEATURES_REPLY, FEATURES_REQUEST, FLOW_MOD, HELLO, PACKET_IN, SET_CONFIG,
+    BARRIER_REQUEST, FEATURES_REPLY, FEATURES_REQUEST, HELLO, PACKET_IN, SET_CONFIG, delete_all,
     message, packet_in,
 };
 use crate::recorded::{Record, SLICE_UP, SWITCH_BYTES, SWITCH_UP};
@@ -17,14 +17,6 @@ const OWN_XIDS: [u32; 5] = [0xff00_0000, 0xff00_0001, 0xff00_0002, 0xff00_0003, 
 
 /// SET_CONFIG: no flags, and packets sent up whole (OpenFlow 1.0.0, section 5.3.2).
 const WHOLE_PACKETS: [u8; 4] = [0, 0, 0xff, 0xff];
-
-/// FLOW_MOD: delete every entry; a match with all fields free, no buffer and no port
-/// (OpenFlow 1.0.0, section 5.3.3).
-const DELETE_ALL: [u8; 64] = [
-    0, 0x38, 0x20, 0xff, 0, 0, 0, 0, 0, 0, 0, 0, 0, 0, 0, 0, 0, 0, 0, 0, 0, 0, 0, 0, 0, 0, 0, 0, 0,
-    0, 0, 0, 0, 0, 0, 0, 0, 0, 0, 0, 0, 0, 0, 0, 0, 0, 0, 0, 0, 3, 0, 0, 0, 0, 0, 0, 0xff, 0xff,
-    0xff, 0xff, 0xff, 0xff, 0, 0,
-];
 
 /// What one event of the switch's connection or of a slice's makes.
 #[derive(Drop)]
@@ -117,9 +109,7 @@ impl<'p> Desk<'p> {
         outcome
             .lane
             .push(message(alloc, SET_CONFIG, OWN_XIDS[2], &WHOLE_PACKETS)?)?;
-        outcome
-            .lane
-            .push(message(alloc, FLOW_MOD, OWN_XIDS[3], &DELETE_ALL)?)?;
+        outcome.lane.push(delete_all(alloc, OWN_XIDS[3])?)?;
         outcome
             .lane
             .push(message(alloc, BARRIER_REQUEST, OWN_XIDS[4], &[])?)?;

@@ -2,9 +2,9 @@
 
 ghost use Rattle.std.specs.Prelude.{◌≡◌, ◌≤◌, ◌+◌, [], ◌∷◌, ◌++◌, length, IfOk};
 ghost use Rattle.byteorder.specs.Endian.{big_bytes};
-ghost use Rattle.fv_cli.specs.Messages.{message_of, packet_in_of};
+ghost use Rattle.fv_cli.specs.Messages.{message_of, delete_all_of, packet_in_of};
 
-use of10_model::wire::{put_u16, put_u32};
+use of10_model::wire::{put_u16, put_u32, put_u64};
 use std::alloc::{AllocError, Global};
 
 /// Message types (OpenFlow 1.0.0, section 5.1).
@@ -13,8 +13,17 @@ pub(crate) const FEATURES_REQUEST: u8 = 5;
 pub(crate) const FEATURES_REPLY: u8 = 6;
 pub(crate) const SET_CONFIG: u8 = 9;
 pub(crate) const PACKET_IN: u8 = 10;
-pub(crate) const FLOW_MOD: u8 = 14;
+const FLOW_MOD: u8 = 14;
 pub(crate) const BARRIER_REQUEST: u8 = 18;
+
+/// The wildcards of a match with every field free (OpenFlow 1.0.0, section 5.2.3).
+const EVERY_FIELD_FREE: u32 = 0x0038_20ff;
+
+/// The command that deletes all entries that a match includes (OpenFlow 1.0.0, section 4.6).
+const DELETE: u16 = 3;
+
+const NO_BUFFER: u32 = 0xffff_ffff;
+const NO_PORT: u16 = 0xffff;
 
 /// The head of a message of version 1 with a body of so many bytes (OpenFlow 1.0.0, section 5.1), and
 /// room for the body.
@@ -56,5 +65,22 @@ pub(crate) fn packet_in(alloc: Global, frame: &[u8]) -> Result<Vec<u8>, AllocErr
     out.extend_from_slice(&frame[12..17])?;
     out.push(0)?;
     out.extend_from_slice(&frame[18..])?;
+    Ok(out)
+}
+
+/// A FLOW_MOD that deletes every entry: all fields free, no cookie and timeouts, no buffer, no port
+/// (OpenFlow 1.0.0, section 5.3.3).
+pub(crate) fn delete_all(alloc: Global, xid: u32) -> Result<Vec<u8>, AllocError>
+    ensures { IfOk result (λ m. m.items ≡ delete_all_of xid) }
+{
+    let mut out = head(alloc, FLOW_MOD, xid, 64)?;
+    put_u32(&mut out, EVERY_FIELD_FREE)?;
+    out.extend_from_slice(&[0; 36])?;
+    put_u64(&mut out, 0)?;
+    put_u16(&mut out, DELETE)?;
+    out.extend_from_slice(&[0; 6])?;
+    put_u32(&mut out, NO_BUFFER)?;
+    put_u16(&mut out, NO_PORT)?;
+    put_u16(&mut out, 0)?;
     Ok(out)
 }
