@@ -1,5 +1,8 @@
 //! The files of the system. Nothing is told of their contents.
 
+ghost use Rattle.std.specs.Prelude.{◌≡◌, ◌≤◌, length, None, IfOk};
+
+use crate::counts::one_more;
 use fv_cli::base::{Failed, Files};
 use std::fs::File;
 use std::io::{self, Read, Seek, SeekFrom};
@@ -44,7 +47,8 @@ impl<'r> Disk<'r> {
     }
 
     fn read_from(&mut self, path: &str, from: u64, into: &mut [u8]) -> io::Result<usize>
-        ensures { IfOk result (λ n. n ≤ length into.old) }
+        ensures within { IfOk result (λ n. n ≤ length into.old) }
+        ensures count { self.new.faults ≡ self.old.faults }
     {
         let mut opened = match self.opened.take() {
             Some(opened) if opened.path.as_str() == path && opened.at == from => opened,
@@ -66,7 +70,7 @@ impl Files for Disk<'_> {
         match self.read_from(path, from, into) {
             Ok(count) => Ok(count),
             Err(_) => {
-                self.faults = self.faults.saturating_add(1);
+                self.faults = one_more(self.faults);
                 Err(Failed)
             }
         }

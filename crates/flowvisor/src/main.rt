@@ -1,6 +1,7 @@
 //! The program: its words, the real files and streams, and the exit status.
 #![tactic(auto)]
 
+mod counts;
 mod disk;
 mod stream;
 

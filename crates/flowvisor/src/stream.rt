@@ -1,5 +1,8 @@
 //! Standard output and standard error as sinks. Nothing is told of what they hold.
 
+ghost use Rattle.std.specs.Prelude.{None};
+
+use crate::counts::one_more;
 use fv_cli::base::{Failed, Sink};
 use std::io::Write;
 
@@ -19,16 +22,14 @@ impl<W: Write + Drop> Stream<W> {
         }
     }
 
-    fn fail(&mut self) -> Failed {
-        self.faults = self.faults.saturating_add(1);
-        Failed
-    }
-
     /// Writes what was gathered.
     pub fn finish(&mut self) -> Result<(), Failed> {
         match self.writer.flush() {
             Ok(()) => Ok(()),
-            Err(_) => Err(self.fail()),
+            Err(_) => {
+                self.faults = one_more(self.faults);
+                Err(Failed)
+            }
         }
     }
 }
@@ -41,7 +42,10 @@ impl<W: Write + Drop> Sink for Stream<W> {
     fn put(&mut self, bytes: &[u8]) -> Result<usize, Failed> {
         match self.writer.write(bytes) {
             Ok(count) if count > 0 => Ok(count),
-            _ => Err(self.fail()),
+            _ => {
+                self.faults = one_more(self.faults);
+                Err(Failed)
+            }
         }
     }
 }

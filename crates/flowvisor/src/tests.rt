@@ -9,7 +9,8 @@ use std::{env, fs, process};
 fn files_are_read_and_streams_are_written(rt: HostRuntime) -> Result<(), Fail> {
     let alloc = rt.alloc();
     let id = process::id(rt.process());
-    let path = format!(in alloc; "{}/flowvisor-test-{id}", env::temp_dir(&rt)?.as_path())?;
+    let folder = env::temp_dir(&rt)?;
+    let path = format!(in alloc; "{}/flowvisor-test-{id}", folder.as_path().as_str())?;
     let mut out = Stream::new(BufWriter::new(alloc, fs::create(&rt, path.as_str())?)?);
     assert!(rt; put_all(&mut out, b"one\ntwo\n").is_ok());
     assert!(rt; out.finish().is_ok());
