@@ -1,9 +1,10 @@
 //! Numbers in messages, which are big endian (OpenFlow 1.0.0, section 5).
 
-ghost use Rattle.std.specs.Prelude.{◌≡◌, ◌+◌, ◌<◌, ◌≤◌, ◌^◌, length, drop, take, ◌++◌};
+ghost use Rattle.std.specs.Prelude.{◌≡◌, ◌+◌, ◌<◌, ◌≤◌, ◌^◌, length, drop, take, ◌++◌, OnOk, OnErr};
 ghost use Rattle.byteorder.specs.Endian.{big_number, big_bytes};
 
 use byteorder::{BigEndian, ByteOrder};
+use std::alloc::AllocError;
 
 /// The number in the two bytes from `at`.
 pub fn u16_at(bytes: &[u8], at: usize) -> u16
@@ -36,4 +37,45 @@ pub fn u64_at(bytes: &[u8], at: usize) -> u64
     ensures { result ≡ big_number 8 (drop at bytes.now) }
 {
     BigEndian::read_u64(&bytes[at..])
+}
+
+/// Appends a number in two bytes.
+pub fn put_u16(out: &mut Vec<u8>, n: u16) -> Result<(), AllocError>
+    ensures ok { OnOk result (out.new.items ≡ out.old.items ++ big_bytes 2 n) }
+    ensures err { OnErr result (out.new.items ≡ out.old.items) }
+{
+    let mut bytes = [0; 2];
+    BigEndian::write_u16(&mut bytes, n);
+    out.extend_from_slice(&bytes)
+}
+
+/// Appends a number in four bytes.
+pub fn put_u32(out: &mut Vec<u8>, n: u32) -> Result<(), AllocError>
+    ensures ok { OnOk result (out.new.items ≡ out.old.items ++ big_bytes 4 n) }
+    ensures err { OnErr result (out.new.items ≡ out.old.items) }
+{
+    let mut bytes = [0; 4];
+    BigEndian::write_u32(&mut bytes, n);
+    out.extend_from_slice(&bytes)
+}
+
+/// Appends a number below 2^48 in six bytes: a hardware address.
+pub fn put_u48(out: &mut Vec<u8>, n: u64) -> Result<(), AllocError>
+    requires { n < 2 ^ 48 }
+    ensures ok { OnOk result (out.new.items ≡ out.old.items ++ big_bytes 6 n) }
+    ensures err { OnErr result (out.new.items ≡ out.old.items) }
+{
+    let mut bytes = [0; 6];
+    BigEndian::write_u48(&mut bytes, n);
+    out.extend_from_slice(&bytes)
+}
+
+/// Appends a number in eight bytes.
+pub fn put_u64(out: &mut Vec<u8>, n: u64) -> Result<(), AllocError>
+    ensures ok { OnOk result (out.new.items ≡ out.old.items ++ big_bytes 8 n) }
+    ensures err { OnErr result (out.new.items ≡ out.old.items) }
+{
+    let mut bytes = [0; 8];
+    BigEndian::write_u64(&mut bytes, n);
+    out.extend_from_slice(&bytes)
 }
