@@ -61,7 +61,7 @@ same_count zero m (b ∷ bytes) le1 le2 = absurd (omega arith)
 same_count (suc n) zero (b ∷ bytes) le1 le2 = absurd (omega arith)
 same_count (suc n) (suc m) (b ∷ bytes) le1 le2 =
     same_bind (action_at (b ∷ bytes)) (λ first. actions_at n first.1 >>= λ others. Ok (first.0 ∷ others)) (λ first. actions_at m first.1 >>= λ others. Ok (first.0 ∷ others))
-      (λ x e. let s = shorter (b ∷ bytes) x e in ap (λ (r : Result (List Action) WireFault). r >>= λ others. Ok (x.0 ∷ others)) (same_count n m x.1 (omega arith) (omega arith)))
+    (λ x e. let s = shorter (b ∷ bytes) x e in ap (λ (r : Result (List Action) WireFault). r >>= λ others. Ok (x.0 ∷ others)) (same_count n m x.1 (omega arith) (omega arith)))
 
 nothing : (x : Action × List ℕ) → action_at [] ≡ Ok x → ⊥
 unfolding action_at head_at

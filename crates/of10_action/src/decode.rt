@@ -108,15 +108,13 @@ pub fn decode_list(alloc: Global, bytes: &[u8]) -> Result<Actions, DecodeFault>
     ensures only { (actions : List Action) → All IsAction actions → bytes.now ≡ spelling actions → Gives (λ a. a) result (Ok actions) }
     ensures range { IfOk result (λ a. All IsAction a) }
 {
-    let items = match list(alloc, bytes) {
-        Ok(items) => items,
-        Err(fault) => return Err(fault),
-    };
-    Ok(Actions::from_vec(items))
+    match list(alloc, bytes) {
+        Ok(items) => Ok(Actions::from_vec(items)),
+        Err(fault) => Err(fault),
+    }
 }
 
 /// What is spelled is read again.
 pub fn spelling_is_read()
     ensures { (actions : List Action) → All IsAction actions → read_all (spelling actions) ≡ Ok actions }
-{
-}
+{}

@@ -28,7 +28,7 @@ fn kind(action: &Action) -> u16
 
 /// Bytes that an action of the kind takes.
 pub(crate) fn size(kind: u16) -> u16
-    ensures value { result ≡ size_of kind }
+    ensures { result ≡ size_of kind }
 {
     match kind {
         4 | 5 | 11 => 16,

@@ -10,3 +10,6 @@ pub use action::{Action, Actions, Bytes};
 pub use decode::{decode_list, spelling_is_read};
 pub use encode::{encode_list, list_size};
 pub use fault::{DecodeFault, WireFault, code};
+
+#[cfg(test)]
+mod tests;

@@ -6,5 +6,5 @@ use Rattle.of10_action.proofs.decode.decode_list.Goals as goal
 pub returns-in-Err-clause-only : goal.returns-in-Err-clause-only
 returns-in-Err-clause-only c = λ actions fits e. subst (λ f. Fails c.in-Err.fault f) (ap read_all e ∙ actions_again actions fits) c.in-Err.ensures.exact
 
-pub returns-clause-only : goal.returns-clause-only
-returns-clause-only c = λ actions fits e. sym (ap read_all e ∙ actions_again actions fits) ∙ c.in-Ok.ensures.exact ∙ ap (λ x. Ok x) (sym c.from_vec.ensures)
+pub returns-in-Ok-clause-only : goal.returns-in-Ok-clause-only
+returns-in-Ok-clause-only c = λ actions fits e. sym (ap read_all e ∙ actions_again actions fits) ∙ c.in-Ok.ensures.exact ∙ ap (λ x. Ok x) (sym c.from_vec.ensures)

@@ -16,7 +16,7 @@ pub loop-rest-preserved : goal.loop-rest-preserved
 loop-rest-preserved c = record {
   so_far = rw c.in_ok-push.ensures.items (goes_on c.loop-rest.actions.items c.loop-rest.rest.now c.in-Ok.found.0 c.in-Ok.found.1.now (read_all c.args.bytes.now) c.in-Ok.ensures.value c.loop-rest.invariant.so_far);
   range = rw c.in_ok-push.ensures.items (All-push IsAction c.loop-rest.actions.items c.in-Ok.found.0 c.loop-rest.invariant.range c.in-Ok.ensures.range);
-  address = rw c.in_ok-push.ensures.items (All-push HasAddress c.loop-rest.actions.items c.in-Ok.found.0 c.loop-rest.invariant.address c.in-Ok.ensures.address)
+  address = rw c.in_ok-push.ensures.items (All-push HasAddress c.loop-rest.actions.items c.in-Ok.found.0 c.loop-rest.invariant.address c.in-Ok.ensures.address);
 }
 
 pub returns-clause-exact : goal.returns-clause-exact

@@ -9,7 +9,7 @@ abbrev pub invariant-loop-rest : goal.invariant-loop-rest
 invariant-loop-rest l = record {
   so_far : with_front l.actions.items (read_all l.rest) ≡ read_all l.fn.bytes;
   range : All IsAction l.actions.items;
-  address : All HasAddress l.actions.items
+  address : All HasAddress l.actions.items;
 }
 
 abbrev pub decreases-loop-rest : goal.decreases-loop-rest

@@ -5,5 +5,5 @@ use Rattle.of10_action.proofs.encode.encode_list.Given as goal
 abbrev pub invariant-loop-action : goal.invariant-loop-action
 invariant-loop-action l = record {
   so_far : l.out.items ≡ l.fn.out.items ++ spelling (take l.action-index l.actions);
-  start_is : l.start ≡ length l.fn.out.items
+  start_is : l.start ≡ length l.fn.out.items;
 }
