@@ -98,6 +98,7 @@ pub fn list_size(actions: &[Action]) -> u64
 
 /// Appends the bytes of the actions, padding zero (OpenFlow 1.0.0, section 5.2.4). Where memory runs out,
 /// `out` is as before.
+#[tactic(auto, using(crate::proofs::Cut::cut_back))]
 pub fn encode_list(actions: &[Action], out: &mut Vec<u8>) -> Result<(), AllocError>
     requires { All HasAddress actions.now }
     ensures ok { OnOk result (out.new.items ≡ out.old.items ++ spelling actions.now) }
