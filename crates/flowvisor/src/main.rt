@@ -4,7 +4,6 @@
 mod counts;
 mod disk;
 mod stream;
-
 #[cfg(test)]
 mod tests;
 
@@ -12,9 +11,9 @@ use disk::Disk;
 use fv_cli::base::{Sink, Words, put_all};
 use fv_cli::{Ending, offline};
 use std::alloc::AllocError;
-use std::io::{self, BufWriter};
+use std::env;
+use std::io::{self, BufWriter, ErrorKind};
 use std::process::ExitCode;
-use std::{env, io::ErrorKind};
 use stream::Stream;
 
 /// What `--help` prints.

@@ -16,10 +16,7 @@ pub struct Stream<W: Write + Drop> {
 impl<W: Write + Drop> Stream<W> {
     /// A sink that has no faults yet.
     pub fn new(writer: W) -> Stream<W> {
-        Stream {
-            writer,
-            faults: 0,
-        }
+        Stream { writer, faults: 0 }
     }
 
     /// Writes what was gathered.

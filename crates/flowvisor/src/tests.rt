@@ -16,11 +16,22 @@ fn files_are_read_and_streams_are_written(rt: HostRuntime) -> Result<(), Fail> {
     assert!(rt; out.finish().is_ok());
 
     let mut disk = Disk::new(&rt);
-    let bytes = load_file(alloc, &mut disk, path.as_str(), 8).ok().ok_or("the file is read")?;
+    let bytes = load_file(alloc, &mut disk, path.as_str(), 8)
+        .ok()
+        .ok_or("the file is read")?;
     assert_eq!(rt; bytes.as_slice(), b"one\ntwo\n".as_slice());
-    assert_eq!(rt; load_file(alloc, &mut disk, path.as_str(), 7).err(), Some(LoadFault::TooLarge));
+    assert_eq!(rt;
+        load_file(alloc, &mut disk, path.as_str(), 7).err(),
+        Some(LoadFault::TooLarge)
+    );
     fs::remove_file(&rt, path.as_str())?;
-    assert_eq!(rt; load_file(alloc, &mut disk, path.as_str(), 8).err(), Some(LoadFault::ReadFault));
-    assert_eq!(rt; load_file(alloc, &mut disk, "/", 8).err(), Some(LoadFault::ReadFault));
+    assert_eq!(rt;
+        load_file(alloc, &mut disk, path.as_str(), 8).err(),
+        Some(LoadFault::ReadFault)
+    );
+    assert_eq!(rt;
+        load_file(alloc, &mut disk, "/", 8).err(),
+        Some(LoadFault::ReadFault)
+    );
     Ok(())
 }

@@ -36,15 +36,29 @@ count_by-map f p (x ∷ xs) =
 
 plain_slice : (s : ListedSlice) → IsListedSlice s → IsPlainSlice (slice_from s)
 plain_slice s h = record {
-  name_some = h.name.some; name_short = h.name.few; name_bytes = h.name.allowed;
-  controller_some = h.some_controller; controller_short = h.short_controller;
-  rate_some = lit≤ tt; rate_limit = lit≤ tt; burst_some = lit≤ tt; burst_limit = lit≤ tt; quota_limit = lit≤ tt
+  name_some = h.name.some;
+  name_short = h.name.few;
+  name_bytes = h.name.allowed;
+  controller_some = h.some_controller;
+  controller_short = h.short_controller;
+  rate_some = lit≤ tt;
+  rate_limit = lit≤ tt;
+  burst_some = lit≤ tt;
+  burst_limit = lit≤ tt;
+  quota_limit = lit≤ tt;
 }
 
 plain_rule : (r : ListedRule) → IsPlainRule (rule_from r)
 plain_rule r = record {
-  in_port = tt; dl_vlan = tt; dl_vlan_pcp = λ h. absurd (cc); nw_tos = λ h. absurd (cc);
-  nw_proto = λ h. refl; nw_src = λ h. absurd (cc); nw_dst = λ h. absurd (cc); tp_src = λ h. refl; tp_dst = λ h. refl
+  in_port = tt;
+  dl_vlan = tt;
+  dl_vlan_pcp = λ h. absurd (cc);
+  nw_tos = λ h. absurd (cc);
+  nw_proto = λ h. refl;
+  nw_src = λ h. absurd (cc);
+  nw_dst = λ h. absurd (cc);
+  tp_src = λ h. refl;
+  tp_dst = λ h. refl;
 }
 
 -- two ports share no header
@@ -68,5 +82,5 @@ loadable l h =
       writers_known = All-map (λ (x : Rule). IsSomeAnd x.writer (λ w. w < length (map slice_from l.slices.items))) rule_from l.rules.items (All-weaker _ _ l.rules.items (known l (length (map slice_from l.slices.items)) slots) h.rules);
       no_readers = All-map (λ r. r.readers ≡ 0) rule_from l.rules.items (λ k d lt. refl);
       few_writes = λ slot. rw (count_by-map rule_from (is_written_by slot) l.rules.items) (h.room slot);
-      apart = AllPairs-map rule_from AreApart l.rules.items (AllPairs-weaker _ _ l.rules.items apart_ports h.ports)
+      apart = AllPairs-map rule_from AreApart l.rules.items (AllPairs-weaker _ _ l.rules.items apart_ports h.ports);
     }

@@ -13,8 +13,18 @@ slice_from s = record { name = string_bytes s.name; controller = string_bytes s.
 -- TCP over IPv4 to a port, all else free
 abbrev pub tcp_port : ℕ → Pattern
 tcp_port port = record {
-  in_port = None; dl_src = None; dl_dst = None; dl_vlan = None; dl_vlan_pcp = None; dl_type = Some 0x0800;
-  nw_tos = None; nw_proto = Some 6; nw_src = None; nw_dst = None; tp_src = None; tp_dst = Some port
+  in_port = None;
+  dl_src = None;
+  dl_dst = None;
+  dl_vlan = None;
+  dl_vlan_pcp = None;
+  dl_type = Some 0x0800;
+  nw_tos = None;
+  nw_proto = Some 6;
+  nw_src = None;
+  nw_dst = None;
+  tp_src = None;
+  tp_dst = Some port;
 }
 
 -- the listed slice alone writes that port, on each switch

@@ -30,7 +30,7 @@ record_of bytes =
       reserved = byte_of 3 bytes;
       size = size;
       body = take size (drop 16 bytes);
-      rest = drop (16 + size) bytes
+      rest = drop (16 + size) bytes;
     })
 
 -- a FEATURES_REPLY has 32 bytes and whole ports of 48 (OpenFlow 1.0.0, section 5.3.1)
@@ -58,8 +58,8 @@ unfoldable pub may_follow : ℕ → Ups → Record → Bool
 may_follow slices ups r =
     r.switch == 0 && r.reserved == 0
     && ((r.kind == 0 && not ups.switch && r.slot == 0 && r.size == 0)
-        || (r.kind == 1 && ups.switch && r.slot == 0 && leb r.size 16777216 && is_built_frame r.body)
-        || (r.kind == 3 && ups.switch && ltb r.slot slices && not (get_or ups.slices r.slot false) && r.size == 0))
+    || (r.kind == 1 && ups.switch && r.slot == 0 && leb r.size 16777216 && is_built_frame r.body)
+    || (r.kind == 3 && ups.switch && ltb r.slot slices && not (get_or ups.slices r.slot false) && r.size == 0))
 
 -- who is up after a record
 unfoldable pub ups_after : Ups → Record → Ups

@@ -13,7 +13,13 @@ use of10_model::wire::{u16_at, u64_at};
 use std::alloc::{AllocError, Global};
 
 /// The transaction ids of the proxy's own requests, in the order in which it makes them.
-const OWN_XIDS: [u32; 5] = [0xff00_0000, 0xff00_0001, 0xff00_0002, 0xff00_0003, 0xff00_0004];
+const OWN_XIDS: [u32; 5] = [
+    0xff00_0000,
+    0xff00_0001,
+    0xff00_0002,
+    0xff00_0003,
+    0xff00_0004,
+];
 
 /// SET_CONFIG: no flags, and packets sent up whole (OpenFlow 1.0.0, section 5.3.2).
 const WHOLE_PACKETS: [u8; 4] = [0, 0, 0xff, 0xff];
@@ -87,9 +93,7 @@ impl<'p> Desk<'p> {
     /// The switch is up: it gets a HELLO and is asked for its features (OpenFlow 1.0.0, section 4.2).
     fn greet(alloc: Global) -> Result<Outcome, AllocError> {
         let mut outcome = Outcome::nothing(alloc);
-        outcome
-            .lane
-            .push(message(alloc, HELLO, OWN_XIDS[0], &[])?)?;
+        outcome.lane.push(message(alloc, HELLO, OWN_XIDS[0], &[])?)?;
         outcome
             .lane
             .push(message(alloc, FEATURES_REQUEST, OWN_XIDS[1], &[])?)?;

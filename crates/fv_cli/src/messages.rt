@@ -9,11 +9,17 @@ use std::alloc::{AllocError, Global};
 
 /// Message types (OpenFlow 1.0.0, section 5.1).
 pub(crate) const HELLO: u8 = 0;
+
 pub(crate) const FEATURES_REQUEST: u8 = 5;
+
 pub(crate) const FEATURES_REPLY: u8 = 6;
+
 pub(crate) const SET_CONFIG: u8 = 9;
+
 pub(crate) const PACKET_IN: u8 = 10;
+
 const FLOW_MOD: u8 = 14;
+
 pub(crate) const BARRIER_REQUEST: u8 = 18;
 
 /// The wildcards of a match with every field free (OpenFlow 1.0.0, section 5.2.3).
@@ -23,6 +29,7 @@ const EVERY_FIELD_FREE: u32 = 0x0038_20ff;
 const DELETE: u16 = 3;
 
 const NO_BUFFER: u32 = 0xffff_ffff;
+
 const NO_PORT: u16 = 0xffff;
 
 /// The head of a message of version 1 with a body of so many bytes (OpenFlow 1.0.0, section 5.1), and
@@ -39,12 +46,7 @@ fn head(alloc: Global, kind: u8, xid: u32, body: usize) -> Result<Vec<u8>, Alloc
 }
 
 /// A message of version 1.
-pub(crate) fn message(
-    alloc: Global,
-    kind: u8,
-    xid: u32,
-    body: &[u8],
-) -> Result<Vec<u8>, AllocError>
+pub(crate) fn message(alloc: Global, kind: u8, xid: u32, body: &[u8]) -> Result<Vec<u8>, AllocError>
     requires { length body.now ≤ 65527 }
     ensures { IfOk result (λ m. m.items ≡ message_of kind xid body.now) }
 {

@@ -13,7 +13,9 @@ use std::alloc::{AllocError, Global};
 
 /// Messages a second, messages at once, and entries that a slice may have where its policy doesn't say.
 const RATE: u32 = 1000;
+
 const BURST: u32 = 1000;
+
 const QUOTA: u32 = 1024;
 
 fn slice_of(alloc: Global, listed: &ListedSlice) -> Result<Slice, AllocError>

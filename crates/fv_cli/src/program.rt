@@ -6,7 +6,9 @@ ghost use Rattle.fv_cli.specs.Recorded.{is_recording};
 ghost use Rattle.fv_cli.specs.Words.{form_of};
 ghost use Rattle.fv_cli.specs.Endings.{policy_limit, recording_limit, IsPolicy, IsRecording, IsLoadCause, IsPolicyCause, IsRecordingCause, IsRunEnding, IsCause, Causes, IsPut, is_early, Ended};
 
-use crate::base::{Files, Form, LoadFault, Sink, Words, WordsFault, load_file, put_all, read_words};
+use crate::base::{
+    Files, Form, LoadFault, Sink, Words, WordsFault, load_file, put_all, read_words,
+};
 use crate::ending::Ending;
 use crate::listing::{Listing, ListingFault, read_listing};
 use crate::policy::policy_of;
@@ -21,12 +23,7 @@ const POLICY_LIMIT: u64 = 1_048_576;
 const RECORDING_LIMIT: u64 = 268_435_456;
 
 /// A whole file.
-fn load<F: Files>(
-    alloc: Global,
-    files: &mut F,
-    path: &str,
-    limit: u64,
-) -> Result<Vec<u8>, Ending>
+fn load<F: Files>(alloc: Global, files: &mut F, path: &str, limit: u64) -> Result<Vec<u8>, Ending>
     requires { limit < 2 ^ 60 }
     ensures within { IfOk result (λ file. length file.items ≤ limit) }
     ensures whole { IfOk result (λ file. IfSome (F.contents files.old path.now) (λ bytes. file.items ≡ bytes)) }
@@ -124,12 +121,7 @@ fn run<O: Sink>(alloc: Global, listing: &Listing, bytes: &[u8], out: &mut O) -> 
 }
 
 /// Does what the words ask for.
-fn decide<F: Files, O: Sink>(
-    alloc: Global,
-    words: &Words,
-    files: &mut F,
-    out: &mut O,
-) -> Ending
+fn decide<F: Files, O: Sink>(alloc: Global, words: &Words, files: &mut F, out: &mut O) -> Ending
     ensures cause { Causes (record { files = F.contents files.old; read_before = F.faults files.old; read_after = F.faults files.new; out_before = O.faults out.old; out_after = O.faults out.new }) (form_of words.now) result }
     ensures early { is_early result ≡ true → O.contents out.new ≡ O.contents out.old }
 {

@@ -14,7 +14,9 @@ const MAGIC: [u8; 8] = [0x46, 0x56, 0x52, 0x45, 0x43, 0, 0, 1];
 
 /// Kinds of records.
 pub(crate) const SWITCH_UP: u8 = 0;
+
 pub(crate) const SWITCH_BYTES: u8 = 1;
+
 pub(crate) const SLICE_UP: u8 = 3;
 
 /// How many bytes a record may carry.

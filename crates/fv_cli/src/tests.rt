@@ -30,12 +30,16 @@ tp_dst = 22
 ";
 
 const MAGIC: &str = "4656524543000001";
+
 const SWITCH_UP: &str = "00000000000000000000000000000000";
+
 const ALICE_UP: &str = "03000000000000000000000000000000";
+
 const BOB_UP: &str = "03000100000000000000000000000000";
 
 /// The switch's features, with four ports.
-const FEATURES: &str = "01000000000000e00000000000000000010600e0ff00000100000000000000a100000100010000000000000000000fff\
+const FEATURES: &str =
+    "01000000000000e00000000000000000010600e0ff00000100000000000000a100000100010000000000000000000fff\
 000100000000000000000000000000000000000000000000000000000000000000000000000000000000000000000000\
 000200000000000000000000000000000000000000000000000000000000000000000000000000000000000000000000\
 000300000000000000000000000000000000000000000000000000000000000000000000000000000000000000000000\
@@ -102,12 +106,7 @@ fn bytes_of(alloc: Global, pieces: &[&str]) -> Result<Vec<u8>, Fail> {
 }
 
 /// A replay of these records under this policy.
-fn replay(
-    alloc: Global,
-    policy: &str,
-    pieces: &[&str],
-    out: MemorySink,
-) -> Result<Answer, Fail> {
+fn replay(alloc: Global, policy: &str, pieces: &[&str], out: MemorySink) -> Result<Answer, Fail> {
     let mut files = MemoryFiles::new(alloc);
     files.add("policy", policy.as_bytes())?;
     files.add("recording", &bytes_of(alloc, pieces)?)?;
@@ -142,10 +141,22 @@ fn recordings_of_the_form_are_reported(rt: HostRuntime) -> Result<(), Fail> {
     let alloc = rt.alloc();
     let cases: [(&[&str], &[&str]); 5] = [
         (&[MAGIC], &["end 0\n"]),
-        (&[MAGIC, SWITCH_UP, ALICE_UP], &["0 0 lane 01000008ff000000\n0 0 lane 01050008ff000001\n1 0 close alice\nend 2\n"]),
-        (&[MAGIC, SWITCH_UP, FEATURES, ALICE_UP, SHELL_PACKET], &[OPENING, "2 0 to alice 0100000800000000\nend 4\n"]),
-        (&[MAGIC, SWITCH_UP, WEB_PACKET], &["0 0 lane 01000008ff000000\n0 0 lane 01050008ff000001\nend 2\n"]),
-        (&[MAGIC, SWITCH_UP, FEATURES, FEATURES], &[OPENING, "end 3\n"]),
+        (
+            &[MAGIC, SWITCH_UP, ALICE_UP],
+            &["0 0 lane 01000008ff000000\n0 0 lane 01050008ff000001\n1 0 close alice\nend 2\n"],
+        ),
+        (
+            &[MAGIC, SWITCH_UP, FEATURES, ALICE_UP, SHELL_PACKET],
+            &[OPENING, "2 0 to alice 0100000800000000\nend 4\n"],
+        ),
+        (
+            &[MAGIC, SWITCH_UP, WEB_PACKET],
+            &["0 0 lane 01000008ff000000\n0 0 lane 01050008ff000001\nend 2\n"],
+        ),
+        (
+            &[MAGIC, SWITCH_UP, FEATURES, FEATURES],
+            &[OPENING, "end 3\n"],
+        ),
     ];
     for (pieces, report) in &cases {
         let answer = replay(alloc, POLICY, pieces, MemorySink::new(alloc))?;
@@ -160,7 +171,13 @@ fn a_sink_that_fails_ends_the_report_at_a_line(rt: HostRuntime) -> Result<(), Fa
     let pieces = [MAGIC, SWITCH_UP, FEATURES, ALICE_UP, BOB_UP, WEB_PACKET];
     let failing = MemorySink::with_plan(alloc, usize::MAX, vec![in alloc; 1]?);
     let answer = replay(alloc, POLICY, &pieces, failing)?;
-    expect_answer(&rt, &answer, 5, &["0 0 lane 01000008ff000000\n"], "write fault\n");
+    expect_answer(
+        &rt,
+        &answer,
+        5,
+        &["0 0 lane 01000008ff000000\n"],
+        "write fault\n",
+    );
     assert_eq!(rt; answer.out.faults(), 1);
     Ok(())
 }
@@ -168,7 +185,8 @@ fn a_sink_that_fails_ends_the_report_at_a_line(rt: HostRuntime) -> Result<(), Fa
 #[test]
 fn words_without_a_form_are_answered_by_the_usage(rt: HostRuntime) -> Result<(), Fail> {
     let alloc = rt.alloc();
-    let usage = "usage: flowvisor check POLICY / replay POLICY RECORDING / gen SEED COUNT / serve POLICY LISTEN COUNT\n";
+    let usage =
+        "usage: flowvisor check POLICY / replay POLICY RECORDING / gen SEED COUNT / serve POLICY LISTEN COUNT\n";
     let cases: [&[&str]; 5] = [
         &[],
         &["replay", "policy"],
