@@ -5,6 +5,7 @@ mod header;
 mod matching;
 mod normal;
 mod reading;
+mod writing;
 
 pub use header::Header12;
 pub use matching::Match;

@@ -1,10 +1,14 @@
 ghost use Rattle.std.specs.Prelude.{◌≡◌, ◌↔◌, IsTrue};
 ghost use Rattle.of10_model.specs.Pattern.{Has, has, meets, meets_prefix};
-ghost use Rattle.of10_model.specs.Normal.{IsNormal, IsPrefix, Norm};
+ghost use Rattle.of10_model.specs.Normal.{IsNormal, IsPrefix, Norm, is_exact};
+ghost use Rattle.of10_model.specs.Header.{Header, IsHeader};
+ghost use Rattle.of10_model.specs.Spelling.{Spell};
+ghost use Rattle.of10_model.specs.Exact.{exact_of, all_free, IsTidy};
 
 use crate::header::Header12;
-use crate::normal::normal;
+use crate::normal::{is_exact, normal};
 use crate::reading::read;
+use crate::writing::spell;
 use of10_model::{Pattern, Prefix};
 use std::marker::Model;
 
@@ -79,6 +83,35 @@ fn holds(m: &Pattern, h: &Header12) -> bool
         && meets_u16(m.tp_dst, h.tp_dst)
 }
 
+fn whole(address: u32) -> Option<Prefix>
+    ensures { result ≡ Some (record { bits = 32; value = address }) }
+{
+    Some(Prefix {
+        bits: 32,
+        value: address,
+    })
+}
+
+fn exact_pattern(h: &Header12) -> Pattern
+    ensures value { result ≡ exact_of h.now }
+    ensures range { IsHeader h.now }
+{
+    Pattern {
+        in_port: Some(h.in_port),
+        dl_src: Some(h.dl_src),
+        dl_dst: Some(h.dl_dst),
+        dl_vlan: Some(h.dl_vlan),
+        dl_vlan_pcp: Some(h.dl_vlan_pcp),
+        dl_type: Some(h.dl_type),
+        nw_tos: Some(h.nw_tos),
+        nw_proto: Some(h.nw_proto),
+        nw_src: whole(h.nw_src),
+        nw_dst: whole(h.nw_dst),
+        tp_src: Some(h.tp_src),
+        tp_dst: Some(h.tp_dst),
+    }
+}
+
 impl Match {
     /// The twelve constraints.
     pub fn pattern(&self) -> &Pattern
@@ -107,6 +140,57 @@ impl Match {
         Match {
             pattern: normal(&read(bytes)),
         }
+    }
+
+    /// The one normal spelling of the match (OpenFlow 1.0.0, section 5.2.3): padding, unused bits and the
+    /// fields that are free are zero, and a free address ignores 32 bits. It is read as this match again.
+    pub fn encode(&self) -> [u8; 40]
+        ensures value { result ≡ Spell self.now }
+        ensures again { Norm result ≡ self.now }
+    {
+        spell(&self.pattern)
+    }
+
+    /// The match of every header.
+    pub fn all() -> Match
+        ensures value { result ≡ all_free }
+        ensures everything { (h : Header) → Has result h }
+    {
+        Match {
+            pattern: Pattern {
+                in_port: None,
+                dl_src: None,
+                dl_dst: None,
+                dl_vlan: None,
+                dl_vlan_pcp: None,
+                dl_type: None,
+                nw_tos: None,
+                nw_proto: None,
+                nw_src: None,
+                nw_dst: None,
+                tp_src: None,
+                tp_dst: None,
+            },
+        }
+    }
+
+    /// The match of one header alone, in which the fields that don't apply are zero.
+    pub fn exact(h: &Header12) -> Match
+        requires { IsTidy h.now }
+        ensures value { result ≡ exact_of h.now }
+        ensures alone { (other : Header) → Has result other → other ≡ h.now }
+    {
+        Match {
+            pattern: exact_pattern(h),
+        }
+    }
+
+    /// Whether no field is free, and both addresses are given whole. On a switch such an entry comes
+    /// before all others (OpenFlow 1.0.0, section 3.4).
+    pub fn is_exact(&self) -> bool
+        ensures { result ≡ is_exact self.now }
+    {
+        is_exact(&self.pattern)
     }
 
     /// Whether each constraint holds of its field.

@@ -23,7 +23,7 @@ fn is_whole(address: Option<Prefix>) -> bool
     address.is_some_and(|prefix| prefix.bits == 32)
 }
 
-fn is_exact(m: &Pattern) -> bool
+pub(crate) fn is_exact(m: &Pattern) -> bool
     ensures { result ≡ is_exact m.now }
 {
     m.in_port.is_some()

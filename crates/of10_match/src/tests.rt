@@ -222,3 +222,46 @@ fn headers_are_matched_by_each_constraint(rt: HostRuntime) {
         assert_eq!(rt; m.matches(h), *expected, "{m:?} at {h:?}");
     }
 }
+
+#[test]
+fn matches_are_written_in_their_one_spelling(rt: HostRuntime) {
+    let mut all = [0; 40];
+    all[0..4].copy_from_slice(&[0x00, 0x38, 0x20, 0xff]);
+    assert_eq!(rt; Match::all().encode(), all);
+    let mut freed = [0x5a; 40];
+    freed[0..4].copy_from_slice(&[0x00, 0x3f, 0xff, 0xff]);
+    assert_eq!(rt; Match::decode(&freed).encode(), all);
+    let mut port_alone = all;
+    port_alone[0..4].copy_from_slice(&[0x00, 0x38, 0x20, 0x7f]);
+    port_alone[39] = 80;
+    assert_eq!(rt; Match::decode(&port_alone).encode(), all);
+    assert!(rt; !Match::all().is_exact());
+}
+
+#[test]
+fn an_exact_match_has_its_header_alone(rt: HostRuntime) {
+    let header = Header12 {
+        in_port: 1,
+        dl_src: 0x0000_0000_0001,
+        dl_dst: 0x0000_0000_0002,
+        dl_vlan: 0xffff,
+        dl_vlan_pcp: 0,
+        dl_type: 0x0800,
+        nw_tos: 0,
+        nw_proto: 6,
+        nw_src: 0x0a00_0001,
+        nw_dst: 0x0a00_0002,
+        tp_src: 1024,
+        tp_dst: 80,
+    };
+    let exact = Match::exact(&header);
+    assert!(rt; exact.is_exact());
+    assert!(rt; exact.matches(&header));
+    assert!(rt;
+        !exact.matches(&Header12 {
+            tp_dst: 81,
+            ..header
+        })
+    );
+    assert_eq!(rt; Match::decode(&exact.encode()), exact);
+}

@@ -2,3 +2,4 @@ pub mod Header
 pub mod Pattern
 pub mod Normal
 pub mod Spelling
+pub mod Exact

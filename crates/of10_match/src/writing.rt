@@ -1,0 +1,125 @@
+//! The one spelling of a normal match in 40 bytes (OpenFlow 1.0.0, section 5.2.3).
+
+ghost use Rattle.std.specs.Prelude.{◌≡◌, ◌≤◌, ◌+◌, ◌<◌, ◌^◌, ◌++◌, length, take};
+ghost use Rattle.byteorder.specs.Endian.{big_bytes};
+ghost use Rattle.of10_model.specs.Normal.{IsBelow, IsInRange, IsPrefix};
+ghost use Rattle.of10_model.specs.Spelling.{freed, ignored, number_or_zero, address_or_zero, wildcards, Spell};
+
+use byteorder::{BigEndian, ByteOrder};
+use of10_model::{Pattern, Prefix};
+
+fn freed_u8(constraint: Option<u8>) -> u32
+    ensures value { result ≡ freed constraint }
+    ensures small { result ≤ 1 }
+{
+    if constraint.is_none() { 1 } else { 0 }
+}
+
+fn freed_u16(constraint: Option<u16>) -> u32
+    ensures value { result ≡ freed constraint }
+    ensures small { result ≤ 1 }
+{
+    if constraint.is_none() { 1 } else { 0 }
+}
+
+fn freed_u64(constraint: Option<u64>) -> u32
+    ensures value { result ≡ freed constraint }
+    ensures small { result ≤ 1 }
+{
+    if constraint.is_none() { 1 } else { 0 }
+}
+
+fn ignored_count(constraint: Option<Prefix>) -> u32
+    requires { IsPrefix constraint }
+    ensures value { result ≡ ignored constraint }
+    ensures small { result ≤ 32 }
+{
+    match constraint {
+        None => 32,
+        Some(prefix) => 32 - u32::from(prefix.bits),
+    }
+}
+
+/// The wildcard word.
+fn word(m: &Pattern) -> u32
+    requires source { IsPrefix m.now.nw_src }
+    requires destination { IsPrefix m.now.nw_dst }
+    ensures { result ≡ wildcards m.now }
+{
+    freed_u16(m.in_port)
+        + 0x2 * freed_u16(m.dl_vlan)
+        + 0x4 * freed_u64(m.dl_src)
+        + 0x8 * freed_u64(m.dl_dst)
+        + 0x10 * freed_u16(m.dl_type)
+        + 0x20 * freed_u8(m.nw_proto)
+        + 0x40 * freed_u16(m.tp_src)
+        + 0x80 * freed_u16(m.tp_dst)
+        + 0x100 * ignored_count(m.nw_src)
+        + 0x4000 * ignored_count(m.nw_dst)
+        + 0x10_0000 * freed_u8(m.dl_vlan_pcp)
+        + 0x20_0000 * freed_u8(m.nw_tos)
+}
+
+// Each of these writes a field's number, or zero where the field is free, behind the bytes before it.
+
+fn set_word(out: &mut [u8], m: &Pattern)
+    requires within { 4 ≤ length out.old }
+    requires source { IsPrefix m.now.nw_src }
+    requires destination { IsPrefix m.now.nw_dst }
+    ensures { take 4 out.new ≡ big_bytes 4 (wildcards m.now) }
+{
+    BigEndian::write_u32(&mut out[0..4], word(m));
+}
+
+fn set_u8(out: &mut [u8], at: usize, field: Option<u8>)
+    requires { at + 1 ≤ length out.old }
+    ensures { take (at + 1) out.new ≡ take at out.old ++ big_bytes 1 (number_or_zero field) }
+{
+    out[at] = field.unwrap_or(0);
+}
+
+fn set_u16(out: &mut [u8], at: usize, field: Option<u16>)
+    requires { at + 2 ≤ length out.old }
+    ensures { take (at + 2) out.new ≡ take at out.old ++ big_bytes 2 (number_or_zero field) }
+{
+    BigEndian::write_u16(&mut out[at..at + 2], field.unwrap_or(0));
+}
+
+fn set_u48(out: &mut [u8], at: usize, field: Option<u64>)
+    requires within { at + 6 ≤ length out.old }
+    requires small { IsBelow (2 ^ 48) field }
+    ensures { take (at + 6) out.new ≡ take at out.old ++ big_bytes 6 (number_or_zero field) }
+{
+    BigEndian::write_u48(&mut out[at..at + 6], field.unwrap_or(0));
+}
+
+fn set_prefix(out: &mut [u8], at: usize, field: Option<Prefix>)
+    requires { at + 4 ≤ length out.old }
+    ensures { take (at + 4) out.new ≡ take at out.old ++ big_bytes 4 (address_or_zero field) }
+{
+    BigEndian::write_u32(&mut out[at..at + 4], field.map_or(0, |prefix| prefix.value));
+}
+
+/// The spelling of a match.
+pub(crate) fn spell(m: &Pattern) -> [u8; 40]
+    requires { IsInRange m.now }
+    ensures { result ≡ Spell m.now }
+{
+    let mut out = [0; 40];
+    set_word(&mut out, m);
+    set_u16(&mut out, 4, m.in_port);
+    set_u48(&mut out, 6, m.dl_src);
+    set_u48(&mut out, 12, m.dl_dst);
+    set_u16(&mut out, 18, m.dl_vlan);
+    set_u8(&mut out, 20, m.dl_vlan_pcp);
+    set_u8(&mut out, 21, None);
+    set_u16(&mut out, 22, m.dl_type);
+    set_u8(&mut out, 24, m.nw_tos);
+    set_u8(&mut out, 25, m.nw_proto);
+    set_u16(&mut out, 26, None);
+    set_prefix(&mut out, 28, m.nw_src);
+    set_prefix(&mut out, 32, m.nw_dst);
+    set_u16(&mut out, 36, m.tp_src);
+    set_u16(&mut out, 38, m.tp_dst);
+    out
+}
