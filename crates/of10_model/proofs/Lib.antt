@@ -3,3 +3,4 @@ pub mod Membership
 pub mod Ranges
 pub mod Applied
 pub mod Spelling
+pub mod Meeting
