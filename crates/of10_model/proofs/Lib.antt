@@ -4,3 +4,5 @@ pub mod Ranges
 pub mod Applied
 pub mod Spelling
 pub mod Meeting
+pub mod NormalFields
+pub mod MeetNormal
