@@ -6,3 +6,6 @@ pub mod Spelling
 pub mod Meeting
 pub mod NormalFields
 pub mod MeetNormal
+pub mod Inhabited
+pub mod Including
+pub mod Disjointness

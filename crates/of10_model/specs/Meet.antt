@@ -2,6 +2,8 @@
 use Rattle.std.specs.Prelude.{ℕ, ◌==◌, ◌-◌, ◌/◌, ◌^◌, leb, Bool, true, false, if◌then◌else◌, Option, Some, None}
 use Rattle.of10_model.specs.declared.pattern.Prefix.{Prefix}
 use Rattle.of10_model.specs.declared.pattern.Pattern.{Pattern}
+use Rattle.of10_model.specs.Header.{Header, IsHeader}
+use Rattle.of10_model.specs.Pattern.{Has}
 
 -- what two constraints allow together: none where no value meets both
 abbrev pub both : Option ℕ → Option ℕ → Option (Option ℕ)
@@ -47,6 +49,10 @@ meet_of a b = do
     nw_tos = nw_tos; nw_proto = nw_proto; nw_src = nw_src; nw_dst = nw_dst; tp_src = tp_src; tp_dst = tp_dst
   })
 
--- whether two matches have no header in common
+-- no header is in both
+abbrev pub Disjoint : Pattern → Pattern → Type 0
+Disjoint a b = (h : Header) → IsHeader h → Has a h → Has b h → ⊥
+
+-- the same as a test that computes: there is no meet
 abbrev pub is_disjoint : Pattern → Pattern → Bool
 is_disjoint a b = elim (meet_of a b) [ None ↦ true | Some r ↦ false ]
