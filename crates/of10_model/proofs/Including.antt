@@ -9,7 +9,7 @@ use Rattle.of10_model.specs.Header.{Header, IsHeader}
 use Rattle.of10_model.specs.Pattern.{Meets, MeetsPrefix, Has}
 use Rattle.of10_model.specs.Normal.{IsBelow, IsService, IsPrefix, IsInRange, IsNormal}
 use Rattle.of10_model.specs.Meet.{begins_as}
-use Rattle.of10_model.specs.Inclusion.{Includes, covers, covers_prefix, includes_of}
+use Rattle.of10_model.specs.Inclusion.{Includes, covers, covers_prefix, includes_of, any_in_port}
 use Rattle.of10_model.proofs.Twelve.{each_true, true_of_each}
 use Rattle.of10_model.proofs.Applied.{same_fields}
 use Rattle.of10_model.proofs.Meeting.{coarser}
@@ -153,6 +153,22 @@ includes-Includes a b i j h =
 -- the test answers by the headers
 pub includes_iff : (a b : Pattern) → IsInRange a → IsInRange b → IsTrue (includes_of a b) ↔ Includes a b
 includes_iff a b i j = (λ e h r k. Has-includes a b e h k, includes-Includes a b i j)
+
+pub IsInRange-any_in_port : (m : Pattern) → IsInRange m → IsInRange (any_in_port m)
+IsInRange-any_in_port m r = record {
+  in_port = tt;
+  dl_src = r.dl_src;
+  dl_dst = r.dl_dst;
+  dl_vlan = r.dl_vlan;
+  dl_vlan_pcp = r.dl_vlan_pcp;
+  dl_type = r.dl_type;
+  nw_tos = r.nw_tos;
+  nw_proto = r.nw_proto;
+  nw_src = r.nw_src;
+  nw_dst = r.nw_dst;
+  tp_src = r.tp_src;
+  tp_dst = r.tp_dst;
+}
 
 -- ---- two matches with the same headers
 
