@@ -1,0 +1,16 @@
+use Rattle.std.proofs.Common.{◌≡◌, length}
+use Rattle.std.specs.List.{All}
+use Rattle.of10_action.specs.Actions.{IsAction, HasAddress}
+use Rattle.of10_action.specs.Reading.{read_all}
+use Rattle.of10_action.proofs.Loop.{with_front}
+use Rattle.of10_action.proofs.decode.list.Given as goal
+
+abbrev pub invariant-loop-rest : goal.invariant-loop-rest
+invariant-loop-rest l = record {
+  so_far : with_front l.actions.items (read_all l.rest) ≡ read_all l.fn.bytes;
+  range : All IsAction l.actions.items;
+  address : All HasAddress l.actions.items;
+}
+
+abbrev pub decreases-loop-rest : goal.decreases-loop-rest
+decreases-loop-rest l = length l.rest

@@ -1,0 +1,15 @@
+//! The actions of OpenFlow 1.0, their bytes, and what can be wrong with a message.
+#![tactic(auto)]
+
+mod action;
+mod decode;
+mod encode;
+mod fault;
+
+pub use action::{Action, Actions, Bytes};
+pub use decode::{decode_list, spelling_is_read};
+pub use encode::{encode_list, list_size};
+pub use fault::{DecodeFault, WireFault, code};
+
+#[cfg(test)]
+mod tests;
