@@ -2,6 +2,10 @@
 #![tactic(auto)]
 
 mod constraint;
+mod cover;
+mod rewriting;
 mod sets;
 
+pub use cover::rewrite;
+pub use rewriting::rewrite_header;
 pub use sets::{disjoint, includes, includes_aside, meet};
