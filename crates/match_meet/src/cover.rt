@@ -3,7 +3,7 @@
 ghost use Rattle.std.specs.Prelude.{◌≡◌, if◌then◌else◌};
 ghost use Rattle.of10_model.specs.Header.{Header, IsHeader};
 ghost use Rattle.of10_model.specs.Pattern.{Has};
-ghost use Rattle.of10_model.specs.Normal.{is_exact, is_value, is_whole, has_vlan, meaningless};
+ghost use Rattle.of10_model.specs.Normal.{is_exact, is_value, is_whole, has_vlan, meaningless, IsInRange};
 ghost use Rattle.of10_action.specs.Actions.{HasAddress};
 ghost use Rattle.match_meet.specs.Rewriting.{rewritten, cover_of, names_tcp_or_udp, whole};
 
@@ -110,7 +110,10 @@ fn without_vlan(m: &Pattern) -> Pattern
 }
 
 fn cover(m: &Pattern, action: &Action) -> Pattern
-    ensures { result ≡ cover_of m.now action.now }
+    requires range { IsInRange m.now }
+    requires address { HasAddress action.now }
+    ensures value { result ≡ cover_of m.now action.now }
+    ensures range { IsInRange result }
 {
     match *action {
         Action::Output { .. } | Action::Enqueue { .. } => *m,
