@@ -1,1 +1,2 @@
 pub mod CoverNormal
+pub mod CoverHas
