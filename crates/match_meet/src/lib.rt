@@ -9,3 +9,6 @@ mod sets;
 pub use cover::rewrite;
 pub use rewriting::rewrite_header;
 pub use sets::{disjoint, includes, includes_aside, meet};
+
+#[cfg(test)]
+mod tests;
