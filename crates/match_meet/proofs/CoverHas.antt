@@ -43,9 +43,9 @@ ports_unnamed (Some v) (Some w) x y k l t f = absurd (true≢false (sym t ∙ rw
 tagged : (c : Option ℕ) (x : ℕ) → Meets c x → IsTrue (has_vlan c) → (x == 0xffff) ≡ false
 tagged None x k t = absurd (true≢false (sym t))
 tagged (Some v) x k t = elim (cases_Bool (v == 0xffff)) [
-    | inl e ↦ absurd (true≢false (sym (rw e at t)))
-    | inr e ↦ rw (k, e) refl
-  ]
+  | inl e ↦ absurd (true≢false (sym (rw e at t)))
+  | inr e ↦ rw (k, e) refl
+]
 
 no_vlan : (c : Option ℕ) → is_value 0xffff c ≡ false → has_vlan c ≡ false → c ≡ None
 no_vlan None f g = refl
@@ -60,7 +60,7 @@ free_prefix_without : (e n : Bool) (c : Option Prefix) → e ≡ false → n ≡
 free_prefix_without e n c f g k = sym (rw (f, g) at k)
 
 not_exact : (m : Pattern) → (IsTrue (is_exact m) → ⊥) → is_exact m ≡ false
-not_exact m h = elim (cases_Bool (is_exact m)) [ | inl e ↦ absurd (h e) | inr e ↦ e ]
+not_exact m h = elim (cases_Bool (is_exact m)) [ inl e ↦ absurd (h e) | inr e ↦ e ]
 
 given_not_free : (c : Option ℕ) → c ≡ None → IsTrue (is_given c) → ⊥
 given_not_free c e h = true≢false (sym (rw e at h))
@@ -169,7 +169,7 @@ has_vlan_vid m h vlan n p =
 by_tag : (t v u : Bool) (m : Pattern) (h : Header) (priority : ℕ) → (IsTrue t → IsTrue u) → (IsTrue v → u ≡ false) → (t ≡ false → v ≡ false → (m.dl_vlan ≡ None) × (m.dl_vlan_pcp ≡ None))
     → Has m h
     → Has (if t then record m { dl_vlan = Some 0; dl_vlan_pcp = Some priority } else (if v then record m { dl_vlan_pcp = Some priority } else m))
-      (record h { dl_vlan = if u then 0 else h.dl_vlan; dl_vlan_pcp = priority })
+    (record h { dl_vlan = if u then 0 else h.dl_vlan; dl_vlan_pcp = priority })
 by_tag true v true m h priority i j q p = search rules
 by_tag true v false m h priority i j q p = absurd (true≢false (sym (i refl)))
 by_tag false true true m h priority i j q p = absurd (true≢false (j refl))

@@ -155,9 +155,9 @@ normal_tp_dst m port n t =
 -- a VLAN number of twelve bits is not the number for untagged packets
 short_vlan : (vlan : ℕ) → IsTrue (has_vlan (Some (vlan % 4096)))
 short_vlan vlan = elim (cases_Bool (vlan % 4096 == 0xffff)) [
-    | inl e ↦ (let same = eqb-true (vlan % 4096) 0xffff e in absurd (omega arith))
-    | inr e ↦ rw e refl
-  ]
+  | inl e ↦ (let same = eqb-true (vlan % 4096) 0xffff e in absurd (omega arith))
+  | inr e ↦ rw e refl
+]
 
 pcp_given : (t : Bool) (c : Option ℕ) → IsTrue (is_given c) → IsTrue (is_given (if t then Some 0 else c))
 pcp_given true c h = refl

@@ -45,8 +45,7 @@ fn names_tcp_or_udp(m: &Pattern) -> bool
     ensures { result ≡ names_tcp_or_udp m.now }
 {
     names_ipv4(m)
-        && m
-            .nw_proto
+        && m.nw_proto
             .is_some_and(|number| number == TCP || number == UDP)
 }
 
@@ -81,7 +80,11 @@ fn whole(address: u32) -> Option<Prefix>
 fn priority_behind(m: &Pattern) -> Option<u8>
     ensures { result ≡ (if is_value 0xffff m.now.dl_vlan then Some 0 else m.now.dl_vlan_pcp) }
 {
-    if names_untagged(m) { Some(0) } else { m.dl_vlan_pcp }
+    if names_untagged(m) {
+        Some(0)
+    } else {
+        m.dl_vlan_pcp
+    }
 }
 
 fn with_priority(m: &Pattern, priority: u8) -> Pattern

@@ -7,8 +7,9 @@ ghost use Rattle.of10_model.specs.Normal.{IsPrefix};
 ghost use Rattle.of10_model.specs.Meet.{meet_of, is_disjoint, Disjoint};
 ghost use Rattle.of10_model.specs.Inclusion.{includes_of, Includes, any_in_port};
 
-use crate::constraint::{both_prefix, both_u8, both_u16, both_u64};
-use crate::constraint::{covers_prefix, covers_u8, covers_u16, covers_u64};
+use crate::constraint::{
+    both_prefix, both_u8, both_u16, both_u64, covers_prefix, covers_u8, covers_u16, covers_u64,
+};
 use of10_match::Match;
 use of10_model::Pattern;
 

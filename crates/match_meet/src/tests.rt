@@ -1,6 +1,8 @@
 mod draws;
 mod spelling;
 
+ghost use Rattle.of10_action.specs.Actions.{HasAddress};
+
 use crate::{disjoint, includes, includes_aside, meet, rewrite, rewrite_header};
 use draws::{Draws, FIRST_HEADER};
 use of10_action::Action;
@@ -97,139 +99,135 @@ fn one() -> Pattern {
     }
 }
 
-#[test]
-fn vlan_actions_change_the_cover(rt: HostRuntime) {
-    let vlan = |dl_vlan, dl_vlan_pcp, m: Pattern| Pattern {
-        dl_vlan,
+fn cover(before: &Pattern, action: Action) -> Pattern
+    requires { HasAddress action }
+{
+    *rewrite(&match_of(before), &action).pattern()
+}
+
+fn with_vlan(m: &Pattern, dl_vlan: u16, dl_vlan_pcp: Option<u8>) -> Pattern {
+    Pattern {
+        dl_vlan: Some(dl_vlan),
         dl_vlan_pcp,
-        ..m
-    };
-    let cases = [
-        (
-            untagged(),
-            Action::SetVlanVid(0x1005),
-            vlan(Some(5), Some(0), FREE),
-        ),
-        (one(), Action::SetVlanVid(5), vlan(Some(5), Some(3), one())),
-        (FREE, Action::SetVlanVid(5), vlan(Some(5), None, FREE)),
-        (FREE, Action::SetVlanPcp(5), FREE),
-        (
-            untagged(),
-            Action::SetVlanPcp(5),
-            vlan(Some(0), Some(5), FREE),
-        ),
-        (
-            one(),
-            Action::SetVlanPcp(0x0d),
-            vlan(Some(7), Some(5), one()),
-        ),
-        (
-            one(),
-            Action::StripVlan,
-            vlan(Some(0xffff), Some(0), one()),
-        ),
-        (
-            tagged(0x0800, 6),
-            Action::StripVlan,
-            vlan(Some(0xffff), None, tagged(0x0800, 6)),
-        ),
-    ];
-    for (before, action, after) in cases {
-        assert_eq!(rt;
-            *rewrite(&match_of(&before), &action).pattern(),
-            after,
-            "{action:?} at {before:?}"
-        );
+        ..*m
     }
 }
 
 #[test]
-fn other_actions_change_the_cover(rt: HostRuntime) {
+fn vlan_actions_change_the_cover(rt: HostRuntime) {
+    let vid = Action::SetVlanVid(0x1005);
+    assert_eq!(rt; cover(&untagged(), vid), with_vlan(&FREE, 5, Some(0)));
+    assert_eq!(rt; cover(&one(), vid), with_vlan(&one(), 5, Some(3)));
+    assert_eq!(rt; cover(&FREE, vid), with_vlan(&FREE, 5, None));
+
+    let pcp = Action::SetVlanPcp(0x0d);
+    assert_eq!(rt; cover(&FREE, pcp), FREE);
+    assert_eq!(rt; cover(&untagged(), pcp), with_vlan(&FREE, 0, Some(5)));
+    assert_eq!(rt; cover(&one(), pcp), with_vlan(&one(), 7, Some(5)));
+
+    let strip = Action::StripVlan;
+    assert_eq!(rt; cover(&one(), strip), with_vlan(&one(), 0xffff, Some(0)));
     let tcp = tagged(0x0800, 6);
+    assert_eq!(rt; cover(&tcp, strip), with_vlan(&tcp, 0xffff, None));
+}
+
+#[test]
+fn address_actions_change_the_cover(rt: HostRuntime) {
+    let from = Pattern {
+        dl_src: Some(9),
+        ..FREE
+    };
+    let to = Pattern {
+        dl_dst: Some(9),
+        ..FREE
+    };
+    assert_eq!(rt; cover(&FREE, Action::SetDlSrc(9)), from);
+    assert_eq!(rt; cover(&FREE, Action::SetDlDst(9)), to);
+
+    let address = 0x0a000009;
+    let icmp = tagged(0x0800, 1);
+    let arp = tagged(0x0806, 1);
+    let from = Pattern {
+        nw_src: prefix(address, 32),
+        ..icmp
+    };
+    let to = Pattern {
+        nw_dst: prefix(address, 32),
+        ..icmp
+    };
+    assert_eq!(rt; cover(&icmp, Action::SetNwSrc(address)), from);
+    assert_eq!(rt; cover(&icmp, Action::SetNwDst(address)), to);
+    assert_eq!(rt; cover(&arp, Action::SetNwSrc(address)), arp);
+    assert_eq!(rt; cover(&arp, Action::SetNwDst(address)), arp);
+}
+
+#[test]
+fn service_and_port_actions_change_the_cover(rt: HostRuntime) {
     let udp = tagged(0x0800, 17);
     let icmp = tagged(0x0800, 1);
     let arp = tagged(0x0806, 1);
-    let address = 0x0a000009;
-    let whole = prefix(address, 32);
-    let cases = [
-        (
-            FREE,
-            Action::SetDlSrc(9),
-            Pattern {
-                dl_src: Some(9),
-                ..FREE
-            },
-        ),
-        (
-            FREE,
-            Action::SetDlDst(9),
-            Pattern {
-                dl_dst: Some(9),
-                ..FREE
-            },
-        ),
-        (
-            tcp,
-            Action::SetNwSrc(address),
-            Pattern {
-                nw_src: whole,
-                ..tcp
-            },
-        ),
-        (arp, Action::SetNwSrc(address), arp),
-        (
-            icmp,
-            Action::SetNwDst(address),
-            Pattern {
-                nw_dst: whole,
-                ..icmp
-            },
-        ),
-        (arp, Action::SetNwDst(address), arp),
-        (
-            udp,
-            Action::SetNwTos(0x17),
-            Pattern {
-                nw_tos: Some(0x14),
-                ..udp
-            },
-        ),
-        (arp, Action::SetNwTos(0x17), arp),
-        (
-            udp,
-            Action::SetTpSrc(53),
-            Pattern {
-                tp_src: Some(53),
-                ..udp
-            },
-        ),
-        (icmp, Action::SetTpSrc(53), icmp),
-        (
-            tcp,
-            Action::SetTpDst(53),
-            Pattern {
-                tp_dst: Some(53),
-                ..tcp
-            },
-        ),
-        (icmp, Action::SetTpDst(53), icmp),
-        (
-            tcp,
-            Action::Output {
-                port: 1,
-                max_len: 0,
-            },
-            tcp,
-        ),
-        (tcp, Action::Enqueue { port: 1, queue: 2 }, tcp),
-    ];
-    for (before, action, after) in cases {
-        assert_eq!(rt;
-            *rewrite(&match_of(&before), &action).pattern(),
-            after,
-            "{action:?} at {before:?}"
-        );
-    }
+    let service = Pattern {
+        nw_tos: Some(0x14),
+        ..udp
+    };
+    let from = Pattern {
+        tp_src: Some(53),
+        ..udp
+    };
+    let to = Pattern {
+        tp_dst: Some(53),
+        ..udp
+    };
+    assert_eq!(rt; cover(&udp, Action::SetNwTos(0x17)), service);
+    assert_eq!(rt; cover(&arp, Action::SetNwTos(0x17)), arp);
+    assert_eq!(rt; cover(&udp, Action::SetTpSrc(53)), from);
+    assert_eq!(rt; cover(&udp, Action::SetTpDst(53)), to);
+    assert_eq!(rt; cover(&icmp, Action::SetTpSrc(53)), icmp);
+    assert_eq!(rt; cover(&icmp, Action::SetTpDst(53)), icmp);
+    assert_eq!(rt; cover(&udp, Action::Enqueue { port: 1, queue: 2 }), udp);
+}
+
+#[test]
+fn headers_are_rewritten(rt: HostRuntime) {
+    let h = FIRST_HEADER;
+    let untagged = Header12 {
+        dl_vlan: 0xffff,
+        dl_vlan_pcp: 0,
+        ..h
+    };
+    let arp = Header12 {
+        dl_type: 0x0806,
+        ..h
+    };
+    let vid = Action::SetVlanVid(0x1005);
+    let pcp = Action::SetVlanPcp(0x0d);
+    assert_eq!(rt; rewrite_header(&h, &Action::StripVlan), untagged);
+    assert_eq!(rt; rewrite_header(&h, &vid), Header12 { dl_vlan: 5, ..h });
+    assert_eq!(rt;
+        rewrite_header(&untagged, &vid),
+        Header12 {
+            dl_vlan: 5,
+            ..untagged
+        }
+    );
+    assert_eq!(rt;
+        rewrite_header(&untagged, &pcp),
+        Header12 {
+            dl_vlan: 0,
+            dl_vlan_pcp: 5,
+            ..h
+        }
+    );
+    assert_eq!(rt;
+        rewrite_header(&h, &Action::SetNwSrc(9)),
+        Header12 { nw_src: 9, ..h }
+    );
+    assert_eq!(rt; rewrite_header(&arp, &Action::SetNwSrc(9)), arp);
+    assert_eq!(rt;
+        rewrite_header(&h, &Action::SetTpDst(9)),
+        Header12 { tp_dst: 9, ..h }
+    );
+    assert_eq!(rt; rewrite_header(&arp, &Action::SetTpDst(9)), arp);
 }
 
 /// Whether the set operations on two matches agree with whether this header is in them.

@@ -1,6 +1,6 @@
 //! Matches from their constraints.
 
-ghost use Rattle.std.specs.Prelude.{◌≡◌, ◌<◌, length};
+ghost use Rattle.std.specs.Prelude.{◌<◌, ◌≤◌, ◌+◌};
 
 use of10_match::Match;
 use of10_model::{Pattern, Prefix};
@@ -31,22 +31,22 @@ fn word(m: &Pattern) -> u32 {
     link | network | ports
 }
 
-fn put_u16(out: &mut [u8], value: Option<u16>)
-    requires { length out.old ≡ 2 }
+fn put_u16(out: &mut [u8; 40], at: usize, value: Option<u16>)
+    requires { at + 2 ≤ 40 }
 {
-    out.copy_from_slice(&value.unwrap_or(0).to_be_bytes());
+    out[at..at + 2].copy_from_slice(&value.unwrap_or(0).to_be_bytes());
 }
 
-fn put_u32(out: &mut [u8], value: u32)
-    requires { length out.old ≡ 4 }
+fn put_u32(out: &mut [u8; 40], at: usize, value: u32)
+    requires { at + 4 ≤ 40 }
 {
-    out.copy_from_slice(&value.to_be_bytes());
+    out[at..at + 4].copy_from_slice(&value.to_be_bytes());
 }
 
-fn put_u48(out: &mut [u8], value: Option<u64>)
-    requires { length out.old ≡ 6 }
+fn put_u48(out: &mut [u8; 40], at: usize, value: Option<u64>)
+    requires { at + 6 ≤ 40 }
 {
-    out.copy_from_slice(&value.unwrap_or(0).to_be_bytes()[2..]);
+    out[at..at + 6].copy_from_slice(&value.unwrap_or(0).to_be_bytes()[2..]);
 }
 
 fn address(constraint: Option<Prefix>) -> u32 {
@@ -56,18 +56,18 @@ fn address(constraint: Option<Prefix>) -> u32 {
 /// The normal form of the match with these constraints.
 pub fn match_of(m: &Pattern) -> Match {
     let mut bytes = [0; 40];
-    put_u32(&mut bytes[0..4], word(m));
-    put_u16(&mut bytes[4..6], m.in_port);
-    put_u48(&mut bytes[6..12], m.dl_src);
-    put_u48(&mut bytes[12..18], m.dl_dst);
-    put_u16(&mut bytes[18..20], m.dl_vlan);
+    put_u32(&mut bytes, 0, word(m));
+    put_u16(&mut bytes, 4, m.in_port);
+    put_u48(&mut bytes, 6, m.dl_src);
+    put_u48(&mut bytes, 12, m.dl_dst);
+    put_u16(&mut bytes, 18, m.dl_vlan);
     bytes[20] = m.dl_vlan_pcp.unwrap_or(0);
-    put_u16(&mut bytes[22..24], m.dl_type);
+    put_u16(&mut bytes, 22, m.dl_type);
     bytes[24] = m.nw_tos.unwrap_or(0);
     bytes[25] = m.nw_proto.unwrap_or(0);
-    put_u32(&mut bytes[28..32], address(m.nw_src));
-    put_u32(&mut bytes[32..36], address(m.nw_dst));
-    put_u16(&mut bytes[36..38], m.tp_src);
-    put_u16(&mut bytes[38..40], m.tp_dst);
+    put_u32(&mut bytes, 28, address(m.nw_src));
+    put_u32(&mut bytes, 32, address(m.nw_dst));
+    put_u16(&mut bytes, 36, m.tp_src);
+    put_u16(&mut bytes, 38, m.tp_dst);
     Match::decode(&bytes)
 }
