@@ -1,9 +1,9 @@
 -- The cover of a normal match is normal.
-use Rattle.std.proofs.Common.{IsTrue, ℕ, ◌≡◌, ◌==◌, ◌&&◌, ◌||◌, ◌*◌, ◌/◌, ◌%◌, ◌<◌, ◌⊎◌, inl, inr, eqb-true, Bool, true, false, if◌then◌else◌, Option, Some, None, refl, sym, ◌∙◌, arith, rules}
+use Rattle.std.proofs.Common.{IsTrue, ℕ, ◌≡◌, ◌==◌, ◌&&◌, ◌||◌, ◌*◌, ◌/◌, ◌%◌, inl, inr, eqb-true, Bool, true, false, if◌then◌else◌, Option, Some, refl, sym, ◌∙◌, arith, rules}
 use Rattle.std.proofs.lemmas.Bool.{true≢false, and_parts, and_from, cases_Bool}
 use Rattle.of10_model.specs.declared.pattern.Prefix.{Prefix}
 use Rattle.of10_model.specs.declared.pattern.Pattern.{Pattern}
-use Rattle.of10_model.specs.Normal.{is_value, is_given, is_whole, is_exact, has_vlan, has_network, has_service, has_ports, meaningless, meaningless_prefix, kept, kept_prefix, applied, IsNormal}
+use Rattle.of10_model.specs.Normal.{is_value, is_given, is_whole, is_exact, has_vlan, has_network, has_service, has_ports, meaningless, meaningless_prefix, kept, kept_prefix, applied}
 use Rattle.of10_model.proofs.Twelve.{AllTrue, each_true}
 use Rattle.of10_model.proofs.NormalFields.{NormalFields, normal_fields, applied_same}
 use Rattle.of10_action.specs.declared.action.Action.{Action}

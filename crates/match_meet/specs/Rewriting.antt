@@ -1,5 +1,5 @@
 -- What actions make of a header, and of a match (OpenFlow 1.0.0, sections 3.3 and 5.2.4).
-use Rattle.std.specs.Prelude.{ℕ, ◌==◌, ◌&&◌, ◌||◌, ◌*◌, ◌/◌, ◌%◌, if◌then◌else◌, Bool, List, [], ◌∷◌, Option, Some, None}
+use Rattle.std.specs.Prelude.{ℕ, ◌==◌, ◌&&◌, ◌||◌, ◌*◌, ◌/◌, ◌%◌, if◌then◌else◌, Bool, List, [], ◌∷◌, Option, Some}
 use Rattle.of10_model.specs.declared.pattern.Prefix.{Prefix}
 use Rattle.of10_model.specs.declared.pattern.Pattern.{Pattern}
 use Rattle.of10_model.specs.Header.{Header}

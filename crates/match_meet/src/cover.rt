@@ -173,9 +173,9 @@ fn cover(m: &Pattern, action: &Action) -> Pattern
     }
 }
 
-/// The cover of the match's headers after the action: each of its headers, rewritten, is in it. A
-/// constraint changes as its field does; where the field that an action depends on is free, the
-/// constraint is free too and stays so (this proxy's own rule).
+/// The cover of the match's headers after the action: each of them, rewritten, is in it. A constraint
+/// changes as its field does. Where packets of the match may or may not have the field that the action
+/// sets, its constraint is free already and stays so (this proxy's own rule).
 pub fn rewrite(m: &Match, action: &Action) -> Match
     requires { HasAddress action.now }
     ensures value { result ≡ cover_of m.now action.now }

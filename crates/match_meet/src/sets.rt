@@ -37,6 +37,25 @@ fn meet_patterns(a: &Pattern, b: &Pattern) -> Option<Pattern>
     })
 }
 
+fn disjoint_patterns(a: &Pattern, b: &Pattern) -> bool
+    requires first_source { IsPrefix a.now.nw_src }
+    requires first_destination { IsPrefix a.now.nw_dst }
+    requires second_source { IsPrefix b.now.nw_src }
+    requires second_destination { IsPrefix b.now.nw_dst }
+    ensures { result ≡ is_disjoint a.now b.now }
+{
+    meet_patterns(a, b).is_none()
+}
+
+fn any_in_port(m: &Pattern) -> Pattern
+    ensures { result ≡ any_in_port m.now }
+{
+    Pattern {
+        in_port: None,
+        ..*m
+    }
+}
+
 #[tactic(auto, unfolding(of10_model::specs::Inclusion::includes_of))]
 fn includes_pattern(a: &Pattern, b: &Pattern) -> bool
     requires source { IsPrefix a.now.nw_src }
@@ -83,11 +102,7 @@ pub fn includes_aside(a: &Match, b: &Match) -> bool
     ensures value { result ≡ includes_of (any_in_port a.now) b.now }
     ensures headers { IsTrue result ↔ Includes (any_in_port a.now) b.now }
 {
-    let aside = Pattern {
-        in_port: None,
-        ..*a.pattern()
-    };
-    includes_pattern(&aside, b.pattern())
+    includes_pattern(&any_in_port(a.pattern()), b.pattern())
 }
 
 /// Whether no header is in both.
@@ -95,5 +110,5 @@ pub fn disjoint(a: &Match, b: &Match) -> bool
     ensures value { result ≡ is_disjoint a.now b.now }
     ensures headers { IsTrue result ↔ Disjoint a.now b.now }
 {
-    meet_patterns(a.pattern(), b.pattern()).is_none()
+    disjoint_patterns(a.pattern(), b.pattern())
 }

@@ -1,4 +1,4 @@
-use Rattle.std.proofs.Common.{◌≡◌, Some, None, sym, ◌∙◌}
+use Rattle.std.proofs.Common.{◌≡◌, Some, None}
 use Rattle.of10_model.specs.Meet.{meet_of}
 use Rattle.of10_model.proofs.Meeting.{some_meet, none_meet}
 use Rattle.of10_model.proofs.MeetNormal.{IsInRange-meet, IsNormal-meet}
