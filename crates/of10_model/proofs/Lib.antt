@@ -4,3 +4,9 @@ pub mod Ranges
 pub mod Applied
 pub mod Spelling
 pub mod Exact
+pub mod Meeting
+pub mod NormalFields
+pub mod MeetNormal
+pub mod Inhabited
+pub mod Including
+pub mod Disjointness

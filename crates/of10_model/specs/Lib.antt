@@ -3,3 +3,5 @@ pub mod Pattern
 pub mod Normal
 pub mod Spelling
 pub mod Exact
+pub mod Meet
+pub mod Inclusion

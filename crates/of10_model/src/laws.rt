@@ -2,7 +2,7 @@
 
 ghost use Rattle.std.specs.Prelude.{ℕ, List, ◌≡◌, ◌<◌, ◌↔◌, IsTrue, slice_index};
 ghost use Rattle.of10_model.specs.declared.pattern.Pattern.{Pattern};
-ghost use Rattle.of10_model.specs.Header.{Header};
+ghost use Rattle.of10_model.specs.Header.{Header, IsHeader};
 ghost use Rattle.of10_model.specs.Pattern.{Has, has};
 ghost use Rattle.of10_model.specs.Normal.{Norm, IsNormal};
 ghost use Rattle.of10_model.specs.Spelling.{Spell};
@@ -20,4 +20,14 @@ pub fn normal_form_is_normal()
 /// The normal spelling of a normal match is read as that match.
 pub fn normal_spelling_is_read_again()
     ensures { (m : Pattern) → IsNormal m → Norm (Spell m) ≡ m }
+{}
+
+/// Every normal match has a header.
+pub fn normal_match_has_header()
+    ensures { (m : Pattern) → IsNormal m → (h : Header) × IsHeader h × Has m h }
+{}
+
+/// Two normal matches with the same headers are one.
+pub fn normal_match_is_known_by_its_headers()
+    ensures { (a b : Pattern) → IsNormal a → IsNormal b → ((h : Header) → IsHeader h → Has a h ↔ Has b h) → a ≡ b }
 {}

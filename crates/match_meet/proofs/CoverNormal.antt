@@ -1,0 +1,243 @@
+-- The cover of a normal match is normal.
+use Rattle.std.proofs.Common.{IsTrue, ℕ, ◌≡◌, ◌==◌, ◌&&◌, ◌||◌, ◌*◌, ◌/◌, ◌%◌, inl, inr, eqb-true, Bool, true, false, if◌then◌else◌, Option, Some, refl, sym, ◌∙◌, arith, rules}
+use Rattle.std.proofs.lemmas.Bool.{true≢false, and_parts, and_from, cases_Bool}
+use Rattle.of10_model.specs.declared.pattern.Prefix.{Prefix}
+use Rattle.of10_model.specs.declared.pattern.Pattern.{Pattern}
+use Rattle.of10_model.specs.Normal.{is_value, is_given, is_whole, is_exact, has_vlan, has_network, has_service, has_ports, meaningless, meaningless_prefix, kept, kept_prefix, applied}
+use Rattle.of10_model.proofs.Twelve.{AllTrue, each_true}
+use Rattle.of10_model.proofs.NormalFields.{NormalFields, normal_fields, applied_same}
+use Rattle.of10_action.specs.declared.action.Action.{Action}
+use Rattle.of10_action.specs.declared.action.Action.TheVariants.{Output, SetVlanVid, SetVlanPcp, StripVlan, SetDlSrc, SetDlDst, SetNwSrc, SetNwDst, SetNwTos, SetTpSrc, SetTpDst, Enqueue}
+use Rattle.match_meet.specs.Rewriting.{whole, names_tcp_or_udp, cover_of}
+
+-- ---- one field
+
+-- a field without its prerequisite that is meaningless as before
+
+kept_set : (em er n : Bool) (c : Option ℕ) → (n ≡ false → c ≡ meaningless em) → (IsTrue em → IsTrue er) → (IsTrue er → IsTrue (is_given c)) → kept er n c ≡ c
+kept_set em er true c s x g = refl
+kept_set true true false c s x g = sym (s refl)
+kept_set true false false c s x g = absurd (true≢false (sym (x refl)))
+kept_set false true false c s x g = absurd (true≢false (sym (rw (s refl) at (g refl))))
+kept_set false false false c s x g = sym (s refl)
+
+as_before : (e n : Bool) (c : Option ℕ) → kept e n c ≡ c → n ≡ false → c ≡ meaningless e
+as_before e n c k f = sym (rw f at k)
+
+kept_prefix_set : (em er n : Bool) (c : Option Prefix) → (n ≡ false → c ≡ meaningless_prefix em) → (IsTrue em → IsTrue er) → (IsTrue er → IsTrue (is_whole c)) → kept_prefix er n c ≡ c
+kept_prefix_set em er true c s x g = refl
+kept_prefix_set true true false c s x g = sym (s refl)
+kept_prefix_set true false false c s x g = absurd (true≢false (sym (x refl)))
+kept_prefix_set false true false c s x g = absurd (true≢false (sym (rw (s refl) at (g refl))))
+kept_prefix_set false false false c s x g = sym (s refl)
+
+as_before_prefix : (e n : Bool) (c : Option Prefix) → kept_prefix e n c ≡ c → n ≡ false → c ≡ meaningless_prefix e
+as_before_prefix e n c k f = sym (rw f at k)
+
+needed : {A : Type 0} (n : Bool) → IsTrue n → n ≡ false → A
+needed n t f = absurd (true≢false (sym t ∙ f))
+
+-- ---- all fields
+
+-- a match whose fields that lack their prerequisites are meaningless as another match's are
+normal_set : (m r : Pattern) → (IsTrue (is_exact m) → IsTrue (is_exact r))
+    → ((has_vlan r.dl_vlan) ≡ false → r.dl_vlan_pcp ≡ meaningless (is_exact m))
+    → ((has_service r.dl_type) ≡ false → r.nw_tos ≡ meaningless (is_exact m))
+    → ((has_network r.dl_type) ≡ false → r.nw_proto ≡ meaningless (is_exact m))
+    → ((has_network r.dl_type) ≡ false → r.nw_src ≡ meaningless_prefix (is_exact m))
+    → ((has_network r.dl_type) ≡ false → r.nw_dst ≡ meaningless_prefix (is_exact m))
+    → ((has_ports r.dl_type r.nw_proto) ≡ false → r.tp_src ≡ meaningless (is_exact m))
+    → ((has_ports r.dl_type r.nw_proto) ≡ false → r.tp_dst ≡ meaningless (is_exact m))
+    → applied r ≡ r
+normal_set m r x pcp tos proto source destination tp_source tp_destination =
+    let each : IsTrue (is_exact r) → AllTrue (is_given r.in_port) (is_given r.dl_src) (is_given r.dl_dst) (is_given r.dl_vlan) (is_given r.dl_vlan_pcp) (is_given r.dl_type) (is_given r.nw_tos) (is_given r.nw_proto) (is_whole r.nw_src) (is_whole r.nw_dst) (is_given r.tp_src) (is_given r.tp_dst) =
+    each_true (is_given r.in_port) (is_given r.dl_src) (is_given r.dl_dst) (is_given r.dl_vlan) (is_given r.dl_vlan_pcp) (is_given r.dl_type) (is_given r.nw_tos) (is_given r.nw_proto) (is_whole r.nw_src) (is_whole r.nw_dst) (is_given r.tp_src) (is_given r.tp_dst) in
+    applied_same r (record {
+      on_dl_vlan_pcp = kept_set (is_exact m) (is_exact r) (has_vlan r.dl_vlan) r.dl_vlan_pcp pcp x (λ e. (each e).is_dl_vlan_pcp);
+      on_nw_tos = kept_set (is_exact m) (is_exact r) (has_service r.dl_type) r.nw_tos tos x (λ e. (each e).is_nw_tos);
+      on_nw_proto = kept_set (is_exact m) (is_exact r) (has_network r.dl_type) r.nw_proto proto x (λ e. (each e).is_nw_proto);
+      on_nw_src = kept_prefix_set (is_exact m) (is_exact r) (has_network r.dl_type) r.nw_src source x (λ e. (each e).is_nw_src);
+      on_nw_dst = kept_prefix_set (is_exact m) (is_exact r) (has_network r.dl_type) r.nw_dst destination x (λ e. (each e).is_nw_dst);
+      on_tp_src = kept_set (is_exact m) (is_exact r) (has_ports r.dl_type r.nw_proto) r.tp_src tp_source x (λ e. (each e).is_tp_src);
+      on_tp_dst = kept_set (is_exact m) (is_exact r) (has_ports r.dl_type r.nw_proto) r.tp_dst tp_destination x (λ e. (each e).is_tp_dst);
+    })
+
+network : (kind : Option ℕ) → IsTrue (is_value 0x0800 kind) → IsTrue (has_network kind)
+network kind t = rw t refl
+
+among : (a b c : Bool) → IsTrue (b || c) → IsTrue (a || b || c)
+among true b c h = refl
+among false b c h = h
+
+ports : (kind proto : Option ℕ) → IsTrue (is_value 0x0800 kind && (is_value 6 proto || is_value 17 proto)) → IsTrue (has_ports kind proto)
+ports kind proto t =
+    let parts = and_parts (is_value 0x0800 kind) (is_value 6 proto || is_value 17 proto) t in
+    and_from (is_value 0x0800 kind) (is_value 1 proto || is_value 6 proto || is_value 17 proto) parts.0
+    (among (is_value 1 proto) (is_value 6 proto) (is_value 17 proto) parts.1)
+
+normal_dl_src : (m : Pattern) (address : ℕ) → NormalFields m → applied (record m { dl_src = Some address }) ≡ (record m { dl_src = Some address })
+normal_dl_src m address n =
+    normal_set m (record m { dl_src = Some address }) (λ x. search rules)
+    (as_before (is_exact m) (has_vlan m.dl_vlan) m.dl_vlan_pcp n.on_dl_vlan_pcp)
+    (as_before (is_exact m) (has_service m.dl_type) m.nw_tos n.on_nw_tos)
+    (as_before (is_exact m) (has_network m.dl_type) m.nw_proto n.on_nw_proto)
+    (as_before_prefix (is_exact m) (has_network m.dl_type) m.nw_src n.on_nw_src)
+    (as_before_prefix (is_exact m) (has_network m.dl_type) m.nw_dst n.on_nw_dst)
+    (as_before (is_exact m) (has_ports m.dl_type m.nw_proto) m.tp_src n.on_tp_src)
+    (as_before (is_exact m) (has_ports m.dl_type m.nw_proto) m.tp_dst n.on_tp_dst)
+
+normal_dl_dst : (m : Pattern) (address : ℕ) → NormalFields m → applied (record m { dl_dst = Some address }) ≡ (record m { dl_dst = Some address })
+normal_dl_dst m address n =
+    normal_set m (record m { dl_dst = Some address }) (λ x. search rules)
+    (as_before (is_exact m) (has_vlan m.dl_vlan) m.dl_vlan_pcp n.on_dl_vlan_pcp)
+    (as_before (is_exact m) (has_service m.dl_type) m.nw_tos n.on_nw_tos)
+    (as_before (is_exact m) (has_network m.dl_type) m.nw_proto n.on_nw_proto)
+    (as_before_prefix (is_exact m) (has_network m.dl_type) m.nw_src n.on_nw_src)
+    (as_before_prefix (is_exact m) (has_network m.dl_type) m.nw_dst n.on_nw_dst)
+    (as_before (is_exact m) (has_ports m.dl_type m.nw_proto) m.tp_src n.on_tp_src)
+    (as_before (is_exact m) (has_ports m.dl_type m.nw_proto) m.tp_dst n.on_tp_dst)
+
+normal_nw_src : (m : Pattern) (address : ℕ) → NormalFields m → IsTrue (is_value 0x0800 m.dl_type) → applied (record m { nw_src = whole address }) ≡ (record m { nw_src = whole address })
+normal_nw_src m address n t =
+    normal_set m (record m { nw_src = whole address }) (λ x. search rules)
+    (as_before (is_exact m) (has_vlan m.dl_vlan) m.dl_vlan_pcp n.on_dl_vlan_pcp)
+    (as_before (is_exact m) (has_service m.dl_type) m.nw_tos n.on_nw_tos)
+    (as_before (is_exact m) (has_network m.dl_type) m.nw_proto n.on_nw_proto)
+    (needed (has_network m.dl_type) (network m.dl_type t))
+    (as_before_prefix (is_exact m) (has_network m.dl_type) m.nw_dst n.on_nw_dst)
+    (as_before (is_exact m) (has_ports m.dl_type m.nw_proto) m.tp_src n.on_tp_src)
+    (as_before (is_exact m) (has_ports m.dl_type m.nw_proto) m.tp_dst n.on_tp_dst)
+
+normal_nw_dst : (m : Pattern) (address : ℕ) → NormalFields m → IsTrue (is_value 0x0800 m.dl_type) → applied (record m { nw_dst = whole address }) ≡ (record m { nw_dst = whole address })
+normal_nw_dst m address n t =
+    normal_set m (record m { nw_dst = whole address }) (λ x. search rules)
+    (as_before (is_exact m) (has_vlan m.dl_vlan) m.dl_vlan_pcp n.on_dl_vlan_pcp)
+    (as_before (is_exact m) (has_service m.dl_type) m.nw_tos n.on_nw_tos)
+    (as_before (is_exact m) (has_network m.dl_type) m.nw_proto n.on_nw_proto)
+    (as_before_prefix (is_exact m) (has_network m.dl_type) m.nw_src n.on_nw_src)
+    (needed (has_network m.dl_type) (network m.dl_type t))
+    (as_before (is_exact m) (has_ports m.dl_type m.nw_proto) m.tp_src n.on_tp_src)
+    (as_before (is_exact m) (has_ports m.dl_type m.nw_proto) m.tp_dst n.on_tp_dst)
+
+normal_nw_tos : (m : Pattern) (service : ℕ) → NormalFields m → IsTrue (is_value 0x0800 m.dl_type) → applied (record m { nw_tos = Some service }) ≡ (record m { nw_tos = Some service })
+normal_nw_tos m service n t =
+    normal_set m (record m { nw_tos = Some service }) (λ x. search rules)
+    (as_before (is_exact m) (has_vlan m.dl_vlan) m.dl_vlan_pcp n.on_dl_vlan_pcp)
+    (needed (has_service m.dl_type) t)
+    (as_before (is_exact m) (has_network m.dl_type) m.nw_proto n.on_nw_proto)
+    (as_before_prefix (is_exact m) (has_network m.dl_type) m.nw_src n.on_nw_src)
+    (as_before_prefix (is_exact m) (has_network m.dl_type) m.nw_dst n.on_nw_dst)
+    (as_before (is_exact m) (has_ports m.dl_type m.nw_proto) m.tp_src n.on_tp_src)
+    (as_before (is_exact m) (has_ports m.dl_type m.nw_proto) m.tp_dst n.on_tp_dst)
+
+normal_tp_src : (m : Pattern) (port : ℕ) → NormalFields m → IsTrue (names_tcp_or_udp m) → applied (record m { tp_src = Some port }) ≡ (record m { tp_src = Some port })
+normal_tp_src m port n t =
+    normal_set m (record m { tp_src = Some port }) (λ x. search rules)
+    (as_before (is_exact m) (has_vlan m.dl_vlan) m.dl_vlan_pcp n.on_dl_vlan_pcp)
+    (as_before (is_exact m) (has_service m.dl_type) m.nw_tos n.on_nw_tos)
+    (as_before (is_exact m) (has_network m.dl_type) m.nw_proto n.on_nw_proto)
+    (as_before_prefix (is_exact m) (has_network m.dl_type) m.nw_src n.on_nw_src)
+    (as_before_prefix (is_exact m) (has_network m.dl_type) m.nw_dst n.on_nw_dst)
+    (needed (has_ports m.dl_type m.nw_proto) (ports m.dl_type m.nw_proto t))
+    (as_before (is_exact m) (has_ports m.dl_type m.nw_proto) m.tp_dst n.on_tp_dst)
+
+normal_tp_dst : (m : Pattern) (port : ℕ) → NormalFields m → IsTrue (names_tcp_or_udp m) → applied (record m { tp_dst = Some port }) ≡ (record m { tp_dst = Some port })
+normal_tp_dst m port n t =
+    normal_set m (record m { tp_dst = Some port }) (λ x. search rules)
+    (as_before (is_exact m) (has_vlan m.dl_vlan) m.dl_vlan_pcp n.on_dl_vlan_pcp)
+    (as_before (is_exact m) (has_service m.dl_type) m.nw_tos n.on_nw_tos)
+    (as_before (is_exact m) (has_network m.dl_type) m.nw_proto n.on_nw_proto)
+    (as_before_prefix (is_exact m) (has_network m.dl_type) m.nw_src n.on_nw_src)
+    (as_before_prefix (is_exact m) (has_network m.dl_type) m.nw_dst n.on_nw_dst)
+    (as_before (is_exact m) (has_ports m.dl_type m.nw_proto) m.tp_src n.on_tp_src)
+    (needed (has_ports m.dl_type m.nw_proto) (ports m.dl_type m.nw_proto t))
+
+-- a VLAN number of twelve bits is not the number for untagged packets
+short_vlan : (vlan : ℕ) → IsTrue (has_vlan (Some (vlan % 4096)))
+short_vlan vlan = elim (cases_Bool (vlan % 4096 == 0xffff)) [
+  | inl e ↦ (let same = eqb-true (vlan % 4096) 0xffff e in absurd (omega arith))
+  | inr e ↦ rw e refl
+]
+
+pcp_given : (t : Bool) (c : Option ℕ) → IsTrue (is_given c) → IsTrue (is_given (if t then Some 0 else c))
+pcp_given true c h = refl
+pcp_given false c h = h
+
+normal_vlan_vid : (m : Pattern) (vlan : ℕ) → NormalFields m → applied (record m { dl_vlan = Some (vlan % 4096); dl_vlan_pcp = if is_value 0xffff m.dl_vlan then Some 0 else m.dl_vlan_pcp }) ≡ (record m { dl_vlan = Some (vlan % 4096); dl_vlan_pcp = if is_value 0xffff m.dl_vlan then Some 0 else m.dl_vlan_pcp })
+normal_vlan_vid m vlan n =
+    normal_set m (record m { dl_vlan = Some (vlan % 4096); dl_vlan_pcp = if is_value 0xffff m.dl_vlan then Some 0 else m.dl_vlan_pcp }) (λ x. let each = each_true (is_given m.in_port) (is_given m.dl_src) (is_given m.dl_dst) (is_given m.dl_vlan) (is_given m.dl_vlan_pcp) (is_given m.dl_type) (is_given m.nw_tos) (is_given m.nw_proto) (is_whole m.nw_src) (is_whole m.nw_dst) (is_given m.tp_src) (is_given m.tp_dst) x in let given = pcp_given (is_value 0xffff m.dl_vlan) m.dl_vlan_pcp each.is_dl_vlan_pcp in search rules)
+    (needed (has_vlan (Some (vlan % 4096))) (short_vlan vlan))
+    (as_before (is_exact m) (has_service m.dl_type) m.nw_tos n.on_nw_tos)
+    (as_before (is_exact m) (has_network m.dl_type) m.nw_proto n.on_nw_proto)
+    (as_before_prefix (is_exact m) (has_network m.dl_type) m.nw_src n.on_nw_src)
+    (as_before_prefix (is_exact m) (has_network m.dl_type) m.nw_dst n.on_nw_dst)
+    (as_before (is_exact m) (has_ports m.dl_type m.nw_proto) m.tp_src n.on_tp_src)
+    (as_before (is_exact m) (has_ports m.dl_type m.nw_proto) m.tp_dst n.on_tp_dst)
+
+normal_tagged : (m : Pattern) (priority : ℕ) → NormalFields m → applied (record m { dl_vlan = Some 0; dl_vlan_pcp = Some priority }) ≡ (record m { dl_vlan = Some 0; dl_vlan_pcp = Some priority })
+normal_tagged m priority n =
+    normal_set m (record m { dl_vlan = Some 0; dl_vlan_pcp = Some priority }) (λ x. search rules)
+    (needed (has_vlan (Some 0)) refl)
+    (as_before (is_exact m) (has_service m.dl_type) m.nw_tos n.on_nw_tos)
+    (as_before (is_exact m) (has_network m.dl_type) m.nw_proto n.on_nw_proto)
+    (as_before_prefix (is_exact m) (has_network m.dl_type) m.nw_src n.on_nw_src)
+    (as_before_prefix (is_exact m) (has_network m.dl_type) m.nw_dst n.on_nw_dst)
+    (as_before (is_exact m) (has_ports m.dl_type m.nw_proto) m.tp_src n.on_tp_src)
+    (as_before (is_exact m) (has_ports m.dl_type m.nw_proto) m.tp_dst n.on_tp_dst)
+
+normal_priority : (m : Pattern) (priority : ℕ) → NormalFields m → IsTrue (has_vlan m.dl_vlan) → applied (record m { dl_vlan_pcp = Some priority }) ≡ (record m { dl_vlan_pcp = Some priority })
+normal_priority m priority n t =
+    normal_set m (record m { dl_vlan_pcp = Some priority }) (λ x. search rules)
+    (needed (has_vlan m.dl_vlan) t)
+    (as_before (is_exact m) (has_service m.dl_type) m.nw_tos n.on_nw_tos)
+    (as_before (is_exact m) (has_network m.dl_type) m.nw_proto n.on_nw_proto)
+    (as_before_prefix (is_exact m) (has_network m.dl_type) m.nw_src n.on_nw_src)
+    (as_before_prefix (is_exact m) (has_network m.dl_type) m.nw_dst n.on_nw_dst)
+    (as_before (is_exact m) (has_ports m.dl_type m.nw_proto) m.tp_src n.on_tp_src)
+    (as_before (is_exact m) (has_ports m.dl_type m.nw_proto) m.tp_dst n.on_tp_dst)
+
+meaningless_given : (e : Bool) → IsTrue e → IsTrue (is_given (meaningless e))
+meaningless_given true h = refl
+meaningless_given false h = absurd (true≢false (sym h))
+
+normal_strip : (m : Pattern) → NormalFields m → applied (record m { dl_vlan = Some 0xffff; dl_vlan_pcp = meaningless (is_exact m) }) ≡ (record m { dl_vlan = Some 0xffff; dl_vlan_pcp = meaningless (is_exact m) })
+normal_strip m n =
+    normal_set m (record m { dl_vlan = Some 0xffff; dl_vlan_pcp = meaningless (is_exact m) }) (λ x. let given = meaningless_given (is_exact m) x in search rules)
+    (λ f. refl)
+    (as_before (is_exact m) (has_service m.dl_type) m.nw_tos n.on_nw_tos)
+    (as_before (is_exact m) (has_network m.dl_type) m.nw_proto n.on_nw_proto)
+    (as_before_prefix (is_exact m) (has_network m.dl_type) m.nw_src n.on_nw_src)
+    (as_before_prefix (is_exact m) (has_network m.dl_type) m.nw_dst n.on_nw_dst)
+    (as_before (is_exact m) (has_ports m.dl_type m.nw_proto) m.tp_src n.on_tp_src)
+    (as_before (is_exact m) (has_ports m.dl_type m.nw_proto) m.tp_dst n.on_tp_dst)
+
+-- ---- all actions
+
+either : (t : Bool) (r m : Pattern) → (IsTrue t → applied r ≡ r) → applied m ≡ m → applied (if t then r else m) ≡ (if t then r else m)
+either true r m p q = p refl
+either false r m p q = q
+
+pub applied-cover_of : (m : Pattern) (action : Action) → applied m ≡ m → applied (cover_of m action) ≡ cover_of m action
+applied-cover_of m (Output port max_len) e = e
+applied-cover_of m (SetVlanVid vlan) e = normal_vlan_vid m vlan (normal_fields m e)
+applied-cover_of m (SetVlanPcp priority) e =
+    let n = normal_fields m e in
+    let tagged : Pattern = record m { dl_vlan = Some 0; dl_vlan_pcp = Some (priority % 8) } in
+    let changed : Pattern = record m { dl_vlan_pcp = Some (priority % 8) } in
+    either (is_value 0xffff m.dl_vlan) tagged (if has_vlan m.dl_vlan then changed else m)
+    (λ t. normal_tagged m (priority % 8) n)
+    (either (has_vlan m.dl_vlan) changed m (λ t. normal_priority m (priority % 8) n t) e)
+applied-cover_of m StripVlan e = normal_strip m (normal_fields m e)
+applied-cover_of m (SetDlSrc address) e = normal_dl_src m address (normal_fields m e)
+applied-cover_of m (SetDlDst address) e = normal_dl_dst m address (normal_fields m e)
+applied-cover_of m (SetNwSrc address) e =
+    either (is_value 0x0800 m.dl_type) (record m { nw_src = whole address }) m (λ t. normal_nw_src m address (normal_fields m e) t) e
+applied-cover_of m (SetNwDst address) e =
+    either (is_value 0x0800 m.dl_type) (record m { nw_dst = whole address }) m (λ t. normal_nw_dst m address (normal_fields m e) t) e
+applied-cover_of m (SetNwTos service) e =
+    either (is_value 0x0800 m.dl_type) (record m { nw_tos = Some (service / 4 * 4) }) m (λ t. normal_nw_tos m (service / 4 * 4) (normal_fields m e) t) e
+applied-cover_of m (SetTpSrc port) e =
+    either (names_tcp_or_udp m) (record m { tp_src = Some port }) m (λ t. normal_tp_src m port (normal_fields m e) t) e
+applied-cover_of m (SetTpDst port) e =
+    either (names_tcp_or_udp m) (record m { tp_dst = Some port }) m (λ t. normal_tp_dst m port (normal_fields m e) t) e
+applied-cover_of m (Enqueue port queue) e = e

@@ -1,0 +1,3 @@
+pub mod CoverNormal
+pub mod CoverHas
+pub mod Ranges

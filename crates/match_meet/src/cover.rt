@@ -1,0 +1,185 @@
+//! What actions make of matches: the cover of their headers, rewritten (this proxy's own rule).
+
+ghost use Rattle.std.specs.Prelude.{◌≡◌, if◌then◌else◌};
+ghost use Rattle.of10_model.specs.Header.{Header, IsHeader};
+ghost use Rattle.of10_model.specs.Pattern.{Has};
+ghost use Rattle.of10_model.specs.Normal.{is_exact, is_value, is_whole, has_vlan, meaningless, IsInRange};
+ghost use Rattle.of10_action.specs.Actions.{HasAddress};
+ghost use Rattle.match_meet.specs.Rewriting.{rewritten, cover_of, names_tcp_or_udp, whole};
+
+use crate::rewriting::{IPV4, TCP, UDP, UNTAGGED, service_bits, vlan_number, vlan_priority};
+use of10_action::Action;
+use of10_match::Match;
+use of10_model::{Pattern, Prefix};
+
+fn is_whole(address: Option<Prefix>) -> bool
+    ensures { result ≡ is_whole address }
+{
+    address.is_some_and(|prefix| prefix.bits == 32)
+}
+
+fn is_exact(m: &Pattern) -> bool
+    ensures { result ≡ is_exact m.now }
+{
+    m.in_port.is_some()
+        && m.dl_src.is_some()
+        && m.dl_dst.is_some()
+        && m.dl_vlan.is_some()
+        && m.dl_vlan_pcp.is_some()
+        && m.dl_type.is_some()
+        && m.nw_tos.is_some()
+        && m.nw_proto.is_some()
+        && is_whole(m.nw_src)
+        && is_whole(m.nw_dst)
+        && m.tp_src.is_some()
+        && m.tp_dst.is_some()
+}
+
+fn names_ipv4(m: &Pattern) -> bool
+    ensures { result ≡ is_value 0x0800 m.now.dl_type }
+{
+    m.dl_type.is_some_and(|number| number == IPV4)
+}
+
+fn names_tcp_or_udp(m: &Pattern) -> bool
+    ensures { result ≡ names_tcp_or_udp m.now }
+{
+    names_ipv4(m)
+        && m.nw_proto
+            .is_some_and(|number| number == TCP || number == UDP)
+}
+
+fn names_untagged(m: &Pattern) -> bool
+    ensures { result ≡ is_value 0xffff m.now.dl_vlan }
+{
+    m.dl_vlan.is_some_and(|number| number == UNTAGGED)
+}
+
+fn where_ipv4(m: &Pattern, changed: Pattern) -> Pattern
+    ensures { result ≡ (if is_value 0x0800 m.now.dl_type then changed else m.now) }
+{
+    if names_ipv4(m) { changed } else { *m }
+}
+
+fn where_tcp_or_udp(m: &Pattern, changed: Pattern) -> Pattern
+    ensures { result ≡ (if names_tcp_or_udp m.now then changed else m.now) }
+{
+    if names_tcp_or_udp(m) { changed } else { *m }
+}
+
+fn whole(address: u32) -> Option<Prefix>
+    ensures { result ≡ whole address }
+{
+    Some(Prefix {
+        bits: 32,
+        value: address,
+    })
+}
+
+/// The priority behind a VLAN that is set: 0 where packets had no tag before.
+fn priority_behind(m: &Pattern) -> Option<u8>
+    ensures { result ≡ (if is_value 0xffff m.now.dl_vlan then Some 0 else m.now.dl_vlan_pcp) }
+{
+    if names_untagged(m) {
+        Some(0)
+    } else {
+        m.dl_vlan_pcp
+    }
+}
+
+fn with_priority(m: &Pattern, priority: u8) -> Pattern
+    ensures { result ≡ cover_of m.now (Action.SetVlanPcp priority) }
+{
+    let dl_vlan_pcp = Some(vlan_priority(priority));
+    match m.dl_vlan {
+        None => *m,
+        Some(UNTAGGED) => Pattern {
+            dl_vlan: Some(0),
+            dl_vlan_pcp,
+            ..*m
+        },
+        Some(_) => Pattern { dl_vlan_pcp, ..*m },
+    }
+}
+
+fn without_vlan(m: &Pattern) -> Pattern
+    ensures { result ≡ cover_of m.now Action.StripVlan }
+{
+    Pattern {
+        dl_vlan: Some(UNTAGGED),
+        dl_vlan_pcp: is_exact(m).then_some(0),
+        ..*m
+    }
+}
+
+fn cover(m: &Pattern, action: &Action) -> Pattern
+    requires range { IsInRange m.now }
+    requires address { HasAddress action.now }
+    ensures value { result ≡ cover_of m.now action.now }
+    ensures range { IsInRange result }
+{
+    match *action {
+        Action::Output { .. } | Action::Enqueue { .. } => *m,
+        Action::SetVlanVid(vlan) => Pattern {
+            dl_vlan: Some(vlan_number(vlan)),
+            dl_vlan_pcp: priority_behind(m),
+            ..*m
+        },
+        Action::SetVlanPcp(priority) => with_priority(m, priority),
+        Action::StripVlan => without_vlan(m),
+        Action::SetDlSrc(address) => Pattern {
+            dl_src: Some(address),
+            ..*m
+        },
+        Action::SetDlDst(address) => Pattern {
+            dl_dst: Some(address),
+            ..*m
+        },
+        Action::SetNwSrc(address) => where_ipv4(
+            m,
+            Pattern {
+                nw_src: whole(address),
+                ..*m
+            },
+        ),
+        Action::SetNwDst(address) => where_ipv4(
+            m,
+            Pattern {
+                nw_dst: whole(address),
+                ..*m
+            },
+        ),
+        Action::SetNwTos(service) => where_ipv4(
+            m,
+            Pattern {
+                nw_tos: Some(service_bits(service)),
+                ..*m
+            },
+        ),
+        Action::SetTpSrc(port) => where_tcp_or_udp(
+            m,
+            Pattern {
+                tp_src: Some(port),
+                ..*m
+            },
+        ),
+        Action::SetTpDst(port) => where_tcp_or_udp(
+            m,
+            Pattern {
+                tp_dst: Some(port),
+                ..*m
+            },
+        ),
+    }
+}
+
+/// The cover of the match's headers after the action: each of them, rewritten, is in it. A constraint
+/// changes as its field does. Where packets of the match may or may not have the field that the action
+/// sets, its constraint is free already and stays so (this proxy's own rule).
+pub fn rewrite(m: &Match, action: &Action) -> Match
+    requires { HasAddress action.now }
+    ensures value { result ≡ cover_of m.now action.now }
+    ensures headers { (h : Header) → IsHeader h → Has m.now h → Has result (rewritten h action.now) }
+{
+    Match::of(cover(m.pattern(), action))
+}

@@ -1,0 +1,114 @@
+//! Matches as sets of headers.
+
+ghost use Rattle.std.specs.Prelude.{◌≡◌, ◌↔◌, IsTrue, IsNone, IfSome, IfNone};
+ghost use Rattle.of10_model.specs.Header.{Header, IsHeader};
+ghost use Rattle.of10_model.specs.Pattern.{Has};
+ghost use Rattle.of10_model.specs.Normal.{IsPrefix};
+ghost use Rattle.of10_model.specs.Meet.{meet_of, is_disjoint, Disjoint};
+ghost use Rattle.of10_model.specs.Inclusion.{includes_of, Includes, any_in_port};
+
+use crate::constraint::{
+    both_prefix, both_u8, both_u16, both_u64, covers_prefix, covers_u8, covers_u16, covers_u64,
+};
+use of10_match::Match;
+use of10_model::Pattern;
+
+#[tactic(auto, unfolding(of10_model::specs::Meet::meet_of))]
+fn meet_patterns(a: &Pattern, b: &Pattern) -> Option<Pattern>
+    requires first_source { IsPrefix a.now.nw_src }
+    requires first_destination { IsPrefix a.now.nw_dst }
+    requires second_source { IsPrefix b.now.nw_src }
+    requires second_destination { IsPrefix b.now.nw_dst }
+    ensures { result ≡ meet_of a.now b.now }
+{
+    Some(Pattern {
+        in_port: both_u16(a.in_port, b.in_port)?,
+        dl_src: both_u64(a.dl_src, b.dl_src)?,
+        dl_dst: both_u64(a.dl_dst, b.dl_dst)?,
+        dl_vlan: both_u16(a.dl_vlan, b.dl_vlan)?,
+        dl_vlan_pcp: both_u8(a.dl_vlan_pcp, b.dl_vlan_pcp)?,
+        dl_type: both_u16(a.dl_type, b.dl_type)?,
+        nw_tos: both_u8(a.nw_tos, b.nw_tos)?,
+        nw_proto: both_u8(a.nw_proto, b.nw_proto)?,
+        nw_src: both_prefix(a.nw_src, b.nw_src)?,
+        nw_dst: both_prefix(a.nw_dst, b.nw_dst)?,
+        tp_src: both_u16(a.tp_src, b.tp_src)?,
+        tp_dst: both_u16(a.tp_dst, b.tp_dst)?,
+    })
+}
+
+fn disjoint_patterns(a: &Pattern, b: &Pattern) -> bool
+    requires first_source { IsPrefix a.now.nw_src }
+    requires first_destination { IsPrefix a.now.nw_dst }
+    requires second_source { IsPrefix b.now.nw_src }
+    requires second_destination { IsPrefix b.now.nw_dst }
+    ensures { result ≡ is_disjoint a.now b.now }
+{
+    meet_patterns(a, b).is_none()
+}
+
+fn any_in_port(m: &Pattern) -> Pattern
+    ensures { result ≡ any_in_port m.now }
+{
+    Pattern {
+        in_port: None,
+        ..*m
+    }
+}
+
+#[tactic(auto, unfolding(of10_model::specs::Inclusion::includes_of))]
+fn includes_pattern(a: &Pattern, b: &Pattern) -> bool
+    requires source { IsPrefix a.now.nw_src }
+    requires destination { IsPrefix a.now.nw_dst }
+    ensures { result ≡ includes_of a.now b.now }
+{
+    covers_u16(a.in_port, b.in_port)
+        && covers_u64(a.dl_src, b.dl_src)
+        && covers_u64(a.dl_dst, b.dl_dst)
+        && covers_u16(a.dl_vlan, b.dl_vlan)
+        && covers_u8(a.dl_vlan_pcp, b.dl_vlan_pcp)
+        && covers_u16(a.dl_type, b.dl_type)
+        && covers_u8(a.nw_tos, b.nw_tos)
+        && covers_u8(a.nw_proto, b.nw_proto)
+        && covers_prefix(a.nw_src, b.nw_src)
+        && covers_prefix(a.nw_dst, b.nw_dst)
+        && covers_u16(a.tp_src, b.tp_src)
+        && covers_u16(a.tp_dst, b.tp_dst)
+}
+
+/// The match of the headers that are in both; `None` where there is none.
+pub fn meet(a: &Match, b: &Match) -> Option<Match>
+    ensures value { result ≡ meet_of a.now b.now }
+    ensures exact { IfSome result (λ r. (h : Header) → Has r h ↔ (Has a.now h × Has b.now h)) }
+    ensures none { IfNone result ((h : Header) → Has a.now h → Has b.now h → ⊥) }
+    ensures shared { IfSome result (λ r. (h : Header) × IsHeader h × Has r h) }
+{
+    match meet_patterns(a.pattern(), b.pattern()) {
+        Some(pattern) => Some(Match::of(pattern)),
+        None => None,
+    }
+}
+
+/// Whether each header of `b` is in `a`.
+pub fn includes(a: &Match, b: &Match) -> bool
+    ensures value { result ≡ includes_of a.now b.now }
+    ensures headers { IsTrue result ↔ Includes a.now b.now }
+{
+    includes_pattern(a.pattern(), b.pattern())
+}
+
+/// Whether each header of `b` is in `a` once `a` takes any in_port.
+pub fn includes_aside(a: &Match, b: &Match) -> bool
+    ensures value { result ≡ includes_of (any_in_port a.now) b.now }
+    ensures headers { IsTrue result ↔ Includes (any_in_port a.now) b.now }
+{
+    includes_pattern(&any_in_port(a.pattern()), b.pattern())
+}
+
+/// Whether no header is in both.
+pub fn disjoint(a: &Match, b: &Match) -> bool
+    ensures value { result ≡ is_disjoint a.now b.now }
+    ensures headers { IsTrue result ↔ Disjoint a.now b.now }
+{
+    disjoint_patterns(a.pattern(), b.pattern())
+}

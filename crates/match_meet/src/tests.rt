@@ -1,0 +1,267 @@
+mod draws;
+mod spelling;
+
+ghost use Rattle.of10_action.specs.Actions.{HasAddress};
+
+use crate::{disjoint, includes, includes_aside, meet, rewrite, rewrite_header};
+use draws::{Draws, FIRST_HEADER};
+use of10_action::Action;
+use of10_match::{Header12, Match};
+use of10_model::{Pattern, Prefix};
+use spelling::match_of;
+
+const FREE: Pattern = Pattern {
+    in_port: None,
+    dl_src: None,
+    dl_dst: None,
+    dl_vlan: None,
+    dl_vlan_pcp: None,
+    dl_type: None,
+    nw_tos: None,
+    nw_proto: None,
+    nw_src: None,
+    nw_dst: None,
+    tp_src: None,
+    tp_dst: None,
+};
+
+fn prefix(value: u32, bits: u8) -> Option<Prefix> {
+    Some(Prefix { bits, value })
+}
+
+fn from_net(value: u32, bits: u8) -> Match {
+    match_of(&Pattern {
+        dl_type: Some(0x0800),
+        nw_src: prefix(value, bits),
+        ..FREE
+    })
+}
+
+#[test]
+fn the_longer_prefix_is_the_meet(rt: HostRuntime) {
+    let net = from_net(0x0a010200, 24);
+    let wide = from_net(0x0a000000, 8);
+    let other = from_net(0x0a020000, 16);
+    assert_eq!(rt; meet(&net, &wide), Some(net));
+    assert_eq!(rt; meet(&wide, &net), Some(net));
+    assert_eq!(rt; meet(&net, &other), None);
+    assert!(rt; disjoint(&net, &other));
+    assert!(rt; includes(&wide, &net));
+    assert!(rt; !includes(&net, &wide));
+}
+
+#[test]
+fn in_port_can_be_disregarded(rt: HostRuntime) {
+    let at_one = match_of(&Pattern {
+        in_port: Some(1),
+        ..FREE
+    });
+    let at_two = match_of(&Pattern {
+        in_port: Some(2),
+        dl_type: Some(0x0800),
+        ..FREE
+    });
+    assert!(rt; !includes(&at_one, &at_two));
+    assert!(rt; includes_aside(&at_one, &at_two));
+    assert!(rt; !includes_aside(&at_two, &at_one));
+}
+
+/// A match of tagged packets of this type and protocol.
+fn tagged(kind: u16, protocol: u8) -> Pattern {
+    Pattern {
+        dl_vlan: Some(7),
+        dl_vlan_pcp: Some(3),
+        dl_type: Some(kind),
+        nw_proto: Some(protocol),
+        ..FREE
+    }
+}
+
+fn untagged() -> Pattern {
+    Pattern {
+        dl_vlan: Some(0xffff),
+        ..FREE
+    }
+}
+
+/// A match of one header: an IPv4 packet of TCP with a tag.
+fn one() -> Pattern {
+    Pattern {
+        in_port: Some(1),
+        dl_src: Some(2),
+        dl_dst: Some(3),
+        nw_tos: Some(4),
+        nw_src: prefix(0x0a000001, 32),
+        nw_dst: prefix(0x0a000002, 32),
+        tp_src: Some(80),
+        tp_dst: Some(1024),
+        ..tagged(0x0800, 6)
+    }
+}
+
+fn cover(before: &Pattern, action: Action) -> Pattern
+    requires { HasAddress action }
+{
+    *rewrite(&match_of(before), &action).pattern()
+}
+
+fn with_vlan(m: &Pattern, dl_vlan: u16, dl_vlan_pcp: Option<u8>) -> Pattern {
+    Pattern {
+        dl_vlan: Some(dl_vlan),
+        dl_vlan_pcp,
+        ..*m
+    }
+}
+
+#[test]
+fn vlan_actions_change_the_cover(rt: HostRuntime) {
+    let vid = Action::SetVlanVid(0x1005);
+    assert_eq!(rt; cover(&untagged(), vid), with_vlan(&FREE, 5, Some(0)));
+    assert_eq!(rt; cover(&one(), vid), with_vlan(&one(), 5, Some(3)));
+    assert_eq!(rt; cover(&FREE, vid), with_vlan(&FREE, 5, None));
+
+    let pcp = Action::SetVlanPcp(0x0d);
+    assert_eq!(rt; cover(&FREE, pcp), FREE);
+    assert_eq!(rt; cover(&untagged(), pcp), with_vlan(&FREE, 0, Some(5)));
+    assert_eq!(rt; cover(&one(), pcp), with_vlan(&one(), 7, Some(5)));
+
+    let strip = Action::StripVlan;
+    assert_eq!(rt; cover(&one(), strip), with_vlan(&one(), 0xffff, Some(0)));
+    let tcp = tagged(0x0800, 6);
+    assert_eq!(rt; cover(&tcp, strip), with_vlan(&tcp, 0xffff, None));
+}
+
+#[test]
+fn address_actions_change_the_cover(rt: HostRuntime) {
+    let from = Pattern {
+        dl_src: Some(9),
+        ..FREE
+    };
+    let to = Pattern {
+        dl_dst: Some(9),
+        ..FREE
+    };
+    assert_eq!(rt; cover(&FREE, Action::SetDlSrc(9)), from);
+    assert_eq!(rt; cover(&FREE, Action::SetDlDst(9)), to);
+
+    let address = 0x0a000009;
+    let icmp = tagged(0x0800, 1);
+    let arp = tagged(0x0806, 1);
+    let from = Pattern {
+        nw_src: prefix(address, 32),
+        ..icmp
+    };
+    let to = Pattern {
+        nw_dst: prefix(address, 32),
+        ..icmp
+    };
+    assert_eq!(rt; cover(&icmp, Action::SetNwSrc(address)), from);
+    assert_eq!(rt; cover(&icmp, Action::SetNwDst(address)), to);
+    assert_eq!(rt; cover(&arp, Action::SetNwSrc(address)), arp);
+    assert_eq!(rt; cover(&arp, Action::SetNwDst(address)), arp);
+}
+
+#[test]
+fn service_and_port_actions_change_the_cover(rt: HostRuntime) {
+    let udp = tagged(0x0800, 17);
+    let icmp = tagged(0x0800, 1);
+    let arp = tagged(0x0806, 1);
+    let service = Pattern {
+        nw_tos: Some(0x14),
+        ..udp
+    };
+    let from = Pattern {
+        tp_src: Some(53),
+        ..udp
+    };
+    let to = Pattern {
+        tp_dst: Some(53),
+        ..udp
+    };
+    assert_eq!(rt; cover(&udp, Action::SetNwTos(0x17)), service);
+    assert_eq!(rt; cover(&arp, Action::SetNwTos(0x17)), arp);
+    assert_eq!(rt; cover(&udp, Action::SetTpSrc(53)), from);
+    assert_eq!(rt; cover(&udp, Action::SetTpDst(53)), to);
+    assert_eq!(rt; cover(&icmp, Action::SetTpSrc(53)), icmp);
+    assert_eq!(rt; cover(&icmp, Action::SetTpDst(53)), icmp);
+    assert_eq!(rt; cover(&udp, Action::Enqueue { port: 1, queue: 2 }), udp);
+}
+
+#[test]
+fn headers_are_rewritten(rt: HostRuntime) {
+    let h = FIRST_HEADER;
+    let untagged = Header12 {
+        dl_vlan: 0xffff,
+        dl_vlan_pcp: 0,
+        ..h
+    };
+    let arp = Header12 {
+        dl_type: 0x0806,
+        ..h
+    };
+    let vid = Action::SetVlanVid(0x1005);
+    let pcp = Action::SetVlanPcp(0x0d);
+    assert_eq!(rt; rewrite_header(&h, &Action::StripVlan), untagged);
+    assert_eq!(rt; rewrite_header(&h, &vid), Header12 { dl_vlan: 5, ..h });
+    assert_eq!(rt;
+        rewrite_header(&untagged, &vid),
+        Header12 {
+            dl_vlan: 5,
+            ..untagged
+        }
+    );
+    assert_eq!(rt;
+        rewrite_header(&untagged, &pcp),
+        Header12 {
+            dl_vlan: 0,
+            dl_vlan_pcp: 5,
+            ..h
+        }
+    );
+    assert_eq!(rt;
+        rewrite_header(&h, &Action::SetNwSrc(9)),
+        Header12 { nw_src: 9, ..h }
+    );
+    assert_eq!(rt; rewrite_header(&arp, &Action::SetNwSrc(9)), arp);
+    assert_eq!(rt;
+        rewrite_header(&h, &Action::SetTpDst(9)),
+        Header12 { tp_dst: 9, ..h }
+    );
+    assert_eq!(rt; rewrite_header(&arp, &Action::SetTpDst(9)), arp);
+}
+
+/// Whether the set operations on two matches agree with whether this header is in them.
+fn agree(a: &Match, b: &Match, h: &Header12) -> bool {
+    let in_a = a.matches(h);
+    let in_b = b.matches(h);
+    let common = meet(a, b);
+    let at_port = Header12 {
+        in_port: a.pattern().in_port.unwrap_or(h.in_port),
+        ..*h
+    };
+    (in_a && in_b) == common.is_some_and(|r| r.matches(h))
+        && common.is_none() == disjoint(a, b)
+        && includes(a, b) == (common == Some(*b))
+        && (in_a || !in_b || !includes(a, b))
+        && (includes_aside(a, b) || !includes(a, b))
+        && (a.matches(&at_port) || !in_b || !includes_aside(a, b))
+}
+
+#[test]
+fn sets_and_covers_agree_with_membership(rt: HostRuntime) {
+    let mut draws = Draws::new(1);
+    let mut h = FIRST_HEADER;
+    for _ in 0..4000 {
+        let a = match_of(&draws.pattern_near(&h));
+        h = draws.changed(&h);
+        let b = match_of(&draws.pattern_near(&h));
+        h = draws.changed(&h);
+        let action = draws.action();
+        let after = rewrite_header(&h, &action);
+        assert!(rt; agree(&a, &b, &h), "{a:?} and {b:?} at {h:?}");
+        assert!(rt;
+            !a.matches(&h) || rewrite(&a, &action).matches(&after),
+            "{a:?} after {action:?} at {h:?}"
+        );
+    }
+}

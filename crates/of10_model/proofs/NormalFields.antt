@@ -1,0 +1,53 @@
+-- What it is for a match to be normal, field by field.
+use Rattle.std.proofs.Common.{ℕ, ◌≡◌, Bool, Option, refl, sym, ◌∙◌, ap}
+use Rattle.of10_model.specs.declared.pattern.Prefix.{Prefix}
+use Rattle.of10_model.specs.declared.pattern.Pattern.{Pattern}
+use Rattle.of10_model.specs.Normal.{is_exact, has_vlan, has_network, has_service, has_ports, kept, kept_prefix, applied}
+use Rattle.of10_model.proofs.Applied.{same_fields}
+
+-- each field without its prerequisite is meaningless already
+pub record NormalFields (m : Pattern) : Type 0 where
+  pub on_dl_vlan_pcp : kept (is_exact m) (has_vlan m.dl_vlan) m.dl_vlan_pcp ≡ m.dl_vlan_pcp
+  pub on_nw_tos : kept (is_exact m) (has_service m.dl_type) m.nw_tos ≡ m.nw_tos
+  pub on_nw_proto : kept (is_exact m) (has_network m.dl_type) m.nw_proto ≡ m.nw_proto
+  pub on_nw_src : kept_prefix (is_exact m) (has_network m.dl_type) m.nw_src ≡ m.nw_src
+  pub on_nw_dst : kept_prefix (is_exact m) (has_network m.dl_type) m.nw_dst ≡ m.nw_dst
+  pub on_tp_src : kept (is_exact m) (has_ports m.dl_type m.nw_proto) m.tp_src ≡ m.tp_src
+  pub on_tp_dst : kept (is_exact m) (has_ports m.dl_type m.nw_proto) m.tp_dst ≡ m.tp_dst
+
+kept_as : (exact : Bool) (kind proto proto' c : Option ℕ) → proto' ≡ proto → kept exact (has_ports kind proto') c ≡ c → kept exact (has_ports kind proto) c ≡ c
+kept_as exact kind proto proto' c e h = rw e at h
+
+pub normal_fields : (m : Pattern) → applied m ≡ m → NormalFields m
+unfolding applied
+normal_fields m e =
+    let proto' = kept (is_exact m) (has_network m.dl_type) m.nw_proto in
+    let proto : proto' ≡ m.nw_proto = ap (λ (p : Pattern). p.nw_proto) e in
+    record {
+      on_dl_vlan_pcp = ap (λ (p : Pattern). p.dl_vlan_pcp) e;
+      on_nw_tos = ap (λ (p : Pattern). p.nw_tos) e;
+      on_nw_proto = ap (λ (p : Pattern). p.nw_proto) e;
+      on_nw_src = ap (λ (p : Pattern). p.nw_src) e;
+      on_nw_dst = ap (λ (p : Pattern). p.nw_dst) e;
+      on_tp_src = kept_as (is_exact m) m.dl_type m.nw_proto proto' m.tp_src proto (ap (λ (p : Pattern). p.tp_src) e);
+      on_tp_dst = kept_as (is_exact m) m.dl_type m.nw_proto proto' m.tp_dst proto (ap (λ (p : Pattern). p.tp_dst) e);
+    }
+
+pub applied_same : (m : Pattern) → NormalFields m → applied m ≡ m
+unfolding applied
+applied_same m n =
+    let proto' = kept (is_exact m) (has_network m.dl_type) m.nw_proto in
+    same_fields (applied m) m (record {
+      in_port = refl;
+      dl_src = refl;
+      dl_dst = refl;
+      dl_vlan = refl;
+      dl_vlan_pcp = n.on_dl_vlan_pcp;
+      dl_type = refl;
+      nw_tos = n.on_nw_tos;
+      nw_proto = n.on_nw_proto;
+      nw_src = n.on_nw_src;
+      nw_dst = n.on_nw_dst;
+      tp_src = kept_as (is_exact m) m.dl_type proto' m.nw_proto m.tp_src (sym n.on_nw_proto) n.on_tp_src;
+      tp_dst = kept_as (is_exact m) m.dl_type proto' m.nw_proto m.tp_dst (sym n.on_nw_proto) n.on_tp_dst;
+    })
