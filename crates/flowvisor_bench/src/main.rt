@@ -21,12 +21,13 @@ const MOST_CALLS: u64 = 100_000_000_000;
 const USAGE: &str = "usage: flowvisor_bench matches|meet|includes|all COUNT\n";
 
 /// What the words ask for.
+#[derive(Drop)]
 struct Order {
     benchmark: Option<Benchmark>,
     count: u64,
 }
 
-fn order(rt: &HostRuntime) -> Option<Order> {
+fn read_words(rt: &HostRuntime) -> Option<Order> {
     let mut words = env::args(rt).ok()?.skip(1);
     let name = words.next()?;
     let count = words.next()?.parse::<u64>().ok()?;
@@ -41,7 +42,12 @@ fn order(rt: &HostRuntime) -> Option<Order> {
 }
 
 /// Runs one benchmark and prints what it counted, and how fast it was.
-fn measure(rt: &HostRuntime, samples: &Samples, benchmark: Benchmark, count: u64) -> io::Result<()> {
+fn measure(
+    rt: &HostRuntime,
+    samples: &Samples,
+    benchmark: Benchmark,
+    count: u64,
+) -> io::Result<()> {
     let name = benchmark.name();
     let start = Instant::now(rt)?;
     let found = run(samples, benchmark, count);
@@ -57,7 +63,7 @@ fn measure(rt: &HostRuntime, samples: &Samples, benchmark: Benchmark, count: u64
 }
 
 fn main(rt: HostRuntime) -> io::Result<ExitCode> {
-    let Some(order) = order(&rt) else {
+    let Some(order) = read_words(&rt) else {
         rt.eprint(USAGE)?;
         return Ok(ExitCode::from(1));
     };

@@ -5,21 +5,27 @@ use of10_match::{Header12, Match};
 const COUNT: usize = 16;
 
 /// As many matches as headers.
+#[derive(Drop)]
 pub struct Samples {
     patterns: [Match; COUNT],
     headers: [Header12; COUNT],
 }
 
-/// A match of TCP over IPv4 that leaves more fields free the more often its number divides by two.
+/// A match of TCP over IPv4 that leaves more or fewer fields free, by its number.
 fn pattern(number: u8) -> Match {
     let mut bytes = [0; 40];
-    bytes[0..4].copy_from_slice(&wildcards(number));
-    bytes[5] = number % 4;
-    bytes[18..20].copy_from_slice(&[0xff, 0xff]);
+    let [first, second, third, fourth] = wildcards(number);
+    bytes[0] = first;
+    bytes[1] = second;
+    bytes[2] = third;
+    bytes[3] = fourth;
+    // The port of entry, the type and the protocol.
+    bytes[5] = number / 4 % 4;
     bytes[22] = 0x08;
     bytes[25] = 6;
-    bytes[28..32].copy_from_slice(&[10, number % 2, 0, number]);
-    bytes[32..36].copy_from_slice(&[10, 0, number % 4, 1]);
+    // The source's address, and the destination's port.
+    bytes[28] = 10;
+    bytes[29] = number / 4 % 2;
     bytes[39] = 80;
     Match::decode(&bytes)
 }
