@@ -1,5 +1,5 @@
 -- There is no meet exactly where no header is in both.
-use Rattle.std.proofs.Common.{IsTrue, ◌≡◌, ◌↔◌, true, false, Option, Some, None, refl, sym, ◌∙◌}
+use Rattle.std.proofs.Common.{IsTrue, ◌≡◌, ◌↔◌, true, false, Option, Some, None, refl, sym}
 use Rattle.std.proofs.lemmas.Bool.{true≢false}
 use Rattle.of10_model.specs.declared.pattern.Pattern.{Pattern}
 use Rattle.of10_model.specs.Header.{Header, IsHeader}

@@ -1,6 +1,6 @@
 -- The test of inclusion answers by the headers, and two matches with the same headers are one.
-use Rattle.std.proofs.Common.{IsTrue, ℕ, suc, ◌≡◌, ◌==◌, ◌↔◌, ◌+◌, ◌-◌, ◌*◌, ◌/◌, ◌%◌, ◌^◌, ◌<◌, ◌≤◌, ◌&&◌, ◌⊎◌, inl, inr, Bool, true, false, leb, Option, Some, None, refl, sym, ◌∙◌, ap, arith, eqb-true, eq-eqb}
-use Rattle.std.proofs.lemmas.Bool.{true≢false, and_parts, and_from, leb-true, leb-false, le-leb, cases_Bool}
+use Rattle.std.proofs.Common.{IsTrue, ℕ, suc, ◌≡◌, ◌↔◌, ◌+◌, ◌-◌, ◌*◌, ◌/◌, ◌%◌, ◌^◌, ◌<◌, ◌≤◌, inl, inr, leb, Option, Some, None, refl, sym, ◌∙◌, ap, arith, eqb-true, eq-eqb}
+use Rattle.std.proofs.lemmas.Bool.{true≢false, and_parts, and_from, leb-true, leb-false, cases_Bool}
 use Rattle.std.proofs.lemmas.Nat.{shl-shr, shr-shr, shl_below, shr_below, div-add-mod'}
 use Rattle.std.proofs.Math.Nat.{two-pow-succ}
 use Rattle.of10_model.specs.declared.pattern.Prefix.{Prefix}
@@ -101,9 +101,9 @@ differ more bits value lt le h =
       low_alike = rw ignored at (shifted (m + m) m k (omega arith));
       high_alike = rw ignored at (shifted (m + m + 1) m k (omega arith));
       apart = λ e.
-        let same = coarser ((m + m) * 2 ^ k) ((m + m + 1) * 2 ^ k) (32 - more) k (omega arith) e in
-        let equal : m + m ≡ m + m + 1 = sym (shl-shr (m + m) k) ∙ same ∙ shl-shr (m + m + 1) k in
-        omega arith;
+          let same = coarser ((m + m) * 2 ^ k) ((m + m + 1) * 2 ^ k) (32 - more) k (omega arith) e in
+          let equal : m + m ≡ m + m + 1 = sym (shl-shr (m + m) k) ∙ same ∙ shl-shr (m + m + 1) k in
+          omega arith;
     }
 
 no_longer : (p q : Prefix) → IsPrefix (Some p) → IsPrefix (Some q) → ((x : ℕ) → x < 2 ^ 32 → MeetsPrefix (Some q) x → MeetsPrefix (Some p) x) → q.bits < p.bits → ⊥

@@ -1,5 +1,5 @@
 -- The meet of two normal matches is normal.
-use Rattle.std.proofs.Common.{IsTrue, ℕ, ◌≡◌, ◌==◌, ◌≤◌, ◌<◌, ◌^◌, ◌&&◌, ◌||◌, ◌⊎◌, inl, inr, Bool, true, false, leb, if◌then◌else◌, Option, Some, None, refl, sym, ◌∙◌, arith, eqb-true, eq-eqb}
+use Rattle.std.proofs.Common.{IsTrue, ℕ, ◌≡◌, ◌==◌, ◌^◌, ◌||◌, ◌⊎◌, inl, inr, Bool, true, false, leb, if◌then◌else◌, Option, Some, None, refl, sym, ◌∙◌, arith, eqb-true, eq-eqb}
 use Rattle.std.proofs.lemmas.Bool.{true≢false, and_parts, and_from, leb-true, leb-false}
 use Rattle.of10_model.specs.declared.pattern.Prefix.{Prefix}
 use Rattle.of10_model.specs.declared.pattern.Pattern.{Pattern}
@@ -7,7 +7,7 @@ use Rattle.of10_model.specs.Normal.{is_value, is_given, is_whole, is_exact, has_
 use Rattle.of10_model.specs.Meet.{both, begins_as, both_prefix, meet_of}
 use Rattle.of10_model.proofs.Twelve.{AllTrue, each_true, true_of_each}
 use Rattle.of10_model.proofs.Meeting.{meet_fields}
-use Rattle.of10_model.proofs.NormalFields.{NormalFields, normal_fields, applied_same}
+use Rattle.of10_model.proofs.NormalFields.{normal_fields, applied_same}
 
 -- ---- a constraint of the meet is one of the two
 
@@ -77,7 +77,6 @@ whole_left : (c d r : Option Prefix) → IsPrefix d → both_prefix c d ≡ Some
 whole_left None d r i e h = absurd (true≢false (sym h))
 whole_left (Some p) None r i e h = rw (← some_is (Some p) r e) h
 whole_left (Some p) (Some q) r i e h = whole_case p q r (leb p.bits q.bits) refl i h e
-
 
 whole_right_case : (p q : Prefix) (r : Option Prefix) (t : Bool) → leb p.bits q.bits ≡ t → IsPrefix (Some p) → IsTrue (q.bits == 32)
     → (if t then (if begins_as p q.value then Some (Some q) else None) else (if begins_as q p.value then Some (Some p) else None)) ≡ Some r
@@ -210,34 +209,36 @@ IsNormal-meet a b r na nb e =
     let xa : IsTrue (is_exact a) → IsTrue (is_exact r) = exact_left a b r nb.0 e in
     let xb : IsTrue (is_exact b) → IsTrue (is_exact r) = exact_right a b r na.0 e in
     let each : IsTrue (is_exact r) → AllTrue (is_given r.in_port) (is_given r.dl_src) (is_given r.dl_dst) (is_given r.dl_vlan) (is_given r.dl_vlan_pcp) (is_given r.dl_type) (is_given r.nw_tos) (is_given r.nw_proto) (is_whole r.nw_src) (is_whole r.nw_dst) (is_given r.tp_src) (is_given r.tp_dst) =
-    each_true (is_given r.in_port) (is_given r.dl_src) (is_given r.dl_dst) (is_given r.dl_vlan) (is_given r.dl_vlan_pcp) (is_given r.dl_type) (is_given r.nw_tos) (is_given r.nw_proto) (is_whole r.nw_src) (is_whole r.nw_dst) (is_given r.tp_src) (is_given r.tp_dst) in
-    (IsInRange-meet a b r na.0 nb.0 e, applied_same r (record {
-      on_dl_vlan_pcp = kept_both (is_exact a) (is_exact b) (is_exact r) (has_vlan a.dl_vlan) (has_vlan b.dl_vlan) (has_vlan r.dl_vlan) a.dl_vlan_pcp b.dl_vlan_pcp r.dl_vlan_pcp fields.is_dl_vlan_pcp
-        (passes_left has_vlan a.dl_vlan b.dl_vlan r.dl_vlan refl fields.is_dl_vlan)
-        (passes_right has_vlan a.dl_vlan b.dl_vlan r.dl_vlan refl fields.is_dl_vlan)
-        xa xb (λ x. (each x).is_dl_vlan_pcp) fa.on_dl_vlan_pcp fb.on_dl_vlan_pcp;
-      on_nw_tos = kept_both (is_exact a) (is_exact b) (is_exact r) (has_service a.dl_type) (has_service b.dl_type) (has_service r.dl_type) a.nw_tos b.nw_tos r.nw_tos fields.is_nw_tos
-        (passes_left has_service a.dl_type b.dl_type r.dl_type refl fields.is_dl_type)
-        (passes_right has_service a.dl_type b.dl_type r.dl_type refl fields.is_dl_type)
-        xa xb (λ x. (each x).is_nw_tos) fa.on_nw_tos fb.on_nw_tos;
-      on_nw_proto = kept_both (is_exact a) (is_exact b) (is_exact r) (has_network a.dl_type) (has_network b.dl_type) (has_network r.dl_type) a.nw_proto b.nw_proto r.nw_proto fields.is_nw_proto
-        (passes_left has_network a.dl_type b.dl_type r.dl_type refl fields.is_dl_type)
-        (passes_right has_network a.dl_type b.dl_type r.dl_type refl fields.is_dl_type)
-        xa xb (λ x. (each x).is_nw_proto) fa.on_nw_proto fb.on_nw_proto;
-      on_nw_src = kept_prefix_both (is_exact a) (is_exact b) (is_exact r) (has_network a.dl_type) (has_network b.dl_type) (has_network r.dl_type) a.nw_src b.nw_src r.nw_src fields.is_nw_src
-        (passes_left has_network a.dl_type b.dl_type r.dl_type refl fields.is_dl_type)
-        (passes_right has_network a.dl_type b.dl_type r.dl_type refl fields.is_dl_type)
-        xa xb (λ x. (each x).is_nw_src) fa.on_nw_src fb.on_nw_src;
-      on_nw_dst = kept_prefix_both (is_exact a) (is_exact b) (is_exact r) (has_network a.dl_type) (has_network b.dl_type) (has_network r.dl_type) a.nw_dst b.nw_dst r.nw_dst fields.is_nw_dst
-        (passes_left has_network a.dl_type b.dl_type r.dl_type refl fields.is_dl_type)
-        (passes_right has_network a.dl_type b.dl_type r.dl_type refl fields.is_dl_type)
-        xa xb (λ x. (each x).is_nw_dst) fa.on_nw_dst fb.on_nw_dst;
-      on_tp_src = kept_both (is_exact a) (is_exact b) (is_exact r) (has_ports a.dl_type a.nw_proto) (has_ports b.dl_type b.nw_proto) (has_ports r.dl_type r.nw_proto) a.tp_src b.tp_src r.tp_src fields.is_tp_src
-        (ports_left a.dl_type b.dl_type r.dl_type a.nw_proto b.nw_proto r.nw_proto fields.is_dl_type fields.is_nw_proto)
-        (ports_right a.dl_type b.dl_type r.dl_type a.nw_proto b.nw_proto r.nw_proto fields.is_dl_type fields.is_nw_proto)
-        xa xb (λ x. (each x).is_tp_src) fa.on_tp_src fb.on_tp_src;
-      on_tp_dst = kept_both (is_exact a) (is_exact b) (is_exact r) (has_ports a.dl_type a.nw_proto) (has_ports b.dl_type b.nw_proto) (has_ports r.dl_type r.nw_proto) a.tp_dst b.tp_dst r.tp_dst fields.is_tp_dst
-        (ports_left a.dl_type b.dl_type r.dl_type a.nw_proto b.nw_proto r.nw_proto fields.is_dl_type fields.is_nw_proto)
-        (ports_right a.dl_type b.dl_type r.dl_type a.nw_proto b.nw_proto r.nw_proto fields.is_dl_type fields.is_nw_proto)
-        xa xb (λ x. (each x).is_tp_dst) fa.on_tp_dst fb.on_tp_dst;
-    }))
+    each_true (is_given r.in_port) (is_given r.dl_src) (is_given r.dl_dst) (is_given r.dl_vlan) (is_given r.dl_vlan_pcp) (is_given r.dl_type) (is_given r.nw_tos) (is_given r.nw_proto) (is_whole r.nw_src) (is_whole r.nw_dst) (is_given r.tp_src) (is_given r.tp_dst) in (
+      IsInRange-meet a b r na.0 nb.0 e,
+      applied_same r (record {
+        on_dl_vlan_pcp = kept_both (is_exact a) (is_exact b) (is_exact r) (has_vlan a.dl_vlan) (has_vlan b.dl_vlan) (has_vlan r.dl_vlan) a.dl_vlan_pcp b.dl_vlan_pcp r.dl_vlan_pcp fields.is_dl_vlan_pcp
+            (passes_left has_vlan a.dl_vlan b.dl_vlan r.dl_vlan refl fields.is_dl_vlan)
+            (passes_right has_vlan a.dl_vlan b.dl_vlan r.dl_vlan refl fields.is_dl_vlan)
+            xa xb (λ x. (each x).is_dl_vlan_pcp) fa.on_dl_vlan_pcp fb.on_dl_vlan_pcp;
+        on_nw_tos = kept_both (is_exact a) (is_exact b) (is_exact r) (has_service a.dl_type) (has_service b.dl_type) (has_service r.dl_type) a.nw_tos b.nw_tos r.nw_tos fields.is_nw_tos
+            (passes_left has_service a.dl_type b.dl_type r.dl_type refl fields.is_dl_type)
+            (passes_right has_service a.dl_type b.dl_type r.dl_type refl fields.is_dl_type)
+            xa xb (λ x. (each x).is_nw_tos) fa.on_nw_tos fb.on_nw_tos;
+        on_nw_proto = kept_both (is_exact a) (is_exact b) (is_exact r) (has_network a.dl_type) (has_network b.dl_type) (has_network r.dl_type) a.nw_proto b.nw_proto r.nw_proto fields.is_nw_proto
+            (passes_left has_network a.dl_type b.dl_type r.dl_type refl fields.is_dl_type)
+            (passes_right has_network a.dl_type b.dl_type r.dl_type refl fields.is_dl_type)
+            xa xb (λ x. (each x).is_nw_proto) fa.on_nw_proto fb.on_nw_proto;
+        on_nw_src = kept_prefix_both (is_exact a) (is_exact b) (is_exact r) (has_network a.dl_type) (has_network b.dl_type) (has_network r.dl_type) a.nw_src b.nw_src r.nw_src fields.is_nw_src
+            (passes_left has_network a.dl_type b.dl_type r.dl_type refl fields.is_dl_type)
+            (passes_right has_network a.dl_type b.dl_type r.dl_type refl fields.is_dl_type)
+            xa xb (λ x. (each x).is_nw_src) fa.on_nw_src fb.on_nw_src;
+        on_nw_dst = kept_prefix_both (is_exact a) (is_exact b) (is_exact r) (has_network a.dl_type) (has_network b.dl_type) (has_network r.dl_type) a.nw_dst b.nw_dst r.nw_dst fields.is_nw_dst
+            (passes_left has_network a.dl_type b.dl_type r.dl_type refl fields.is_dl_type)
+            (passes_right has_network a.dl_type b.dl_type r.dl_type refl fields.is_dl_type)
+            xa xb (λ x. (each x).is_nw_dst) fa.on_nw_dst fb.on_nw_dst;
+        on_tp_src = kept_both (is_exact a) (is_exact b) (is_exact r) (has_ports a.dl_type a.nw_proto) (has_ports b.dl_type b.nw_proto) (has_ports r.dl_type r.nw_proto) a.tp_src b.tp_src r.tp_src fields.is_tp_src
+            (ports_left a.dl_type b.dl_type r.dl_type a.nw_proto b.nw_proto r.nw_proto fields.is_dl_type fields.is_nw_proto)
+            (ports_right a.dl_type b.dl_type r.dl_type a.nw_proto b.nw_proto r.nw_proto fields.is_dl_type fields.is_nw_proto)
+            xa xb (λ x. (each x).is_tp_src) fa.on_tp_src fb.on_tp_src;
+        on_tp_dst = kept_both (is_exact a) (is_exact b) (is_exact r) (has_ports a.dl_type a.nw_proto) (has_ports b.dl_type b.nw_proto) (has_ports r.dl_type r.nw_proto) a.tp_dst b.tp_dst r.tp_dst fields.is_tp_dst
+            (ports_left a.dl_type b.dl_type r.dl_type a.nw_proto b.nw_proto r.nw_proto fields.is_dl_type fields.is_nw_proto)
+            (ports_right a.dl_type b.dl_type r.dl_type a.nw_proto b.nw_proto r.nw_proto fields.is_dl_type fields.is_nw_proto)
+            xa xb (λ x. (each x).is_tp_dst) fa.on_tp_dst fb.on_tp_dst;
+      }),
+    )

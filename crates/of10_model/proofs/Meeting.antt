@@ -1,5 +1,5 @@
 -- The meet of two matches has exactly the headers in both.
-use Rattle.std.proofs.Common.{IsTrue, ℕ, ◌≡◌, ◌==◌, ◌↔◌, ◌+◌, ◌-◌, ◌/◌, ◌^◌, ◌≤◌, Bool, true, false, leb, if◌then◌else◌, Option, Some, None, refl, sym, ◌∙◌, ap, arith, eqb-true, eq-eqb}
+use Rattle.std.proofs.Common.{IsTrue, ℕ, ◌≡◌, ◌==◌, ◌↔◌, ◌+◌, ◌-◌, ◌/◌, ◌^◌, ◌≤◌, Bool, true, false, leb, if◌then◌else◌, Option, Some, None, refl, sym, ◌∙◌, arith, eqb-true, eq-eqb}
 use Rattle.std.proofs.lemmas.Nat.{shr-shr}
 use Rattle.std.proofs.lemmas.Bool.{leb-true, leb-false, true≢false}
 use Rattle.of10_model.specs.declared.pattern.Prefix.{Prefix}
@@ -149,7 +149,6 @@ never_none : {C : Type 0} (In : C → ℕ → Type 0) (a b : C) (o : Option C) (
 unfolding Answers
 never_none In a b o x h p q e = (rw e at h) x p q
 
-
 -- what each field of the meet allows
 record EachBoth (a b r : Pattern) : Type 0 where
   on_in_port : IsBoth Meets a.in_port b.in_port r.in_port
@@ -186,47 +185,52 @@ each_both a b r e =
 -- a header is in the meet exactly where it is in both
 pub some_meet : (a b r : Pattern) → meet_of a b ≡ Some r → (h : Header) → Has r h ↔ (Has a h × Has b h)
 some_meet a b r e h =
-    let each = each_both a b r e in
-    (λ k. (record {
-      in_port = each.on_in_port.left h.in_port k.in_port;
-      dl_src = each.on_dl_src.left h.dl_src k.dl_src;
-      dl_dst = each.on_dl_dst.left h.dl_dst k.dl_dst;
-      dl_vlan = each.on_dl_vlan.left h.dl_vlan k.dl_vlan;
-      dl_vlan_pcp = each.on_dl_vlan_pcp.left h.dl_vlan_pcp k.dl_vlan_pcp;
-      dl_type = each.on_dl_type.left h.dl_type k.dl_type;
-      nw_tos = each.on_nw_tos.left h.nw_tos k.nw_tos;
-      nw_proto = each.on_nw_proto.left h.nw_proto k.nw_proto;
-      nw_src = each.on_nw_src.left h.nw_src k.nw_src;
-      nw_dst = each.on_nw_dst.left h.nw_dst k.nw_dst;
-      tp_src = each.on_tp_src.left h.tp_src k.tp_src;
-      tp_dst = each.on_tp_dst.left h.tp_dst k.tp_dst;
-    }, record {
-      in_port = each.on_in_port.right h.in_port k.in_port;
-      dl_src = each.on_dl_src.right h.dl_src k.dl_src;
-      dl_dst = each.on_dl_dst.right h.dl_dst k.dl_dst;
-      dl_vlan = each.on_dl_vlan.right h.dl_vlan k.dl_vlan;
-      dl_vlan_pcp = each.on_dl_vlan_pcp.right h.dl_vlan_pcp k.dl_vlan_pcp;
-      dl_type = each.on_dl_type.right h.dl_type k.dl_type;
-      nw_tos = each.on_nw_tos.right h.nw_tos k.nw_tos;
-      nw_proto = each.on_nw_proto.right h.nw_proto k.nw_proto;
-      nw_src = each.on_nw_src.right h.nw_src k.nw_src;
-      nw_dst = each.on_nw_dst.right h.nw_dst k.nw_dst;
-      tp_src = each.on_tp_src.right h.tp_src k.tp_src;
-      tp_dst = each.on_tp_dst.right h.tp_dst k.tp_dst;
-    }), λ k. record {
-      in_port = each.on_in_port.within h.in_port k.0.in_port k.1.in_port;
-      dl_src = each.on_dl_src.within h.dl_src k.0.dl_src k.1.dl_src;
-      dl_dst = each.on_dl_dst.within h.dl_dst k.0.dl_dst k.1.dl_dst;
-      dl_vlan = each.on_dl_vlan.within h.dl_vlan k.0.dl_vlan k.1.dl_vlan;
-      dl_vlan_pcp = each.on_dl_vlan_pcp.within h.dl_vlan_pcp k.0.dl_vlan_pcp k.1.dl_vlan_pcp;
-      dl_type = each.on_dl_type.within h.dl_type k.0.dl_type k.1.dl_type;
-      nw_tos = each.on_nw_tos.within h.nw_tos k.0.nw_tos k.1.nw_tos;
-      nw_proto = each.on_nw_proto.within h.nw_proto k.0.nw_proto k.1.nw_proto;
-      nw_src = each.on_nw_src.within h.nw_src k.0.nw_src k.1.nw_src;
-      nw_dst = each.on_nw_dst.within h.nw_dst k.0.nw_dst k.1.nw_dst;
-      tp_src = each.on_tp_src.within h.tp_src k.0.tp_src k.1.tp_src;
-      tp_dst = each.on_tp_dst.within h.tp_dst k.0.tp_dst k.1.tp_dst;
-    })
+    let each = each_both a b r e in (
+      λ k. (
+        record {
+          in_port = each.on_in_port.left h.in_port k.in_port;
+          dl_src = each.on_dl_src.left h.dl_src k.dl_src;
+          dl_dst = each.on_dl_dst.left h.dl_dst k.dl_dst;
+          dl_vlan = each.on_dl_vlan.left h.dl_vlan k.dl_vlan;
+          dl_vlan_pcp = each.on_dl_vlan_pcp.left h.dl_vlan_pcp k.dl_vlan_pcp;
+          dl_type = each.on_dl_type.left h.dl_type k.dl_type;
+          nw_tos = each.on_nw_tos.left h.nw_tos k.nw_tos;
+          nw_proto = each.on_nw_proto.left h.nw_proto k.nw_proto;
+          nw_src = each.on_nw_src.left h.nw_src k.nw_src;
+          nw_dst = each.on_nw_dst.left h.nw_dst k.nw_dst;
+          tp_src = each.on_tp_src.left h.tp_src k.tp_src;
+          tp_dst = each.on_tp_dst.left h.tp_dst k.tp_dst;
+        },
+        record {
+          in_port = each.on_in_port.right h.in_port k.in_port;
+          dl_src = each.on_dl_src.right h.dl_src k.dl_src;
+          dl_dst = each.on_dl_dst.right h.dl_dst k.dl_dst;
+          dl_vlan = each.on_dl_vlan.right h.dl_vlan k.dl_vlan;
+          dl_vlan_pcp = each.on_dl_vlan_pcp.right h.dl_vlan_pcp k.dl_vlan_pcp;
+          dl_type = each.on_dl_type.right h.dl_type k.dl_type;
+          nw_tos = each.on_nw_tos.right h.nw_tos k.nw_tos;
+          nw_proto = each.on_nw_proto.right h.nw_proto k.nw_proto;
+          nw_src = each.on_nw_src.right h.nw_src k.nw_src;
+          nw_dst = each.on_nw_dst.right h.nw_dst k.nw_dst;
+          tp_src = each.on_tp_src.right h.tp_src k.tp_src;
+          tp_dst = each.on_tp_dst.right h.tp_dst k.tp_dst;
+        },
+      ),
+      λ k. record {
+        in_port = each.on_in_port.within h.in_port k.0.in_port k.1.in_port;
+        dl_src = each.on_dl_src.within h.dl_src k.0.dl_src k.1.dl_src;
+        dl_dst = each.on_dl_dst.within h.dl_dst k.0.dl_dst k.1.dl_dst;
+        dl_vlan = each.on_dl_vlan.within h.dl_vlan k.0.dl_vlan k.1.dl_vlan;
+        dl_vlan_pcp = each.on_dl_vlan_pcp.within h.dl_vlan_pcp k.0.dl_vlan_pcp k.1.dl_vlan_pcp;
+        dl_type = each.on_dl_type.within h.dl_type k.0.dl_type k.1.dl_type;
+        nw_tos = each.on_nw_tos.within h.nw_tos k.0.nw_tos k.1.nw_tos;
+        nw_proto = each.on_nw_proto.within h.nw_proto k.0.nw_proto k.1.nw_proto;
+        nw_src = each.on_nw_src.within h.nw_src k.0.nw_src k.1.nw_src;
+        nw_dst = each.on_nw_dst.within h.nw_dst k.0.nw_dst k.1.nw_dst;
+        tp_src = each.on_tp_src.within h.tp_src k.0.tp_src k.1.tp_src;
+        tp_dst = each.on_tp_dst.within h.tp_dst k.0.tp_dst k.1.tp_dst;
+      },
+    )
 
 -- where there is no meet no header is in both
 pub none_meet : (a b : Pattern) → meet_of a b ≡ None → (h : Header) → Has a h → Has b h → ⊥

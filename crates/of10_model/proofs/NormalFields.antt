@@ -1,6 +1,5 @@
 -- What it is for a match to be normal, field by field.
-use Rattle.std.proofs.Common.{ℕ, ◌≡◌, Bool, Option, refl, sym, ◌∙◌, ap}
-use Rattle.of10_model.specs.declared.pattern.Prefix.{Prefix}
+use Rattle.std.proofs.Common.{ℕ, ◌≡◌, Bool, Option, refl, sym, ap}
 use Rattle.of10_model.specs.declared.pattern.Pattern.{Pattern}
 use Rattle.of10_model.specs.Normal.{is_exact, has_vlan, has_network, has_service, has_ports, kept, kept_prefix, applied}
 use Rattle.of10_model.proofs.Applied.{same_fields}

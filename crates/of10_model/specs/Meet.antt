@@ -45,8 +45,18 @@ meet_of a b = do
   tp_src ← both a.tp_src b.tp_src
   tp_dst ← both a.tp_dst b.tp_dst
   Some (record {
-    in_port = in_port; dl_src = dl_src; dl_dst = dl_dst; dl_vlan = dl_vlan; dl_vlan_pcp = dl_vlan_pcp; dl_type = dl_type;
-    nw_tos = nw_tos; nw_proto = nw_proto; nw_src = nw_src; nw_dst = nw_dst; tp_src = tp_src; tp_dst = tp_dst
+    in_port = in_port;
+    dl_src = dl_src;
+    dl_dst = dl_dst;
+    dl_vlan = dl_vlan;
+    dl_vlan_pcp = dl_vlan_pcp;
+    dl_type = dl_type;
+    nw_tos = nw_tos;
+    nw_proto = nw_proto;
+    nw_src = nw_src;
+    nw_dst = nw_dst;
+    tp_src = tp_src;
+    tp_dst = tp_dst;
   })
 
 -- no header is in both
