@@ -1,5 +1,5 @@
 -- The policy of the tests can be loaded.
-use Rattle.std.proofs.Common.{◌≡◌, ℕ, ◌<◌, ◌≤◌, IsTrue, List, [], ◌∷◌, length, AllPairs, All, IsSomeAnd, Option, Some, None, count_by, codes, refl, sym, ap, ◌∙◌, arith, not, ◌≢◌}
+use Rattle.std.proofs.Common.{◌≡◌, ℕ, ◌<◌, ◌≤◌, IsTrue, List, [], ◌∷◌, length, AllPairs, All, IfSome, Option, Some, None, count_by, codes, refl, sym, ap, ◌∙◌, arith, not, ◌≢◌}
 use Rattle.std.proofs.lemmas.List.Elements.{All-from_recursion, All-nil}
 use Rattle.std.proofs.lemmas.List.Filters.{length-filter_both}
 use Rattle.std.proofs.lemmas.List.Sums.{length-filter}
@@ -102,7 +102,7 @@ IsLoadable-example = record {
       AllPairs-cons (λ s t. s.name ≢ t.name) web (shell ∷ [])
       (All-from_recursion (λ t. web.name ≢ t.name) (shell ∷ []) (λ e. let sizes : 3 ≡ 7 = ap length e in absurd (omega arith), tt))
       (AllPairs-cons (λ s t. s.name ≢ t.name) shell [] (All-nil _) (λ i j d lt long. absurd (omega arith)));
-  writers_known = All-from_recursion (λ r. IsSomeAnd r.writer (λ w. w < length ss)) rs (omega arith, (omega arith, (omega arith, (omega arith, tt))));
+  writers_known = All-from_recursion (λ r. IfSome r.writer (λ w. w < length ss)) rs (omega arith, (omega arith, (omega arith, (omega arith, tt))));
   no_readers = All-from_recursion (λ r. r.readers ≡ 0) rs (refl, (refl, (refl, (refl, tt))));
   few_writes = λ slot. few slot rs (omega arith);
   apart =

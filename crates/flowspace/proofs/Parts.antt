@@ -1,5 +1,5 @@
 -- What holds of a policy holds of its part for one switch.
-use Rattle.std.proofs.Common.{◌≡◌, ℕ, suc, ◌<◌, ◌≤◌, ◌^◌, List, [], ◌∷◌, cond, leb, length, filter, AllPairs, All, IfSome, IsSomeAnd, Option, Some, None, count_by, refl, arith, inl, inr, not}
+use Rattle.std.proofs.Common.{◌≡◌, ℕ, suc, ◌<◌, ◌≤◌, ◌^◌, List, [], ◌∷◌, cond, leb, length, filter, AllPairs, All, IfSome, Option, Some, None, count_by, refl, arith, inl, inr, not}
 use Rattle.std.proofs.lemmas.Bool.{cases_Bool}
 use Rattle.std.proofs.lemmas.Nat.{pow_pos}
 use Rattle.std.proofs.lemmas.List.Sorted.{All-permutation, length_permutation, sum_by-IsPermutation}
@@ -82,10 +82,6 @@ Share-turn a b s = record {
   in_second = s.in_first;
 }
 
-known : (o : Option ℕ) (n : ℕ) → IsSomeAnd o (λ w. w < n) → IfSome o (λ w. w < n)
-known None n h = tt
-known (Some w) n h = h
-
 pub IsPolicy-IsLoadable : (ss : List Slice) (rs : List Rule) → IsLoadable ss rs → IsPolicy ss rs
 IsPolicy-IsLoadable ss rs h = record {
   proper = record {
@@ -95,7 +91,7 @@ IsPolicy-IsLoadable ss rs h = record {
     plain_slices = h.plain_slices;
     plain_rules = h.plain_rules;
     names_differ = h.names_differ;
-    writers_known = λ k d lt. known _ _ (h.writers_known k d lt);
+    writers_known = h.writers_known;
     readers_known = λ k d lt. rw (h.no_readers k d lt) (pow_pos (length ss));
     few_writes = h.few_writes;
   };

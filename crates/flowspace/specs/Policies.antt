@@ -1,5 +1,5 @@
 -- Policies, whole and for one switch, and what holds of each. All of this is the proxy's own rule.
-use Rattle.std.specs.Prelude.{ℕ, ◌≡◌, ◌≢◌, ◌<◌, ◌≤◌, ◌^◌, List, length, All, AllPairs, count_by, IfSome, IsSomeAnd}
+use Rattle.std.specs.Prelude.{ℕ, ◌≡◌, ◌≢◌, ◌<◌, ◌≤◌, ◌^◌, List, length, All, AllPairs, count_by, IfSome}
 use Rattle.flowspace.specs.declared.slices.Slice.{Slice}
 use Rattle.flowspace.specs.declared.rules.Rule.{Rule}
 use Rattle.flowspace.specs.Slices.{IsPlainSlice}
@@ -24,7 +24,7 @@ pub record IsLoadable (ss : List Slice) (rs : List Rule) : Type 0 where
   pub plain_slices : All IsPlainSlice ss
   pub plain_rules : All IsPlainRule rs
   pub names_differ : AllPairs (λ s t. s.name ≢ t.name) ss
-  pub writers_known : All (λ r. IsSomeAnd r.writer (λ w. w < length ss)) rs
+  pub writers_known : All (λ r. IfSome r.writer (λ w. w < length ss)) rs
   pub no_readers : All (λ r. r.readers ≡ 0) rs
   pub few_writes : (slot : ℕ) → count_by (is_written_by slot) rs ≤ 256
   pub apart : AllPairs AreApart rs

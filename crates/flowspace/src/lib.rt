@@ -3,6 +3,7 @@
 #![tactic(auto)]
 
 mod fault;
+pub mod limits;
 mod order;
 mod policy;
 mod rules;

@@ -3,6 +3,7 @@
 ghost use Rattle.std.specs.Prelude.{◌≡◌, ◌+◌, ◌*◌, ◌/◌, ◌%◌, ◌<◌, ◌≤◌, ◌^◌, length};
 ghost use Rattle.frame_header.specs.Links.{field_at, typed, unread, untagged, tagged_link, link_of};
 
+use of10_model::protocol::UNTAGGED;
 use of10_model::wire::{u16_at, u48_at};
 
 /// The type of a packet without one, in 802.3 without SNAP.
@@ -11,8 +12,6 @@ const NO_TYPE: u16 = 0x05ff;
 const LEAST_TYPE: u16 = 0x0600;
 
 const VLAN_TAG: u16 = 0x8100;
-
-const UNTAGGED: u16 = 0xffff;
 
 const SNAP: u64 = 0xaaaa_0300_0000;
 

@@ -3,17 +3,8 @@
 ghost use Rattle.std.specs.Prelude.{◌≡◌, ◌+◌, ◌*◌, ◌/◌, ◌%◌, ◌<◌, ◌≤◌, ◌==◌, ◌↔◌, IsTrue, length, slice_index};
 ghost use Rattle.frame_header.specs.Networks.{transport_at, header_length, is_unfragmented, transport_of, ipv4_of, arp_of, network_of};
 
+use of10_model::protocol::{ARP, ICMP, IPV4, TCP, UDP};
 use of10_model::wire::{u16_at, u32_at};
-
-const IPV4: u16 = 0x0800;
-
-const ARP: u16 = 0x0806;
-
-const ICMP: u8 = 1;
-
-const TCP: u8 = 6;
-
-const UDP: u8 = 17;
 
 /// What is matched of a transport header: two ports, or ICMP's type and code.
 #[derive(Clone, Copy)]

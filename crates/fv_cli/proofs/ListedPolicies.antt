@@ -1,6 +1,6 @@
 -- The policy of a sound listing can be loaded.
 use Rattle.std.proofs.Common.{◌≡◌, ℕ, ◌+◌, ◌<◌, ◌≤◌, ◌≢◌, ◌^◌, Bool, cond, List, [], ◌∷◌, length, get_or, map, All, Option, Some, None, refl, sym, ap, subst, ◌∙◌, lit≤, arith}
-use Rattle.std.specs.Prelude.{AllPairs, count_by, IsTrue, IsSome, IfSome, IsSomeAnd}
+use Rattle.std.specs.Prelude.{AllPairs, count_by, IsTrue, IsSome, IfSome}
 use Rattle.std.proofs.lemmas.List.{length-map, get_or-map}
 use Rattle.std.proofs.lemmas.List.Elements.{All-map}
 use Rattle.std.proofs.lemmas.List.Sums.{sum_by-cons}
@@ -79,7 +79,7 @@ loadable l h =
       plain_slices = All-map IsPlainSlice slice_from l.slices.items (All-weaker _ _ l.slices.items plain_slice h.slices);
       plain_rules = All-map IsPlainRule rule_from l.rules.items (λ k d lt. plain_rule _);
       names_differ = AllPairs-map slice_from (λ s t. s.name ≢ t.name) l.slices.items h.names;
-      writers_known = All-map (λ (x : Rule). IsSomeAnd x.writer (λ w. w < length (map slice_from l.slices.items))) rule_from l.rules.items (All-weaker _ _ l.rules.items (known l (length (map slice_from l.slices.items)) slots) h.rules);
+      writers_known = All-map (λ (x : Rule). IfSome x.writer (λ w. w < length (map slice_from l.slices.items))) rule_from l.rules.items (All-weaker _ _ l.rules.items (known l (length (map slice_from l.slices.items)) slots) h.rules);
       no_readers = All-map (λ r. r.readers ≡ 0) rule_from l.rules.items (λ k d lt. refl);
       few_writes = λ slot. rw (count_by-map rule_from (is_written_by slot) l.rules.items) (h.room slot);
       apart = AllPairs-map rule_from AreApart l.rules.items (AllPairs-weaker _ _ l.rules.items apart_ports h.ports);

@@ -14,7 +14,8 @@ use Rattle.fv_cli.specs.declared.listing.ListedSlice.{ListedSlice}
 use Rattle.fv_cli.specs.declared.listing.ListedRule.{ListedRule}
 use Rattle.fv_cli.specs.declared.listing.Listing.{Listing}
 use Rattle.fv_cli.specs.declared.listing.ListingFault.{ListingFault}
-use Rattle.fv_cli.specs.Listing.{◌>>=◌, NamedSlice, PortListing, when, each_key, each_item, text_at, number, number_at, says, is_name, is_controller, is_name_byte, is_slice_key, name_of, controller_of, slice_in, slice_of, is_rule_key, place_of, writer_of, rule_in, rule_of, all_distinct, is_slice_count, are_slices, written_by, are_rules, slices_of, rules_of, is_top_key, listing_in, listing_of, slice_view, slice_views, view, Gives, IsName, IsListedSlice, IsListedRule, IsListing}
+use Rattle.flowspace.specs.Slices.{is_name_byte}
+use Rattle.fv_cli.specs.Listing.{◌>>=◌, NamedSlice, PortListing, when, each_key, each_item, text_at, number, number_at, says, is_name, is_controller, is_slice_key, name_of, controller_of, slice_in, slice_of, is_rule_key, place_of, writer_of, rule_in, rule_of, all_distinct, is_slice_count, are_slices, written_by, are_rules, slices_of, rules_of, is_top_key, listing_in, listing_of, slice_view, slice_views, view, Gives, IsName, IsListedSlice, IsListedRule, IsListing}
 use Rattle.fv_cli.proofs.ListingViews.{slices_seen, names_seen}
 
 -- ---- steps

@@ -1,7 +1,7 @@
 -- How a call of the program ends: its status, its line, and what has to be so for it. All of this is the program's own rule.
 use Rattle.std.specs.Prelude.{◌≡◌, ℕ, ◌<◌, ◌≤◌, ◌⊎◌, List, [], length, codes, Bool, true, false, Option, Some, None, IfSome}
 use Rattle.fv_cli.specs.declared.ending.Ending.{Ending}
-use Rattle.fv_cli.specs.declared.ending.Ending.TheVariants.{Done, Usage, ReadFault, WriteFault, NoMemory, TooLarge, PolicyNotBuilt, RecordingNotBuilt}
+use Rattle.fv_cli.specs.declared.ending.Ending.TheVariants.{Done, Usage, ReadFault, WriteFault, NoMemory, NoMemoryToRun, TooLarge, PolicyNotBuilt, RecordingNotBuilt}
 use Rattle.fv_cli.specs.Told.{appended, IsPrefix, Rose}
 use Rattle.fv_cli.specs.Words.{FormBytes, OfReplay, form_of}
 use Rattle.fv_cli.specs.Listing.{PortListing, listing_of}
@@ -13,6 +13,7 @@ status_of Usage = 1
 status_of ReadFault = 4
 status_of WriteFault = 5
 status_of NoMemory = 6
+status_of NoMemoryToRun = 6
 status_of TooLarge = 7
 status_of PolicyNotBuilt = 8
 status_of RecordingNotBuilt = 8
@@ -24,6 +25,7 @@ line_of Usage = codes "usage: flowvisor check POLICY / replay POLICY RECORDING /
 line_of ReadFault = codes "read fault\n"
 line_of WriteFault = codes "write fault\n"
 line_of NoMemory = codes "no memory\n"
+line_of NoMemoryToRun = codes "no memory\n"
 line_of TooLarge = codes "too large\n"
 line_of PolicyNotBuilt = codes "not built: policy\n"
 line_of RecordingNotBuilt = codes "not built: recording\n"
@@ -96,12 +98,13 @@ IsCause w policy recording PolicyNotBuilt = IsNoPolicy (w.files policy)
 IsCause w policy recording RecordingNotBuilt = (l : PortListing) × IsPolicy l (w.files policy) × IsRecording false (length l.slices) (w.files recording)
 IsCause w policy recording WriteFault = (l : PortListing) × IsPolicy l (w.files policy) × IsRecording true (length l.slices) (w.files recording) × Rose w.out_before w.out_after
 IsCause w policy recording NoMemory = Unit {0}
+IsCause w policy recording NoMemoryToRun = (l : PortListing) × IsPolicy l (w.files policy) × IsRecording true (length l.slices) (w.files recording)
 
 -- the ending of a run over a policy and a recording that were taken
 abbrev pub IsRunEnding : ℕ → ℕ → Ending → Type 0
 IsRunEnding out_before out_after Done = Unit {0}
 IsRunEnding out_before out_after WriteFault = Rose out_before out_after
-IsRunEnding out_before out_after NoMemory = Unit {0}
+IsRunEnding out_before out_after NoMemoryToRun = Unit {0}
 IsRunEnding out_before out_after _ = ⊥
 
 -- the words decide first: without a form it is the usage, and nothing else is
@@ -113,7 +116,7 @@ Causes w (Some (OfReplay policy recording)) ending = IsCause w policy recording 
 abbrev pub is_early : Ending → Bool
 is_early Done = false
 is_early WriteFault = false
-is_early NoMemory = false
+is_early NoMemoryToRun = false
 is_early _ = true
 
 -- the line was put, or a prefix of it where the count rose

@@ -5,6 +5,7 @@ use Rattle.std.specs.List.{list_all, list_any}
 use Rattle.std.specs.Str.{is_utf8}
 use Rattle.toml.specs.Data.{Data, string, integer, array, table, Items, no_items, item, Members, no_members, member, get_member}
 use Rattle.toml.specs.Parse.{parse_document}
+use Rattle.flowspace.specs.Slices.{is_name_byte}
 use Rattle.fv_cli.specs.declared.listing.ListedSlice.{ListedSlice}
 use Rattle.fv_cli.specs.declared.listing.ListedRule.{ListedRule}
 use Rattle.fv_cli.specs.declared.listing.Listing.{Listing}
@@ -72,9 +73,6 @@ says key n ms = is_number n (get_member key ms)
 -- ---- a slice
 
 -- a to z, 0 to 9, `_` and `-`
-abbrev pub is_name_byte : ℕ → Bool
-is_name_byte c = (nat_le 97 c && nat_le c 122) || (nat_le 48 c && nat_le c 57) || nat_eq c 95 || nat_eq c 45
-
 -- 1 to 32 such bytes
 abbrev pub is_name : List ℕ → Bool
 is_name name = (nat_le 1 (length name) && nat_le (length name) 32) && list_all is_name_byte name

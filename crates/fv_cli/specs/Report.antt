@@ -13,3 +13,7 @@ place_text (Close name) = codes "close " ++ name.now
 -- a line: the number of the event, switch 0, what is said, the message in hex, and a line feed
 abbrev pub line_of : ℕ → Place → List ℕ → List ℕ
 line_of event place message = ((decimal event ++ codes " 0 ") ++ place_text place) ++ encode_lower message ++ 10 ∷ []
+
+-- the last line: how many events there were
+abbrev pub last_line : ℕ → List ℕ
+last_line events = (codes "end " ++ decimal events) ++ codes "\n"

@@ -3,23 +3,21 @@
 ghost use Rattle.std.specs.Prelude.{◌≤◌, length};
 
 use crate::messages::{
-    BARRIER_REQUEST, FEATURES_REPLY, FEATURES_REQUEST, HELLO, PACKET_IN, SET_CONFIG, delete_all,
+    BARRIER_REQUEST, FEATURES_HEAD, FEATURES_REPLY, FEATURES_REQUEST, HELLO, PACKET_IN, PACKET_IN_HEAD, SET_CONFIG, delete_all,
     message, packet_in,
 };
 use crate::recorded::{Record, SLICE_UP, SWITCH_BYTES, SWITCH_UP};
-use flowspace::{Policy, SwitchPolicy};
+use flowspace::{Policy, SwitchPolicy, limits};
 use frame_header::header_of;
 use of10_model::wire::{u16_at, u64_at};
 use std::alloc::{AllocError, Global};
 
-/// The transaction ids of the proxy's own requests, in the order in which it makes them.
-const OWN_XIDS: [u32; 5] = [
-    0xff00_0000,
-    0xff00_0001,
-    0xff00_0002,
-    0xff00_0003,
-    0xff00_0004,
-];
+/// The transaction ids of the proxy's own requests.
+const HELLO_XID: u32 = 0xff00_0000;
+const FEATURES_XID: u32 = 0xff00_0001;
+const CONFIG_XID: u32 = 0xff00_0002;
+const DELETE_XID: u32 = 0xff00_0003;
+const BARRIER_XID: u32 = 0xff00_0004;
 
 /// SET_CONFIG: no flags, and packets sent up whole (OpenFlow 1.0.0, section 5.3.2).
 const WHOLE_PACKETS: [u8; 4] = [0, 0, 0xff, 0xff];
@@ -51,7 +49,7 @@ pub(crate) struct Desk<'p> {
     policy: &'p Policy,
     /// The policy of the switch, once it has told its datapath id.
     opened: Option<SwitchPolicy>,
-    up: [bool; 32],
+    up: [bool; limits::SLICES],
 }
 
 impl<'p> Desk<'p> {
@@ -60,7 +58,7 @@ impl<'p> Desk<'p> {
         Desk {
             policy,
             opened: None,
-            up: [false; 32],
+            up: [false; limits::SLICES],
         }
     }
 
@@ -80,11 +78,11 @@ impl<'p> Desk<'p> {
 
     /// One whole frame of the switch; those that aren't built make nothing.
     fn hear(&mut self, alloc: Global, frame: &[u8]) -> Result<Outcome, AllocError> {
-        if frame.len() < 18 || frame.len() > 65535 {
+        if frame.len() < PACKET_IN_HEAD || frame.len() > 65535 {
             return Ok(Outcome::nothing(alloc));
         }
         match frame[1] {
-            FEATURES_REPLY if frame.len() >= 32 => self.open(alloc, frame),
+            FEATURES_REPLY if frame.len() >= FEATURES_HEAD => self.open(alloc, frame),
             PACKET_IN => self.tell(alloc, frame),
             _ => Ok(Outcome::nothing(alloc)),
         }
@@ -93,10 +91,10 @@ impl<'p> Desk<'p> {
     /// The switch is up: it gets a HELLO and is asked for its features (OpenFlow 1.0.0, section 4.2).
     fn greet(alloc: Global) -> Result<Outcome, AllocError> {
         let mut outcome = Outcome::nothing(alloc);
-        outcome.lane.push(message(alloc, HELLO, OWN_XIDS[0], &[])?)?;
+        outcome.lane.push(message(alloc, HELLO, HELLO_XID, &[])?)?;
         outcome
             .lane
-            .push(message(alloc, FEATURES_REQUEST, OWN_XIDS[1], &[])?)?;
+            .push(message(alloc, FEATURES_REQUEST, FEATURES_XID, &[])?)?;
         Ok(outcome)
     }
 
@@ -112,11 +110,11 @@ impl<'p> Desk<'p> {
         let policy = self.policy.of_switch(alloc, u64_at(frame, 8))?;
         outcome
             .lane
-            .push(message(alloc, SET_CONFIG, OWN_XIDS[2], &WHOLE_PACKETS)?)?;
-        outcome.lane.push(delete_all(alloc, OWN_XIDS[3])?)?;
+            .push(message(alloc, SET_CONFIG, CONFIG_XID, &WHOLE_PACKETS)?)?;
+        outcome.lane.push(delete_all(alloc, DELETE_XID)?)?;
         outcome
             .lane
-            .push(message(alloc, BARRIER_REQUEST, OWN_XIDS[4], &[])?)?;
+            .push(message(alloc, BARRIER_REQUEST, BARRIER_XID, &[])?)?;
         self.opened = Some(policy);
         Ok(outcome)
     }
@@ -130,7 +128,7 @@ impl<'p> Desk<'p> {
         let Some(policy) = &self.opened else {
             return Ok(outcome);
         };
-        let header = header_of(u16_at(frame, 14), &frame[18..]);
+        let header = header_of(u16_at(frame, 14), &frame[PACKET_IN_HEAD..]);
         if let Some(slot) = policy.writer(&header) {
             if self.is_up(slot) {
                 outcome.to_slice = Some((slot, packet_in(alloc, frame)?));

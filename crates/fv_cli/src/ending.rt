@@ -14,8 +14,10 @@ pub enum Ending {
     ReadFault,
     /// The output wasn't written.
     WriteFault,
-    /// Memory ran out.
+    /// Memory ran out before the run.
     NoMemory,
+    /// Memory ran out in the run.
+    NoMemoryToRun,
     /// A file passes its limit.
     TooLarge,
     /// The policy needs what isn't built yet.
@@ -34,7 +36,7 @@ impl Ending {
             Ending::Usage => 1,
             Ending::ReadFault => 4,
             Ending::WriteFault => 5,
-            Ending::NoMemory => 6,
+            Ending::NoMemory | Ending::NoMemoryToRun => 6,
             Ending::TooLarge => 7,
             Ending::PolicyNotBuilt | Ending::RecordingNotBuilt => 8,
         }
@@ -51,7 +53,7 @@ impl Ending {
             }
             Ending::ReadFault => "read fault\n",
             Ending::WriteFault => "write fault\n",
-            Ending::NoMemory => "no memory\n",
+            Ending::NoMemory | Ending::NoMemoryToRun => "no memory\n",
             Ending::TooLarge => "too large\n",
             Ending::PolicyNotBuilt => "not built: policy\n",
             Ending::RecordingNotBuilt => "not built: recording\n",

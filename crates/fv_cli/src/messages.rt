@@ -28,9 +28,16 @@ const EVERY_FIELD_FREE: u32 = 0x0038_20ff;
 /// The command that deletes all entries that a match includes (OpenFlow 1.0.0, section 4.6).
 const DELETE: u16 = 3;
 
-const NO_BUFFER: u32 = 0xffff_ffff;
+pub(crate) const NO_BUFFER: u32 = 0xffff_ffff;
 
 const NO_PORT: u16 = 0xffff;
+
+/// Bytes of a FEATURES_REPLY before its ports, and of a port (OpenFlow 1.0.0, sections 5.3.1 and 5.2.1).
+pub(crate) const FEATURES_HEAD: usize = 32;
+pub(crate) const PORT_SIZE: usize = 48;
+
+/// Bytes of a PACKET_IN before its packet (OpenFlow 1.0.0, section 5.4.1).
+pub(crate) const PACKET_IN_HEAD: usize = 18;
 
 /// The head of a message of version 1 with a body of so many bytes (OpenFlow 1.0.0, section 5.1), and
 /// room for the body.

@@ -12,8 +12,9 @@ use crate::base::{
 use crate::ending::Ending;
 use crate::listing::{Listing, ListingFault, read_listing};
 use crate::policy::policy_of;
-use crate::recorded::records_in;
+use crate::recorded::{MAGIC, records_in};
 use crate::report::{ReportFault, report};
+use flowspace::Policy;
 use std::alloc::Global;
 
 /// Most bytes of a policy: 1 MiB.
@@ -101,22 +102,20 @@ fn replay<F: Files, O: Sink>(
         Ok(bytes) => bytes,
         Err(ending) => return ending,
     };
-    run(alloc, &listing, &bytes, out)
-}
-
-/// Runs what was read.
-fn run<O: Sink>(alloc: Global, listing: &Listing, bytes: &[u8], out: &mut O) -> Ending
-    requires { IsListing listing.now }
-    ensures { IsRunEnding (O.faults out.old) (O.faults out.new) result }
-{
-    let Ok(policy) = policy_of(alloc, listing) else {
+    let Ok(policy) = policy_of(alloc, &listing) else {
         return Ending::NoMemory;
     };
-    let records = bytes.get(8..).unwrap_or(&[]);
-    match report(alloc, &policy, records, out) {
+    run(alloc, &policy, bytes.get(MAGIC.len()..).unwrap_or(&[]), out)
+}
+
+/// Runs the records under the policy.
+fn run<O: Sink>(alloc: Global, policy: &Policy, records: &[u8], out: &mut O) -> Ending
+    ensures { IsRunEnding (O.faults out.old) (O.faults out.new) result }
+{
+    match report(alloc, policy, records, out) {
         Ok(()) => Ending::Done,
         Err(ReportFault::WriteFault) => Ending::WriteFault,
-        Err(ReportFault::Memory) => Ending::NoMemory,
+        Err(ReportFault::Memory) => Ending::NoMemoryToRun,
     }
 }
 

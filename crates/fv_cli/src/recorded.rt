@@ -6,11 +6,15 @@ ghost use Rattle.byteorder.specs.Endian.{big_number};
 ghost use Rattle.fv_cli.specs.Recorded.{record_of, is_features_reply, is_unbuffered_packet, is_built_frame, may_follow, ups_after, nobody, all_records, is_recording};
 ghost use Rattle.fv_cli.specs.RecordedViews.{view_record, view_ups};
 
+use crate::messages::{
+    FEATURES_HEAD, FEATURES_REPLY, NO_BUFFER, PACKET_IN, PACKET_IN_HEAD, PORT_SIZE,
+};
+use flowspace::limits;
 use frame_header::probe_slot;
 use of10_model::wire::{u16_at, u32_at};
 
 /// The eight bytes that begin a recording.
-const MAGIC: [u8; 8] = [0x46, 0x56, 0x52, 0x45, 0x43, 0, 0, 1];
+pub(crate) const MAGIC: [u8; 8] = [0x46, 0x56, 0x52, 0x45, 0x43, 0, 0, 1];
 
 /// Kinds of records.
 pub(crate) const SWITCH_UP: u8 = 0;
@@ -63,17 +67,19 @@ fn is_features(frame: &[u8]) -> bool
     requires { 8 ≤ length frame.now }
     ensures { result ≡ is_features_reply frame.now }
 {
-    frame[1] == 6 && 32 <= frame.len() && (frame.len() - 32) % 48 == 0
+    frame[1] == FEATURES_REPLY
+        && FEATURES_HEAD <= frame.len()
+        && (frame.len() - FEATURES_HEAD) % PORT_SIZE == 0
 }
 
 fn is_packet(frame: &[u8]) -> bool
     requires { 8 ≤ length frame.now }
     ensures { result ≡ is_unbuffered_packet frame.now }
 {
-    frame[1] == 10
-        && 18 <= frame.len()
-        && u32_at(frame, 8) == 0xffff_ffff
-        && probe_slot(&frame[18..]).is_none()
+    frame[1] == PACKET_IN
+        && PACKET_IN_HEAD <= frame.len()
+        && u32_at(frame, 8) == NO_BUFFER
+        && probe_slot(&frame[PACKET_IN_HEAD..]).is_none()
 }
 
 /// Whether the bytes are one whole frame of version 1 that is built.
@@ -91,7 +97,7 @@ fn is_built(frame: &[u8]) -> bool
 #[derive(Clone, Copy)]
 struct Ups {
     switch: bool,
-    slices: [bool; 32],
+    slices: [bool; limits::SLICES],
 }
 
 /// Whether the record may come next.
@@ -117,7 +123,7 @@ fn after(ups: Ups, r: &Record<'_>) -> Ups
     ensures { view_ups result ≡ ups_after (view_ups ups) (view_record r.now) }
 {
     let mut slices = ups.slices;
-    if r.kind == SLICE_UP && r.slot < 32 {
+    if r.kind == SLICE_UP && usize::from(r.slot) < limits::SLICES {
         slices[r.slot as usize] = true;
     }
     Ups {
@@ -133,7 +139,7 @@ fn all_follow(bytes: &[u8], slices: u8) -> bool
 {
     let mut ups = Ups {
         switch: false,
-        slices: [false; 32],
+        slices: [false; limits::SLICES],
     };
     let mut rest = bytes;
     while let Some(record) = record_at(rest) {

@@ -3,7 +3,7 @@
 ghost use Rattle.std.specs.Prelude.{◌≡◌, ◌≤◌, ◌++◌, decimal, codes, length, IfErr, OnOk};
 ghost use Rattle.hex.specs.Hex.{encode_lower};
 ghost use Rattle.fv_cli.specs.Told.{appended, Rose};
-ghost use Rattle.fv_cli.specs.Report.{place_text, line_of};
+ghost use Rattle.fv_cli.specs.Report.{place_text, line_of, last_line};
 
 use crate::base::{Sink, put_all};
 use crate::desk::{Desk, Outcome};
@@ -152,6 +152,7 @@ fn name_of(policy: &Policy, slot: u8) -> &str {
 
 /// The last line: how many events there were.
 fn put_end<K: Sink>(out: &mut K, line: &mut Line, events: u64) -> Result<(), ReportFault>
+    ensures written { OnOk result (K.contents out.new ≡ appended (K.contents out.old) (last_line events)) }
     ensures cause { IfErr result (λ f. f ≡ ReportFault.WriteFault → Rose (K.faults out.old) (K.faults out.new)) }
     ensures count { K.faults out.old ≤ K.faults out.new }
 {

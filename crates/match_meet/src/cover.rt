@@ -3,37 +3,15 @@
 ghost use Rattle.std.specs.Prelude.{◌≡◌, if◌then◌else◌};
 ghost use Rattle.of10_model.specs.Header.{Header, IsHeader};
 ghost use Rattle.of10_model.specs.Pattern.{Has};
-ghost use Rattle.of10_model.specs.Normal.{is_exact, is_value, is_whole, has_vlan, meaningless, IsInRange};
+ghost use Rattle.of10_model.specs.Normal.{is_exact, is_value, has_vlan, meaningless, IsInRange};
 ghost use Rattle.of10_action.specs.Actions.{HasAddress};
 ghost use Rattle.match_meet.specs.Rewriting.{rewritten, cover_of, names_tcp_or_udp, whole};
 
-use crate::rewriting::{IPV4, TCP, UDP, UNTAGGED, service_bits, vlan_number, vlan_priority};
+use crate::rewriting::{service_bits, vlan_number, vlan_priority};
 use of10_action::Action;
 use of10_match::Match;
+use of10_model::protocol::{IPV4, TCP, UDP, UNTAGGED};
 use of10_model::{Pattern, Prefix};
-
-fn is_whole(address: Option<Prefix>) -> bool
-    ensures { result ≡ is_whole address }
-{
-    address.is_some_and(|prefix| prefix.bits == 32)
-}
-
-fn is_exact(m: &Pattern) -> bool
-    ensures { result ≡ is_exact m.now }
-{
-    m.in_port.is_some()
-        && m.dl_src.is_some()
-        && m.dl_dst.is_some()
-        && m.dl_vlan.is_some()
-        && m.dl_vlan_pcp.is_some()
-        && m.dl_type.is_some()
-        && m.nw_tos.is_some()
-        && m.nw_proto.is_some()
-        && is_whole(m.nw_src)
-        && is_whole(m.nw_dst)
-        && m.tp_src.is_some()
-        && m.tp_dst.is_some()
-}
 
 fn names_ipv4(m: &Pattern) -> bool
     ensures { result ≡ is_value 0x0800 m.now.dl_type }
@@ -107,7 +85,7 @@ fn without_vlan(m: &Pattern) -> Pattern
 {
     Pattern {
         dl_vlan: Some(UNTAGGED),
-        dl_vlan_pcp: is_exact(m).then_some(0),
+        dl_vlan_pcp: m.is_exact().then_some(0),
         ..*m
     }
 }

@@ -6,14 +6,7 @@ ghost use Rattle.match_meet.specs.Rewriting.{rewritten, is_ipv4, is_tcp_or_udp};
 
 use of10_action::Action;
 use of10_match::Header12;
-
-pub const UNTAGGED: u16 = 0xffff;
-
-pub const IPV4: u16 = 0x0800;
-
-pub const TCP: u8 = 6;
-
-pub const UDP: u8 = 17;
+use of10_model::protocol::{IPV4, TCP, UDP, UNTAGGED};
 
 /// A VLAN number has 12 bits.
 pub fn vlan_number(vlan: u16) -> u16

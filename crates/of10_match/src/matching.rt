@@ -6,7 +6,7 @@ ghost use Rattle.of10_model.specs.Spelling.{Spell};
 ghost use Rattle.of10_model.specs.Exact.{exact_of, all_free, IsTidy};
 
 use crate::header::Header12;
-use crate::normal::{is_exact, normal};
+use crate::normal::normal;
 use crate::reading::read;
 use crate::writing::spell;
 use of10_model::{Pattern, Prefix};
@@ -190,7 +190,7 @@ impl Match {
     pub fn is_exact(&self) -> bool
         ensures { result ≡ is_exact self.now }
     {
-        is_exact(&self.pattern)
+        self.pattern.is_exact()
     }
 
     /// Whether each constraint holds of its field.

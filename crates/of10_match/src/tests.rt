@@ -1,5 +1,5 @@
 use crate::{Header12, Match};
-use byteorder::{BigEndian, ByteOrder};
+use of10_model::wire::{set_u16, set_u32};
 use of10_model::{Pattern, Prefix};
 
 const FREE: Pattern = Pattern {
@@ -51,19 +51,19 @@ fn of_host(nw_src: u32) -> Header12 {
 
 fn with_word(word: u32, fill: u8) -> [u8; 40] {
     let mut bytes = [fill; 40];
-    BigEndian::write_u32(&mut bytes[0..4], word);
+    set_u32(&mut bytes, 0, word);
     bytes
 }
 
 fn of_type(word: u32, kind: u16, fill: u8) -> [u8; 40] {
     let mut bytes = with_word(word, fill);
-    BigEndian::write_u16(&mut bytes[22..24], kind);
+    set_u16(&mut bytes, 22, kind);
     bytes
 }
 
 fn from_source(word: u32, address: u32) -> [u8; 40] {
     let mut bytes = of_type(word, 0x0800, 0);
-    BigEndian::write_u32(&mut bytes[28..32], address);
+    set_u32(&mut bytes, 28, address);
     bytes
 }
 

@@ -5,7 +5,7 @@ ghost use Rattle.byteorder.specs.Endian.{big_bytes};
 ghost use Rattle.of10_model.specs.Normal.{IsBelow, IsInRange, IsPrefix};
 ghost use Rattle.of10_model.specs.Spelling.{freed, ignored, number_or_zero, address_or_zero, wildcards, Spell};
 
-use byteorder::{BigEndian, ByteOrder};
+use of10_model::wire::{set_u16, set_u32, set_u48};
 use of10_model::{Pattern, Prefix};
 
 fn freed_u8(constraint: Option<u8>) -> u32
@@ -62,42 +62,42 @@ fn word(m: &Pattern) -> u32
 
 // Each of these writes a field's number, or zero where the field is free, behind the bytes before it.
 
-fn set_word(out: &mut [u8], m: &Pattern)
+fn put_word(out: &mut [u8], m: &Pattern)
     requires within { 4 ≤ length out.old }
     requires source { IsPrefix m.now.nw_src }
     requires destination { IsPrefix m.now.nw_dst }
     ensures { take 4 out.new ≡ big_bytes 4 (wildcards m.now) }
 {
-    BigEndian::write_u32(&mut out[0..4], word(m));
+    set_u32(out, 0, word(m));
 }
 
-fn set_u8(out: &mut [u8], at: usize, field: Option<u8>)
+fn put_small(out: &mut [u8], at: usize, field: Option<u8>)
     requires { at + 1 ≤ length out.old }
     ensures { take (at + 1) out.new ≡ take at out.old ++ big_bytes 1 (number_or_zero field) }
 {
     out[at] = field.unwrap_or(0);
 }
 
-fn set_u16(out: &mut [u8], at: usize, field: Option<u16>)
+fn put_field(out: &mut [u8], at: usize, field: Option<u16>)
     requires { at + 2 ≤ length out.old }
     ensures { take (at + 2) out.new ≡ take at out.old ++ big_bytes 2 (number_or_zero field) }
 {
-    BigEndian::write_u16(&mut out[at..at + 2], field.unwrap_or(0));
+    set_u16(out, at, field.unwrap_or(0));
 }
 
-fn set_u48(out: &mut [u8], at: usize, field: Option<u64>)
+fn put_address(out: &mut [u8], at: usize, field: Option<u64>)
     requires within { at + 6 ≤ length out.old }
     requires small { IsBelow (2 ^ 48) field }
     ensures { take (at + 6) out.new ≡ take at out.old ++ big_bytes 6 (number_or_zero field) }
 {
-    BigEndian::write_u48(&mut out[at..at + 6], field.unwrap_or(0));
+    set_u48(out, at, field.unwrap_or(0));
 }
 
-fn set_prefix(out: &mut [u8], at: usize, field: Option<Prefix>)
+fn put_prefix(out: &mut [u8], at: usize, field: Option<Prefix>)
     requires { at + 4 ≤ length out.old }
     ensures { take (at + 4) out.new ≡ take at out.old ++ big_bytes 4 (address_or_zero field) }
 {
-    BigEndian::write_u32(&mut out[at..at + 4], field.map_or(0, |prefix| prefix.value));
+    set_u32(out, at, field.map_or(0, |prefix| prefix.value));
 }
 
 /// The spelling of a match.
@@ -106,20 +106,20 @@ pub(crate) fn spell(m: &Pattern) -> [u8; 40]
     ensures { result ≡ Spell m.now }
 {
     let mut out = [0; 40];
-    set_word(&mut out, m);
-    set_u16(&mut out, 4, m.in_port);
-    set_u48(&mut out, 6, m.dl_src);
-    set_u48(&mut out, 12, m.dl_dst);
-    set_u16(&mut out, 18, m.dl_vlan);
-    set_u8(&mut out, 20, m.dl_vlan_pcp);
-    set_u8(&mut out, 21, None);
-    set_u16(&mut out, 22, m.dl_type);
-    set_u8(&mut out, 24, m.nw_tos);
-    set_u8(&mut out, 25, m.nw_proto);
-    set_u16(&mut out, 26, None);
-    set_prefix(&mut out, 28, m.nw_src);
-    set_prefix(&mut out, 32, m.nw_dst);
-    set_u16(&mut out, 36, m.tp_src);
-    set_u16(&mut out, 38, m.tp_dst);
+    put_word(&mut out, m);
+    put_field(&mut out, 4, m.in_port);
+    put_address(&mut out, 6, m.dl_src);
+    put_address(&mut out, 12, m.dl_dst);
+    put_field(&mut out, 18, m.dl_vlan);
+    put_small(&mut out, 20, m.dl_vlan_pcp);
+    put_small(&mut out, 21, None);
+    put_field(&mut out, 22, m.dl_type);
+    put_small(&mut out, 24, m.nw_tos);
+    put_small(&mut out, 25, m.nw_proto);
+    put_field(&mut out, 26, None);
+    put_prefix(&mut out, 28, m.nw_src);
+    put_prefix(&mut out, 32, m.nw_dst);
+    put_field(&mut out, 36, m.tp_src);
+    put_field(&mut out, 38, m.tp_dst);
     out
 }

@@ -4,6 +4,7 @@
 
 pub mod laws;
 mod pattern;
+pub mod protocol;
 pub mod wire;
 
 pub use pattern::{Pattern, Prefix};

@@ -1,3 +1,6 @@
+ghost use Rattle.std.specs.Prelude.{◌≡◌};
+ghost use Rattle.of10_model.specs.Normal.{is_exact, is_whole};
+
 /// The leading bits of a network address (OpenFlow 1.0.0, section 3.4: a prefix mask).
 #[derive(Clone, Copy, Debug, PartialEq, Eq)]
 pub struct Prefix {
@@ -23,4 +26,33 @@ pub struct Pattern {
     pub nw_dst: Option<Prefix>,
     pub tp_src: Option<u16>,
     pub tp_dst: Option<u16>,
+}
+
+impl Prefix {
+    /// Whether all bits of the address count.
+    fn is_whole(&self) -> bool
+        ensures { result ≡ is_whole (Some self.now) }
+    {
+        self.bits == 32
+    }
+}
+
+impl Pattern {
+    /// Whether no field is free, and both addresses are given whole.
+    pub fn is_exact(&self) -> bool
+        ensures { result ≡ is_exact self.now }
+    {
+        self.in_port.is_some()
+            && self.dl_src.is_some()
+            && self.dl_dst.is_some()
+            && self.dl_vlan.is_some()
+            && self.dl_vlan_pcp.is_some()
+            && self.dl_type.is_some()
+            && self.nw_tos.is_some()
+            && self.nw_proto.is_some()
+            && self.nw_src.is_some_and(|prefix| prefix.is_whole())
+            && self.nw_dst.is_some_and(|prefix| prefix.is_whole())
+            && self.tp_src.is_some()
+            && self.tp_dst.is_some()
+    }
 }

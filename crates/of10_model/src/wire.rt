@@ -1,6 +1,6 @@
 //! Numbers in messages, which are big endian (OpenFlow 1.0.0, section 5).
 
-ghost use Rattle.std.specs.Prelude.{◌≡◌, ◌+◌, ◌<◌, ◌≤◌, ◌^◌, length, drop, ◌++◌, OnOk, OnErr};
+ghost use Rattle.std.specs.Prelude.{◌≡◌, ◌+◌, ◌<◌, ◌≤◌, ◌^◌, length, drop, ◌++◌, OnOk, OnErr, take};
 ghost use Rattle.byteorder.specs.Endian.{big_number, big_bytes};
 
 use byteorder::{BigEndian, ByteOrder};
@@ -94,6 +94,31 @@ pub fn put_u64(out: &mut Vec<u8>, n: u64) -> Result<(), AllocError>
     let mut bytes = [0; 8];
     BigEndian::write_u64(&mut bytes, n);
     out.extend_from_slice(&bytes)
+}
+
+/// Writes two bytes at `at`; those before it stay.
+pub fn set_u16(out: &mut [u8], at: usize, n: u16)
+    requires { at + 2 ≤ length out.old }
+    ensures { take (at + 2) out.new ≡ take at out.old ++ big_bytes 2 n }
+{
+    BigEndian::write_u16(&mut out[at..at + 2], n);
+}
+
+/// Writes four bytes at `at`; those before it stay.
+pub fn set_u32(out: &mut [u8], at: usize, n: u32)
+    requires { at + 4 ≤ length out.old }
+    ensures { take (at + 4) out.new ≡ take at out.old ++ big_bytes 4 n }
+{
+    BigEndian::write_u32(&mut out[at..at + 4], n);
+}
+
+/// Writes a number below 2^48 in six bytes at `at`; those before it stay.
+pub fn set_u48(out: &mut [u8], at: usize, n: u64)
+    requires within { at + 6 ≤ length out.old }
+    requires small { n < 2 ^ 48 }
+    ensures { take (at + 6) out.new ≡ take at out.old ++ big_bytes 6 n }
+{
+    BigEndian::write_u48(&mut out[at..at + 6], n);
 }
 
 #[cfg(test)]

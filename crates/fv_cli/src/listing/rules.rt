@@ -8,6 +8,7 @@ ghost use Rattle.fv_cli.specs.Listing.{Gives, all_distinct, are_rules, each_item
 
 use super::fields::{Level, has_known_keys, number_at, says, text_at};
 use super::{ListedRule, ListedSlice, ListingFault};
+use flowspace::limits;
 use std::alloc::Global;
 use toml::value::Array;
 use toml::{Table, Value};
@@ -112,13 +113,13 @@ fn have_room(rules: &[ListedRule]) -> bool
 {
     rules
         .iter()
-        .all(|rule| written_by(rule.writer, rules) <= 256)
+        .all(|rule| written_by(rule.writer, rules) <= limits::WRITES)
 }
 
 fn are_rules(rules: &[ListedRule]) -> bool
     ensures { result ≡ are_rules rules.now }
 {
-    rules.len() <= 2048 && have_different_ports(rules) && have_room(rules)
+    rules.len() <= limits::RULES && have_different_ports(rules) && have_room(rules)
 }
 
 fn rules_in(

@@ -4,10 +4,12 @@ ghost use Rattle.std.specs.Prelude.{◌≡◌, ◌≤◌, true, IfOk, Some, byte
 ghost use Rattle.std.specs.List.{list_all, list_any};
 ghost use Rattle.toml.specs.Data.{array};
 ghost use Rattle.toml.specs.View.{view, array_view, table_view};
-ghost use Rattle.fv_cli.specs.Listing.{Gives, all_distinct, are_slices, controller_of, each_item, is_name, is_slice_count, is_name_byte, name_of, slice_in, slice_of, slices_of, slice_view, slice_views};
+ghost use Rattle.flowspace.specs.Slices.{is_name_byte};
+ghost use Rattle.fv_cli.specs.Listing.{Gives, all_distinct, are_slices, controller_of, each_item, is_name, is_slice_count, name_of, slice_in, slice_of, slices_of, slice_view, slice_views};
 
 use super::fields::{Level, has_known_keys, text_at};
 use super::{ListedSlice, ListingFault};
+use flowspace::limits;
 use std::alloc::Global;
 use toml::value::Array;
 use toml::{Table, Value};
@@ -110,7 +112,7 @@ fn is_slice_count(count: usize) -> bool
     ensures value { result ≡ is_slice_count count }
     ensures few { result ≡ true → count ≤ 32 }
 {
-    1 <= count && count <= 32
+    1 <= count && count <= limits::SLICES
 }
 
 #[tactic(auto, using(crate::proofs::ListingViews::are_slices_seen))]
