@@ -11,8 +11,7 @@ build:
 demo: build
 	@$(program) replay examples/two-slices.toml examples/first-packet.rec > examples/first-packet.out
 	@cat examples/first-packet.out
-	@cmp examples/first-packet.out examples/first-packet.report
-	@rm -f examples/first-packet.out
+	@cmp examples/first-packet.out examples/first-packet.report && echo "as it should be"
 
 # The gate: every proof from nothing, the edits that must fail, the tests and the program's run.
 check:
