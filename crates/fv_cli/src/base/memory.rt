@@ -1,8 +1,10 @@
 //! The outside in memory, which tells its contents.
 
-ghost use Rattle.std.specs.Prelude.{◌≡◌, ◌≤◌, ◌<◌, ◌+◌, ◌-◌, ◌^◌, min, ℕ, List, [], Some, None, length, drop, IfSome, IsOkAnd, OnOk, OnErr};
-ghost use Rattle.fv_cli.specs.Memory.{Starts, bytes_taken, files_plan, moved, sink_plan, file_at, count_at, place_of, with_file};
-ghost use Rattle.fv_cli.specs.Told.{Gives, Rose};
+ghost use Rattle.std.specs.Prelude.{◌≡◌, ◌≤◌, ◌<◌, ◌+◌, ◌-◌, ◌^◌, min, ℕ, List, [], Some, None, length, drop, ◌||◌, ◌&&◌, is_ok, vec_len, vec_capacity, take, option_map, IsTrue, IsFalse, IfOk, IfSome, IsOkAnd, OnOk, OnErr};
+ghost use Rattle.std.specs.Result.{result_ok};
+ghost use Rattle.std.specs.Str.{bytes_eq};
+ghost use Rattle.fv_cli.specs.Memory.{Starts, bytes_taken, called, files_plan, moved, read_count, sink_plan, file_at, count_at, is_declared, place_of, with_file};
+ghost use Rattle.fv_cli.specs.Told.{Gives, Rose, appended};
 
 use super::{Failed, Files, Sink};
 use std::alloc::{AllocError, Global};
@@ -20,7 +22,7 @@ impl Plan {
     fn next(&mut self, there: usize) -> Option<usize>
         requires { 0 < there }
         ensures value { result ≡ moved self.old there }
-        ensures counted { self.new ≡ record self.old { calls = min (self.old.calls + 1) (2 ^ 64 - 1) } }
+        ensures counted { self.new ≡ called self.old }
         ensures some { IfSome result (λ n. 0 < n) }
         ensures within { IfSome result (λ n. n ≤ there) }
     {
@@ -42,7 +44,8 @@ fn one_more(faults: u64) -> u64
     faults.saturating_add(1)
 }
 
-/// A sink that keeps what it takes.
+/// A sink that keeps what it takes. A put fails where its plan says so, and where memory for growing is
+/// wanted.
 #[derive(Drop)]
 pub struct MemorySink {
     kept: Vec<u8>,
@@ -98,7 +101,19 @@ impl Sink for MemorySink {
 
     ghost faults = { λ sink. sink.faults };
 
-    fn put(&mut self, bytes: &[u8]) -> Result<usize, Failed> {
+    fn put(&mut self, bytes: &[u8]) -> Result<usize, Failed>
+        requires { 0 < length bytes.now }
+        ensures some { IfOk result (λ n. 1 ≤ n) }
+        ensures within { IfOk result (λ n. n ≤ length bytes.now) }
+        ensures taken { IfOk result (λ n. Some self.new.kept.items ≡ appended (Some self.old.kept.items) (take n bytes.now)) }
+        ensures refused { OnErr result (self.new.kept.items ≡ self.old.kept.items) }
+        ensures cause { OnErr result (Rose self.old.faults self.new.faults) }
+        ensures count { self.old.faults ≤ self.new.faults }
+        ensures moves { IfOk result (λ n. Some n ≡ moved (sink_plan self.old) (length bytes.now)) }
+        ensures full { OnErr result (IfSome (moved (sink_plan self.old) (length bytes.now)) (λ n. vec_capacity self.old.kept < vec_len self.old.kept + n)) }
+        ensures same { OnOk result (self.new.faults ≡ self.old.faults) }
+        ensures plan { sink_plan self.new ≡ called (sink_plan self.old) }
+    {
         if let Some(count) = self.plan.next(bytes.len()) {
             if self.kept.extend_from_slice(&bytes[..count]).is_ok() {
                 return Ok(count);
@@ -145,15 +160,29 @@ impl Sink for NeverSink {
     }
 }
 
-// A file, and how many calls for its path failed.
+// A path, its file where there is one, and how many calls for it failed.
 #[derive(Drop)]
 struct Entry {
     path: String,
-    bytes: Vec<u8>,
+    bytes: Option<Vec<u8>>,
     faults: u64,
 }
 
-// The place of the first file at the path, or how many files there are.
+// The bytes of the first file at the path.
+fn bytes_at<'a>(entries: &'a [Entry], path: &str) -> Option<&'a [u8]>
+    ensures { option_map (λ bytes. bytes.now) result ≡ file_at entries.now path.now }
+{
+    for entry in entries {
+        if entry.path.as_str() == path {
+            if let Some(bytes) = &entry.bytes {
+                return Some(bytes);
+            }
+        }
+    }
+    None
+}
+
+// The place of the first entry of the path, or how many entries there are.
 fn place(entries: &[Entry], path: &str) -> usize
     ensures { result ≡ place_of entries.now path.now }
 {
@@ -165,11 +194,13 @@ fn place(entries: &[Entry], path: &str) -> usize
     entries.len()
 }
 
-// One more fault for the path, on the count of its first file or on that of the paths without one.
+// One more fault for the path, on the count of its first entry or on that of the paths without one.
 fn raise(entries: &mut [Entry], elsewhere: &mut u64, path: &str)
     ensures told { (at : List ℕ) → file_at entries.new at ≡ file_at entries.old at }
     ensures rose { Rose (count_at elsewhere.old entries.old path.now) (count_at elsewhere.new entries.new path.now) }
     ensures count { (at : List ℕ) → count_at elsewhere.old entries.old at ≤ count_at elsewhere.new entries.new at }
+    ensures own { (at : List ℕ) → IsFalse (bytes_eq path.now at) → IsTrue (is_declared entries.old at) → count_at elsewhere.new entries.new at ≡ count_at elsewhere.old entries.old at }
+    ensures declared { (at : List ℕ) → is_declared entries.new at ≡ is_declared entries.old at }
 {
     let at = place(entries, path);
     if at < entries.len() {
@@ -186,6 +217,7 @@ fn copy(bytes: &[u8], from: u64, most: usize, into: &mut [u8]) -> usize
     requires within { most ≤ length into.old }
     ensures within { result ≤ length into.old }
     ensures given { Gives (drop from bytes.now) into.old result into.new }
+    ensures count { result ≡ min (length bytes.now - from) most }
 {
     if from >= bytes.len() as u64 {
         return 0;
@@ -196,8 +228,10 @@ fn copy(bytes: &[u8], from: u64, most: usize, into: &mut [u8]) -> usize
     count
 }
 
-/// Files by their path. Where a path stands twice, the first file counts. The paths without a file share
-/// one count of faults.
+/// Files by their path. Where a path has two files, the first one counts. Each path that was added, or
+/// declared as missing, has a count of faults of its own; only the paths of which this object was told
+/// nothing share one count. A read takes no memory: it fails only where the plan says so, and at a path
+/// without a file.
 #[derive(Drop)]
 pub struct MemoryFiles {
     alloc: Global,
@@ -240,13 +274,34 @@ impl MemoryFiles {
         ensures told { OnOk result ((at : List ℕ) → ⟦<MemoryFiles as Files>⟧.contents self.new at ≡ with_file (⟦<MemoryFiles as Files>⟧.contents self.old) path.now bytes.now at) }
         ensures same { OnErr result ((at : List ℕ) → ⟦<MemoryFiles as Files>⟧.contents self.new at ≡ ⟦<MemoryFiles as Files>⟧.contents self.old at) }
         ensures count { (at : List ℕ) → ⟦<MemoryFiles as Files>⟧.faults self.new at ≡ ⟦<MemoryFiles as Files>⟧.faults self.old at }
+        ensures declared { (at : List ℕ) → is_declared self.new.entries.items at ≡ (is_declared self.old.entries.items at || (is_ok result && bytes_eq path.now at)) }
+        ensures plan { files_plan self.new ≡ files_plan self.old }
     {
         let path = String::from_str(self.alloc, path)?;
         let bytes = Vec::from_slice(self.alloc, bytes)?;
         let faults = self.elsewhere;
         self.entries.push(Entry {
             path,
-            bytes,
+            bytes: Some(bytes),
+            faults,
+        })?;
+        Ok(())
+    }
+
+    /// Declares a path without a file: from now on it has a count of faults of its own, which begins where
+    /// the shared one stands. A file may be added at it later. Where the path has a count already, nothing
+    /// changes.
+    pub fn expect_missing(&mut self, path: &str) -> Result<(), AllocError>
+        ensures told { (at : List ℕ) → ⟦<MemoryFiles as Files>⟧.contents self.new at ≡ ⟦<MemoryFiles as Files>⟧.contents self.old at }
+        ensures count { (at : List ℕ) → ⟦<MemoryFiles as Files>⟧.faults self.new at ≡ ⟦<MemoryFiles as Files>⟧.faults self.old at }
+        ensures declared { (at : List ℕ) → is_declared self.new.entries.items at ≡ (is_declared self.old.entries.items at || (is_ok result && bytes_eq path.now at)) }
+        ensures plan { files_plan self.new ≡ files_plan self.old }
+    {
+        let path = String::from_str(self.alloc, path)?;
+        let faults = self.elsewhere;
+        self.entries.push(Entry {
+            path,
+            bytes: None,
             faults,
         })?;
         Ok(())
@@ -270,17 +325,27 @@ impl Files for MemoryFiles {
 
     ghost faults = { λ files. count_at files.elsewhere files.entries.items };
 
-    fn read(&mut self, path: &str, from: u64, into: &mut [u8]) -> Result<usize, Failed> {
+    fn read(&mut self, path: &str, from: u64, into: &mut [u8]) -> Result<usize, Failed>
+        requires { 0 < length into.old }
+        ensures within { IfOk result (λ n. n ≤ length into.old) }
+        ensures given { IfOk result (λ n. IfSome (file_at self.old.entries.items path.now) (λ file. Gives (drop from file) into.old n into.new)) }
+        ensures cause { OnErr result (Rose (count_at self.old.elsewhere self.old.entries.items path.now) (count_at self.new.elsewhere self.new.entries.items path.now)) }
+        ensures same { (at : List ℕ) → file_at self.new.entries.items at ≡ file_at self.old.entries.items at }
+        ensures count { (at : List ℕ) → count_at self.old.elsewhere self.old.entries.items at ≤ count_at self.new.elsewhere self.new.entries.items at }
+        ensures exact { result_ok result ≡ read_count (files_plan self.old) (file_at self.old.entries.items path.now) from (length into.old) }
+        ensures unread { OnErr result (into.new ≡ into.old) }
+        ensures kept { OnOk result ((at : List ℕ) → count_at self.new.elsewhere self.new.entries.items at ≡ count_at self.old.elsewhere self.old.entries.items at) }
+        ensures own { (at : List ℕ) → IsFalse (bytes_eq path.now at) → IsTrue (is_declared self.old.entries.items at) → count_at self.new.elsewhere self.new.entries.items at ≡ count_at self.old.elsewhere self.old.entries.items at }
+        ensures declared { (at : List ℕ) → is_declared self.new.entries.items at ≡ is_declared self.old.entries.items at }
+        ensures plan { files_plan self.new ≡ called (files_plan self.old) }
+    {
         let next = self.plan.next(into.len());
-        let at = place(&self.entries, path);
-        match next {
-            Some(most) if at < self.entries.len() => {
-                Ok(copy(&self.entries[at].bytes, from, most, into))
-            }
-            _ => {
-                raise(&mut self.entries, &mut self.elsewhere, path);
-                Err(Failed)
+        if let Some(most) = next {
+            if let Some(bytes) = bytes_at(&self.entries, path) {
+                return Ok(copy(bytes, from, most, into));
             }
         }
+        raise(&mut self.entries, &mut self.elsewhere, path);
+        Err(Failed)
     }
 }

@@ -1,6 +1,6 @@
 use super::{
-    Failed, Form, LoadFault, MemoryFiles, MemorySink, NeverSink, Words, WordsFault, load_file,
-    put_all, read_words,
+    Failed, Files, Form, LoadFault, MemoryFiles, MemorySink, NeverSink, Sink, Words, WordsFault,
+    load_file, put_all, read_words,
 };
 use std::alloc::{AllocError, Global};
 use std::test::Fail;
@@ -94,6 +94,55 @@ fn failed_reads_are_counted_for_their_path(rt: HostRuntime) -> Result<(), Fail> 
     assert_eq!(rt; files.faults("missing"), 1);
     assert!(rt; load_file(alloc, &mut files, "eight", 8)?.as_slice() == b"abcdefgh".as_slice());
     assert_eq!(rt; files.faults("eight"), 1);
+    Ok(())
+}
+
+#[test]
+fn a_sink_fails_at_the_calls_of_its_list(rt: HostRuntime) -> Result<(), Fail> {
+    let alloc = rt.alloc();
+    let mut sink = MemorySink::with_plan(alloc, 3, vec![in alloc; 1, 3]?);
+    assert_eq!(rt; sink.put(b"abcde"), Ok(3));
+    assert_eq!(rt; sink.put(b"fgh"), Err(Failed));
+    assert_eq!(rt; sink.put(b"ij"), Ok(2));
+    assert_eq!(rt; sink.put(b"k"), Err(Failed));
+    assert_eq!(rt; sink.as_slice(), b"abcij".as_slice());
+    assert_eq!(rt; sink.faults(), 2);
+    Ok(())
+}
+
+#[test]
+fn files_fail_at_the_calls_of_their_list(rt: HostRuntime) -> Result<(), Fail> {
+    let alloc = rt.alloc();
+    let mut files = MemoryFiles::with_plan(alloc, 3, vec![in alloc; 1, 3]?);
+    files.add("five", b"abcde")?;
+    let mut into = [0; 4];
+    assert_eq!(rt; files.read("five", 0, &mut into), Ok(3));
+    assert_eq!(rt; into, [b'a', b'b', b'c', 0]);
+    assert_eq!(rt; files.read("five", 3, &mut into), Err(Failed));
+    assert_eq!(rt; into, [b'a', b'b', b'c', 0]);
+    assert_eq!(rt; files.read("five", 3, &mut into), Ok(2));
+    assert_eq!(rt; into, [b'd', b'e', b'c', 0]);
+    assert_eq!(rt; files.read("five", 5, &mut into), Err(Failed));
+    assert_eq!(rt; files.faults("five"), 2);
+    Ok(())
+}
+
+#[test]
+fn a_declared_missing_path_has_a_count_of_its_own(rt: HostRuntime) -> Result<(), Fail> {
+    let mut files = MemoryFiles::new(rt.alloc());
+    files.expect_missing("declared")?;
+    let mut into = [0; 4];
+    assert_eq!(rt; files.read("declared", 0, &mut into), Err(Failed));
+    assert_eq!(rt; files.faults("declared"), 1);
+    assert_eq!(rt; files.faults("another"), 0);
+    assert_eq!(rt; files.read("another", 0, &mut into), Err(Failed));
+    assert_eq!(rt; files.read("another", 0, &mut into), Err(Failed));
+    assert_eq!(rt; files.faults("declared"), 1);
+    assert_eq!(rt; files.faults("another"), 2);
+    // a file that is added later is found, and the count stays
+    files.add("declared", b"ab")?;
+    assert_eq!(rt; files.read("declared", 0, &mut into), Ok(2));
+    assert_eq!(rt; files.faults("declared"), 1);
     Ok(())
 }
 

@@ -1,6 +1,6 @@
 use Rattle.std.proofs.Common.{◌≤◌, ◌<◌, arith, length}
 use Rattle.fv_cli.specs.Memory.{place_of}
-use Rattle.fv_cli.proofs.Raised.{file_at-raised, count_at-raised, count_at-set, count_at-place, count_at-none, count_at-elsewhere}
+use Rattle.fv_cli.proofs.Raised.{file_at-raised, count_at-raised, count_at-set, count_at-place, count_at-none, count_at-elsewhere, count_at-others, count_at-own, is_declared-raised}
 use Rattle.fv_cli.proofs.base.memory.raise.Goals as goal
 
 pub returns-then-at-entries-clause-told : goal.returns-then-at-entries-clause-told
@@ -29,3 +29,15 @@ returns-else-at-entries-clause-rose c =
 pub returns-else-at-entries-clause-count : goal.returns-else-at-entries-clause-count
 returns-else-at-entries-clause-count c at =
     count_at-elsewhere c.args.elsewhere.now c.one_more.result c.args.entries.now at c.one_more.ensures.later
+
+pub returns-then-at-entries-clause-own : goal.returns-then-at-entries-clause-own
+returns-then-at-entries-clause-own c at apart declared =
+    rw c.place-at.ensures (count_at-others c.args.elsewhere.now c.args.entries.now c.index-entries-at.result c.one_more-entry.result c.args.path.now at apart)
+
+pub returns-then-at-entries-clause-declared : goal.returns-then-at-entries-clause-declared
+returns-then-at-entries-clause-declared c at =
+    is_declared-raised c.args.entries.now c.place-at.result c.index-entries-at.result c.one_more-entry.result at
+
+pub returns-else-at-entries-clause-own : goal.returns-else-at-entries-clause-own
+returns-else-at-entries-clause-own c at apart declared =
+    count_at-own c.args.elsewhere.now c.one_more.result c.args.entries.now at declared
