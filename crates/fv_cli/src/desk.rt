@@ -3,8 +3,8 @@
 ghost use Rattle.std.specs.Prelude.{◌≤◌, length};
 
 use crate::messages::{
-    BARRIER_REQUEST, FEATURES_HEAD, FEATURES_REPLY, FEATURES_REQUEST, HELLO, PACKET_IN, PACKET_IN_HEAD, SET_CONFIG, delete_all,
-    message, packet_in,
+    BARRIER_REQUEST, FEATURES_HEAD, FEATURES_REPLY, FEATURES_REQUEST, HELLO, PACKET_IN,
+    PACKET_IN_HEAD, SET_CONFIG, delete_all, message, packet_in,
 };
 use crate::recorded::{Record, SLICE_UP, SWITCH_BYTES, SWITCH_UP};
 use flowspace::{Policy, SwitchPolicy, limits};
@@ -14,9 +14,13 @@ use std::alloc::{AllocError, Global};
 
 /// The transaction ids of the proxy's own requests.
 const HELLO_XID: u32 = 0xff00_0000;
+
 const FEATURES_XID: u32 = 0xff00_0001;
+
 const CONFIG_XID: u32 = 0xff00_0002;
+
 const DELETE_XID: u32 = 0xff00_0003;
+
 const BARRIER_XID: u32 = 0xff00_0004;
 
 /// SET_CONFIG: no flags, and packets sent up whole (OpenFlow 1.0.0, section 5.3.2).

@@ -34,6 +34,7 @@ const NO_PORT: u16 = 0xffff;
 
 /// Bytes of a FEATURES_REPLY before its ports, and of a port (OpenFlow 1.0.0, sections 5.3.1 and 5.2.1).
 pub(crate) const FEATURES_HEAD: usize = 32;
+
 pub(crate) const PORT_SIZE: usize = 48;
 
 /// Bytes of a PACKET_IN before its packet (OpenFlow 1.0.0, section 5.4.1).

@@ -6,9 +6,12 @@ pub const UNTAGGED: u16 = 0xffff;
 
 /// Ethernet types.
 pub const IPV4: u16 = 0x0800;
+
 pub const ARP: u16 = 0x0806;
 
 /// IP protocols.
 pub const ICMP: u8 = 1;
+
 pub const TCP: u8 = 6;
+
 pub const UDP: u8 = 17;
