@@ -13,6 +13,7 @@ use Rattle.of10_action.specs.declared.action.Action.TheVariants.{Output, SetVlan
 abbrev pub is_untagged : Header → Bool
 is_untagged h = h.dl_vlan == 0xffff
 
+-- an IPv4 packet
 abbrev pub is_ipv4 : Header → Bool
 is_ipv4 h = h.dl_type == 0x0800
 

@@ -90,6 +90,51 @@ fn without_vlan(m: &Pattern) -> Pattern
     }
 }
 
+fn from_address(m: &Pattern, address: u32) -> Pattern
+    ensures { result ≡ cover_of m.now (Action.SetNwSrc address) }
+{
+    let nw_src = whole(address);
+    where_ipv4(m, Pattern { nw_src, ..*m })
+}
+
+fn to_address(m: &Pattern, address: u32) -> Pattern
+    ensures { result ≡ cover_of m.now (Action.SetNwDst address) }
+{
+    let nw_dst = whole(address);
+    where_ipv4(m, Pattern { nw_dst, ..*m })
+}
+
+fn with_service(m: &Pattern, service: u8) -> Pattern
+    ensures { result ≡ cover_of m.now (Action.SetNwTos service) }
+{
+    let nw_tos = Some(service_bits(service));
+    where_ipv4(m, Pattern { nw_tos, ..*m })
+}
+
+fn from_port(m: &Pattern, port: u16) -> Pattern
+    ensures { result ≡ cover_of m.now (Action.SetTpSrc port) }
+{
+    let tp_src = Some(port);
+    where_tcp_or_udp(m, Pattern { tp_src, ..*m })
+}
+
+fn to_port(m: &Pattern, port: u16) -> Pattern
+    ensures { result ≡ cover_of m.now (Action.SetTpDst port) }
+{
+    let tp_dst = Some(port);
+    where_tcp_or_udp(m, Pattern { tp_dst, ..*m })
+}
+
+fn with_vlan(m: &Pattern, vlan: u16) -> Pattern
+    ensures { result ≡ cover_of m.now (Action.SetVlanVid vlan) }
+{
+    Pattern {
+        dl_vlan: Some(vlan_number(vlan)),
+        dl_vlan_pcp: priority_behind(m),
+        ..*m
+    }
+}
+
 fn cover(m: &Pattern, action: &Action) -> Pattern
     requires range { IsInRange m.now }
     requires address { HasAddress action.now }
@@ -98,11 +143,7 @@ fn cover(m: &Pattern, action: &Action) -> Pattern
 {
     match *action {
         Action::Output { .. } | Action::Enqueue { .. } => *m,
-        Action::SetVlanVid(vlan) => Pattern {
-            dl_vlan: Some(vlan_number(vlan)),
-            dl_vlan_pcp: priority_behind(m),
-            ..*m
-        },
+        Action::SetVlanVid(vlan) => with_vlan(m, vlan),
         Action::SetVlanPcp(priority) => with_priority(m, priority),
         Action::StripVlan => without_vlan(m),
         Action::SetDlSrc(address) => Pattern {
@@ -113,41 +154,11 @@ fn cover(m: &Pattern, action: &Action) -> Pattern
             dl_dst: Some(address),
             ..*m
         },
-        Action::SetNwSrc(address) => where_ipv4(
-            m,
-            Pattern {
-                nw_src: whole(address),
-                ..*m
-            },
-        ),
-        Action::SetNwDst(address) => where_ipv4(
-            m,
-            Pattern {
-                nw_dst: whole(address),
-                ..*m
-            },
-        ),
-        Action::SetNwTos(service) => where_ipv4(
-            m,
-            Pattern {
-                nw_tos: Some(service_bits(service)),
-                ..*m
-            },
-        ),
-        Action::SetTpSrc(port) => where_tcp_or_udp(
-            m,
-            Pattern {
-                tp_src: Some(port),
-                ..*m
-            },
-        ),
-        Action::SetTpDst(port) => where_tcp_or_udp(
-            m,
-            Pattern {
-                tp_dst: Some(port),
-                ..*m
-            },
-        ),
+        Action::SetNwSrc(address) => from_address(m, address),
+        Action::SetNwDst(address) => to_address(m, address),
+        Action::SetNwTos(service) => with_service(m, service),
+        Action::SetTpSrc(port) => from_port(m, port),
+        Action::SetTpDst(port) => to_port(m, port),
     }
 }
 

@@ -77,13 +77,10 @@ pub fn rewrite_header(h: &Header12, action: &Action) -> Header12
         Action::SetDlDst(dl_dst) => Header12 { dl_dst, ..*h },
         Action::SetNwSrc(nw_src) => where_ipv4(h, Header12 { nw_src, ..*h }),
         Action::SetNwDst(nw_dst) => where_ipv4(h, Header12 { nw_dst, ..*h }),
-        Action::SetNwTos(service) => where_ipv4(
-            h,
-            Header12 {
-                nw_tos: service_bits(service),
-                ..*h
-            },
-        ),
+        Action::SetNwTos(service) => {
+            let nw_tos = service_bits(service);
+            where_ipv4(h, Header12 { nw_tos, ..*h })
+        }
         Action::SetTpSrc(tp_src) => where_tcp_or_udp(h, Header12 { tp_src, ..*h }),
         Action::SetTpDst(tp_dst) => where_tcp_or_udp(h, Header12 { tp_dst, ..*h }),
     }

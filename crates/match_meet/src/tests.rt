@@ -29,20 +29,23 @@ fn prefix(value: u32, bits: u8) -> Option<Prefix> {
     Some(Prefix { bits, value })
 }
 
-fn from_net(value: u32, bits: u8) -> Match {
-    match_of(&Pattern {
-        dl_type: Some(0x0800),
-        nw_src: prefix(value, bits),
-        ..FREE
-    })
+/// IPv4 packets from a network, by the wildcard word and the address of the match.
+fn spelled(word: u32, address: u32) -> [u8; 40] {
+    let mut bytes = [0; 40];
+    bytes[0..4].copy_from_slice(&word.to_be_bytes());
+    bytes[22..24].copy_from_slice(&[0x08, 0x00]);
+    bytes[28..32].copy_from_slice(&address.to_be_bytes());
+    bytes
 }
 
 #[test]
 fn the_longer_prefix_is_the_meet(rt: HostRuntime) {
-    let net = from_net(0x0a010200, 24);
-    let wide = from_net(0x0a000000, 8);
-    let other = from_net(0x0a020000, 16);
+    let net_bytes = spelled(0x003808ef, 0x0a010200);
+    let net = Match::decode(&net_bytes);
+    let wide = Match::decode(&spelled(0x003818ef, 0x0a000000));
+    let other = Match::decode(&spelled(0x003810ef, 0x0a020000));
     assert_eq!(rt; meet(&net, &wide), Some(net));
+    assert_eq!(rt; meet(&net, &wide).map(|m| m.encode()), Some(net_bytes));
     assert_eq!(rt; meet(&wide, &net), Some(net));
     assert_eq!(rt; meet(&net, &other), None);
     assert!(rt; disjoint(&net, &other));
@@ -195,10 +198,6 @@ fn headers_are_rewritten(rt: HostRuntime) {
         dl_vlan_pcp: 0,
         ..h
     };
-    let arp = Header12 {
-        dl_type: 0x0806,
-        ..h
-    };
     let vid = Action::SetVlanVid(0x1005);
     let pcp = Action::SetVlanPcp(0x0d);
     assert_eq!(rt; rewrite_header(&h, &Action::StripVlan), untagged);
@@ -218,15 +217,20 @@ fn headers_are_rewritten(rt: HostRuntime) {
             ..h
         }
     );
-    assert_eq!(rt;
-        rewrite_header(&h, &Action::SetNwSrc(9)),
-        Header12 { nw_src: 9, ..h }
-    );
+}
+
+#[test]
+fn network_fields_and_ports_are_rewritten_where_they_are(rt: HostRuntime) {
+    let h = FIRST_HEADER;
+    let arp = Header12 {
+        dl_type: 0x0806,
+        ..h
+    };
+    let from = Header12 { nw_src: 9, ..h };
+    let to = Header12 { tp_dst: 9, ..h };
+    assert_eq!(rt; rewrite_header(&h, &Action::SetNwSrc(9)), from);
     assert_eq!(rt; rewrite_header(&arp, &Action::SetNwSrc(9)), arp);
-    assert_eq!(rt;
-        rewrite_header(&h, &Action::SetTpDst(9)),
-        Header12 { tp_dst: 9, ..h }
-    );
+    assert_eq!(rt; rewrite_header(&h, &Action::SetTpDst(9)), to);
     assert_eq!(rt; rewrite_header(&arp, &Action::SetTpDst(9)), arp);
 }
 

@@ -98,43 +98,25 @@ fn free_matches_have_many_spellings(rt: HostRuntime) {
 
 #[test]
 fn counts_of_ignored_bits_make_prefixes(rt: HostRuntime) {
+    // word and address as read; word and address as written; the length of the prefix
     let cases = [
-        (
-            0x003808ef,
-            0x0a010200,
-            Some(Prefix {
-                bits: 24,
-                value: 0x0a010200,
-            }),
-        ),
-        (
-            0x00381fef,
-            0x8a010203,
-            Some(Prefix {
-                bits: 1,
-                value: 0x80000000,
-            }),
-        ),
-        (
-            0x003800ef,
-            0x8a010203,
-            Some(Prefix {
-                bits: 32,
-                value: 0x8a010203,
-            }),
-        ),
-        (0x003820ef, 0x8a010203, None),
-        (0x00383fef, 0x8a010203, None),
+        (0x003808ef, 0x0a010200, 0x003808ef, 0x0a010200, 24),
+        (0x00381fef, 0x8a010203, 0x00381fef, 0x80000000, 1),
+        (0x003800ef, 0x8a010203, 0x003800ef, 0x8a010203, 32),
+        (0x003820ef, 0x8a010203, 0x003820ef, 0, 0),
+        (0x00383fef, 0x8a010203, 0x003820ef, 0, 0),
     ];
-    for (word, address, nw_src) in cases {
+    for (word, address, kept_word, value, bits) in cases {
         let expected = Pattern {
             dl_type: Some(0x0800),
-            nw_src,
+            nw_src: (bits > 0).then_some(Prefix { bits, value }),
             ..FREE
         };
+        let found = Match::decode(&from_source(word, address));
+        assert_eq!(rt; *found.pattern(), expected, "at {word:x}");
         assert_eq!(rt;
-            *Match::decode(&from_source(word, address)).pattern(),
-            expected,
+            found.encode(),
+            from_source(kept_word, value),
             "at {word:x}"
         );
     }

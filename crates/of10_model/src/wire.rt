@@ -96,27 +96,30 @@ pub fn put_u64(out: &mut Vec<u8>, n: u64) -> Result<(), AllocError>
     out.extend_from_slice(&bytes)
 }
 
-/// Writes two bytes at `at`; those before it stay.
+/// Writes two bytes at `at`; all others stay.
 pub fn set_u16(out: &mut [u8], at: usize, n: u16)
     requires { at + 2 ≤ length out.old }
-    ensures { take (at + 2) out.new ≡ take at out.old ++ big_bytes 2 n }
+    ensures written { take (at + 2) out.new ≡ take at out.old ++ big_bytes 2 n }
+    ensures behind { drop (at + 2) out.new ≡ drop (at + 2) out.old }
 {
     BigEndian::write_u16(&mut out[at..at + 2], n);
 }
 
-/// Writes four bytes at `at`; those before it stay.
+/// Writes four bytes at `at`; all others stay.
 pub fn set_u32(out: &mut [u8], at: usize, n: u32)
     requires { at + 4 ≤ length out.old }
-    ensures { take (at + 4) out.new ≡ take at out.old ++ big_bytes 4 n }
+    ensures written { take (at + 4) out.new ≡ take at out.old ++ big_bytes 4 n }
+    ensures behind { drop (at + 4) out.new ≡ drop (at + 4) out.old }
 {
     BigEndian::write_u32(&mut out[at..at + 4], n);
 }
 
-/// Writes a number below 2^48 in six bytes at `at`; those before it stay.
+/// Writes a number below 2^48 in six bytes at `at`; all others stay.
 pub fn set_u48(out: &mut [u8], at: usize, n: u64)
     requires within { at + 6 ≤ length out.old }
     requires small { n < 2 ^ 48 }
-    ensures { take (at + 6) out.new ≡ take at out.old ++ big_bytes 6 n }
+    ensures written { take (at + 6) out.new ≡ take at out.old ++ big_bytes 6 n }
+    ensures behind { drop (at + 6) out.new ≡ drop (at + 6) out.old }
 {
     BigEndian::write_u48(&mut out[at..at + 6], n);
 }
