@@ -1,3 +1,4 @@
 pub mod Loop
 pub mod Again
 pub mod Cut
+pub mod Lengths

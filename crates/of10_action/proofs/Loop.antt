@@ -1,6 +1,6 @@
 -- Reading actions one after the other, as a loop does.
 use Rattle.std.proofs.Common.{◌≡◌, ℕ, zero, suc, ◌≤◌, ◌<◌, ◌%◌, Bool, true, false, cond, not, ltb, eqb, ◌||◌, List, [], ◌∷◌, ◌++◌, length, drop, Result, Ok, Err, refl, sym, ap, subst, ◌∙◌, append_assoc, arith}
-use Rattle.std.proofs.lemmas.Bool.{ltb-false, or_parts}
+use Rattle.std.proofs.lemmas.Bool.{ltb-false, eqb-true, or_parts}
 use Rattle.std.proofs.lemmas.List.{append-nil, length-drop}
 use Rattle.of10_model.specs.Normal.{number_at}
 use Rattle.of10_action.specs.declared.action.Action.{Action}
@@ -18,8 +18,13 @@ chosen : {A : Type 0} (b : Bool) (fault : WireFault) (y x : A) → cond b (Ok y)
 chosen true fault y x e = cc
 chosen false fault y x e = absurd cc
 
--- the length of an action that is read is 8 and more, and no more than the bytes
-sizes : (bytes : List ℕ) (head : ℕ × ℕ) → head_at bytes ≡ Ok head → (8 ≤ head.1) × (head.1 ≤ length bytes)
+-- the test of a length was passed
+known : {A : Type 0} (b : Bool) (fault : WireFault) (size wanted : ℕ) (y x : A) → eqb size wanted ≡ b → cond b (Ok y) (Err fault) ≡ Ok x → size ≡ wanted
+known true fault size wanted y x is e = eqb-true size wanted is
+known false fault size wanted y x is e = absurd cc
+
+-- the length of an action that is read is 8 and more, no more than the bytes, and that of its kind
+pub sizes : (bytes : List ℕ) (head : ℕ × ℕ) → head_at bytes ≡ Ok head → (8 ≤ head.1) × (head.1 ≤ length bytes) × (head.0 ≤ 11) × (head.1 ≡ size_of head.0)
 unfolding head_at
 sizes bytes head e =
     let kind = number_at bytes 0 2 in
@@ -32,10 +37,10 @@ sizes bytes head e =
     let last = or_parts (ltb (length bytes) 8 || ltb size 8 || not (eqb (size % 8) 0)) (ltb (length bytes) size) b.0 in
     let before = or_parts (ltb (length bytes) 8 || ltb size 8) (not (eqb (size % 8) 0)) last.0 in
     let first = or_parts (ltb (length bytes) 8) (ltb size 8) before.0 in
-    let P : ℕ × ℕ → Type 0 = λ h. (8 ≤ h.1) × (h.1 ≤ length bytes) in
-    subst P is (ltb-false _ _ first.1, ltb-false _ _ last.1)
+    let P : ℕ × ℕ → Type 0 = λ h. (8 ≤ h.1) × (h.1 ≤ length bytes) × (h.0 ≤ 11) × (h.1 ≡ size_of h.0) in
+    subst P is (ltb-false _ _ first.1, ltb-false _ _ last.1, ltb-false _ _ d.0, known (eqb size (size_of kind)) (ActionLength size) size (size_of kind) (kind, size) head refl d.1)
 
-bind_ok : {A B : Type 0} (r : Result A WireFault) (f : A → Result B WireFault) (y : B) → (r >>= f) ≡ Ok y → (x : A) × (r ≡ Ok x) × (f x ≡ Ok y)
+pub bind_ok : {A B : Type 0} (r : Result A WireFault) (f : A → Result B WireFault) (y : B) → (r >>= f) ≡ Ok y → (x : A) × (r ≡ Ok x) × (f x ≡ Ok y)
 bind_ok (Ok x) f y e = (x, refl, e)
 bind_ok (Err d) f y e = absurd cc
 
@@ -54,7 +59,7 @@ same_bind (Ok x) f g h = h x refl
 same_bind (Err fault) f g h = refl
 
 -- the count doesn't matter once it reaches the number of bytes
-same_count : (n m : ℕ) (bytes : List ℕ) → length bytes ≤ n → length bytes ≤ m → actions_at n bytes ≡ actions_at m bytes
+pub same_count : (n m : ℕ) (bytes : List ℕ) → length bytes ≤ n → length bytes ≤ m → actions_at n bytes ≡ actions_at m bytes
 unfolding actions_at
 same_count n m [] le1 le2 = refl
 same_count zero m (b ∷ bytes) le1 le2 = absurd (omega arith)

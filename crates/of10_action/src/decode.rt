@@ -1,8 +1,8 @@
-ghost use Rattle.std.specs.Prelude.{◌≡◌, ◌<◌, ◌≤◌, List, length, IfOk, Ok};
+ghost use Rattle.std.specs.Prelude.{◌≡◌, ◌<◌, ◌≤◌, ℕ, List, length, IfOk, Ok};
 ghost use Rattle.std.specs.List.{All};
 ghost use Rattle.of10_action.specs.declared.action.Action.{Action};
 ghost use Rattle.of10_action.specs.Actions.{IsAction, HasAddress, size_of, spelling};
-ghost use Rattle.of10_action.specs.Reading.{Gives, Reads, head_at, action_of, action_at, read_all};
+ghost use Rattle.of10_action.specs.Reading.{Gives, Reads, head_at, action_of, action_at, actions_at, read_all};
 
 use crate::action::{Action, Actions};
 use crate::encode::size;
@@ -117,4 +117,14 @@ pub fn decode_list(alloc: Global, bytes: &[u8]) -> Result<Actions, DecodeFault>
 /// What is spelled is read again.
 pub fn spelling_is_read()
     ensures { (actions : List Action) → All IsAction actions → read_all (spelling actions) ≡ Ok actions }
+{}
+
+/// What is read has the length of its spelling.
+pub fn reading_keeps_the_length()
+    ensures { (bytes : List ℕ) (actions : List Action) → read_all bytes ≡ Ok actions → length (spelling actions) ≡ length bytes }
+{}
+
+/// A count of no less than the bytes ends no reading early.
+pub fn count_ends_no_reading()
+    ensures { (bytes : List ℕ) (n : ℕ) → length bytes ≤ n → actions_at n bytes ≡ read_all bytes }
 {}

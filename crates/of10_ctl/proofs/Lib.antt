@@ -1,0 +1,5 @@
+pub mod Reading
+pub mod Cutting
+pub mod Standing
+pub mod Answering
+pub mod Whole

@@ -1,0 +1,22 @@
+-- Frames: the pieces that a stream of messages is cut into, and the messages that this proxy makes.
+use Rattle.std.specs.Prelude.{◌≡◌, ℕ, ◌+◌, ◌≤◌, nat_lt, Bool, if◌then◌else◌, List, ◌++◌, length, take}
+use Rattle.byteorder.specs.Endian.{big_bytes}
+use Rattle.of10_ctl.specs.Heads.{length_field, head_bytes}
+
+-- a length field that doesn't even count the header (OpenFlow 1.0.0, section 5.1)
+abbrev pub is_bad : List ℕ → Bool
+is_bad bytes = nat_lt (length_field bytes) 8
+
+-- as many bytes as the length field says (OpenFlow 1.0.0, section 5.1); where that is below 8, the header alone (this proxy's own rule)
+pub record IsFrame (bytes : List ℕ) : Type 0 where
+  pub header : 8 ≤ length bytes
+  pub small : length bytes ≤ 65535
+  pub sized : length bytes ≡ (if is_bad bytes then 8 else length_field bytes)
+
+-- a message of version 1: its header and its body (OpenFlow 1.0.0, section 5.1)
+abbrev pub message_of : ℕ → ℕ → List ℕ → List ℕ
+message_of kind xid body = head_bytes kind (8 + length body) xid ++ body
+
+-- an error message, which carries the first 64 bytes of the message at fault, or all of a shorter one (OpenFlow 1.0.0, section 5.4.4)
+abbrev pub error_of : ℕ → ℕ → ℕ → List ℕ → List ℕ
+error_of xid class code cause = message_of 1 xid (big_bytes 2 class ++ (big_bytes 2 code ++ take 64 cause))

@@ -1,0 +1,7 @@
+-- Frames of one type of message.
+use Rattle.std.specs.Prelude.{◌≡◌, ℕ, false, List, slice_index}
+use Rattle.of10_ctl.specs.Frames.{IsFrame, is_bad}
+
+-- a frame of version 1, of that type and of no bad length (OpenFlow 1.0.0, section 5.1)
+abbrev pub IsOf : ℕ → List ℕ → Type 0
+IsOf kind bytes = IsFrame bytes × (slice_index bytes 0 ≡ 1) × (slice_index bytes 1 ≡ kind) × (is_bad bytes ≡ false)

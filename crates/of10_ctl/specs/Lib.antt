@@ -1,0 +1,4 @@
+pub mod Heads
+pub mod Frames
+pub mod Kinds
+pub mod Streams

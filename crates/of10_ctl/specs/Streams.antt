@@ -1,0 +1,53 @@
+-- Cutting a stream of bytes into frames, whatever the pieces in which the bytes come. Sections are those of OpenFlow 1.0.0; what names none is this proxy's own rule.
+use Rattle.std.specs.Prelude.{◌≡◌, ℕ, zero, suc, nat_lt, Bool, if◌then◌else◌, List, [], ◌∷◌, ◌++◌, length, take, drop}
+use Rattle.std.specs.List.{list_any}
+use Rattle.of10_ctl.specs.declared.framer.Next.{Next}
+use Rattle.of10_ctl.specs.declared.framer.Next.TheVariants.{Frame, NeedMore, Ended}
+use Rattle.of10_ctl.specs.Heads.{length_field}
+use Rattle.of10_ctl.specs.Frames.{is_bad}
+
+-- the frames of a stream, at most as many as the count: each has the bytes that its length field says (section 5.1), and one of a bad length, its header alone, is the last
+unfoldable pub frames_at : ℕ → List ℕ → List (List ℕ)
+frames_at zero bytes = []
+frames_at (suc n) bytes =
+    if nat_lt (length bytes) 8 then []
+    else if is_bad bytes then take 8 bytes ∷ []
+    else if nat_lt (length bytes) (length_field bytes) then []
+    else take (length_field bytes) bytes ∷ frames_at n (drop (length_field bytes) bytes)
+
+-- all frames of a stream (section 5.1): there are no more of them than bytes, since none is empty
+unfoldable pub frames_of : List ℕ → List (List ℕ)
+frames_of bytes = frames_at (length bytes) bytes
+
+-- whether one of the frames has a bad length (section 5.1)
+abbrev pub has_bad : List (List ℕ) → Bool
+has_bad frames = list_any is_bad frames
+
+-- the frames given are the first of all frames
+abbrev pub AreFirst : List (List ℕ) → List (List ℕ) → Type 0
+AreFirst given frames = (others : List (List ℕ)) × (given ++ others ≡ frames)
+
+-- the first of the frames that were not given, or that more bytes are needed
+abbrev pub next_of : List (List ℕ) → Next
+next_of [] = NeedMore
+next_of (frame ∷ others) = Frame frame
+
+-- what comes next, by all bytes fed and the frames given so far: the frame behind those, unless one of them has a bad length
+abbrev pub answer : List ℕ → List (List ℕ) → Next
+answer fed given = if has_bad given then Ended else next_of (drop (length given) (frames_of fed))
+
+-- the frame that an answer gives, if it gives one
+abbrev pub frame_in : Next → List (List ℕ)
+frame_in (Frame frame) = frame ∷ []
+frame_in NeedMore = []
+frame_in Ended = []
+
+-- what a framer keeps: the bytes not yet given, and whether it gave a frame of a bad length
+pub record Stream : Type 0 where
+  pub left : List ℕ
+  pub ended : Bool
+
+-- a framer stands for all bytes fed and the frames given: whatever is fed later, the frames of all are those given and then those of the bytes left
+pub record Stands (stream : Stream) (fed : List ℕ) (given : List (List ℕ)) : Type 0 where
+  pub ended : stream.ended ≡ has_bad given
+  pub frames : (later : List ℕ) → frames_of (fed ++ later) ≡ given ++ (if stream.ended then [] else frames_of (stream.left ++ later))

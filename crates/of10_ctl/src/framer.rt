@@ -1,0 +1,131 @@
+ghost use Rattle.std.specs.Prelude.{◌≡◌, ◌≤◌, ◌+◌, ◌*◌, ◌++◌, ◌∷◌, List, [], ℕ, if◌then◌else◌, IfOk, OnOk, OnErr, IfSome, IfNone, length, take, drop};
+ghost use Rattle.of10_ctl.specs.Frames.{IsFrame, is_bad};
+ghost use Rattle.of10_ctl.specs.Streams.{Stands, answer, frame_in, frames_of};
+
+use crate::frame::{Frame, HEADER};
+use of10_model::wire::u16_at;
+use std::alloc::{AllocError, Global};
+use std::marker::Model;
+
+/// What comes next in a stream.
+#[derive(Debug, Drop)]
+pub enum Next {
+    /// The next frame of all bytes that were fed.
+    Frame(Frame),
+    /// Not all bytes of the next frame were fed.
+    NeedMore,
+    /// A frame of a bad length was given, so that nobody knows where the next one begins.
+    Ended,
+}
+
+/// How many bytes the first frame takes, where all of them are there.
+fn first_size(bytes: &[u8]) -> Option<usize>
+    ensures none { IfNone result (frames_of bytes.now ≡ []) }
+    ensures whole { IfSome result (λ n. n ≤ length bytes.now) }
+    ensures frame { IfSome result (λ n. IsFrame (take n bytes.now)) }
+    // Whatever comes behind it.
+    ensures first { IfSome result (λ n. (later : List ℕ) → frames_of (bytes.now ++ later) ≡ take n bytes.now ∷ (if is_bad (take n bytes.now) then [] else frames_of (drop n bytes.now ++ later))) }
+{
+    if bytes.len() < 8 {
+        return None;
+    }
+    let length = u16_at(bytes, 2);
+    if length < HEADER {
+        return Some(8);
+    }
+    let size = usize::from(length);
+    if bytes.len() < size {
+        return None;
+    }
+    Some(size)
+}
+
+/// Cuts a stream into frames, in whatever pieces its bytes come.
+#[derive(Debug, Drop)]
+pub struct Framer {
+    alloc: Global,
+    bytes: Vec<u8>,
+    /// How many of the bytes were given in frames.
+    read: usize,
+    ended: bool,
+}
+
+impl Model for Framer {
+    ghost use Rattle.std.specs.Prelude.{◌≤◌, length, drop};
+    ghost use Rattle.of10_ctl.specs.Streams.{Stream};
+
+    ghost Value = { Stream };
+
+    ghost view = { λ f. record { left = drop f.read f.bytes.items; ended = f.ended } };
+
+    ghost invariant = { λ f. f.read ≤ length f.bytes.items };
+}
+
+impl Framer {
+    /// Takes no memory.
+    pub fn new(alloc: Global) -> Framer
+        ensures { Stands result [] [] }
+    {
+        Framer {
+            alloc,
+            bytes: Vec::new(alloc),
+            read: 0,
+            ended: false,
+        }
+    }
+
+    /// The bytes that were not yet given.
+    fn left(&self) -> &[u8]
+        ensures { result.now ≡ self.now.left }
+    {
+        &self.bytes[self.read..]
+    }
+
+    /// Moves the bytes that are left to the front once they are fewer than those given, so that a byte
+    /// is moved at most once for each that was given.
+    fn make_room(&mut self)
+        ensures { self.new ≡ self.old }
+    {
+        let left = self.bytes.len() - self.read;
+        if left < self.read {
+            self.bytes.copy_within(self.read.., 0);
+            self.bytes.truncate(left);
+            self.read = 0;
+        }
+    }
+
+    /// Takes the next bytes of the stream. Those after a frame of a bad length are of no use.
+    pub fn feed(&mut self, piece: &[u8]) -> Result<(), AllocError>
+        ensures stands { OnOk result ((fed : List ℕ) (given : List (List ℕ)) → Stands self.old fed given → Stands self.new (fed ++ piece.now) given) }
+        ensures unchanged { OnErr result (self.new ≡ self.old) }
+    {
+        if self.ended {
+            return Ok(());
+        }
+        self.make_room();
+        self.bytes.extend_from_slice(piece)?;
+        Ok(())
+    }
+
+    /// The next frame of all that was fed; `NeedMore` where none is whole, and `Ended` after a frame of
+    /// a bad length.
+    pub fn next(&mut self) -> Result<Next, AllocError>
+        ensures answer { IfOk result (λ next. (fed : List ℕ) (given : List (List ℕ)) → Stands self.old fed given → next ≡ answer fed given) }
+        ensures stands { IfOk result (λ next. (fed : List ℕ) (given : List (List ℕ)) → Stands self.old fed given → Stands self.new fed (given ++ frame_in next)) }
+        // A frame takes at least eight of the bytes that are left.
+        ensures shorter { IfOk result (λ next. length self.new.left + 8 * length (frame_in next) ≤ length self.old.left) }
+        ensures unchanged { OnErr result (self.new ≡ self.old) }
+    {
+        if self.ended {
+            return Ok(Next::Ended);
+        }
+        let left = self.left();
+        let Some(size) = first_size(left) else {
+            return Ok(Next::NeedMore);
+        };
+        let frame = Frame::of(Vec::from_slice(self.alloc, &left[..size])?);
+        self.ended = frame.bad_length();
+        self.read += size;
+        Ok(Next::Frame(frame))
+    }
+}

@@ -1,0 +1,18 @@
+//! The messages of OpenFlow 1.0 as frames of bytes: their headers, their making, and cutting a stream
+//! into them.
+#![tactic(auto)]
+
+mod frame;
+mod framer;
+mod head;
+pub mod kind;
+pub mod laws;
+mod messages;
+
+pub use frame::{Frame, is_frame};
+pub use framer::{Framer, Next};
+pub use head::Head;
+pub use messages::{begin, error_frame, message};
+
+#[cfg(test)]
+mod tests;

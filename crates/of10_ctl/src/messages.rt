@@ -1,0 +1,69 @@
+ghost use Rattle.std.specs.Prelude.{◌≡◌, ◌+◌, ◌≤◌, IfOk, length, take};
+ghost use Rattle.of10_ctl.specs.Heads.{head_bytes};
+ghost use Rattle.of10_ctl.specs.Frames.{message_of, error_of};
+ghost use Rattle.of10_ctl.specs.Kinds.{IsOf};
+
+use crate::frame::{Frame, HEADER};
+use crate::kind::ERROR;
+use of10_model::wire::{put_u16, put_u32};
+use std::alloc::{AllocError, Global};
+
+/// Bytes of the message at fault that an error message carries at most (OpenFlow 1.0.0, section 5.4.4:
+/// at least 64).
+const CAUSE: usize = 64;
+
+/// The header of a message of version 1 whose body will have so many bytes, with room for them.
+pub fn begin(alloc: Global, kind: u8, xid: u32, body: usize) -> Result<Vec<u8>, AllocError>
+    requires { body ≤ 65527 }
+    ensures { IfOk result (λ v. v.items ≡ head_bytes kind (8 + body) xid) }
+{
+    let mut bytes = Vec::with_capacity(alloc, 8 + body)?;
+    bytes.extend_from_slice(&[1, kind])?;
+    put_u16(&mut bytes, HEADER + body as u16)?;
+    put_u32(&mut bytes, xid)?;
+    Ok(bytes)
+}
+
+/// The message of version 1 with this type, transaction and body (OpenFlow 1.0.0, section 5.1).
+pub fn message(alloc: Global, kind: u8, xid: u32, body: &[u8]) -> Result<Frame, AllocError>
+    requires { length body.now ≤ 65527 }
+    ensures value { IfOk result (λ f. f ≡ message_of kind xid body.now) }
+    ensures kind { IfOk result (λ f. IsOf kind f) }
+{
+    let mut bytes = begin(alloc, kind, xid, body.len())?;
+    bytes.extend_from_slice(body)?;
+    Ok(Frame::of(bytes))
+}
+
+/// What an error message carries of the message at fault.
+fn first(cause: &[u8]) -> &[u8]
+    ensures value { result.now ≡ take 64 cause.now }
+    ensures few { length result.now ≤ 64 }
+{
+    if cause.len() < CAUSE {
+        cause
+    } else {
+        &cause[..CAUSE]
+    }
+}
+
+/// The error message with this class and code, about a message whose bytes are `cause` (OpenFlow 1.0.0,
+/// section 5.4.4). It carries the first 64 of them, or all of fewer.
+#[tactic(auto, using(crate::proofs::Reading::error_written))]
+pub fn error_frame(
+    alloc: Global,
+    xid: u32,
+    class: u16,
+    code: u16,
+    cause: &[u8],
+) -> Result<Frame, AllocError>
+    ensures value { IfOk result (λ f. f ≡ error_of xid class code cause.now) }
+    ensures kind { IfOk result (λ f. IsOf 1 f) }
+{
+    let carried = first(cause);
+    let mut bytes = begin(alloc, ERROR, xid, 4 + carried.len())?;
+    put_u16(&mut bytes, class)?;
+    put_u16(&mut bytes, code)?;
+    bytes.extend_from_slice(carried)?;
+    Ok(Frame::of(bytes))
+}

@@ -1,0 +1,4 @@
+pub mod FlowMods
+pub mod FlowRemoveds
+pub mod PacketIns
+pub mod PacketOuts

@@ -1,0 +1,146 @@
+ghost use Rattle.std.specs.Prelude.{◌≡◌, ◌+◌, ◌≤◌, ◌++◌, length, drop, OnOk, IfOk};
+ghost use Rattle.std.specs.List.{All};
+ghost use Rattle.byteorder.specs.Endian.{big_bytes};
+ghost use Rattle.of10_model.specs.Spelling.{Spell};
+ghost use Rattle.of10_action.specs.Actions.{IsAction, spelling};
+ghost use Rattle.of10_action.specs.Reading.{Gives};
+ghost use Rattle.of10_ctl.specs.Kinds.{IsOf};
+ghost use Rattle.of10_flow.specs.FlowMods.{IsFlowMod, flow_mod_with, read_flow_mod, spell_flow_mod};
+
+use crate::pattern::{pattern_at, put_pattern};
+use of10_action::{Actions, DecodeFault, WireFault, decode_list, encode_list, list_size};
+use of10_ctl::kind::FLOW_MOD;
+use of10_ctl::{Frame, begin};
+use of10_match::Match;
+use of10_model::wire::{put_u16, put_u32, put_u64, u16_at, u32_at, u64_at};
+use std::alloc::{AllocError, Global};
+
+/// A change of a flow table (OpenFlow 1.0.0, section 5.3.3).
+#[derive(Debug, Drop)]
+pub struct FlowMod {
+    pub xid: u32,
+    pub pattern: Match,
+    /// A number of the controller's own, which the switch keeps with the entry.
+    pub cookie: u64,
+    /// What to do, such as `protocol::ADD`.
+    pub command: u16,
+    /// Seconds without a packet after which the entry goes; 0 for never.
+    pub idle: u16,
+    /// Seconds after which the entry goes; 0 for never.
+    pub hard: u16,
+    /// The higher one is looked at first.
+    pub priority: u16,
+    /// The buffered packet that the actions are applied to as well, or `protocol::NO_BUFFER`.
+    pub buffer: u32,
+    /// What a delete asks of an entry: an output to this port, or to any port where this is 0xffff.
+    pub out_port: u16,
+    /// Bits such as `protocol::CHECK_OVERLAP`.
+    pub flags: u16,
+    pub actions: Actions,
+}
+
+/// The flow-mod with these actions whose other fields the bytes have.
+#[tactic(auto, unfolding(crate::specs::FlowMods::flow_mod_with))]
+fn with_actions(actions: Actions, bytes: &[u8]) -> FlowMod
+    requires fields { 72 ≤ length bytes.now }
+    requires range { All IsAction actions }
+    requires fits { 72 + length (spelling actions) ≤ 65535 }
+    ensures value { result ≡ flow_mod_with actions bytes.now }
+    ensures range { IsFlowMod result }
+{
+    FlowMod {
+        xid: u32_at(bytes, 4),
+        pattern: pattern_at(bytes, 8),
+        cookie: u64_at(bytes, 48),
+        command: u16_at(bytes, 56),
+        idle: u16_at(bytes, 58),
+        hard: u16_at(bytes, 60),
+        priority: u16_at(bytes, 62),
+        buffer: u32_at(bytes, 64),
+        out_port: u16_at(bytes, 68),
+        flags: u16_at(bytes, 70),
+        actions,
+    }
+}
+
+fn behind(bytes: &[u8], at: usize) -> &[u8]
+    requires { at ≤ length bytes.now }
+    ensures value { result.now ≡ drop at bytes.now }
+    ensures size { length result.now + at ≡ length bytes.now }
+{
+    &bytes[at..]
+}
+
+/// What the bytes of a flow-mod say.
+#[tactic(auto, using(of10_action::proofs::Lengths::spelled_length), unfolding(crate::specs::FlowMods::read_flow_mod))]
+fn read(alloc: Global, bytes: &[u8]) -> Result<FlowMod, DecodeFault>
+    requires { length bytes.now ≤ 65535 }
+    ensures exact { Gives (λ m. m) result (read_flow_mod bytes.now) }
+    ensures range { IfOk result IsFlowMod }
+{
+    if bytes.len() < 72 {
+        return Err(DecodeFault::Wire(WireFault::Length(bytes.len() as u16)));
+    }
+    let actions = decode_list(alloc, behind(bytes, 72))?;
+    Ok(with_actions(actions, bytes))
+}
+
+fn put_entry(
+    out: &mut Vec<u8>,
+    pattern: &Match,
+    cookie: u64,
+    command: u16,
+) -> Result<(), AllocError>
+    ensures written { OnOk result (out.new.items ≡ out.old.items ++ (Spell pattern.now ++ big_bytes 8 cookie ++ big_bytes 2 command)) }
+    ensures size { length (Spell pattern.now) ≡ 40 }
+{
+    put_pattern(out, pattern)?;
+    put_u64(out, cookie)?;
+    put_u16(out, command)
+}
+
+fn put_times(out: &mut Vec<u8>, idle: u16, hard: u16, priority: u16) -> Result<(), AllocError>
+    ensures { OnOk result (out.new.items ≡ out.old.items ++ (big_bytes 2 idle ++ big_bytes 2 hard ++ big_bytes 2 priority)) }
+{
+    put_u16(out, idle)?;
+    put_u16(out, hard)?;
+    put_u16(out, priority)
+}
+
+fn put_place(out: &mut Vec<u8>, buffer: u32, out_port: u16, flags: u16) -> Result<(), AllocError>
+    ensures { OnOk result (out.new.items ≡ out.old.items ++ (big_bytes 4 buffer ++ big_bytes 2 out_port ++ big_bytes 2 flags)) }
+{
+    put_u32(out, buffer)?;
+    put_u16(out, out_port)?;
+    put_u16(out, flags)
+}
+
+impl FlowMod {
+    /// The flow-mod that the frame is, or the first fault in it: its length where it is shorter than its
+    /// fields, then what is wrong with the first action that is wrong.
+    pub fn decode(alloc: Global, frame: &Frame) -> Result<FlowMod, DecodeFault>
+        requires { IsOf 14 frame.now }
+        ensures exact { Gives (λ m. m) result (read_flow_mod frame.now) }
+        ensures range { IfOk result IsFlowMod }
+    {
+        read(alloc, frame.as_slice())
+    }
+
+    /// The message, of at most 65,535 bytes.
+    #[tactic(auto, unfolding(crate::specs::FlowMods::spell_flow_mod))]
+    pub fn encode(&self, alloc: Global) -> Result<Frame, AllocError>
+        requires { 72 + length (spelling self.now.actions) ≤ 65535 }
+        ensures value { IfOk result (λ f. f ≡ spell_flow_mod self.now) }
+        ensures kind { IfOk result (λ f. IsOf 14 f) }
+        ensures size { IfOk result (λ f. length f ≡ 72 + length (spelling self.now.actions)) }
+    {
+        let actions = self.actions.as_slice();
+        let size = list_size(actions) as usize;
+        let mut out = begin(alloc, FLOW_MOD, self.xid, 64 + size)?;
+        put_entry(&mut out, &self.pattern, self.cookie, self.command)?;
+        put_times(&mut out, self.idle, self.hard, self.priority)?;
+        put_place(&mut out, self.buffer, self.out_port, self.flags)?;
+        encode_list(actions, &mut out)?;
+        Ok(Frame::of(out))
+    }
+}

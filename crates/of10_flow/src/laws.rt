@@ -1,0 +1,32 @@
+//! Laws of the definitions. Each function's contract is the law; its body does nothing.
+
+ghost use Rattle.std.specs.Prelude.{◌≡◌, Ok};
+ghost use Rattle.of10_ctl.specs.Kinds.{IsOf};
+ghost use Rattle.of10_flow.specs.declared.flow_mod.FlowMod.{FlowMod};
+ghost use Rattle.of10_flow.specs.declared.flow_removed.FlowRemoved.{FlowRemoved};
+ghost use Rattle.of10_flow.specs.declared.packet_in.PacketIn.{PacketIn};
+ghost use Rattle.of10_flow.specs.declared.packet_out.PacketOut.{PacketOut};
+ghost use Rattle.of10_flow.specs.FlowMods.{IsFlowMod, spell_flow_mod, read_flow_mod};
+ghost use Rattle.of10_flow.specs.FlowRemoveds.{IsFlowRemoved, spell_flow_removed, read_flow_removed};
+ghost use Rattle.of10_flow.specs.PacketIns.{IsPacketIn, spell_packet_in, read_packet_in};
+ghost use Rattle.of10_flow.specs.PacketOuts.{IsPacketOut, spell_packet_out, read_packet_out};
+
+/// What is spelled as a flow-mod is one, and is read again.
+pub fn flow_mod_is_read_again()
+    ensures { (m : FlowMod) → IsFlowMod m → IsOf 14 (spell_flow_mod m) × (read_flow_mod (spell_flow_mod m) ≡ Ok m) }
+{}
+
+/// What is spelled as a packet-out is one, and is read again.
+pub fn packet_out_is_read_again()
+    ensures { (m : PacketOut) → IsPacketOut m → IsOf 13 (spell_packet_out m) × (read_packet_out (spell_packet_out m) ≡ Ok m) }
+{}
+
+/// What is spelled as a packet-in is one, and is read again.
+pub fn packet_in_is_read_again()
+    ensures { (m : PacketIn) → IsPacketIn m → IsOf 10 (spell_packet_in m) × (read_packet_in (spell_packet_in m) ≡ Ok m) }
+{}
+
+/// What is spelled as a flow-removed message is one, and is read again.
+pub fn flow_removed_is_read_again()
+    ensures { (m : FlowRemoved) → IsFlowRemoved m → IsOf 11 (spell_flow_removed m) × (read_flow_removed (spell_flow_removed m) ≡ Ok m) }
+{}

@@ -1,0 +1,18 @@
+//! The messages of OpenFlow 1.0 that change flow tables, tell of their entries and carry packets.
+#![tactic(auto)]
+
+mod flow_mod;
+mod flow_removed;
+pub mod laws;
+mod packet_in;
+mod packet_out;
+mod pattern;
+pub mod protocol;
+
+pub use flow_mod::FlowMod;
+pub use flow_removed::FlowRemoved;
+pub use packet_in::PacketIn;
+pub use packet_out::PacketOut;
+
+#[cfg(test)]
+mod tests;

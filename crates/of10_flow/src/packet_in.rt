@@ -1,0 +1,90 @@
+ghost use Rattle.std.specs.Prelude.{◌≡◌, ◌+◌, ◌≤◌, ◌++◌, length, OnOk, IfOk};
+ghost use Rattle.byteorder.specs.Endian.{big_bytes};
+ghost use Rattle.of10_action.specs.Actions.{padding};
+ghost use Rattle.of10_action.specs.Reading.{Gives};
+ghost use Rattle.of10_ctl.specs.Kinds.{IsOf};
+ghost use Rattle.of10_flow.specs.PacketIns.{IsPacketIn, read_packet_in, spell_packet_in};
+
+use of10_action::{Bytes, DecodeFault, WireFault};
+use of10_ctl::kind::PACKET_IN;
+use of10_ctl::{Frame, begin};
+use of10_model::wire::{put_u8, put_u16, put_u32, u8_at, u16_at, u32_at};
+use std::alloc::{AllocError, Global};
+
+/// A packet that a switch hands to its controller (OpenFlow 1.0.0, section 5.4.1).
+#[derive(Debug, Drop)]
+pub struct PacketIn {
+    pub xid: u32,
+    /// The buffer that holds the packet, or `protocol::NO_BUFFER`.
+    pub buffer: u32,
+    /// Bytes of the whole packet, of which the payload may be the first ones.
+    pub total_len: u16,
+    /// The port by which the packet was received.
+    pub in_port: u16,
+    /// Why it is sent: 0 no entry matched, 1 an action says so.
+    pub reason: u8,
+    pub payload: Bytes,
+}
+
+/// What the bytes of a packet-in say.
+#[tactic(auto, unfolding(crate::specs::PacketIns::read_packet_in))]
+fn read(alloc: Global, bytes: &[u8]) -> Result<PacketIn, DecodeFault>
+    requires { length bytes.now ≤ 65535 }
+    ensures exact { Gives (λ m. m) result (read_packet_in bytes.now) }
+    ensures range { IfOk result IsPacketIn }
+{
+    if bytes.len() < 18 {
+        return Err(DecodeFault::Wire(WireFault::Length(bytes.len() as u16)));
+    }
+    let payload = Bytes::of(alloc, &bytes[18..])?;
+    Ok(PacketIn {
+        xid: u32_at(bytes, 4),
+        buffer: u32_at(bytes, 8),
+        total_len: u16_at(bytes, 12),
+        in_port: u16_at(bytes, 14),
+        reason: u8_at(bytes, 16),
+        payload,
+    })
+}
+
+fn put_packet(out: &mut Vec<u8>, buffer: u32, total_len: u16) -> Result<(), AllocError>
+    ensures { OnOk result (out.new.items ≡ out.old.items ++ (big_bytes 4 buffer ++ big_bytes 2 total_len)) }
+{
+    put_u32(out, buffer)?;
+    put_u16(out, total_len)
+}
+
+fn put_cause(out: &mut Vec<u8>, in_port: u16, reason: u8) -> Result<(), AllocError>
+    ensures { OnOk result (out.new.items ≡ out.old.items ++ (big_bytes 2 in_port ++ big_bytes 1 reason ++ padding 1)) }
+{
+    put_u16(out, in_port)?;
+    put_u8(out, reason)?;
+    put_u8(out, 0)
+}
+
+impl PacketIn {
+    /// The packet-in that the frame is, or its length where it is shorter than its fields.
+    pub fn decode(alloc: Global, frame: &Frame) -> Result<PacketIn, DecodeFault>
+        requires { IsOf 10 frame.now }
+        ensures exact { Gives (λ m. m) result (read_packet_in frame.now) }
+        ensures range { IfOk result IsPacketIn }
+    {
+        read(alloc, frame.as_slice())
+    }
+
+    /// The message, of at most 65,535 bytes.
+    #[tactic(auto, unfolding(crate::specs::PacketIns::spell_packet_in))]
+    pub fn encode(&self, alloc: Global) -> Result<Frame, AllocError>
+        requires { 18 + length self.now.payload ≤ 65535 }
+        ensures value { IfOk result (λ f. f ≡ spell_packet_in self.now) }
+        ensures kind { IfOk result (λ f. IsOf 10 f) }
+        ensures size { IfOk result (λ f. length f ≡ 18 + length self.now.payload) }
+    {
+        let payload = self.payload.as_slice();
+        let mut out = begin(alloc, PACKET_IN, self.xid, 10 + payload.len())?;
+        put_packet(&mut out, self.buffer, self.total_len)?;
+        put_cause(&mut out, self.in_port, self.reason)?;
+        out.extend_from_slice(payload)?;
+        Ok(Frame::of(out))
+    }
+}

@@ -1,0 +1,93 @@
+ghost use Rattle.std.specs.Prelude.{◌≡◌, ◌+◌, ◌≤◌, ◌++◌, length, OnOk, IfOk};
+ghost use Rattle.byteorder.specs.Endian.{big_bytes};
+ghost use Rattle.of10_action.specs.Actions.{spelling};
+ghost use Rattle.of10_action.specs.Reading.{Gives};
+ghost use Rattle.of10_ctl.specs.Kinds.{IsOf};
+ghost use Rattle.of10_flow.specs.PacketOuts.{IsPacketOut, read_packet_out, spell_packet_out};
+
+use of10_action::{Actions, Bytes, DecodeFault, WireFault, decode_list, encode_list, list_size};
+use of10_ctl::kind::PACKET_OUT;
+use of10_ctl::{Frame, begin};
+use of10_model::wire::{put_u16, put_u32, u16_at, u32_at};
+use std::alloc::{AllocError, Global};
+
+/// A packet that a switch is to send out (OpenFlow 1.0.0, section 5.3.6).
+#[derive(Debug, Drop)]
+pub struct PacketOut {
+    pub xid: u32,
+    /// The buffer that holds the packet, or `protocol::NO_BUFFER` where the payload is the packet.
+    pub buffer: u32,
+    /// The port by which the packet counts as received.
+    pub in_port: u16,
+    pub actions: Actions,
+    /// The bytes behind the actions; a switch disregards them where a buffer holds the packet.
+    pub payload: Bytes,
+}
+
+/// What the bytes of a packet-out say.
+#[tactic(auto, using(of10_action::proofs::Lengths::spelled_length), unfolding(crate::specs::PacketOuts::read_packet_out))]
+fn read(alloc: Global, bytes: &[u8]) -> Result<PacketOut, DecodeFault>
+    requires { length bytes.now ≤ 65535 }
+    ensures exact { Gives (λ m. m) result (read_packet_out bytes.now) }
+    ensures range { IfOk result IsPacketOut }
+{
+    if bytes.len() < 16 {
+        return Err(DecodeFault::Wire(WireFault::Length(bytes.len() as u16)));
+    }
+    let end = 16 + usize::from(u16_at(bytes, 14));
+    if bytes.len() < end {
+        return Err(DecodeFault::Wire(WireFault::Length(bytes.len() as u16)));
+    }
+    let actions = decode_list(alloc, &bytes[16..end])?;
+    let payload = Bytes::of(alloc, &bytes[end..])?;
+    Ok(PacketOut {
+        xid: u32_at(bytes, 4),
+        buffer: u32_at(bytes, 8),
+        in_port: u16_at(bytes, 12),
+        actions,
+        payload,
+    })
+}
+
+fn put_fields(out: &mut Vec<u8>, buffer: u32, in_port: u16, size: u16) -> Result<(), AllocError>
+    ensures { OnOk result (out.new.items ≡ out.old.items ++ (big_bytes 4 buffer ++ big_bytes 2 in_port ++ big_bytes 2 size)) }
+{
+    put_u32(out, buffer)?;
+    put_u16(out, in_port)?;
+    put_u16(out, size)
+}
+
+impl PacketOut {
+    /// The packet-out that the frame is, or the first fault in it: its length where it is shorter than
+    /// its fields or than fields and actions, then what is wrong with the first action that is wrong.
+    pub fn decode(alloc: Global, frame: &Frame) -> Result<PacketOut, DecodeFault>
+        requires { IsOf 13 frame.now }
+        ensures exact { Gives (λ m. m) result (read_packet_out frame.now) }
+        ensures range { IfOk result IsPacketOut }
+    {
+        read(alloc, frame.as_slice())
+    }
+
+    /// The message, of at most 65,535 bytes.
+    #[tactic(auto, unfolding(crate::specs::PacketOuts::spell_packet_out))]
+    pub fn encode(&self, alloc: Global) -> Result<Frame, AllocError>
+        requires { 16 + length (spelling self.now.actions) + length self.now.payload ≤ 65535 }
+        ensures value { IfOk result (λ f. f ≡ spell_packet_out self.now) }
+        ensures kind { IfOk result (λ f. IsOf 13 f) }
+        ensures size { IfOk result (λ f. length f ≡ 16 + length (spelling self.now.actions) + length self.now.payload) }
+    {
+        let actions = self.actions.as_slice();
+        let payload = self.payload.as_slice();
+        let size = list_size(actions) as u16;
+        let mut out = begin(
+            alloc,
+            PACKET_OUT,
+            self.xid,
+            8 + usize::from(size) + payload.len(),
+        )?;
+        put_fields(&mut out, self.buffer, self.in_port, size)?;
+        encode_list(actions, &mut out)?;
+        out.extend_from_slice(payload)?;
+        Ok(Frame::of(out))
+    }
+}

@@ -1,0 +1,16 @@
+//! The ports of a switch, and the two messages of OpenFlow 1.0 that tell them: FEATURES_REPLY and
+//! PORT_STATUS.
+#![tactic(auto)]
+
+mod features;
+pub mod laws;
+mod port;
+pub mod protocol;
+mod status;
+
+pub use features::{Features, has_whole_ports};
+pub use port::{Port, Ports};
+pub use status::PortStatus;
+
+#[cfg(test)]
+mod tests;

@@ -1,0 +1,126 @@
+ghost use Rattle.std.specs.Prelude.{◌≡◌, ◌++◌, ◌*◌, ◌/◌, IfOk, OnOk, length};
+ghost use Rattle.std.specs.List.{All};
+ghost use Rattle.of10_port.specs.Ports.{IsPort, port_number, port_config, port_bytes, ports_in};
+
+use of10_model::wire::{u16_at, u32_at};
+use std::alloc::{AllocError, Global};
+use std::marker::Model;
+
+/// A port as a switch describes it, in 48 bytes: its number, hardware address, name and six words
+/// (OpenFlow 1.0.0, section 5.2.1).
+#[derive(Clone, Copy, Debug, PartialEq, Eq)]
+pub struct Port {
+    raw: [u8; 48],
+}
+
+impl Model for Port {
+    ghost use Rattle.std.specs.Prelude.{ℕ, List};
+
+    ghost Value = { List ℕ };
+
+    ghost view = { λ p. p.raw };
+
+    ghost inverse = { λ raw. record { raw = raw } };
+}
+
+impl Port {
+    /// The port that these bytes describe.
+    pub fn of(raw: [u8; 48]) -> Port
+        ensures { result ≡ raw }
+    {
+        Port { raw }
+    }
+
+    /// The bytes that describe it.
+    pub fn raw(&self) -> &[u8; 48]
+        ensures value { result.now ≡ self.now }
+        ensures size { length self.now ≡ 48 }
+    {
+        &self.raw
+    }
+
+    /// Its number.
+    pub fn number(&self) -> u16
+        ensures { result ≡ port_number self.now }
+    {
+        u16_at(&self.raw, 0)
+    }
+
+    /// Its configuration, of which each bit says one thing.
+    pub fn config(&self) -> u32
+        ensures { result ≡ port_config self.now }
+    {
+        u32_at(&self.raw, 24)
+    }
+}
+
+/// A list of ports.
+#[derive(Debug, Drop)]
+pub struct Ports {
+    items: Vec<Port>,
+}
+
+impl Model for Ports {
+    ghost use Rattle.std.specs.Prelude.{ℕ, List};
+
+    ghost Value = { List (List ℕ) };
+
+    ghost view = { λ p. p.items.items };
+}
+
+impl Ports {
+    /// A copy of the ports.
+    pub fn of(alloc: Global, items: &[Port]) -> Result<Ports, AllocError>
+        ensures { IfOk result (λ p. p ≡ items.now) }
+    {
+        Ok(Ports {
+            items: Vec::from_slice(alloc, items)?,
+        })
+    }
+
+    /// The same ports, with no copy.
+    pub fn from_vec(items: Vec<Port>) -> Ports
+        ensures { result ≡ items.items }
+    {
+        Ports { items }
+    }
+
+    pub fn as_slice(&self) -> &[Port]
+        ensures { result.now ≡ self.now }
+    {
+        &self.items
+    }
+
+    /// The same ports, with no copy.
+    pub fn into_vec(self) -> Vec<Port>
+        ensures { result.items ≡ self }
+    {
+        self.items
+    }
+}
+
+/// The ports that the bytes describe one after the other.
+#[tactic(auto, unfolding(crate::specs::Ports::ports_in))]
+pub(crate) fn read_ports(alloc: Global, bytes: &[u8]) -> Result<Ports, AllocError>
+    ensures value { IfOk result (λ p. p ≡ ports_in bytes.now) }
+    ensures ports { IfOk result (λ p. All IsPort p) }
+    ensures count { IfOk result (λ p. length p ≡ length bytes.now / 48) }
+{
+    let (raws, _) = bytes.as_chunks::<48>();
+    let mut ports = Vec::with_capacity(alloc, raws.len())?;
+    for raw in raws {
+        ports.push(Port::of(*raw))?;
+    }
+    Ok(Ports::from_vec(ports))
+}
+
+/// Appends the bytes of the ports.
+pub(crate) fn put_ports(out: &mut Vec<u8>, ports: &[Port]) -> Result<(), AllocError>
+    ensures written { OnOk result (out.new.items ≡ out.old.items ++ port_bytes ports.now) }
+    ensures size { OnOk result (length (port_bytes ports.now) ≡ 48 * length ports.now) }
+{
+    for port in ports {
+        out.extend_from_slice(port.raw())?;
+    }
+    Ok(())
+}

@@ -1,0 +1,3 @@
+pub mod Written
+pub mod Again
+pub mod Sizes
