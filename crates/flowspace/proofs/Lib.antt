@@ -1,3 +1,11 @@
+pub mod Ranking
 pub mod Ordering
 pub mod Parts
-pub mod Example
+pub mod Disjoint
+pub mod Bits
+pub mod Filed
+pub mod Along
+pub mod Refusing
+pub mod Accepting
+pub mod Overlapping
+pub mod Owning

@@ -2,3 +2,5 @@ pub mod Slices
 pub mod Rules
 pub mod Order
 pub mod Policies
+pub mod Loading
+pub mod Owners

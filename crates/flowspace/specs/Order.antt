@@ -5,15 +5,19 @@ use Rattle.of10_model.specs.Pattern.{has}
 use Rattle.flowspace.specs.declared.rules.Rule.{Rule}
 use Rattle.flowspace.specs.Rules.{holds, Yields}
 
--- a rule that stood before all of these goes before the first whose priority is no higher
-abbrev pub placed : Rule → List Rule → List Rule
-placed rule [] = rule ∷ []
-placed rule (next ∷ rest) = if leb next.priority rule.priority then rule ∷ (next ∷ rest) else next ∷ placed rule rest
+-- an element that stood before all of these goes before the first whose rank is no higher
+abbrev pub placed : {A : Type 0} → (A → ℕ) → A → List A → List A
+placed rank x [] = x ∷ []
+placed rank x (next ∷ rest) = if leb (rank next) (rank x) then x ∷ (next ∷ rest) else next ∷ placed rank x rest
+
+-- the elements by descending rank, and those of one rank as they stood
+abbrev pub ranked : {A : Type 0} → (A → ℕ) → List A → List A
+ranked rank [] = []
+ranked rank (x ∷ rest) = placed rank x (ranked rank rest)
 
 -- the rules in rule order: descending priority, and among equals the place in the file
 abbrev pub in_order : List Rule → List Rule
-in_order [] = []
-in_order (rule ∷ rest) = placed rule (in_order rest)
+in_order rules = ranked (λ rule. rule.priority) rules
 
 -- the rules that hold on a switch, in rule order
 abbrev pub rules_on : ℕ → List Rule → List Rule

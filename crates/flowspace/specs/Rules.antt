@@ -1,8 +1,9 @@
 -- Rules: where they hold, which values they may have, and when two of them have a header in common. This is the proxy's own rule; the numbers of ports and VLANs are the standard's.
-use Rattle.std.specs.Prelude.{ℕ, ◌≡◌, ◌≤◌, ◌⊎◌, ◌==◌, Bool, true, IsTrue, IsSome, IfSome, Option, Some, None}
+use Rattle.std.specs.Prelude.{ℕ, ◌≡◌, ◌≤◌, ◌⊎◌, ◌==◌, ◌&&◌, nat_lt, not, Bool, true, false, IsTrue, IsSome, IfSome, Option, Some, None}
 use Rattle.of10_model.specs.Header.{Header, IsHeader}
 use Rattle.of10_model.specs.Pattern.{Has}
-use Rattle.of10_model.specs.Normal.{is_value, has_vlan, has_network, has_service, has_ports}
+use Rattle.of10_model.specs.Normal.{is_value, bit, has_vlan, has_network, has_service, has_ports}
+use Rattle.of10_model.specs.Meet.{is_disjoint}
 use Rattle.flowspace.specs.declared.rules.Rule.{Rule}
 
 -- no switch named stands for each
@@ -55,3 +56,30 @@ AreApart a b = Share a b → ⊥
 -- where a header of the later rule is one of the earlier too, the later one is written by nobody or by the writer of the earlier
 abbrev pub Yields : Rule → Rule → Type 0
 Yields earlier later = Share earlier later → (slot : ℕ) → later.writer ≡ Some slot → earlier.writer ≡ Some slot
+
+-- ---- the same as a test that computes
+
+-- two rules hold on a common switch: one of them names none, or both name the same
+abbrev pub have_switch : Option ℕ → Option ℕ → Bool
+have_switch None other = true
+have_switch (Some switch) other = names other switch
+
+-- the later of two rules is written by a slice that doesn't write the earlier one
+abbrev pub is_usurped : Option ℕ → Option ℕ → Bool
+is_usurped earlier None = false
+is_usurped earlier (Some slot) = not (is_value slot earlier)
+
+-- a later rule is refused beside an earlier one where a slice that doesn't write the earlier one writes it, both hold on a common switch, and they share a header
+unfoldable pub is_refused : Rule → Rule → Bool
+is_refused earlier later = is_usurped earlier.writer later.writer && have_switch earlier.switch later.switch && not (is_disjoint earlier.pattern later.pattern)
+
+-- ---- what a rule says of slots
+
+-- a slot that may be missing is one of the first so many
+abbrev pub is_slot : ℕ → Option ℕ → Bool
+is_slot count None = true
+is_slot count (Some slot) = nat_lt slot count
+
+-- the writer of a rule is among its readers
+abbrev pub is_own_reader : Rule → Bool
+is_own_reader rule = elim rule.writer [ None ↦ false | Some slot ↦ bit rule.readers slot ]

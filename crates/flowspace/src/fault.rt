@@ -36,7 +36,8 @@ pub enum PolicyFault {
     UnknownSlice(u64),
     /// The rule has a field that may not stand there.
     Improper(u64, Field),
-    /// The first rule comes before the second, shares a header with it, and has another writer.
+    /// The first rule comes before the second and shares a header with it, and isn't written by the
+    /// slice that writes the second.
     Overlap(u64, u64),
     /// Want of memory.
     Memory,

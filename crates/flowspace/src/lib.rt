@@ -3,9 +3,13 @@
 #![tactic(auto)]
 
 mod fault;
+pub mod laws;
 pub mod limits;
+mod loading;
 mod order;
+mod owners;
 mod policy;
+mod refusal;
 mod rules;
 mod slices;
 mod switch;

@@ -2,10 +2,18 @@ ghost use Rattle.std.specs.Prelude.{ℕ, List, ◌≡◌, IfOk, filter};
 ghost use Rattle.flowspace.specs.declared.rules.Rule.{Rule as RuleView};
 ghost use Rattle.flowspace.specs.Rules.{holds};
 ghost use Rattle.flowspace.specs.Order.{rules_on, IsRuleOrder};
+ghost use Rattle.flowspace.specs.Loading.{filed, filed_in_order};
 
 use crate::rules::{Rule, is_held};
 use std::alloc::{AllocError, Global};
 use std::cmp::Reverse;
+
+/// A rule with its place in the file, from 0.
+#[derive(Clone, Copy, Debug)]
+pub(crate) struct FiledRule {
+    pub(crate) place: u64,
+    pub(crate) rule: Rule,
+}
 
 /// What the order of rules means: the rules of a switch are those that hold on it, by descending
 /// priority, and those of one priority as they stand in the file. No other list is that.
@@ -42,4 +50,29 @@ pub(crate) fn ordered_rules(
     let mut held = held_rules(alloc, rules, datapath)?;
     held.sort_by_key(|rule| rank(rule))?;
     Ok(held)
+}
+
+fn filed_rules(alloc: Global, rules: &[Rule]) -> Result<Vec<FiledRule>, AllocError>
+    ensures { IfOk result (λ v. v.items ≡ filed 0 rules.now) }
+{
+    let mut filed = Vec::with_capacity(alloc, rules.len())?;
+    for (place, rule) in rules.iter().enumerate() {
+        filed.push(FiledRule {
+            place: place as u64,
+            rule: *rule,
+        })?;
+    }
+    Ok(filed)
+}
+
+/// The rules with their places in the file, in rule order.
+pub(crate) fn ordered_with_places(
+    alloc: Global,
+    rules: &[Rule],
+) -> Result<Vec<FiledRule>, AllocError>
+    ensures { IfOk result (λ v. v.items ≡ filed_in_order rules.now) }
+{
+    let mut filed = filed_rules(alloc, rules)?;
+    filed.sort_by_key(|filed| rank(&filed.rule))?;
+    Ok(filed)
 }

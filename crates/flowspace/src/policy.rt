@@ -1,8 +1,12 @@
-ghost use Rattle.std.specs.Prelude.{◌≡◌, IfOk, MatchResult};
+ghost use Rattle.std.specs.Prelude.{◌≡◌, ◌≤◌, length, All, IfOk};
+ghost use Rattle.flowspace.specs.Slices.{IsPlainSlice};
+ghost use Rattle.flowspace.specs.Rules.{IsPlainRule};
 ghost use Rattle.flowspace.specs.Order.{rules_on};
-ghost use Rattle.flowspace.specs.Policies.{IsLoadable, IsPolicy};
+ghost use Rattle.flowspace.specs.Policies.{IsPolicy};
+ghost use Rattle.flowspace.specs.Loading.{Gives, load_of};
 
 use crate::fault::PolicyFault;
+use crate::loading::fault_of;
 use crate::order::ordered_rules;
 use crate::rules::Rule;
 use crate::slices::{Slice, copies};
@@ -29,12 +33,30 @@ impl Model for Policy {
 
 impl Policy {
     /// The policy of these slices, whose places are their slots, and of these rules, as they stand in
-    /// the file.
-    pub fn load(slices: Vec<Slice>, rules: Vec<Rule>) -> Result<Policy, PolicyFault>
-        requires { IsLoadable slices.items rules.items }
-        ensures { MatchResult result (λ p. (p.slices ≡ slices.items) × (p.rules ≡ rules.items)) (λ fault. fault ≡ PolicyFault.Memory) }
+    /// the file; else the first fault: too many slices or rules, a name twice, along the file a rule that
+    /// names no slice or whose writer reads, too many rules of one writer, and in rule order a rule that
+    /// takes headers of an earlier one for another slice.
+    pub fn load(alloc: Global, slices: Vec<Slice>, rules: Vec<Rule>) -> Result<Policy, PolicyFault>
+        requires some_slice { 1 ≤ length slices.items }
+        requires plain_slices { All IsPlainSlice slices.items }
+        requires plain_rules { All IsPlainRule rules.items }
+        ensures { Gives result (load_of slices.items rules.items) }
     {
-        Ok(Policy { slices, rules })
+        match fault_of(alloc, &slices, &rules) {
+            Ok(None) => Ok(Policy { slices, rules }),
+            Ok(Some(fault)) => Err(fault),
+            Err(_) => Err(PolicyFault::Memory),
+        }
+    }
+
+    /// The same policy, with memory of its own.
+    pub fn copy(&self, alloc: Global) -> Result<Policy, AllocError>
+        ensures { IfOk result (λ p. p ≡ self.now) }
+    {
+        Ok(Policy {
+            slices: copies(alloc, &self.slices)?,
+            rules: Vec::from_slice(alloc, &self.rules)?,
+        })
     }
 
     /// The slices, by their slots.

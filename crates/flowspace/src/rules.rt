@@ -1,5 +1,5 @@
 ghost use Rattle.std.specs.Prelude.{◌≡◌};
-ghost use Rattle.flowspace.specs.Rules.{holds};
+ghost use Rattle.flowspace.specs.Rules.{holds, is_written_by};
 
 use of10_match::Match;
 
@@ -22,4 +22,12 @@ pub(crate) fn is_held(rule: &Rule, datapath: u64) -> bool
     ensures { result ≡ holds datapath rule.now }
 {
     rule.switch.is_none_or(|switch| switch == datapath)
+}
+
+/// Whether the slice at a slot writes the rule.
+pub(crate) fn is_written_by(rule: &Rule, slot: usize) -> bool
+    ensures { result ≡ is_written_by slot rule.now }
+{
+    rule.writer
+        .is_some_and(|writer| usize::from(writer) == slot)
 }

@@ -1,10 +1,12 @@
-ghost use Rattle.std.specs.Prelude.{◌≡◌, ◌<◌, length, IfSome, option_map};
+ghost use Rattle.std.specs.Prelude.{◌≡◌, ◌<◌, ◌↔◌, length, IfSome, IsTrue, option_map};
 ghost use Rattle.flowspace.specs.Order.{first_of, first_rule, writer_of, readers_of};
 ghost use Rattle.flowspace.specs.Policies.{IsSwitchPolicy};
+ghost use Rattle.flowspace.specs.Owners.{owner_of_match, has_port, HasPort};
 
+use crate::owners::{has_port, owner_of};
 use crate::rules::Rule;
 use crate::slices::Slice;
-use of10_match::Header12;
+use of10_match::{Header12, Match};
 use std::marker::Model;
 
 /// A policy as it holds on one switch.
@@ -84,5 +86,22 @@ impl SwitchPolicy {
         ensures { result ≡ readers_of self.now.rules h.now }
     {
         self.first_rule(h).map_or(0, |rule| rule.readers)
+    }
+
+    /// The slot of the slice that has a rule to write each header of the match; `None` where no slice
+    /// has one.
+    pub fn owner_of(&self, m: &Match) -> Option<u8>
+        ensures { result ≡ owner_of_match self.now.rules m.now }
+    {
+        owner_of(&self.rules, m)
+    }
+
+    /// Whether a slice has a port of this number: a physical one or the switch's own (OpenFlow 1.0.0,
+    /// section 5.2.1), from which some rule lets the slice write packets.
+    pub fn has_port(&self, slot: u8, port: u16) -> bool
+        ensures value { result ≡ has_port self.now.rules slot port }
+        ensures ports { IsTrue result ↔ HasPort self.now.rules slot port }
+    {
+        has_port(&self.rules, slot, port)
     }
 }

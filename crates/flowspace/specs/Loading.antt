@@ -1,0 +1,78 @@
+-- What makes a policy of slices and rules, and the first fault of those that make none. All of this is the proxy's own rule.
+use Rattle.std.specs.Prelude.{ℕ, ◌≡◌, ◌+◌, ◌^◌, ◌⊎◌, ◌&&◌, nat_lt, if◌then◌else◌, List, [], ◌∷◌, ◌++◌, length, find, count_by, bytes_eq, Option, Some, None, option_map, Result, Ok, Err}
+use Rattle.std.specs.List.{list_any}
+use Rattle.std.specs.Option.{option_or}
+use Rattle.flowspace.specs.declared.fault.What.{What}
+use Rattle.flowspace.specs.declared.fault.What.TheVariants.{Slices, Rules, Writes}
+use Rattle.flowspace.specs.declared.fault.Field.TheVariants.{Read}
+use Rattle.flowspace.specs.declared.fault.PolicyFault.{PolicyFault}
+use Rattle.flowspace.specs.declared.fault.PolicyFault.TheVariants.{TooMany, DuplicateSlice, UnknownSlice, Improper, Overlap, Memory}
+use Rattle.flowspace.specs.declared.slices.Slice.{Slice}
+use Rattle.flowspace.specs.declared.rules.Rule.{Rule}
+use Rattle.flowspace.specs.declared.order.FiledRule.{FiledRule}
+use Rattle.flowspace.specs.Rules.{is_written_by, is_slot, is_own_reader, is_refused}
+use Rattle.flowspace.specs.Order.{ranked}
+use Rattle.flowspace.specs.Policies.{PolicyView}
+
+-- the first fault of those given
+abbrev pub first_of_faults : List (Option PolicyFault) → Option PolicyFault
+first_of_faults [] = None
+first_of_faults (fault ∷ rest) = option_or fault (first_of_faults rest)
+
+-- the first fault along a list, each element of which is checked beside those before it
+abbrev pub first_along : {A : Type 0} → (List A → A → Option PolicyFault) → List A → List A → Option PolicyFault
+first_along check before [] = None
+first_along check before (x ∷ rest) = option_or (check before x) (first_along check (before ++ x ∷ []) rest)
+
+-- there are more than the limit
+abbrev pub excess : What → ℕ → ℕ → Option PolicyFault
+excess what limit count = if nat_lt limit count then Some (TooMany what count) else None
+
+-- a slice has the name of one before it; how many stand before it is its place
+abbrev pub name_fault : List Slice → Slice → Option PolicyFault
+name_fault before slice = if list_any (λ earlier. bytes_eq earlier.name slice.name) before then Some (DuplicateSlice (length before)) else None
+
+-- a rule's writer or a bit of its readers is no slot, or its writer is among its readers
+abbrev pub rule_fault : ℕ → List Rule → Rule → Option PolicyFault
+rule_fault slots before rule =
+    if is_slot slots rule.writer && nat_lt rule.readers (2 ^ slots)
+    then (if is_own_reader rule then Some (Improper (length before) Read) else None)
+    else Some (UnknownSlice (length before))
+
+-- a slice writes too many rules; how many slices stand before it is its slot
+abbrev pub writes_fault : List Rule → List Slice → Slice → Option PolicyFault
+writes_fault rules before slice = excess Writes 256 (count_by (is_written_by (length before)) rules)
+
+-- the rules with their places in the file, from a place on
+abbrev pub filed : ℕ → List Rule → List FiledRule
+filed place [] = []
+filed place (rule ∷ rest) = record { place = place; rule = rule } ∷ filed (place + 1) rest
+
+-- these in rule order
+abbrev pub filed_in_order : List Rule → List FiledRule
+filed_in_order rules = ranked (λ filed. filed.rule.priority) (filed 0 rules)
+
+-- a rule is refused beside one before it, the first such
+abbrev pub overlap_fault : List FiledRule → FiledRule → Option PolicyFault
+overlap_fault before later = option_map (λ earlier. Overlap earlier.place later.place) (find (λ earlier. is_refused earlier.rule later.rule) before)
+
+-- the first fault of slices and rules: too many slices or rules, a name twice, along the rules a slot that isn't there or a writer who reads, along the slots too many written rules, and along rule order an overlap
+unfoldable pub fault_of : List Slice → List Rule → Option PolicyFault
+fault_of ss rs =
+    first_of_faults (
+    excess Slices 32 (length ss)
+    ∷ excess Rules 2048 (length rs)
+    ∷ first_along name_fault [] ss
+    ∷ first_along (rule_fault (length ss)) [] rs
+    ∷ first_along (writes_fault rs) [] ss
+    ∷ first_along overlap_fault [] (filed_in_order rs)
+    ∷ [])
+
+-- the policy that slices and rules make, or their first fault
+abbrev pub load_of : List Slice → List Rule → Result PolicyView PolicyFault
+load_of ss rs = elim (fault_of ss rs) [ None ↦ Ok (record { slices = ss; rules = rs }) | Some fault ↦ Err fault ]
+
+-- a call answers what it should, or want of memory
+abbrev pub Gives : {A : Type 0} → Result A PolicyFault → Result A PolicyFault → Type 0
+Gives (Ok x) said = said ≡ Ok x
+Gives (Err fault) said = (fault ≡ Memory) ⊎ (said ≡ Err fault)

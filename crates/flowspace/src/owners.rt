@@ -1,0 +1,60 @@
+//! Who owns matches and ports.
+
+ghost use Rattle.std.specs.Prelude.{◌≡◌, find, option_map};
+ghost use Rattle.std.specs.List.{list_any};
+ghost use Rattle.flowspace.specs.Owners.{is_owned_by, owner_of_match, is_in_port, is_rule_at, has_port};
+
+use crate::rules::{Rule, is_written_by};
+use match_meet::includes;
+use of10_match::Match;
+
+/// The greatest number of a physical port, and the number of the switch's own one (OpenFlow 1.0.0,
+/// section 5.2.1: OFPP_MAX and OFPP_LOCAL).
+const MAX: u16 = 0xff00;
+
+const LOCAL: u16 = 0xfffe;
+
+fn is_owned_by(rule: &Rule, m: &Match) -> bool
+    ensures { result ≡ is_owned_by m.now rule.now }
+{
+    rule.writer.is_some() && includes(&rule.pattern, m)
+}
+
+fn first_owning<'a>(rules: &'a [Rule], m: &Match) -> Option<&'a Rule>
+    ensures { option_map (λ rule. rule.now) result ≡ find (is_owned_by m.now) rules.now }
+{
+    rules.iter().find(|rule| is_owned_by(rule, m))
+}
+
+/// The writer of the first rule that is written and has each header of the match.
+pub(crate) fn owner_of(rules: &[Rule], m: &Match) -> Option<u8>
+    ensures { result ≡ owner_of_match rules.now m.now }
+{
+    first_owning(rules, m)?.writer
+}
+
+fn is_in_port(port: u16) -> bool
+    ensures { result ≡ is_in_port port }
+{
+    port <= MAX || port == LOCAL
+}
+
+fn is_rule_at(rule: &Rule, slot: u8, port: u16) -> bool
+    ensures { result ≡ is_rule_at slot port rule.now }
+{
+    is_written_by(rule, usize::from(slot))
+        && rule.pattern.pattern().in_port.is_none_or(|own| port == own)
+}
+
+fn takes_from(rules: &[Rule], slot: u8, port: u16) -> bool
+    ensures { result ≡ list_any (is_rule_at slot port) rules.now }
+{
+    rules.iter().any(|rule| is_rule_at(rule, slot, port))
+}
+
+/// Whether the port is a physical one or the switch's own, and a rule of the slice takes packets from it.
+pub(crate) fn has_port(rules: &[Rule], slot: u8, port: u16) -> bool
+    ensures { result ≡ has_port rules.now slot port }
+{
+    is_in_port(port) && takes_from(rules, slot, port)
+}

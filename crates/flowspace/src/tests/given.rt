@@ -1,0 +1,200 @@
+//! Slices, rules and policies for the tests.
+
+ghost use Rattle.std.specs.Prelude.{◌≡◌, ◌≤◌, All, IfOk, IsTrue, length};
+ghost use Rattle.std.specs.List.{list_all};
+ghost use Rattle.flowspace.specs.Slices.{is_name_byte, IsPlainSlice};
+ghost use Rattle.flowspace.specs.Rules.{IsPlainRule};
+
+use crate::{Policy, PolicyFault, Rule, Slice, Text};
+use of10_match::{Header12, Match};
+use of10_model::wire::{set_u16, set_u32};
+use std::alloc::{AllocError, Global};
+use std::test::Fail;
+
+/// The packets from a port, to an address that begins as 10.1.2.3 does in so many bits, for a TCP port.
+pub fn packets(in_port: Option<u16>, bits: u8, tcp: Option<u16>) -> Match {
+    let ignored = u32::from(32_u8.saturating_sub(bits));
+    let mut word = 0x0030_3fff | (ignored << 14);
+    let mut bytes = [0; 40];
+    if let Some(port) = in_port {
+        word ^= 1;
+        set_u16(&mut bytes, 4, port);
+    }
+    if bits > 0 || tcp.is_some() {
+        word ^= 0x10;
+        set_u16(&mut bytes, 22, 0x0800);
+    }
+    if let Some(port) = tcp {
+        word ^= 0xa0;
+        bytes[25] = 6;
+        set_u16(&mut bytes, 38, port);
+    }
+    set_u32(&mut bytes, 0, word);
+    set_u32(&mut bytes, 32, 0x0a01_0203);
+    Match::decode(&bytes)
+}
+
+/// The packets for a TCP port.
+pub fn tcp(port: u16) -> Match {
+    packets(None, 0, Some(port))
+}
+
+/// The packets from a port.
+pub fn at(port: u16) -> Match {
+    packets(Some(port), 0, None)
+}
+
+/// A rule on every switch.
+pub fn rule(priority: u32, pattern: &Match, writer: Option<u8>, readers: u32) -> Rule {
+    Rule {
+        switch: None,
+        priority,
+        pattern: *pattern,
+        writer,
+        readers,
+    }
+}
+
+/// A rule on one switch or on each.
+pub fn rule_on(switch: Option<u64>, priority: u32, pattern: &Match, writer: u8) -> Rule {
+    Rule {
+        switch,
+        priority,
+        pattern: *pattern,
+        writer: Some(writer),
+        readers: 0,
+    }
+}
+
+fn is_name_byte(byte: u8) -> bool
+    ensures { result ≡ is_name_byte byte }
+{
+    matches!(byte, b'a'..=b'z' | b'0'..=b'9' | b'_' | b'-')
+}
+
+fn has_name_bytes(text: &str) -> bool
+    ensures { result ≡ list_all is_name_byte text.now }
+{
+    text.as_bytes().iter().all(|byte| is_name_byte(*byte))
+}
+
+fn plain_slice(alloc: Global, name: &str) -> Result<Slice, AllocError>
+    requires some { 1 ≤ length name.now }
+    requires short { length name.now ≤ 32 }
+    requires bytes { IsTrue (list_all is_name_byte name.now) }
+    ensures { IfOk result IsPlainSlice }
+{
+    Ok(Slice {
+        name: Text::of(alloc, name)?,
+        controller: Text::of(alloc, "192.0.2.1:6633")?,
+        rate: 1000,
+        burst: 2000,
+        quota: 0,
+    })
+}
+
+// A name that no slice may have is a mistake in a test, which fails by it.
+fn add_slice(alloc: Global, slices: &mut Vec<Slice>, name: &str) -> Result<(), AllocError>
+    requires { All IsPlainSlice slices.old.items }
+    ensures { All IsPlainSlice slices.new.items }
+{
+    if !name.is_empty() && name.len() <= 32 && has_name_bytes(name) {
+        slices.push(plain_slice(alloc, name)?)?;
+        return Ok(());
+    }
+    Err(AllocError)
+}
+
+/// Slices of these names.
+pub fn named(alloc: Global, names: &[&str]) -> Result<Vec<Slice>, AllocError>
+    ensures { IfOk result (λ v. All IsPlainSlice v.items) }
+{
+    let mut slices = Vec::new(alloc);
+    for name in names {
+        add_slice(alloc, &mut slices, name)?;
+    }
+    Ok(slices)
+}
+
+/// So many slices, of different names.
+pub fn numbered(alloc: Global, count: u32) -> Result<Vec<Slice>, AllocError>
+    ensures { IfOk result (λ v. All IsPlainSlice v.items) }
+{
+    let mut slices = Vec::new(alloc);
+    for number in 0..count {
+        let name = format!(in alloc; "slice-{number}")?;
+        add_slice(alloc, &mut slices, name.as_str())?;
+    }
+    Ok(slices)
+}
+
+// Whether the rule is one of those that the tests make.
+fn is_plain(rule: &Rule) -> bool
+    ensures { IsTrue result → IsPlainRule rule.now }
+{
+    let m = rule.pattern.pattern();
+    let no_link = m.dl_vlan.is_none() && m.dl_vlan_pcp.is_none();
+    let no_more = m.nw_tos.is_none() && m.nw_src.is_none() && m.tp_src.is_none();
+    let over_tcp = m.dl_type == Some(0x0800) && m.nw_proto == Some(6);
+    let no_net = m.nw_proto.is_none() && m.nw_dst.is_none();
+    m.in_port
+        .is_none_or(|port| port <= 0xff00 || port == 0xfffe)
+        && no_link
+        && no_more
+        && (over_tcp || m.tp_dst.is_none() && (m.dl_type == Some(0x0800) || no_net))
+}
+
+// A rule of another kind is a mistake in a test, which fails by it.
+fn add_rule(rules: &mut Vec<Rule>, rule: &Rule) -> Result<(), AllocError>
+    requires { All IsPlainRule rules.old.items }
+    ensures { All IsPlainRule rules.new.items }
+{
+    if is_plain(rule) {
+        rules.push(*rule)?;
+        return Ok(());
+    }
+    Err(AllocError)
+}
+
+fn plain_rules(alloc: Global, rules: &[Rule]) -> Result<Vec<Rule>, AllocError>
+    ensures { IfOk result (λ v. All IsPlainRule v.items) }
+{
+    let mut plain = Vec::new(alloc);
+    for rule in rules {
+        add_rule(&mut plain, rule)?;
+    }
+    Ok(plain)
+}
+
+/// What loading slices and rules answers.
+pub fn load(
+    alloc: Global,
+    slices: Vec<Slice>,
+    rules: &[Rule],
+) -> Result<Result<Policy, PolicyFault>, Fail>
+    requires { All IsPlainSlice slices.items }
+{
+    let rules = plain_rules(alloc, rules)?;
+    if slices.is_empty() {
+        Err(PolicyFault::Memory)?;
+    }
+    Ok(Policy::load(alloc, slices, rules))
+}
+
+/// A packet for a TCP port.
+pub fn packet(port: u16) -> Header12 {
+    Header12 {
+        in_port: 3,
+        dl_src: 0x0000_5e00_5301,
+        dl_dst: 0x0000_5e00_5302,
+        dl_vlan: 0xffff,
+        dl_vlan_pcp: 0,
+        dl_type: 0x0800,
+        nw_tos: 0,
+        nw_proto: 6,
+        nw_src: 0xc000_0201,
+        nw_dst: 0xc000_0202,
+        tp_src: 49152,
+        tp_dst: port,
+    }
+}

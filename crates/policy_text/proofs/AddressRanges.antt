@@ -1,0 +1,132 @@
+-- Addresses that are written in a text lie in their ranges.
+use Rattle.std.proofs.Common.{◌≡◌, ℕ, ◌+◌, ◌-◌, ◌*◌, ◌/◌, ◌%◌, ◌^◌, ◌<◌, ◌≤◌, ◌==◌, ◌&&◌, Bool, true, false, cond, nat_le, leb-true, List, [], ◌∷◌, length, slice_index, Option, Some, None, option_map, refl, sym, ap, subst, arith}
+use Rattle.std.proofs.Math.Nat.{div-mul-le_self, mul-mod_left}
+use Rattle.std.proofs.lemmas.Bool.{and_parts}
+use Rattle.toml.specs.Data.{Data, string, integer, float, boolean, datetime, array, table}
+use Rattle.of10_model.specs.declared.pattern.Prefix.{Prefix}
+use Rattle.of10_model.specs.Normal.{IsPrefix}
+use Rattle.policy_text.specs.declared.values.Numerals.TheVariants.{Hardware}
+use Rattle.policy_text.specs.Addresses.{◌>>=◌, hex_digit, pair_at, has_colons, six_pairs, hardware_address, digits_at, octet_of, octet_at, after, dotted_at, bits_of, bits_after, leading_bits, prefix}
+use Rattle.policy_text.specs.Reading.{numeral, addresses}
+
+bind_some : {A B : Type 0} (o : Option A) (f : A → Option B) (y : B) → (o >>= f) ≡ Some y → (x : A) × (o ≡ Some x) × (f x ≡ Some y)
+bind_some None f y e = absurd cc
+bind_some (Some x) f y e = (x, refl, e)
+
+map_some : {A B : Type 0} (f : A → B) (o : Option A) (y : B) → option_map f o ≡ Some y → (x : A) × (o ≡ Some x) × (f x ≡ y)
+map_some f None y e = absurd cc
+map_some f (Some x) y e = (x, refl, cc)
+
+abbrev found : {A : Type 0} → A → Option A
+found x = Some x
+
+some_is : {A : Type 0} (x y : A) → found x ≡ found y → x ≡ y
+some_is x y e = cc
+
+kept_if : {A : Type 0} (b : Bool) (x y : A) → cond b (Some x) None ≡ Some y → (b ≡ true) × (x ≡ y)
+kept_if true x y e = (refl, cc)
+kept_if false x y e = absurd cc
+
+-- ---- hex
+
+digit_cases : (low high : Bool) (c n : ℕ) → (low ≡ true → c ≤ 57) → (high ≡ true → c ≤ 102) → cond low (Some (c - 48)) (cond high (Some (c - 87)) None) ≡ Some n → n < 16
+digit_cases true high c n is_low is_high e = let same : c - 48 ≡ n = cc in omega (arith, is_low refl, same)
+digit_cases false true c n is_low is_high e = let same : c - 87 ≡ n = cc in omega (arith, is_high refl, same)
+digit_cases false false c n is_low is_high e = absurd cc
+
+hex_digit_below : (c n : ℕ) → hex_digit c ≡ Some n → n < 16
+hex_digit_below c n e =
+    digit_cases (nat_le 48 c && nat_le c 57) (nat_le 97 c && nat_le c 102) c n
+    (λ h. leb-true _ _ (and_parts (nat_le 48 c) (nat_le c 57) h).1)
+    (λ h. leb-true _ _ (and_parts (nat_le 97 c) (nat_le c 102) h).1)
+    e
+
+pair_below : (text : List ℕ) (at n : ℕ) → pair_at text at ≡ Some n → n < 256
+pair_below text at n e =
+    let a = bind_some (hex_digit (slice_index text at)) _ n e in
+    let b = map_some (λ low. a.0 * 16 + low) (hex_digit (slice_index text (at + 1))) n a.2 in
+    omega (arith, hex_digit_below (slice_index text at) a.0 a.1, hex_digit_below (slice_index text (at + 1)) b.0 b.1, b.2)
+
+six_pairs_below : (text : List ℕ) (n : ℕ) → six_pairs text ≡ Some n → n < 2 ^ 48
+unfolding six_pairs
+six_pairs_below text n e =
+    let a = bind_some (pair_at text 0) _ n e in
+    let b = bind_some (pair_at text 3) _ n a.2 in
+    let c = bind_some (pair_at text 6) _ n b.2 in
+    let d = bind_some (pair_at text 9) _ n c.2 in
+    let f = bind_some (pair_at text 12) _ n d.2 in
+    let g = bind_some (pair_at text 15) _ n f.2 in
+    let same = some_is (((((a.0 * 256 + b.0) * 256 + c.0) * 256 + d.0) * 256 + f.0) * 256 + g.0) n g.2 in
+    omega (arith, pair_below text 0 a.0 a.1, pair_below text 3 b.0 b.1, pair_below text 6 c.0 c.1, pair_below text 9 d.0 d.1, pair_below text 12 f.0 f.1, pair_below text 15 g.0 g.1, same)
+
+hardware_cases : (b : Bool) (text : List ℕ) (n : ℕ) → cond b (six_pairs text) None ≡ Some n → n < 2 ^ 48
+hardware_cases true text n e = six_pairs_below text n e
+hardware_cases false text n e = absurd cc
+
+pub hardware_below : (d : Data) (n : ℕ) → numeral Hardware d ≡ Some n → n < 2 ^ 48
+hardware_below (string s) n e = hardware_cases (has_colons s) s n e
+hardware_below (integer x) n e = absurd cc
+hardware_below (float x) n e = absurd cc
+hardware_below (boolean x) n e = absurd cc
+hardware_below (datetime x) n e = absurd cc
+hardware_below (array x) n e = absurd cc
+hardware_below (table x) n e = absurd cc
+
+-- ---- decimal
+
+octet_below : (text : List ℕ) (n : ℕ × List ℕ) → octet_at text ≡ Some n → n.0 ≤ 255
+unfolding octet_at
+octet_below text n e =
+    let a = bind_some (digits_at text) octet_of n e in
+    let k = kept_if (nat_le a.0.0 255) a.0 n a.2 in
+    subst (λ (m : ℕ × List ℕ). m.0 ≤ 255) k.1 (leb-true _ _ k.0)
+
+dotted_below : (text : List ℕ) (n : ℕ × List ℕ) → dotted_at text ≡ Some n → n.0 < 2 ^ 32
+unfolding dotted_at
+dotted_below text n e =
+    let a = bind_some (octet_at text) _ n e in
+    let ra = bind_some (after 46 a.0.1) _ n a.2 in
+    let b = bind_some (octet_at ra.0) _ n ra.2 in
+    let rb = bind_some (after 46 b.0.1) _ n b.2 in
+    let c = bind_some (octet_at rb.0) _ n rb.2 in
+    let rc = bind_some (after 46 c.0.1) _ n c.2 in
+    let d = bind_some (octet_at rc.0) _ n rc.2 in
+    let made : ℕ × List ℕ = (((a.0.0 * 256 + b.0.0) * 256 + c.0.0) * 256 + d.0.0, d.0.1) in
+    let same = some_is made n d.2 in
+    let first : made.0 ≡ n.0 = ap (λ (m : ℕ × List ℕ). m.0) same in
+    omega (arith, octet_below text a.0 a.1, octet_below ra.0 b.0 b.1, octet_below rb.0 c.0 c.1, octet_below rc.0 d.0 d.1, first)
+
+bits_of_range : (n : ℕ × List ℕ) (bits : ℕ) → bits_of n ≡ Some bits → (1 ≤ bits) × (bits ≤ 32)
+bits_of_range n bits e =
+    let k = kept_if (nat_le 1 n.0 && nat_le n.0 32 && length n.1 == 0) n.0 bits e in
+    let outer = and_parts (nat_le 1 n.0 && nat_le n.0 32) (length n.1 == 0) k.0 in
+    let inner = and_parts (nat_le 1 n.0) (nat_le n.0 32) outer.0 in
+    subst (λ m. (1 ≤ m) × (m ≤ 32)) k.1 (leb-true _ _ inner.0, leb-true _ _ inner.1)
+
+bits_after_range : (text : List ℕ) (bits : ℕ) → bits_after text ≡ Some bits → (1 ≤ bits) × (bits ≤ 32)
+bits_after_range [] bits e = let same : 32 ≡ bits = cc in subst (λ m. (1 ≤ m) × (m ≤ 32)) same (omega arith, omega arith)
+bits_after_range (c ∷ rest) bits e =
+    let a = bind_some (after 47 (c ∷ rest) >>= octet_at) bits_of bits e in
+    bits_of_range a.0 bits a.2
+
+IsPrefix-leading : (address bits : ℕ) → address < 2 ^ 32 → 1 ≤ bits → bits ≤ 32 → IsPrefix (Some (leading_bits address bits))
+IsPrefix-leading address bits below some few =
+    let cut = div-mul-le_self address (2 ^ (32 - bits)) in
+    (some, few, omega (arith, cut), mul-mod_left (address / 2 ^ (32 - bits)) (2 ^ (32 - bits)))
+
+prefix_range : (text : List ℕ) (p : Prefix) → prefix text ≡ Some p → IsPrefix (Some p)
+unfolding prefix
+prefix_range text p e =
+    let a = bind_some (dotted_at text) (λ address. option_map (leading_bits address.0) (bits_after address.1)) p e in
+    let b = map_some (leading_bits a.0.0) (bits_after a.0.1) p a.2 in
+    let range = bits_after_range a.0.1 b.0 b.1 in
+    subst (λ q. IsPrefix (Some q)) b.2 (IsPrefix-leading a.0.0 b.0 (dotted_below text a.0 a.1) range.0 range.1)
+
+pub addresses_range : (d : Data) (p : Prefix) → addresses d ≡ Some p → IsPrefix (Some p)
+addresses_range (string s) p e = prefix_range s p e
+addresses_range (integer x) p e = absurd cc
+addresses_range (float x) p e = absurd cc
+addresses_range (boolean x) p e = absurd cc
+addresses_range (datetime x) p e = absurd cc
+addresses_range (array x) p e = absurd cc
+addresses_range (table x) p e = absurd cc

@@ -1,0 +1,9 @@
+pub mod Loop
+pub mod Powers
+pub mod LeastKey
+pub mod Documents
+pub mod Steps
+pub mod AddressRanges
+pub mod SoundPatterns
+pub mod Sound
+pub mod Refusals

@@ -1,0 +1,210 @@
+-- The slices and the rules that a text says are plain.
+use Rattle.std.proofs.Common.{◌≡◌, ℕ, zero, suc, ◌%◌, ◌≤◌, Bool, true, false, not, ◌&&◌, cond, nat_le, leb-true, List, [], ◌∷◌, length, Option, Some, None, IfSome, All, Result, Ok, Err, codes, unwrap_or, refl, sym, ap, subst, arith}
+use Rattle.std.specs.List.{AllByRecursion, list_all}
+use Rattle.std.proofs.lemmas.Bool.{and_parts, cases_Bool}
+use Rattle.std.proofs.lemmas.List.Elements.{All-from_recursion}
+use Rattle.std.proofs.lemmas.List.Sums.{AllPass-from_list_all}
+use Rattle.toml.specs.Data.{Data, string, integer, float, boolean, datetime, array, table, Items, no_items, item, Members}
+use Rattle.toml.specs.Text.{has_items, are_tables}
+use Rattle.of10_model.specs.declared.pattern.Pattern.{Pattern}
+use Rattle.of10_model.specs.Normal.{has_vlan, has_network, has_service, has_ports, IsInRange, IsNormal}
+use Rattle.flowspace.specs.declared.fault.Field.{Field}
+use Rattle.flowspace.specs.declared.fault.Field.TheVariants.{Read}
+use Rattle.flowspace.specs.declared.rules.Rule.{Rule}
+use Rattle.flowspace.specs.declared.slices.Slice.{Slice}
+use Rattle.flowspace.specs.Policies.{PolicyView}
+use Rattle.flowspace.specs.Rules.{IsPlainRule}
+use Rattle.flowspace.specs.Slices.{is_name_byte, IsPlainSlice}
+use Rattle.policy_text.specs.declared.fault.ReadFault.{ReadFault}
+use Rattle.policy_text.specs.declared.values.Numbers.{Numbers}
+use Rattle.policy_text.specs.declared.values.Numbers.TheVariants.{UpTo, Between}
+use Rattle.policy_text.specs.declared.values.Numerals.TheVariants.{Datapath}
+use Rattle.policy_text.specs.declared.values.Texts.TheVariants.{Name, Controller, Any}
+use Rattle.policy_text.specs.Reading.{◌>>=◌, SectionView, known_keys, required, optional, when, is_number, number, is_text, text, numeral, tables, some_tables}
+use Rattle.policy_text.specs.Slices.{slice_section, slice_in, slice_of, slices_from}
+use Rattle.policy_text.specs.Rules.{pattern_in, first_improper, are_different, bits_below, writer_of, slots_of, no_improper, proper, RuleText, names_under, rule_text_in, rule_from, rule_section, rule_in, rule_of, rules_from}
+use Rattle.policy_text.specs.Documents.{top, parts_in, parts_of, ArePlain}
+use Rattle.policy_text.proofs.Steps.{bind_ok, bind_is, ok_is, when_some, optional_holds, required_holds, number_is, text_is}
+use Rattle.policy_text.proofs.SoundPatterns.{IsWritten, pattern_sound, meaningful, needed_is, normal}
+
+-- ---- slices
+
+or_default : (P : ℕ → Type 0) (o : Option ℕ) (n : ℕ) → IfSome o P → P n → P (unwrap_or o n)
+or_default P None n h k = k
+or_default P (Some x) n h k = h
+
+between : (low high n : ℕ) → is_number (Between low high) n ≡ true → (low ≤ n) × (n ≤ high)
+between low high n e = let (a, b) = and_parts (nat_le low n) (nat_le n high) e in (leb-true _ _ a, leb-true _ _ b)
+
+rate_read : (this : SectionView) (key : List ℕ) (o : Option ℕ) → optional (number (Between 1 1000000)) this key ≡ Ok o → (1 ≤ unwrap_or o 1000) × (unwrap_or o 1000 ≤ 1000000)
+rate_read this key o e =
+    or_default (λ n. (1 ≤ n) × (n ≤ 1000000)) o 1000
+    (optional_holds (λ n. (1 ≤ n) × (n ≤ 1000000)) (number (Between 1 1000000)) (λ d n r. between 1 1000000 n (number_is (Between 1 1000000) d n r)) this key o e)
+    (omega arith, omega arith)
+
+quota_read : (this : SectionView) (key : List ℕ) (o : Option ℕ) → optional (number (UpTo 4096)) this key ≡ Ok o → unwrap_or o 1024 ≤ 4096
+quota_read this key o e =
+    or_default (λ n. n ≤ 4096) o 1024
+    (optional_holds (λ n. n ≤ 4096) (number (UpTo 4096)) (λ d n r. leb-true _ _ (number_is (UpTo 4096) d n r)) this key o e)
+    (omega arith)
+
+slice_sound : (this : SectionView) (s : Slice) → slice_in this ≡ Ok s → IsPlainSlice s
+unfolding slice_in
+slice_sound this s e =
+    let k = bind_ok (known_keys this) _ s e in
+    let a = bind_ok (required (text Name) this (codes "name")) _ s k.2 in
+    let b = bind_ok (required (text Controller) this (codes "controller")) _ s a.2 in
+    let c = bind_ok (optional (number (Between 1 1000000)) this (codes "rate")) _ s b.2 in
+    let d = bind_ok (optional (number (Between 1 1000000)) this (codes "burst")) _ s c.2 in
+    let f = bind_ok (optional (number (UpTo 4096)) this (codes "quota")) _ s d.2 in
+    let made : Slice = record { name = a.0; controller = b.0; rate = unwrap_or c.0 1000; burst = unwrap_or d.0 1000; quota = unwrap_or f.0 1024 } in
+    let name = required_holds (λ t. is_text Name t ≡ true) (text Name) (text_is Name) this (codes "name") a.0 a.1 in
+    let controller = required_holds (λ t. is_text Controller t ≡ true) (text Controller) (text_is Controller) this (codes "controller") b.0 b.1 in
+    let (size, bytes) = and_parts (nat_le 1 (length a.0) && nat_le (length a.0) 32) (list_all is_name_byte a.0) name in
+    let (name_low, name_high) = and_parts (nat_le 1 (length a.0)) (nat_le (length a.0) 32) size in
+    let (low, high) = and_parts (nat_le 1 (length b.0)) (nat_le (length b.0) 255) controller in
+    let rate = rate_read this (codes "rate") c.0 c.1 in
+    let burst = rate_read this (codes "burst") d.0 d.1 in
+    subst IsPlainSlice (ok_is made s f.2) (record {
+      name_some = leb-true _ _ name_low;
+      name_short = leb-true _ _ name_high;
+      name_bytes = AllPass-from_list_all is_name_byte a.0 bytes;
+      controller_some = leb-true _ _ low;
+      controller_short = leb-true _ _ high;
+      rate_some = rate.0;
+      rate_limit = rate.1;
+      burst_some = burst.0;
+      burst_limit = burst.1;
+      quota_limit = quota_read this (codes "quota") f.0 f.1;
+    })
+
+slice_of_sound : (index : ℕ) (d : Data) (s : Slice) → slice_of index d ≡ Ok s → IsPlainSlice s
+slice_of_sound index (table ms) s e = slice_sound (slice_section index ms) s e
+slice_of_sound index (string x) s e = absurd cc
+slice_of_sound index (integer x) s e = absurd cc
+slice_of_sound index (float x) s e = absurd cc
+slice_of_sound index (boolean x) s e = absurd cc
+slice_of_sound index (datetime x) s e = absurd cc
+slice_of_sound index (array x) s e = absurd cc
+
+slices_sound : (index : ℕ) (ds : Items) (ss : List Slice) → slices_from index ds ≡ Ok ss → AllByRecursion IsPlainSlice ss
+slices_sound index no_items ss e = subst (AllByRecursion IsPlainSlice) (ok_is [] ss e) tt
+slices_sound index (item d ds) ss e =
+    let a = bind_ok (slice_of index d) _ ss e in
+    let b = bind_ok (slices_from (suc index) ds) _ ss a.2 in
+    subst (AllByRecursion IsPlainSlice) (ok_is (a.0 ∷ b.0) ss b.2) (slice_of_sound index d a.0 a.1, slices_sound (suc index) ds b.0 b.1)
+
+some_slices : (index : ℕ) (ds : Items) (ss : List Slice) → has_items ds ≡ true → slices_from index ds ≡ Ok ss → 1 ≤ length ss
+some_slices index no_items ss some e = absurd cc
+some_slices index (item d ds) ss some e =
+    let a = bind_ok (slice_of index d) _ ss e in
+    let b = bind_ok (slices_from (suc index) ds) _ ss a.2 in
+    subst (λ l. 1 ≤ length l) (ok_is (a.0 ∷ b.0) ss b.2) (omega arith)
+
+-- ---- rules
+
+no_improper_is : (index : ℕ) (o : Option Field) (u : Unit {0}) → no_improper index o ≡ Ok u → o ≡ None
+no_improper_is index None u e = refl
+no_improper_is index (Some field) u e = absurd cc
+
+proper_cases : (b : Bool) (o : Option Field) → cond b o (Some Read) ≡ None → o ≡ None
+proper_cases true o e = e
+proper_cases false o e = absurd cc
+
+pub proper_is : (index : ℕ) (slots : List ℕ) (m : Pattern) (u : Unit {0}) → proper index slots m ≡ Ok u → first_improper m ≡ None
+proper_is index slots m u e = proper_cases (are_different slots) (first_improper m) (no_improper_is index _ u e)
+
+pub text_sound : (this : SectionView) (t : RuleText) → rule_text_in this ≡ Ok t → IsWritten t.pattern
+unfolding rule_text_in
+text_sound this t e =
+    let k = bind_ok (known_keys this) _ t e in
+    let a = bind_ok (optional (numeral Datapath) this (codes "switch")) _ t k.2 in
+    let b = bind_ok (required (number (UpTo 0xffffffff)) this (codes "priority")) _ t a.2 in
+    let c = bind_ok (optional (text Any) this (codes "write")) _ t b.2 in
+    let d = bind_ok (names_under this (codes "read")) _ t c.2 in
+    let f = bind_ok (pattern_in this) _ t d.2 in
+    let made : RuleText = record { switch = a.0; priority = b.0; write = c.0; read = d.0; pattern = f.0 } in
+    subst (λ (x : RuleText). IsWritten x.pattern) (ok_is made t f.2) (pattern_sound this f.0 f.1)
+
+-- the rule of what a table says, from its parts
+pub rule_from_is : (slices : List Slice) (index : ℕ) (t : RuleText) (writer : Option ℕ) (slots : List ℕ) (u : Unit {0}) → writer_of slices index t.write ≡ Ok writer → slots_of slices index t.read ≡ Ok slots
+    → proper index slots t.pattern ≡ Ok u → rule_from slices index t ≡ Ok (record { switch = t.switch; priority = t.priority; pattern = t.pattern; writer = writer; readers = bits_below 32 slots })
+unfolding rule_from
+rule_from_is slices index t writer slots u a b c =
+    bind_is (writer_of slices index t.write) _ writer _ a (bind_is (slots_of slices index t.read) _ slots _ b (bind_is (proper index slots t.pattern) _ u _ c refl))
+
+from_sound : (slices : List Slice) (index : ℕ) (t : RuleText) (r : Rule) → IsWritten t.pattern → rule_from slices index t ≡ Ok r → IsPlainRule r
+unfolding rule_from
+from_sound slices index t r written e =
+    let a = bind_ok (writer_of slices index t.write) _ r e in
+    let b = bind_ok (slots_of slices index t.read) _ r a.2 in
+    let c = bind_ok (proper index b.0 t.pattern) _ r b.2 in
+    let m = t.pattern in
+    let means = meaningful m (proper_is index b.0 m c.0 c.1) in
+    let made : Rule = record { switch = t.switch; priority = t.priority; pattern = m; writer = a.0; readers = bits_below 32 b.0 } in
+    subst IsPlainRule (ok_is made r c.2) (record {
+      in_port = written.in_port;
+      dl_vlan = written.dl_vlan;
+      dl_vlan_pcp = needed_is m.dl_vlan_pcp (has_vlan m.dl_vlan) means.dl_vlan_pcp;
+      nw_tos = needed_is m.nw_tos (has_service m.dl_type) means.nw_tos;
+      nw_proto = needed_is m.nw_proto (has_network m.dl_type) means.nw_proto;
+      nw_src = needed_is m.nw_src (has_network m.dl_type) means.nw_src;
+      nw_dst = needed_is m.nw_dst (has_network m.dl_type) means.nw_dst;
+      tp_src = needed_is m.tp_src (has_ports m.dl_type m.nw_proto) means.tp_src;
+      tp_dst = needed_is m.tp_dst (has_ports m.dl_type m.nw_proto) means.tp_dst;
+    })
+
+rule_sound : (slices : List Slice) (this : SectionView) (r : Rule) → rule_in slices this ≡ Ok r → IsPlainRule r
+rule_sound slices this r e =
+    let a = bind_ok (rule_text_in this) (rule_from slices this.index) r e in
+    from_sound slices this.index a.0 r (text_sound this a.0 a.1) a.2
+
+rule_of_sound : (slices : List Slice) (index : ℕ) (d : Data) (r : Rule) → rule_of slices index d ≡ Ok r → IsPlainRule r
+rule_of_sound slices index (table ms) r e = rule_sound slices (rule_section index ms) r e
+rule_of_sound slices index (string x) r e = absurd cc
+rule_of_sound slices index (integer x) r e = absurd cc
+rule_of_sound slices index (float x) r e = absurd cc
+rule_of_sound slices index (boolean x) r e = absurd cc
+rule_of_sound slices index (datetime x) r e = absurd cc
+rule_of_sound slices index (array x) r e = absurd cc
+
+rules_sound : (slices : List Slice) (index : ℕ) (ds : Items) (rs : List Rule) → rules_from slices index ds ≡ Ok rs → AllByRecursion IsPlainRule rs
+rules_sound slices index no_items rs e = subst (AllByRecursion IsPlainRule) (ok_is [] rs e) tt
+rules_sound slices index (item d ds) rs e =
+    let a = bind_ok (rule_of slices index d) _ rs e in
+    let b = bind_ok (rules_from slices (suc index) ds) _ rs a.2 in
+    subst (AllByRecursion IsPlainRule) (ok_is (a.0 ∷ b.0) rs b.2) (rule_of_sound slices index d a.0 a.1, rules_sound slices (suc index) ds b.0 b.1)
+
+-- ---- the whole
+
+tables_some : (d : Data) (items : Items) → some_tables d ≡ Some items → has_items items ≡ true
+tables_some (array ds) items e =
+    let w = when_some (has_items ds && are_tables ds) ds items e in
+    subst (λ x. has_items x ≡ true) w.1 (and_parts (has_items ds) (are_tables ds) w.0).0
+tables_some (string x) items e = absurd cc
+tables_some (integer x) items e = absurd cc
+tables_some (float x) items e = absurd cc
+tables_some (boolean x) items e = absurd cc
+tables_some (datetime x) items e = absurd cc
+tables_some (table x) items e = absurd cc
+
+pub parts_sound : (this : SectionView) (p : PolicyView) → parts_in this ≡ Ok p → ArePlain p
+unfolding parts_in
+parts_sound this p e =
+    let a = bind_ok (required (number (Between 1 1)) this (codes "version")) _ p e in
+    let k = bind_ok (known_keys this) _ p a.2 in
+    let b = bind_ok (required some_tables this (codes "slice")) _ p k.2 in
+    let c = bind_ok (optional tables this (codes "rule")) _ p b.2 in
+    let d = bind_ok (slices_from 0 b.0) _ p c.2 in
+    let f = bind_ok (rules_from d.0 0 (unwrap_or c.0 no_items)) _ p d.2 in
+    let made : PolicyView = record { slices = d.0; rules = f.0 } in
+    let some = required_holds (λ items. has_items items ≡ true) some_tables tables_some this (codes "slice") b.0 b.1 in
+    subst ArePlain (ok_is made p f.2) (record {
+      some_slice = some_slices 0 b.0 d.0 some d.1;
+      slices = All-from_recursion IsPlainSlice d.0 (slices_sound 0 b.0 d.0 d.1);
+      rules = All-from_recursion IsPlainRule f.0 (rules_sound d.0 0 (unwrap_or c.0 no_items) f.0 f.1);
+    })
+
+pub document_sound : (document : Option Members) (p : PolicyView) → parts_of document ≡ Ok p → ArePlain p
+document_sound None p e = absurd cc
+document_sound (Some ms) p e = parts_sound (top ms) p e

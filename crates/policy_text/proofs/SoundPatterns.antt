@@ -1,0 +1,193 @@
+-- The match that a text says is a normal one, and constrains a field only where the field means something.
+use Rattle.std.proofs.Common.{◌≡◌, ◌⊎◌, inl, inr, ℕ, ◌<◌, ◌≤◌, ◌%◌, ◌^◌, ◌==◌, Bool, true, false, not, ◌&&◌, ◌||◌, cond, nat_le, leb-true, eqb-true, true≢false, IsTrue, List, Option, Some, None, IsSome, IfSome, is_some, Result, Ok, codes, refl, sym, ap, subst, arith}
+use Rattle.std.proofs.lemmas.Bool.{and_parts, or_parts, cases_Bool}
+use Rattle.of10_model.specs.declared.pattern.Prefix.{Prefix}
+use Rattle.of10_model.specs.declared.pattern.Pattern.{Pattern}
+use Rattle.of10_model.specs.Normal.{is_given, is_whole, is_exact, has_vlan, has_network, has_service, has_ports, kept, kept_prefix, applied, IsBelow, IsService, IsPrefix, IsInRange, IsNormal}
+use Rattle.of10_model.proofs.NormalFields.{applied_same}
+use Rattle.of10_model.proofs.Twelve.{each_true}
+use Rattle.flowspace.specs.declared.fault.Field.{Field}
+use Rattle.flowspace.specs.Rules.{IsInPort, IsVlan}
+use Rattle.policy_text.specs.declared.values.Numbers.TheVariants.{UpTo, InPort, Vlan, Service}
+use Rattle.policy_text.specs.declared.values.Numerals.TheVariants.{Hardware}
+use Rattle.policy_text.specs.Reading.{SectionView, optional, is_number, number, numeral, addresses}
+use Rattle.policy_text.specs.Rules.{LinkView, link_in, joined, pattern_in, first_improper}
+use Rattle.policy_text.proofs.Steps.{bind_ok, ok_is, optional_holds, number_is}
+use Rattle.policy_text.proofs.AddressRanges.{hardware_below, addresses_range}
+
+-- ---- ranges
+
+either : (a b : Bool) → (a || b) ≡ true → (a ≡ true) ⊎ (b ≡ true)
+either true b e = inl refl
+either false b e = inr e
+
+port_is : (n : ℕ) → is_number InPort n ≡ true → IsInPort n
+port_is n e = elim (either (nat_le n 0xff00) (n == 0xfffe) e) [ inl low ↦ inl (leb-true _ _ low) | inr own ↦ inr (eqb-true _ _ own) ]
+
+vlan_is : (n : ℕ) → is_number Vlan n ≡ true → IsVlan n
+vlan_is n e = elim (either (nat_le n 4095) (n == 0xffff) e) [ inl low ↦ inl (leb-true _ _ low) | inr mark ↦ inr (eqb-true _ _ mark) ]
+
+service_is : (n : ℕ) → is_number Service n ≡ true → IsService (Some n)
+service_is n e =
+    let (few, whole) = and_parts (nat_le n 252) (n % 4 == 0) e in
+    let small = leb-true _ _ few in
+    (omega (arith, small), eqb-true _ _ whole)
+
+in_ports : (o : Option ℕ) → IfSome o IsInPort → IsBelow (2 ^ 16) o
+in_ports None h = tt
+in_ports (Some n) h = elim h [ inl low ↦ omega (arith, low) | inr own ↦ omega (arith, own) ]
+
+vlans : (o : Option ℕ) → IfSome o IsVlan → IsBelow (2 ^ 16) o
+vlans None h = tt
+vlans (Some n) h = elim h [ inl low ↦ omega (arith, low) | inr mark ↦ omega (arith, mark) ]
+
+below : (limit : ℕ) (o : Option ℕ) → IfSome o (λ n. n < limit) → IsBelow limit o
+below limit None h = tt
+below limit (Some n) h = h
+
+services : (o : Option ℕ) → IfSome o (λ n. IsService (Some n)) → IsService o
+services None h = tt
+services (Some n) h = h
+
+prefixes : (o : Option Prefix) → IfSome o (λ p. IsPrefix (Some p)) → IsPrefix o
+prefixes None h = tt
+prefixes (Some p) h = h
+
+up_to : (high limit n : ℕ) → high < limit → is_number (UpTo high) n ≡ true → n < limit
+up_to high limit n lt e = let le = leb-true _ _ e in omega (arith, lt, le)
+
+-- ---- what is read
+
+number_below : (high limit : ℕ) → high < limit → (this : SectionView) (key : List ℕ) (o : Option ℕ) → optional (number (UpTo high)) this key ≡ Ok o → IsBelow limit o
+number_below high limit lt this key o e = below limit o (optional_holds (λ n. n < limit) (number (UpTo high)) (λ d n r. up_to high limit n lt (number_is (UpTo high) d n r)) this key o e)
+
+hardware_read : (this : SectionView) (key : List ℕ) (o : Option ℕ) → optional (numeral Hardware) this key ≡ Ok o → IsBelow (2 ^ 48) o
+hardware_read this key o e = below (2 ^ 48) o (optional_holds (λ n. n < 2 ^ 48) (numeral Hardware) hardware_below this key o e)
+
+prefix_read : (this : SectionView) (key : List ℕ) (o : Option Prefix) → optional addresses this key ≡ Ok o → IsPrefix o
+prefix_read this key o e = prefixes o (optional_holds (λ p. IsPrefix (Some p)) addresses addresses_range this key o e)
+
+record IsLink (l : LinkView) : Type 0 where
+  pub in_port : IfSome l.in_port IsInPort
+  pub dl_src : IsBelow (2 ^ 48) l.dl_src
+  pub dl_dst : IsBelow (2 ^ 48) l.dl_dst
+  pub dl_vlan : IfSome l.dl_vlan IsVlan
+  pub dl_vlan_pcp : IsBelow 8 l.dl_vlan_pcp
+  pub dl_type : IsBelow (2 ^ 16) l.dl_type
+
+link_sound : (this : SectionView) (l : LinkView) → link_in this ≡ Ok l → IsLink l
+unfolding link_in
+link_sound this l e =
+    let a = bind_ok (optional (number InPort) this (codes "in_port")) _ l e in
+    let b = bind_ok (optional (numeral Hardware) this (codes "dl_src")) _ l a.2 in
+    let c = bind_ok (optional (numeral Hardware) this (codes "dl_dst")) _ l b.2 in
+    let d = bind_ok (optional (number Vlan) this (codes "dl_vlan")) _ l c.2 in
+    let f = bind_ok (optional (number (UpTo 7)) this (codes "dl_vlan_pcp")) _ l d.2 in
+    let g = bind_ok (optional (number (UpTo 0xffff)) this (codes "dl_type")) _ l f.2 in
+    let made : LinkView = record { in_port = a.0; dl_src = b.0; dl_dst = c.0; dl_vlan = d.0; dl_vlan_pcp = f.0; dl_type = g.0 } in
+    subst IsLink (ok_is made l g.2) (record {
+      in_port = optional_holds IsInPort (number InPort) (λ x n r. port_is n (number_is InPort x n r)) this (codes "in_port") a.0 a.1;
+      dl_src = hardware_read this (codes "dl_src") b.0 b.1;
+      dl_dst = hardware_read this (codes "dl_dst") c.0 c.1;
+      dl_vlan = optional_holds IsVlan (number Vlan) (λ x n r. vlan_is n (number_is Vlan x n r)) this (codes "dl_vlan") d.0 d.1;
+      dl_vlan_pcp = number_below 7 8 (omega arith) this (codes "dl_vlan_pcp") f.0 f.1;
+      dl_type = number_below 0xffff (2 ^ 16) (omega arith) this (codes "dl_type") g.0 g.1;
+    })
+
+-- a match in range, whose port and VLAN a rule may have
+pub record IsWritten (m : Pattern) : Type 0 where
+  pub range : IsInRange m
+  pub in_port : IfSome m.in_port IsInPort
+  pub dl_vlan : IfSome m.dl_vlan IsVlan
+
+pub pattern_sound : (this : SectionView) (m : Pattern) → pattern_in this ≡ Ok m → IsWritten m
+unfolding pattern_in
+pattern_sound this m e =
+    let link = bind_ok (link_in this) _ m e in
+    let a = bind_ok (optional (number Service) this (codes "nw_tos")) _ m link.2 in
+    let b = bind_ok (optional (number (UpTo 255)) this (codes "nw_proto")) _ m a.2 in
+    let c = bind_ok (optional addresses this (codes "nw_src")) _ m b.2 in
+    let d = bind_ok (optional addresses this (codes "nw_dst")) _ m c.2 in
+    let f = bind_ok (optional (number (UpTo 0xffff)) this (codes "tp_src")) _ m d.2 in
+    let g = bind_ok (optional (number (UpTo 0xffff)) this (codes "tp_dst")) _ m f.2 in
+    let made : Pattern = joined link.0 a.0 b.0 c.0 d.0 f.0 g.0 in
+    let sound = link_sound this link.0 link.1 in
+    subst IsWritten (ok_is made m g.2) (record {
+      range = record {
+        in_port = in_ports link.0.in_port sound.in_port;
+        dl_src = sound.dl_src;
+        dl_dst = sound.dl_dst;
+        dl_vlan = vlans link.0.dl_vlan sound.dl_vlan;
+        dl_vlan_pcp = sound.dl_vlan_pcp;
+        dl_type = sound.dl_type;
+        nw_tos = services a.0 (optional_holds (λ n. IsService (Some n)) (number Service) (λ x n r. service_is n (number_is Service x n r)) this (codes "nw_tos") a.0 a.1);
+        nw_proto = number_below 255 256 (omega arith) this (codes "nw_proto") b.0 b.1;
+        nw_src = prefix_read this (codes "nw_src") c.0 c.1;
+        nw_dst = prefix_read this (codes "nw_dst") d.0 d.1;
+        tp_src = number_below 0xffff (2 ^ 16) (omega arith) this (codes "tp_src") f.0 f.1;
+        tp_dst = number_below 0xffff (2 ^ 16) (omega arith) this (codes "tp_dst") g.0 g.1;
+      };
+      in_port = sound.in_port;
+      dl_vlan = sound.dl_vlan;
+    })
+
+-- ---- fields that mean something
+
+if_none : (b : Bool) (field : Field) (o : Option Field) → cond b (Some field) o ≡ None → (b ≡ false) × (o ≡ None)
+if_none true field o e = absurd cc
+if_none false field o e = (refl, e)
+
+-- no field is given without what it needs
+pub record IsMeaningful (m : Pattern) : Type 0 where
+  pub dl_vlan_pcp : (is_some m.dl_vlan_pcp && not (has_vlan m.dl_vlan)) ≡ false
+  pub nw_tos : (is_some m.nw_tos && not (has_service m.dl_type)) ≡ false
+  pub nw_proto : (is_some m.nw_proto && not (has_network m.dl_type)) ≡ false
+  pub nw_src : (is_some m.nw_src && not (has_network m.dl_type)) ≡ false
+  pub nw_dst : (is_some m.nw_dst && not (has_network m.dl_type)) ≡ false
+  pub tp_src : (is_some m.tp_src && not (has_ports m.dl_type m.nw_proto)) ≡ false
+  pub tp_dst : (is_some m.tp_dst && not (has_ports m.dl_type m.nw_proto)) ≡ false
+
+pub meaningful : (m : Pattern) → first_improper m ≡ None → IsMeaningful m
+unfolding first_improper
+meaningful m e =
+    let a = if_none (is_some m.dl_vlan_pcp && not (has_vlan m.dl_vlan)) _ _ e in
+    let b = if_none (is_some m.nw_tos && not (has_service m.dl_type)) _ _ a.1 in
+    let c = if_none (is_some m.nw_proto && not (has_network m.dl_type)) _ _ b.1 in
+    let d = if_none (is_some m.nw_src && not (has_network m.dl_type)) _ _ c.1 in
+    let f = if_none (is_some m.nw_dst && not (has_network m.dl_type)) _ _ d.1 in
+    let g = if_none (is_some m.tp_src && not (has_ports m.dl_type m.nw_proto)) _ _ f.1 in
+    let h = if_none (is_some m.tp_dst && not (has_ports m.dl_type m.nw_proto)) _ _ g.1 in
+    record { dl_vlan_pcp = a.0; nw_tos = b.0; nw_proto = c.0; nw_src = d.0; nw_dst = f.0; tp_src = g.0; tp_dst = h.0 }
+
+pub needed_is : {A : Type 0} (o : Option A) (needed : Bool) → (is_some o && not needed) ≡ false → IsSome o → IsTrue needed
+needed_is None needed e h = absurd (true≢false (sym h))
+needed_is (Some x) true e h = refl
+needed_is (Some x) false e h = absurd (true≢false e)
+
+kept_same : (exact needed : Bool) (o : Option ℕ) → (is_some o && not needed) ≡ false → (exact ≡ true → is_given o ≡ true) → kept exact needed o ≡ o
+kept_same exact true o e given = refl
+kept_same exact false (Some x) e given = absurd (true≢false e)
+kept_same true false None e given = absurd (true≢false (sym (given refl)))
+kept_same false false None e given = refl
+
+kept_prefix_same : (exact needed : Bool) (o : Option Prefix) → (is_some o && not needed) ≡ false → (exact ≡ true → is_whole o ≡ true) → kept_prefix exact needed o ≡ o
+kept_prefix_same exact true o e given = refl
+kept_prefix_same exact false (Some x) e given = absurd (true≢false e)
+kept_prefix_same true false None e given = absurd (true≢false (sym (given refl)))
+kept_prefix_same false false None e given = refl
+
+pub normal : (m : Pattern) → IsInRange m → first_improper m ≡ None → IsNormal m
+normal m range e =
+    let means = meaningful m e in
+    let all = λ (h : is_exact m ≡ true). each_true (is_given m.in_port) (is_given m.dl_src) (is_given m.dl_dst) (is_given m.dl_vlan) (is_given m.dl_vlan_pcp) (is_given m.dl_type) (is_given m.nw_tos) (is_given m.nw_proto) (is_whole m.nw_src) (is_whole m.nw_dst) (is_given m.tp_src) (is_given m.tp_dst) h in (
+      range,
+      applied_same m (record {
+        on_dl_vlan_pcp = kept_same (is_exact m) (has_vlan m.dl_vlan) m.dl_vlan_pcp means.dl_vlan_pcp (λ h. (all h).is_dl_vlan_pcp);
+        on_nw_tos = kept_same (is_exact m) (has_service m.dl_type) m.nw_tos means.nw_tos (λ h. (all h).is_nw_tos);
+        on_nw_proto = kept_same (is_exact m) (has_network m.dl_type) m.nw_proto means.nw_proto (λ h. (all h).is_nw_proto);
+        on_nw_src = kept_prefix_same (is_exact m) (has_network m.dl_type) m.nw_src means.nw_src (λ h. (all h).is_nw_src);
+        on_nw_dst = kept_prefix_same (is_exact m) (has_network m.dl_type) m.nw_dst means.nw_dst (λ h. (all h).is_nw_dst);
+        on_tp_src = kept_same (is_exact m) (has_ports m.dl_type m.nw_proto) m.tp_src means.tp_src (λ h. (all h).is_tp_src);
+        on_tp_dst = kept_same (is_exact m) (has_ports m.dl_type m.nw_proto) m.tp_dst means.tp_dst (λ h. (all h).is_tp_dst);
+      }),
+    )

@@ -1,0 +1,214 @@
+-- Reading a table of a policy text key by key, with the first fault that is met. All of the form is this proxy's own rule.
+use Rattle.std.specs.Prelude.{◌≡◌, ℕ, pos, ◌==◌, ◌%◌, ◌&&◌, ◌||◌, nat_le, Bool, true, false, List, [], ◌∷◌, length, Option, Some, None, Result, Ok, Err, if◌then◌else◌, bytes_eq, codes}
+use Rattle.std.specs.List.{list_all}
+use Rattle.std.specs.Ordering.{nat_cmp, is_lt}
+use Rattle.std.specs.Cmp.Lexicographic.{slice_cmp}
+use Rattle.toml.specs.Data.{Data, string, integer, array, table, Items, no_items, item, Members, no_members, member, get_member}
+use Rattle.toml.specs.Text.{are_tables, has_items}
+use Rattle.flowspace.specs.Slices.{is_name_byte}
+use Rattle.of10_model.specs.declared.pattern.Prefix.{Prefix}
+use Rattle.policy_text.specs.Addresses.{datapath_id, hardware_address, prefix}
+use Rattle.policy_text.specs.declared.fault.Part.{Part}
+use Rattle.policy_text.specs.declared.fault.Part.TheVariants.{Top, Slice, Rule}
+use Rattle.policy_text.specs.declared.fault.Place.{Place}
+use Rattle.policy_text.specs.declared.fault.ReadFault.{ReadFault}
+use Rattle.policy_text.specs.declared.fault.ReadFault.TheVariants.{NotToml, Missing, BadValue, UnknownKey, Improper, Refused, Memory}
+use Rattle.policy_text.specs.declared.values.Numbers.{Numbers}
+use Rattle.policy_text.specs.declared.values.Numbers.TheVariants.{UpTo, Between, InPort, Vlan, Service}
+use Rattle.policy_text.specs.declared.values.Numerals.{Numerals}
+use Rattle.policy_text.specs.declared.values.Numerals.TheVariants.{Datapath, Hardware}
+use Rattle.policy_text.specs.declared.values.Texts.{Texts}
+use Rattle.policy_text.specs.declared.values.Texts.TheVariants.{Name, Controller, Any}
+
+-- the first fault ends a reading
+infixl 10 ◌>>=◌
+abbrev pub ◌>>=◌ : {A B : Type 0} → Result A ReadFault → (A → Result B ReadFault) → Result B ReadFault
+(Ok x) >>= f = f x
+(Err fault) >>= f = Err fault
+
+-- a call fails as a reading does, or for want of memory
+abbrev pub Fails : {Y : Type 0} → ReadFault → Result Y ReadFault → Type 0
+Fails NotToml read = read ≡ Err NotToml
+Fails (Missing at) read = read ≡ Err (Missing at)
+Fails (BadValue at) read = read ≡ Err (BadValue at)
+Fails (UnknownKey at) read = read ≡ Err (UnknownKey at)
+Fails (Improper rule field) read = read ≡ Err (Improper rule field)
+Fails (Refused fault) read = read ≡ Err (Refused fault)
+Fails Memory read = Unit {0}
+
+-- a call answers what a reading gives, its value seen by view, unless memory ran out
+abbrev pub Gives : {X Y : Type 0} → (X → Y) → Result X ReadFault → Result Y ReadFault → Type 0
+Gives view (Ok x) read = read ≡ Ok (view x)
+Gives view (Err fault) read = Fails fault read
+
+-- ---- tables and their keys
+
+-- a table of the text: which one it is, and what it says
+pub record SectionView : Type 0 where
+  pub part : Part
+  pub index : ℕ
+  pub members : Members
+
+-- a key of the table
+abbrev pub place_of : SectionView → List ℕ → Place
+place_of this key = record { part = this.part; index = this.index; key = key }
+
+-- the keys that each kind of table may have
+abbrev pub is_top_key : List ℕ → Bool
+is_top_key key = bytes_eq key (codes "version") || bytes_eq key (codes "slice") || bytes_eq key (codes "rule")
+
+abbrev pub is_slice_key : List ℕ → Bool
+is_slice_key key =
+    bytes_eq key (codes "name") || bytes_eq key (codes "controller") || bytes_eq key (codes "rate") || bytes_eq key (codes "burst")
+    || bytes_eq key (codes "quota")
+
+abbrev pub is_link_key : List ℕ → Bool
+is_link_key key =
+    bytes_eq key (codes "in_port") || bytes_eq key (codes "dl_src") || bytes_eq key (codes "dl_dst") || bytes_eq key (codes "dl_vlan")
+    || bytes_eq key (codes "dl_vlan_pcp") || bytes_eq key (codes "dl_type")
+
+abbrev pub is_network_key : List ℕ → Bool
+is_network_key key =
+    bytes_eq key (codes "nw_tos") || bytes_eq key (codes "nw_proto") || bytes_eq key (codes "nw_src") || bytes_eq key (codes "nw_dst")
+    || bytes_eq key (codes "tp_src") || bytes_eq key (codes "tp_dst")
+
+abbrev pub is_rule_key : List ℕ → Bool
+is_rule_key key =
+    bytes_eq key (codes "switch") || bytes_eq key (codes "priority") || bytes_eq key (codes "write") || bytes_eq key (codes "read")
+    || is_link_key key || is_network_key key
+
+abbrev pub is_known : Part → List ℕ → Bool
+is_known Top key = is_top_key key
+is_known Slice key = is_slice_key key
+is_known Rule key = is_rule_key key
+
+-- the keys that such a table may not have
+abbrev pub unknown_keys : Part → Members → List (List ℕ)
+unknown_keys part no_members = []
+unknown_keys part (member key d rest) = if is_known part key then unknown_keys part rest else key ∷ unknown_keys part rest
+
+-- the lesser of two texts, byte by byte
+abbrev pub lesser : List ℕ → Option (List ℕ) → List ℕ
+lesser text None = text
+lesser text (Some other) = if is_lt (slice_cmp nat_cmp other text) then other else text
+
+-- the least of some texts
+abbrev pub least : List (List ℕ) → Option (List ℕ)
+least [] = None
+least (text ∷ rest) = Some (lesser text (least rest))
+
+-- a table has no unknown key, or its least one is at fault
+abbrev pub no_unknown : SectionView → Option (List ℕ) → Result (Unit {0}) ReadFault
+no_unknown this None = Ok tt
+no_unknown this (Some key) = Err (UnknownKey (place_of this key))
+
+abbrev pub known_keys : SectionView → Result (Unit {0}) ReadFault
+known_keys this = no_unknown this (least (unknown_keys this.part this.members))
+
+-- ---- values under keys
+
+-- what read makes of a value, which must be of its form
+abbrev pub formed : {A : Type 0} → Place → Option A → Result A ReadFault
+formed at None = Err (BadValue at)
+formed at (Some x) = Ok x
+
+-- what read makes of a value that must be there
+abbrev pub demanded : {A : Type 0} → (Data → Option A) → Place → Option Data → Result A ReadFault
+demanded read at None = Err (Missing at)
+demanded read at (Some d) = formed at (read d)
+
+-- what read makes of a value that may be missing
+abbrev pub allowed : {A : Type 0} → (Data → Option A) → Place → Option Data → Result (Option A) ReadFault
+allowed read at None = Ok None
+allowed read at (Some d) = formed at (read d) >>= (λ x. Ok (Some x))
+
+-- what stands under a key that must be there, and under one that may be missing
+abbrev pub required : {A : Type 0} → (Data → Option A) → SectionView → List ℕ → Result A ReadFault
+required read this key = demanded read (place_of this key) (get_member key this.members)
+
+abbrev pub optional : {A : Type 0} → (Data → Option A) → SectionView → List ℕ → Result (Option A) ReadFault
+optional read this key = allowed read (place_of this key) (get_member key this.members)
+
+-- ---- the forms of values
+
+-- the value, where the test holds
+abbrev pub when : {A : Type 0} → Bool → A → Option A
+when b x = if b then Some x else None
+
+-- the numbers that a field may have
+abbrev pub is_number : Numbers → ℕ → Bool
+is_number (UpTo high) n = nat_le n high
+is_number (Between low high) n = nat_le low n && nat_le n high
+is_number InPort n = nat_le n 0xff00 || n == 0xfffe
+is_number Vlan n = nat_le n 4095 || n == 0xffff
+is_number Service n = nat_le n 252 && n % 4 == 0
+
+-- the greatest of them
+abbrev pub greatest : Numbers → ℕ
+greatest (UpTo high) = high
+greatest (Between low high) = high
+greatest InPort = 0xfffe
+greatest Vlan = 0xffff
+greatest Service = 252
+
+-- an integer that is one of them
+abbrev pub number : Numbers → Data → Option ℕ
+number numbers (integer (pos n)) = when (is_number numbers n) n
+number numbers d = None
+
+-- a name is 1 to 32 letters a to z, digits, `_` and `-`
+abbrev pub is_name : List ℕ → Bool
+is_name name = (nat_le 1 (length name) && nat_le (length name) 32) && list_all is_name_byte name
+
+-- a controller's address has 1 to 255 bytes
+abbrev pub is_controller : List ℕ → Bool
+is_controller controller = nat_le 1 (length controller) && nat_le (length controller) 255
+
+-- the texts that a field may have
+abbrev pub is_text : Texts → List ℕ → Bool
+is_text Name text = is_name text
+is_text Controller text = is_controller text
+is_text Any text = true
+
+-- a text that is one of them
+abbrev pub text : Texts → Data → Option (List ℕ)
+text texts (string s) = when (is_text texts s) s
+text texts d = None
+
+-- the texts of an array of texts
+abbrev pub with_first : List ℕ → Option (List (List ℕ)) → Option (List (List ℕ))
+with_first s None = None
+with_first s (Some rest) = Some (s ∷ rest)
+
+abbrev pub each_text : Items → Option (List (List ℕ))
+each_text no_items = Some []
+each_text (item (string s) rest) = with_first s (each_text rest)
+each_text (item d rest) = None
+
+abbrev pub text_list : Data → Option (List (List ℕ))
+text_list (array items) = each_text items
+text_list d = None
+
+-- a number that is written as a text
+abbrev pub numeral_of : Numerals → List ℕ → Option ℕ
+numeral_of Datapath s = datapath_id s
+numeral_of Hardware s = hardware_address s
+
+abbrev pub numeral : Numerals → Data → Option ℕ
+numeral kind (string s) = numeral_of kind s
+numeral kind d = None
+
+-- the addresses that a text names
+abbrev pub addresses : Data → Option Prefix
+addresses (string s) = prefix s
+addresses d = None
+
+-- an array of tables, empty or not
+abbrev pub tables : Data → Option Items
+tables (array items) = when (are_tables items) items
+tables d = None
+
+-- an array of one or more tables
+abbrev pub some_tables : Data → Option Items
+some_tables (array items) = when (has_items items && are_tables items) items
+some_tables d = None

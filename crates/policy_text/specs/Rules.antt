@@ -1,0 +1,176 @@
+-- The rules that a policy text says. All of it is this proxy's own rule.
+use Rattle.std.specs.Prelude.{ℕ, zero, suc, ◌+◌, ◌%◌, ◌^◌, ◌&&◌, not, nat_eq, Bool, true, List, [], ◌∷◌, Option, Some, None, is_some, position, bytes_eq, Result, Ok, Err, codes, unwrap_or, if◌then◌else◌}
+use Rattle.std.specs.List.{list_any}
+use Rattle.toml.specs.Data.{Data, table, Items, no_items, item, Members}
+use Rattle.of10_model.specs.declared.pattern.Prefix.{Prefix}
+use Rattle.of10_model.specs.declared.pattern.Pattern.{Pattern}
+use Rattle.of10_model.specs.Normal.{has_vlan, has_network, has_service, has_ports}
+use Rattle.flowspace.specs.declared.fault.Field.{Field}
+use Rattle.flowspace.specs.declared.fault.Field.TheVariants.{Read, DlVlanPcp, NwTos, NwProto, NwSrc, NwDst, TpSrc, TpDst}
+use Rattle.flowspace.specs.declared.fault.PolicyFault.TheVariants.{UnknownSlice}
+use Rattle.flowspace.specs.declared.rules.Rule.{Rule}
+use Rattle.flowspace.specs.declared.slices.Slice.{Slice}
+use Rattle.policy_text.specs.declared.fault.Part.TheVariants as part
+use Rattle.policy_text.specs.declared.fault.ReadFault.{ReadFault}
+use Rattle.policy_text.specs.declared.fault.ReadFault.TheVariants.{BadValue, Improper, Refused}
+use Rattle.policy_text.specs.declared.values.Numbers.TheVariants.{UpTo, InPort, Vlan, Service}
+use Rattle.policy_text.specs.declared.values.Numerals.TheVariants.{Datapath, Hardware}
+use Rattle.policy_text.specs.declared.values.Texts.TheVariants.{Any}
+use Rattle.policy_text.specs.Reading.{◌>>=◌, SectionView, known_keys, required, optional, number, numeral, addresses, text, text_list}
+
+-- ---- the match
+
+-- the constraints on the link: where a packet came in, and its Ethernet header
+pub record LinkView : Type 0 where
+  pub in_port : Option ℕ
+  pub dl_src : Option ℕ
+  pub dl_dst : Option ℕ
+  pub dl_vlan : Option ℕ
+  pub dl_vlan_pcp : Option ℕ
+  pub dl_type : Option ℕ
+
+unfoldable pub link_in : SectionView → Result LinkView ReadFault
+link_in this = do
+  in_port ← optional (number InPort) this (codes "in_port")
+  dl_src ← optional (numeral Hardware) this (codes "dl_src")
+  dl_dst ← optional (numeral Hardware) this (codes "dl_dst")
+  dl_vlan ← optional (number Vlan) this (codes "dl_vlan")
+  dl_vlan_pcp ← optional (number (UpTo 7)) this (codes "dl_vlan_pcp")
+  dl_type ← optional (number (UpTo 0xffff)) this (codes "dl_type")
+  Ok (record { in_port = in_port; dl_src = dl_src; dl_dst = dl_dst; dl_vlan = dl_vlan; dl_vlan_pcp = dl_vlan_pcp; dl_type = dl_type })
+
+-- the constraints of a rule's table, those on the link first
+abbrev pub joined : LinkView → Option ℕ → Option ℕ → Option Prefix → Option Prefix → Option ℕ → Option ℕ → Pattern
+joined link nw_tos nw_proto nw_src nw_dst tp_src tp_dst = record {
+  in_port = link.in_port;
+  dl_src = link.dl_src;
+  dl_dst = link.dl_dst;
+  dl_vlan = link.dl_vlan;
+  dl_vlan_pcp = link.dl_vlan_pcp;
+  dl_type = link.dl_type;
+  nw_tos = nw_tos;
+  nw_proto = nw_proto;
+  nw_src = nw_src;
+  nw_dst = nw_dst;
+  tp_src = tp_src;
+  tp_dst = tp_dst;
+}
+
+unfoldable pub pattern_in : SectionView → Result Pattern ReadFault
+pattern_in this = do
+  link ← link_in this
+  nw_tos ← optional (number Service) this (codes "nw_tos")
+  nw_proto ← optional (number (UpTo 255)) this (codes "nw_proto")
+  nw_src ← optional addresses this (codes "nw_src")
+  nw_dst ← optional addresses this (codes "nw_dst")
+  tp_src ← optional (number (UpTo 0xffff)) this (codes "tp_src")
+  tp_dst ← optional (number (UpTo 0xffff)) this (codes "tp_dst")
+  Ok (joined link nw_tos nw_proto nw_src nw_dst tp_src tp_dst)
+
+-- the first field that is given without what it needs (OpenFlow 1.0.0, section 3.4: such a field isn't looked at)
+unfoldable pub first_improper : Pattern → Option Field
+first_improper m =
+    if is_some m.dl_vlan_pcp && not (has_vlan m.dl_vlan) then Some DlVlanPcp
+    else if is_some m.nw_tos && not (has_service m.dl_type) then Some NwTos
+    else if is_some m.nw_proto && not (has_network m.dl_type) then Some NwProto
+    else if is_some m.nw_src && not (has_network m.dl_type) then Some NwSrc
+    else if is_some m.nw_dst && not (has_network m.dl_type) then Some NwDst
+    else if is_some m.tp_src && not (has_ports m.dl_type m.nw_proto) then Some TpSrc
+    else if is_some m.tp_dst && not (has_ports m.dl_type m.nw_proto) then Some TpDst
+    else None
+
+-- ---- the names
+
+-- the slot of a name: the place of the first slice that has it
+abbrev pub slot_of : List Slice → List ℕ → Option ℕ
+slot_of slices name = position (λ s. bytes_eq s.name name) slices
+
+-- a slot that a rule names must be there
+abbrev pub named : ℕ → Option ℕ → Result ℕ ReadFault
+named index None = Err (Refused (UnknownSlice index))
+named index (Some slot) = Ok slot
+
+-- the slot of the writer, where one is named. A slot has eight bits; a policy of more slices than that is refused.
+abbrev pub writer_of : List Slice → ℕ → Option (List ℕ) → Result (Option ℕ) ReadFault
+writer_of slices index None = Ok None
+writer_of slices index (Some name) = named index (slot_of slices name) >>= (λ slot. Ok (Some (slot % 256)))
+
+-- the slots of the readers
+abbrev pub slots_of : List Slice → ℕ → List (List ℕ) → Result (List ℕ) ReadFault
+slots_of slices index [] = Ok []
+slots_of slices index (name ∷ rest) = do
+  slot ← named index (slot_of slices name)
+  others ← slots_of slices index rest
+  Ok (slot ∷ others)
+
+-- no slot stands twice
+abbrev pub are_different : List ℕ → Bool
+are_different [] = true
+are_different (slot ∷ rest) = not (list_any (nat_eq slot) rest) && are_different rest
+
+-- bit k is set where slot k is one of the slots, for each k below n
+abbrev pub bits_below : ℕ → List ℕ → ℕ
+bits_below zero slots = 0
+bits_below (suc k) slots = if list_any (nat_eq k) slots then bits_below k slots + 2 ^ k else bits_below k slots
+
+-- ---- the rule
+
+-- a rule's table
+abbrev pub rule_section : ℕ → Members → SectionView
+rule_section index ms = record { part = part.Rule; index = index; members = ms }
+
+-- a rule that has an improper field is at fault
+abbrev pub no_improper : ℕ → Option Field → Result (Unit {0}) ReadFault
+no_improper index None = Ok tt
+no_improper index (Some field) = Err (Improper index field)
+
+-- a rule names each reader once, and gives no field without what it needs
+abbrev pub proper : ℕ → List ℕ → Pattern → Result (Unit {0}) ReadFault
+proper index slots pattern = no_improper index (if are_different slots then first_improper pattern else Some Read)
+
+-- the names of an array that may be missing
+abbrev pub names_under : SectionView → List ℕ → Result (List (List ℕ)) ReadFault
+names_under this key = optional text_list this key >>= (λ names. Ok (unwrap_or names []))
+
+-- what a rule's table says, its slices by name
+pub record RuleText : Type 0 where
+  pub switch : Option ℕ
+  pub priority : ℕ
+  pub write : Option (List ℕ)
+  pub read : List (List ℕ)
+  pub pattern : Pattern
+
+unfoldable pub rule_text_in : SectionView → Result RuleText ReadFault
+rule_text_in this = do
+  known ← known_keys this
+  switch ← optional (numeral Datapath) this (codes "switch")
+  priority ← required (number (UpTo 0xffffffff)) this (codes "priority")
+  write ← optional (text Any) this (codes "write")
+  read ← names_under this (codes "read")
+  pattern ← pattern_in this
+  Ok (record { switch = switch; priority = priority; write = write; read = read; pattern = pattern })
+
+-- the same with slots for names
+unfoldable pub rule_from : List Slice → ℕ → RuleText → Result Rule ReadFault
+rule_from slices index said = do
+  writer ← writer_of slices index said.write
+  slots ← slots_of slices index said.read
+  fits ← proper index slots said.pattern
+  Ok (record { switch = said.switch; priority = said.priority; pattern = said.pattern; writer = writer; readers = bits_below 32 slots })
+
+-- the rule of a table
+abbrev pub rule_in : List Slice → SectionView → Result Rule ReadFault
+rule_in slices this = rule_text_in this >>= rule_from slices this.index
+
+-- the rule of an item; one that is no table is a fault of the array
+abbrev pub rule_of : List Slice → ℕ → Data → Result Rule ReadFault
+rule_of slices index (table ms) = rule_in slices (rule_section index ms)
+rule_of slices index d = Err (BadValue (record { part = part.Top; index = 0; key = codes "rule" }))
+
+-- the rules of the items from an index on
+abbrev pub rules_from : List Slice → ℕ → Items → Result (List Rule) ReadFault
+rules_from slices index no_items = Ok []
+rules_from slices index (item d rest) = do
+  first ← rule_of slices index d
+  others ← rules_from slices (suc index) rest
+  Ok (first ∷ others)

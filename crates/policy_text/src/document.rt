@@ -1,0 +1,116 @@
+//! Reading a whole text.
+
+ghost use Rattle.std.specs.Prelude.{◌≡◌, ◌≢◌, IfErr, option_map, unwrap_or};
+ghost use Rattle.toml.specs.Data.{no_items};
+ghost use Rattle.toml.specs.View.{items_view, table_view};
+ghost use Rattle.flowspace.specs.Loading.{load_of};
+ghost use Rattle.policy_text.specs.Documents.{ArePlain, document_of, loaded, parts_in, parts_of, policy_of, top};
+ghost use Rattle.policy_text.specs.Reading.{Gives};
+ghost use Rattle.policy_text.specs.Rules.{rules_from};
+ghost use Rattle.policy_text.specs.Views.{parts_view, section};
+
+use crate::fault::{Part, ReadFault};
+use crate::rules::rules;
+use crate::section::Section;
+use crate::slices::slices;
+use crate::values::Numbers;
+use flowspace::{Policy, PolicyFault, Rule, Slice};
+use std::alloc::Global;
+use toml::{Table, Value};
+
+/// The slices and the rules of a text.
+#[derive(Drop)]
+struct Parts {
+    slices: Vec<Slice>,
+    rules: Vec<Rule>,
+}
+
+fn rules_under(
+    alloc: Global,
+    slices: &[Slice],
+    tables: Option<&[Value]>,
+) -> Result<Vec<Rule>, ReadFault>
+    ensures { Gives (λ v. v.items) result (rules_from slices.now 0 (unwrap_or (option_map (λ v. items_view v.now) tables.entry) no_items)) }
+{
+    match tables {
+        Some(tables) => rules(alloc, slices, tables),
+        None => Ok(Vec::new(alloc)),
+    }
+}
+
+#[tactic(auto, unfolding(crate::specs::Documents::parts_in))]
+fn parts_in(table: &Section<'_>) -> Result<Parts, ReadFault>
+    ensures { Gives parts_view result (parts_in (section table.now)) }
+{
+    table.required_number(Numbers::Between(1, 1), "version")?;
+    table.known_keys()?;
+    let slice_tables = table.required_tables("slice")?;
+    let rule_tables = table.tables("rule")?;
+    let slices = slices(table.alloc, slice_tables)?;
+    let rules = rules_under(table.alloc, &slices, rule_tables)?;
+    Ok(Parts { slices, rules })
+}
+
+fn parts_of(alloc: Global, table: &Table) -> Result<Parts, ReadFault>
+    ensures exact { Gives parts_view result (parts_in (top (table_view table.now))) }
+    ensures refused { IfErr result (λ fault. fault ≢ ReadFault.Refused PolicyFault.Memory) }
+{
+    parts_in(&Section {
+        alloc,
+        part: Part::Top,
+        index: 0,
+        table,
+    })
+}
+
+fn parts_said(alloc: Global, bytes: &[u8]) -> Result<Parts, ReadFault>
+    ensures exact { Gives parts_view result (parts_of (document_of bytes.now)) }
+    ensures refused { IfErr result (λ fault. fault ≢ ReadFault.Refused PolicyFault.Memory) }
+{
+    match toml::table_from_slice(alloc, bytes) {
+        Ok(table) => parts_of(alloc, &table),
+        Err(error) => {
+            if error.is_memory() {
+                Err(ReadFault::Memory)
+            } else {
+                Err(ReadFault::NotToml)
+            }
+        }
+    }
+}
+
+fn loaded(alloc: Global, parts: Parts) -> Result<Policy, ReadFault>
+    requires { ArePlain (parts_view parts) }
+    ensures exact { Gives (λ p. p) result (loaded (load_of parts.slices.items parts.rules.items)) }
+    ensures refused { IfErr result (λ fault. fault ≢ ReadFault.Refused PolicyFault.Memory) }
+{
+    match Policy::load(alloc, parts.slices, parts.rules) {
+        Ok(policy) => Ok(policy),
+        Err(PolicyFault::Memory) => Err(ReadFault::Memory),
+        Err(fault) => Err(ReadFault::Refused(fault)),
+    }
+}
+
+/// The policy that a text says: its slices, whose places are their slots, and its rules. The first
+/// fault is answered of those that follow in this order.
+///
+/// 1. The text isn't TOML in UTF-8.
+/// 2. `version` is missing, or isn't 1.
+/// 3. The whole has an unknown key; the least by its bytes is named.
+/// 4. `slice` is missing or isn't an array of one or more tables; `rule` isn't an array of tables.
+/// 5. Along the slices: an unknown key, or a field that is missing or out of its form or range.
+/// 6. Along the rules: the same; a name that is no slice; a reader named twice; a field of the match
+///    without what it needs.
+/// 7. The faults of [`Policy::load`].
+///
+/// A name has 1 to 32 letters a to z, digits, `_` and `-`, a controller 1 to 255 bytes. `rate` and
+/// `burst` are 1 to 1,000,000 (1000 where missing), and `quota` is at most 4096 (1024 where missing).
+/// `switch` is 16 hex digits, `dl_src` and `dl_dst` are six pairs of hex digits with `:` between
+/// them, all in lower case; `nw_src` and `nw_dst` are `a.b.c.d` or `a.b.c.d/n`.
+pub fn read(alloc: Global, bytes: &[u8]) -> Result<Policy, ReadFault>
+    ensures exact { Gives (λ p. p) result (policy_of (document_of bytes.now)) }
+    ensures refused { IfErr result (λ fault. fault ≢ ReadFault.Refused PolicyFault.Memory) }
+{
+    let parts = parts_said(alloc, bytes)?;
+    loaded(alloc, parts)
+}

@@ -1,0 +1,19 @@
+//! The text of a policy: TOML that says its slices and its rules. All of the form is this proxy's own
+//! rule.
+#![tactic(auto)]
+
+mod addresses;
+mod document;
+mod fault;
+mod names;
+mod pattern;
+mod rules;
+mod section;
+mod slices;
+mod values;
+
+pub use document::read;
+pub use fault::{Part, Place, ReadFault};
+
+#[cfg(test)]
+mod tests;

@@ -1,0 +1,130 @@
+//! The rules that a text says.
+
+ghost use Rattle.std.specs.Prelude.{◌≡◌, map};
+ghost use Rattle.toml.specs.View.{items_view, view};
+ghost use Rattle.of10_model.specs.Normal.{IsInRange};
+ghost use Rattle.policy_text.specs.Reading.{Gives};
+ghost use Rattle.policy_text.specs.Rules.{names_under, proper, rule_from, rule_in, rule_of, rule_text_in, rules_from};
+ghost use Rattle.policy_text.specs.Views.{rule_text_view, section};
+
+use crate::fault::{Part, Place, ReadFault};
+use crate::names::{are_different, bits, slots, writer};
+use crate::pattern::{first_improper, pattern_in};
+use crate::section::Section;
+use crate::values::{Numbers, Numerals, Texts};
+use flowspace::{Field, Rule, Slice, Text};
+use of10_match::Match;
+use of10_model::Pattern;
+use std::alloc::Global;
+use toml::Value;
+
+/// What a rule's table says, its slices by name.
+#[derive(Drop)]
+struct RuleText<'a> {
+    switch: Option<u64>,
+    priority: u32,
+    write: Option<&'a str>,
+    read: Vec<&'a str>,
+    pattern: Pattern,
+}
+
+fn names_under<'a>(table: &Section<'a>, key: &str) -> Result<Vec<&'a str>, ReadFault>
+    ensures { Gives (λ v. map (λ s. s.now) v.items) result (names_under (section table.now) key.now) }
+{
+    match table.text_list(key)? {
+        Some(names) => Ok(names),
+        None => Ok(Vec::new(table.alloc)),
+    }
+}
+
+#[tactic(auto, unfolding(crate::specs::Rules::rule_text_in))]
+fn rule_text_in<'a>(table: &Section<'a>) -> Result<RuleText<'a>, ReadFault>
+    ensures { Gives rule_text_view result (rule_text_in (section table.now)) }
+{
+    table.known_keys()?;
+    let switch = table.numeral(Numerals::Datapath, "switch")?;
+    let priority = table.required_number(Numbers::UpTo(0xffff_ffff), "priority")?;
+    let write = table.text(Texts::Any, "write")?;
+    let read = names_under(table, "read")?;
+    let pattern = pattern_in(table)?;
+    Ok(RuleText {
+        switch,
+        priority,
+        write,
+        read,
+        pattern,
+    })
+}
+
+fn proper(index: u64, slots: &[usize], pattern: &Pattern) -> Result<(), ReadFault>
+    ensures { Gives (λ u. u) result (proper index slots.now pattern.now) }
+{
+    if !are_different(slots) {
+        return Err(ReadFault::Improper(index, Field::Read));
+    }
+    match first_improper(pattern) {
+        Some(field) => Err(ReadFault::Improper(index, field)),
+        None => Ok(()),
+    }
+}
+
+#[tactic(auto, unfolding(crate::specs::Rules::rule_from))]
+fn rule_from(
+    alloc: Global,
+    slices: &[Slice],
+    index: u64,
+    text: &RuleText<'_>,
+) -> Result<Rule, ReadFault>
+    requires { IsInRange text.now.pattern }
+    ensures { Gives (λ r. r) result (rule_from slices.now index (rule_text_view text.now)) }
+{
+    let writer = writer(slices, index, text.write)?;
+    let slots = slots(alloc, slices, index, &text.read)?;
+    proper(index, &slots, &text.pattern)?;
+    Ok(Rule {
+        switch: text.switch,
+        priority: text.priority,
+        pattern: Match::of(text.pattern),
+        writer,
+        readers: bits(&slots),
+    })
+}
+
+fn rule_in(slices: &[Slice], table: &Section<'_>) -> Result<Rule, ReadFault>
+    ensures { Gives (λ r. r) result (rule_in slices.now (section table.now)) }
+{
+    let text = rule_text_in(table)?;
+    rule_from(table.alloc, slices, table.index, &text)
+}
+
+fn rule_of(alloc: Global, slices: &[Slice], index: u64, value: &Value) -> Result<Rule, ReadFault>
+    ensures { Gives (λ r. r) result (rule_of slices.now index (view value.now)) }
+{
+    match value.as_table() {
+        Some(table) => rule_in(
+            slices,
+            &Section {
+                alloc,
+                part: Part::Rule,
+                index,
+                table,
+            },
+        ),
+        None => Err(ReadFault::BadValue(Place {
+            part: Part::Top,
+            index: 0,
+            key: Text::of(alloc, "rule")?,
+        })),
+    }
+}
+
+/// The rules of the items.
+pub fn rules(alloc: Global, slices: &[Slice], values: &[Value]) -> Result<Vec<Rule>, ReadFault>
+    ensures { Gives (λ v. v.items) result (rules_from slices.now 0 (items_view values.now)) }
+{
+    let mut rules = Vec::new(alloc);
+    for (index, value) in values.iter().enumerate() {
+        rules.push(rule_of(alloc, slices, index as u64, value)?)?;
+    }
+    Ok(rules)
+}

@@ -1,0 +1,250 @@
+//! A table of the text, and what stands under its keys.
+
+ghost use Rattle.std.specs.Prelude.{◌≡◌, ◌<◌, ◌≤◌, ◌^◌, IfOk, IfSome, List, ℕ, map, option_map};
+ghost use Rattle.toml.specs.Data.{get_member};
+ghost use Rattle.toml.specs.View.{items_view, view, table_view};
+ghost use Rattle.policy_text.specs.Reading.{Gives, addresses, greatest, is_known, is_link_key, is_network_key, known_keys, least, number, numeral, optional, place_of, required, some_tables, tables, text, text_list, unknown_keys};
+ghost use Rattle.policy_text.specs.Views.{section};
+
+use crate::fault::{Part, Place, ReadFault};
+use crate::values::{
+    Numbers, Numerals, Texts, addresses, number, numeral, some_tables, tables, text, text_list,
+};
+use flowspace::Text;
+use of10_model::Prefix;
+use std::alloc::{AllocError, Global};
+use toml::{Table, Value};
+
+/// A table of the text, and where it stands.
+#[derive(Clone, Copy)]
+pub struct Section<'a> {
+    pub alloc: Global,
+    pub part: Part,
+    pub index: u64,
+    pub table: &'a Table,
+}
+
+fn member_of<'a>(table: &'a Table, key: &str) -> Option<&'a Value>
+    ensures { option_map (λ v. view v.now) result ≡ get_member key.now (table_view table.now) }
+{
+    table.get(key)
+}
+
+fn is_link_key(key: &str) -> bool
+    ensures { result ≡ is_link_key key.now }
+{
+    key == "in_port"
+        || key == "dl_src"
+        || key == "dl_dst"
+        || key == "dl_vlan"
+        || key == "dl_vlan_pcp"
+        || key == "dl_type"
+}
+
+fn is_network_key(key: &str) -> bool
+    ensures { result ≡ is_network_key key.now }
+{
+    key == "nw_tos"
+        || key == "nw_proto"
+        || key == "nw_src"
+        || key == "nw_dst"
+        || key == "tp_src"
+        || key == "tp_dst"
+}
+
+fn is_known(part: Part, key: &str) -> bool
+    ensures { result ≡ is_known part key.now }
+{
+    match part {
+        Part::Top => key == "version" || key == "slice" || key == "rule",
+        Part::Slice => {
+            key == "name"
+                || key == "controller"
+                || key == "rate"
+                || key == "burst"
+                || key == "quota"
+        }
+        Part::Rule => {
+            key == "switch"
+                || key == "priority"
+                || key == "write"
+                || key == "read"
+                || is_link_key(key)
+                || is_network_key(key)
+        }
+    }
+}
+
+fn least_unknown(part: Part, table: &Table) -> Option<&str>
+    ensures { option_map (λ key. key.now) result ≡ least (unknown_keys part (table_view table.now)) }
+{
+    for (key, _value) in table.iter() {
+        if !is_known(part, key.as_str()) {
+            return Some(key.as_str());
+        }
+    }
+    None
+}
+
+impl<'a> Section<'a> {
+    fn place(&self, key: &str) -> Result<Place, AllocError>
+        ensures { IfOk result (λ p. p ≡ place_of (section self.now) key.now) }
+    {
+        Ok(Place {
+            part: self.part,
+            index: self.index,
+            key: Text::of(self.alloc, key)?,
+        })
+    }
+
+    /// Refuses the least key that such a table may not have.
+    pub fn known_keys(&self) -> Result<(), ReadFault>
+        ensures { Gives (λ u. u) result (known_keys (section self.now)) }
+    {
+        match least_unknown(self.part, self.table) {
+            Some(key) => Err(ReadFault::UnknownKey(self.place(key)?)),
+            None => Ok(()),
+        }
+    }
+
+    /// The number under a key that must be there.
+    pub fn required_number(&self, numbers: Numbers, key: &str) -> Result<u32, ReadFault>
+        ensures value { Gives (λ n. n) result (required (number numbers) (section self.now) key.now) }
+        ensures limit { IfOk result (λ n. n ≤ greatest numbers) }
+    {
+        match member_of(self.table, key) {
+            None => Err(ReadFault::Missing(self.place(key)?)),
+            Some(value) => match number(numbers, value) {
+                Some(n) => Ok(n),
+                None => Err(ReadFault::BadValue(self.place(key)?)),
+            },
+        }
+    }
+
+    /// The number under a key.
+    pub fn number(&self, numbers: Numbers, key: &str) -> Result<Option<u32>, ReadFault>
+        ensures value { Gives (λ n. n) result (optional (number numbers) (section self.now) key.now) }
+        ensures limit { IfOk result (λ o. IfSome o (λ n. n ≤ greatest numbers)) }
+    {
+        match member_of(self.table, key) {
+            None => Ok(None),
+            Some(value) => match number(numbers, value) {
+                Some(n) => Ok(Some(n)),
+                None => Err(ReadFault::BadValue(self.place(key)?)),
+            },
+        }
+    }
+
+    /// The number of 16 bits under a key.
+    pub fn number16(&self, numbers: Numbers, key: &str) -> Result<Option<u16>, ReadFault>
+        requires { greatest numbers < 2 ^ 16 }
+        ensures value { Gives (λ n. n) result (optional (number numbers) (section self.now) key.now) }
+    {
+        match self.number(numbers, key)? {
+            None => Ok(None),
+            Some(n) => Ok(Some(n as u16)),
+        }
+    }
+
+    /// The number of 8 bits under a key.
+    pub fn number8(&self, numbers: Numbers, key: &str) -> Result<Option<u8>, ReadFault>
+        requires { greatest numbers < 2 ^ 8 }
+        ensures value { Gives (λ n. n) result (optional (number numbers) (section self.now) key.now) }
+    {
+        match self.number(numbers, key)? {
+            None => Ok(None),
+            Some(n) => Ok(Some(n as u8)),
+        }
+    }
+
+    /// The number that is written as a text under a key.
+    pub fn numeral(&self, kind: Numerals, key: &str) -> Result<Option<u64>, ReadFault>
+        ensures { Gives (λ n. n) result (optional (numeral kind) (section self.now) key.now) }
+    {
+        match member_of(self.table, key) {
+            None => Ok(None),
+            Some(value) => match numeral(kind, value) {
+                Some(n) => Ok(Some(n)),
+                None => Err(ReadFault::BadValue(self.place(key)?)),
+            },
+        }
+    }
+
+    /// The addresses under a key.
+    pub fn addresses(&self, key: &str) -> Result<Option<Prefix>, ReadFault>
+        ensures { Gives (λ p. p) result (optional addresses (section self.now) key.now) }
+    {
+        match member_of(self.table, key) {
+            None => Ok(None),
+            Some(value) => match addresses(value) {
+                Some(prefix) => Ok(Some(prefix)),
+                None => Err(ReadFault::BadValue(self.place(key)?)),
+            },
+        }
+    }
+
+    /// The text under a key that must be there.
+    pub fn required_text(&self, texts: Texts, key: &str) -> Result<&'a str, ReadFault>
+        ensures { Gives (λ s. s.now) result (required (text texts) (section self.now) key.now) }
+    {
+        match member_of(self.table, key) {
+            None => Err(ReadFault::Missing(self.place(key)?)),
+            Some(value) => match text(texts, value) {
+                Some(text) => Ok(text),
+                None => Err(ReadFault::BadValue(self.place(key)?)),
+            },
+        }
+    }
+
+    /// The text under a key.
+    pub fn text(&self, texts: Texts, key: &str) -> Result<Option<&'a str>, ReadFault>
+        ensures { Gives (option_map (λ s. s.now)) result (optional (text texts) (section self.now) key.now) }
+    {
+        match member_of(self.table, key) {
+            None => Ok(None),
+            Some(value) => match text(texts, value) {
+                Some(text) => Ok(Some(text)),
+                None => Err(ReadFault::BadValue(self.place(key)?)),
+            },
+        }
+    }
+
+    /// The texts of the array under a key.
+    pub fn text_list(&self, key: &str) -> Result<Option<Vec<&'a str>>, ReadFault>
+        ensures { Gives (option_map (λ v. map (λ s. s.now) v.items)) result (optional text_list (section self.now) key.now) }
+    {
+        match member_of(self.table, key) {
+            None => Ok(None),
+            Some(value) => match text_list(self.alloc, value)? {
+                Some(texts) => Ok(Some(texts)),
+                None => Err(ReadFault::BadValue(self.place(key)?)),
+            },
+        }
+    }
+
+    /// The tables of the array under a key.
+    pub fn tables(&self, key: &str) -> Result<Option<&'a [Value]>, ReadFault>
+        ensures { Gives (option_map (λ v. items_view v.now)) result (optional tables (section self.now) key.now) }
+    {
+        match member_of(self.table, key) {
+            None => Ok(None),
+            Some(value) => match tables(value) {
+                Some(tables) => Ok(Some(tables)),
+                None => Err(ReadFault::BadValue(self.place(key)?)),
+            },
+        }
+    }
+
+    /// The tables, one or more, of the array under a key that must be there.
+    pub fn required_tables(&self, key: &str) -> Result<&'a [Value], ReadFault>
+        ensures { Gives (λ v. items_view v.now) result (required some_tables (section self.now) key.now) }
+    {
+        match member_of(self.table, key) {
+            None => Err(ReadFault::Missing(self.place(key)?)),
+            Some(value) => match some_tables(value) {
+                Some(tables) => Ok(tables),
+                None => Err(ReadFault::BadValue(self.place(key)?)),
+            },
+        }
+    }
+}

@@ -1,0 +1,70 @@
+//! The slices that a text says.
+
+ghost use Rattle.std.specs.Prelude.{◌≡◌, All, IfOk};
+ghost use Rattle.toml.specs.View.{items_view, view};
+ghost use Rattle.flowspace.specs.Slices.{IsPlainSlice};
+ghost use Rattle.policy_text.specs.Reading.{Gives};
+ghost use Rattle.policy_text.specs.Slices.{slice_in, slice_of, slices_from};
+ghost use Rattle.policy_text.specs.Views.{section};
+
+use crate::fault::{Part, Place, ReadFault};
+use crate::section::Section;
+use crate::values::{Numbers, Texts};
+use flowspace::{Slice, Text};
+use std::alloc::{AllocError, Global};
+use toml::Value;
+
+/// Messages a second, messages at once, and flow entries on a switch of a slice that doesn't say them.
+pub const RATE: u32 = 1000;
+
+pub const BURST: u32 = 1000;
+
+pub const QUOTA: u32 = 1024;
+
+#[tactic(auto, unfolding(crate::specs::Slices::slice_in))]
+fn slice_in(table: &Section<'_>) -> Result<Slice, ReadFault>
+    ensures { Gives (λ s. s) result (slice_in (section table.now)) }
+{
+    table.known_keys()?;
+    let name = table.required_text(Texts::Name, "name")?;
+    let controller = table.required_text(Texts::Controller, "controller")?;
+    let rate = table.number(Numbers::Between(1, 1_000_000), "rate")?;
+    let burst = table.number(Numbers::Between(1, 1_000_000), "burst")?;
+    let quota = table.number(Numbers::UpTo(4096), "quota")?;
+    Ok(Slice {
+        name: Text::of(table.alloc, name)?,
+        controller: Text::of(table.alloc, controller)?,
+        rate: rate.unwrap_or(RATE),
+        burst: burst.unwrap_or(BURST),
+        quota: quota.unwrap_or(QUOTA),
+    })
+}
+
+fn slice_of(alloc: Global, index: u64, value: &Value) -> Result<Slice, ReadFault>
+    ensures { Gives (λ s. s) result (slice_of index (view value.now)) }
+{
+    match value.as_table() {
+        Some(table) => slice_in(&Section {
+            alloc,
+            part: Part::Slice,
+            index,
+            table,
+        }),
+        None => Err(ReadFault::BadValue(Place {
+            part: Part::Top,
+            index: 0,
+            key: Text::of(alloc, "slice")?,
+        })),
+    }
+}
+
+/// The slices of the items.
+pub fn slices(alloc: Global, values: &[Value]) -> Result<Vec<Slice>, ReadFault>
+    ensures { Gives (λ v. v.items) result (slices_from 0 (items_view values.now)) }
+{
+    let mut slices = Vec::new(alloc);
+    for (index, value) in values.iter().enumerate() {
+        slices.push(slice_of(alloc, index as u64, value)?)?;
+    }
+    Ok(slices)
+}

@@ -1,0 +1,4 @@
+pub mod Noting
+pub mod Walk
+pub mod Forms
+pub mod Told

@@ -1,0 +1,183 @@
+-- Recordings: the records of a file, of which each must fit those before it (all this proxy's own rule).
+use Rattle.std.specs.Prelude.{◌≡◌, ℕ, zero, suc, ◌+◌, ◌-◌, ◌<◌, ◌≤◌, ◌^◌, ◌==◌, ◌||◌, ◌&&◌, not, leb, ltb, Bool, true, false, if◌then◌else◌, List, [], ◌∷◌, ◌++◌, length, take, bytes_eq, Result, Ok, Err}
+use Rattle.std.specs.List.{flat_map}
+use Rattle.byteorder.specs.Endian.{big_bytes}
+use Rattle.of10_model.specs.Normal.{number_at}
+use Rattle.recording.specs.declared.item.Item.{Item}
+use Rattle.recording.specs.declared.fault.RecordingFault.{RecordingFault}
+use Rattle.recording.specs.declared.fault.RecordingFault.TheVariants.{Torn, Bad, NotOpen, Memory}
+
+-- the first fault ends a reading
+infixl 10 ◌>>=◌
+abbrev pub ◌>>=◌ : {A B : Type 0} → Result A RecordingFault → (A → Result B RecordingFault) → Result B RecordingFault
+(Ok x) >>= f = f x
+(Err fault) >>= f = Err fault
+
+-- a call fails as a reading does, or for want of memory
+abbrev pub Fails : {X : Type 0} → RecordingFault → Result X RecordingFault → Type 0
+Fails Memory read = Unit {0}
+Fails (Torn at) read = read ≡ Err (Torn at)
+Fails (Bad at) read = read ≡ Err (Bad at)
+Fails (NotOpen at) read = read ≡ Err (NotOpen at)
+
+-- a call answers what a reading gives, its value seen by view, unless memory ran out
+abbrev pub Gives : {X Y : Type 0} → (X → Y) → Result X RecordingFault → Result Y RecordingFault → Type 0
+Gives view (Ok x) read = read ≡ Ok (view x)
+Gives view (Err fault) read = Fails fault read
+
+-- ---- the kinds of records
+
+abbrev pub switch_up : ℕ
+switch_up = 0
+
+abbrev pub switch_bytes : ℕ
+switch_bytes = 1
+
+abbrev pub switch_down : ℕ
+switch_down = 2
+
+abbrev pub slice_up : ℕ
+slice_up = 3
+
+abbrev pub slice_bytes : ℕ
+slice_bytes = 4
+
+abbrev pub slice_down : ℕ
+slice_down = 5
+
+-- ---- the form of a record
+
+-- the eight bytes that begin a recording
+abbrev pub magic : List ℕ
+magic = 0x46 ∷ 0x56 ∷ 0x52 ∷ 0x45 ∷ 0x43 ∷ 0 ∷ 0 ∷ 1 ∷ []
+
+-- the head of a record: kind, switch, slot, a zero byte, the number of its bytes, and its moment
+unfoldable pub head_spelling : ℕ → ℕ → ℕ → ℕ → ℕ → List ℕ
+head_spelling kind switch slot size moment = (kind ∷ switch ∷ slot ∷ 0 ∷ []) ++ big_bytes 4 size ++ big_bytes 8 moment
+
+-- a record: its head and its bytes
+abbrev pub spelling : ℕ → ℕ → ℕ → ℕ → List ℕ → List ℕ
+spelling kind switch slot moment bytes = head_spelling kind switch slot (length bytes) moment ++ bytes
+
+-- what the head of 16 bytes at a place says, and the place behind it
+unfoldable pub item_at : List ℕ → ℕ → Item
+item_at bytes at = record {
+  kind = number_at bytes at 1;
+  switch = number_at bytes (at + 1) 1;
+  slot = number_at bytes (at + 2) 1;
+  moment = number_at bytes (at + 8) 8;
+  from = at + 16;
+  size = number_at bytes (at + 4) 4;
+}
+
+-- only bytes of a switch and of a slice carry any, at most 16 MiB
+abbrev pub byte_limit : ℕ → ℕ
+byte_limit kind = if kind == switch_bytes || kind == slice_bytes then 16777216 else 0
+
+-- a head of the form: a known kind, one of 16 switches, slot 0 for a switch and a slot of the policy for a slice, a zero byte, and no more bytes than the kind may carry
+abbrev pub is_formed : ℕ → ℕ → Item → Bool
+is_formed slices reserved r =
+    leb r.kind 5 && ltb r.switch 16
+    && (if ltb r.kind slice_up then r.slot == 0 else ltb r.slot slices)
+    && reserved == 0
+    && leb r.size (byte_limit r.kind)
+
+-- ---- who is up, by the records so far, newest first
+
+-- a switch is up where its last SWITCH_UP or SWITCH_DOWN is an up
+abbrev pub is_switch_up : ℕ → List Item → Bool
+is_switch_up switch [] = false
+is_switch_up switch (r ∷ before) =
+    if r.switch == switch && (r.kind == switch_up || r.kind == switch_down) then r.kind == switch_up
+    else is_switch_up switch before
+
+-- a slice is up where the last of its SLICE_UP, its SLICE_DOWN and its switch's SWITCH_DOWN is an up
+abbrev pub is_slice_up : ℕ → ℕ → List Item → Bool
+is_slice_up switch slot [] = false
+is_slice_up switch slot (r ∷ before) =
+    if r.switch == switch && (r.kind == switch_down || (r.slot == slot && (r.kind == slice_up || r.kind == slice_down))) then r.kind == slice_up
+    else is_slice_up switch slot before
+
+-- a switch goes up where it isn't, and all else of it comes while it is; a slice goes up where it isn't and its switch is, and all else of it comes while it is
+abbrev pub fits : List Item → Item → Bool
+fits before r =
+    if r.kind == switch_up then not (is_switch_up r.switch before)
+    else if r.kind == switch_bytes || r.kind == switch_down then is_switch_up r.switch before
+    else if r.kind == slice_up then is_switch_up r.switch before && not (is_slice_up r.switch r.slot before)
+    else is_slice_up r.switch r.slot before
+
+-- ---- reading
+
+-- the record at a place behind others, or what is wrong with it, in the order of the tests
+unfoldable pub record_at : ℕ → List ℕ → List Item → ℕ → Result Item RecordingFault
+record_at slices bytes before at =
+    let left = length bytes - at in
+    let r = item_at bytes at in
+    if ltb left 16 then Err (Torn at)
+    else if not (is_formed slices (number_at bytes (at + 3) 1) r) then Err (Bad at)
+    else if ltb (left - 16) r.size then Err (Torn at)
+    else if not (fits before r) then Err (NotOpen at)
+    else Ok r
+
+-- the records from a place up to the end, at most as many as the count, behind others
+unfoldable pub items_from : ℕ → ℕ → List ℕ → List Item → ℕ → Result (List Item) RecordingFault
+items_from zero slices bytes before at = Ok []
+items_from (suc n) slices bytes before at =
+    if leb (length bytes) at then Ok [] else do
+      r ← record_at slices bytes before at
+      others ← items_from n slices bytes (r ∷ before) (r.from + r.size)
+      Ok (r ∷ others)
+
+-- all records of a file behind the bytes that begin it: there are no more than bytes
+unfoldable pub read_items : ℕ → List ℕ → Result (List Item) RecordingFault
+read_items slices bytes =
+    if ltb (length bytes) 8 then Err (Torn 0)
+    else if bytes_eq (take 8 bytes) magic then items_from (length bytes) slices bytes [] 8
+    else Err (Bad 0)
+
+-- ---- what every record that is read has
+
+-- its numbers are within their ranges, its slot is 0 or a slot of the policy, and its bytes lie in the file
+pub record IsItem (slices : ℕ) (bytes : List ℕ) (r : Item) : Type 0 where
+  pub known : r.kind ≤ 5
+  pub switch : r.switch < 16
+  pub of_switch : r.kind < slice_up → r.slot ≡ 0
+  pub of_slice : slice_up ≤ r.kind → r.slot < slices
+  pub size : r.size ≤ byte_limit r.kind
+  pub within : r.from + r.size ≤ length bytes
+
+-- ---- what a recording tells
+
+-- what one record tells
+pub record Told : Type 0 where
+  pub kind : ℕ
+  pub switch : ℕ
+  pub slot : ℕ
+  pub moment : ℕ
+  pub bytes : List ℕ
+
+-- the record at a place that tells it
+abbrev pub told_at : ℕ → Told → Item
+told_at at t = record { kind = t.kind; switch = t.switch; slot = t.slot; moment = t.moment; from = at + 16; size = length t.bytes }
+
+-- records one behind the other, from a place on
+unfoldable pub all_told : ℕ → List Told → List Item
+all_told at [] = []
+all_told at (t ∷ others) = told_at at t ∷ all_told (at + 16 + length t.bytes) others
+
+-- each has the form and fits those before it
+unfoldable pub may_be_told : ℕ → List Item → List Item → Bool
+may_be_told slices before [] = true
+may_be_told slices before (r ∷ others) = is_formed slices 0 r && fits before r && may_be_told slices (r ∷ before) others
+
+-- a record's bytes
+abbrev pub spell : Told → List ℕ
+spell t = spelling t.kind t.switch t.slot t.moment t.bytes
+
+-- a moment takes eight bytes
+abbrev pub HasMoment : Told → Type 0
+HasMoment t = t.moment < 2 ^ 64
+
+-- the file that tells the records
+abbrev pub recording : List Told → List ℕ
+recording told = magic ++ flat_map spell told

@@ -1,0 +1,16 @@
+//! Facts about recordings that no call needs.
+
+ghost use Rattle.std.specs.Prelude.{◌≡◌, ◌+◌, ◌≤◌, ℕ, true, List, [], length, Ok};
+ghost use Rattle.std.specs.List.{All};
+ghost use Rattle.recording.specs.declared.item.Item.{Item};
+ghost use Rattle.recording.specs.Recordings.{Told, HasMoment, all_told, may_be_told, recording, items_from, read_items};
+
+/// How many records are looked for doesn't matter, where the number reaches that of the bytes.
+pub fn count_is_enough()
+    ensures { (n slices : ℕ) (bytes : List ℕ) (before : List Item) (at : ℕ) → length bytes ≤ at + n → items_from n slices bytes before at ≡ items_from (length bytes) slices bytes before at }
+{}
+
+/// Records of the form, each fitting those before it, are read from the file that tells them.
+pub fn told_is_read()
+    ensures { (slices : ℕ) (told : List Told) → All HasMoment told → may_be_told slices [] (all_told 8 told) ≡ true → read_items slices (recording told) ≡ Ok (all_told 8 told) }
+{}

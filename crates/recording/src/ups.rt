@@ -1,0 +1,70 @@
+//! Who is up, kept as a table of the switches and their slices.
+
+ghost use Rattle.std.specs.Prelude.{◌≡◌, ◌<◌, false, replicate, List, [], ◌∷◌};
+ghost use Rattle.recording.specs.declared.item.Item.{Item};
+ghost use Rattle.recording.specs.Recordings.{fits};
+ghost use Rattle.recording.specs.Standing.{Stands};
+
+use crate::item::{Item, SLICE_DOWN, SLICE_UP, SWITCH_BYTES, SWITCH_DOWN, SWITCH_UP, SWITCHES};
+
+/// How many slots a byte can name.
+const SLOTS: usize = 256;
+
+fn no_slices() -> [bool; SLOTS]
+    ensures { result ≡ replicate 256 false }
+{
+    [false; SLOTS]
+}
+
+/// Which switches are up, and for each switch which slices.
+#[derive(Drop)]
+pub(crate) struct Ups {
+    switches: [bool; SWITCHES],
+    slices: [[bool; SLOTS]; SWITCHES],
+}
+
+impl Ups {
+    /// Nobody is up.
+    pub(crate) fn new() -> Ups
+        ensures { Stands result.switches result.slices [] }
+    {
+        Ups {
+            switches: [false; SWITCHES],
+            slices: [no_slices(); SWITCHES],
+        }
+    }
+
+    /// Whether the record may come next.
+    pub(crate) fn admits(&self, item: &Item) -> bool
+        requires { item.now.switch < 16 }
+        ensures { (before : List Item) → Stands self.now.switches self.now.slices before → result ≡ fits before item.now }
+    {
+        let switch = self.switches[usize::from(item.switch)];
+        let slice = self.slices[usize::from(item.switch)][usize::from(item.slot)];
+        match item.kind {
+            SWITCH_UP => !switch,
+            SWITCH_BYTES | SWITCH_DOWN => switch,
+            SLICE_UP => switch && !slice,
+            _ => slice,
+        }
+    }
+
+    /// Takes note of a record.
+    pub(crate) fn note(&mut self, item: &Item)
+        requires { item.now.switch < 16 }
+        ensures { (before : List Item) → Stands self.old.switches self.old.slices before → Stands self.new.switches self.new.slices (item.now ∷ before) }
+    {
+        let switch = usize::from(item.switch);
+        let slot = usize::from(item.slot);
+        match item.kind {
+            SWITCH_UP => self.switches[switch] = true,
+            SWITCH_DOWN => {
+                self.switches[switch] = false;
+                self.slices[switch] = no_slices();
+            }
+            SLICE_UP => self.slices[switch][slot] = true,
+            SLICE_DOWN => self.slices[switch][slot] = false,
+            _ => {}
+        }
+    }
+}
