@@ -1,0 +1,4 @@
+pub mod Numbering
+pub mod Places
+pub mod Gathering
+pub mod Standing

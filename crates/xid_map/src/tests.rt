@@ -1,0 +1,266 @@
+ghost use Rattle.std.specs.Prelude.{◌≡◌, ◌<◌, ◌≤◌, IfOk, vec_len};
+
+use super::*;
+use std::alloc::{AllocError, Global};
+use std::test::Fail;
+
+// Numbers that are the same at every run.
+#[derive(Drop)]
+struct Draws {
+    state: u64,
+}
+
+impl Draws {
+    fn below(&mut self, limit: u64) -> u64
+        requires { 1 ≤ limit }
+        ensures { result < limit }
+    {
+        self.state = self.state.wrapping_mul(6_364_136_223_846_793_005);
+        self.state = self.state.wrapping_add(1_442_695_040_888_963_407);
+        (self.state >> 33) % limit
+    }
+}
+
+fn asked(xid: u32, kind: AskKind) -> Asked {
+    Asked {
+        xid,
+        first: [(xid % 256) as u8; 64],
+        first_len: 64,
+        kind,
+        port: 7,
+    }
+}
+
+// The request under a transaction id of slot 5, among the last 4,096 of all since the last forgetting.
+fn listed(requests: &[Issued], physical: u32) -> Option<Issued> {
+    let from = requests.len().saturating_sub(4096);
+    let under = |request: &&Issued| 0x0500_0000 + request.number % 0x0100_0000
+        == u64::from(physical);
+    requests[from..].iter().find(under).copied()
+}
+
+fn mark(requests: &mut [Issued], number: u64, failed: bool, done: bool) {
+    for request in requests {
+        if request.number == number {
+            request.failed |= failed;
+            request.done |= done;
+        }
+    }
+}
+
+#[test]
+fn the_oldest_of_4097_is_forgotten(rt: HostRuntime) -> Result<(), Fail> {
+    let mut map = XidMap::new(rt.alloc(), 1)?;
+    assert_eq!(rt; map.next(), (0, 0x0100_0000));
+    for xid in 0..4097u32 {
+        assert_eq!(rt; map.issue(asked(xid, AskKind::FlowMod)), 0x0100_0000 + xid);
+    }
+    assert_eq!(rt; map.find(0x0100_0000), None);
+    assert_eq!(rt;
+        map.find(0x0100_0001).map(|request| request.number),
+        Some(1)
+    );
+    assert_eq!(rt; map.find(0x0200_0001), None);
+    assert_eq!(rt; map.next(), (4097, 0x0100_1001));
+    Ok(())
+}
+
+#[test]
+fn finds_as_the_list_of_all_requests(rt: HostRuntime) -> Result<(), Fail> {
+    let mut draws = Draws { state: 2 };
+    let mut map = XidMap::new(rt.alloc(), 5)?;
+    let mut requests: Vec<Issued> = Vec::new(rt.alloc());
+    let mut hits = 0u32;
+    for step in 0..9_000u32 {
+        let (number, physical) = map.next();
+        let other = number.saturating_add(2).saturating_sub(draws.below(4_200));
+        match draws.below(2_000) {
+            0 => {
+                map.forget_all();
+                requests.clear();
+            }
+            1..100 => {
+                map.mark_error(other);
+                mark(&mut requests, other, true, false);
+            }
+            100..200 => {
+                map.mark_done(other);
+                mark(&mut requests, other, false, true);
+            }
+            _ => {
+                let asked = asked(step, AskKind::Flow);
+                assert_eq!(rt; map.issue(asked), physical);
+                let (failed, done) = (false, false);
+                requests.push(Issued {
+                    number,
+                    asked,
+                    failed,
+                    done,
+                })?;
+            }
+        }
+        let sought = 0x0500_0000 + (other % 0x0100_0000) as u32;
+        let answer = listed(&requests, sought);
+        assert_eq!(rt; map.find(sought), answer, "at {step}");
+        if answer.is_some_and(|request| request.failed || request.done) {
+            hits = hits.saturating_add(1);
+        }
+    }
+    assert!(rt; hits > 100, "{hits} of the requests found were marked");
+    Ok(())
+}
+
+#[test]
+fn the_oldest_of_nine_collections_is_given_up(rt: HostRuntime) -> Result<(), Fail> {
+    let mut collections = Collections::new(rt.alloc())?;
+    for number in 0..9u64 {
+        collections.start(number);
+    }
+    assert!(rt; collections.finish(0).is_none());
+    let entries = collections.finish(1);
+    assert!(rt; entries.is_some_and(|entries| entries.as_slice().is_empty()));
+    assert!(rt; collections.finish(1).is_none());
+    assert_eq!(rt; collections.room(2), 524_288);
+    assert_eq!(rt; collections.sums(2), Some((0, 0, 0)));
+    Ok(())
+}
+
+// One collection of the plain program.
+#[derive(Drop)]
+struct Plain {
+    number: u64,
+    entries: Vec<u8>,
+    passed: bool,
+    sums: (u64, u64, u32),
+}
+
+fn plain_of(all: &[Plain], number: u64) -> Option<&Plain> {
+    all.iter().find(|one| one.number == number)
+}
+
+fn plain_start(alloc: Global, all: &mut Vec<Plain>, number: u64) -> Result<(), AllocError> {
+    if plain_of(all, number).is_some() {
+        return Ok(());
+    }
+    if all.len() == 8 {
+        all.remove(0);
+    }
+    let (entries, passed, sums) = (Vec::new(alloc), false, (0, 0, 0));
+    all.push(Plain {
+        number,
+        entries,
+        passed,
+        sums,
+    })?;
+    Ok(())
+}
+
+fn plain_add(all: &mut [Plain], number: u64, entry: &[u8]) -> Result<(), AllocError> {
+    for one in all {
+        if one.number == number {
+            one.passed |= one.entries.len().saturating_add(entry.len()) > 524_288;
+            if !one.passed {
+                one.entries.extend_from_slice(entry)?;
+            }
+        }
+    }
+    Ok(())
+}
+
+fn plain_sum(all: &mut [Plain], number: u64, packets: u64, bytes: u64) {
+    for one in all {
+        if one.number == number {
+            let (p, b, flows) = one.sums;
+            one.sums = (
+                p.wrapping_add(packets),
+                b.wrapping_add(bytes),
+                flows.wrapping_add(1),
+            );
+        }
+    }
+}
+
+fn plain_room(one: &Plain) -> usize {
+    if one.passed {
+        0
+    } else {
+        524_288usize.saturating_sub(one.entries.len())
+    }
+}
+
+fn pattern(alloc: Global) -> Result<Vec<u8>, AllocError>
+    ensures { IfOk result (λ bytes. vec_len bytes ≡ 400000) }
+{
+    let mut bytes = Vec::new(alloc);
+    for place in 0..400_000u32 {
+        bytes.push((place % 251) as u8)?;
+    }
+    Ok(bytes)
+}
+
+// Whether both have collected the same for the request.
+fn agree(collections: &Collections, all: &[Plain], number: u64) -> bool {
+    let wanted = plain_of(all, number);
+    collections.entries(number) == wanted.map(|one| one.entries.as_slice())
+        && collections.sums(number) == wanted.map(|one| one.sums)
+        && collections.room(number) as usize == wanted.map_or(0, plain_room)
+}
+
+fn finish_alike(collections: &mut Collections, all: &mut Vec<Plain>, number: u64) -> bool {
+    let entries = collections.finish(number);
+    let wanted = plain_of(all, number).map(|one| one.entries.as_slice());
+    let alike = entries.as_ref().map(|entries| entries.as_slice()) == wanted;
+    all.retain(|one| one.number != number);
+    alike
+}
+
+#[test]
+fn collects_as_the_list_of_collections(rt: HostRuntime) -> Result<(), Fail> {
+    let mut draws = Draws { state: 3 };
+    let pattern = pattern(rt.alloc())?;
+    let mut collections = Collections::new(rt.alloc())?;
+    let mut all = Vec::new(rt.alloc());
+    let mut passed = 0u32;
+    for step in 0..3_000u32 {
+        let number = draws.below(9);
+        match draws.below(3_000) {
+            0 => {
+                collections.forget_all();
+                all.clear();
+            }
+            1..100 => {
+                collections.start(number);
+                plain_start(rt.alloc(), &mut all, number)?;
+            }
+            100..130 => {
+                assert!(rt;
+                    finish_alike(&mut collections, &mut all, number),
+                    "at {step}"
+                );
+            }
+            130..1_600 => {
+                let from = draws.below(200_000) as usize;
+                let most = if draws.below(8) == 0 { 200_000 } else { 200 };
+                let length = draws.below(most) as usize;
+                let entry = &pattern[from..from + length];
+                collections.reserve(number, length as u32)?;
+                collections.add(number, entry);
+                plain_add(&mut all, number, entry)?;
+            }
+            _ => {
+                let (packets, bytes) = (draws.below(1 << 31) << 33, draws.below(1 << 31) << 33);
+                collections.sum(number, packets, bytes);
+                plain_sum(&mut all, number, packets, bytes);
+            }
+        }
+        assert!(rt; agree(&collections, &all, number), "at {step}");
+        if plain_of(&all, number).is_some_and(|one| one.passed) {
+            passed = passed.saturating_add(1);
+        }
+    }
+    assert!(rt;
+        passed > 100,
+        "{passed} looks at collections that passed the limit"
+    );
+    Ok(())
+}
