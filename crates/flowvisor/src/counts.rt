@@ -1,7 +1,7 @@
 //! Counts of faults.
 
 ghost use Rattle.std.specs.Prelude.{◌≤◌};
-ghost use Rattle.fv_cli.specs.Told.{Rose};
+ghost use Rattle.fv_base.specs.Told.{Rose};
 
 /// One fault more; the last value stays.
 pub fn one_more(count: u64) -> u64

@@ -2,12 +2,14 @@
 
 ghost use Rattle.std.specs.Prelude.{◌≤◌};
 
+use crate::messages::Messages;
 use crate::samples::Samples;
 use match_meet::{includes, meet};
+use std::alloc::{AllocError, Global};
 
-/// A call that is measured.
+/// A question about matches and headers.
 #[derive(Clone, Copy, Debug, PartialEq, Eq)]
-pub enum Benchmark {
+pub enum Question {
     /// Whether a match has a header.
     Matches,
     /// The headers that two matches share.
@@ -16,47 +18,88 @@ pub enum Benchmark {
     Includes,
 }
 
-impl Benchmark {
-    /// The benchmark of this name.
-    pub fn named(name: &str) -> Option<Benchmark> {
-        match name {
-            "matches" => Some(Benchmark::Matches),
-            "meet" => Some(Benchmark::Meet),
-            "includes" => Some(Benchmark::Includes),
-            _ => None,
-        }
-    }
+/// A call that is measured.
+#[derive(Clone, Copy, Debug, PartialEq, Eq)]
+pub enum Benchmark {
+    Asks(Question),
+    /// Cutting a stream into frames.
+    Framing,
+    /// Reading packet-ins with packets of 64 bytes.
+    SmallPackets,
+    /// Reading packet-ins with packets of 1,500 bytes.
+    LargePackets,
+}
 
+/// All of them, in the order in which they are made.
+pub const ALL: [Benchmark; 6] = [
+    Benchmark::Asks(Question::Matches),
+    Benchmark::Asks(Question::Meet),
+    Benchmark::Asks(Question::Includes),
+    Benchmark::Framing,
+    Benchmark::SmallPackets,
+    Benchmark::LargePackets,
+];
+
+impl Benchmark {
     /// Its name.
     pub fn name(self) -> &'static str {
         match self {
-            Benchmark::Matches => "matches",
-            Benchmark::Meet => "meet",
-            Benchmark::Includes => "includes",
+            Benchmark::Asks(Question::Matches) => "matches",
+            Benchmark::Asks(Question::Meet) => "meet",
+            Benchmark::Asks(Question::Includes) => "includes",
+            Benchmark::Framing => "framing",
+            Benchmark::SmallPackets => "packet-in-64",
+            Benchmark::LargePackets => "packet-in-1500",
+        }
+    }
+
+    /// How many bytes one call reads; none where it reads no bytes.
+    pub fn bytes(self, messages: &Messages) -> Option<u64> {
+        match self {
+            Benchmark::Asks(_) => None,
+            Benchmark::Framing => Some(Messages::PIECE as u64),
+            Benchmark::SmallPackets => Some(messages.small().as_slice().len() as u64),
+            Benchmark::LargePackets => Some(messages.large().as_slice().len() as u64),
         }
     }
 }
 
-/// One call, on samples that its number picks.
-fn holds(samples: &Samples, benchmark: Benchmark, number: u64) -> bool {
+/// One answer, on samples that its number picks.
+fn holds(samples: &Samples, question: Question, number: u64) -> bool {
     let first = samples.pattern(number);
     let second = number / 7;
-    match benchmark {
-        Benchmark::Matches => first.matches(samples.header(second)),
-        Benchmark::Meet => meet(first, samples.pattern(second)).is_some(),
-        Benchmark::Includes => includes(first, samples.pattern(second)),
+    match question {
+        Question::Matches => first.matches(samples.header(second)),
+        Question::Meet => meet(first, samples.pattern(second)).is_some(),
+        Question::Includes => includes(first, samples.pattern(second)),
     }
 }
 
-/// Makes so many calls, and counts those that find something.
-pub fn run(samples: &Samples, benchmark: Benchmark, count: u64) -> u64
+/// Asks so often, and counts the answers that are yes.
+fn ask(samples: &Samples, question: Question, count: u64) -> u64
     ensures { result ≤ count }
 {
     let mut found = 0;
     for number in 0..count {
-        if holds(samples, benchmark, number) {
+        if holds(samples, question, number) {
             found += 1;
         }
     }
     found
+}
+
+/// Makes so many calls, and counts what they find: answers that are yes, frames, or packets.
+pub fn run(
+    alloc: Global,
+    samples: &Samples,
+    messages: &Messages,
+    benchmark: Benchmark,
+    count: u64,
+) -> Result<u64, AllocError> {
+    match benchmark {
+        Benchmark::Asks(question) => Ok(ask(samples, question, count)),
+        Benchmark::Framing => messages.cut(alloc, count),
+        Benchmark::SmallPackets => Messages::read(alloc, messages.small(), count),
+        Benchmark::LargePackets => Messages::read(alloc, messages.large(), count),
+    }
 }

@@ -1,12 +1,14 @@
 //! Measures calls that the proxy makes for each message: `flowvisor_bench BENCHMARK COUNT`, where the
-//! benchmark is `matches`, `meet`, `includes` or `all`. From a million calls on it prints how many
-//! millions there were in a second.
+//! benchmark is `all` or one that `benchmark` names. It prints what the calls found and, from a million
+//! of them on, how many millions or how many megabytes there were in a second.
 #![tactic(auto)]
 
 mod benchmark;
+mod messages;
 mod samples;
 
-use benchmark::{Benchmark, run};
+use benchmark::{ALL, Benchmark, run};
+use messages::Messages;
 use samples::Samples;
 use std::process::ExitCode;
 use std::time::Instant;
@@ -18,7 +20,8 @@ const LEAST_MEASURED: u64 = 1_000_000;
 /// The most calls that may be asked for.
 const MOST_CALLS: u64 = 100_000_000_000;
 
-const USAGE: &str = "usage: flowvisor_bench matches|meet|includes|all COUNT\n";
+const USAGE: &str =
+    "usage: flowvisor_bench matches|meet|includes|framing|packet-in-64|packet-in-1500|all COUNT\n";
 
 /// What the words ask for.
 #[derive(Drop)]
@@ -36,7 +39,7 @@ fn read_words(rt: &HostRuntime) -> Option<Order> {
     }
     let benchmark = match name.as_str() {
         "all" => None,
-        other => Some(Benchmark::named(other)?),
+        other => Some(ALL.into_iter().find(|one| one.name() == other)?),
     };
     Some(Order { benchmark, count })
 }
@@ -45,21 +48,29 @@ fn read_words(rt: &HostRuntime) -> Option<Order> {
 fn measure(
     rt: &HostRuntime,
     samples: &Samples,
+    messages: &Messages,
     benchmark: Benchmark,
     count: u64,
 ) -> io::Result<()> {
     let name = benchmark.name();
     let start = Instant::now(rt)?;
-    let found = run(samples, benchmark, count);
+    let found = run(rt.alloc(), samples, messages, benchmark, count)?;
     let micros = start.elapsed(rt)?.as_micros();
     println!(rt; "{name}: {found} of {count}")?;
     if count < LEAST_MEASURED || micros == 0 {
         return Ok(());
     }
-    let tenths = u128::from(count).saturating_mul(10) / micros;
+    let (each, unit) = match benchmark.bytes(messages) {
+        Some(bytes) => (bytes, "MB"),
+        None => (1, "million"),
+    };
+    let tenths = u128::from(count)
+        .saturating_mul(10)
+        .saturating_mul(u128::from(each))
+        / micros;
     let whole = tenths / 10;
     let tenth = tenths % 10;
-    println!(rt; "{name}: {whole}.{tenth} million a second")
+    println!(rt; "{name}: {whole}.{tenth} {unit} a second")
 }
 
 fn main(rt: HostRuntime) -> io::Result<ExitCode> {
@@ -68,9 +79,10 @@ fn main(rt: HostRuntime) -> io::Result<ExitCode> {
         return Ok(ExitCode::from(1));
     };
     let samples = Samples::new();
-    for benchmark in [Benchmark::Matches, Benchmark::Meet, Benchmark::Includes] {
+    let messages = Messages::new(rt.alloc())?;
+    for benchmark in ALL {
         if order.benchmark.is_none_or(|one| one == benchmark) {
-            measure(&rt, &samples, benchmark, order.count)?;
+            measure(&rt, &samples, &messages, benchmark, order.count)?;
         }
     }
     Ok(ExitCode::from(0))

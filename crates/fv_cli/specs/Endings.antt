@@ -1,34 +1,43 @@
 -- How a call of the program ends: its status, its line, and what has to be so for it. All of this is the program's own rule.
-use Rattle.std.specs.Prelude.{◌≡◌, ℕ, ◌<◌, ◌≤◌, ◌⊎◌, List, [], length, codes, Bool, true, false, Option, Some, None, IfSome}
+use Rattle.std.specs.Prelude.{◌≡◌, ℕ, ◌<◌, ◌≤◌, ◌⊎◌, List, [], length, codes, Bool, true, false, Option, Some, None, IfSome, Result, Ok, Err}
+use Rattle.fv_base.specs.Told.{appended, IsPrefix, Rose}
+use Rattle.fv_base.specs.Words.{FormBytes, OfCheck, OfReplay, form_of}
+use Rattle.flowspace.specs.Policies.{PolicyView}
+use Rattle.policy_text.specs.declared.fault.ReadFault as text
+use Rattle.policy_text.specs.Documents.{document_of, policy_of}
+use Rattle.recording.specs.declared.item.Item.{Item}
+use Rattle.recording.specs.declared.fault.RecordingFault.{RecordingFault}
+use Rattle.recording.specs.Recordings.{read_items}
+use Rattle.fv_cli.specs.declared.built.Unbuilt.{Unbuilt}
 use Rattle.fv_cli.specs.declared.ending.Ending.{Ending}
-use Rattle.fv_cli.specs.declared.ending.Ending.TheVariants.{Done, Usage, ReadFault, WriteFault, NoMemory, NoMemoryToRun, TooLarge, PolicyNotBuilt, RecordingNotBuilt}
-use Rattle.fv_cli.specs.Told.{appended, IsPrefix, Rose}
-use Rattle.fv_cli.specs.Words.{FormBytes, OfReplay, form_of}
-use Rattle.fv_cli.specs.Listing.{PortListing, listing_of}
-use Rattle.fv_cli.specs.Recorded.{is_recording}
+use Rattle.fv_cli.specs.declared.ending.Ending.TheVariants.{Done, Usage, ReadFault, WriteFault, NoMemory, NoMemoryToRun, TooLarge, PolicyRefused, RecordingRefused, NotBuilt}
+use Rattle.fv_cli.specs.Built.{first_unbuilt}
+use Rattle.fv_cli.specs.Lines.{policy_line, recording_line, unbuilt_line, accepted_line}
 
 abbrev pub status_of : Ending → ℕ
 status_of Done = 0
 status_of Usage = 1
+status_of (PolicyRefused fault) = 2
+status_of (RecordingRefused fault) = 3
 status_of ReadFault = 4
 status_of WriteFault = 5
 status_of NoMemory = 6
 status_of NoMemoryToRun = 6
 status_of TooLarge = 7
-status_of PolicyNotBuilt = 8
-status_of RecordingNotBuilt = 8
+status_of (NotBuilt unbuilt) = 8
 
 -- the line on the error stream; nothing where all was done
 abbrev pub line_of : Ending → List ℕ
 line_of Done = []
 line_of Usage = codes "usage: flowvisor check POLICY / replay POLICY RECORDING / gen SEED COUNT / serve POLICY LISTEN COUNT\n"
+line_of (PolicyRefused fault) = policy_line fault
+line_of (RecordingRefused fault) = recording_line fault
 line_of ReadFault = codes "read fault\n"
 line_of WriteFault = codes "write fault\n"
 line_of NoMemory = codes "no memory\n"
 line_of NoMemoryToRun = codes "no memory\n"
 line_of TooLarge = codes "too large\n"
-line_of PolicyNotBuilt = codes "not built: policy\n"
-line_of RecordingNotBuilt = codes "not built: recording\n"
+line_of (NotBuilt unbuilt) = unbuilt_line unbuilt
 
 -- the limits of the two files in bytes
 abbrev pub policy_limit : ℕ
@@ -43,17 +52,18 @@ recording_limit = 268435456
 abbrev pub PassesLimit : ℕ → Option (List ℕ) → Type 0
 PassesLimit limit file = IfSome file (λ bytes. limit < length bytes)
 
--- where the policy is told, it is within its limit and says this listing
-abbrev pub IsPolicy : PortListing → Option (List ℕ) → Type 0
-IsPolicy listing policy = IfSome policy (λ bytes. (length bytes ≤ policy_limit) × (listing_of bytes ≡ Some listing))
+-- where the policy is told, it is within its limit, and its text says this policy or is refused for this fault
+abbrev pub PolicySays : Result PolicyView text.ReadFault → Option (List ℕ) → Type 0
+PolicySays said policy = IfSome policy (λ bytes. (length bytes ≤ policy_limit) × (policy_of (document_of bytes) ≡ said))
 
--- where the policy is told, it is within its limit and isn't of the form
-abbrev pub IsNoPolicy : Option (List ℕ) → Type 0
-IsNoPolicy policy = IfSome policy (λ bytes. (length bytes ≤ policy_limit) × (listing_of bytes ≡ None))
+-- where the recording is told, it is within its limit, and is refused for this fault under so many slices
+abbrev pub RecordingFails : ℕ → RecordingFault → Option (List ℕ) → Type 0
+RecordingFails slices fault recording = IfSome recording (λ bytes. (length bytes ≤ recording_limit) × (read_items slices bytes ≡ Err fault))
 
--- where the recording is told, it is within its limit, and is of the form under so many slices or not
-abbrev pub IsRecording : Bool → ℕ → Option (List ℕ) → Type 0
-IsRecording is slices recording = IfSome recording (λ bytes. (length bytes ≤ recording_limit) × (is_recording slices bytes ≡ is))
+-- where the recording is told, it is within its limit and accepted under so many slices, and this is the first of its records that isn't built
+abbrev pub RecordingLacks : ℕ → Option Unbuilt → Option (List ℕ) → Type 0
+RecordingLacks slices unbuilt recording =
+    IfSome recording (λ bytes. (length bytes ≤ recording_limit) × (items : List Item) × (read_items slices bytes ≡ Ok items) × (first_unbuilt bytes items ≡ unbuilt))
 
 -- ---- why a file isn't taken
 
@@ -66,51 +76,66 @@ IsLoadCause limit file before after _ = ⊥
 
 -- a policy isn't had
 abbrev pub IsPolicyCause : Option (List ℕ) → ℕ → ℕ → Ending → Type 0
-IsPolicyCause file before after PolicyNotBuilt = IsNoPolicy file
+IsPolicyCause file before after (PolicyRefused fault) = PolicySays (Err fault) file
 IsPolicyCause file before after ending = IsLoadCause policy_limit file before after ending
 
 -- a recording isn't had
 abbrev pub IsRecordingCause : ℕ → Option (List ℕ) → ℕ → ℕ → Ending → Type 0
-IsRecordingCause slices file before after RecordingNotBuilt = IsRecording false slices file
+IsRecordingCause slices file before after (RecordingRefused fault) = RecordingFails slices fault file
+IsRecordingCause slices file before after (NotBuilt unbuilt) = RecordingLacks slices (Some unbuilt) file
 IsRecordingCause slices file before after ending = IsLoadCause recording_limit file before after ending
 
 -- ---- causes
 
--- what a call of the program saw: the files that are told, the counts of their paths before and after, and the output's count before and after
+-- what a call of the program saw: the files that are told, the counts of their paths before and after, and the output and its count before and after
 pub record Outside : Type 0 where
   pub files : List ℕ → Option (List ℕ)
   pub read_before : List ℕ → ℕ
   pub read_after : List ℕ → ℕ
-  pub out_before : ℕ
-  pub out_after : ℕ
+  pub out_before : Option (List ℕ)
+  pub out_after : Option (List ℕ)
+  pub put_before : ℕ
+  pub put_after : ℕ
 
 -- the count for the path rose
 abbrev pub RoseAt : Outside → List ℕ → Type 0
 RoseAt w path = Rose (w.read_before path) (w.read_after path)
 
--- the cause of an ending, where the words named a policy and a recording
-abbrev pub IsCause : Outside → List ℕ → List ℕ → Ending → Type 0
-IsCause w policy recording Done = (l : PortListing) × IsPolicy l (w.files policy) × IsRecording true (length l.slices) (w.files recording)
-IsCause w policy recording Usage = ⊥
-IsCause w policy recording ReadFault = RoseAt w policy ⊎ ((l : PortListing) × IsPolicy l (w.files policy) × RoseAt w recording)
-IsCause w policy recording TooLarge = PassesLimit policy_limit (w.files policy) ⊎ ((l : PortListing) × IsPolicy l (w.files policy) × PassesLimit recording_limit (w.files recording))
-IsCause w policy recording PolicyNotBuilt = IsNoPolicy (w.files policy)
-IsCause w policy recording RecordingNotBuilt = (l : PortListing) × IsPolicy l (w.files policy) × IsRecording false (length l.slices) (w.files recording)
-IsCause w policy recording WriteFault = (l : PortListing) × IsPolicy l (w.files policy) × IsRecording true (length l.slices) (w.files recording) × Rose w.out_before w.out_after
-IsCause w policy recording NoMemory = Unit {0}
-IsCause w policy recording NoMemoryToRun = (l : PortListing) × IsPolicy l (w.files policy) × IsRecording true (length l.slices) (w.files recording)
+-- the first bytes of a text were written
+abbrev pub WrotePart : Outside → List ℕ → Type 0
+WrotePart w line = (piece : List ℕ) × IsPrefix piece line × (w.out_after ≡ appended w.out_before piece)
+
+-- the cause of an ending, where the words asked for a check of a policy
+abbrev pub IsCheckCause : Outside → List ℕ → Ending → Type 0
+IsCheckCause w policy Done = (p : PolicyView) × PolicySays (Ok p) (w.files policy) × (w.out_after ≡ appended w.out_before (accepted_line p))
+IsCheckCause w policy WriteFault = (p : PolicyView) × PolicySays (Ok p) (w.files policy) × WrotePart w (accepted_line p) × Rose w.put_before w.put_after
+IsCheckCause w policy ending = IsPolicyCause (w.files policy) (w.read_before policy) (w.read_after policy) ending
+
+-- the cause of an ending, where the words asked for a replay of a recording under a policy
+abbrev pub IsReplayCause : Outside → List ℕ → List ℕ → Ending → Type 0
+IsReplayCause w policy recording Done = (p : PolicyView) × PolicySays (Ok p) (w.files policy) × RecordingLacks (length p.slices) None (w.files recording)
+IsReplayCause w policy recording Usage = ⊥
+IsReplayCause w policy recording (PolicyRefused fault) = PolicySays (Err fault) (w.files policy)
+IsReplayCause w policy recording (RecordingRefused fault) = (p : PolicyView) × PolicySays (Ok p) (w.files policy) × RecordingFails (length p.slices) fault (w.files recording)
+IsReplayCause w policy recording ReadFault = RoseAt w policy ⊎ ((p : PolicyView) × PolicySays (Ok p) (w.files policy) × RoseAt w recording)
+IsReplayCause w policy recording WriteFault = (p : PolicyView) × PolicySays (Ok p) (w.files policy) × RecordingLacks (length p.slices) None (w.files recording) × Rose w.put_before w.put_after
+IsReplayCause w policy recording NoMemory = Unit {0}
+IsReplayCause w policy recording NoMemoryToRun = (p : PolicyView) × PolicySays (Ok p) (w.files policy) × RecordingLacks (length p.slices) None (w.files recording)
+IsReplayCause w policy recording TooLarge = PassesLimit policy_limit (w.files policy) ⊎ ((p : PolicyView) × PolicySays (Ok p) (w.files policy) × PassesLimit recording_limit (w.files recording))
+IsReplayCause w policy recording (NotBuilt unbuilt) = (p : PolicyView) × PolicySays (Ok p) (w.files policy) × RecordingLacks (length p.slices) (Some unbuilt) (w.files recording)
 
 -- the ending of a run over a policy and a recording that were taken
 abbrev pub IsRunEnding : ℕ → ℕ → Ending → Type 0
-IsRunEnding out_before out_after Done = Unit {0}
-IsRunEnding out_before out_after WriteFault = Rose out_before out_after
-IsRunEnding out_before out_after NoMemoryToRun = Unit {0}
-IsRunEnding out_before out_after _ = ⊥
+IsRunEnding before after Done = Unit {0}
+IsRunEnding before after WriteFault = Rose before after
+IsRunEnding before after NoMemoryToRun = Unit {0}
+IsRunEnding before after _ = ⊥
 
 -- the words decide first: without a form it is the usage, and nothing else is
 abbrev pub Causes : Outside → Option FormBytes → Ending → Type 0
 Causes w None ending = ending ≡ Usage
-Causes w (Some (OfReplay policy recording)) ending = IsCause w policy recording ending
+Causes w (Some (OfCheck policy)) ending = IsCheckCause w policy ending
+Causes w (Some (OfReplay policy recording)) ending = IsReplayCause w policy recording ending
 
 -- an ending before the run
 abbrev pub is_early : Ending → Bool
@@ -125,9 +150,9 @@ IsPut line before after count_before count_after =
     (after ≡ appended before line) ⊎ ((piece : List ℕ) × IsPrefix piece line × (after ≡ appended before piece) × Rose count_before count_after)
 
 -- A call that ended with a status: one ending gives the status, has its cause, left the output alone before the run, and put its line.
-pub record Ended (w : Outside) (words : List (List ℕ)) (out_before out_after err_before err_after : Option (List ℕ)) (err_faults err_faults_after status : ℕ) : Type 0 where
+pub record Ended (w : Outside) (words : List (List ℕ)) (err_before err_after : Option (List ℕ)) (err_faults err_faults_after status : ℕ) : Type 0 where
   pub ending : Ending
   pub answer : status ≡ status_of ending
   pub cause : Causes w (form_of words) ending
-  pub nothing_early : is_early ending ≡ true → out_after ≡ out_before
+  pub nothing_early : is_early ending ≡ true → w.out_after ≡ w.out_before
   pub line : IsPut (line_of ending) err_before err_after err_faults err_faults_after

@@ -1,11 +1,5 @@
-pub mod Told
-pub mod Memory
-pub mod Words
-pub mod Listing
-pub mod ListingKeys
-pub mod ListedPolicy
-pub mod Recorded
-pub mod RecordedViews
-pub mod Messages
+pub mod Built
+pub mod Lines
+pub mod Telling
 pub mod Report
 pub mod Endings

@@ -1,10 +1,17 @@
 //! How a call of the program ends.
 
 ghost use Rattle.std.specs.Prelude.{◌≡◌};
-ghost use Rattle.fv_cli.specs.Endings.{status_of, line_of};
+ghost use Rattle.fv_cli.specs.Endings.{status_of, line_of, IsPut};
+ghost use Rattle.fv_cli.specs.Lines.{whole_text};
+
+use crate::base::Sink;
+use crate::built::Unbuilt;
+use crate::lines::{Line, plain_line, policy_line, put_pieces, recording_line, unbuilt_line};
+use policy_text::ReadFault;
+use recording::RecordingFault;
 
 /// How a call of the program ends.
-#[derive(Clone, Copy, Debug, PartialEq, Eq)]
+#[derive(Debug, Drop)]
 pub enum Ending {
     /// All was done.
     Done,
@@ -20,43 +27,55 @@ pub enum Ending {
     NoMemoryToRun,
     /// A file passes its limit.
     TooLarge,
-    /// The policy needs what isn't built yet.
-    PolicyNotBuilt,
+    /// The policy's text gives no policy. The fault is never want of memory.
+    PolicyRefused(ReadFault),
+    /// The recording has no form. The fault is never want of memory.
+    RecordingRefused(RecordingFault),
     /// The recording needs what isn't built yet.
-    RecordingNotBuilt,
+    NotBuilt(Unbuilt),
 }
 
 impl Ending {
     /// The exit status.
-    pub fn status(self) -> u8
-        ensures { result ≡ status_of self }
+    pub fn status(&self) -> u8
+        ensures { result ≡ status_of self.now }
     {
         match self {
             Ending::Done => 0,
             Ending::Usage => 1,
+            Ending::PolicyRefused(_) => 2,
+            Ending::RecordingRefused(_) => 3,
             Ending::ReadFault => 4,
             Ending::WriteFault => 5,
             Ending::NoMemory | Ending::NoMemoryToRun => 6,
             Ending::TooLarge => 7,
-            Ending::PolicyNotBuilt | Ending::RecordingNotBuilt => 8,
+            Ending::NotBuilt(_) => 8,
         }
     }
 
-    /// The line for the error stream, with its line feed; empty where all was done.
-    pub fn line(self) -> &'static str
-        ensures { result.now ≡ line_of self }
+    fn line(&self) -> Line<'_>
+        ensures { whole_text result ≡ line_of self.now }
     {
         match self {
-            Ending::Done => "",
-            Ending::Usage => {
-                "usage: flowvisor check POLICY / replay POLICY RECORDING / gen SEED COUNT / serve POLICY LISTEN COUNT\n"
-            }
-            Ending::ReadFault => "read fault\n",
-            Ending::WriteFault => "write fault\n",
-            Ending::NoMemory | Ending::NoMemoryToRun => "no memory\n",
-            Ending::TooLarge => "too large\n",
-            Ending::PolicyNotBuilt => "not built: policy\n",
-            Ending::RecordingNotBuilt => "not built: recording\n",
+            Ending::Done => plain_line(""),
+            Ending::Usage => plain_line(
+                "usage: flowvisor check POLICY / replay POLICY RECORDING / gen SEED COUNT / serve POLICY LISTEN COUNT\n",
+            ),
+            Ending::ReadFault => plain_line("read fault\n"),
+            Ending::WriteFault => plain_line("write fault\n"),
+            Ending::NoMemory | Ending::NoMemoryToRun => plain_line("no memory\n"),
+            Ending::TooLarge => plain_line("too large\n"),
+            Ending::PolicyRefused(fault) => policy_line(fault),
+            Ending::RecordingRefused(fault) => recording_line(*fault),
+            Ending::NotBuilt(unbuilt) => unbuilt_line(*unbuilt),
         }
+    }
+
+    /// Puts the line of the ending with its line feed, or as much of it as the sink takes; nothing where
+    /// all was done. It takes no memory.
+    pub fn say<E: Sink>(&self, err: &mut E)
+        ensures { IsPut (line_of self.now) (E.contents err.old) (E.contents err.new) (E.faults err.old) (E.faults err.new) }
+    {
+        let _ = put_pieces(err, &self.line());
     }
 }

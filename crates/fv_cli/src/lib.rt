@@ -1,18 +1,18 @@
 //! The program's calls over files and sinks, without the system.
 #![tactic(auto)]
 
-pub mod base;
+mod built;
 mod desk;
 mod ending;
-mod listing;
-mod messages;
-mod policy;
+mod lines;
 mod program;
-mod recorded;
-mod report;
+mod reporting;
 
+pub use built::Unbuilt;
 pub use ending::Ending;
+pub use fv_base as base;
 pub use program::offline;
+pub use reporting::{ReportFault, report};
 
 #[cfg(test)]
 mod tests;

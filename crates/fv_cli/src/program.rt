@@ -1,20 +1,17 @@
 //! The program's call without the system: the words in, files and output by their traits, the status out.
 
-ghost use Rattle.std.specs.Prelude.{◌≡◌, ◌≤◌, ◌<◌, ◌^◌, ℕ, List, length, Bool, true, IfOk, IfErr, IfSome};
-ghost use Rattle.fv_cli.specs.Listing.{view, IsListing};
-ghost use Rattle.fv_cli.specs.Recorded.{is_recording};
-ghost use Rattle.fv_cli.specs.Words.{form_of};
-ghost use Rattle.fv_cli.specs.Endings.{policy_limit, recording_limit, IsPolicy, IsRecording, IsLoadCause, IsPolicyCause, IsRecordingCause, IsRunEnding, IsCause, Causes, IsPut, is_early, Ended};
+ghost use Rattle.std.specs.Prelude.{◌≡◌, ◌≤◌, ◌<◌, ◌^◌, ℕ, List, length, true, Ok, None, IfOk, IfErr, IfSome};
+ghost use Rattle.fv_base.specs.Words.{form_of};
+ghost use Rattle.fv_cli.specs.Endings.{PolicySays, RecordingLacks, IsLoadCause, IsPolicyCause, IsRecordingCause, IsRunEnding, IsCheckCause, IsReplayCause, Causes, is_early, Ended};
 
-use crate::base::{
-    Files, Form, LoadFault, Sink, Words, WordsFault, load_file, put_all, read_words,
-};
+use crate::base::{Failed, Files, Form, LoadFault, Sink, Words, WordsFault, load_file, read_words};
+use crate::built::first_unbuilt;
 use crate::ending::Ending;
-use crate::listing::{Listing, ListingFault, read_listing};
-use crate::policy::policy_of;
-use crate::recorded::{MAGIC, records_in};
-use crate::report::{ReportFault, report};
+use crate::lines::{accepted_line, put_pieces};
+use crate::reporting::{ReportFault, report_items, slice_count};
 use flowspace::Policy;
+use policy_text::ReadFault;
+use recording::{Item, RecordingFault, items};
 use std::alloc::Global;
 
 /// Most bytes of a policy: 1 MiB.
@@ -22,6 +19,13 @@ const POLICY_LIMIT: u64 = 1_048_576;
 
 /// Most bytes of a recording: 256 MiB.
 const RECORDING_LIMIT: u64 = 268_435_456;
+
+/// A recording that is accepted and built: its file, and the records of it.
+#[derive(Drop)]
+struct Recording {
+    bytes: Vec<u8>,
+    items: Vec<Item>,
+}
 
 /// A whole file.
 fn load<F: Files>(alloc: Global, files: &mut F, path: &str, limit: u64) -> Result<Vec<u8>, Ending>
@@ -40,10 +44,9 @@ fn load<F: Files>(alloc: Global, files: &mut F, path: &str, limit: u64) -> Resul
     }
 }
 
-/// The policy at a path, as far as policies are built.
-fn load_listing<F: Files>(alloc: Global, files: &mut F, path: &str) -> Result<Listing, Ending>
-    ensures policy { IfOk result (λ l. IsPolicy (view l) (F.contents files.old path.now)) }
-    ensures sound { IfOk result IsListing }
+/// The policy at a path.
+fn load_policy<F: Files>(alloc: Global, files: &mut F, path: &str) -> Result<Policy, Ending>
+    ensures says { IfOk result (λ p. PolicySays (Ok p) (F.contents files.old path.now)) }
     ensures cause { IfErr result (IsPolicyCause (F.contents files.old path.now) (F.faults files.old path.now) (F.faults files.new path.now)) }
     ensures same { (at : List ℕ) → F.contents files.new at ≡ F.contents files.old at }
     ensures count { (at : List ℕ) → F.faults files.old at ≤ F.faults files.new at }
@@ -52,10 +55,10 @@ fn load_listing<F: Files>(alloc: Global, files: &mut F, path: &str) -> Result<Li
         Ok(bytes) => bytes,
         Err(ending) => return Err(ending),
     };
-    match read_listing(alloc, &bytes) {
-        Ok(listing) => Ok(listing),
-        Err(ListingFault::NotOfForm) => Err(Ending::PolicyNotBuilt),
-        Err(ListingFault::Memory) => Err(Ending::NoMemory),
+    match policy_text::read(alloc, &bytes) {
+        Ok(policy) => Ok(policy),
+        Err(ReadFault::Memory) => Err(Ending::NoMemory),
+        Err(fault) => Err(Ending::PolicyRefused(fault)),
     }
 }
 
@@ -65,9 +68,8 @@ fn load_recording<F: Files>(
     files: &mut F,
     path: &str,
     slices: u8,
-) -> Result<Vec<u8>, Ending>
-    requires { slices ≤ 32 }
-    ensures recording { IfOk result (λ _. IsRecording true slices (F.contents files.old path.now)) }
+) -> Result<Recording, Ending>
+    ensures built { IfOk result (λ _. RecordingLacks slices None (F.contents files.old path.now)) }
     ensures cause { IfErr result (IsRecordingCause slices (F.contents files.old path.now) (F.faults files.old path.now) (F.faults files.new path.now)) }
     ensures same { (at : List ℕ) → F.contents files.new at ≡ F.contents files.old at }
     ensures count { (at : List ℕ) → F.faults files.old at ≤ F.faults files.new at }
@@ -76,9 +78,29 @@ fn load_recording<F: Files>(
         Ok(bytes) => bytes,
         Err(ending) => return Err(ending),
     };
-    match records_in(&bytes, slices) {
-        Some(_) => Ok(bytes),
-        None => Err(Ending::RecordingNotBuilt),
+    let items = match items(alloc, &bytes, slices) {
+        Ok(items) => items,
+        Err(RecordingFault::Memory) => return Err(Ending::NoMemory),
+        Err(fault) => return Err(Ending::RecordingRefused(fault)),
+    };
+    match first_unbuilt(&bytes, &items) {
+        Some(unbuilt) => Err(Ending::NotBuilt(unbuilt)),
+        None => Ok(Recording { bytes, items }),
+    }
+}
+
+/// Says whether the policy is accepted.
+fn check<F: Files, O: Sink>(alloc: Global, policy: &str, files: &mut F, out: &mut O) -> Ending
+    ensures cause { IsCheckCause (record { files = F.contents files.old; read_before = F.faults files.old; read_after = F.faults files.new; out_before = O.contents out.old; out_after = O.contents out.new; put_before = O.faults out.old; put_after = O.faults out.new }) policy.now result }
+    ensures early { is_early result ≡ true → O.contents out.new ≡ O.contents out.old }
+{
+    let policy = match load_policy(alloc, files, policy) {
+        Ok(policy) => policy,
+        Err(ending) => return ending,
+    };
+    match put_pieces(out, &accepted_line(&policy)) {
+        Ok(()) => Ending::Done,
+        Err(Failed) => Ending::WriteFault,
     }
 }
 
@@ -90,29 +112,25 @@ fn replay<F: Files, O: Sink>(
     files: &mut F,
     out: &mut O,
 ) -> Ending
-    ensures cause { IsCause (record { files = F.contents files.old; read_before = F.faults files.old; read_after = F.faults files.new; out_before = O.faults out.old; out_after = O.faults out.new }) policy.now recording.now result }
+    ensures cause { IsReplayCause (record { files = F.contents files.old; read_before = F.faults files.old; read_after = F.faults files.new; out_before = O.contents out.old; out_after = O.contents out.new; put_before = O.faults out.old; put_after = O.faults out.new }) policy.now recording.now result }
     ensures early { is_early result ≡ true → O.contents out.new ≡ O.contents out.old }
 {
-    let listing = match load_listing(alloc, files, policy) {
-        Ok(listing) => listing,
+    let policy = match load_policy(alloc, files, policy) {
+        Ok(policy) => policy,
         Err(ending) => return ending,
     };
-    let slices = listing.slices.len() as u8;
-    let bytes = match load_recording(alloc, files, recording, slices) {
-        Ok(bytes) => bytes,
+    let recording = match load_recording(alloc, files, recording, slice_count(&policy)) {
+        Ok(recording) => recording,
         Err(ending) => return ending,
     };
-    let Ok(policy) = policy_of(alloc, &listing) else {
-        return Ending::NoMemory;
-    };
-    run(alloc, &policy, bytes.get(MAGIC.len()..).unwrap_or(&[]), out)
+    run(alloc, &policy, &recording, out)
 }
 
-/// Runs the records under the policy.
-fn run<O: Sink>(alloc: Global, policy: &Policy, records: &[u8], out: &mut O) -> Ending
+/// Runs the recording under the policy.
+fn run<O: Sink>(alloc: Global, policy: &Policy, recording: &Recording, out: &mut O) -> Ending
     ensures { IsRunEnding (O.faults out.old) (O.faults out.new) result }
 {
-    match report(alloc, policy, records, out) {
+    match report_items(alloc, policy, &recording.bytes, &recording.items, out) {
         Ok(()) => Ending::Done,
         Err(ReportFault::WriteFault) => Ending::WriteFault,
         Err(ReportFault::Memory) => Ending::NoMemoryToRun,
@@ -121,24 +139,31 @@ fn run<O: Sink>(alloc: Global, policy: &Policy, records: &[u8], out: &mut O) -> 
 
 /// Does what the words ask for.
 fn decide<F: Files, O: Sink>(alloc: Global, words: &Words, files: &mut F, out: &mut O) -> Ending
-    ensures cause { Causes (record { files = F.contents files.old; read_before = F.faults files.old; read_after = F.faults files.new; out_before = O.faults out.old; out_after = O.faults out.new }) (form_of words.now) result }
+    ensures cause { Causes (record { files = F.contents files.old; read_before = F.faults files.old; read_after = F.faults files.new; out_before = O.contents out.old; out_after = O.contents out.new; put_before = O.faults out.old; put_after = O.faults out.new }) (form_of words.now) result }
     ensures early { is_early result ≡ true → O.contents out.new ≡ O.contents out.old }
 {
     match read_words(words) {
+        Ok(Form::Check { policy }) => check(alloc, policy, files, out),
         Ok(Form::Replay { policy, recording }) => replay(alloc, policy, recording, files, out),
         Err(WordsFault::Usage) => Ending::Usage,
     }
 }
 
-/// Puts a line, or as much of it as the sink takes.
-fn say<E: Sink>(err: &mut E, line: &str)
-    ensures { IsPut line.now (E.contents err.old) (E.contents err.new) (E.faults err.old) (E.faults err.new) }
-{
-    let _ = put_all(err, line.as_bytes());
-}
-
-/// Does what the words ask for, and answers the exit status: `replay POLICY RECORDING` writes the
-/// report of the recording under the policy to `out`. Each status but 0 has a line, which goes to `err`.
+/// Does what the words ask for, and answers the exit status: `check POLICY` says on `out` how many slices
+/// and rules an accepted policy has, and `replay POLICY RECORDING` writes there the report of the recording
+/// under the policy. Each status but 0 has a line, which goes to `err`.
+///
+/// | status | means |
+/// |---|---|
+/// | 0 | all was done |
+/// | 1 | the words have no form |
+/// | 2, 3 | the policy, or the recording, was read and is refused; the line says why and where |
+/// | 4, 5 | a file can't be read; the output can't be written |
+/// | 6, 7 | no memory; a file is too large (policy 1 MiB, recording 256 MiB) |
+/// | 8 | the recording needs what isn't built yet; the line names the first such record's type and place |
+///
+/// The words are looked at first, then the policy and then the recording; nothing is written to `out`
+/// before all of them are found good.
 pub fn offline<F: Files, O: Sink, E: Sink>(
     alloc: Global,
     words: &Words,
@@ -146,9 +171,9 @@ pub fn offline<F: Files, O: Sink, E: Sink>(
     out: &mut O,
     err: &mut E,
 ) -> u8
-    ensures { Ended (record { files = F.contents files.old; read_before = F.faults files.old; read_after = F.faults files.new; out_before = O.faults out.old; out_after = O.faults out.new }) words.now (O.contents out.old) (O.contents out.new) (E.contents err.old) (E.contents err.new) (E.faults err.old) (E.faults err.new) result }
+    ensures { Ended (record { files = F.contents files.old; read_before = F.faults files.old; read_after = F.faults files.new; out_before = O.contents out.old; out_after = O.contents out.new; put_before = O.faults out.old; put_after = O.faults out.new }) words.now (E.contents err.old) (E.contents err.new) (E.faults err.old) (E.faults err.new) result }
 {
     let ending = decide(alloc, words, files, out);
-    say(err, ending.line());
+    ending.say(err);
     ending.status()
 }

@@ -1,0 +1,23 @@
+-- Pieces that are appended one after another.
+use Rattle.std.proofs.Common.{◌≡◌, ℕ, ◌+◌, List, [], take, drop, refl, ap, append_assoc}
+use Rattle.std.specs.Prelude.{Option, Some, None, Result, Ok, Err, OnErr}
+use Rattle.std.proofs.Math.Seq.{take-add}
+use Rattle.std.proofs.lemmas.Grind.{common_steps}
+use Rattle.std.proofs.Common.{arith}
+use Rattle.fv_base.specs.Told.{appended}
+
+-- nothing was appended
+pub appended-nothing : (told : Option (List ℕ)) → told ≡ appended told []
+appended-nothing None = refl
+appended-nothing (Some before) = grind (arith, common_steps)
+
+-- the first bytes were appended, and then the next ones
+pub appended-more : (told : Option (List ℕ)) (bytes : List ℕ) (done n : ℕ) → appended (appended told (take done bytes)) (take n (drop done bytes)) ≡ appended told (take (done + n) bytes)
+appended-more None bytes done n = refl
+appended-more (Some before) bytes done n =
+    rw (take-add done n bytes) (ap Some (append_assoc before (take done bytes) (take n (drop done bytes))))
+
+-- what holds holds at an error
+pub on_err : {A E P : Type 0} (result : Result A E) → P → OnErr result P
+on_err (Ok value) holds = tt
+on_err (Err fault) holds = holds

@@ -1,0 +1,19 @@
+use Rattle.std.proofs.Common.{refl, None}
+use Rattle.fv_base.specs.declared.memory.Entry.{Entry}
+use Rattle.fv_base.proofs.Raised.{file_at-missing, count_at-added, is_declared-added}
+use Rattle.fv_base.proofs.memory.MemoryFiles.expect_missing.Goals as goal
+
+pub returns-clause-told : goal.returns-clause-told
+returns-clause-told c at =
+    let entry : Entry = record { path = c.in_ok-path.path; bytes = None; faults = c.args.self.now.elsewhere } in
+    rw c.in_ok-push.ensures.items (file_at-missing c.args.self.now.entries.items entry at refl)
+
+pub returns-clause-count : goal.returns-clause-count
+returns-clause-count c at =
+    let entry : Entry = record { path = c.in_ok-path.path; bytes = None; faults = c.args.self.now.elsewhere } in
+    rw c.in_ok-push.ensures.items (count_at-added c.args.self.now.elsewhere c.args.self.now.entries.items entry at refl)
+
+pub returns-clause-declared : goal.returns-clause-declared
+returns-clause-declared c at =
+    let entry : Entry = record { path = c.in_ok-path.path; bytes = None; faults = c.args.self.now.elsewhere } in
+    rw (c.in_ok-push.ensures.items, is_declared-added c.args.self.now.entries.items entry at, c.in_ok-path.ensures.ok) refl

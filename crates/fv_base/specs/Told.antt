@@ -1,0 +1,21 @@
+-- What calls on the outside say of what is told, and of counts of faults. This proxy's own rules.
+use Rattle.std.specs.Prelude.{◌≡◌, ◌⊎◌, ◌<◌, ◌≤◌, ◌-◌, ◌^◌, ℕ, List, [], ◌++◌, length, take, drop, Option, Some, None}
+
+-- the contents after these bytes were appended: told where they were told before
+abbrev pub appended : Option (List ℕ) → List ℕ → Option (List ℕ)
+appended None bytes = None
+appended (Some before) bytes = Some (before ++ bytes)
+
+-- the bytes begin with the piece
+abbrev pub IsPrefix : List ℕ → List ℕ → Type 0
+IsPrefix piece bytes = (rest : List ℕ) × (piece ++ rest ≡ bytes)
+
+-- The count rose. At the last value of a u64 it stays, and is taken as risen.
+abbrev pub Rose : ℕ → ℕ → Type 0
+Rose old new = (old < new) ⊎ (2 ^ 64 - 1 ≤ new)
+
+-- The first n bytes of what is left of a file were put over the front of a buffer: none only at the end.
+pub record Gives (left before : List ℕ) (n : ℕ) (after : List ℕ) : Type 0 where
+  pub some_left : n ≤ length left
+  pub buffer : after ≡ take n left ++ drop n before
+  pub at_end : n ≡ 0 → left ≡ []

@@ -1,0 +1,15 @@
+//! The outside as traits, with counts of faults; files and output in memory; the whole of a file; and
+//! the program's words.
+#![tactic(auto)]
+
+mod memory;
+mod outside;
+#[cfg(test)]
+mod tests;
+mod transfer;
+mod words;
+
+pub use memory::{MemoryFiles, MemorySink, NeverSink};
+pub use outside::{Failed, Files, Sink};
+pub use transfer::{LoadFault, load_file, put_all};
+pub use words::{Form, Words, WordsFault, read_words};

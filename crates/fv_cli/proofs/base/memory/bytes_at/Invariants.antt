@@ -1,6 +1,0 @@
-use Rattle.std.proofs.Common.{◌≡◌, drop}
-use Rattle.fv_cli.specs.Memory.{file_at}
-use Rattle.fv_cli.proofs.base.memory.bytes_at.Given as goal
-
-abbrev pub invariant-loop-entry : goal.invariant-loop-entry
-invariant-loop-entry l = file_at (drop l.entry-index l.entries) l.path ≡ file_at l.entries l.path

@@ -1,0 +1,277 @@
+//! The lines that the program puts on its streams, as pieces. Making them and putting them takes no
+//! memory.
+
+ghost use Rattle.std.specs.Prelude.{◌≡◌, ◌≤◌, ◌++◌, ℕ, List, length, codes, decimal, OnOk, OnErr};
+ghost use Rattle.fv_base.specs.Told.{appended, IsPrefix, Rose};
+ghost use Rattle.policy_text.specs.Places.{place_text};
+ghost use Rattle.fv_cli.specs.Lines.{piece_text, whole_text, what_text, field_text, improper_text, refusal_text, reading_text, policy_line, recording_line, unbuilt_line, accepted_line};
+
+use crate::base::{Failed, Sink, put_all};
+use crate::built::Unbuilt;
+use flowspace::{Field, Policy, PolicyFault, What};
+use itoa::Buffer;
+use policy_text::{Part, Place, ReadFault};
+use recording::RecordingFault;
+
+/// A piece of a line; a number is put in decimal.
+#[derive(Clone, Copy)]
+pub(crate) enum Piece<'a> {
+    Text(&'a str),
+    Number(u64),
+}
+
+/// A whole line.
+pub(crate) type Line<'a> = [Piece<'a>; 8];
+
+const NOTHING: Piece<'static> = Piece::Text("");
+
+fn put_piece<K: Sink>(sink: &mut K, piece: Piece<'_>) -> Result<(), Failed>
+    ensures all { OnOk result (K.contents sink.new ≡ appended (K.contents sink.old) (piece_text piece.entry)) }
+    ensures part { OnErr result ((put : List ℕ) × IsPrefix put (piece_text piece.entry) × (K.contents sink.new ≡ appended (K.contents sink.old) put)) }
+    ensures cause { OnErr result (Rose (K.faults sink.old) (K.faults sink.new)) }
+    ensures count { K.faults sink.old ≤ K.faults sink.new }
+{
+    match piece {
+        Piece::Text(text) => put_all(sink, text.as_bytes()),
+        Piece::Number(number) => put_all(sink, Buffer::new().format(number).as_bytes()),
+    }
+}
+
+/// Puts all pieces. After `Failed` the sink took the first bytes of them, perhaps none.
+pub(crate) fn put_pieces<K: Sink>(sink: &mut K, pieces: &[Piece<'_>]) -> Result<(), Failed>
+    ensures all { OnOk result (K.contents sink.new ≡ appended (K.contents sink.old) (whole_text pieces.now)) }
+    ensures part { OnErr result ((put : List ℕ) × IsPrefix put (whole_text pieces.now) × (K.contents sink.new ≡ appended (K.contents sink.old) put)) }
+    ensures cause { OnErr result (Rose (K.faults sink.old) (K.faults sink.new)) }
+    ensures count { K.faults sink.old ≤ K.faults sink.new }
+{
+    for piece in pieces {
+        put_piece(sink, *piece)?;
+    }
+    Ok(())
+}
+
+fn what(what: What) -> &'static str
+    ensures { result.now ≡ what_text what }
+{
+    match what {
+        What::Slices => "slices",
+        What::Rules => "rules",
+        What::Writes => "write rules",
+    }
+}
+
+fn field(field: Field) -> &'static str
+    ensures { result.now ≡ field_text field }
+{
+    match field {
+        Field::Read => "read",
+        Field::InPort => "in_port",
+        Field::DlSrc => "dl_src",
+        Field::DlDst => "dl_dst",
+        Field::DlVlan => "dl_vlan",
+        Field::DlVlanPcp => "dl_vlan_pcp",
+        Field::DlType => "dl_type",
+        Field::NwTos => "nw_tos",
+        Field::NwProto => "nw_proto",
+        Field::NwSrc => "nw_src",
+        Field::NwDst => "nw_dst",
+        Field::TpSrc => "tp_src",
+        Field::TpDst => "tp_dst",
+    }
+}
+
+fn place(at: &Place) -> [Piece<'_>; 4]
+    ensures { whole_text result ≡ place_text at.now }
+{
+    let table = match at.part {
+        Part::Top => return [Piece::Text(at.key.as_str()), NOTHING, NOTHING, NOTHING],
+        Part::Slice => "slice.",
+        Part::Rule => "rule.",
+    };
+    [
+        Piece::Text(table),
+        Piece::Number(at.index),
+        Piece::Text("."),
+        Piece::Text(at.key.as_str()),
+    ]
+}
+
+fn at_place<'a>(fault: &'static str, at: &'a Place) -> [Piece<'a>; 5]
+    ensures { whole_text result ≡ fault.now ++ place_text at.now }
+{
+    let [a, b, c, d] = place(at);
+    [Piece::Text(fault), a, b, c, d]
+}
+
+fn only<'a>(text: &'static str) -> [Piece<'a>; 5]
+    ensures { whole_text result ≡ text.now }
+{
+    [Piece::Text(text), NOTHING, NOTHING, NOTHING, NOTHING]
+}
+
+fn around<'a>(before: &'static str, number: u64, after: &'static str) -> [Piece<'a>; 5]
+    ensures { whole_text result ≡ before.now ++ decimal number ++ after.now }
+{
+    [
+        Piece::Text(before),
+        Piece::Number(number),
+        Piece::Text(after),
+        NOTHING,
+        NOTHING,
+    ]
+}
+
+fn improper<'a>(rule: u64, which: Field) -> [Piece<'a>; 5]
+    ensures { whole_text result ≡ improper_text rule which }
+{
+    [
+        Piece::Text("rule "),
+        Piece::Number(rule),
+        Piece::Text(" improper "),
+        Piece::Text(field(which)),
+        NOTHING,
+    ]
+}
+
+fn too_many<'a>(which: What, count: u64) -> [Piece<'a>; 5]
+    ensures { whole_text result ≡ codes "too many " ++ what_text which ++ codes " " ++ decimal count }
+{
+    [
+        Piece::Text("too many "),
+        Piece::Text(what(which)),
+        Piece::Text(" "),
+        Piece::Number(count),
+        NOTHING,
+    ]
+}
+
+fn overlap<'a>(first: u64, second: u64) -> [Piece<'a>; 5]
+    ensures { whole_text result ≡ codes "rules " ++ decimal first ++ codes " and " ++ decimal second ++ codes " overlap" }
+{
+    [
+        Piece::Text("rules "),
+        Piece::Number(first),
+        Piece::Text(" and "),
+        Piece::Number(second),
+        Piece::Text(" overlap"),
+    ]
+}
+
+fn refusal<'a>(fault: PolicyFault) -> [Piece<'a>; 5]
+    ensures { whole_text result ≡ refusal_text fault }
+{
+    match fault {
+        PolicyFault::TooMany(which, count) => too_many(which, count),
+        PolicyFault::DuplicateSlice(slice) => around("slice ", slice, " is a duplicate"),
+        PolicyFault::UnknownSlice(rule) => around("rule ", rule, " names no slice"),
+        PolicyFault::Improper(rule, which) => improper(rule, which),
+        PolicyFault::Overlap(first, second) => overlap(first, second),
+        PolicyFault::Memory => only("no memory"),
+    }
+}
+
+fn reading(fault: &ReadFault) -> [Piece<'_>; 5]
+    ensures { whole_text result ≡ reading_text fault.now }
+{
+    match fault {
+        ReadFault::NotToml => only("not TOML"),
+        ReadFault::Missing(at) => at_place("missing ", at),
+        ReadFault::BadValue(at) => at_place("bad value ", at),
+        ReadFault::UnknownKey(at) => at_place("unknown key ", at),
+        ReadFault::Improper(rule, which) => improper(*rule, *which),
+        ReadFault::Refused(fault) => refusal(*fault),
+        ReadFault::Memory => only("no memory"),
+    }
+}
+
+/// The line of a policy that is refused.
+pub(crate) fn policy_line(fault: &ReadFault) -> Line<'_>
+    ensures { whole_text result ≡ policy_line fault.now }
+{
+    let [a, b, c, d, e] = reading(fault);
+    [
+        Piece::Text("policy: "),
+        a,
+        b,
+        c,
+        d,
+        e,
+        Piece::Text("\n"),
+        NOTHING,
+    ]
+}
+
+fn at_record<'a>(fault: &'static str, at: u64) -> Line<'a>
+    ensures { whole_text result ≡ fault.now ++ decimal at ++ codes "\n" }
+{
+    [
+        Piece::Text(fault),
+        Piece::Number(at),
+        Piece::Text("\n"),
+        NOTHING,
+        NOTHING,
+        NOTHING,
+        NOTHING,
+        NOTHING,
+    ]
+}
+
+/// A line of one piece.
+pub(crate) fn plain_line<'a>(text: &'static str) -> Line<'a>
+    ensures { whole_text result ≡ text.now }
+{
+    [
+        Piece::Text(text),
+        NOTHING,
+        NOTHING,
+        NOTHING,
+        NOTHING,
+        NOTHING,
+        NOTHING,
+        NOTHING,
+    ]
+}
+
+/// The line of a recording that is refused.
+pub(crate) fn recording_line<'a>(fault: RecordingFault) -> Line<'a>
+    ensures { whole_text result ≡ recording_line fault }
+{
+    match fault {
+        RecordingFault::Torn(at) => at_record("recording: torn record at ", at),
+        RecordingFault::Bad(at) => at_record("recording: bad record at ", at),
+        RecordingFault::NotOpen(at) => at_record("recording: not open at ", at),
+        RecordingFault::Memory => plain_line("no memory\n"),
+    }
+}
+
+/// The line of a record that isn't built.
+pub(crate) fn unbuilt_line<'a>(unbuilt: Unbuilt) -> Line<'a>
+    ensures { whole_text result ≡ unbuilt_line unbuilt }
+{
+    [
+        Piece::Text("not built: type "),
+        Piece::Number(u64::from(unbuilt.kind)),
+        Piece::Text(" at "),
+        Piece::Number(unbuilt.at),
+        Piece::Text("\n"),
+        NOTHING,
+        NOTHING,
+        NOTHING,
+    ]
+}
+
+/// What is said of an accepted policy.
+pub(crate) fn accepted_line(policy: &Policy) -> Line<'static>
+    ensures { whole_text result ≡ accepted_line policy.now }
+{
+    [
+        Piece::Text("ok "),
+        Piece::Number(policy.slices().len() as u64),
+        Piece::Text(" "),
+        Piece::Number(policy.rules().len() as u64),
+        Piece::Text("\n"),
+        NOTHING,
+        NOTHING,
+        NOTHING,
+    ]
+}

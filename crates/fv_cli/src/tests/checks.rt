@@ -1,0 +1,106 @@
+//! Policies that are accepted, and what is said of those that aren't.
+
+use super::{POLICY, call, expect_answer};
+use crate::base::{MemoryFiles, MemorySink};
+use std::alloc::Global;
+use std::process::Abort;
+use std::test::Fail;
+
+const SLICES: &str = "\
+version = 1
+[[slice]]
+name = \"alice\"
+controller = \"127.0.0.1:6633\"
+[[slice]]
+name = \"bob\"
+controller = \"127.0.0.1:6634\"
+";
+
+const WEB: &str =
+    "[[rule]]\npriority = 100\nwrite = \"alice\"\ndl_type = 2048\nnw_proto = 6\ntp_dst = 80\n";
+
+/// Rules behind the slices, and what is said of the policy: its status, its output and its error line.
+const CASES: [(&[&str], u8, &str, &str); 10] = [
+    (&[], 0, "ok 2 0\n", ""),
+    (
+        &[WEB, "[[rule]]\npriority = 10\nread = [\"bob\"]\n"],
+        0,
+        "ok 2 2\n",
+        "",
+    ),
+    (
+        &[WEB, "[[rule]]\npriority = 200\nread = [\"bob\"]\n"],
+        2,
+        "",
+        "policy: rules 1 and 0 overlap\n",
+    ),
+    (
+        &[WEB, "[[rule]]\npriority = 50\nwrite = \"bob\"\n"],
+        2,
+        "",
+        "policy: rules 0 and 1 overlap\n",
+    ),
+    (
+        &[WEB, "[[rule]]\npriority = 50\nwrite = \"carol\"\n"],
+        2,
+        "",
+        "policy: rule 1 names no slice\n",
+    ),
+    (
+        &["[[rule]]\npriority = 100\nwrite = \"alice\"\ndl_type = 2048\ntp_dst = 80\n"],
+        2,
+        "",
+        "policy: rule 0 improper tp_dst\n",
+    ),
+    (
+        &[WEB, "priorty = 5\n"],
+        2,
+        "",
+        "policy: unknown key rule.0.priorty\n",
+    ),
+    (&["[[rule]]\n"], 2, "", "policy: missing rule.0.priority\n"),
+    (
+        &["[[rule]]\npriority = 1\nnw_tos = 3\n"],
+        2,
+        "",
+        "policy: bad value rule.0.nw_tos\n",
+    ),
+    (&["[[rule]"], 2, "", "policy: not TOML\n"),
+];
+
+fn expect_check(
+    rt: &impl Abort,
+    alloc: Global,
+    text: &str,
+    expected: (u8, &str, &str),
+) -> Result<(), Fail> {
+    let (status, out, err) = expected;
+    let mut files = MemoryFiles::new(alloc);
+    files.add("policy", text.as_bytes())?;
+    let words = ["check", "policy"];
+    let answer = call(alloc, &words, &mut files, MemorySink::new(alloc))?;
+    expect_answer(rt, &answer, status, &[out], err);
+    Ok(())
+}
+
+fn joined(alloc: Global, rules: &[&str]) -> Result<String, Fail> {
+    let mut text = String::new(alloc);
+    text.push_str(SLICES)?;
+    for rule in rules {
+        text.push_str(rule)?;
+    }
+    Ok(text)
+}
+
+#[test]
+fn policies_are_accepted_or_refused_with_the_place(rt: HostRuntime) -> Result<(), Fail> {
+    let alloc = rt.alloc();
+    expect_check(&rt, alloc, POLICY, (0, "ok 2 2\n", ""))?;
+    let other = "policy: bad value version\n";
+    expect_check(&rt, alloc, "version = 2", (2, "", other))?;
+    for (rules, status, out, err) in &CASES {
+        let text = joined(alloc, rules)?;
+        expect_check(&rt, alloc, text.as_str(), (*status, out, err))?;
+    }
+    Ok(())
+}

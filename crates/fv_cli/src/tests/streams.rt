@@ -1,0 +1,63 @@
+//! Streams that come byte by byte.
+
+use super::{
+    ALICE_UP, BOB_UP, FEATURES, MAGIC, OPENING, POLICY, SWITCH_UP, WEB_PACKET, WEB_REPORT,
+    bytes_of, call, expect_answer,
+};
+use crate::base::{MemoryFiles, MemorySink};
+use of10_ctl::{Framer, Next};
+use std::alloc::Global;
+use std::test::Fail;
+
+/// Bytes of a record before what it carries.
+const RECORD_HEAD: usize = 16;
+
+/// Feeds the bytes that a record of the switch carries, one by one, and appends a record for each frame
+/// that comes; answers how many there were.
+fn put_frames(
+    alloc: Global,
+    framer: &mut Framer,
+    out: &mut Vec<u8>,
+    record: &str,
+) -> Result<u32, Fail> {
+    let mut frames = 0u32;
+    for byte in bytes_of(alloc, &[record])?.iter().skip(RECORD_HEAD) {
+        framer.feed(&[*byte])?;
+        if let Next::Frame(frame) = framer.next()? {
+            let frame = frame.as_slice();
+            out.extend_from_slice(&[1, 0, 0, 0])?;
+            out.extend_from_slice(&(frame.len() as u32).to_be_bytes())?;
+            out.extend_from_slice(&[0; 8])?;
+            out.extend_from_slice(frame)?;
+            frames = frames.saturating_add(1);
+        }
+    }
+    Ok(frames)
+}
+
+#[test]
+fn a_stream_cut_into_bytes_makes_the_same_report(rt: HostRuntime) -> Result<(), Fail> {
+    let alloc = rt.alloc();
+    let mut framer = Framer::new(alloc);
+    let mut recording = bytes_of(alloc, &[MAGIC, SWITCH_UP])?;
+    assert_eq!(rt;
+        put_frames(alloc, &mut framer, &mut recording, FEATURES)?,
+        1
+    );
+    recording.extend_from_slice(&bytes_of(alloc, &[ALICE_UP, BOB_UP])?)?;
+    assert_eq!(rt;
+        put_frames(alloc, &mut framer, &mut recording, WEB_PACKET)?,
+        1
+    );
+    assert!(rt;
+        matches!(framer.next()?, Next::NeedMore),
+        "no byte is left over"
+    );
+    let mut files = MemoryFiles::new(alloc);
+    files.add("policy", POLICY.as_bytes())?;
+    files.add("recording", &recording)?;
+    let words = ["replay", "policy", "recording"];
+    let answer = call(alloc, &words, &mut files, MemorySink::new(alloc))?;
+    expect_answer(&rt, &answer, 0, &[OPENING, WEB_REPORT], "");
+    Ok(())
+}
