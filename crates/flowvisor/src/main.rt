@@ -20,14 +20,17 @@ use stream::Stream;
 const HELP: &str = "\
 FlowVisor for OpenFlow 1.0: several controllers share one set of switches.
 
-usage: flowvisor replay POLICY RECORDING
+usage: flowvisor check POLICY
+       flowvisor replay POLICY RECORDING
 
-Runs the recorded connections under the policy and writes the report: a line for each message that the
-switch and the slices would get.
+check says whether the policy is accepted, and how many slices and rules it has.
 
-The exit status is 0, or 1 for other words, 4 where a file can't be read, 5 where the report can't be
-written, 6 where memory runs out, 7 where a file is too large, and 8 where the policy or the recording
-needs what isn't built yet. Each status but 0 has a line on standard error.
+replay runs the recorded connections under the policy and writes the report: a line for each message that
+the switch and the slices would get.
+
+The exit status is 0, or 1 for other words, 2 where the policy is refused, 3 where the recording is, 4 where
+a file can't be read, 5 where the output can't be written, 6 where memory runs out, 7 where a file is too
+large, and 8 where the recording needs what isn't built yet. Each status but 0 has a line on standard error.
 ";
 
 /// What `--version` prints.
@@ -83,22 +86,22 @@ fn lone_answer(rt: &HostRuntime) -> Option<&'static str> {
 }
 
 /// Puts the line of an ending on standard error, and answers its status.
-fn end(rt: &HostRuntime, ending: Ending) -> u8 {
-    let _ = put_all(&mut Stream::new(rt.stderr()), ending.line().as_bytes());
+fn end(rt: &HostRuntime, ending: &Ending) -> u8 {
+    ending.say(&mut Stream::new(rt.stderr()));
     ending.status()
 }
 
 /// Runs with these words; standard output is gathered and flushed at the end.
 fn run(rt: &HostRuntime, words: &Words) -> u8 {
     let Ok(writer) = BufWriter::with_capacity(rt.alloc(), OUTPUT_PIECE, rt.stdout()) else {
-        return end(rt, Ending::NoMemory);
+        return end(rt, &Ending::NoMemory);
     };
     let mut out = Stream::new(writer);
     let mut err = Stream::new(rt.stderr());
     let mut files = Disk::new(rt);
     let status = offline(rt.alloc(), words, &mut files, &mut out, &mut err);
     if out.finish().is_err() && status == 0 {
-        return end(rt, Ending::WriteFault);
+        return end(rt, &Ending::WriteFault);
     }
     status
 }
@@ -107,13 +110,13 @@ fn start(rt: &HostRuntime) -> u8 {
     if let Some(text) = lone_answer(rt) {
         return match put_all(&mut Stream::new(rt.stdout()), text.as_bytes()) {
             Ok(()) => Ending::Done.status(),
-            Err(_) => end(rt, Ending::WriteFault),
+            Err(_) => end(rt, &Ending::WriteFault),
         };
     }
     match words(rt) {
         Ok(words) => run(rt, &words),
-        Err(WordsRefused::NotText) => end(rt, Ending::Usage),
-        Err(WordsRefused::Memory) => end(rt, Ending::NoMemory),
+        Err(WordsRefused::NotText) => end(rt, &Ending::Usage),
+        Err(WordsRefused::Memory) => end(rt, &Ending::NoMemory),
     }
 }
 
