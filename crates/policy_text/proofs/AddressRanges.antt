@@ -1,12 +1,12 @@
 -- Addresses that are written in a text lie in their ranges.
-use Rattle.std.proofs.Common.{◌≡◌, ℕ, ◌+◌, ◌-◌, ◌*◌, ◌/◌, ◌%◌, ◌^◌, ◌<◌, ◌≤◌, ◌==◌, ◌&&◌, Bool, true, false, cond, nat_le, leb-true, List, [], ◌∷◌, length, slice_index, Option, Some, None, option_map, refl, sym, ap, subst, arith}
+use Rattle.std.proofs.Common.{◌≡◌, ℕ, ◌+◌, ◌-◌, ◌*◌, ◌/◌, ◌^◌, ◌<◌, ◌≤◌, ◌==◌, ◌&&◌, Bool, true, false, cond, nat_le, leb-true, List, [], ◌∷◌, length, slice_index, Option, Some, None, option_map, refl, ap, subst, arith}
 use Rattle.std.proofs.Math.Nat.{div-mul-le_self, mul-mod_left}
 use Rattle.std.proofs.lemmas.Bool.{and_parts}
 use Rattle.toml.specs.Data.{Data, string, integer, float, boolean, datetime, array, table}
 use Rattle.of10_model.specs.declared.pattern.Prefix.{Prefix}
 use Rattle.of10_model.specs.Normal.{IsPrefix}
 use Rattle.policy_text.specs.declared.values.Numerals.TheVariants.{Hardware}
-use Rattle.policy_text.specs.Addresses.{◌>>=◌, hex_digit, pair_at, has_colons, six_pairs, hardware_address, digits_at, octet_of, octet_at, after, dotted_at, bits_of, bits_after, leading_bits, prefix}
+use Rattle.policy_text.specs.Addresses.{◌>>=◌, hex_digit, pair_at, has_colons, six_pairs, digits_at, octet_of, octet_at, after, dotted_at, bits_of, bits_after, leading_bits, prefix}
 use Rattle.policy_text.specs.Reading.{numeral, addresses}
 
 bind_some : {A B : Type 0} (o : Option A) (f : A → Option B) (y : B) → (o >>= f) ≡ Some y → (x : A) × (o ≡ Some x) × (f x ≡ Some y)

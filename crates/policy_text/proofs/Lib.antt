@@ -7,3 +7,10 @@ pub mod AddressRanges
 pub mod SoundPatterns
 pub mod Sound
 pub mod Refusals
+pub mod Appending
+pub mod PrintedValues
+pub mod PrintedNodes
+pub mod PrintedLines
+pub mod PrintedReaders
+pub mod PrintedTables
+pub mod PrintedPolicy

@@ -1,5 +1,5 @@
 -- Hex digits one after the other stay within 64 bits.
-use Rattle.std.proofs.Common.{ℕ, zero, suc, ◌+◌, ◌*◌, ◌^◌, ◌<◌, ◌≤◌, arith}
+use Rattle.std.proofs.Common.{ℕ, ◌+◌, ◌*◌, ◌^◌, ◌<◌, ◌≤◌, arith}
 use Rattle.std.proofs.Math.Nat.{pow-le-pow_right}
 
 pub within_word : (n i digit : ℕ) → i < 16 → n < 16 ^ i → digit < 16 → n * 16 + digit < 18446744073709551616

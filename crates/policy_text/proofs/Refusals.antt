@@ -1,20 +1,19 @@
 -- No reading is refused for want of memory.
-use Rattle.std.proofs.Common.{◌≡◌, ◌≢◌, ℕ, suc, List, [], ◌∷◌, Option, Some, None, Result, Ok, Err, IfErr, codes, unwrap_or, is_err, refl, sym, subst}
+use Rattle.std.proofs.Common.{◌≢◌, ℕ, suc, List, [], ◌∷◌, Option, Some, None, Result, Ok, Err, IfErr, codes, unwrap_or}
 use Rattle.toml.specs.Data.{Data, string, integer, float, boolean, datetime, array, table, Items, no_items, item, get_member}
 use Rattle.flowspace.specs.declared.fault.Field.{Field}
 use Rattle.flowspace.specs.declared.fault.PolicyFault.TheVariants as policy
 use Rattle.flowspace.specs.declared.slices.Slice.{Slice}
 use Rattle.flowspace.specs.Policies.{PolicyView}
-use Rattle.of10_model.specs.declared.pattern.Pattern.{Pattern}
 use Rattle.policy_text.specs.declared.fault.Place.{Place}
 use Rattle.policy_text.specs.declared.fault.ReadFault.{ReadFault}
 use Rattle.policy_text.specs.declared.fault.ReadFault.TheVariants.{NotToml, Missing, BadValue, UnknownKey, Improper, Refused, Memory}
 use Rattle.policy_text.specs.declared.values.Numbers.TheVariants.{UpTo, Between, InPort, Vlan, Service}
 use Rattle.policy_text.specs.declared.values.Numerals.TheVariants.{Datapath, Hardware}
 use Rattle.policy_text.specs.declared.values.Texts.TheVariants.{Name, Controller, Any}
-use Rattle.policy_text.specs.Reading.{◌>>=◌, Fails, Gives, SectionView, place_of, least, unknown_keys, no_unknown, known_keys, formed, demanded, allowed, required, optional, number, numeral, addresses, text, text_list, tables, some_tables}
+use Rattle.policy_text.specs.Reading.{◌>>=◌, Gives, SectionView, place_of, least, unknown_keys, no_unknown, known_keys, formed, demanded, allowed, required, optional, number, numeral, addresses, text, text_list, tables, some_tables}
 use Rattle.policy_text.specs.Slices.{slice_section, slice_in, slice_of, slices_from}
-use Rattle.policy_text.specs.Rules.{link_in, pattern_in, slot_of, named, writer_of, slots_of, no_improper, proper, RuleText, names_under, rule_text_in, rule_from, rule_section, rule_in, rule_of, rules_from}
+use Rattle.policy_text.specs.Rules.{link_in, pattern_in, slot_of, named, writer_of, slots_of, no_improper, proper, RuleText, names_under, rule_text_in, rule_from, rule_section, rule_of, rules_from}
 use Rattle.policy_text.specs.Documents.{parts_in}
 
 -- the fault isn't a refusal for want of memory

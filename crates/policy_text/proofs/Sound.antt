@@ -1,13 +1,13 @@
 -- The slices and the rules that a text says are plain.
-use Rattle.std.proofs.Common.{◌≡◌, ℕ, zero, suc, ◌%◌, ◌≤◌, Bool, true, false, not, ◌&&◌, cond, nat_le, leb-true, List, [], ◌∷◌, length, Option, Some, None, IfSome, All, Result, Ok, Err, codes, unwrap_or, refl, sym, ap, subst, arith}
+use Rattle.std.proofs.Common.{◌≡◌, ℕ, suc, ◌≤◌, Bool, true, false, ◌&&◌, cond, nat_le, leb-true, List, [], ◌∷◌, length, Option, Some, None, IfSome, Ok, codes, unwrap_or, refl, subst, arith}
 use Rattle.std.specs.List.{AllByRecursion, list_all}
-use Rattle.std.proofs.lemmas.Bool.{and_parts, cases_Bool}
+use Rattle.std.proofs.lemmas.Bool.{and_parts}
 use Rattle.std.proofs.lemmas.List.Elements.{All-from_recursion}
 use Rattle.std.proofs.lemmas.List.Sums.{AllPass-from_list_all}
 use Rattle.toml.specs.Data.{Data, string, integer, float, boolean, datetime, array, table, Items, no_items, item, Members}
 use Rattle.toml.specs.Text.{has_items, are_tables}
 use Rattle.of10_model.specs.declared.pattern.Pattern.{Pattern}
-use Rattle.of10_model.specs.Normal.{has_vlan, has_network, has_service, has_ports, IsInRange, IsNormal}
+use Rattle.of10_model.specs.Normal.{has_vlan, has_network, has_service, has_ports}
 use Rattle.flowspace.specs.declared.fault.Field.{Field}
 use Rattle.flowspace.specs.declared.fault.Field.TheVariants.{Read}
 use Rattle.flowspace.specs.declared.rules.Rule.{Rule}
@@ -15,17 +15,15 @@ use Rattle.flowspace.specs.declared.slices.Slice.{Slice}
 use Rattle.flowspace.specs.Policies.{PolicyView}
 use Rattle.flowspace.specs.Rules.{IsPlainRule}
 use Rattle.flowspace.specs.Slices.{is_name_byte, IsPlainSlice}
-use Rattle.policy_text.specs.declared.fault.ReadFault.{ReadFault}
-use Rattle.policy_text.specs.declared.values.Numbers.{Numbers}
 use Rattle.policy_text.specs.declared.values.Numbers.TheVariants.{UpTo, Between}
 use Rattle.policy_text.specs.declared.values.Numerals.TheVariants.{Datapath}
 use Rattle.policy_text.specs.declared.values.Texts.TheVariants.{Name, Controller, Any}
-use Rattle.policy_text.specs.Reading.{◌>>=◌, SectionView, known_keys, required, optional, when, is_number, number, is_text, text, numeral, tables, some_tables}
+use Rattle.policy_text.specs.Reading.{SectionView, known_keys, required, optional, is_number, number, is_text, text, numeral, tables, some_tables}
 use Rattle.policy_text.specs.Slices.{slice_section, slice_in, slice_of, slices_from}
 use Rattle.policy_text.specs.Rules.{pattern_in, first_improper, are_different, bits_below, writer_of, slots_of, no_improper, proper, RuleText, names_under, rule_text_in, rule_from, rule_section, rule_in, rule_of, rules_from}
 use Rattle.policy_text.specs.Documents.{top, parts_in, parts_of, ArePlain}
 use Rattle.policy_text.proofs.Steps.{bind_ok, bind_is, ok_is, when_some, optional_holds, required_holds, number_is, text_is}
-use Rattle.policy_text.proofs.SoundPatterns.{IsWritten, pattern_sound, meaningful, needed_is, normal}
+use Rattle.policy_text.proofs.SoundPatterns.{IsWritten, pattern_sound, meaningful, needed_is}
 
 -- ---- slices
 

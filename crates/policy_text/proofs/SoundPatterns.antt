@@ -1,9 +1,9 @@
 -- The match that a text says is a normal one, and constrains a field only where the field means something.
-use Rattle.std.proofs.Common.{◌≡◌, ◌⊎◌, inl, inr, ℕ, ◌<◌, ◌≤◌, ◌%◌, ◌^◌, ◌==◌, Bool, true, false, not, ◌&&◌, ◌||◌, cond, nat_le, leb-true, eqb-true, true≢false, IsTrue, List, Option, Some, None, IsSome, IfSome, is_some, Result, Ok, codes, refl, sym, ap, subst, arith}
-use Rattle.std.proofs.lemmas.Bool.{and_parts, or_parts, cases_Bool}
+use Rattle.std.proofs.Common.{◌≡◌, ◌⊎◌, inl, inr, ℕ, ◌<◌, ◌%◌, ◌^◌, ◌==◌, Bool, true, false, not, ◌&&◌, ◌||◌, cond, nat_le, leb-true, eqb-true, true≢false, IsTrue, List, Option, Some, None, IsSome, IfSome, is_some, Ok, codes, refl, sym, subst, arith}
+use Rattle.std.proofs.lemmas.Bool.{and_parts}
 use Rattle.of10_model.specs.declared.pattern.Prefix.{Prefix}
 use Rattle.of10_model.specs.declared.pattern.Pattern.{Pattern}
-use Rattle.of10_model.specs.Normal.{is_given, is_whole, is_exact, has_vlan, has_network, has_service, has_ports, kept, kept_prefix, applied, IsBelow, IsService, IsPrefix, IsInRange, IsNormal}
+use Rattle.of10_model.specs.Normal.{is_given, is_whole, is_exact, has_vlan, has_network, has_service, has_ports, kept, kept_prefix, IsBelow, IsService, IsPrefix, IsInRange, IsNormal}
 use Rattle.of10_model.proofs.NormalFields.{applied_same}
 use Rattle.of10_model.proofs.Twelve.{each_true}
 use Rattle.flowspace.specs.declared.fault.Field.{Field}

@@ -1,5 +1,5 @@
 -- The steps of a reading that did not fail.
-use Rattle.std.proofs.Common.{◌≡◌, ℕ, pos, negsuc, Bool, true, false, cond, List, Option, Some, None, IfSome, Result, Ok, Err, refl, sym, ap, ◌∙◌, subst}
+use Rattle.std.proofs.Common.{◌≡◌, ℕ, pos, negsuc, Bool, true, false, List, Option, Some, None, IfSome, Result, Ok, Err, refl, ap, ◌∙◌, subst}
 use Rattle.toml.specs.Data.{Data, string, integer, float, boolean, datetime, array, table, get_member}
 use Rattle.policy_text.specs.declared.fault.Place.{Place}
 use Rattle.policy_text.specs.declared.fault.ReadFault.{ReadFault}

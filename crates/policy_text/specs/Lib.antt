@@ -5,3 +5,4 @@ pub mod Slices
 pub mod Rules
 pub mod Documents
 pub mod Views
+pub mod Printing

@@ -1,5 +1,5 @@
 -- The slices that a policy text says. All of it is this proxy's own rule.
-use Rattle.std.specs.Prelude.{ℕ, suc, List, [], ◌∷◌, Option, Result, Ok, Err, codes, unwrap_or}
+use Rattle.std.specs.Prelude.{ℕ, suc, List, [], ◌∷◌, Result, Ok, Err, codes, unwrap_or}
 use Rattle.toml.specs.Data.{Data, table, Items, no_items, item, Members}
 use Rattle.flowspace.specs.declared.slices.Slice.{Slice}
 use Rattle.policy_text.specs.declared.fault.Part.TheVariants as part

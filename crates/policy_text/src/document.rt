@@ -1,6 +1,6 @@
 //! Reading a whole text.
 
-ghost use Rattle.std.specs.Prelude.{◌≡◌, ◌≢◌, IfErr, option_map, unwrap_or};
+ghost use Rattle.std.specs.Prelude.{◌≢◌, IfErr, option_map, unwrap_or};
 ghost use Rattle.toml.specs.Data.{no_items};
 ghost use Rattle.toml.specs.View.{items_view, table_view};
 ghost use Rattle.flowspace.specs.Loading.{load_of};

@@ -7,6 +7,7 @@ mod document;
 mod fault;
 mod names;
 mod pattern;
+mod printing;
 mod rules;
 mod section;
 mod slices;
@@ -14,6 +15,7 @@ mod values;
 
 pub use document::read;
 pub use fault::{Part, Place, ReadFault};
+pub use printing::print;
 
 #[cfg(test)]
 mod tests;

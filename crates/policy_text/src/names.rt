@@ -1,6 +1,6 @@
 //! The slices that a rule names.
 
-ghost use Rattle.std.specs.Prelude.{◌≡◌, ◌^◌, ◌<◌, bytes_eq, map, nat_eq, option_map, position};
+ghost use Rattle.std.specs.Prelude.{◌≡◌, map, nat_eq, option_map};
 ghost use Rattle.std.specs.List.{list_any};
 ghost use Rattle.policy_text.specs.Reading.{Gives};
 ghost use Rattle.policy_text.specs.Rules.{are_different, bits_below, named, slot_of, slots_of, writer_of};

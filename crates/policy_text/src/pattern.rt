@@ -1,7 +1,7 @@
 //! The match of a rule.
 
-ghost use Rattle.std.specs.Prelude.{◌≡◌, IfOk};
-ghost use Rattle.of10_model.specs.Normal.{has_network, has_ports, has_service, has_vlan, is_value};
+ghost use Rattle.std.specs.Prelude.{◌≡◌};
+ghost use Rattle.of10_model.specs.Normal.{has_network, has_ports, has_service, has_vlan};
 ghost use Rattle.policy_text.specs.Reading.{Gives};
 ghost use Rattle.policy_text.specs.Rules.{first_improper, link_in, pattern_in};
 ghost use Rattle.policy_text.specs.Views.{link_view, section};

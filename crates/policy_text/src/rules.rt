@@ -1,6 +1,6 @@
 //! The rules that a text says.
 
-ghost use Rattle.std.specs.Prelude.{◌≡◌, map};
+ghost use Rattle.std.specs.Prelude.{map};
 ghost use Rattle.toml.specs.View.{items_view, view};
 ghost use Rattle.of10_model.specs.Normal.{IsInRange};
 ghost use Rattle.policy_text.specs.Reading.{Gives};

@@ -1,8 +1,6 @@
 //! The slices that a text says.
 
-ghost use Rattle.std.specs.Prelude.{◌≡◌, All, IfOk};
 ghost use Rattle.toml.specs.View.{items_view, view};
-ghost use Rattle.flowspace.specs.Slices.{IsPlainSlice};
 ghost use Rattle.policy_text.specs.Reading.{Gives};
 ghost use Rattle.policy_text.specs.Slices.{slice_in, slice_of, slices_from};
 ghost use Rattle.policy_text.specs.Views.{section};

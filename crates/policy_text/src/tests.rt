@@ -1,6 +1,5 @@
-use crate::{ReadFault, read};
-use flowspace::{Policy, Rule};
-use of10_match::Match;
+use crate::{ReadFault, print, read};
+use flowspace::Policy;
 use of10_model::{Pattern, Prefix};
 use std::alloc::{AllocError, Global};
 use std::test::Fail;
@@ -293,8 +292,8 @@ fn rules_by_their_fields(rt: HostRuntime) -> Result<(), Fail> {
 }
 
 // TCP over IPv4 to a port.
-fn tcp_to(port: u16) -> Match {
-    Match::of(Pattern {
+fn tcp_to(port: u16) -> Pattern {
+    Pattern {
         in_port: None,
         dl_src: None,
         dl_dst: None,
@@ -307,7 +306,7 @@ fn tcp_to(port: u16) -> Match {
         nw_dst: None,
         tp_src: None,
         tp_dst: Some(port),
-    })
+    }
 }
 
 const RULES: &str = "[[rule]]
@@ -343,23 +342,35 @@ fn two_slices_and_two_rules(rt: HostRuntime) -> Result<(), Fail> {
         assert_eq!(rt; slice.controller.as_str(), controller);
         assert_eq!(rt; (slice.rate, slice.burst, slice.quota), (1000, 1000, 1024));
     }
-    let rules = [
-        Rule {
-            switch: None,
-            priority: 100,
-            pattern: tcp_to(80),
-            writer: Some(0),
-            readers: 0,
-        },
-        Rule {
-            switch: None,
-            priority: 50,
-            pattern: tcp_to(22),
-            writer: Some(1),
-            readers: 0,
-        },
-    ];
-    assert_eq!(rt; policy.rules(), &rules[..]);
+    let rules = [(100, tcp_to(80), Some(0)), (50, tcp_to(22), Some(1))];
+    assert_eq!(rt; policy.rules().len(), 2);
+    for (rule, (priority, pattern, writer)) in policy.rules().iter().zip(rules) {
+        assert_eq!(rt; (rule.switch, rule.priority), (None, priority));
+        assert_eq!(rt; (rule.writer, rule.readers), (writer, 0));
+        assert_eq!(rt; *rule.pattern.pattern(), pattern);
+    }
+    Ok(())
+}
+
+#[test]
+fn faults_in_whole_texts(rt: HostRuntime) -> Result<(), Fail> {
+    for (first, second, wanted) in [
+        ("nw_proto = 6", "write = 'bob'", "ok 2 2"),
+        ("nw_proto = 6", "write = 'carol'", "UnknownSlice(1)"),
+        ("", "write = 'bob'", "improper 0 TpDst"),
+        (
+            "nw_proto = 6\npriorty = 5",
+            "write = 'carol'",
+            "unknown key rule.0.priorty",
+        ),
+    ] {
+        let text = format!(in rt.alloc();
+            "{SLICES}[[rule]]\npriority = 100\nwrite = 'alice'\ndl_type = 2048\n{first}\ntp_dst = 80\n\
+            [[rule]]\npriority = 50\n{second}\ndl_type = 2048\nnw_proto = 6\ntp_dst = 22\n"
+        )?;
+        let answer = told(rt.alloc(), text.as_str())?;
+        assert_eq!(rt; answer.as_str(), wanted, "at {first} and {second}");
+    }
     Ok(())
 }
 
@@ -372,33 +383,32 @@ fn every_field(rt: HostRuntime) -> Result<(), Fail> {
         nw_dst = '192.0.2.255'\ntp_src = 8\ntp_dst = 0\n"
     )?;
     let policy = policy_of(rt.alloc(), text.as_str())?;
-    let rules = [Rule {
-        switch: Some(0xaf),
-        priority: 7,
-        pattern: Match::of(Pattern {
-            in_port: Some(65534),
-            dl_src: Some(0x0000_5e00_5301),
-            dl_dst: Some(0xff00_0000_0002),
-            dl_vlan: Some(5),
-            dl_vlan_pcp: Some(6),
-            dl_type: Some(0x0800),
-            nw_tos: Some(252),
-            nw_proto: Some(1),
-            nw_src: Some(Prefix {
-                bits: 24,
-                value: 0x0a01_0200,
-            }),
-            nw_dst: Some(Prefix {
-                bits: 32,
-                value: 0xc000_02ff,
-            }),
-            tp_src: Some(8),
-            tp_dst: Some(0),
+    let pattern = Pattern {
+        in_port: Some(65534),
+        dl_src: Some(0x0000_5e00_5301),
+        dl_dst: Some(0xff00_0000_0002),
+        dl_vlan: Some(5),
+        dl_vlan_pcp: Some(6),
+        dl_type: Some(0x0800),
+        nw_tos: Some(252),
+        nw_proto: Some(1),
+        nw_src: Some(Prefix {
+            bits: 24,
+            value: 0x0a01_0200,
         }),
-        writer: None,
-        readers: 0b11,
-    }];
-    assert_eq!(rt; policy.rules(), &rules[..]);
+        nw_dst: Some(Prefix {
+            bits: 32,
+            value: 0xc000_02ff,
+        }),
+        tp_src: Some(8),
+        tp_dst: Some(0),
+    };
+    assert_eq!(rt; policy.rules().len(), 1);
+    for rule in policy.rules() {
+        assert_eq!(rt; (rule.switch, rule.priority), (Some(0xaf), 7));
+        assert_eq!(rt; (rule.writer, rule.readers), (None, 0b11));
+        assert_eq!(rt; *rule.pattern.pattern(), pattern);
+    }
     Ok(())
 }
 
@@ -420,6 +430,10 @@ fn the_first_fault_counts(rt: HostRuntime) -> Result<(), Fail> {
         (
             "{ priority = 100, write = 'alice', dl_type = 2048 }, { priority = 50, write = 'bob' }",
             "Overlap(0, 1)",
+        ),
+        (
+            "{ priority = 100, write = 'alice', dl_type = 2048, nw_proto = 6, tp_dst = 80 }, { priority = 200, read = ['bob'] }",
+            "Overlap(1, 0)",
         ),
     ] {
         let text = format!(in rt.alloc(); "{INLINE}rule = [{rules}]\n")?;
@@ -450,5 +464,97 @@ fn more_slices_than_slots(rt: HostRuntime) -> Result<(), Fail> {
     )?;
     let answer = told(rt.alloc(), text.as_str())?;
     assert_eq!(rt; answer.as_str(), "TooMany(Slices, 300)");
+    Ok(())
+}
+
+fn printed(alloc: Global, policy: &Policy) -> Result<String, Fail> {
+    let bytes = print(alloc, policy)?;
+    let text = std::str::from_utf8(bytes.as_slice())
+        .ok()
+        .ok_or("a printed policy is text")?;
+    Ok(String::from_str(alloc, text)?)
+}
+
+fn is_same(a: &Policy, b: &Policy) -> bool {
+    a.rules() == b.rules()
+        && a.slices().len() == b.slices().len()
+        && a.slices().iter().zip(b.slices()).all(|(s, t)| {
+            s.name.as_str() == t.name.as_str()
+                && s.controller.as_str() == t.controller.as_str()
+                && (s.rate, s.burst, s.quota) == (t.rate, t.burst, t.quota)
+        })
+}
+
+#[test]
+fn prints_what_it_reads(rt: HostRuntime) -> Result<(), Fail> {
+    let text = "version = 1
+
+[[slice]]
+name = \"alice\"
+controller = \"127.0.0.1:6633\"
+
+[[slice]]
+name = \"bob\"
+controller = \"127.0.0.1:6634\"
+
+[[rule]]
+priority = 100
+write = \"alice\"
+dl_type = 2048
+nw_proto = 6
+tp_dst = 80
+
+[[rule]]
+priority = 10
+read = [\"bob\"]
+";
+    let policy = policy_of(rt.alloc(), text)?;
+    let again = printed(rt.alloc(), &policy)?;
+    assert_eq!(rt; again.as_str(), text);
+    let readers = [(Some(0), 0), (None, 0b10)];
+    for (rule, wanted) in policy.rules().iter().zip(readers) {
+        assert_eq!(rt; (rule.writer, rule.readers), wanted);
+    }
+    Ok(())
+}
+
+#[test]
+fn prints_every_field(rt: HostRuntime) -> Result<(), Fail> {
+    let text = "version = 1
+
+[[slice]]
+name = \"a-1_z\"
+controller = 'a \"quoted\" place'
+rate = 1
+burst = 1000000
+quota = 0
+
+[[slice]]
+name = \"b\"
+controller = \"c\"
+
+[[rule]]
+switch = \"00000000000000af\"
+priority = 4294967295
+write = \"a-1_z\"
+read = [\"b\"]
+in_port = 65534
+dl_src = \"00:00:5e:00:53:01\"
+dl_dst = \"ff:00:00:00:00:02\"
+dl_vlan = 5
+dl_vlan_pcp = 6
+dl_type = 2048
+nw_tos = 252
+nw_proto = 1
+nw_src = \"10.1.2.0/24\"
+nw_dst = \"192.0.2.255\"
+tp_src = 8
+tp_dst = 0
+";
+    let policy = policy_of(rt.alloc(), text)?;
+    let again = printed(rt.alloc(), &policy)?;
+    assert_eq!(rt; again.as_str(), text);
+    let twice = policy_of(rt.alloc(), again.as_str())?;
+    assert!(rt; is_same(&policy, &twice));
     Ok(())
 }

@@ -3,10 +3,9 @@
 ghost use Rattle.std.specs.Prelude.{◌≡◌, ◌≤◌, Some, true, IfOk, IfSome, map, option_map};
 ghost use Rattle.std.specs.List.{list_all};
 ghost use Rattle.toml.specs.Text.{are_tables, has_items};
-ghost use Rattle.toml.specs.View.{array_view, items_view, view};
-ghost use Rattle.of10_model.specs.Normal.{IsPrefix};
+ghost use Rattle.toml.specs.View.{items_view, view};
 ghost use Rattle.flowspace.specs.Slices.{is_name_byte};
-ghost use Rattle.policy_text.specs.Reading.{addresses, each_text, greatest, is_controller, is_name, is_number, is_text, number, numeral, numeral_of, some_tables, tables, text, text_list};
+ghost use Rattle.policy_text.specs.Reading.{addresses, each_text, greatest, is_name, is_number, is_text, number, numeral, numeral_of, some_tables, tables, text, text_list};
 
 use crate::addresses::{datapath_id, hardware_address, prefix};
 use of10_model::Prefix;

@@ -1,4 +1,4 @@
-use Rattle.std.proofs.Common.{◌*◌, ◌+◌, arith}
+use Rattle.std.proofs.Common.{arith}
 use Rattle.policy_text.proofs.Powers.{within_word}
 use Rattle.policy_text.proofs.addresses.hex_number.Goals as goal
 

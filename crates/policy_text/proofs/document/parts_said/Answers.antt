@@ -1,4 +1,4 @@
-use Rattle.std.proofs.Common.{◌≡◌, sym, true≢false}
+use Rattle.std.proofs.Common.{sym, true≢false}
 use Rattle.toml.specs.View.{table_view}
 use Rattle.policy_text.proofs.Documents.{said, unsaid}
 use Rattle.policy_text.proofs.document.parts_said.Goals as goal

@@ -1,5 +1,5 @@
 use Rattle.std.proofs.Common.{◌≡◌, Ok, map}
-use Rattle.policy_text.specs.Rules.{proper, slots_of, first_improper}
+use Rattle.policy_text.specs.Rules.{proper, slots_of}
 use Rattle.policy_text.specs.Views.{rule_text_view}
 use Rattle.policy_text.proofs.Sound.{proper_is, rule_from_is}
 use Rattle.policy_text.proofs.SoundPatterns.{normal}

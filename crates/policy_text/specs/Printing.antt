@@ -1,0 +1,140 @@
+-- The text that is printed for a policy. All of it is this proxy's own rule.
+use Rattle.std.specs.Prelude.{ℕ, zero, suc, pos, ◌+◌, ◌*◌, ◌/◌, ◌%◌, ◌^◌, ◌==◌, ◌<◌, nat_lt, Bool, true, false, List, [], ◌∷◌, ◌++◌, map, slice_get, Option, Some, None, IfSome, option_map, option_and_then, codes, decimal, if◌then◌else◌}
+use Rattle.toml_writer.specs.Text.{string_text}
+use Rattle.toml.specs.Data.{Data, string, integer, array, Items, no_items, item}
+use Rattle.toml.specs.Text.{before_item}
+use Rattle.toml.specs.View.{items_of}
+use Rattle.of10_model.specs.declared.pattern.Prefix.{Prefix}
+use Rattle.of10_model.specs.declared.pattern.Pattern.{Pattern}
+use Rattle.of10_model.specs.Normal.{IsNormal}
+use Rattle.flowspace.specs.declared.rules.Rule.{Rule}
+use Rattle.flowspace.specs.declared.slices.Slice.{Slice}
+use Rattle.flowspace.specs.Policies.{PolicyView}
+
+-- ---- identifiers and addresses
+
+-- a hex digit, in lower case
+abbrev pub hex_glyph : ℕ → ℕ
+hex_glyph n = if nat_lt n 10 then 48 + n else 87 + n
+
+-- so many of a number's last hex digits
+unfoldable pub hex_text : ℕ → ℕ → List ℕ
+hex_text zero n = []
+hex_text (suc k) n = hex_glyph (n / 2 ^ (4 * k) % 16) ∷ hex_text k n
+
+-- two hex digits
+abbrev pub pair_text : ℕ → List ℕ
+pair_text n = hex_glyph (n / 16 % 16) ∷ hex_glyph (n % 16) ∷ []
+
+-- six pairs of hex digits with colons between them
+unfoldable pub hardware_text : ℕ → List ℕ
+hardware_text n =
+    pair_text (n / 2 ^ 40 % 256) ++ (58 ∷ pair_text (n / 2 ^ 32 % 256) ++ (58 ∷ pair_text (n / 2 ^ 24 % 256)
+    ++ (58 ∷ pair_text (n / 2 ^ 16 % 256) ++ (58 ∷ pair_text (n / 2 ^ 8 % 256) ++ (58 ∷ pair_text (n % 256))))))
+
+-- four octets with dots between them
+abbrev pub dotted_text : ℕ → List ℕ
+dotted_text n = decimal (n / 2 ^ 24 % 256) ++ (46 ∷ decimal (n / 2 ^ 16 % 256) ++ (46 ∷ decimal (n / 2 ^ 8 % 256) ++ (46 ∷ decimal (n % 256))))
+
+-- an address, and how many of its leading bits count where that isn't all
+unfoldable pub prefix_text : Prefix → List ℕ
+prefix_text p = dotted_text p.value ++ (if p.bits == 32 then [] else 47 ∷ decimal p.bits)
+
+-- ---- fields
+
+-- a key, and the value where the key is written
+abbrev pub Entry : Type 0
+Entry = List ℕ × Option Data
+
+-- a number, left out where it is the one that is taken for granted
+abbrev pub unless_default : ℕ → ℕ → Option Data
+unless_default default n = if n == default then None else Some (integer (pos n))
+
+abbrev pub slice_entries : Slice → List Entry
+slice_entries s =
+    (codes "name", Some (string s.name)) ∷ (codes "controller", Some (string s.controller)) ∷ (codes "rate", unless_default 1000 s.rate)
+    ∷ (codes "burst", unless_default 1000 s.burst) ∷ (codes "quota", unless_default 1024 s.quota) ∷ []
+
+-- the name of the slice at a slot
+abbrev pub name_at : List Slice → ℕ → Option (List ℕ)
+name_at slices slot = option_map (λ s. s.name) (slice_get slices slot)
+
+-- the names of the slices whose bits are set, the lowest bit first
+abbrev pub names_in : ℕ → List Slice → List (List ℕ)
+names_in bits [] = []
+names_in bits (s ∷ rest) = if bits % 2 == 1 then s.name ∷ names_in (bits / 2) rest else names_in (bits / 2) rest
+
+abbrev pub names : List (List ℕ) → Option Data
+names [] = None
+names (name ∷ rest) = Some (array (items_of (map string (name ∷ rest))))
+
+abbrev pub number_value : Option ℕ → Option Data
+number_value o = option_map (λ n. integer (pos n)) o
+
+abbrev pub text_value : Option (List ℕ) → Option Data
+text_value o = option_map (λ s. string s) o
+
+abbrev pub own_entries : List Slice → Rule → List Entry
+own_entries slices r =
+    (codes "switch", text_value (option_map (hex_text 16) r.switch)) ∷ (codes "priority", Some (integer (pos r.priority)))
+    ∷ (codes "write", text_value (option_and_then (name_at slices) r.writer)) ∷ (codes "read", names (names_in r.readers slices)) ∷ []
+
+abbrev pub link_entries : Pattern → List Entry
+link_entries m =
+    (codes "in_port", number_value m.in_port) ∷ (codes "dl_src", text_value (option_map hardware_text m.dl_src))
+    ∷ (codes "dl_dst", text_value (option_map hardware_text m.dl_dst)) ∷ (codes "dl_vlan", number_value m.dl_vlan)
+    ∷ (codes "dl_vlan_pcp", number_value m.dl_vlan_pcp) ∷ (codes "dl_type", number_value m.dl_type) ∷ []
+
+abbrev pub network_entries : Pattern → List Entry
+network_entries m =
+    (codes "nw_tos", number_value m.nw_tos) ∷ (codes "nw_proto", number_value m.nw_proto)
+    ∷ (codes "nw_src", text_value (option_map prefix_text m.nw_src)) ∷ (codes "nw_dst", text_value (option_map prefix_text m.nw_dst))
+    ∷ (codes "tp_src", number_value m.tp_src) ∷ (codes "tp_dst", number_value m.tp_dst) ∷ []
+
+-- ---- the text
+
+-- a value on the right of `=`: a number, a text, or an array of texts on one line
+abbrev mutual
+  pub value_text : Data → List ℕ
+  value_text (integer (pos n)) = decimal n
+  value_text (string s) = string_text s
+  value_text (array items) = codes "[" ++ items_text true items
+  value_text d = []
+
+  pub items_text : Bool → Items → List ℕ
+  items_text is_first no_items = codes "]"
+  items_text is_first (item d rest) = before_item false is_first ++ (value_text d ++ items_text false rest)
+
+-- a line for each key that is written
+unfoldable pub entry_text : Entry → List ℕ
+entry_text (key, None) = []
+entry_text (key, Some d) = key ++ (codes " = " ++ (value_text d ++ codes "\n"))
+
+abbrev pub entries_text : List Entry → List ℕ
+entries_text [] = []
+entries_text (entry ∷ rest) = entry_text entry ++ entries_text rest
+
+-- a table of an array, under its header
+unfoldable pub slice_text : Slice → List ℕ
+slice_text s = codes "\n[[slice]]\n" ++ entries_text (slice_entries s)
+
+unfoldable pub rule_text : List Slice → Rule → List ℕ
+rule_text slices r = codes "\n[[rule]]\n" ++ (entries_text (own_entries slices r) ++ (entries_text (link_entries r.pattern) ++ entries_text (network_entries r.pattern)))
+
+abbrev pub slices_text : List Slice → List ℕ
+slices_text [] = []
+slices_text (s ∷ rest) = slice_text s ++ slices_text rest
+
+abbrev pub rules_text : List Slice → List Rule → List ℕ
+rules_text slices [] = []
+rules_text slices (r ∷ rest) = rule_text slices r ++ rules_text slices rest
+
+-- the version, the slices, and the rules in file order
+unfoldable pub text_of : PolicyView → List ℕ
+text_of p = codes "version = 1\n" ++ (slices_text p.slices ++ rules_text p.slices p.rules)
+
+-- what holds of each rule beside being plain: its match is normal, and its numbers have 64 and 32 bits
+pub record IsHeld (r : Rule) : Type 0 where
+  pub normal : IsNormal r.pattern
+  pub switch : IfSome r.switch (λ n. n < 2 ^ 64)
+  pub priority : r.priority < 2 ^ 32

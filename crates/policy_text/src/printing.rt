@@ -1,0 +1,375 @@
+//! Printing a policy.
+
+ghost use Rattle.std.specs.Prelude.{◌≡◌, false, ◌++◌, ◌∷◌, [], ◌<◌, ◌^◌, Ok, Some, IfOk, IfSome, OnOk, map, option_and_then, option_map, string_bytes};
+ghost use Rattle.toml.specs.Data.{string};
+ghost use Rattle.toml.specs.View.{items_of};
+ghost use Rattle.toml_writer.specs.Text.{string_text};
+ghost use Rattle.std.specs.List.{AllByRecursion};
+ghost use Rattle.flowspace.specs.Policies.{IsPolicy};
+ghost use Rattle.policy_text.specs.Documents.{document_of, policy_of};
+ghost use Rattle.policy_text.specs.Printing.{IsHeld, entries_text, entry_text, hardware_text, hex_glyph, hex_text, items_text, link_entries, name_at, names, names_in, network_entries, number_value, own_entries, pair_text, prefix_text, rule_text, rules_text, slice_text, slices_text, text_of, text_value, unless_default};
+
+use crate::slices::{BURST, QUOTA, RATE};
+use flowspace::{Policy, Rule, Slice};
+use of10_action::Bytes;
+use of10_model::{Pattern, Prefix};
+use std::alloc::{AllocError, Global};
+use std::fmt;
+
+/// A text as TOML writes it, between quotes.
+#[derive(Clone, Copy)]
+struct Quoted<'a>(&'a str);
+
+impl fmt::Display for Quoted<'_> {
+    ghost output = { λ q. Some (string_text q.0.now) };
+
+    fn fmt<W: fmt::Write>(&self, f: &mut fmt::Formatter<W>) -> fmt::Result {
+        toml_writer::write_string(f, self.0)
+    }
+}
+
+// ---- identifiers and addresses
+
+fn hex_glyph(n: u64) -> u8
+    requires { n < 16 }
+    ensures value { result ≡ hex_glyph n }
+    ensures ascii { result < 128 }
+{
+    if n < 10 { 48 + n as u8 } else { 87 + n as u8 }
+}
+
+fn push_byte(out: &mut String, byte: u8) -> Result<(), AllocError>
+    requires { byte < 128 }
+    ensures { OnOk result (string_bytes out.new ≡ string_bytes out.old ++ byte ∷ []) }
+{
+    out.push(char::from(byte))
+}
+
+#[tactic(auto, unfolding(crate::specs::Printing::hex_text))]
+fn push_hex(out: &mut String, n: u64) -> Result<(), AllocError>
+    ensures { OnOk result (string_bytes out.new ≡ string_bytes out.old ++ hex_text 16 n) }
+{
+    let mut left = 16u32;
+    while left > 0 {
+        left -= 1;
+        push_byte(out, hex_glyph((n >> (4 * left)) % 16))?;
+    }
+    Ok(())
+}
+
+fn push_pair(out: &mut String, n: u64) -> Result<(), AllocError>
+    ensures { OnOk result (string_bytes out.new ≡ string_bytes out.old ++ pair_text n) }
+{
+    push_byte(out, hex_glyph((n / 16) % 16))?;
+    push_byte(out, hex_glyph(n % 16))
+}
+
+fn hex_of(alloc: Global, n: u64) -> Result<String, AllocError>
+    ensures { IfOk result (λ s. string_bytes s ≡ hex_text 16 n) }
+{
+    let mut text = String::with_capacity(alloc, 16)?;
+    push_hex(&mut text, n)?;
+    Ok(text)
+}
+
+#[tactic(auto, unfolding(crate::specs::Printing::hardware_text))]
+fn hardware_of(alloc: Global, n: u64) -> Result<String, AllocError>
+    ensures { IfOk result (λ s. string_bytes s ≡ hardware_text n) }
+{
+    let mut text = String::with_capacity(alloc, 17)?;
+    push_pair(&mut text, n / 0x100_0000_0000 % 256)?;
+    text.push_str(":")?;
+    push_pair(&mut text, n / 0x1_0000_0000 % 256)?;
+    text.push_str(":")?;
+    push_pair(&mut text, n / 0x100_0000 % 256)?;
+    text.push_str(":")?;
+    push_pair(&mut text, n / 0x1_0000 % 256)?;
+    text.push_str(":")?;
+    push_pair(&mut text, n / 0x100 % 256)?;
+    text.push_str(":")?;
+    push_pair(&mut text, n % 256)?;
+    Ok(text)
+}
+
+#[tactic(auto, unfolding(crate::specs::Printing::prefix_text))]
+fn prefix_of(alloc: Global, p: &Prefix) -> Result<String, AllocError>
+    ensures { IfOk result (λ s. string_bytes s ≡ prefix_text p.now) }
+{
+    let (a, b) = (p.value / 0x100_0000 % 256, p.value / 0x1_0000 % 256);
+    let (c, d) = (p.value / 0x100 % 256, p.value % 256);
+    let bits = p.bits;
+    let mut text = format!(in alloc; "{a}.{b}.{c}.{d}")?;
+    if bits != 32 {
+        write!(text, "/{bits}")?;
+    }
+    Ok(text)
+}
+
+// ---- entries
+
+#[tactic(auto, unfolding(crate::specs::Printing::entry_text))]
+fn put_number(out: &mut String, key: &str, n: Option<u32>) -> Result<(), AllocError>
+    ensures text { OnOk result (string_bytes out.new ≡ string_bytes out.old ++ entry_text (key.now, number_value n)) }
+    ensures range { IfSome n (λ x. x < 2 ^ 32) }
+{
+    match n {
+        None => Ok(()),
+        Some(n) => write!(out, "{key} = {n}\n"),
+    }
+}
+
+fn put_number16(out: &mut String, key: &str, n: Option<u16>) -> Result<(), AllocError>
+    ensures { OnOk result (string_bytes out.new ≡ string_bytes out.old ++ entry_text (key.now, number_value n)) }
+{
+    match n {
+        None => put_number(out, key, None),
+        Some(n) => put_number(out, key, Some(u32::from(n))),
+    }
+}
+
+fn put_number8(out: &mut String, key: &str, n: Option<u8>) -> Result<(), AllocError>
+    ensures { OnOk result (string_bytes out.new ≡ string_bytes out.old ++ entry_text (key.now, number_value n)) }
+{
+    match n {
+        None => put_number(out, key, None),
+        Some(n) => put_number(out, key, Some(u32::from(n))),
+    }
+}
+
+#[tactic(auto, unfolding(crate::specs::Printing::entry_text))]
+fn put_text(out: &mut String, key: &str, text: Option<&str>) -> Result<(), AllocError>
+    ensures { OnOk result (string_bytes out.new ≡ string_bytes out.old ++ entry_text (key.now, text_value (option_map (λ s. s.now) text.entry))) }
+{
+    match text {
+        None => Ok(()),
+        Some(text) => {
+            let text = Quoted(text);
+            write!(out, "{key} = {text}\n")
+        }
+    }
+}
+
+fn put_list(out: &mut String, texts: &[&str]) -> Result<(), AllocError>
+    ensures { OnOk result (string_bytes out.new ≡ string_bytes out.old ++ items_text false (items_of (map string (map (λ s. s.now) texts.now)))) }
+{
+    let mut rest = texts;
+    while let [text, after @ ..] = rest {
+        let text = Quoted(text);
+        write!(out, ", {text}")?;
+        rest = after;
+    }
+    out.push_str("]")
+}
+
+#[tactic(auto, unfolding(crate::specs::Printing::entry_text))]
+fn put_names(out: &mut String, key: &str, texts: &[&str]) -> Result<(), AllocError>
+    ensures { OnOk result (string_bytes out.new ≡ string_bytes out.old ++ entry_text (key.now, names (map (λ s. s.now) texts.now))) }
+{
+    match texts {
+        [] => Ok(()),
+        [first, rest @ ..] => {
+            let first = Quoted(first);
+            write!(out, "{key} = [{first}")?;
+            put_list(out, rest)?;
+            out.push_str("\n")
+        }
+    }
+}
+
+#[tactic(auto, unfolding(crate::specs::Printing::entry_text))]
+fn put_unless(out: &mut String, key: &str, default: u32, n: u32) -> Result<(), AllocError>
+    ensures { OnOk result (string_bytes out.new ≡ string_bytes out.old ++ entry_text (key.now, unless_default default n)) }
+{
+    if n == default {
+        Ok(())
+    } else {
+        write!(out, "{key} = {n}\n")
+    }
+}
+
+fn put_datapath(
+    out: &mut String,
+    alloc: Global,
+    key: &str,
+    n: Option<u64>,
+) -> Result<(), AllocError>
+    ensures text { OnOk result (string_bytes out.new ≡ string_bytes out.old ++ entry_text (key.now, text_value (option_map (hex_text 16) n))) }
+    ensures range { IfSome n (λ x. x < 2 ^ 64) }
+{
+    match n {
+        None => put_text(out, key, None),
+        Some(n) => put_text(out, key, Some(hex_of(alloc, n)?.as_str())),
+    }
+}
+
+fn put_hardware(
+    out: &mut String,
+    alloc: Global,
+    key: &str,
+    n: Option<u64>,
+) -> Result<(), AllocError>
+    ensures { OnOk result (string_bytes out.new ≡ string_bytes out.old ++ entry_text (key.now, text_value (option_map hardware_text n))) }
+{
+    match n {
+        None => put_text(out, key, None),
+        Some(n) => put_text(out, key, Some(hardware_of(alloc, n)?.as_str())),
+    }
+}
+
+fn put_prefix(
+    out: &mut String,
+    alloc: Global,
+    key: &str,
+    p: Option<Prefix>,
+) -> Result<(), AllocError>
+    ensures { OnOk result (string_bytes out.new ≡ string_bytes out.old ++ entry_text (key.now, text_value (option_map prefix_text p))) }
+{
+    match p {
+        None => put_text(out, key, None),
+        Some(p) => put_text(out, key, Some(prefix_of(alloc, &p)?.as_str())),
+    }
+}
+
+// ---- tables
+
+#[tactic(auto, unfolding(crate::specs::Printing::slice_text))]
+fn put_slice(out: &mut String, slice: &Slice) -> Result<(), AllocError>
+    ensures { OnOk result (string_bytes out.new ≡ string_bytes out.old ++ slice_text slice.now) }
+{
+    out.push_str("\n[[slice]]\n")?;
+    put_text(out, "name", Some(slice.name.as_str()))?;
+    put_text(out, "controller", Some(slice.controller.as_str()))?;
+    put_unless(out, "rate", RATE, slice.rate)?;
+    put_unless(out, "burst", BURST, slice.burst)?;
+    put_unless(out, "quota", QUOTA, slice.quota)?;
+    Ok(())
+}
+
+fn name_at(slices: &[Slice], slot: Option<u8>) -> Option<&str>
+    ensures { option_map (λ s. s.now) result ≡ option_and_then (name_at slices.now) slot }
+{
+    match slices.get(usize::from(slot?)) {
+        Some(slice) => Some(slice.name.as_str()),
+        None => None,
+    }
+}
+
+fn names_in(alloc: Global, bits: u32, slices: &[Slice]) -> Result<Vec<&str>, AllocError>
+    ensures { IfOk result (λ v. map (λ s. s.now) v.items ≡ names_in bits slices.now) }
+{
+    let mut names = Vec::new(alloc);
+    let mut left = bits;
+    let mut rest = slices;
+    while let [slice, after @ ..] = rest {
+        if left % 2 == 1 {
+            names.push(slice.name.as_str())?;
+        }
+        left /= 2;
+        rest = after;
+    }
+    Ok(names)
+}
+
+fn put_own(out: &mut String, alloc: Global, slices: &[Slice], rule: &Rule) -> Result<(), AllocError>
+    ensures text { OnOk result (string_bytes out.new ≡ string_bytes out.old ++ entries_text (own_entries slices.now rule.now)) }
+    ensures switch { OnOk result (IfSome rule.now.switch (λ n. n < 2 ^ 64)) }
+    ensures priority { OnOk result (rule.now.priority < 2 ^ 32) }
+{
+    let readers = names_in(alloc, rule.readers, slices)?;
+    put_datapath(out, alloc, "switch", rule.switch)?;
+    put_number(out, "priority", Some(rule.priority))?;
+    put_text(out, "write", name_at(slices, rule.writer))?;
+    put_names(out, "read", &readers)?;
+    Ok(())
+}
+
+fn put_link(out: &mut String, alloc: Global, m: &Pattern) -> Result<(), AllocError>
+    ensures { OnOk result (string_bytes out.new ≡ string_bytes out.old ++ entries_text (link_entries m.now)) }
+{
+    put_number16(out, "in_port", m.in_port)?;
+    put_hardware(out, alloc, "dl_src", m.dl_src)?;
+    put_hardware(out, alloc, "dl_dst", m.dl_dst)?;
+    put_number16(out, "dl_vlan", m.dl_vlan)?;
+    put_number8(out, "dl_vlan_pcp", m.dl_vlan_pcp)?;
+    put_number16(out, "dl_type", m.dl_type)?;
+    Ok(())
+}
+
+fn put_network(out: &mut String, alloc: Global, m: &Pattern) -> Result<(), AllocError>
+    ensures { OnOk result (string_bytes out.new ≡ string_bytes out.old ++ entries_text (network_entries m.now)) }
+{
+    put_number8(out, "nw_tos", m.nw_tos)?;
+    put_number8(out, "nw_proto", m.nw_proto)?;
+    put_prefix(out, alloc, "nw_src", m.nw_src)?;
+    put_prefix(out, alloc, "nw_dst", m.nw_dst)?;
+    put_number16(out, "tp_src", m.tp_src)?;
+    put_number16(out, "tp_dst", m.tp_dst)?;
+    Ok(())
+}
+
+#[tactic(auto, unfolding(crate::specs::Printing::rule_text))]
+fn put_rule(
+    out: &mut String,
+    alloc: Global,
+    slices: &[Slice],
+    rule: &Rule,
+) -> Result<(), AllocError>
+    ensures text { OnOk result (string_bytes out.new ≡ string_bytes out.old ++ rule_text slices.now rule.now) }
+    ensures held { OnOk result (IsHeld rule.now) }
+{
+    out.push_str("\n[[rule]]\n")?;
+    put_own(out, alloc, slices, rule)?;
+    put_link(out, alloc, rule.pattern.pattern())?;
+    put_network(out, alloc, rule.pattern.pattern())?;
+    Ok(())
+}
+
+fn put_slices(out: &mut String, slices: &[Slice]) -> Result<(), AllocError>
+    ensures { OnOk result (string_bytes out.new ≡ string_bytes out.old ++ slices_text slices.now) }
+{
+    let mut rest = slices;
+    while let [slice, after @ ..] = rest {
+        put_slice(out, slice)?;
+        rest = after;
+    }
+    Ok(())
+}
+
+fn put_rules(
+    out: &mut String,
+    alloc: Global,
+    slices: &[Slice],
+    rules: &[Rule],
+) -> Result<(), AllocError>
+    ensures text { OnOk result (string_bytes out.new ≡ string_bytes out.old ++ rules_text slices.now rules.now) }
+    ensures held { OnOk result (AllByRecursion IsHeld rules.now) }
+{
+    let mut rest = rules;
+    while let [rule, after @ ..] = rest {
+        put_rule(out, alloc, slices, rule)?;
+        rest = after;
+    }
+    Ok(())
+}
+
+#[tactic(auto, unfolding(crate::specs::Printing::text_of))]
+fn text_of(alloc: Global, policy: &Policy) -> Result<String, AllocError>
+    ensures text { IfOk result (λ s. string_bytes s ≡ text_of policy.now) }
+    ensures held { IfOk result (λ _. AllByRecursion IsHeld policy.now.rules) }
+    ensures policy { IfOk result (λ _. IsPolicy policy.now.slices policy.now.rules) }
+{
+    let mut text = String::from_str(alloc, "version = 1\n")?;
+    put_slices(&mut text, policy.slices())?;
+    put_rules(&mut text, alloc, policy.slices(), policy.rules())?;
+    Ok(text)
+}
+
+/// A text of the policy, which is read as this policy again. It has the version, the slices, and the
+/// rules in file order; the fields of each stand in one order, and those with their default are left out.
+pub fn print(alloc: Global, policy: &Policy) -> Result<Bytes, AllocError>
+    ensures text { IfOk result (λ b. b ≡ text_of policy.now) }
+    ensures read_again { IfOk result (λ b. policy_of (document_of b) ≡ Ok policy.now) }
+{
+    let text = text_of(alloc, policy)?;
+    Ok(Bytes::from_vec(text.into_bytes()))
+}
