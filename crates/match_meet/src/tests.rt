@@ -1,10 +1,14 @@
+mod covers;
 mod draws;
+mod membership;
 mod spelling;
 
 ghost use Rattle.of10_action.specs.Actions.{HasAddress};
 
 use crate::{disjoint, includes, includes_aside, meet, rewrite, rewrite_header};
+use covers::expected;
 use draws::{Draws, FIRST_HEADER};
+use membership::{header_aside, is_in, shared_header};
 use of10_action::Action;
 use of10_match::{Header12, Match};
 use of10_model::{Pattern, Prefix};
@@ -234,21 +238,46 @@ fn network_fields_and_ports_are_rewritten_where_they_are(rt: HostRuntime) {
     assert_eq!(rt; rewrite_header(&arp, &Action::SetTpDst(9)), arp);
 }
 
-/// Whether the set operations on two matches agree with whether this header is in them.
+/// Whether what two matches share agrees with plain membership of this header, and of one that is in
+/// both wherever some header is.
+fn shares(a: &Match, b: &Match, h: &Header12) -> bool {
+    let (first, second) = (a.pattern(), b.pattern());
+    let shared = shared_header(first, second);
+    let is_shared = is_in(first, &shared) && is_in(second, &shared);
+    let in_both = is_in(first, h) && is_in(second, h);
+    disjoint(a, b) != is_shared
+        && (is_shared || !in_both)
+        && match meet(a, b) {
+            None => !is_shared,
+            Some(r) => is_in(r.pattern(), &shared) && is_in(r.pattern(), h) == in_both,
+        }
+}
+
+/// Whether the answer, that each header of the second match is in the first, agrees with plain
+/// membership of this header, and of one that is in the first only then.
+fn tells(a: &Pattern, b: &Pattern, includes: bool, h: &Header12) -> bool {
+    let aside = header_aside(a, b);
+    is_in(b, &aside) && is_in(a, &aside) == includes && (is_in(a, h) || !is_in(b, h) || !includes)
+}
+
 fn agree(a: &Match, b: &Match, h: &Header12) -> bool {
-    let in_a = a.matches(h);
-    let in_b = b.matches(h);
-    let common = meet(a, b);
-    let at_port = Header12 {
-        in_port: a.pattern().in_port.unwrap_or(h.in_port),
-        ..*h
+    let any_port = Pattern {
+        in_port: None,
+        ..*a.pattern()
     };
-    (in_a && in_b) == common.is_some_and(|r| r.matches(h))
-        && common.is_none() == disjoint(a, b)
-        && includes(a, b) == (common == Some(*b))
-        && (in_a || !in_b || !includes(a, b))
-        && (includes_aside(a, b) || !includes(a, b))
-        && (a.matches(&at_port) || !in_b || !includes_aside(a, b))
+    a.matches(h) == is_in(a.pattern(), h)
+        && shares(a, b, h)
+        && tells(a.pattern(), b.pattern(), includes(a, b), h)
+        && tells(&any_port, b.pattern(), includes_aside(a, b), h)
+}
+
+/// Whether the cover has the table's constraints, and the rewritten header where it had the header.
+fn is_covered(m: &Match, action: &Action, h: &Header12) -> bool
+    requires { HasAddress action.now }
+{
+    let cover = rewrite(m, action);
+    *cover.pattern() == expected(m, action)
+        && (is_in(cover.pattern(), &rewrite_header(h, action)) || !is_in(m.pattern(), h))
 }
 
 #[test]
@@ -261,10 +290,9 @@ fn sets_and_covers_agree_with_membership(rt: HostRuntime) {
         let b = match_of(&draws.pattern_near(&h));
         h = draws.changed(&h);
         let action = draws.action();
-        let after = rewrite_header(&h, &action);
         assert!(rt; agree(&a, &b, &h), "{a:?} and {b:?} at {h:?}");
         assert!(rt;
-            !a.matches(&h) || rewrite(&a, &action).matches(&after),
+            is_covered(&a, &action, &h),
             "{a:?} after {action:?} at {h:?}"
         );
     }

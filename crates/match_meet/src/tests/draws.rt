@@ -181,8 +181,8 @@ impl Draws {
         ensures { HasAddress result }
     {
         match self.below(12) {
-            0 => Action::SetVlanVid(u16::from(self.below(3))),
-            1 => Action::SetVlanPcp(self.below(3)),
+            0 => Action::SetVlanVid(0x0fff + u16::from(self.below(3))),
+            1 => Action::SetVlanPcp(self.below(16)),
             2 => Action::StripVlan,
             3 => Action::SetDlSrc(u64::from(self.below(3))),
             4 => Action::SetDlDst(u64::from(self.below(3))),
