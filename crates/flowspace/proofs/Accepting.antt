@@ -1,5 +1,5 @@
 -- Slices and rules have no fault exactly where they are a policy.
-use Rattle.std.proofs.Common.{◌≡◌, ◌≢◌, ◌↔◌, ℕ, ◌+◌, ◌<◌, ◌≤◌, ◌^◌, Bool, true, false, ◌&&◌, nat_lt, List, [], ◌∷◌, length, get_or, take, map, find, All, AllPairs, count_by, bytes_eq, IfSome, Option, Some, None, option_map, Ok, Err, refl, sym, ap, ◌∙◌, arith, inl, inr}
+use Rattle.std.proofs.Common.{◌≡◌, ◌↔◌, ℕ, ◌+◌, ◌<◌, ◌≤◌, ◌^◌, Bool, true, false, ◌&&◌, nat_lt, List, [], ◌∷◌, length, get_or, take, map, find, All, AllPairs, count_by, bytes_eq, IfSome, Option, Some, None, option_map, Ok, Err, refl, sym, ap, ◌∙◌, arith, inl, inr}
 use Rattle.std.proofs.lemmas.Bool.{cases_Bool, cases_lt, and_parts, and_from, cond-true, cond-false, false_from_ne_true, ltb-false, ltb-true, lt-ltb, le-ltb, ne_eqb}
 use Rattle.std.proofs.lemmas.List.{get_or-take, get_or_default, get_or-map, length-map, length-take-le}
 use Rattle.std.proofs.lemmas.List.Elements.{All-head, All-tail}
@@ -17,6 +17,7 @@ use Rattle.flowspace.specs.Slices.{IsPlainSlice}
 use Rattle.flowspace.specs.Rules.{IsPlainRule, is_written_by, is_slot, is_own_reader, is_refused, Yields}
 use Rattle.flowspace.specs.Order.{ranked, in_order, IsAccepted}
 use Rattle.flowspace.specs.Policies.{IsPolicy, AreNormal}
+use Rattle.flowspace.specs.Faults.{NamesDiffer}
 use Rattle.flowspace.specs.Loading.{first_of_faults, first_along, excess, name_fault, rule_fault, writes_fault, filed, filed_in_order, overlap_fault, fault_of, load_of}
 use Rattle.flowspace.proofs.Ranking.{map-ranked}
 use Rattle.flowspace.proofs.Ordering.{rank_of, IsPermutation-in_order}
@@ -37,10 +38,7 @@ None-excess what limit count le = cond-false (nat_lt limit count) _ _ (le-ltb li
 
 -- ---- names
 
-abbrev NamesDiffer : List Slice → Type 0
-NamesDiffer ss = AllPairs (λ s t. s.name ≢ t.name) ss
-
-names_differ : (ss : List Slice) → first_along name_fault [] ss ≡ None → NamesDiffer ss
+pub names_differ : (ss : List Slice) → first_along name_fault [] ss ≡ None → NamesDiffer ss
 names_differ ss e = λ i j d lt long. λ same.
     let none : name_fault (take j ss) (get_or ss j d) ≡ None = none_along name_fault [] ss e j d long in
     let len : length (take j ss) ≡ j = length-take-le j ss (omega arith) in
@@ -63,22 +61,22 @@ no_name_twice ss differ =
 
 -- ---- slots
 
-IfSome-is_slot : (count : ℕ) (o : Option ℕ) → is_slot count o ≡ true → IfSome o (λ w. w < count)
+pub IfSome-is_slot : (count : ℕ) (o : Option ℕ) → is_slot count o ≡ true → IfSome o (λ w. w < count)
 IfSome-is_slot count None e = tt
 IfSome-is_slot count (Some w) e = ltb-true w count e
 
-is_slot-IfSome : (count : ℕ) (o : Option ℕ) → IfSome o (λ w. w < count) → is_slot count o ≡ true
+pub is_slot-IfSome : (count : ℕ) (o : Option ℕ) → IfSome o (λ w. w < count) → is_slot count o ≡ true
 is_slot-IfSome count None h = refl
 is_slot-IfSome count (Some w) h = lt-ltb w count h
 
 -- what a rule without a fault says
-record IsSound (slots : ℕ) (rule : Rule) : Type 0 where
-  writer_known : IfSome rule.writer (λ w. w < slots)
-  readers_known : rule.readers < 2 ^ slots
-  readers_apart : is_own_reader rule ≡ false
+pub record IsClear (slots : ℕ) (rule : Rule) : Type 0 where
+  pub writer_known : IfSome rule.writer (λ w. w < slots)
+  pub readers_known : rule.readers < 2 ^ slots
+  pub readers_apart : is_own_reader rule ≡ false
 
-IsSound-rule_fault : (slots : ℕ) (before : List Rule) (rule : Rule) → rule_fault slots before rule ≡ None → IsSound slots rule
-IsSound-rule_fault slots before rule e =
+pub IsClear-rule_fault : (slots : ℕ) (before : List Rule) (rule : Rule) → rule_fault slots before rule ≡ None → IsClear slots rule
+IsClear-rule_fault slots before rule e =
     elim (cases_Bool (is_slot slots rule.writer && nat_lt rule.readers (2 ^ slots))) [
       | inr unknown ↦ let clash = sym (cond-false _ _ _ unknown) ∙ e in absurd (cc)
       | inl known ↦
@@ -95,16 +93,16 @@ IsSound-rule_fault slots before rule e =
           ]
     ]
 
-rule_fault-IsSound : (slots : ℕ) (before : List Rule) (rule : Rule) → IsSound slots rule → rule_fault slots before rule ≡ None
-rule_fault-IsSound slots before rule sound =
+rule_fault-IsClear : (slots : ℕ) (before : List Rule) (rule : Rule) → IsClear slots rule → rule_fault slots before rule ≡ None
+rule_fault-IsClear slots before rule sound =
     cond-true _ _ _ (and_from (is_slot slots rule.writer) (nat_lt rule.readers (2 ^ slots)) (is_slot-IfSome slots rule.writer sound.writer_known) (lt-ltb rule.readers (2 ^ slots) sound.readers_known))
     ∙ cond-false (is_own_reader rule) _ _ sound.readers_apart
 
-sound_rules : (slots : ℕ) (rs : List Rule) → first_along (rule_fault slots) [] rs ≡ None → All (IsSound slots) rs
-sound_rules slots rs e = λ k d lt. IsSound-rule_fault slots (take k rs) (get_or rs k d) (none_along (rule_fault slots) [] rs e k d lt)
+pub sound_rules : (slots : ℕ) (rs : List Rule) → first_along (rule_fault slots) [] rs ≡ None → All (IsClear slots) rs
+sound_rules slots rs e = λ k d lt. IsClear-rule_fault slots (take k rs) (get_or rs k d) (none_along (rule_fault slots) [] rs e k d lt)
 
-no_rule_fault : (slots : ℕ) (rs : List Rule) → All (IsSound slots) rs → first_along (rule_fault slots) [] rs ≡ None
-no_rule_fault slots rs sound = along_none (rule_fault slots) [] rs (λ k d lt. rule_fault-IsSound slots (take k rs) (get_or rs k d) (sound k d lt))
+no_rule_fault : (slots : ℕ) (rs : List Rule) → All (IsClear slots) rs → first_along (rule_fault slots) [] rs ≡ None
+no_rule_fault slots rs sound = along_none (rule_fault slots) [] rs (λ k d lt. rule_fault-IsClear slots (take k rs) (get_or rs k d) (sound k d lt))
 
 -- ---- rules of one slice
 
@@ -116,7 +114,7 @@ none_counted : (p : Rule → Bool) (rs : List Rule) → All (λ r. p r ≡ false
 none_counted p [] h = refl
 none_counted p (r ∷ rs) h = rw (All-head (λ r. p r ≡ false) r rs h, none_counted p rs (All-tail (λ r. p r ≡ false) r rs h)) refl
 
-few_writes : (ss : List Slice) (rs : List Rule) → All (IsSound (length ss)) rs → first_along (writes_fault rs) [] ss ≡ None → (slot : ℕ) → count_by (is_written_by slot) rs ≤ 256
+pub few_writes : (ss : List Slice) (rs : List Rule) → All (IsClear (length ss)) rs → first_along (writes_fault rs) [] ss ≡ None → (slot : ℕ) → count_by (is_written_by slot) rs ≤ 256
 few_writes [] rs sound e slot =
     let none = none_counted (is_written_by slot) rs (λ k d lt. is_written_by-past 0 slot (get_or rs k d).writer (omega arith) (sound k d lt).writer_known) in omega arith
 few_writes (s ∷ ss) rs sound e slot =

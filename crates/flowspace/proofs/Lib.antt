@@ -9,3 +9,4 @@ pub mod Refusing
 pub mod Accepting
 pub mod Overlapping
 pub mod Owning
+pub mod Faulty

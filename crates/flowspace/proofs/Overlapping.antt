@@ -360,7 +360,7 @@ overlap_found ss rs i j h =
     (not_along (writes_fault rs) ss (Overlap i j) (λ before slice. no_excess Writes 256 (count_by (is_written_by (length before)) rs) i j))
     h
 
-refused_load : (ss : List Slice) (rs : List Rule) (fault : PolicyFault) (o : Option PolicyFault) → fault_of ss rs ≡ o → load_of ss rs ≡ Err fault → o ≡ Some fault
+pub refused_load : (ss : List Slice) (rs : List Rule) (fault : PolicyFault) (o : Option PolicyFault) → fault_of ss rs ≡ o → load_of ss rs ≡ Err fault → o ≡ Some fault
 refused_load ss rs fault None is e = let loaded : Result PolicyView PolicyFault = Ok (record { slices = ss; rules = rs }) in let clash : loaded ≡ Err fault = rw (is, load_of) at e in absurd (cc)
 refused_load ss rs fault (Some x) is e = let refused : Result PolicyView PolicyFault = Err x in let same : refused ≡ Err fault = rw (is, load_of) at e in cc
 

@@ -4,3 +4,4 @@ pub mod Order
 pub mod Policies
 pub mod Loading
 pub mod Owners
+pub mod Faults

@@ -4,6 +4,7 @@ ghost use Rattle.std.specs.Prelude.{ℕ, List, ◌≡◌, ◌≤◌, ◌↔◌, 
 ghost use Rattle.of10_model.specs.declared.pattern.Pattern.{Pattern};
 ghost use Rattle.of10_model.specs.Header.{Header, IsHeader};
 ghost use Rattle.of10_model.specs.Normal.{IsNormal};
+ghost use Rattle.flowspace.specs.declared.fault.PolicyFault.{PolicyFault};
 ghost use Rattle.flowspace.specs.declared.fault.PolicyFault.TheVariants.{Overlap};
 ghost use Rattle.flowspace.specs.declared.slices.Slice.{Slice};
 ghost use Rattle.flowspace.specs.declared.rules.Rule.{Rule};
@@ -11,6 +12,7 @@ ghost use Rattle.flowspace.specs.Slices.{IsPlainSlice};
 ghost use Rattle.flowspace.specs.Rules.{IsPlainRule};
 ghost use Rattle.flowspace.specs.Order.{rules_on};
 ghost use Rattle.flowspace.specs.Policies.{IsPolicy, IsSwitchPolicy, AreNormal, IsFirstOverlap};
+ghost use Rattle.flowspace.specs.Faults.{IsFirstFault};
 ghost use Rattle.flowspace.specs.Loading.{load_of};
 ghost use Rattle.flowspace.specs.Owners.{Writes, HasWriteRule, owner_of_match, IsOwner, Owns};
 
@@ -18,6 +20,13 @@ ghost use Rattle.flowspace.specs.Owners.{Writes, HasWriteRule, owner_of_match, I
 /// their slices and are accepted.
 pub fn what_is_accepted_is_loaded()
     ensures { (slices : List Slice) (rules : List Rule) → 1 ≤ length slices → All IsPlainSlice slices → All IsPlainRule rules → AreNormal rules → (load_of slices rules ≡ Ok (record { slices = slices; rules = rules })) ↔ IsPolicy slices rules }
+{}
+
+/// What is refused is refused for its first fault: too many slices, else too many rules, else the first
+/// slice that has the name of an earlier one, else the first rule in the file that names no slice or
+/// whose writer reads, else the rules of the first slot that writes too many, else an overlap.
+pub fn what_is_refused_has_a_first_fault()
+    ensures { (slices : List Slice) (rules : List Rule) (fault : PolicyFault) → AreNormal rules → load_of slices rules ≡ Err fault → IsFirstFault slices rules fault }
 {}
 
 /// An overlap names two rules of which the first comes before the second, that share a header on a
