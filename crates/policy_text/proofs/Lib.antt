@@ -14,3 +14,4 @@ pub mod PrintedLines
 pub mod PrintedReaders
 pub mod PrintedTables
 pub mod PrintedPolicy
+pub mod Named

@@ -10,6 +10,7 @@ ghost use Rattle.policy_text.specs.Rules.{rules_from};
 ghost use Rattle.policy_text.specs.Views.{parts_view, section};
 
 use crate::fault::{Part, ReadFault};
+use crate::names::Names;
 use crate::rules::rules;
 use crate::section::Section;
 use crate::slices::slices;
@@ -25,15 +26,15 @@ struct Parts {
     rules: Vec<Rule>,
 }
 
-fn rules_under(
+fn rules_under<'a>(
     alloc: Global,
-    slices: &[Slice],
-    tables: Option<&[Value]>,
+    slices: &'a [Slice],
+    tables: Option<&'a [Value]>,
 ) -> Result<Vec<Rule>, ReadFault>
     ensures { Gives (λ v. v.items) result (rules_from slices.now 0 (unwrap_or (option_map (λ v. items_view v.now) tables.entry) no_items)) }
 {
     match tables {
-        Some(tables) => rules(alloc, slices, tables),
+        Some(tables) => rules(alloc, &Names::of(alloc, slices)?, tables),
         None => Ok(Vec::new(alloc)),
     }
 }

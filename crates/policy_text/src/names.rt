@@ -1,55 +1,99 @@
 //! The slices that a rule names.
 
-ghost use Rattle.std.specs.Prelude.{◌≡◌, map, nat_eq, option_map};
+ghost use Rattle.std.specs.Prelude.{◌≡◌, IfOk, map, nat_eq, option_map};
 ghost use Rattle.std.specs.List.{list_any};
 ghost use Rattle.policy_text.specs.Reading.{Gives};
 ghost use Rattle.policy_text.specs.Rules.{are_different, bits_below, named, slot_of, slots_of, writer_of};
 
 use crate::fault::ReadFault;
 use flowspace::{PolicyFault, Slice};
-use std::alloc::Global;
+use std::alloc::{AllocError, Global};
+use std::collections::{BTreeMap, BTreeSet};
+use std::marker::Model;
 
-fn slot_of(slices: &[Slice], name: &str) -> Option<usize>
-    ensures { result ≡ slot_of slices.now name.now }
-{
-    slices.iter().position(|slice| slice.name.as_str() == name)
+/// Slices that are found by their names.
+#[derive(Drop)]
+pub struct Names<'a> {
+    slices: &'a [Slice],
+    slots: BTreeMap<&'a str, usize>,
 }
 
-fn named_slot(slices: &[Slice], index: u64, name: &str) -> Result<usize, ReadFault>
-    ensures { Gives (λ slot. slot) result (named index (slot_of slices.now name.now)) }
+impl<'a> Model for Names<'a> {
+    ghost use Rattle.std.specs.Prelude.{ℕ, ◌≡◌, List};
+    ghost use Rattle.std.specs.BTreeMap.{get_by};
+    ghost use Rattle.std.specs.Ordering.{nat_cmp};
+    ghost use Rattle.std.specs.Cmp.Lexicographic.{slice_cmp};
+    ghost use Rattle.flowspace.specs.declared.slices.Slice.{Slice};
+    ghost use Rattle.policy_text.specs.Rules.{slot_of};
+
+    ghost Value = { List Slice };
+
+    ghost view = { λ n. n.slices.now };
+
+    ghost invariant = { λ n. (name : List ℕ) → get_by (λ k. slice_cmp nat_cmp name k.now) n.slots ≡ slot_of n.slices.now name };
+}
+
+impl<'a> Names<'a> {
+    /// The slot of a name is the place of the first slice that has it.
+    pub fn of(alloc: Global, slices: &'a [Slice]) -> Result<Names<'a>, AllocError>
+        ensures { IfOk result (λ n. n ≡ slices.now) }
+    {
+        let mut slots = BTreeMap::new(alloc);
+        let mut slot = slices.len();
+        while slot > 0 {
+            let place = slot - 1;
+            slots.insert(slices[place].name.as_str(), place)?;
+            slot = place;
+        }
+        Ok(Names { slices, slots })
+    }
+
+    fn slot_of(&self, name: &'a str) -> Option<usize>
+        ensures { result ≡ slot_of self.now name.now }
+    {
+        self.slots.get(&name).copied()
+    }
+}
+
+fn named_slot<'a>(names: &Names<'a>, index: u64, name: &'a str) -> Result<usize, ReadFault>
+    ensures { Gives (λ slot. slot) result (named index (slot_of names.now name.now)) }
 {
-    match slot_of(slices, name) {
+    match names.slot_of(name) {
         Some(slot) => Ok(slot),
         None => Err(ReadFault::Refused(PolicyFault::UnknownSlice(index))),
     }
 }
 
 /// The slot of the writer of rule `index`.
-pub fn writer(slices: &[Slice], index: u64, name: Option<&str>) -> Result<Option<u8>, ReadFault>
-    ensures { Gives (λ w. w) result (writer_of slices.now index (option_map (λ s. s.now) name.entry)) }
+pub fn writer<'a>(
+    names: &Names<'a>,
+    index: u64,
+    name: Option<&'a str>,
+) -> Result<Option<u8>, ReadFault>
+    ensures { Gives (λ w. w) result (writer_of names.now index (option_map (λ s. s.now) name.entry)) }
 {
     match name {
         None => Ok(None),
         Some(name) => {
-            let slot = named_slot(slices, index, name)?;
+            let slot = named_slot(names, index, name)?;
             Ok(Some((slot % 256) as u8))
         }
     }
 }
 
 /// The slots of the readers of rule `index`.
-pub fn slots(
+pub fn slots<'a>(
     alloc: Global,
-    slices: &[Slice],
+    names: &Names<'a>,
     index: u64,
-    names: &[&str],
+    readers: &[&'a str],
 ) -> Result<Vec<usize>, ReadFault>
-    ensures { Gives (λ v. v.items) result (slots_of slices.now index (map (λ s. s.now) names.now)) }
+    ensures { Gives (λ v. v.items) result (slots_of names.now index (map (λ s. s.now) readers.now)) }
 {
     let mut slots = Vec::new(alloc);
-    let mut rest = names;
+    let mut rest = readers;
     while let [name, after @ ..] = rest {
-        slots.push(named_slot(slices, index, name)?)?;
+        slots.push(named_slot(names, index, name)?)?;
         rest = after;
     }
     Ok(slots)
@@ -61,8 +105,7 @@ fn has(slots: &[usize], slot: usize) -> bool
     slots.iter().any(|other| slot == *other)
 }
 
-/// Whether no slot stands twice.
-pub fn are_different(slots: &[usize]) -> bool
+fn few_are_different(slots: &[usize]) -> bool
     ensures { result ≡ are_different slots.now }
 {
     let mut rest = slots;
@@ -73,6 +116,29 @@ pub fn are_different(slots: &[usize]) -> bool
         rest = after;
     }
     true
+}
+
+fn many_are_different(alloc: Global, slots: &[usize]) -> Result<bool, AllocError>
+    ensures { IfOk result (λ different. different ≡ are_different slots.now) }
+{
+    let mut seen = BTreeSet::new(alloc);
+    for slot in slots {
+        if !seen.insert(*slot)? {
+            return Ok(false);
+        }
+    }
+    Ok(true)
+}
+
+/// Whether no slot stands twice.
+pub fn are_different(alloc: Global, slots: &[usize]) -> Result<bool, AllocError>
+    ensures { IfOk result (λ different. different ≡ are_different slots.now) }
+{
+    if slots.len() <= 32 {
+        Ok(few_are_different(slots))
+    } else {
+        many_are_different(alloc, slots)
+    }
 }
 
 /// The slots as bits: bit k is slot k.

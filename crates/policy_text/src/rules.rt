@@ -8,11 +8,11 @@ ghost use Rattle.policy_text.specs.Rules.{names_under, proper, rule_from, rule_i
 ghost use Rattle.policy_text.specs.Views.{rule_text_view, section};
 
 use crate::fault::{Part, Place, ReadFault};
-use crate::names::{are_different, bits, slots, writer};
+use crate::names::{Names, are_different, bits, slots, writer};
 use crate::pattern::{first_improper, pattern_in};
 use crate::section::Section;
 use crate::values::{Numbers, Numerals, Texts};
-use flowspace::{Field, Rule, Slice, Text};
+use flowspace::{Field, Rule, Text};
 use of10_match::Match;
 use of10_model::Pattern;
 use std::alloc::Global;
@@ -56,10 +56,10 @@ fn rule_text_in<'a>(table: &Section<'a>) -> Result<RuleText<'a>, ReadFault>
     })
 }
 
-fn proper(index: u64, slots: &[usize], pattern: &Pattern) -> Result<(), ReadFault>
+fn proper(alloc: Global, index: u64, slots: &[usize], pattern: &Pattern) -> Result<(), ReadFault>
     ensures { Gives (λ u. u) result (proper index slots.now pattern.now) }
 {
-    if !are_different(slots) {
+    if !are_different(alloc, slots)? {
         return Err(ReadFault::Improper(index, Field::Read));
     }
     match first_improper(pattern) {
@@ -69,18 +69,18 @@ fn proper(index: u64, slots: &[usize], pattern: &Pattern) -> Result<(), ReadFaul
 }
 
 #[tactic(auto, unfolding(crate::specs::Rules::rule_from))]
-fn rule_from(
+fn rule_from<'a>(
     alloc: Global,
-    slices: &[Slice],
+    names: &Names<'a>,
     index: u64,
-    text: &RuleText<'_>,
+    text: &RuleText<'a>,
 ) -> Result<Rule, ReadFault>
     requires { IsInRange text.now.pattern }
-    ensures { Gives (λ r. r) result (rule_from slices.now index (rule_text_view text.now)) }
+    ensures { Gives (λ r. r) result (rule_from names.now index (rule_text_view text.now)) }
 {
-    let writer = writer(slices, index, text.write)?;
-    let slots = slots(alloc, slices, index, &text.read)?;
-    proper(index, &slots, &text.pattern)?;
+    let writer = writer(names, index, text.write)?;
+    let slots = slots(alloc, names, index, &text.read)?;
+    proper(alloc, index, &slots, &text.pattern)?;
     Ok(Rule {
         switch: text.switch,
         priority: text.priority,
@@ -90,19 +90,24 @@ fn rule_from(
     })
 }
 
-fn rule_in(slices: &[Slice], table: &Section<'_>) -> Result<Rule, ReadFault>
-    ensures { Gives (λ r. r) result (rule_in slices.now (section table.now)) }
+fn rule_in<'a>(names: &Names<'a>, table: &Section<'a>) -> Result<Rule, ReadFault>
+    ensures { Gives (λ r. r) result (rule_in names.now (section table.now)) }
 {
     let text = rule_text_in(table)?;
-    rule_from(table.alloc, slices, table.index, &text)
+    rule_from(table.alloc, names, table.index, &text)
 }
 
-fn rule_of(alloc: Global, slices: &[Slice], index: u64, value: &Value) -> Result<Rule, ReadFault>
-    ensures { Gives (λ r. r) result (rule_of slices.now index (view value.now)) }
+fn rule_of<'a>(
+    alloc: Global,
+    names: &Names<'a>,
+    index: u64,
+    value: &'a Value,
+) -> Result<Rule, ReadFault>
+    ensures { Gives (λ r. r) result (rule_of names.now index (view value.now)) }
 {
     match value.as_table() {
         Some(table) => rule_in(
-            slices,
+            names,
             &Section {
                 alloc,
                 part: Part::Rule,
@@ -118,13 +123,17 @@ fn rule_of(alloc: Global, slices: &[Slice], index: u64, value: &Value) -> Result
     }
 }
 
-/// The rules of the items.
-pub fn rules(alloc: Global, slices: &[Slice], values: &[Value]) -> Result<Vec<Rule>, ReadFault>
-    ensures { Gives (λ v. v.items) result (rules_from slices.now 0 (items_view values.now)) }
+/// The rules of the items, which name these slices.
+pub fn rules<'a>(
+    alloc: Global,
+    names: &Names<'a>,
+    values: &'a [Value],
+) -> Result<Vec<Rule>, ReadFault>
+    ensures { Gives (λ v. v.items) result (rules_from names.now 0 (items_view values.now)) }
 {
     let mut rules = Vec::new(alloc);
     for (index, value) in values.iter().enumerate() {
-        rules.push(rule_of(alloc, slices, index as u64, value)?)?;
+        rules.push(rule_of(alloc, names, index as u64, value)?)?;
     }
     Ok(rules)
 }

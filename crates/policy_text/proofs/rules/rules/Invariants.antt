@@ -5,4 +5,4 @@ use Rattle.policy_text.proofs.Loop.{with_front}
 use Rattle.policy_text.proofs.rules.rules.Given as goal
 
 abbrev pub invariant-loop-index : goal.invariant-loop-index
-invariant-loop-index l = with_front l.rules.items (rules_from l.slices l.index (items_view (drop l.index l.values))) ≡ rules_from l.slices 0 (items_view l.values)
+invariant-loop-index l = with_front l.rules.items (rules_from l.names l.index (items_view (drop l.index l.values))) ≡ rules_from l.names 0 (items_view l.values)
