@@ -1,0 +1,98 @@
+ghost use Rattle.std.specs.Prelude.{ℕ, ◌≡◌, ◌≤◌, ◌<◌, ◌+◌, length, slice_get, OnOk, IfSome};
+ghost use Rattle.outbox.specs.Queues.{Queue, no_messages, push, without_first, QueueStands};
+
+use of10_ctl::Frame;
+use std::alloc::{AllocError, Global};
+use std::collections::VecDeque;
+use std::marker::Model;
+
+/// The messages that wait for one connection, the oldest first. Where one would pass the limit of bytes,
+/// it and all later ones are dropped, and the outbox is choked, until it is cleared. Only `reserve` takes
+/// memory.
+#[derive(Drop)]
+pub struct Outbox {
+    frames: VecDeque<Frame>,
+    /// The bytes of all frames.
+    bytes: u64,
+    limit: u64,
+    choked: bool,
+}
+
+impl Model for Outbox {
+    ghost use Rattle.std.specs.Prelude.{◌-◌};
+    ghost use Rattle.std.specs.VecDeque.{deque_len, deque_capacity};
+    ghost use Rattle.outbox.specs.Queues.{Kept};
+
+    ghost Value = { Kept };
+
+    ghost view = { λ o. record { pending = o.frames.items; choked = o.choked; bytes = o.bytes; limit = o.limit; room = deque_capacity o.frames - deque_len o.frames } };
+}
+
+impl Outbox {
+    /// An empty outbox, with its limit in bytes.
+    pub fn new(alloc: Global, limit: u64) -> Outbox
+        ensures { QueueStands limit no_messages result }
+    {
+        Outbox {
+            frames: VecDeque::new(alloc),
+            bytes: 0,
+            limit,
+            choked: false,
+        }
+    }
+
+    /// Takes memory for so many more messages.
+    pub fn reserve(&mut self, count: u32) -> Result<(), AllocError>
+        ensures room { OnOk result (count ≤ self.new.room) }
+        ensures stands { (limit : ℕ) (q : Queue) → QueueStands limit q self.old → QueueStands limit q self.new }
+        ensures kept { self.old.room ≤ self.new.room }
+    {
+        self.frames.reserve(count as usize)
+    }
+
+    /// Adds a message behind the others, or drops it where it would pass the limit or the outbox is choked;
+    /// then the outbox is choked.
+    pub fn push(&mut self, frame: Frame)
+        requires { 1 ≤ self.old.room }
+        ensures stands { (limit : ℕ) (q : Queue) → QueueStands limit q self.old → QueueStands limit (push limit q frame) self.new }
+        ensures room { self.old.room ≤ self.new.room + 1 }
+    {
+        let size = frame.as_slice().len() as u64;
+        if self.choked || size > self.limit.saturating_sub(self.bytes) {
+            self.choked = true;
+            return;
+        }
+        self.bytes += size;
+        self.frames.push_back_reserved(frame);
+    }
+
+    /// Takes the oldest message.
+    pub fn take(&mut self) -> Option<Frame>
+        ensures value { (limit : ℕ) (q : Queue) → QueueStands limit q self.old → result ≡ slice_get q.pending 0 }
+        ensures stands { (limit : ℕ) (q : Queue) → QueueStands limit q self.old → QueueStands limit (without_first q) self.new }
+        ensures fewer { IfSome result (λ _. length self.new.pending < length self.old.pending) }
+        ensures room { self.old.room ≤ self.new.room }
+    {
+        let frame = self.frames.pop_front()?;
+        self.bytes = self.bytes.saturating_sub(frame.as_slice().len() as u64);
+        Some(frame)
+    }
+
+    /// Whether a message was dropped since the outbox was last cleared.
+    pub fn choked(&self) -> bool
+        ensures value { (limit : ℕ) (q : Queue) → QueueStands limit q self.now → result ≡ q.choked }
+        ensures kept { result ≡ self.now.choked }
+    {
+        self.choked
+    }
+
+    /// Drops all messages; the outbox is not choked any more. The memory stays.
+    pub fn clear(&mut self)
+        ensures stands { (limit : ℕ) (q : Queue) → QueueStands limit q self.old → QueueStands limit no_messages self.new }
+        ensures room { self.old.room ≤ self.new.room }
+    {
+        self.frames.clear();
+        self.bytes = 0;
+        self.choked = false;
+    }
+}
