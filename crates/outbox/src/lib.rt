@@ -6,5 +6,5 @@ mod queue;
 
 pub use queue::Outbox;
 
-
-
+#[cfg(test)]
+mod tests;
