@@ -1,0 +1,167 @@
+-- A port is known as it was told last.
+use Rattle.std.proofs.Common.{◌≡◌, ◌≢◌, ℕ, Bool, true, false, List, [], ◌∷◌, refl, sym, ap, ◌∙◌, inl, inr}
+use Rattle.std.specs.Prelude.{find, reverse, fold, Option, Some, None, if◌then◌else◌}
+use Rattle.std.specs.Option.{option_or, option_map_or}
+use Rattle.std.proofs.lemmas.Bool.{cases_Bool, eq-eqb, ne_eqb, cases_eq}
+use Rattle.std.proofs.lemmas.List.{reverse-append}
+use Rattle.std.proofs.lemmas.List.Folds.{find-append}
+use Rattle.of10_port.specs.Ports.{port_number}
+use Rattle.of10_port.specs.declared.features.Features.{Features}
+use Rattle.of10_port.specs.declared.status.PortStatus.{PortStatus}
+use Rattle.port_view.specs.declared.answer.Kept.{Kept as Answer}
+use Rattle.port_view.specs.declared.answer.Kept.TheVariants.{Kept, Ignored, TooManyPorts}
+use Rattle.port_view.specs.KnownPorts.{is_known_number, is_of_number, port_of, with_port, without_port, with_told, first_known, kept_of, changed_plainly, known_of}
+use Rattle.port_view.specs.Told.{is_kept, kept_statuses, told_first, told_by, told_last}
+use Rattle.port_view.proofs.Cutting.{changed_plainly-delete, changed_plainly-other}
+use Rattle.port_view.proofs.Knowing.{changed-kept, changed-not_kept, cases_kept}
+use Rattle.port_view.proofs.Finding.{find-put_same, find-put_other, find-out_same, find-out_other}
+
+-- ---- one port
+
+port_of-with_same : (port : List ℕ) (known : List (List ℕ)) → port_of (port_number port) (with_port port known) ≡ Some port
+unfolding with_port
+port_of-with_same port known = find-put_same port_number port known
+
+port_of-with_other : (number : ℕ) (port : List ℕ) (known : List (List ℕ)) → number ≢ port_number port → port_of number (with_port port known) ≡ port_of number known
+unfolding with_port
+port_of-with_other number port known apart = find-put_other port_number number port known apart
+
+port_of-without_same : (number : ℕ) (known : List (List ℕ)) → port_of number (without_port number known) ≡ None
+unfolding without_port
+port_of-without_same number known = find-out_same port_number number known
+
+port_of-without_other : (number other : ℕ) (known : List (List ℕ)) → number ≢ other → port_of number (without_port other known) ≡ port_of number known
+unfolding without_port
+port_of-without_other number other known apart = find-out_other port_number number other known apart
+
+-- ---- the ports of a FEATURES_REPLY
+
+told_later : (earlier : Option (List ℕ)) (port : List ℕ) (later : Option (List ℕ)) (same : Bool)
+    → option_or later (if same then Some port else earlier) ≡ option_or (option_or later (if same then Some port else None)) earlier
+told_later earlier port None true = refl
+told_later earlier port None false = refl
+told_later earlier port (Some other) same = refl
+
+port_of-told : (number : ℕ) (port : List ℕ) (known : List (List ℕ)) → is_known_number number ≡ true
+    → port_of number (with_told known port) ≡ (if is_of_number number port then Some port else port_of number known)
+port_of-told number port known can = elim (cases_eq (port_number port) number) [
+  | inl same ↦
+      let this : is_known_number (port_number port) ≡ true = ap is_known_number same ∙ can in
+      rw (this, eq-eqb (port_number port) number same) (ap (λ (n : ℕ). port_of n (with_port port known)) (sym same) ∙ port_of-with_same port known)
+  | inr apart ↦ rw (ne_eqb (port_number port) number apart) (elim (cases_Bool (is_known_number (port_number port))) [
+    | inl is ↦ rw is (port_of-with_other number port known (λ e. apart (sym e)))
+    | inr isnt ↦ rw isnt refl
+  ])
+]
+
+find_last : (number : ℕ) (port : List ℕ) (later : List (List ℕ))
+    → find (is_of_number number) (reverse (port ∷ later)) ≡ option_or (find (is_of_number number) (reverse later)) (if is_of_number number port then Some port else None)
+find_last number port later =
+    ap (find (is_of_number number)) (reverse-append (port ∷ []) later) ∙ find-append (is_of_number number) (reverse later) (port ∷ [])
+
+port_of-fold : (number : ℕ) (ports known : List (List ℕ)) → is_known_number number ≡ true
+    → port_of number (fold with_told known ports) ≡ option_or (find (is_of_number number) (reverse ports)) (port_of number known)
+port_of-fold number [] known can = refl
+port_of-fold number (port ∷ later) known can =
+    port_of-fold number later (with_told known port) can
+    ∙ ap (option_or (find (is_of_number number) (reverse later))) (port_of-told number port known can)
+    ∙ told_later (port_of number known) port (find (is_of_number number) (reverse later)) (is_of_number number port)
+    ∙ ap (λ (o : Option (List ℕ)). option_or o (port_of number known)) (sym (find_last number port later))
+
+port_of-never : (number : ℕ) (ports known : List (List ℕ)) → is_known_number number ≡ false → port_of number known ≡ None
+    → port_of number (fold with_told known ports) ≡ None
+port_of-never number [] known cannot none = none
+port_of-never number (port ∷ later) known cannot none = elim (cases_Bool (is_known_number (port_number port))) [
+  | inl is ↦
+      let apart : number ≢ port_number port = λ e. let this : true ≡ false = sym is ∙ ap is_known_number (sym e) ∙ cannot in cc in
+      rw is (port_of-never number later (with_port port known) cannot (port_of-with_other number port known apart ∙ none))
+  | inr isnt ↦ rw isnt (port_of-never number later known cannot none)
+]
+
+or_nothing : (o : Option (List ℕ)) → option_or o None ≡ o
+or_nothing None = refl
+or_nothing (Some port) = refl
+
+port_of-first : (number : ℕ) (ports : List (List ℕ)) → port_of number (first_known ports) ≡ told_first number ports
+unfolding first_known
+port_of-first number ports = elim (cases_Bool (is_known_number number)) [
+  | inl can ↦ rw can (port_of-fold number ports [] can ∙ or_nothing (find (is_of_number number) (reverse ports)))
+  | inr cannot ↦ rw cannot (port_of-never number ports [] cannot refl)
+]
+
+-- ---- the statuses
+
+port_of-changed_same : (status : PortStatus) (known : List (List ℕ)) → port_of (port_number status.port) (changed_plainly status known) ≡ told_by status
+port_of-changed_same status known = elim (cases_eq status.reason 1) [
+  | inl is ↦ rw (changed_plainly-delete status known is, eq-eqb status.reason 1 is) (port_of-without_same (port_number status.port) known)
+  | inr isnt ↦ rw (changed_plainly-other status known isnt, ne_eqb status.reason 1 isnt) (port_of-with_same status.port known)
+]
+
+port_of-changed_other : (number : ℕ) (status : PortStatus) (known : List (List ℕ)) → number ≢ port_number status.port
+    → port_of number (changed_plainly status known) ≡ port_of number known
+port_of-changed_other number status known apart = elim (cases_eq status.reason 1) [
+  | inl is ↦ rw (changed_plainly-delete status known is) (port_of-without_other number (port_number status.port) known apart)
+  | inr isnt ↦ rw (changed_plainly-other status known isnt) (port_of-with_other number status.port known apart)
+]
+
+kept_statuses-kept : (features : Features) (status : PortStatus) (earlier : List PortStatus) → kept_of status (known_of features earlier) ≡ Kept
+    → kept_statuses features (status ∷ earlier) ≡ status ∷ kept_statuses features earlier
+unfolding kept_statuses
+kept_statuses-kept features status earlier is =
+    let kept : is_kept features status earlier ≡ true = rw (is, is_kept) refl in rw kept refl
+
+is_kept-not : (features : Features) (status : PortStatus) (earlier : List PortStatus) (answer : Answer) → kept_of status (known_of features earlier) ≡ answer → answer ≢ Kept
+    → is_kept features status earlier ≡ false
+is_kept-not features status earlier Kept is isnt = absurd (isnt refl)
+is_kept-not features status earlier Ignored is isnt = rw (is, is_kept) refl
+is_kept-not features status earlier TooManyPorts is isnt = rw (is, is_kept) refl
+
+kept_statuses-not : (features : Features) (status : PortStatus) (earlier : List PortStatus) → kept_of status (known_of features earlier) ≢ Kept
+    → kept_statuses features (status ∷ earlier) ≡ kept_statuses features earlier
+unfolding kept_statuses
+kept_statuses-not features status earlier isnt = rw (is_kept-not features status earlier (kept_of status (known_of features earlier)) refl isnt) refl
+
+-- what the statuses tell of a number
+abbrev told_in : ℕ → Features → List PortStatus → Option (List ℕ)
+told_in number features kept = option_map_or told_by (find (λ status. is_of_number number status.port) kept) (told_first number features.ports)
+
+told_last-not_kept : (number : ℕ) (features : Features) (status : PortStatus) (earlier : List PortStatus) → kept_of status (known_of features earlier) ≢ Kept
+    → told_last number features (status ∷ earlier) ≡ told_last number features earlier
+unfolding told_last
+told_last-not_kept number features status earlier isnt = ap (told_in number features) (kept_statuses-not features status earlier isnt)
+
+told_last-same : (number : ℕ) (features : Features) (status : PortStatus) (earlier : List PortStatus) → kept_of status (known_of features earlier) ≡ Kept
+    → port_number status.port ≡ number → told_last number features (status ∷ earlier) ≡ told_by status
+unfolding told_last
+told_last-same number features status earlier is same =
+    ap (told_in number features) (kept_statuses-kept features status earlier is) ∙ rw (eq-eqb (port_number status.port) number same) refl
+
+told_last-other : (number : ℕ) (features : Features) (status : PortStatus) (earlier : List PortStatus) → kept_of status (known_of features earlier) ≡ Kept
+    → port_number status.port ≢ number → told_last number features (status ∷ earlier) ≡ told_last number features earlier
+unfolding told_last
+told_last-other number features status earlier is apart =
+    ap (told_in number features) (kept_statuses-kept features status earlier is) ∙ rw (ne_eqb (port_number status.port) number apart) refl
+
+told_last-first : (number : ℕ) (features : Features) → told_last number features [] ≡ told_first number features.ports
+unfolding told_last kept_statuses
+told_last-first number features = refl
+
+pub port_of-known_of : (features : Features) (statuses : List PortStatus) (number : ℕ) → port_of number (known_of features statuses) ≡ told_last number features statuses
+unfolding known_of
+port_of-known_of features [] number = port_of-first number features.ports ∙ sym (told_last-first number features)
+port_of-known_of features (status ∷ earlier) number =
+    elim (cases_kept (kept_of status (known_of features earlier))) [
+      | inl is ↦ rw (changed-kept status (known_of features earlier) is) (elim (cases_eq (port_number status.port) number) [
+        | inl same ↦
+            ap (λ (n : ℕ). port_of n (changed_plainly status (known_of features earlier))) (sym same)
+            ∙ port_of-changed_same status (known_of features earlier)
+            ∙ sym (told_last-same number features status earlier is same)
+        | inr apart ↦
+            port_of-changed_other number status (known_of features earlier) (λ e. apart (sym e))
+            ∙ port_of-known_of features earlier number
+            ∙ sym (told_last-other number features status earlier is apart)
+      ])
+      | inr isnt ↦
+          rw (changed-not_kept status (known_of features earlier) isnt)
+          (port_of-known_of features earlier number ∙ sym (told_last-not_kept number features status earlier isnt))
+    ]

@@ -1,0 +1,4 @@
+pub mod KnownPorts
+pub mod Told
+pub mod Places
+pub mod SlicePorts

@@ -1,0 +1,29 @@
+-- What was told last of a port. This is this proxy's own rule.
+use Rattle.std.specs.Prelude.{ℕ, ◌==◌, Bool, true, false, if◌then◌else◌, List, [], ◌∷◌, find, reverse, Option, Some, None}
+use Rattle.std.specs.Option.{option_map_or}
+use Rattle.of10_port.specs.declared.features.Features.{Features}
+use Rattle.of10_port.specs.declared.status.PortStatus.{PortStatus}
+use Rattle.port_view.specs.declared.answer.Kept.TheVariants.{Kept, Ignored, TooManyPorts}
+use Rattle.port_view.specs.KnownPorts.{is_known_number, is_of_number, kept_of, known_of}
+
+-- a status is kept after those before it
+abbrev pub is_kept : Features → PortStatus → List PortStatus → Bool
+is_kept features status earlier = elim (kept_of status (known_of features earlier)) [ Kept ↦ true | Ignored ↦ false | TooManyPorts ↦ false ]
+
+-- of statuses, the newest first, those that were kept
+unfoldable pub kept_statuses : Features → List PortStatus → List PortStatus
+kept_statuses features [] = []
+kept_statuses features (status ∷ earlier) = if is_kept features status earlier then status ∷ kept_statuses features earlier else kept_statuses features earlier
+
+-- the port of a number that a FEATURES_REPLY tells of last
+abbrev pub told_first : ℕ → List (List ℕ) → Option (List ℕ)
+told_first number ports = if is_known_number number then find (is_of_number number) (reverse ports) else None
+
+-- the port that a kept status tells of, none where it deletes it
+abbrev pub told_by : PortStatus → Option (List ℕ)
+told_by status = if status.reason == 1 then None else Some status.port
+
+-- the port of a number as it was told last: by the newest kept status of that number, else by the FEATURES_REPLY
+unfoldable pub told_last : ℕ → Features → List PortStatus → Option (List ℕ)
+told_last number features statuses =
+    option_map_or told_by (find (λ status. is_of_number number status.port) (kept_statuses features statuses)) (told_first number features.ports)

@@ -1,0 +1,14 @@
+//! The ports of a switch as its messages tell them, and the part of them that a slice is shown.
+#![tactic(auto)]
+
+mod answer;
+pub mod laws;
+mod places;
+mod shown;
+mod view;
+
+pub use answer::Kept;
+pub use view::PortView;
+
+#[cfg(test)]
+mod tests;
