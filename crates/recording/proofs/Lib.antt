@@ -2,3 +2,4 @@ pub mod Noting
 pub mod Walk
 pub mod Forms
 pub mod Told
+pub mod Untold

@@ -13,10 +13,10 @@ use Rattle.recording.specs.declared.item.Item.{Item}
 use Rattle.recording.specs.Recordings.{Told, HasMoment, told_at, all_told, may_be_told, recording, spell, magic, head_spelling, item_at, byte_limit, is_formed, fits, record_at, items_from, read_items}
 
 -- a number behind other bytes
-number_behind : (front more : List ℕ) (k n : ℕ) → number_at (front ++ more) (length front + k) n ≡ number_at more k n
+pub number_behind : (front more : List ℕ) (k n : ℕ) → number_at (front ++ more) (length front + k) n ≡ number_at more k n
 number_behind front more k n = ap (big_number n) (drop-append-add front more k)
 
-number_first : (front more : List ℕ) (n : ℕ) → number_at (front ++ more) (length front) n ≡ number_at more 0 n
+pub number_first : (front more : List ℕ) (n : ℕ) → number_at (front ++ more) (length front) n ≡ number_at more 0 n
 number_first front more n = ap (big_number n) (drop-append_seam front more)
 
 -- the numbers of a head, read from its start
@@ -61,7 +61,7 @@ zero_again : (front rest : List ℕ) (t : Told) → number_at (front ++ (spell t
 unfolding head_spelling
 zero_again front rest t = number_behind front (spell t ++ rest) 3 1
 
-spell_length : (t : Told) → length (spell t) ≡ 16 + length t.bytes
+pub spell_length : (t : Told) → length (spell t) ≡ 16 + length t.bytes
 unfolding head_spelling
 spell_length t = omega arith
 

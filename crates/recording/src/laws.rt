@@ -1,6 +1,6 @@
 //! Facts about recordings that no call needs.
 
-ghost use Rattle.std.specs.Prelude.{◌≡◌, ◌+◌, ◌≤◌, ℕ, true, List, [], length, Ok};
+ghost use Rattle.std.specs.Prelude.{◌≡◌, ◌+◌, ◌<◌, ◌≤◌, ℕ, true, List, [], length, Ok};
 ghost use Rattle.std.specs.List.{All};
 ghost use Rattle.recording.specs.declared.item.Item.{Item};
 ghost use Rattle.recording.specs.Recordings.{Told, HasMoment, all_told, may_be_told, recording, items_from, read_items};
@@ -13,4 +13,9 @@ pub fn count_is_enough()
 /// Records of the form, each fitting those before it, are read from the file that tells them.
 pub fn told_is_read()
     ensures { (slices : ℕ) (told : List Told) → All HasMoment told → may_be_told slices [] (all_told 8 told) ≡ true → read_items slices (recording told) ≡ Ok (all_told 8 told) }
+{}
+
+/// A file that is read is the one that tells its records, each of the form and fitting those before it.
+pub fn read_is_told()
+    ensures { (slices : ℕ) (bytes : List ℕ) (items : List Item) → All (λ b. b < 256) bytes → read_items slices bytes ≡ Ok items → (told : List Told) × (bytes ≡ recording told) × (items ≡ all_told 8 told) × All HasMoment told × (may_be_told slices [] items ≡ true) }
 {}
