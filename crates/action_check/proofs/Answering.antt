@@ -1,0 +1,26 @@
+-- Which answer a list of actions has.
+use Rattle.std.proofs.Common.{◌≡◌, ℕ, ◌<◌, ◌≤◌, List, length, Option, Some, None, Result, Ok, Err, refl, ap}
+use Rattle.std.proofs.lemmas.Bool.{le-leb, lt-leb}
+use Rattle.of10_action.specs.declared.action.Action.{Action}
+use Rattle.of10_action.specs.Actions.{spelling}
+use Rattle.flowspace.specs.declared.rules.Rule.{Rule}
+use Rattle.action_check.specs.declared.fault.CheckFault.TheVariants.{TooMany}
+use Rattle.action_check.specs.declared.origin.Origin.{Origin}
+use Rattle.action_check.specs.Permitted.{first_code, expanded, permitted, answer_of}
+
+abbrev pub said : List Action → Option ℕ → Result (List Action) ℕ
+said list o = elim o [ None ↦ Ok list | Some code ↦ Err code ]
+
+pub permitted-Some : (rules : List Rule) (slot : ℕ) (origin : Origin) (actions : List Action) (flood all : List ℕ) (code : ℕ)
+    → first_code rules slot origin actions ≡ Some code → permitted rules slot origin actions flood all ≡ Err code
+permitted-Some rules slot origin actions flood all code e = ap (said (expanded flood all actions)) e
+
+pub permitted-None : (rules : List Rule) (slot : ℕ) (origin : Origin) (actions : List Action) (flood all : List ℕ)
+    → first_code rules slot origin actions ≡ None → permitted rules slot origin actions flood all ≡ Ok (expanded flood all actions)
+permitted-None rules slot origin actions flood all e = ap (said (expanded flood all actions)) e
+
+pub answer_of-short : (said : Result (List Action) ℕ) (list : List Action) → said ≡ Ok list → length (spelling list) ≤ 65463 → answer_of said ≡ Ok list
+answer_of-short said list e le = rw (e, le-leb (length (spelling list)) 65463 le) refl
+
+pub answer_of-long : (said : Result (List Action) ℕ) (list : List Action) → said ≡ Ok list → 65463 < length (spelling list) → answer_of said ≡ Err TooMany
+answer_of-long said list e lt = rw (e, lt-leb (length (spelling list)) 65463 lt) refl

@@ -1,0 +1,6 @@
+pub mod Answering
+pub mod Aside
+pub mod Sizes
+pub mod Allowing
+pub mod Sending
+pub mod Ways

@@ -1,0 +1,4 @@
+pub mod Origins
+pub mod ActionRules
+pub mod Permitted
+pub mod Soundness

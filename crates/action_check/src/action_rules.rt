@@ -1,0 +1,198 @@
+//! The rules by which each action of a list is tested.
+
+ghost use Rattle.std.specs.Prelude.{◌≡◌, ◌&&◌};
+ghost use Rattle.std.specs.List.{list_any};
+ghost use Rattle.of10_model.specs.Pattern.{has};
+ghost use Rattle.of10_model.specs.Inclusion.{includes_of, any_in_port};
+ghost use Rattle.flowspace.specs.Rules.{is_written_by};
+ghost use Rattle.action_check.specs.ActionRules.{has_argument, port_of, has_way_back, is_own_way, is_other_way, has_way, sees_in_port, counted, may_go, is_covered, probe_code, code_of};
+
+use crate::origin::Origin;
+use flowspace::{Rule, SwitchPolicy};
+use match_meet::{includes, includes_aside};
+use of10_action::Action;
+use of10_match::{Header12, Match};
+use of10_port::protocol::{ALL, CONTROLLER, FLOOD, IN_PORT, TABLE};
+
+/// Codes of errors of type 2 (OpenFlow 1.0.0, section 5.4.4: OFPBAC_BAD_OUT_PORT, OFPBAC_BAD_ARGUMENT
+/// and OFPBAC_EPERM).
+const BAD_OUT_PORT: u16 = 4;
+
+const BAD_ARGUMENT: u16 = 5;
+
+const NOT_PERMITTED: u16 = 6;
+
+/// The greatest VLAN number and priority of a tag.
+const MAX_VLAN: u16 = 4095;
+
+const MAX_PRIORITY: u8 = 7;
+
+fn has_argument(action: &Action) -> bool
+    ensures { result ≡ has_argument action.now }
+{
+    match *action {
+        Action::SetVlanVid(vlan) => vlan <= MAX_VLAN,
+        Action::SetVlanPcp(priority) => priority <= MAX_PRIORITY,
+        _ => true,
+    }
+}
+
+fn port_of(action: &Action) -> Option<u16>
+    ensures { result ≡ port_of action.now }
+{
+    match *action {
+        Action::Output { port, .. } | Action::Enqueue { port, .. } => Some(port),
+        _ => None,
+    }
+}
+
+fn has_way_back(policy: &SwitchPolicy, slot: u8, image: &Origin) -> bool
+    ensures { result ≡ has_way_back policy.now.rules slot image.now }
+{
+    match image {
+        Origin::Piece(_) => true,
+        Origin::Packet(header) => policy.has_port(slot, header.in_port),
+        Origin::Probe { in_port } => policy.has_port(slot, *in_port),
+    }
+}
+
+fn is_own_way(policy: &SwitchPolicy, slot: u8, image: &Origin, port: u16) -> bool
+    ensures { result ≡ is_own_way policy.now.rules slot image.now port }
+{
+    policy.has_port(slot, port) || (port == IN_PORT && has_way_back(policy, slot, image))
+}
+
+fn is_other_way(image: &Origin, port: u16) -> bool
+    ensures { result ≡ is_other_way image.now port }
+{
+    match port {
+        CONTROLLER | FLOOD | ALL => true,
+        TABLE => !matches!(image, Origin::Piece(_)),
+        _ => false,
+    }
+}
+
+fn has_way(policy: &SwitchPolicy, slot: u8, image: &Origin, action: &Action) -> bool
+    ensures { result ≡ has_way policy.now.rules slot image.now action.now }
+{
+    match *action {
+        Action::Output { port, .. } => {
+            is_own_way(policy, slot, image, port) || is_other_way(image, port)
+        }
+        Action::Enqueue { port, .. } => is_own_way(policy, slot, image, port),
+        _ => true,
+    }
+}
+
+fn sees_in_port(port: u16) -> bool
+    ensures { result ≡ sees_in_port port }
+{
+    port == CONTROLLER || port == TABLE
+}
+
+fn is_written_by(rule: &Rule, slot: u8) -> bool
+    ensures { result ≡ is_written_by slot rule.now }
+{
+    rule.writer.is_some_and(|writer| writer == slot)
+}
+
+fn covers(m: &Match, cover: &Match, port: u16) -> bool
+    ensures { result ≡ includes_of (counted port m.now) cover.now }
+{
+    if sees_in_port(port) {
+        includes(m, cover)
+    } else {
+        includes_aside(m, cover)
+    }
+}
+
+fn with_in_port(header: &Header12, in_port: u16) -> Header12
+    ensures { result ≡ record header.now { in_port = in_port } }
+{
+    Header12 { in_port, ..*header }
+}
+
+/// Whether the match would have the header if it took any in_port.
+fn has_aside(m: &Match, header: &Header12) -> bool
+    ensures { result ≡ has (any_in_port m.now) header.now }
+{
+    match m.pattern().in_port {
+        None => m.matches(header),
+        Some(in_port) => m.matches(&with_in_port(header, in_port)),
+    }
+}
+
+fn has_header(m: &Match, header: &Header12, port: u16) -> bool
+    ensures { result ≡ has (counted port m.now) header.now }
+{
+    if sees_in_port(port) {
+        m.matches(header)
+    } else {
+        has_aside(m, header)
+    }
+}
+
+fn is_cover_written(rules: &[Rule], slot: u8, cover: &Match, port: u16) -> bool
+    ensures { result ≡ list_any (λ rule. is_written_by slot rule && includes_of (counted port rule.pattern) cover.now) rules.now }
+{
+    rules.iter().any(|rule| is_written_by(rule, slot) && covers(&rule.pattern, cover, port))
+}
+
+fn is_header_written(rules: &[Rule], slot: u8, header: &Header12, port: u16) -> bool
+    ensures { result ≡ list_any (λ rule. is_written_by slot rule && has (counted port rule.pattern) header.now) rules.now }
+{
+    rules.iter().any(|rule| is_written_by(rule, slot) && has_header(&rule.pattern, header, port))
+}
+
+fn may_go(policy: &SwitchPolicy, slot: u8, image: &Origin, port: u16) -> bool
+    ensures { result ≡ may_go policy.now.rules slot image.now port }
+{
+    match image {
+        Origin::Piece(cover) => is_cover_written(policy.rules(), slot, cover, port),
+        Origin::Packet(header) => is_header_written(policy.rules(), slot, header, port),
+        Origin::Probe { .. } => true,
+    }
+}
+
+fn is_covered(policy: &SwitchPolicy, slot: u8, image: &Origin, action: &Action) -> bool
+    ensures { result ≡ is_covered policy.now.rules slot image.now action.now }
+{
+    match port_of(action) {
+        None => true,
+        Some(port) => may_go(policy, slot, image, port),
+    }
+}
+
+fn probe_code(image: &Origin, action: &Action) -> Option<u16>
+    ensures { result ≡ probe_code image.now action.now }
+{
+    if !matches!(image, Origin::Probe { .. }) {
+        return None;
+    }
+    match port_of(action) {
+        None => Some(NOT_PERMITTED),
+        Some(port) => sees_in_port(port).then_some(BAD_OUT_PORT),
+    }
+}
+
+/// The code of the first rule that an action breaks, for the image of what the list is applied to.
+#[tactic(auto, unfolding(crate::specs::ActionRules::code_of))]
+pub(crate) fn code_of(
+    policy: &SwitchPolicy,
+    slot: u8,
+    image: &Origin,
+    action: &Action,
+) -> Option<u16>
+    ensures { result ≡ code_of policy.now.rules slot image.now action.now }
+{
+    if !has_argument(action) {
+        return Some(BAD_ARGUMENT);
+    }
+    if !has_way(policy, slot, image, action) {
+        return Some(BAD_OUT_PORT);
+    }
+    if !is_covered(policy, slot, image, action) {
+        return Some(NOT_PERMITTED);
+    }
+    probe_code(image, action)
+}

@@ -1,0 +1,66 @@
+ghost use Rattle.std.specs.Prelude.{◌≡◌, ◌≤◌, length, Ok, IfOk};
+ghost use Rattle.std.specs.List.{All};
+ghost use Rattle.of10_action.specs.Actions.{IsAction, HasAddress, spelling};
+ghost use Rattle.flowspace.specs.Owners.{HasPort};
+ghost use Rattle.action_check.specs.Permitted.{first_code, permitted, answer_of, Gives};
+
+use crate::action_rules::code_of;
+use crate::expansion::{expanded_bytes, expansion};
+use crate::fault::CheckFault;
+use crate::origin::{Origin, after};
+use flowspace::SwitchPolicy;
+use of10_action::{Action, Actions};
+use std::alloc::Global;
+
+/// The fewest bytes that an action takes (OpenFlow 1.0.0, section 5.2.4).
+const ACTION_BYTES: usize = 8;
+
+fn first_code(policy: &SwitchPolicy, slot: u8, origin: &Origin, actions: &[Action]) -> Option<u16>
+    requires { All HasAddress actions.now }
+    ensures { result ≡ first_code policy.now.rules slot origin.now actions.now }
+{
+    let mut image = *origin;
+    for action in actions {
+        let code = code_of(policy, slot, &image, action);
+        if code.is_some() {
+            return code;
+        }
+        image = after(&image, action);
+    }
+    None
+}
+
+/// The list that a slice may send where it sent these actions: outputs to the ports of `flood` and of
+/// `all` stand in it for FLOOD and ALL, each with the `max_len` of the action. An action is forbidden
+/// where it sets what the field can't hold, where it sends to a port that the slice doesn't have, or
+/// where not all that it sends, as the actions before it rewrite it, is what one rule lets the slice
+/// write. Numbers of ports: OpenFlow 1.0.0, section 5.2.1; the rules themselves are this proxy's own.
+pub fn check(
+    alloc: Global,
+    policy: &SwitchPolicy,
+    slot: u8,
+    origin: &Origin,
+    actions: &[Action],
+    flood: &[u16],
+    all: &[u16],
+) -> Result<Actions, CheckFault>
+    requires addresses { All HasAddress actions.now }
+    requires flood { All (HasPort policy.now.rules slot) flood.now }
+    requires all { All (HasPort policy.now.rules slot) all.now }
+    // Which list it is and which fault. Memory can only be wanted for a list.
+    ensures exact { Gives result (answer_of (permitted policy.now.rules slot origin.now actions.now flood.now all.now)) }
+    ensures only { IfOk result (λ list. permitted policy.now.rules slot origin.now actions.now flood.now all.now ≡ Ok list) }
+    ensures size { IfOk result (λ list. length (spelling list) ≤ 65463) }
+    ensures range { All IsAction actions.now → IfOk result (λ list. All IsAction list) }
+{
+    if let Some(code) = first_code(policy, slot, origin, actions) {
+        return Err(CheckFault::Refused(code));
+    }
+    let Some(bytes) = expanded_bytes(actions, flood, all) else {
+        return Err(CheckFault::TooMany);
+    };
+    match expansion(alloc, actions, flood, all, bytes / ACTION_BYTES) {
+        Ok(list) => Ok(Actions::from_vec(list)),
+        Err(_) => Err(CheckFault::Memory),
+    }
+}

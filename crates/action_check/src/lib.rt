@@ -1,0 +1,14 @@
+//! Whether the actions of a slice's message go only where the slice may send, and the list that they
+//! become. Which actions are allowed is this proxy's own rule.
+#![tactic(auto)]
+
+mod action_rules;
+mod checking;
+mod expansion;
+mod fault;
+pub mod laws;
+mod origin;
+
+pub use checking::check;
+pub use fault::CheckFault;
+pub use origin::Origin;
