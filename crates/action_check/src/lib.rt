@@ -12,3 +12,6 @@ mod origin;
 pub use checking::check;
 pub use fault::CheckFault;
 pub use origin::Origin;
+
+#[cfg(test)]
+mod tests;

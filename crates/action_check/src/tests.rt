@@ -1,0 +1,404 @@
+mod draws;
+mod given;
+
+use crate::CheckFault::{Refused, TooMany};
+use crate::{CheckFault, Origin};
+use draws::Draws;
+use flowspace::SwitchPolicy;
+use given::{
+    ALICE, ANY, BOB, FIRST_NET, Packets, SECOND_NET, answer, answer_with, code, load, match_of,
+    packet, rule, to_net, to_tcp,
+};
+use match_meet::rewrite_header;
+use of10_action::{Action, Actions};
+use of10_match::Header12;
+use of10_port::protocol::{ALL, CONTROLLER, FLOOD, IN_PORT, LOCAL, NONE, NORMAL, TABLE};
+use std::alloc::{AllocError, Global};
+use std::test::Fail;
+
+const THIRD_NET: u32 = 0x0a03_0000;
+
+const BAD_OUT_PORT: Option<u16> = Some(4);
+
+const BAD_ARGUMENT: Option<u16> = Some(5);
+
+const NOT_PERMITTED: Option<u16> = Some(6);
+
+fn output(port: u16) -> Action {
+    Action::Output { port, max_len: 0 }
+}
+
+fn enqueue(port: u16) -> Action {
+    Action::Enqueue { port, queue: 7 }
+}
+
+fn piece(packets: &Packets) -> Origin {
+    Origin::Piece(match_of(packets))
+}
+
+/// The packets to one network are alice's, those to another bob's.
+fn nets(alloc: Global) -> Result<SwitchPolicy, Fail> {
+    let rules = [
+        rule(100, &to_net(FIRST_NET), ALICE),
+        rule(50, &to_net(SECOND_NET), BOB),
+    ];
+    Ok(load(alloc, &rules)??)
+}
+
+/// Web packets are alice's, those of shells bob's.
+fn services(alloc: Global) -> Result<SwitchPolicy, Fail> {
+    let rules = [rule(100, &to_tcp(80), ALICE), rule(50, &to_tcp(22), BOB)];
+    Ok(load(alloc, &rules)??)
+}
+
+/// Those packets to the first network that come in at port 1.
+fn from_first_port() -> Packets {
+    Packets {
+        in_port: Some(1),
+        ..to_net(FIRST_NET)
+    }
+}
+
+/// From port 1 alice also has a network of her own, and from each port another one.
+fn entries(alloc: Global) -> Result<SwitchPolicy, Fail> {
+    let rules = [
+        rule(100, &from_first_port(), ALICE),
+        rule(90, &to_net(SECOND_NET), BOB),
+        rule(80, &to_net(THIRD_NET), ALICE),
+    ];
+    Ok(load(alloc, &rules)??)
+}
+
+#[test]
+fn flood_and_all_become_ports(rt: HostRuntime) -> Result<(), Fail> {
+    let policy = nets(rt.alloc())?;
+    let own = piece(&to_net(FIRST_NET));
+    let table = [(FLOOD, &[1, 3][..]), (ALL, &[1, 2, 3][..])];
+    for (port, ports) in table {
+        let sent = [
+            enqueue(2),
+            Action::Output { port, max_len: 9 },
+            Action::StripVlan,
+        ];
+        let list = answer(rt.alloc(), &policy, ALICE, &own, &sent)??;
+        let mut expected = vec![in rt.alloc(); enqueue(2)]?;
+        for port in ports {
+            expected.push(Action::Output {
+                port: *port,
+                max_len: 9,
+            })?;
+        }
+        expected.push(Action::StripVlan)?;
+        assert_eq!(rt; list.as_slice(), &expected[..]);
+    }
+    Ok(())
+}
+
+#[test]
+fn a_network_is_left_by_no_rewriting(rt: HostRuntime) -> Result<(), Fail> {
+    let policy = nets(rt.alloc())?;
+    let own = piece(&to_net(FIRST_NET));
+    let into_other = Action::SetNwDst(SECOND_NET + 1);
+    let within = Action::SetNwDst(FIRST_NET + 0x0909);
+    let table = [
+        ([into_other, output(2)], NOT_PERMITTED),
+        ([into_other, output(CONTROLLER)], NOT_PERMITTED),
+        ([within, output(2)], None),
+        ([into_other, output(NORMAL)], BAD_OUT_PORT),
+    ];
+    for (index, (actions, expected)) in table.iter().enumerate() {
+        let answer = code(rt.alloc(), &policy, ALICE, &own, actions)?;
+        assert_eq!(rt; answer, *expected, "case {index}");
+    }
+    let list = answer(rt.alloc(), &policy, ALICE, &own, &[within, output(2)])??;
+    assert_eq!(rt; list.as_slice(), &[within, output(2)][..]);
+    Ok(())
+}
+
+/// A packet for a TCP port, of no port of entry.
+fn sent(tcp: u16) -> Origin {
+    Origin::Packet(packet(NONE, 0x0a00_0002, tcp))
+}
+
+#[test]
+fn packets_are_sent_as_their_slice_may(rt: HostRuntime) -> Result<(), Fail> {
+    let policy = services(rt.alloc())?;
+    let table = [
+        (ALICE, sent(22), &[output(2)][..], NOT_PERMITTED),
+        (
+            ALICE,
+            sent(80),
+            &[Action::SetTpDst(22), output(2)][..],
+            NOT_PERMITTED,
+        ),
+        (ALICE, sent(80), &[output(2)][..], None),
+        (BOB, sent(80), &[output(2)][..], NOT_PERMITTED),
+        (BOB, sent(22), &[output(2), Action::SetTpDst(80)][..], None),
+    ];
+    for (index, (slot, origin, actions, expected)) in table.iter().enumerate() {
+        let answer = code(rt.alloc(), &policy, *slot, origin, actions)?;
+        assert_eq!(rt; answer, *expected, "case {index}");
+    }
+    Ok(())
+}
+
+#[test]
+fn probes_are_only_sent(rt: HostRuntime) -> Result<(), Fail> {
+    let policy = services(rt.alloc())?;
+    let table = [
+        (NONE, &[output(2)][..], None),
+        (NONE, &[enqueue(2), output(FLOOD)][..], None),
+        (NONE, &[output(CONTROLLER)][..], BAD_OUT_PORT),
+        (NONE, &[output(TABLE)][..], BAD_OUT_PORT),
+        (NONE, &[output(NORMAL)][..], BAD_OUT_PORT),
+        (NONE, &[output(IN_PORT)][..], BAD_OUT_PORT),
+        (3, &[output(IN_PORT)][..], None),
+        (NONE, &[Action::StripVlan, output(2)][..], NOT_PERMITTED),
+        (NONE, &[Action::SetVlanVid(7)][..], NOT_PERMITTED),
+        (NONE, &[Action::SetVlanVid(4096)][..], BAD_ARGUMENT),
+    ];
+    for (index, (in_port, actions, expected)) in table.iter().enumerate() {
+        let probe = Origin::Probe { in_port: *in_port };
+        for slot in [ALICE, BOB] {
+            let answer = code(rt.alloc(), &policy, slot, &probe, actions)?;
+            assert_eq!(rt; answer, *expected, "case {index}");
+        }
+    }
+    Ok(())
+}
+
+#[test]
+fn arguments_and_ports_have_their_codes(rt: HostRuntime) -> Result<(), Fail> {
+    let policy = services(rt.alloc())?;
+    let own = piece(&to_tcp(80));
+    let table = [
+        (&[Action::SetVlanVid(4095), output(2)][..], None),
+        (&[Action::SetVlanVid(4096), output(2)][..], BAD_ARGUMENT),
+        (&[Action::SetVlanPcp(7), output(2)][..], None),
+        (&[Action::SetVlanPcp(8), output(NORMAL)][..], BAD_ARGUMENT),
+        (&[output(NORMAL), Action::SetVlanPcp(8)][..], BAD_OUT_PORT),
+        (&[output(0xff00), output(LOCAL)][..], None),
+        (&[output(0xff01)][..], BAD_OUT_PORT),
+        (&[output(NONE)][..], BAD_OUT_PORT),
+        (&[output(TABLE)][..], BAD_OUT_PORT),
+        (&[output(IN_PORT), enqueue(IN_PORT)][..], None),
+        (&[output(CONTROLLER)][..], None),
+        (&[enqueue(CONTROLLER)][..], BAD_OUT_PORT),
+        (&[enqueue(FLOOD)][..], BAD_OUT_PORT),
+        (&[enqueue(ALL)][..], BAD_OUT_PORT),
+        (&[Action::SetTpDst(22), output(FLOOD)][..], NOT_PERMITTED),
+        (&[Action::SetTpDst(22), enqueue(2)][..], NOT_PERMITTED),
+        (&[output(2), Action::SetTpDst(22)][..], None),
+    ];
+    for (index, (actions, expected)) in table.iter().enumerate() {
+        let answer = code(rt.alloc(), &policy, ALICE, &own, actions)?;
+        assert_eq!(rt; answer, *expected, "case {index}");
+    }
+    Ok(())
+}
+
+fn to_first_net() -> Origin {
+    piece(&to_net(FIRST_NET))
+}
+
+/// A packet to the first network that came in at a port.
+fn sent_from(in_port: u16) -> Origin {
+    Origin::Packet(packet(in_port, FIRST_NET, 80))
+}
+
+#[test]
+fn only_the_controller_and_the_table_see_in_port(rt: HostRuntime) -> Result<(), Fail> {
+    let policy = entries(rt.alloc())?;
+    let table = [
+        (to_first_net(), output(2), None),
+        (to_first_net(), output(CONTROLLER), NOT_PERMITTED),
+        (piece(&from_first_port()), output(CONTROLLER), None),
+        (sent_from(1), output(CONTROLLER), None),
+        (sent_from(1), output(TABLE), None),
+        (sent_from(2), output(3), None),
+        (sent_from(2), output(CONTROLLER), NOT_PERMITTED),
+        (sent_from(2), output(TABLE), NOT_PERMITTED),
+        (sent_from(2), output(IN_PORT), None),
+        (sent_from(NONE), output(2), None),
+        (sent_from(NONE), output(IN_PORT), BAD_OUT_PORT),
+    ];
+    for (index, (origin, action, expected)) in table.iter().enumerate() {
+        let answer = code(rt.alloc(), &policy, ALICE, origin, &[*action])?;
+        assert_eq!(rt; answer, *expected, "case {index}");
+    }
+    Ok(())
+}
+
+#[test]
+fn a_slice_of_one_port_sends_to_it_alone(rt: HostRuntime) -> Result<(), Fail> {
+    let rules = [rule(100, &from_first_port(), ALICE)];
+    let policy = load(rt.alloc(), &rules)??;
+    let own = piece(&from_first_port());
+    for (port, expected) in [(1, None), (2, Some(Refused(4))), (LOCAL, Some(Refused(4)))] {
+        let sent = [output(port)];
+        let answer = answer_with(rt.alloc(), &policy, ALICE, &own, &sent, (&[], &[1]))?;
+        assert_eq!(rt; answer.err(), expected);
+    }
+    let list = answer_with(
+        rt.alloc(),
+        &policy,
+        ALICE,
+        &own,
+        &[output(FLOOD)],
+        (&[], &[1]),
+    )??;
+    assert!(rt; list.as_slice().is_empty());
+    Ok(())
+}
+
+fn repeated(alloc: Global, action: Action, count: u16) -> Result<Vec<Action>, AllocError> {
+    let mut actions = Vec::new(alloc);
+    for _ in 0..count {
+        actions.push(action)?;
+    }
+    Ok(actions)
+}
+
+#[test]
+fn lists_have_65463_bytes_at_most(rt: HostRuntime) -> Result<(), Fail> {
+    let policy = services(rt.alloc())?;
+    let own = piece(&to_tcp(80));
+    let table = [
+        (output(2), 8182, None),
+        (output(2), 8183, Some(TooMany)),
+        (enqueue(2), 4091, None),
+        (enqueue(2), 4092, Some(TooMany)),
+        (output(ALL), 2727, None),
+        (output(ALL), 2728, Some(TooMany)),
+        (output(FLOOD), 4091, None),
+        (output(FLOOD), 4092, Some(TooMany)),
+        (output(NORMAL), 9000, Some(Refused(4))),
+    ];
+    for (index, (action, count, expected)) in table.iter().enumerate() {
+        let actions = repeated(rt.alloc(), *action, *count)?;
+        let answer = answer(rt.alloc(), &policy, ALICE, &own, &actions)?;
+        assert_eq!(rt; answer.err(), *expected, "case {index}");
+    }
+    Ok(())
+}
+
+fn is_written(policy: &SwitchPolicy, slot: u8, header: &Header12) -> bool {
+    policy.writer(header) == Some(slot)
+}
+
+// The rules that are drawn name the ports 1 and 2 alone.
+fn is_written_from_somewhere(policy: &SwitchPolicy, slot: u8, header: &Header12) -> bool {
+    [1, 2, 3].iter().any(|in_port| {
+        is_written(
+            policy,
+            slot,
+            &Header12 {
+                in_port: *in_port,
+                ..*header
+            },
+        )
+    })
+}
+
+fn sends_what_it_may(policy: &SwitchPolicy, slot: u8, header: &Header12, action: &Action) -> bool {
+    match *action {
+        Action::Output {
+            port: CONTROLLER | TABLE,
+            ..
+        } => is_written(policy, slot, header),
+        Action::Output { port, .. } | Action::Enqueue { port, .. } => {
+            (port <= 3 || port == IN_PORT) && is_written_from_somewhere(policy, slot, header)
+        }
+        _ => true,
+    }
+}
+
+/// Whether a packet is sent by the list only as the slice may write it.
+fn is_sound(policy: &SwitchPolicy, slot: u8, header: &Header12, list: &Actions) -> bool {
+    let mut image = *header;
+    for action in list.as_slice() {
+        if !sends_what_it_may(policy, slot, &image, action) {
+            return false;
+        }
+        image = rewrite_header(&image, action);
+    }
+    true
+}
+
+/// The list that is given for alice, if one is.
+fn given_list(
+    alloc: Global,
+    policy: &SwitchPolicy,
+    origin: &Origin,
+    actions: &[Action],
+) -> Result<Option<Actions>, Fail> {
+    let answer = if policy.has_port(ALICE, 3) {
+        answer(alloc, policy, ALICE, origin, actions)?
+    } else {
+        answer_with(alloc, policy, ALICE, origin, actions, (&[], &[]))?
+    };
+    Ok(answer.ok())
+}
+
+/// How many packets of a piece are sent by the list for it; `None` where one is sent that may not be.
+fn sound_packets(
+    alloc: Global,
+    policy: &SwitchPolicy,
+    draws: &mut Draws,
+) -> Result<Option<u32>, Fail> {
+    let packets = draws.packets();
+    let m = match_of(&packets);
+    let actions = [draws.action(), draws.action(), draws.sending()];
+    let Some(list) = given_list(alloc, policy, &Origin::Piece(m), &actions)? else {
+        return Ok(Some(0));
+    };
+    let mut sent = 0;
+    for _ in 0..8 {
+        let header = draws.header(&packets);
+        if m.matches(&header) {
+            if !is_sound(policy, ALICE, &header, &list) {
+                return Ok(None);
+            }
+            sent = u32::saturating_add(sent, 1);
+        }
+    }
+    Ok(Some(sent))
+}
+
+/// The same for one packet that is sent.
+fn sound_packet(
+    alloc: Global,
+    policy: &SwitchPolicy,
+    draws: &mut Draws,
+) -> Result<Option<u32>, Fail> {
+    let packets = draws.packets();
+    let header = draws.header(&packets);
+    let actions = [draws.action(), draws.action(), draws.sending()];
+    Ok(
+        match given_list(alloc, policy, &Origin::Packet(header), &actions)? {
+            Some(list) => is_sound(policy, ALICE, &header, &list).then_some(1),
+            None => Some(0),
+        },
+    )
+}
+
+#[test]
+fn lists_that_are_given_are_sound(rt: HostRuntime) -> Result<(), Fail> {
+    let mut draws = Draws::new(11);
+    let (mut of_pieces, mut of_packets) = (0_u32, 0_u32);
+    for round in 0..3000 {
+        let rules = [draws.rule(3), draws.rule(2), draws.rule(1)];
+        if let Ok(policy) = load(rt.alloc(), &rules)? {
+            let flow = sound_packets(rt.alloc(), &policy, &mut draws)?;
+            let packet = sound_packet(rt.alloc(), &policy, &mut draws)?;
+            assert!(rt; flow.is_some() && packet.is_some(), "round {round}");
+            of_pieces = of_pieces.saturating_add(flow.unwrap_or(0));
+            of_packets = of_packets.saturating_add(packet.unwrap_or(0));
+        }
+    }
+    assert!(rt;
+        of_pieces > 500 && of_packets > 100,
+        "{of_pieces} and {of_packets}"
+    );
+    Ok(())
+}
