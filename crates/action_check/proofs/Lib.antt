@@ -4,3 +4,4 @@ pub mod Sizes
 pub mod Allowing
 pub mod Sending
 pub mod Ways
+pub mod Forbidding

@@ -2,3 +2,4 @@ pub mod Origins
 pub mod ActionRules
 pub mod Permitted
 pub mod Soundness
+pub mod Refusals
