@@ -3,10 +3,10 @@ use Rattle.std.proofs.Common.{◌≡◌, ℕ, not, IsTrue, Bool, true, false, if
 use Rattle.of10_action.specs.declared.action.Action.{Action}
 use Rattle.flowspace.specs.declared.rules.Rule.{Rule}
 use Rattle.action_check.specs.declared.origin.Origin.{Origin}
-use Rattle.action_check.specs.ActionRules.{has_argument, has_way, is_covered, probe_code, code_of}
+use Rattle.action_check.specs.ActionRules.{argument_fits, has_way, is_covered, probe_code, code_of}
 
 pub record IsAllowed (rules : List Rule) (slot : ℕ) (image : Origin) (action : Action) : Type 0 where
-  pub argument : IsTrue (has_argument action)
+  pub argument : IsTrue (argument_fits action)
   pub way : IsTrue (has_way rules slot image action)
   pub covered : IsTrue (is_covered rules slot image action)
   pub no_code : probe_code image action ≡ None
@@ -21,5 +21,5 @@ by_tests true true true o e = (refl, refl, refl, e)
 pub allowed : (rules : List Rule) (slot : ℕ) (image : Origin) (action : Action) → code_of rules slot image action ≡ None → IsAllowed rules slot image action
 unfolding code_of
 allowed rules slot image action e =
-    let parts = by_tests (has_argument action) (has_way rules slot image action) (is_covered rules slot image action) (probe_code image action) e in
+    let parts = by_tests (argument_fits action) (has_way rules slot image action) (is_covered rules slot image action) (probe_code image action) e in
     record { argument = parts.0; way = parts.1; covered = parts.2; no_code = parts.3 }

@@ -1,5 +1,5 @@
 -- A list is refused for the first action that is forbidden, and given where none is.
-use Rattle.std.proofs.Common.{◌≡◌, ◌↔◌, ℕ, List, [], ◌∷◌, ◌++◌, Option, Some, None, Result, Ok, Err, refl, sym, ap, ◌∙◌}
+use Rattle.std.proofs.Common.{◌≡◌, ◌↔◌, ℕ, List, [], ◌∷◌, ◌++◌, Option, Some, None, Ok, Err, refl, ap, ◌∙◌}
 use Rattle.std.specs.Option.{option_or}
 use Rattle.of10_action.specs.declared.action.Action.{Action}
 use Rattle.flowspace.specs.declared.rules.Rule.{Rule}

@@ -16,10 +16,10 @@ use Rattle.action_check.specs.Origins.{is_packet_out}
 -- ---- arguments
 
 -- a VLAN number has 12 bits, and a priority three
-abbrev pub has_argument : Action → Bool
-has_argument (SetVlanVid vlan) = leb vlan 4095
-has_argument (SetVlanPcp priority) = leb priority 7
-has_argument _ = true
+abbrev pub argument_fits : Action → Bool
+argument_fits (SetVlanVid vlan) = leb vlan 4095
+argument_fits (SetVlanPcp priority) = leb priority 7
+argument_fits _ = true
 
 -- ---- ports
 
@@ -80,7 +80,7 @@ probe_code (Probe in_port) action = elim (port_of action) [ None ↦ Some 6 | So
 -- the code of the first rule that an action breaks: BAD_ARGUMENT, BAD_OUT_PORT, EPERM, and those of probes
 unfoldable pub code_of : List Rule → ℕ → Origin → Action → Option ℕ
 code_of rules slot image action =
-    if not (has_argument action) then Some 5
+    if not (argument_fits action) then Some 5
     else if not (has_way rules slot image action) then Some 4
     else if not (is_covered rules slot image action) then Some 6
     else probe_code image action

@@ -5,7 +5,7 @@ ghost use Rattle.std.specs.List.{list_any};
 ghost use Rattle.of10_model.specs.Pattern.{has};
 ghost use Rattle.of10_model.specs.Inclusion.{includes_of, any_in_port};
 ghost use Rattle.flowspace.specs.Rules.{is_written_by};
-ghost use Rattle.action_check.specs.ActionRules.{has_argument, port_of, has_way_back, is_own_way, is_other_way, has_way, sees_in_port, counted, may_go, is_covered, probe_code, code_of};
+ghost use Rattle.action_check.specs.ActionRules.{argument_fits, port_of, has_way_back, is_own_way, is_other_way, has_way, sees_in_port, counted, may_go, is_covered, probe_code, code_of};
 
 use crate::origin::Origin;
 use flowspace::{Rule, SwitchPolicy};
@@ -27,8 +27,8 @@ const MAX_VLAN: u16 = 4095;
 
 const MAX_PRIORITY: u8 = 7;
 
-fn has_argument(action: &Action) -> bool
-    ensures { result ≡ has_argument action.now }
+fn argument_fits(action: &Action) -> bool
+    ensures { result ≡ argument_fits action.now }
 {
     match *action {
         Action::SetVlanVid(vlan) => vlan <= MAX_VLAN,
@@ -185,7 +185,7 @@ pub(crate) fn code_of(
 ) -> Option<u16>
     ensures { result ≡ code_of policy.now.rules slot image.now action.now }
 {
-    if !has_argument(action) {
+    if !argument_fits(action) {
         return Some(BAD_ARGUMENT);
     }
     if !has_way(policy, slot, image, action) {
