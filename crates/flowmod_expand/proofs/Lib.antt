@@ -1,0 +1,4 @@
+pub mod Same
+pub mod Somewhere
+pub mod Repeats
+pub mod Splits

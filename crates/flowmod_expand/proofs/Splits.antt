@@ -1,0 +1,68 @@
+-- The pieces of a match, rule by rule, and what holds of them.
+use Rattle.std.proofs.Common.{◌≡◌, ◌≢◌, ◌↔◌, ℕ, ◌+◌, ◌<◌, ◌≤◌, ◌||◌, ◌==◌, inl, inr, Bool, true, false, if◌then◌else◌, List, [], ◌∷◌, ◌++◌, length, take, get_or, map, filter, filter_map, All, Any, AllPairs, Option, Some, None, refl, sym, ◌∙◌, ap, subst, arith}
+use Rattle.std.proofs.lemmas.Bool.{cases_Bool, cond-true, cond-false}
+use Rattle.std.proofs.lemmas.List.{append-nil, take_more}
+use Rattle.std.proofs.lemmas.List.Elements.{All-weaker, filter-append, filter_map-append}
+use Rattle.of10_model.specs.declared.pattern.Pattern.{Pattern}
+use Rattle.of10_model.specs.Meet.{meet_of}
+use Rattle.flowspace.specs.declared.rules.Rule.{Rule}
+use Rattle.flowspace.specs.Rules.{is_written_by}
+use Rattle.flowmod_expand.specs.Pieces.{is_same, without_repeats, pieces_within, writes_of, pieces_of}
+use Rattle.flowmod_expand.proofs.Repeats.{is_among, without_repeats_more}
+
+-- what a rule lets a slice write of a match
+abbrev pub part_of : ℕ → Pattern → Rule → Option Pattern
+part_of slot m rule = if is_written_by slot rule then meet_of m rule.pattern else None
+
+map_append : {A B : Type 0} (f : A → B) (xs ys : List A) → map f (xs ++ ys) ≡ map f xs ++ map f ys
+map_append f [] ys = refl
+map_append f (x ∷ xs) ys = ap (λ zs. f x ∷ zs) (map_append f xs ys)
+
+writes_of_more : (rules : List Rule) (rule : Rule) (slot : ℕ) → writes_of (rules ++ rule ∷ []) slot ≡ writes_of rules slot ++ writes_of (rule ∷ []) slot
+writes_of_more rules rule slot =
+    ap (map (λ r. r.pattern)) (filter-append (is_written_by slot) rules (rule ∷ [])) ∙ map_append (λ r. r.pattern) (filter (is_written_by slot) rules) (filter (is_written_by slot) (rule ∷ []))
+
+meets_more : (rules : List Rule) (rule : Rule) (slot : ℕ) (m : Pattern)
+    → filter_map (meet_of m) (writes_of (rules ++ rule ∷ []) slot) ≡ filter_map (meet_of m) (writes_of rules slot) ++ filter_map (meet_of m) (writes_of (rule ∷ []) slot)
+meets_more rules rule slot m =
+    ap (filter_map (meet_of m)) (writes_of_more rules rule slot) ∙ filter_map-append (meet_of m) (writes_of rules slot) (writes_of (rule ∷ []) slot)
+
+no_meet : (rule : Rule) (slot : ℕ) (m : Pattern) (b : Bool) → is_written_by slot rule ≡ b → (if b then meet_of m rule.pattern else None) ≡ None → filter_map (meet_of m) (writes_of (rule ∷ []) slot) ≡ []
+no_meet rule slot m true e none = rw (e, none) refl
+no_meet rule slot m false e none = rw e refl
+
+one_meet : (rule : Rule) (slot : ℕ) (m p : Pattern) (b : Bool) → is_written_by slot rule ≡ b → (if b then meet_of m rule.pattern else None) ≡ Some p → filter_map (meet_of m) (writes_of (rule ∷ []) slot) ≡ p ∷ []
+one_meet rule slot m p true e some = rw (e, some) refl
+one_meet rule slot m p false e some = absurd (cc)
+
+-- a rule that lets the slice write nothing of the match adds no piece
+pub no_piece : (rules : List Rule) (i : ℕ) (d : Rule) (slot : ℕ) (m : Pattern) → i < length rules → part_of slot m (get_or rules i d) ≡ None
+    → pieces_of (take (i + 1) rules) slot m ≡ pieces_of (take i rules) slot m
+no_piece rules i d slot m lt none =
+    let rule = get_or rules i d in
+    let meets = filter_map (meet_of m) (writes_of (take i rules) slot) in
+    ap (λ rs. pieces_of rs slot m) (take_more rules i d lt)
+    ∙ ap without_repeats (meets_more (take i rules) rule slot m ∙ ap (λ zs. meets ++ zs) (no_meet rule slot m (is_written_by slot rule) refl none) ∙ append-nil meets)
+
+-- what another lets it write is a further piece, unless it is one already
+pub one_piece : (rules : List Rule) (i : ℕ) (d : Rule) (slot : ℕ) (m p : Pattern) → i < length rules → part_of slot m (get_or rules i d) ≡ Some p
+    → pieces_of (take (i + 1) rules) slot m ≡ (if is_among (pieces_of (take i rules) slot m) p then pieces_of (take i rules) slot m else pieces_of (take i rules) slot m ++ p ∷ [])
+one_piece rules i d slot m p lt some =
+    let rule = get_or rules i d in
+    let meets = filter_map (meet_of m) (writes_of (take i rules) slot) in
+    ap (λ rs. pieces_of rs slot m) (take_more rules i d lt)
+    ∙ ap without_repeats (meets_more (take i rules) rule slot m ∙ ap (λ zs. meets ++ zs) (one_meet rule slot m p (is_written_by slot rule) refl some))
+    ∙ without_repeats_more meets p
+
+-- a step of the walk over the rules, by what it has found
+pub found_more : (rules : List Rule) (i : ℕ) (rule : Rule) (slot : ℕ) (m p : Pattern) (found new : List Pattern) → i < length rules → rule ≡ get_or rules i rule → part_of slot m rule ≡ Some p
+    → found ≡ pieces_of (take i rules) slot m → new ≡ (if is_among found p then found else found ++ p ∷ []) → new ≡ pieces_of (take (i + 1) rules) slot m
+found_more rules i rule slot m p found new lt is some so_far added =
+    let part : part_of slot m (get_or rules i rule) ≡ Some p = subst (λ r. part_of slot m r ≡ Some p) is some in
+    added ∙ ap (λ ps. if is_among ps p then ps else ps ++ p ∷ []) so_far ∙ sym (one_piece rules i rule slot m p lt part)
+
+pub found_same : (rules : List Rule) (i : ℕ) (rule : Rule) (slot : ℕ) (m : Pattern) (found : List Pattern) → i < length rules → rule ≡ get_or rules i rule → part_of slot m rule ≡ None
+    → found ≡ pieces_of (take i rules) slot m → found ≡ pieces_of (take (i + 1) rules) slot m
+found_same rules i rule slot m found lt is none so_far =
+    let part : part_of slot m (get_or rules i rule) ≡ None = subst (λ r. part_of slot m r ≡ None) is none in
+    so_far ∙ sym (no_piece rules i rule slot m lt part)

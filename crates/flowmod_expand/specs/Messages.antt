@@ -1,0 +1,38 @@
+-- The messages that are sent for a flow-mod, one for each of its pieces. Which fields they have is the proxy's own rule.
+use Rattle.std.specs.Prelude.{ℕ, ◌+◌, ◌==◌, ◌||◌, leb, nat_lt, Bool, if◌then◌else◌, List, [], ◌∷◌, map, length, sum_by, Option, Some, None}
+use Rattle.std.specs.List.{list_any}
+use Rattle.of10_model.specs.declared.pattern.Pattern.{Pattern}
+use Rattle.of10_action.specs.declared.action.Action.{Action}
+use Rattle.of10_flow.specs.declared.flow_mod.FlowMod.{FlowMod}
+use Rattle.of10_flow.specs.FlowMods.{spell_flow_mod}
+
+-- a delete, strict or not: the commands from 3 on (OpenFlow 1.0.0, section 5.3.3)
+abbrev pub is_delete : FlowMod → Bool
+is_delete m = leb 3 m.command
+
+-- the buffer number of the piece at a place: the one that is given for its place, and else none, 0xffffffff (OpenFlow 1.0.0, section 5.3.3)
+abbrev pub buffer_at : Option (ℕ × ℕ) → ℕ → ℕ
+buffer_at None place = 0xffffffff
+buffer_at (Some own) place = if own.0 == place then own.1 else 0xffffffff
+
+-- the flow-mod that is sent for a piece: a delete has no actions, no flags and no buffer; another has the piece's own actions and buffer, and of the flags SEND_FLOW_REM alone
+unfoldable pub sent_for : FlowMod → ℕ → Pattern → List Action → ℕ → FlowMod
+sent_for m xid piece actions buffer =
+    if is_delete m
+    then record m { xid = xid; pattern = piece; buffer = 0xffffffff; flags = 0; actions = [] }
+    else record m { xid = xid; pattern = piece; buffer = buffer; flags = 1; actions = actions }
+
+-- those of all pieces, each with the list of actions at its place; the places count from a number on
+abbrev pub sent_from : ℕ → FlowMod → ℕ → List Pattern → List (List Action) → Option (ℕ × ℕ) → List FlowMod
+sent_from place m xid [] lists buffer = []
+sent_from place m xid (piece ∷ pieces) [] buffer = []
+sent_from place m xid (piece ∷ pieces) (actions ∷ lists) buffer =
+    sent_for m xid piece actions (buffer_at buffer place) ∷ sent_from (place + 1) m xid pieces lists buffer
+
+-- the bytes of the messages, one for each piece
+abbrev pub flow_messages : FlowMod → ℕ → List Pattern → List (List Action) → Option (ℕ × ℕ) → List (List ℕ)
+flow_messages m xid pieces lists buffer = map spell_flow_mod (sent_from 0 m xid pieces lists buffer)
+
+-- all messages together pass 262,144 bytes, or one passes the 65,535 that its length field can say
+abbrev pub are_too_large : List (List ℕ) → Bool
+are_too_large messages = nat_lt 262144 (sum_by length messages) || list_any (λ bytes. nat_lt 65535 (length bytes)) messages

@@ -1,0 +1,39 @@
+//! Laws of the definitions. Each function's contract is the law; its body does nothing.
+
+ghost use Rattle.std.specs.Prelude.{ℕ, List, ◌≡◌, ◌≢◌, ◌≤◌, ◌↔◌, length, count_by, All, Any, AllPairs};
+ghost use Rattle.of10_model.specs.declared.pattern.Pattern.{Pattern};
+ghost use Rattle.of10_model.specs.Header.{Header, IsHeader};
+ghost use Rattle.of10_model.specs.Pattern.{Has};
+ghost use Rattle.of10_model.specs.Normal.{IsNormal};
+ghost use Rattle.of10_model.specs.Inclusion.{Includes};
+ghost use Rattle.flowspace.specs.declared.slices.Slice.{Slice};
+ghost use Rattle.flowspace.specs.declared.rules.Rule.{Rule};
+ghost use Rattle.flowspace.specs.Rules.{is_written_by};
+ghost use Rattle.flowspace.specs.Policies.{IsSwitchPolicy, AreNormal};
+ghost use Rattle.flowspace.specs.Owners.{Writes, HasWriteRule, Owns};
+ghost use Rattle.flowmod_expand.specs.Pieces.{pieces_of};
+
+/// The pieces of a match have together the headers of the match that the slice's rules let it write; so
+/// under a policy of the switch they have those that the slice writes.
+pub fn pieces_have_what_the_slice_writes()
+    ensures rules { (rules : List Rule) (slot : ℕ) (m : Pattern) (h : Header) → Any (λ piece. Has piece h) (pieces_of rules slot m) ↔ (Has m h × HasWriteRule rules slot h) }
+    ensures policy { (slices : List Slice) (rules : List Rule) → IsSwitchPolicy slices rules → (slot : ℕ) (m : Pattern) (h : Header) → IsHeader h → Any (λ piece. Has piece h) (pieces_of rules slot m) ↔ (Has m h × Writes rules slot h) }
+{}
+
+/// Each piece lies in one rule that the slice writes, and in the match.
+pub fn piece_lies_in_one_rule()
+    ensures rule { (rules : List Rule) (slot : ℕ) (m : Pattern) → All (Owns rules slot) (pieces_of rules slot m) }
+    ensures whole { (rules : List Rule) (slot : ℕ) (m : Pattern) → All (Includes m) (pieces_of rules slot m) }
+{}
+
+/// No two pieces are one, and there are no more of them than rules that the slice writes.
+pub fn pieces_are_distinct()
+    ensures distinct { (rules : List Rule) (slot : ℕ) (m : Pattern) → AllPairs (λ a b. a ≢ b) (pieces_of rules slot m) }
+    ensures few { (rules : List Rule) (slot : ℕ) (m : Pattern) → length (pieces_of rules slot m) ≤ count_by (is_written_by slot) rules }
+{}
+
+/// Of normal matches the pieces are normal, and each has a header.
+pub fn piece_is_normal()
+    ensures normal { (rules : List Rule) (slot : ℕ) (m : Pattern) → AreNormal rules → IsNormal m → All IsNormal (pieces_of rules slot m) }
+    ensures header { (rules : List Rule) (slot : ℕ) (m : Pattern) → AreNormal rules → IsNormal m → All (λ piece. (h : Header) × IsHeader h × Has piece h) (pieces_of rules slot m) }
+{}

@@ -1,0 +1,14 @@
+//! Flow-mods cut to what a slice may write: the pieces of a match, and the messages that are sent for
+//! them.
+#![tactic(auto)]
+
+mod fault;
+pub mod laws;
+
+mod messages;
+mod splitting;
+mod writing;
+
+pub use fault::BuildFault;
+
+pub use splitting::pieces;

@@ -1,0 +1,3 @@
+//! The messages of a flow-mod.
+
+
