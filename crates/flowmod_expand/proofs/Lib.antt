@@ -2,3 +2,5 @@ pub mod Same
 pub mod Somewhere
 pub mod Repeats
 pub mod Splits
+pub mod Space
+pub mod Walks

@@ -2,8 +2,9 @@
 use Rattle.std.proofs.Common.{◌≡◌, ◌≢◌, ◌↔◌, ℕ, ◌+◌, ◌<◌, ◌≤◌, ◌||◌, ◌==◌, inl, inr, Bool, true, false, if◌then◌else◌, List, [], ◌∷◌, ◌++◌, length, take, get_or, map, filter, filter_map, All, Any, AllPairs, Option, Some, None, refl, sym, ◌∙◌, ap, subst, arith}
 use Rattle.std.proofs.lemmas.Bool.{cases_Bool, cond-true, cond-false}
 use Rattle.std.proofs.lemmas.List.{append-nil, take_more}
-use Rattle.std.proofs.lemmas.List.Elements.{All-weaker, filter-append, filter_map-append}
+use Rattle.std.proofs.lemmas.List.Elements.{All-push, filter-append, filter_map-append}
 use Rattle.of10_model.specs.declared.pattern.Pattern.{Pattern}
+use Rattle.of10_model.specs.Normal.{IsNormal}
 use Rattle.of10_model.specs.Meet.{meet_of}
 use Rattle.flowspace.specs.declared.rules.Rule.{Rule}
 use Rattle.flowspace.specs.Rules.{is_written_by}
@@ -54,15 +55,30 @@ one_piece rules i d slot m p lt some =
     ∙ ap without_repeats (meets_more (take i rules) rule slot m ∙ ap (λ zs. meets ++ zs) (one_meet rule slot m p (is_written_by slot rule) refl some))
     ∙ without_repeats_more meets p
 
--- a step of the walk over the rules, by what it has found
-pub found_more : (rules : List Rule) (i : ℕ) (rule : Rule) (slot : ℕ) (m p : Pattern) (found new : List Pattern) → i < length rules → rule ≡ get_or rules i rule → part_of slot m rule ≡ Some p
-    → found ≡ pieces_of (take i rules) slot m → new ≡ (if is_among found p then found else found ++ p ∷ []) → new ≡ pieces_of (take (i + 1) rules) slot m
-found_more rules i rule slot m p found new lt is some so_far added =
+-- what a walk over the rules has found
+pub record Found (rules : List Rule) (slot : ℕ) (m : Pattern) (found : List Pattern) (i : ℕ) : Type 0 where
+  pub so_far : found ≡ pieces_of (take i rules) slot m
+  pub normal : All IsNormal found
+
+all_added : (found : List Pattern) (p : Pattern) → All IsNormal found → IsNormal p → (b : Bool) → All IsNormal (if b then found else found ++ p ∷ [])
+all_added found p normal normal_p true = normal
+all_added found p normal normal_p false = All-push IsNormal found p normal normal_p
+
+-- a step of it
+pub found_more : (rules : List Rule) (i : ℕ) (rule : Rule) (slot : ℕ) (m p : Pattern) (found new : List Pattern) → i < length rules → rule ≡ get_or rules i rule → part_of slot m rule ≡ Some p → IsNormal p
+    → Found rules slot m found i → new ≡ (if is_among found p then found else found ++ p ∷ []) → Found rules slot m new (i + 1)
+found_more rules i rule slot m p found new lt is some normal_p walk added =
     let part : part_of slot m (get_or rules i rule) ≡ Some p = subst (λ r. part_of slot m r ≡ Some p) is some in
-    added ∙ ap (λ ps. if is_among ps p then ps else ps ++ p ∷ []) so_far ∙ sym (one_piece rules i rule slot m p lt part)
+    record {
+      so_far = added ∙ ap (λ ps. if is_among ps p then ps else ps ++ p ∷ []) walk.so_far ∙ sym (one_piece rules i rule slot m p lt part);
+      normal = subst (All IsNormal) (sym added) (all_added found p walk.normal normal_p (is_among found p));
+    }
 
 pub found_same : (rules : List Rule) (i : ℕ) (rule : Rule) (slot : ℕ) (m : Pattern) (found : List Pattern) → i < length rules → rule ≡ get_or rules i rule → part_of slot m rule ≡ None
-    → found ≡ pieces_of (take i rules) slot m → found ≡ pieces_of (take (i + 1) rules) slot m
-found_same rules i rule slot m found lt is none so_far =
+    → Found rules slot m found i → Found rules slot m found (i + 1)
+found_same rules i rule slot m found lt is none walk =
     let part : part_of slot m (get_or rules i rule) ≡ None = subst (λ r. part_of slot m r ≡ None) is none in
-    so_far ∙ sym (no_piece rules i rule slot m lt part)
+    record {
+      so_far = walk.so_far ∙ sym (no_piece rules i rule slot m lt part);
+      normal = walk.normal;
+    }

@@ -1,10 +1,12 @@
 -- The messages that are sent for a flow-mod, one for each of its pieces. Which fields they have is the proxy's own rule.
-use Rattle.std.specs.Prelude.{ℕ, ◌+◌, ◌==◌, ◌||◌, leb, nat_lt, Bool, if◌then◌else◌, List, [], ◌∷◌, map, length, sum_by, Option, Some, None}
+use Rattle.std.specs.Prelude.{ℕ, ◌≡◌, ◌+◌, ◌==◌, ◌||◌, leb, nat_lt, Bool, true, false, if◌then◌else◌, List, [], ◌∷◌, map, length, sum_by, Option, Some, None, Result, Ok, Err}
 use Rattle.std.specs.List.{list_any}
 use Rattle.of10_model.specs.declared.pattern.Pattern.{Pattern}
 use Rattle.of10_action.specs.declared.action.Action.{Action}
 use Rattle.of10_flow.specs.declared.flow_mod.FlowMod.{FlowMod}
 use Rattle.of10_flow.specs.FlowMods.{spell_flow_mod}
+use Rattle.flowmod_expand.specs.declared.fault.BuildFault.{BuildFault}
+use Rattle.flowmod_expand.specs.declared.fault.BuildFault.TheVariants.{TooLarge, Memory}
 
 -- a delete, strict or not: the commands from 3 on (OpenFlow 1.0.0, section 5.3.3)
 abbrev pub is_delete : FlowMod → Bool
@@ -15,12 +17,16 @@ abbrev pub buffer_at : Option (ℕ × ℕ) → ℕ → ℕ
 buffer_at None place = 0xffffffff
 buffer_at (Some own) place = if own.0 == place then own.1 else 0xffffffff
 
--- the flow-mod that is sent for a piece: a delete has no actions, no flags and no buffer; another has the piece's own actions and buffer, and of the flags SEND_FLOW_REM alone
+-- the flow-mod that is sent for a piece: a delete has no buffer, no flags and no actions; another has the buffer of its place, of the flags SEND_FLOW_REM alone, and the piece's own actions
 unfoldable pub sent_for : FlowMod → ℕ → Pattern → List Action → ℕ → FlowMod
 sent_for m xid piece actions buffer =
-    if is_delete m
-    then record m { xid = xid; pattern = piece; buffer = 0xffffffff; flags = 0; actions = [] }
-    else record m { xid = xid; pattern = piece; buffer = buffer; flags = 1; actions = actions }
+    record m {
+      xid = xid;
+      pattern = piece;
+      buffer = if is_delete m then 0xffffffff else buffer;
+      flags = if is_delete m then 0 else 1;
+      actions = if is_delete m then [] else actions;
+    }
 
 -- those of all pieces, each with the list of actions at its place; the places count from a number on
 abbrev pub sent_from : ℕ → FlowMod → ℕ → List Pattern → List (List Action) → Option (ℕ × ℕ) → List FlowMod
@@ -36,3 +42,9 @@ flow_messages m xid pieces lists buffer = map spell_flow_mod (sent_from 0 m xid 
 -- all messages together pass 262,144 bytes, or one passes the 65,535 that its length field can say
 abbrev pub are_too_large : List (List ℕ) → Bool
 are_too_large messages = nat_lt 262144 (sum_by length messages) || list_any (λ bytes. nat_lt 65535 (length bytes)) messages
+
+-- a call answers the messages where they aren't too large, that they are exactly where they are, or want of memory
+abbrev pub Gives : {A : Type 0} → (A → List (List ℕ)) → Result A BuildFault → List (List ℕ) → Type 0
+Gives view (Ok frames) messages = (view frames ≡ messages) × (are_too_large messages ≡ false)
+Gives view (Err TooLarge) messages = are_too_large messages ≡ true
+Gives view (Err Memory) messages = Unit {0}

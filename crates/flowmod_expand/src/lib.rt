@@ -11,4 +11,5 @@ mod writing;
 
 pub use fault::BuildFault;
 
+pub use messages::build;
 pub use splitting::pieces;

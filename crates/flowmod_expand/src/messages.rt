@@ -1,3 +1,96 @@
 //! The messages of a flow-mod.
 
+ghost use Rattle.std.specs.Prelude.{◌≡◌, ◌↔◌, ◌⊎◌, ◌+◌, ◌<◌, ◌≤◌, true, false, length, All, sum_by, IfOk, IfSome, MatchOption, IsTrue};
+ghost use Rattle.of10_action.specs.Actions.{spelling};
+ghost use Rattle.of10_ctl.specs.Kinds.{IsOf};
+ghost use Rattle.flowmod_expand.specs.Messages.{buffer_at, flow_messages, are_too_large, Gives};
 
+use crate::fault::BuildFault;
+use crate::writing::{message, sent_actions};
+use of10_action::{Actions, list_size};
+use of10_ctl::Frame;
+use of10_flow::FlowMod;
+use of10_flow::protocol::NO_BUFFER;
+use of10_match::Match;
+use std::alloc::{AllocError, Global};
+
+/// Bytes that all messages of one flow-mod may have together.
+const EXPANSION: u64 = 262_144;
+
+/// Bytes of a flow-mod before its actions (OpenFlow 1.0.0, section 5.3.3).
+const FIELDS: u64 = 72;
+
+/// Bytes of actions that fit into a message, whose length is below 65,536 (OpenFlow 1.0.0, section 5.1).
+const MOST_ACTIONS: u64 = 65_535 - FIELDS;
+
+fn buffer_at(buffer: Option<(u32, u32)>, place: usize) -> u32
+    ensures { result ≡ buffer_at buffer place }
+{
+    match buffer {
+        Some((own, number)) if own as usize == place => number,
+        _ => NO_BUFFER,
+    }
+}
+
+/// Whether a message with so many bytes of actions is too large, alone or for the room that is left.
+fn is_too_large(size: u64, room: u64) -> bool
+    ensures large { IsTrue result → (65535 < 72 + size) ⊎ (room < 72 + size) }
+    ensures fits { result ≡ false → (72 + size ≤ 65535) × (72 + size ≤ room) }
+{
+    size > MOST_ACTIONS || FIELDS + size > room
+}
+
+/// The messages of the pieces; `None` where they are too large.
+fn messages(
+    alloc: Global,
+    m: &FlowMod,
+    xid: u32,
+    pieces: &[Match],
+    actions: &[Actions],
+    buffer: Option<(u32, u32)>,
+) -> Result<Option<Vec<Frame>>, AllocError>
+    requires { length actions.now ≡ length pieces.now }
+    ensures value { IfOk result (λ o. MatchOption o (are_too_large (flow_messages m.now xid pieces.now actions.now buffer) ≡ true) (λ v. (v.items ≡ flow_messages m.now xid pieces.now actions.now buffer) × (are_too_large v.items ≡ false))) }
+    ensures kind { IfOk result (λ o. IfSome o (λ v. All (IsOf 14) v.items)) }
+{
+    let mut frames = Vec::with_capacity(alloc, pieces.len())?;
+    let mut room = EXPANSION;
+    for (place, piece) in pieces.iter().enumerate() {
+        let sent = sent_actions(m, &actions[place]);
+        let size = list_size(sent);
+        if is_too_large(size, room) {
+            return Ok(None);
+        }
+        room -= FIELDS + size;
+        let number = buffer_at(buffer, place);
+        frames.push(message(alloc, m, xid, piece, sent, size as u16, number)?)?;
+    }
+    Ok(Some(frames))
+}
+
+/// One message for each piece of a flow-mod, under the transaction `xid` of the switch: the piece's match
+/// and, but for a delete, the piece's own actions and the flag SEND_FLOW_REM alone; all else as the
+/// flow-mod has it. The piece whose place `buffer` names has the buffer number behind it, all others none,
+/// and deletes never have one.
+pub fn build(
+    alloc: Global,
+    m: &FlowMod,
+    xid: u32,
+    pieces: &[Match],
+    actions: &[Actions],
+    buffer: Option<(u32, u32)>,
+) -> Result<Vec<Frame>, BuildFault>
+    requires lists { length actions.now ≡ length pieces.now }
+    requires command { m.now.command ≤ 4 }
+    requires place { IfSome buffer (λ own. own.0 < length pieces.now) }
+    ensures exact { Gives (λ frames. frames.items) result (flow_messages m.now xid pieces.now actions.now buffer) }
+    ensures kind { IfOk result (λ frames. All (IsOf 14) frames.items) }
+    ensures sizes { IfOk result (λ frames. All (λ frame. length frame ≤ 65535) frames.items) }
+    ensures together { IfOk result (λ frames. sum_by length frames.items ≤ 262144) }
+{
+    match messages(alloc, m, xid, pieces, actions, buffer) {
+        Ok(Some(frames)) => Ok(frames),
+        Ok(None) => Err(BuildFault::TooLarge),
+        Err(_) => Err(BuildFault::Memory),
+    }
+}

@@ -59,12 +59,12 @@ fn is_same(a: &Pattern, b: &Pattern) -> bool
         && same_u8(a.nw_tos, b.nw_tos)
 }
 
-fn is_among(found: &[Match], piece: &Match) -> bool
+fn is_among(found: &[Match], piece: &Pattern) -> bool
     ensures { result ≡ list_any (λ earlier. is_same earlier piece.now) found.now }
 {
     found
         .iter()
-        .any(|earlier| is_same(earlier.pattern(), piece.pattern()))
+        .any(|earlier| is_same(earlier.pattern(), piece))
 }
 
 /// What the rule lets the slice write of the match.
@@ -79,9 +79,10 @@ fn piece_of(rule: &Rule, slot: u8, pattern: &Match) -> Option<Match>
 }
 
 fn add(found: &mut Vec<Match>, piece: Match) -> Result<(), AllocError>
-    ensures { OnOk result (found.new.items ≡ (if list_any (λ earlier. is_same earlier piece) found.old.items then found.old.items else found.old.items ++ piece ∷ [])) }
+    ensures added { OnOk result (found.new.items ≡ (if list_any (λ earlier. is_same earlier piece) found.old.items then found.old.items else found.old.items ++ piece ∷ [])) }
+    ensures normal { IsNormal piece }
 {
-    if is_among(found, &piece) {
+    if is_among(found, piece.pattern()) {
         return Ok(());
     }
     found.push(piece)?;
@@ -96,7 +97,10 @@ pub fn pieces(
     slot: u8,
     pattern: &Match,
 ) -> Result<Vec<Match>, AllocError>
-    ensures { IfOk result (λ v. v.items ≡ pieces_of policy.now.rules slot pattern.now) }
+    ensures value { IfOk result (λ v. v.items ≡ pieces_of policy.now.rules slot pattern.now) }
+    ensures normal { IfOk result (λ v. All IsNormal v.items) }
+    ensures distinct { IfOk result (λ v. AllPairs (λ a b. a ≢ b) v.items) }
+    ensures few { IfOk result (λ v. length v.items ≤ 256) }
 {
     let rules = policy.rules();
     let mut found = Vec::new(alloc);

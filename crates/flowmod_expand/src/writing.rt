@@ -25,7 +25,6 @@ fn is_delete(m: &FlowMod) -> bool
 }
 
 /// The actions that the message of a piece has.
-#[tactic(auto, unfolding(crate::specs::Messages::sent_for))]
 pub(crate) fn sent_actions<'a>(m: &FlowMod, actions: &'a Actions) -> &'a [Action]
     ensures value { result.now ≡ (if is_delete m.now then [] else actions.now) }
     ensures addresses { All HasAddress result.now }
@@ -68,7 +67,7 @@ fn put_place(out: &mut Vec<u8>, buffer: u32, m: &FlowMod) -> Result<(), AllocErr
 }
 
 /// The message of a piece, which has these actions, `size` bytes of them.
-#[tactic(auto, unfolding(of10_flow::specs::FlowMods::spell_flow_mod))]
+#[tactic(auto, unfolding(of10_flow::specs::FlowMods::spell_flow_mod, crate::specs::Messages::sent_for))]
 pub(crate) fn message(
     alloc: Global,
     m: &FlowMod,
@@ -81,7 +80,7 @@ pub(crate) fn message(
     requires addresses { All HasAddress actions.now }
     requires size { size ≡ length (spelling actions.now) }
     requires fits { 72 + size ≤ 65535 }
-    ensures value { IfOk result (λ f. f ≡ spell_flow_mod (record m.now { xid = xid; pattern = piece.now; buffer = (if is_delete m.now then 0xffffffff else buffer); flags = (if is_delete m.now then 0 else 1); actions = actions.now })) }
+    ensures value { IfOk result (λ f. f ≡ spell_flow_mod (record (sent_for m.now xid piece.now actions.now buffer) { actions = actions.now })) }
     ensures kind { IfOk result (λ f. IsOf 14 f) }
     ensures length { IfOk result (λ f. length f ≡ 72 + size) }
 {
