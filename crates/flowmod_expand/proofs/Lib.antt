@@ -4,3 +4,4 @@ pub mod Repeats
 pub mod Splits
 pub mod Space
 pub mod Walks
+pub mod Again

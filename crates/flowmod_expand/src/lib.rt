@@ -13,3 +13,6 @@ pub use fault::BuildFault;
 
 pub use messages::build;
 pub use splitting::pieces;
+
+#[cfg(test)]
+mod tests;
