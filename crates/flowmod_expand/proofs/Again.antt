@@ -1,10 +1,10 @@
 -- The messages of the pieces are read again.
-use Rattle.std.proofs.Common.{◌≡◌, ℕ, ◌+◌, ◌<◌, ◌≤◌, ◌^◌, ◌==◌, Bool, true, false, if◌then◌else◌, List, [], length, get_or, All, Option, Some, None, IfSome, Ok, sym, ◌∙◌, ap, subst, arith}
+use Rattle.std.proofs.Common.{◌≡◌, ℕ, ◌<◌, ◌≤◌, ◌^◌, ◌==◌, Bool, true, false, if◌then◌else◌, List, [], length, get_or, All, Option, Some, None, IfSome, Ok, sym, ◌∙◌, ap, subst, arith}
 use Rattle.std.proofs.lemmas.List.Elements.{All-nil}
 use Rattle.of10_model.specs.declared.pattern.Pattern.{Pattern}
 use Rattle.of10_model.specs.Normal.{IsNormal}
 use Rattle.of10_action.specs.declared.action.Action.{Action}
-use Rattle.of10_action.specs.Actions.{IsAction, spelling}
+use Rattle.of10_action.specs.Actions.{IsAction}
 use Rattle.of10_ctl.specs.Kinds.{IsOf}
 use Rattle.of10_flow.specs.declared.flow_mod.FlowMod.{FlowMod}
 use Rattle.of10_flow.specs.FlowMods.{IsFlowMod, spell_flow_mod, read_flow_mod}
@@ -56,7 +56,7 @@ pub sent_again : (m : FlowMod) (xid : ℕ) (pieces : List Pattern) (lists : List
     → IfSome buffer (λ own. own.1 < 2 ^ 32) → length lists ≡ length pieces → are_too_large (flow_messages m xid pieces lists buffer) ≡ false
     → (place : ℕ) (bytes : List ℕ) (p : Pattern) (l : List Action) → place < length pieces
     → IsOf 14 (get_or (flow_messages m xid pieces lists buffer) place bytes)
-      × (read_flow_mod (get_or (flow_messages m xid pieces lists buffer) place bytes) ≡ Ok (sent_for m xid (get_or pieces place p) (get_or lists place l) (buffer_at buffer place)))
+    × (read_flow_mod (get_or (flow_messages m xid pieces lists buffer) place bytes) ≡ Ok (sent_for m xid (get_or pieces place p) (get_or lists place l) (buffer_at buffer place)))
 sent_again m xid pieces lists buffer is xid_fits normal all number long small place bytes p l lt =
     let messages = flow_messages m xid pieces lists buffer in
     let count = flow_messages_length m xid pieces lists buffer long in

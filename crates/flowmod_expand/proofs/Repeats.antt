@@ -1,16 +1,16 @@
 -- Lists of matches without repeats.
-use Rattle.std.proofs.Common.{◌≡◌, ◌≢◌, ℕ, ◌≤◌, ◌⊎◌, inl, inr, Bool, true, false, not, ◌||◌, if◌then◌else◌, List, [], ◌∷◌, ◌++◌, length, filter, All, Any, AllPairs, refl, sym, ◌∙◌, ap, subst, arith}
+use Rattle.std.proofs.Common.{◌≡◌, ◌≢◌, ◌≤◌, inl, inr, Bool, true, false, not, ◌||◌, if◌then◌else◌, List, [], ◌∷◌, ◌++◌, length, filter, All, Any, AllPairs, refl, sym, ◌∙◌, ap, subst, arith}
 use Rattle.std.specs.List.{list_any}
-use Rattle.std.proofs.lemmas.Bool.{cases_Bool, cond-true, cond-false, true≢false, or_left}
+use Rattle.std.proofs.lemmas.Bool.{true≢false}
 use Rattle.std.proofs.lemmas.List.{append-nil}
-use Rattle.std.proofs.lemmas.List.Elements.{All-nil, All-cons, All-head, All-tail, All-filter, All-weaker, filter_passes, filter-append}
+use Rattle.std.proofs.lemmas.List.Elements.{All-cons, All-head, All-tail, All-filter, All-weaker, filter_passes, filter-append}
 use Rattle.std.proofs.lemmas.List.Kept.{AllPairs-cons, AllPairs-filter}
 use Rattle.std.proofs.lemmas.List.Sums.{length-filter, count_by-le-length}
 use Rattle.std.proofs.lemmas.Map.Views.{any-filter_same}
 use Rattle.of10_model.specs.declared.pattern.Pattern.{Pattern}
 use Rattle.flowmod_expand.specs.Pieces.{is_same, without_repeats}
 use Rattle.flowmod_expand.proofs.Same.{one-is_same, is_same-one}
-use Rattle.flowmod_expand.proofs.Somewhere.{Any-first, Any-later, Any-cases, Any-nil, Any-filter, filter-Any}
+use Rattle.flowmod_expand.proofs.Somewhere.{Any-first, Any-later, Any-cases, Any-filter, filter-Any}
 
 -- the tests of the definition and of the code
 abbrev pub is_other : Pattern → Pattern → Bool

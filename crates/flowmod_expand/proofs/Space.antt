@@ -1,8 +1,8 @@
 -- The headers of the pieces of a match.
-use Rattle.std.proofs.Common.{◌≡◌, ◌≢◌, ◌↔◌, ℕ, ◌+◌, ◌<◌, ◌≤◌, inl, inr, Bool, true, false, List, [], ◌∷◌, length, get_or, map, filter, filter_map, count_by, All, Any, AllPairs, Option, Some, None, refl, sym, ◌∙◌, ap, subst, arith}
+use Rattle.std.proofs.Common.{◌≡◌, ◌≢◌, ◌↔◌, ℕ, ◌≤◌, inl, inr, true, false, List, [], ◌∷◌, length, get_or, filter, filter_map, count_by, All, Any, AllPairs, Option, Some, None, refl, sym, ◌∙◌, subst, arith}
 use Rattle.std.proofs.lemmas.Bool.{cases_Bool, cond-true, cond-false}
 use Rattle.std.proofs.lemmas.List.{length-map, get_or_default}
-use Rattle.std.proofs.lemmas.List.Elements.{All-weaker, All-map, All-filter, All-contains_itself, filter_passes}
+use Rattle.std.proofs.lemmas.List.Elements.{All-weaker, All-map, All-filter}
 use Rattle.std.proofs.lemmas.List.Sums.{length-filter}
 use Rattle.of10_model.specs.declared.pattern.Pattern.{Pattern}
 use Rattle.of10_model.specs.Header.{Header, IsHeader}
@@ -20,8 +20,8 @@ use Rattle.flowspace.specs.Policies.{IsSwitchPolicy, AreNormal}
 use Rattle.flowspace.specs.Owners.{Writes, HasWriteRule, Owns}
 use Rattle.flowspace.proofs.Owning.{Writes-iff}
 use Rattle.flowspace.proofs.Refusing.{is_value-Some, Some-is_value}
-use Rattle.flowmod_expand.specs.Pieces.{without_repeats, pieces_within, writes_of, pieces_of}
-use Rattle.flowmod_expand.proofs.Somewhere.{Any-first, Any-later, Any-cases, Any-nil, Any-filter, filter-Any, Any-map, map-Any, GivesOne, Any-filter_map, filter_map-Any, All-filter_map, filter_map_length}
+use Rattle.flowmod_expand.specs.Pieces.{writes_of, pieces_of}
+use Rattle.flowmod_expand.proofs.Somewhere.{Any-first, Any-later, Any-cases, Any-nil, filter-Any, Any-map, map-Any, GivesOne, Any-filter_map, filter_map-Any, All-filter_map, filter_map_length}
 use Rattle.flowmod_expand.proofs.Repeats.{distinct, All-without_repeats, Any-without_repeats, without_repeats-Any, without_repeats_length}
 
 -- ---- the rules that a slice writes
@@ -73,8 +73,7 @@ meet_has m w h in_m in_w (Some p) some = (p, some, (some_meet m w p some h).1 (i
 pub Any-pieces_of : (rules : List Rule) (slot : ℕ) (m : Pattern) (h : Header) → Any (λ piece. Has piece h) (pieces_of rules slot m) ↔ (Has m h × HasWriteRule rules slot h)
 Any-pieces_of rules slot m h =
     let P = λ (p : Pattern). Has p h in
-    let writes = writes_of rules slot in
-    (
+    let writes = writes_of rules slot in (
       λ some.
           let one = Any-filter_map P (meet_of m) writes (Any-without_repeats P (filter_map (meet_of m) writes) some) in
           let both = (some_meet m one.1 one.4.0 one.4.1 h).0 one.4.2 in
@@ -89,8 +88,7 @@ Any-pieces_of rules slot m h =
 pub Any-pieces_of-Writes : (slices : List Slice) (rules : List Rule) → IsSwitchPolicy slices rules → (slot : ℕ) (m : Pattern) (h : Header) → IsHeader h → Any (λ piece. Has piece h) (pieces_of rules slot m) ↔ (Has m h × Writes rules slot h)
 Any-pieces_of-Writes slices rules policy slot m h range =
     let by_rules = Any-pieces_of rules slot m h in
-    let by_writer = Writes-iff slices rules policy slot h range in
-    (
+    let by_writer = Writes-iff slices rules policy slot h range in (
       λ some. let both = by_rules.0 some in (both.0, by_writer.1 both.1),
       λ both. by_rules.1 (both.0, by_writer.0 both.1),
     )

@@ -1,6 +1,5 @@
 -- The pieces of a match, rule by rule, and what holds of them.
-use Rattle.std.proofs.Common.{◌≡◌, ◌≢◌, ◌↔◌, ℕ, ◌+◌, ◌<◌, ◌≤◌, ◌||◌, ◌==◌, inl, inr, Bool, true, false, if◌then◌else◌, List, [], ◌∷◌, ◌++◌, length, take, get_or, map, filter, filter_map, All, Any, AllPairs, Option, Some, None, refl, sym, ◌∙◌, ap, subst, arith}
-use Rattle.std.proofs.lemmas.Bool.{cases_Bool, cond-true, cond-false}
+use Rattle.std.proofs.Common.{◌≡◌, ℕ, ◌+◌, ◌<◌, Bool, true, false, if◌then◌else◌, List, [], ◌∷◌, ◌++◌, length, take, get_or, map, filter, filter_map, All, Option, Some, None, refl, sym, ◌∙◌, ap, subst}
 use Rattle.std.proofs.lemmas.List.{append-nil, take_more}
 use Rattle.std.proofs.lemmas.List.Elements.{All-push, filter-append, filter_map-append}
 use Rattle.of10_model.specs.declared.pattern.Pattern.{Pattern}
@@ -8,7 +7,7 @@ use Rattle.of10_model.specs.Normal.{IsNormal}
 use Rattle.of10_model.specs.Meet.{meet_of}
 use Rattle.flowspace.specs.declared.rules.Rule.{Rule}
 use Rattle.flowspace.specs.Rules.{is_written_by}
-use Rattle.flowmod_expand.specs.Pieces.{is_same, without_repeats, pieces_within, writes_of, pieces_of}
+use Rattle.flowmod_expand.specs.Pieces.{without_repeats, writes_of, pieces_of}
 use Rattle.flowmod_expand.proofs.Repeats.{is_among, without_repeats_more}
 
 -- what a rule lets a slice write of a match

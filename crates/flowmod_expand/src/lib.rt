@@ -4,13 +4,11 @@
 
 mod fault;
 pub mod laws;
-
 mod messages;
 mod splitting;
 mod writing;
 
 pub use fault::BuildFault;
-
 pub use messages::build;
 pub use splitting::pieces;
 

@@ -202,7 +202,11 @@ fn each_piece_has_its_actions_and_one_the_buffer(rt: HostRuntime) -> Result<(), 
             flags: CHECK_OVERLAP,
             ..for_all(alloc, command)?
         };
-        let head = if command < DELETE { "010e0050" } else { "010e0048" };
+        let head = if command < DELETE {
+            "010e0050"
+        } else {
+            "010e0048"
+        };
         let expected = [
             sent(alloc, head, M80, first)?,
             sent(alloc, "010e0048", M22, second)?,

@@ -1,9 +1,10 @@
 //! Rules, policies, matches and messages for the tests.
 
-ghost use Rattle.std.specs.Prelude.{◌≡◌, ◌≤◌, length, All, IfOk, IsTrue};
+ghost use Rattle.std.specs.Prelude.{◌≡◌, ◌≤◌, length, All, IfOk, IfSome, IsTrue, None};
 ghost use Rattle.std.specs.List.{list_all};
+ghost use Rattle.of10_model.specs.Normal.{has_network, has_ports};
 ghost use Rattle.flowspace.specs.Slices.{is_name_byte, IsPlainSlice};
-ghost use Rattle.flowspace.specs.Rules.{IsPlainRule};
+ghost use Rattle.flowspace.specs.Rules.{IsInPort, IsPlainRule};
 
 use crate::{BuildFault, build};
 use flowspace::{Policy, Rule, Slice, SwitchPolicy, Text};
@@ -11,6 +12,7 @@ use of10_action::{Action, Actions};
 use of10_ctl::Frame;
 use of10_flow::FlowMod;
 use of10_match::Match;
+use of10_model::Pattern;
 use of10_model::wire::{set_u16, set_u32};
 use std::alloc::{AllocError, Global};
 use std::test::Fail;
@@ -113,19 +115,44 @@ fn slices(alloc: Global) -> Result<Vec<Slice>, AllocError>
     Ok(slices)
 }
 
+fn has_plain_link(m: &Pattern) -> bool
+    ensures { IsTrue result → IfSome m.now.in_port IsInPort × (m.now.dl_vlan ≡ None) × (m.now.dl_vlan_pcp ≡ None) × (m.now.nw_tos ≡ None) }
+{
+    m.in_port.is_none_or(|port| port <= 0xff00)
+        && m.dl_vlan.is_none()
+        && m.dl_vlan_pcp.is_none()
+        && m.nw_tos.is_none()
+}
+
+fn has_ip(m: &Pattern) -> bool
+    ensures { IsTrue result → IsTrue (has_network m.now.dl_type) }
+{
+    m.dl_type == Some(0x0800)
+}
+
+fn has_no_net(m: &Pattern) -> bool
+    ensures { IsTrue result → (m.now.nw_proto ≡ None) × (m.now.nw_src ≡ None) × (m.now.nw_dst ≡ None) }
+{
+    m.nw_proto.is_none() && m.nw_src.is_none() && m.nw_dst.is_none()
+}
+
+fn has_tcp(m: &Pattern) -> bool
+    ensures { IsTrue result → IsTrue (has_ports m.now.dl_type m.now.nw_proto) }
+{
+    m.dl_type == Some(0x0800) && m.nw_proto == Some(6)
+}
+
+fn has_no_ports(m: &Pattern) -> bool
+    ensures { IsTrue result → (m.now.tp_src ≡ None) × (m.now.tp_dst ≡ None) }
+{
+    m.tp_src.is_none() && m.tp_dst.is_none()
+}
+
 fn is_plain(rule: &Rule) -> bool
     ensures { IsTrue result → IsPlainRule rule.now }
 {
     let m = rule.pattern.pattern();
-    let is_ip = m.dl_type == Some(0x0800);
-    let has_ports = is_ip && m.nw_proto == Some(6);
-    let no_link = m.dl_vlan.is_none() && m.dl_vlan_pcp.is_none() && m.nw_tos.is_none();
-    let no_net = m.nw_proto.is_none() && m.nw_src.is_none() && m.nw_dst.is_none();
-    let no_ports = m.tp_src.is_none() && m.tp_dst.is_none();
-    m.in_port.is_none_or(|port| port <= 0xff00)
-        && no_link
-        && (is_ip || no_net)
-        && (has_ports || no_ports)
+    has_plain_link(m) && (has_ip(m) || has_no_net(m)) && (has_tcp(m) || has_no_ports(m))
 }
 
 fn add_rule(rules: &mut Vec<Rule>, rule: &Rule) -> Result<(), AllocError>

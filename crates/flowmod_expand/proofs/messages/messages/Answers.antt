@@ -1,6 +1,6 @@
-use Rattle.std.proofs.Common.{◌≡◌, ◌+◌, [], sym, ◌∙◌, ap, subst, length, take, sum_by, arith}
+use Rattle.std.proofs.Common.{◌≡◌, ◌+◌, [], ◌∙◌, subst, length, take, sum_by, arith}
 use Rattle.std.proofs.lemmas.List.{take_all}
-use Rattle.flowmod_expand.specs.Messages.{flow_messages, are_too_large}
+use Rattle.flowmod_expand.specs.Messages.{flow_messages}
 use Rattle.flowmod_expand.proofs.Walks.{flow_messages_length, too_large, made_more, fits, made_at, size_at}
 use Rattle.flowmod_expand.proofs.messages.messages.Goals as goal
 

@@ -1,6 +1,3 @@
-use Rattle.std.proofs.Common.{take, All}
-use Rattle.of10_model.specs.Normal.{IsNormal}
-use Rattle.flowmod_expand.specs.Pieces.{pieces_of}
 use Rattle.flowmod_expand.proofs.Splits.{Found}
 use Rattle.flowmod_expand.proofs.splitting.pieces.Given as goal
 
