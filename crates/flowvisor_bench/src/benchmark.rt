@@ -2,6 +2,7 @@
 
 ghost use Rattle.std.specs.Prelude.{◌≤◌};
 
+use crate::expanding::{send, split};
 use crate::messages::Messages;
 use crate::samples::Samples;
 use match_meet::{includes, meet};
@@ -28,9 +29,13 @@ pub enum Benchmark {
     SmallPackets,
     /// Reading packet-ins with packets of 1,500 bytes.
     LargePackets,
+    /// Finding the 256 pieces of a flow-mod.
+    Splitting,
+    /// Making the messages of 256 pieces.
+    Sending,
 }
 
-/// All of them, in the order in which they are made.
+/// Those of single messages, in the order in which they are made.
 pub const ALL: [Benchmark; 6] = [
     Benchmark::Asks(Question::Matches),
     Benchmark::Asks(Question::Meet),
@@ -39,6 +44,9 @@ pub const ALL: [Benchmark; 6] = [
     Benchmark::SmallPackets,
     Benchmark::LargePackets,
 ];
+
+/// Those of flow-mods with many pieces.
+pub const EXPANDING: [Benchmark; 2] = [Benchmark::Splitting, Benchmark::Sending];
 
 impl Benchmark {
     /// Its name.
@@ -50,13 +58,23 @@ impl Benchmark {
             Benchmark::Framing => "framing",
             Benchmark::SmallPackets => "packet-in-64",
             Benchmark::LargePackets => "packet-in-1500",
+            Benchmark::Splitting => "pieces",
+            Benchmark::Sending => "build",
+        }
+    }
+
+    /// Fewer calls than these are too few to measure.
+    pub fn least_measured(self) -> u64 {
+        match self {
+            Benchmark::Splitting | Benchmark::Sending => 1_000,
+            _ => 1_000_000,
         }
     }
 
     /// How many bytes one call reads; none where it reads no bytes.
     pub fn bytes(self, messages: &Messages) -> Option<u64> {
         match self {
-            Benchmark::Asks(_) => None,
+            Benchmark::Asks(_) | Benchmark::Splitting | Benchmark::Sending => None,
             Benchmark::Framing => Some(Messages::PIECE as u64),
             Benchmark::SmallPackets => Some(messages.small().as_slice().len() as u64),
             Benchmark::LargePackets => Some(messages.large().as_slice().len() as u64),
@@ -88,7 +106,8 @@ fn ask(samples: &Samples, question: Question, count: u64) -> u64
     found
 }
 
-/// Makes so many calls, and counts what they find: answers that are yes, frames, or packets.
+/// Makes so many calls, and counts what they find: answers that are yes, frames, packets, pieces, or
+/// messages.
 pub fn run(
     alloc: Global,
     samples: &Samples,
@@ -101,5 +120,7 @@ pub fn run(
         Benchmark::Framing => messages.cut(alloc, count),
         Benchmark::SmallPackets => Messages::read(alloc, messages.small(), count),
         Benchmark::LargePackets => Messages::read(alloc, messages.large(), count),
+        Benchmark::Splitting => split(alloc, count),
+        Benchmark::Sending => send(alloc, count),
     }
 }

@@ -1,33 +1,37 @@
 //! Measures calls that the proxy makes for each message: `flowvisor_bench BENCHMARK COUNT`, where the
-//! benchmark is `all` or one that `benchmark` names. It prints what the calls found and, from a million
-//! of them on, how many millions or how many megabytes there were in a second.
+//! benchmark is one that `benchmark` names, or `all` for those of single messages. It prints what the
+//! calls found and, from a million of them on, how many millions or how many megabytes there were in a
+//! second; of flow-mods with many pieces how many thousand, from a thousand on.
 #![tactic(auto)]
 
 mod benchmark;
+mod expanding;
 mod messages;
 mod samples;
 
-use benchmark::{ALL, Benchmark, run};
+use benchmark::{ALL, Benchmark, EXPANDING, run};
 use messages::Messages;
 use samples::Samples;
 use std::process::ExitCode;
 use std::time::Instant;
 use std::{env, io};
 
-/// Fewer calls than these are too few to measure.
-const LEAST_MEASURED: u64 = 1_000_000;
-
 /// The most calls that may be asked for.
 const MOST_CALLS: u64 = 100_000_000_000;
 
 const USAGE: &str =
-    "usage: flowvisor_bench matches|meet|includes|framing|packet-in-64|packet-in-1500|all COUNT\n";
+    "usage: flowvisor_bench matches|meet|includes|framing|packet-in-64|packet-in-1500|pieces|build|all COUNT\n";
 
 /// What the words ask for.
 #[derive(Drop)]
 struct Order {
     benchmark: Option<Benchmark>,
     count: u64,
+}
+
+fn named(name: &str) -> Option<Benchmark> {
+    let mut benchmarks = ALL.into_iter().chain(EXPANDING);
+    benchmarks.find(|one| one.name() == name)
 }
 
 fn read_words(rt: &HostRuntime) -> Option<Order> {
@@ -39,7 +43,7 @@ fn read_words(rt: &HostRuntime) -> Option<Order> {
     }
     let benchmark = match name.as_str() {
         "all" => None,
-        other => Some(ALL.into_iter().find(|one| one.name() == other)?),
+        other => Some(named(other)?),
     };
     Some(Order { benchmark, count })
 }
@@ -57,11 +61,12 @@ fn measure(
     let found = run(rt.alloc(), samples, messages, benchmark, count)?;
     let micros = start.elapsed(rt)?.as_micros();
     println!(rt; "{name}: {found} of {count}")?;
-    if count < LEAST_MEASURED || micros == 0 {
+    if count < benchmark.least_measured() || micros == 0 {
         return Ok(());
     }
     let (each, unit) = match benchmark.bytes(messages) {
         Some(bytes) => (bytes, "MB"),
+        None if EXPANDING.contains(&benchmark) => (1_000, "thousand"),
         None => (1, "million"),
     };
     let tenths = u128::from(count)
@@ -80,9 +85,12 @@ fn main(rt: HostRuntime) -> io::Result<ExitCode> {
     };
     let samples = Samples::new();
     let messages = Messages::new(rt.alloc())?;
-    for benchmark in ALL {
-        if order.benchmark.is_none_or(|one| one == benchmark) {
-            measure(&rt, &samples, &messages, benchmark, order.count)?;
+    match order.benchmark {
+        Some(one) => measure(&rt, &samples, &messages, one, order.count)?,
+        None => {
+            for benchmark in ALL {
+                measure(&rt, &samples, &messages, benchmark, order.count)?;
+            }
         }
     }
     Ok(ExitCode::from(0))

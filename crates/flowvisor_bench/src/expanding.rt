@@ -1,0 +1,90 @@
+//! The expansion of flow-mods, for a slice that has as many rules to write as it may have. Each is for a
+//! TCP port of its own, so a flow-mod for all packets has as many pieces.
+
+use flowmod_expand::{build, pieces};
+use flowspace::SwitchPolicy;
+use flowspace::limits::WRITES;
+use of10_action::{Action, Actions};
+use of10_flow::FlowMod;
+use of10_flow::protocol::{ADD, NO_BUFFER};
+use of10_match::Match;
+use policy_text::read;
+use std::alloc::{AllocError, Global};
+
+const SLICE: &str = "version = 1\n[[slice]]\nname = \"alice\"\ncontroller = \"127.0.0.1:6633\"\n";
+
+fn policy(alloc: Global) -> Result<Option<SwitchPolicy>, AllocError> {
+    let mut text = String::from_str(alloc, SLICE)?;
+    for port in 0..WRITES {
+        write!(
+            text,
+            "[[rule]]\npriority = 7\nwrite = \"alice\"\ndl_type = 2048\nnw_proto = 6\ntp_dst = {port}\n"
+        )?;
+    }
+    match read(alloc, text.as_bytes()) {
+        Ok(policy) => Ok(Some(policy.of_switch(alloc, 0)?)),
+        Err(_) => Ok(None),
+    }
+}
+
+fn add(alloc: Global) -> Result<FlowMod, AllocError> {
+    Ok(FlowMod {
+        xid: 0,
+        pattern: Match::all(),
+        cookie: 0,
+        command: ADD,
+        idle: 60,
+        hard: 0,
+        priority: 10,
+        buffer: NO_BUFFER,
+        out_port: 0xffff,
+        flags: 0,
+        actions: Actions::of(alloc, &[])?,
+    })
+}
+
+/// The list of actions of each piece.
+fn outputs(alloc: Global, count: usize) -> Result<Vec<Actions>, AllocError> {
+    let output = Action::Output {
+        port: 2,
+        max_len: 0,
+    };
+    let mut lists = Vec::new(alloc);
+    for _ in 0..count {
+        lists.push(Actions::of(alloc, &[output])?)?;
+    }
+    Ok(lists)
+}
+
+/// Finds the pieces of all packets so often, and counts them.
+pub fn split(alloc: Global, count: u64) -> Result<u64, AllocError> {
+    let Some(policy) = policy(alloc)? else {
+        return Ok(0);
+    };
+    let mut found = 0u64;
+    for _ in 0..count {
+        let pieces = pieces(alloc, &policy, 0, &Match::all())?;
+        found = found.saturating_add(pieces.len() as u64);
+    }
+    Ok(found)
+}
+
+/// Makes the messages of those pieces so often, and counts them.
+pub fn send(alloc: Global, count: u64) -> Result<u64, AllocError> {
+    let Some(policy) = policy(alloc)? else {
+        return Ok(0);
+    };
+    let pieces = pieces(alloc, &policy, 0, &Match::all())?;
+    let actions = outputs(alloc, pieces.len())?;
+    let asked = add(alloc)?;
+    let mut made = 0u64;
+    if actions.len() != pieces.len() || asked.command != ADD {
+        return Ok(made);
+    }
+    for _ in 0..count {
+        if let Ok(frames) = build(alloc, &asked, 1, &pieces, &actions, None) {
+            made = made.saturating_add(frames.len() as u64);
+        }
+    }
+    Ok(made)
+}
