@@ -1,0 +1,4 @@
+pub mod Order
+pub mod SamePairs
+pub mod Places
+pub mod Steps

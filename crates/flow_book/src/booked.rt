@@ -1,0 +1,13 @@
+use of10_match::Match;
+
+/// A pair of a match and a priority that a slice's flow-mods asked a switch to keep.
+#[derive(Clone, Copy, Debug, PartialEq, Eq)]
+pub struct Booked {
+    pub pattern: Match,
+    pub priority: u16,
+    /// Whether the last flow-mod that booked the pair asks to be told of its removal (OpenFlow 1.0.0,
+    /// section 5.3.3).
+    pub asked: bool,
+    /// The request that booked the pair first.
+    pub number: u64,
+}

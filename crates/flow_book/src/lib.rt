@@ -1,0 +1,11 @@
+//! What a slice has asked of a switch's flow table, pair by pair, and one slice's whole state.
+#![tactic(auto)]
+
+mod adding;
+mod book;
+mod booked;
+mod entry;
+mod pairs;
+
+pub use book::FlowBook;
+pub use booked::Booked;
