@@ -2,3 +2,4 @@ pub mod Order
 pub mod SamePairs
 pub mod Places
 pub mod Steps
+pub mod Priorities

@@ -61,8 +61,9 @@ fn of_priority(entries: &[Entry], priority: u16) -> &[Entry]
     ensures { result.now ≡ filter (λ b. b.priority == priority) entries.now }
 {
     let from = entries.partition_point(|entry| entry.booked().priority < priority);
-    let to = entries.partition_point(|entry| entry.booked().priority <= priority);
-    &entries[from..to]
+    let rest = &entries[from..];
+    let count = rest.partition_point(|entry| entry.booked().priority <= priority);
+    &rest[..count]
 }
 
 fn shares_header(entries: &[Entry], piece: &Match) -> bool
@@ -73,11 +74,16 @@ fn shares_header(entries: &[Entry], piece: &Match) -> bool
         .any(|entry| !disjoint(&entry.booked().pattern, piece))
 }
 
+fn any_shares_header(entries: &[Entry], pieces: &[Match]) -> bool
+    ensures { result ≡ list_any (λ piece. list_any (λ b. not (is_disjoint b.pattern piece)) entries.now) pieces.now }
+{
+    pieces.iter().any(|piece| shares_header(entries, piece))
+}
+
 /// Whether a piece shares a header with an entry of the priority.
 pub(crate) fn overlaps(entries: &[Entry], pieces: &[Match], priority: u16) -> bool
     requires { IsInOrder entries.now }
     ensures { result ≡ overlaps_in pieces.now priority entries.now }
 {
-    let same = of_priority(entries, priority);
-    pieces.iter().any(|piece| shares_header(same, piece))
+    any_shares_header(of_priority(entries, priority), pieces)
 }
