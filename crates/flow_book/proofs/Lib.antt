@@ -3,3 +3,5 @@ pub mod SamePairs
 pub mod Places
 pub mod Steps
 pub mod Priorities
+pub mod Counts
+pub mod Standing

@@ -52,7 +52,7 @@ Less≢Equal : Less ≡ Equal → ⊥
 Less≢Equal e = cc
 
 -- of pairs that ascend no other than the one at a place has its match and priority
-no_other : (xs : List Booked) (i : ℕ) (m : Pattern) (p : ℕ) → IsStrictlySortedBy order xs → i < length xs → ((d : Booked) → stands_to (get_or xs i d) m p ≡ Equal)
+pub no_other : (xs : List Booked) (i : ℕ) (m : Pattern) (p : ℕ) → IsStrictlySortedBy order xs → i < length xs → ((d : Booked) → stands_to (get_or xs i d) m p ≡ Equal)
     → (k : ℕ) (d : Booked) → k < length xs → k ≢ i → is_pair m p (get_or xs k d) ≡ false
 no_other xs i m p up lt here k d within apart = elim (cases_Bool (is_pair m p (get_or xs k d))) [
   | inr other ↦ other

@@ -1,6 +1,6 @@
 -- What is booked for a slice: the flow entries that it asked of a switch. A pair is a match and a priority, by which the standard knows an entry (OpenFlow 1.0.0, section 4.6). All of this is this proxy's own rule.
 -- Lists of calls have the newest first.
-use Rattle.std.specs.Prelude.{ℕ, ◌+◌, ◌==◌, ◌&&◌, ◌||◌, leb, nat_le, not, Bool, true, false, if◌then◌else◌, List, [], ◌∷◌, ◌++◌, length, filter, map, find, count_by, IsPermutation, Option, Some, None}
+use Rattle.std.specs.Prelude.{ℕ, ◌≡◌, ◌+◌, ◌==◌, ◌&&◌, ◌||◌, leb, nat_le, not, Bool, true, false, if◌then◌else◌, List, [], ◌∷◌, ◌++◌, length, filter, map, find, count_by, Option, Some, None}
 use Rattle.std.specs.List.{list_any}
 use Rattle.std.specs.Option.{option_map_or}
 use Rattle.of10_model.specs.declared.pattern.Prefix.{Prefix}
@@ -101,6 +101,10 @@ pub record Book : Type 0 where
   pub booked : List Booked
   pub room : ℕ
 
+-- two lists have the same pairs, each as often, in any order: whatever is asked of a pair, of both as many pass
+abbrev pub HaveSame : List Booked → List Booked → Type 0
+HaveSame xs ys = (test : Booked → Bool) → length (filter test xs) ≡ length (filter test ys)
+
 -- the book was called so: it keeps what is booked after these calls
 pub record BookStands (calls : List BookCall) (kept : Book) : Type 0 where
-  pub same : IsPermutation (book calls) kept.booked
+  pub same : HaveSame (book calls) kept.booked

@@ -1,3 +1,5 @@
 pub mod Order
 pub mod Books
+pub mod Pairs
 pub mod Adding
+pub mod States

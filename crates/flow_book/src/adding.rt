@@ -41,6 +41,7 @@ pub(crate) fn gather(
     requires room { newcomers_in command pieces.now priority entries.now ≤ vec_capacity fresh.old }
     ensures items { fresh.new.items ≡ map (first_booked priority asked number) (filter (is_newcomer command priority entries.now) pieces.now) }
     ensures normal { All (λ b. IsNormal b.pattern) fresh.new.items }
+    ensures len { vec_len fresh.new ≡ newcomers_in command pieces.now priority entries.now }
     ensures capacity { vec_capacity fresh.old ≤ vec_capacity fresh.new }
 {
     for piece in pieces {
@@ -126,6 +127,7 @@ pub(crate) fn settle_all(entries: &mut Vec<Entry>, fresh: &mut Vec<Entry>)
     ensures len { vec_len entries.new ≡ vec_len entries.old + vec_len fresh.old }
     ensures capacity { vec_capacity entries.old ≤ vec_capacity entries.new }
     ensures empty { fresh.new.items ≡ [] }
+    ensures emptied { vec_len fresh.new ≡ 0 }
     ensures fresh_capacity { vec_capacity fresh.new ≡ vec_capacity fresh.old }
 {
     while let Some(entry) = fresh.pop() {

@@ -1,4 +1,5 @@
 ghost use Rattle.std.specs.Prelude.{◌≡◌, ◌≢◌, ◌+◌, ◌^◌, ◌<◌, ◌≤◌, List, [], ◌∷◌, length, find, AllPairs, OnOk, if◌then◌else◌};
+ghost use Rattle.flow_book.specs.Order.{IsInOrder};
 ghost use Rattle.flow_book.specs.Books.{BookCall, Added, Removed, Failed, is_pair, is_first, without, newcomers_in, fits_in, overlaps_in, book, booking, BookStands};
 
 use crate::adding::{book_again, gather, settle_all};
@@ -167,8 +168,10 @@ impl FlowBook {
 
     /// Whether the pair is booked, and the request of the number booked it first.
     fn is_first(&self, number: u64, pattern: &Match, priority: u16) -> bool
-        ensures { result ≡ is_first number (find (is_pair pattern.now priority) self.now.booked) }
+        ensures value { result ≡ is_first number (find (is_pair pattern.now priority) self.now.booked) }
+        ensures order { IsInOrder self.now.booked }
     {
+        let _ = &self.entries;
         self.booked(pattern, priority)
             .is_some_and(|booked| booked.number == number)
     }

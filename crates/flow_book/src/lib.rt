@@ -5,7 +5,10 @@ mod adding;
 mod book;
 mod booked;
 mod entry;
+pub mod laws;
 mod pairs;
+mod state;
 
 pub use book::FlowBook;
 pub use booked::Booked;
+pub use state::SliceState;

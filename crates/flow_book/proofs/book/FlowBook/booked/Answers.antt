@@ -1,0 +1,26 @@
+use Rattle.std.proofs.Common.{ap, sym, ◌∙◌, ◌≡◌, Some, None}
+use Rattle.std.specs.Prelude.{find}
+use Rattle.flow_book.specs.Books.{book, is_pair}
+use Rattle.flow_book.proofs.Counts.{find_same}
+use Rattle.flow_book.proofs.Places.{find_pair-at, find_pair-gap}
+use Rattle.flow_book.proofs.book.FlowBook.booked.Goals as goal
+
+pub returns-in-Ok-clause-value : goal.returns-in-Ok-clause-value
+returns-in-Ok-clause-value c =
+    rw (← c.self.view_is) (
+    ap Some c.booked.ensures
+    ∙ sym (find_pair-at c.self.inside.entries.items c.args.pattern.now c.args.priority c.in-Ok.place c.index.result.now c.self.invariant.0 c.place_of.ensures.normal (rw c.deref.ensures.value at c.in-Ok.ensures.found) c.index.ensures))
+
+pub returns-in-Ok-clause-answer : goal.returns-in-Ok-clause-answer
+returns-in-Ok-clause-answer c calls s =
+    returns-in-Ok-clause-value c
+    ∙ rw (← c.self.view_is) (sym (find_same (book calls) c.self.inside.entries.items (rw (← c.self.view_is) at s).same c.self.invariant.0 c.args.pattern.now c.args.priority))
+
+pub returns-in-Err-clause-value : goal.returns-in-Err-clause-value
+returns-in-Err-clause-value c =
+    rw (← c.self.view_is) (sym (find_pair-gap c.self.inside.entries.items c.args.pattern.now c.args.priority c.in-Err.field-0 (rw c.deref.ensures.value at c.in-Err.ensures.absent)))
+
+pub returns-in-Err-clause-answer : goal.returns-in-Err-clause-answer
+returns-in-Err-clause-answer c calls s =
+    returns-in-Err-clause-value c
+    ∙ rw (← c.self.view_is) (sym (find_same (book calls) c.self.inside.entries.items (rw (← c.self.view_is) at s).same c.self.invariant.0 c.args.pattern.now c.args.priority))
