@@ -106,7 +106,7 @@ module _ (xs ys : List Booked) (same : HaveSame xs ys) where
 
 -- ---- the pair that is found
 
-abbrev same_booked : Booked → Booked → Bool
+abbrev pub same_booked : Booked → Booked → Bool
 same_booked a b = is_match a.pattern b.pattern && a.priority == b.priority && beq a.asked b.asked && a.number == b.number
 
 same_from : (a b : Booked) → same_booked a b ≡ true → a ≡ b
@@ -129,13 +129,13 @@ itself a =
     (eq-eqb a.number a.number refl)
 
 -- what is found passes, and is among the elements
-record Found (test : Booked → Bool) (xs : List Booked) : Type 0 where
-  value : Booked
-  is : find test xs ≡ Some value
-  passes : test value ≡ true
-  within : list_any (same_booked value) xs ≡ true
+pub record Found (test : Booked → Bool) (xs : List Booked) : Type 0 where
+  pub value : Booked
+  pub is : find test xs ≡ Some value
+  pub passes : test value ≡ true
+  pub within : list_any (same_booked value) xs ≡ true
 
-found : (test : Booked → Bool) (xs : List Booked) → list_any test xs ≡ true → Found test xs
+pub found : (test : Booked → Bool) (xs : List Booked) → list_any test xs ≡ true → Found test xs
 found test [] h = absurd (false≢true h)
 found test (x ∷ xs) h = elim (cases_Bool (test x)) [
   | inl passes ↦ record { value = x; is = rw passes refl; passes = passes; within = or_left (same_booked x x) (list_any (same_booked x) xs) (itself x) }

@@ -5,3 +5,4 @@ pub mod Steps
 pub mod Priorities
 pub mod Counts
 pub mod Standing
+pub mod Histories

@@ -72,20 +72,20 @@ IsInOrder-nil = record { normal = All-nil (λ b. IsNormal b.pattern); ascending 
 
 -- ---- newcomers aren't booked
 
-again_pair : (command : ℕ) (ms : List Pattern) (p : ℕ) (asked : Bool) (m : Pattern) (q : ℕ) (b : Booked) → is_pair m q (booked_again command ms p asked b) ≡ is_pair m q b
+pub again_pair : (command : ℕ) (ms : List Pattern) (p : ℕ) (asked : Bool) (m : Pattern) (q : ℕ) (b : Booked) → is_pair m q (booked_again command ms p asked b) ≡ is_pair m q b
 again_pair command ms p asked m q b = elim (cases_Bool (command == 0 && list_any (λ piece. is_pair piece p b) ms)) [
   | inl again ↦ rw again refl
   | inr not_again ↦ rw not_again refl
 ]
 
-booked_again-booked : (command : ℕ) (ms : List Pattern) (p : ℕ) (asked : Bool) (m : Pattern) (q : ℕ) (xs : List Booked) → is_booked m q (map (booked_again command ms p asked) xs) ≡ is_booked m q xs
+pub booked_again-booked : (command : ℕ) (ms : List Pattern) (p : ℕ) (asked : Bool) (m : Pattern) (q : ℕ) (xs : List Booked) → is_booked m q (map (booked_again command ms p asked) xs) ≡ is_booked m q xs
 booked_again-booked command ms p asked m q xs = any-map (is_pair m q) (booked_again command ms p asked) (again_pair command ms p asked m q) xs
 
 -- a match that includes no booked one isn't booked
 includes_itself : (m : Pattern) → IsNormal m → includes_of m m ≡ true
 includes_itself m n = includes-Includes m m n.0 n.0 (λ h i x. x)
 
-booked-included : (m : Pattern) (p : ℕ) (xs : List Booked) → IsNormal m → is_booked m p xs ≡ true → includes_booked m xs ≡ true
+pub booked-included : (m : Pattern) (p : ℕ) (xs : List Booked) → IsNormal m → is_booked m p xs ≡ true → includes_booked m xs ≡ true
 booked-included m p xs n h =
     any_weaker (is_pair m p) (λ b. includes_of m b.pattern) (λ b same. subst (λ q. includes_of m q ≡ true) (sym (pair_parts m p b same).of_match) (includes_itself m n)) xs h
 

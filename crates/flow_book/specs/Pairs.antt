@@ -7,7 +7,7 @@ use Rattle.flow_book.specs.Books.{BookCall, Added, Removed, Failed, is_booked, i
 -- a flow-mod with this command books a piece: an ADD (0) any, a MODIFY (1) one that includes no match booked before, of any priority, and a MODIFY_STRICT (2) one whose pair wasn't booked before
 abbrev pub BooksPiece : ℕ → Pattern → ℕ → List BookCall → Type 0
 BooksPiece command piece priority earlier =
-    (command ≡ 0) ⊎ ((command ≡ 1) × (includes_booked piece (book earlier) ≡ false)) ⊎ ((command ≡ 2) × (is_booked piece priority (book earlier) ≡ false))
+    (command ≡ 0) ⊎ (((command ≡ 1) × (includes_booked piece (book earlier) ≡ false)) ⊎ ((command ≡ 2) × (is_booked piece priority (book earlier) ≡ false)))
 
 -- a call books the pair: it is a flow-mod at this priority that books this match as one of its pieces
 abbrev pub Books : Pattern → ℕ → BookCall → List BookCall → Type 0
@@ -27,18 +27,8 @@ abbrev pub NoneOf : (BookCall → List BookCall → Type 0) → List BookCall �
 NoneOf Does [] earlier = Unit {0}
 NoneOf Does (call ∷ later) earlier = (Does call (later ++ earlier) → ⊥) × NoneOf Does later earlier
 
--- of the calls that book or release the pair the last one books it
-pub record IsLastBooked (pattern : Pattern) (priority : ℕ) (calls : List BookCall) : Type 0 where
-  pub later : List BookCall
-  pub last : BookCall
-  pub earlier : List BookCall
-  pub split : calls ≡ later ++ (last ∷ earlier)
-  pub books : Books pattern priority last earlier
-  pub not_booked : NoneOf (Books pattern priority) later (last ∷ earlier)
-  pub not_released : NoneOf (Releases pattern priority) later (last ∷ earlier)
-
--- the last call that books the pair asks so to be told of its removal
-pub record IsAskedBy (pattern : Pattern) (priority : ℕ) (calls : List BookCall) (wish : Bool) : Type 0 where
+-- of the calls that book or release the pair the last one books it, and it asks so to be told of its removal
+pub record IsLastBooked (pattern : Pattern) (priority : ℕ) (wish : Bool) (calls : List BookCall) : Type 0 where
   pub later : List BookCall
   pub command : ℕ
   pub pieces : List Pattern
@@ -47,9 +37,10 @@ pub record IsAskedBy (pattern : Pattern) (priority : ℕ) (calls : List BookCall
   pub split : calls ≡ later ++ (Added command pieces priority wish number ∷ earlier)
   pub books : Books pattern priority (Added command pieces priority wish number) earlier
   pub not_booked : NoneOf (Books pattern priority) later (Added command pieces priority wish number ∷ earlier)
+  pub not_released : NoneOf (Releases pattern priority) later (Added command pieces priority wish number ∷ earlier)
 
 -- the request of this number made the first call that books the pair since it was last released: then it wasn't booked, and nothing has released it
-pub record IsFirstBookedBy (pattern : Pattern) (priority : ℕ) (calls : List BookCall) (of_number : ℕ) : Type 0 where
+pub record IsFirstBooked (pattern : Pattern) (priority : ℕ) (of_number : ℕ) (calls : List BookCall) : Type 0 where
   pub later : List BookCall
   pub command : ℕ
   pub pieces : List Pattern
