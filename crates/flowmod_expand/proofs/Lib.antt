@@ -1,6 +1,7 @@
 pub mod Same
 pub mod Somewhere
 pub mod Repeats
+pub mod Marked
 pub mod Splits
 pub mod Space
 pub mod Walks

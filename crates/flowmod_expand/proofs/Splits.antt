@@ -8,6 +8,7 @@ use Rattle.of10_model.specs.Meet.{meet_of}
 use Rattle.flowspace.specs.declared.rules.Rule.{Rule}
 use Rattle.flowspace.specs.Rules.{is_written_by}
 use Rattle.flowmod_expand.specs.Pieces.{without_repeats, writes_of, pieces_of}
+use Rattle.flowmod_expand.specs.Marks.{AreMarked}
 use Rattle.flowmod_expand.proofs.Repeats.{is_among, without_repeats_more}
 
 -- what a rule lets a slice write of a match
@@ -55,29 +56,32 @@ one_piece rules i d slot m p lt some =
     ∙ without_repeats_more meets p
 
 -- what a walk over the rules has found
-pub record Found (rules : List Rule) (slot : ℕ) (m : Pattern) (found : List Pattern) (i : ℕ) : Type 0 where
+pub record Found (rules : List Rule) (slot : ℕ) (m : Pattern) (found : List Pattern) (marks : List Bool) (i : ℕ) : Type 0 where
   pub so_far : found ≡ pieces_of (take i rules) slot m
   pub normal : All IsNormal found
+  pub marked : AreMarked marks found
 
 all_added : (found : List Pattern) (p : Pattern) → All IsNormal found → IsNormal p → (b : Bool) → All IsNormal (if b then found else found ++ p ∷ [])
 all_added found p normal normal_p true = normal
 all_added found p normal normal_p false = All-push IsNormal found p normal normal_p
 
 -- a step of it
-pub found_more : (rules : List Rule) (i : ℕ) (rule : Rule) (slot : ℕ) (m p : Pattern) (found new : List Pattern) → i < length rules → rule ≡ get_or rules i rule → part_of slot m rule ≡ Some p → IsNormal p
-    → Found rules slot m found i → new ≡ (if is_among found p then found else found ++ p ∷ []) → Found rules slot m new (i + 1)
-found_more rules i rule slot m p found new lt is some normal_p walk added =
+pub found_more : (rules : List Rule) (i : ℕ) (rule : Rule) (slot : ℕ) (m p : Pattern) (found new : List Pattern) (marks after : List Bool) → i < length rules → rule ≡ get_or rules i rule → part_of slot m rule ≡ Some p → IsNormal p
+    → Found rules slot m found marks i → new ≡ (if is_among found p then found else found ++ p ∷ []) → AreMarked after new → Found rules slot m new after (i + 1)
+found_more rules i rule slot m p found new marks after lt is some normal_p walk added marked =
     let part : part_of slot m (get_or rules i rule) ≡ Some p = subst (λ r. part_of slot m r ≡ Some p) is some in
     record {
       so_far = added ∙ ap (λ ps. if is_among ps p then ps else ps ++ p ∷ []) walk.so_far ∙ sym (one_piece rules i rule slot m p lt part);
       normal = subst (All IsNormal) (sym added) (all_added found p walk.normal normal_p (is_among found p));
+      marked = marked;
     }
 
-pub found_same : (rules : List Rule) (i : ℕ) (rule : Rule) (slot : ℕ) (m : Pattern) (found : List Pattern) → i < length rules → rule ≡ get_or rules i rule → part_of slot m rule ≡ None
-    → Found rules slot m found i → Found rules slot m found (i + 1)
-found_same rules i rule slot m found lt is none walk =
+pub found_same : (rules : List Rule) (i : ℕ) (rule : Rule) (slot : ℕ) (m : Pattern) (found : List Pattern) (marks : List Bool) → i < length rules → rule ≡ get_or rules i rule → part_of slot m rule ≡ None
+    → Found rules slot m found marks i → Found rules slot m found marks (i + 1)
+found_same rules i rule slot m found marks lt is none walk =
     let part : part_of slot m (get_or rules i rule) ≡ None = subst (λ r. part_of slot m r ≡ None) is none in
     record {
       so_far = walk.so_far ∙ sym (no_piece rules i rule slot m lt part);
       normal = walk.normal;
+      marked = walk.marked;
     }

@@ -1,2 +1,3 @@
 pub mod Pieces
 pub mod Messages
+pub mod Marks

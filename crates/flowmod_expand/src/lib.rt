@@ -4,6 +4,7 @@
 
 mod fault;
 pub mod laws;
+mod marks;
 mod messages;
 mod splitting;
 mod writing;

@@ -1,6 +1,6 @@
 //! The pieces of a match.
 
-ghost use Rattle.std.specs.Prelude.{◌≡◌, ◌↔◌, ◌≤◌, ◌≢◌, ◌++◌, ◌∷◌, [], if◌then◌else◌, length, All, Any, AllPairs, IfOk, OnOk, None};
+ghost use Rattle.std.specs.Prelude.{◌≡◌, ◌<◌, ◌≤◌, ◌≢◌, ◌++◌, ◌∷◌, [], if◌then◌else◌, length, All, Any, AllPairs, IfOk, OnOk, None};
 ghost use Rattle.std.specs.List.{list_any};
 ghost use Rattle.of10_model.specs.Header.{Header};
 ghost use Rattle.of10_model.specs.Pattern.{Has};
@@ -9,7 +9,9 @@ ghost use Rattle.of10_model.specs.Meet.{meet_of};
 ghost use Rattle.flowspace.specs.Rules.{is_written_by};
 ghost use Rattle.flowspace.specs.Owners.{HasWriteRule, Owns};
 ghost use Rattle.flowmod_expand.specs.Pieces.{same, same_prefix, is_same, pieces_of};
+ghost use Rattle.flowmod_expand.specs.Marks.{mark_of, AreMarked};
 
+use crate::marks::{MARKS, mark_of};
 use flowspace::{Rule, SwitchPolicy};
 use match_meet::meet;
 use of10_match::Match;
@@ -78,14 +80,30 @@ fn piece_of(rule: &Rule, slot: u8, pattern: &Match) -> Option<Match>
     }
 }
 
-fn add(found: &mut Vec<Match>, piece: Match) -> Result<(), AllocError>
+fn is_repeat(found: &[Match], marks: &[bool; MARKS], mark: usize, piece: &Pattern) -> bool
+    requires marked { AreMarked marks.now found.now }
+    requires own { mark ≡ mark_of piece.now }
+    requires small { mark < 1024 }
+    ensures { result ≡ list_any (λ earlier. is_same earlier piece.now) found.now }
+{
+    if !marks[mark] {
+        return false;
+    }
+    is_among(found, piece)
+}
+
+fn add(found: &mut Vec<Match>, marks: &mut [bool; MARKS], piece: Match) -> Result<(), AllocError>
+    requires { AreMarked marks.old found.old.items }
     ensures added { OnOk result (found.new.items ≡ (if list_any (λ earlier. is_same earlier piece) found.old.items then found.old.items else found.old.items ++ piece ∷ [])) }
+    ensures marked { OnOk result (AreMarked marks.new found.new.items) }
     ensures normal { IsNormal piece }
 {
-    if is_among(found, piece.pattern()) {
+    let mark = mark_of(piece.pattern());
+    if is_repeat(found, marks, mark, piece.pattern()) {
         return Ok(());
     }
     found.push(piece)?;
+    marks[mark] = true;
     Ok(())
 }
 
@@ -104,9 +122,10 @@ pub fn pieces(
 {
     let rules = policy.rules();
     let mut found = Vec::new(alloc);
+    let mut marks = [false; MARKS];
     for rule in rules {
         if let Some(piece) = piece_of(rule, slot, pattern) {
-            add(&mut found, piece)?;
+            add(&mut found, &mut marks, piece)?;
         }
     }
     Ok(found)

@@ -11,12 +11,12 @@ pub loop-rule-preserved : goal.loop-rule-preserved
 loop-rule-preserved c =
     elim c.match-piece_of.branch [
       | in-Some+in_ok-add w ↦
-          subst (λ v. Found c.rules-rules.result.now c.args.slot c.args.pattern.now v.items (c.loop-rule.rule-index + 1)) (sym w.found-is)
-          (found_more c.rules-rules.result.now c.loop-rule.rule-index c.rule-item.result c.args.slot c.args.pattern.now w.in-Some.piece c.loop-rule.found.items w.add.new.found.items
-          c.loop-rule-test.true c.rule-item.is (sym c.piece_of.ensures ∙ w.in-Some.is) w.in_ok-add.ensures.normal c.loop-rule.invariant w.in_ok-add.ensures.added)
+          rw (w.found-is, w.marks-is)
+          (found_more c.rules-rules.result.now c.loop-rule.rule-index c.rule-item.result c.args.slot c.args.pattern.now w.in-Some.piece c.loop-rule.found.items w.add.new.found.items c.loop-rule.marks w.add.new.marks
+          c.loop-rule-test.true c.rule-item.is (sym c.piece_of.ensures ∙ w.in-Some.is) w.in_ok-add.ensures.normal c.loop-rule.invariant w.in_ok-add.ensures.added w.in_ok-add.ensures.marked)
       | in_default w ↦
-          subst (λ v. Found c.rules-rules.result.now c.args.slot c.args.pattern.now v.items (c.loop-rule.rule-index + 1)) (sym w.found-is)
-          (found_same c.rules-rules.result.now c.loop-rule.rule-index c.rule-item.result c.args.slot c.args.pattern.now c.loop-rule.found.items
+          rw (w.found-is, w.marks-is)
+          (found_same c.rules-rules.result.now c.loop-rule.rule-index c.rule-item.result c.args.slot c.args.pattern.now c.loop-rule.found.items c.loop-rule.marks
           c.loop-rule-test.true c.rule-item.is (sym c.piece_of.ensures ∙ w.in_default.is) c.loop-rule.invariant)
     ]
 
