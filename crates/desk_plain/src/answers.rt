@@ -1,0 +1,197 @@
+//! What follows for a slice from each thing that it sees.
+
+use crate::events::is_dismissing;
+use crate::view::{Item, Seen, is_up, known_ports, miss_send_len, opened_in};
+use of10_action::{Bytes, DecodeFault, WireFault, code};
+use of10_ctl::kind::{
+    BARRIER_REQUEST, ECHO_REPLY, ECHO_REQUEST, ERROR, FEATURES_REQUEST, FLOW_MOD, GET_CONFIG_REPLY,
+    GET_CONFIG_REQUEST, HELLO, PACKET_OUT, PORT_MOD, QUEUE_GET_CONFIG_REQUEST, SET_CONFIG,
+    STATS_REQUEST, VENDOR,
+};
+use of10_ctl::{Frame, error_frame, message};
+use of10_flow::protocol::NO_BUFFER;
+use of10_flow::{FlowMod, PacketIn, PacketOut};
+use of10_model::wire::{put_u16, u16_at};
+use of10_port::{Features, Port, Ports};
+use of10_stats::StatsRequest;
+use std::alloc::{AllocError, Global};
+
+/// The most buffers that a slice may hold.
+const MOST_BUFFERS: u32 = 256;
+
+/// The most ports that fit a FEATURES_REPLY; no more are known.
+const MOST_PORTS: usize = 1364;
+
+/// The most bytes of a packet that fit a PACKET_IN; no packet came with more.
+const MOST_PAYLOAD: usize = 65517;
+
+/// An error of a class and a code about a message (OpenFlow 1.0.0, section 5.4.4).
+fn error(
+    alloc: Global,
+    message: &Frame,
+    class: u16,
+    code: u16,
+) -> Result<Option<Frame>, AllocError> {
+    let frame = error_frame(alloc, message.head().xid, class, code, message.as_slice())?;
+    Ok(Some(frame))
+}
+
+/// ECHO_REPLY with the body and the transaction of the request (section 5.5).
+pub(crate) fn echo_reply(alloc: Global, request: &Frame) -> Result<Frame, AllocError> {
+    let bytes = request.as_slice();
+    message(alloc, ECHO_REPLY, request.head().xid, &bytes[8..])
+}
+
+/// FEATURES_REPLY with the switch's numbers, at most 256 buffers, one table and the slice's ports (section
+/// 5.3.1).
+fn features_reply(
+    alloc: Global,
+    view: &[Seen<'_>],
+    request: &Frame,
+) -> Result<Option<Frame>, AllocError> {
+    let Some(opened) = opened_in(view) else {
+        return Ok(None);
+    };
+    let known = known_ports(alloc, view)?;
+    let fitting: &[Port] = &known[..known.len().min(MOST_PORTS)];
+    let features = Features {
+        datapath: opened.datapath,
+        buffers: opened.buffers.min(MOST_BUFFERS),
+        tables: 1,
+        capabilities: opened.capabilities,
+        actions: opened.actions,
+        ports: Ports::of(alloc, fitting)?,
+    };
+    Ok(Some(features.encode(alloc, request.head().xid)?))
+}
+
+/// GET_CONFIG_REPLY without flags (section 5.3.2).
+fn config_reply(alloc: Global, view: &[Seen<'_>], request: &Frame) -> Result<Frame, AllocError> {
+    let mut body = Vec::new(alloc);
+    put_u16(&mut body, 0)?;
+    put_u16(&mut body, miss_send_len(view))?;
+    message(alloc, GET_CONFIG_REPLY, request.head().xid, &body)
+}
+
+/// A length that isn't the one of its type.
+fn sized(bytes: &[u8], size: usize) -> Option<WireFault> {
+    if bytes.len() == size {
+        None
+    } else {
+        Some(WireFault::Length(bytes.len().min(65535) as u16))
+    }
+}
+
+fn fault_in<T: Drop>(read: Result<T, DecodeFault>) -> Result<Option<WireFault>, AllocError> {
+    match read {
+        Ok(_) => Ok(None),
+        Err(DecodeFault::Wire(fault)) => Ok(Some(fault)),
+        Err(DecodeFault::Memory) => Err(AllocError),
+    }
+}
+
+/// What is wrong with the form of a message of version 1 (section 5).
+fn form_fault(alloc: Global, message: &Frame) -> Result<Option<WireFault>, AllocError> {
+    let bytes = message.as_slice();
+    if message.is_of(FLOW_MOD) {
+        return fault_in(FlowMod::decode(alloc, message));
+    }
+    if message.is_of(PACKET_OUT) {
+        return fault_in(PacketOut::decode(alloc, message));
+    }
+    if message.is_of(STATS_REQUEST) {
+        return Ok(StatsRequest::decode(message).err());
+    }
+    match message.head().kind {
+        FEATURES_REQUEST | GET_CONFIG_REQUEST | BARRIER_REQUEST => Ok(sized(bytes, 8)),
+        SET_CONFIG | QUEUE_GET_CONFIG_REQUEST => Ok(sized(bytes, 12)),
+        _ => Ok(None),
+    }
+}
+
+/// The answer to a well-formed message that isn't sent on.
+fn local_answer(
+    alloc: Global,
+    view: &[Seen<'_>],
+    message: &Frame,
+) -> Result<Option<Frame>, AllocError> {
+    let bytes = message.as_slice();
+    match message.head().kind {
+        ECHO_REQUEST => Ok(Some(echo_reply(alloc, message)?)),
+        FEATURES_REQUEST => features_reply(alloc, view, message),
+        GET_CONFIG_REQUEST => Ok(Some(config_reply(alloc, view, message)?)),
+        SET_CONFIG if bytes.len() == 12 && u16_at(bytes, 8) != 0 => error(alloc, message, 1, 5),
+        _ => Ok(None),
+    }
+}
+
+/// The answer to a message of the controller: the first of these lines that applies.
+fn message_answer(
+    alloc: Global,
+    view: &[Seen<'_>],
+    message: &Frame,
+) -> Result<Option<Frame>, AllocError> {
+    let head = message.head();
+    if message.bad_length() {
+        return error(alloc, message, 1, 6);
+    }
+    if head.kind == HELLO {
+        return if is_dismissing(message) {
+            Ok(Some(error_frame(alloc, head.xid, 0, 0, &[])?))
+        } else {
+            Ok(None)
+        };
+    }
+    if head.version != 1 {
+        return error(alloc, message, 1, 0);
+    }
+    match head.kind {
+        0..=5 | 7 | 9 | 13..=16 | 18 | 20 => (),
+        _ => return error(alloc, message, 1, 1),
+    }
+    match head.kind {
+        ERROR | ECHO_REPLY => return Ok(None),
+        VENDOR => return error(alloc, message, 1, 3),
+        PORT_MOD => return error(alloc, message, 1, 5),
+        _ => (),
+    }
+    if let Some(fault) = form_fault(alloc, message)? {
+        let (class, code) = code(fault);
+        return error(alloc, message, class, code);
+    }
+    local_answer(alloc, view, message)
+}
+
+/// The packet as it came, without a transaction and a buffer (section 5.4.1).
+fn packet_told(alloc: Global, packet: &PacketIn) -> Result<Frame, AllocError> {
+    let payload = packet.payload.as_slice();
+    let told = PacketIn {
+        xid: 0,
+        buffer: NO_BUFFER,
+        total_len: packet.total_len,
+        in_port: packet.in_port,
+        reason: packet.reason,
+        payload: Bytes::of(alloc, &payload[..payload.len().min(MOST_PAYLOAD)])?,
+    };
+    told.encode(alloc)
+}
+
+/// What follows from an item after a view: at most one message to the slice, and nothing for the switch yet.
+pub(crate) fn answer(
+    alloc: Global,
+    view: &[Seen<'_>],
+    item: &Item<'_>,
+) -> Result<Option<Frame>, AllocError> {
+    if let Item::Up = item {
+        return Ok(Some(message(alloc, HELLO, 0, &[])?));
+    }
+    if !is_up(view) {
+        return Ok(None);
+    }
+    match item {
+        Item::Msg(message) => message_answer(alloc, view, message),
+        Item::Packet(packet) => Ok(Some(packet_told(alloc, packet)?)),
+        Item::Status(status) => Ok(Some(status.encode(alloc, 0)?)),
+        _ => Ok(None),
+    }
+}

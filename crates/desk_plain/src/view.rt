@@ -1,0 +1,256 @@
+//! What a slice sees of a history, and what can be looked up there.
+
+use crate::events::{Event, is_dismissing, is_end};
+use crate::history::{Opening, is_last_up, known, opening_of, status_in};
+use crate::ports::{changed, is_kept};
+use flowspace::{Policy, SwitchPolicy};
+use frame_header::header_of;
+use of10_action::DecodeFault;
+use of10_ctl::Frame;
+use of10_ctl::kind::{PACKET_IN, SET_CONFIG};
+use of10_flow::PacketIn;
+use of10_model::wire::u16_at;
+use of10_port::{Port, PortStatus};
+use std::alloc::{AllocError, Global};
+
+/// How much of a packet a slice wants before it says so (OpenFlow 1.0.0, section 5.3.2).
+const FIRST_MISS_SEND_LEN: u16 = 128;
+
+/// What a switch tells of itself, with the ports of the slice.
+#[derive(Drop)]
+pub(crate) struct Opened {
+    pub(crate) datapath: u64,
+    pub(crate) buffers: u32,
+    pub(crate) capabilities: u32,
+    pub(crate) actions: u32,
+    pub(crate) ports: Vec<Port>,
+}
+
+/// One thing that a slice sees.
+#[derive(Drop)]
+pub(crate) enum Item<'h> {
+    Opened(Opened),
+    Up,
+    Down,
+    Msg(&'h Frame),
+    /// A packet that it may write or read, which isn't buffered.
+    Packet(PacketIn),
+    Status(PortStatus),
+    End,
+}
+
+/// An item, and the number of the event that made it.
+#[derive(Drop)]
+pub(crate) struct Seen<'h> {
+    pub(crate) number: usize,
+    pub(crate) item: Item<'h>,
+}
+
+/// The ports of a slice among others.
+fn own_ports(
+    alloc: Global,
+    policy: &SwitchPolicy,
+    slot: u8,
+    ports: &[Port],
+) -> Result<Vec<Port>, AllocError> {
+    let mut own = Vec::new(alloc);
+    for port in ports {
+        if policy.has_port(slot, port.number()) {
+            own.push(*port)?;
+        }
+    }
+    Ok(own)
+}
+
+fn opened_item(
+    alloc: Global,
+    policy: &SwitchPolicy,
+    slot: u8,
+    opening: &Opening<'_>,
+) -> Result<Opened, AllocError> {
+    let features = &opening.features;
+    let known = known(alloc, features, &[])?;
+    Ok(Opened {
+        datapath: features.datapath,
+        buffers: features.buffers,
+        capabilities: features.capabilities,
+        actions: features.actions,
+        ports: own_ports(alloc, policy, slot, &known)?,
+    })
+}
+
+/// Whether the first rule that has the packet's header is written or read by the slice.
+fn is_of_slice(policy: &SwitchPolicy, slot: u8, packet: &PacketIn) -> bool {
+    let header = header_of(packet.in_port, packet.payload.as_slice());
+    let readers = policy.readers(&header);
+    policy.writer(&header) == Some(slot) || (slot < 32 && (readers >> slot) & 1 == 1)
+}
+
+/// What a PACKET_IN shows a slice that is up.
+fn packet_item(
+    alloc: Global,
+    policy: &SwitchPolicy,
+    slot: u8,
+    frame: &Frame,
+) -> Result<Option<PacketIn>, AllocError> {
+    if !frame.is_of(PACKET_IN) {
+        return Ok(None);
+    }
+    match PacketIn::decode(alloc, frame) {
+        Ok(packet) if is_of_slice(policy, slot, &packet) => Ok(Some(packet)),
+        Err(DecodeFault::Memory) => Err(AllocError),
+        _ => Ok(None),
+    }
+}
+
+/// What a PORT_STATUS shows a slice, up or not: the status, where it is kept and the port is the slice's.
+fn status_item(
+    alloc: Global,
+    policy: &SwitchPolicy,
+    slot: u8,
+    opening: &Opening<'_>,
+    before: &[Event],
+    event: &Event,
+) -> Result<Option<PortStatus>, AllocError> {
+    let Some(status) = status_in(event) else {
+        return Ok(None);
+    };
+    let known = known(alloc, &opening.features, before)?;
+    if is_kept(&known, &status) && policy.has_port(slot, status.port.number()) {
+        Ok(Some(status))
+    } else {
+        Ok(None)
+    }
+}
+
+/// What an event after the opening and other events shows a slice.
+fn item_of<'h>(
+    alloc: Global,
+    policy: &SwitchPolicy,
+    slot: u8,
+    opening: &Opening<'h>,
+    before: &'h [Event],
+    event: &'h Event,
+) -> Result<Option<Item<'h>>, AllocError> {
+    let is_up = is_last_up(slot, before);
+    match event {
+        Event::SliceUp(other) if *other == slot => Ok(Some(Item::Up)),
+        Event::SliceDown(other) if *other == slot => Ok(Some(Item::Down)),
+        Event::SliceMsg(other, frame) if *other == slot && is_up => Ok(Some(Item::Msg(frame))),
+        Event::SwitchDown => Ok(Some(Item::End)),
+        Event::SwitchMsg(frame) if frame.bad_length() => Ok(Some(Item::End)),
+        Event::SwitchMsg(frame) => {
+            if is_up {
+                if let Some(packet) = packet_item(alloc, policy, slot, frame)? {
+                    return Ok(Some(Item::Packet(packet)));
+                }
+            }
+            match status_item(alloc, policy, slot, opening, before, event)? {
+                Some(status) => Ok(Some(Item::Status(status))),
+                None => Ok(None),
+            }
+        }
+        _ => Ok(None),
+    }
+}
+
+/// What a slice sees of a history.
+pub(crate) fn view<'h>(
+    alloc: Global,
+    policy: &Policy,
+    slot: u8,
+    history: &'h [Event],
+) -> Result<Vec<Seen<'h>>, AllocError> {
+    let mut view = Vec::new(alloc);
+    let Some(opening) = opening_of(alloc, history)? else {
+        return Ok(view);
+    };
+    let policy = policy.of_switch(alloc, opening.features.datapath)?;
+    let opened = Item::Opened(opened_item(alloc, &policy, slot, &opening)?);
+    view.push(Seen {
+        number: opening.number,
+        item: opened,
+    })?;
+    for (place, event) in opening.later.iter().enumerate() {
+        let before = &opening.later[..place];
+        if before.iter().any(|event| is_end(event)) {
+            break;
+        }
+        if let Some(item) = item_of(alloc, &policy, slot, &opening, before, event)? {
+            let number = opening.number.saturating_add(1).saturating_add(place);
+            view.push(Seen { number, item })?;
+        }
+    }
+    Ok(view)
+}
+
+/// What an item says of whether the slice is up: a forgetting item.
+fn says_up(item: &Item<'_>) -> Option<bool> {
+    match item {
+        Item::Up => Some(true),
+        Item::Down => Some(false),
+        Item::Msg(frame) if is_dismissing(frame) => Some(false),
+        _ => None,
+    }
+}
+
+/// Whether the last forgetting item of a view is an up.
+pub(crate) fn is_up(view: &[Seen<'_>]) -> bool {
+    view.iter()
+        .rev()
+        .find_map(|seen| says_up(&seen.item))
+        .unwrap_or(false)
+}
+
+/// The length that a SET_CONFIG sets which is taken: well formed, of version 1 and without flags.
+fn length_set(frame: &Frame) -> Option<u16> {
+    let bytes = frame.as_slice();
+    if frame.is_of(SET_CONFIG) && bytes.len() == 12 && u16_at(bytes, 8) == 0 {
+        Some(u16_at(bytes, 10))
+    } else {
+        None
+    }
+}
+
+/// What an item says of how much of a packet the slice wants.
+fn says_length(item: &Item<'_>) -> Option<u16> {
+    match item {
+        Item::Msg(frame) => match length_set(frame) {
+            Some(length) => Some(length),
+            None if is_dismissing(frame) => Some(FIRST_MISS_SEND_LEN),
+            None => None,
+        },
+        Item::Up | Item::Down => Some(FIRST_MISS_SEND_LEN),
+        _ => None,
+    }
+}
+
+/// How much of a packet the slice wants: the length of its last SET_CONFIG that was taken since the last
+/// forgetting item.
+pub(crate) fn miss_send_len(view: &[Seen<'_>]) -> u16 {
+    view.iter()
+        .rev()
+        .find_map(|seen| says_length(&seen.item))
+        .unwrap_or(FIRST_MISS_SEND_LEN)
+}
+
+/// What the switch told of itself.
+pub(crate) fn opened_in<'a>(view: &'a [Seen<'_>]) -> Option<&'a Opened> {
+    view.iter().find_map(|seen| match &seen.item {
+        Item::Opened(opened) => Some(opened),
+        _ => None,
+    })
+}
+
+/// The known ports of the slice: those of the opening, changed by each later status.
+pub(crate) fn known_ports(alloc: Global, view: &[Seen<'_>]) -> Result<Vec<Port>, AllocError> {
+    let mut known = Vec::new(alloc);
+    for seen in view {
+        match &seen.item {
+            Item::Opened(opened) => known = Vec::from_slice(alloc, &opened.ports)?,
+            Item::Status(status) => known = changed(alloc, &known, status)?,
+            _ => (),
+        }
+    }
+    Ok(known)
+}
