@@ -1,0 +1,370 @@
+-- What a slice has seen of its switch: its features, and the slice's own of the known ports.
+use Rattle.std.proofs.Common.{◌≡◌, ℕ, ◌==◌, ◌&&◌, ◌||◌, ◌≤◌, not, is_none, Bool, true, false, if◌then◌else◌, List, [], ◌∷◌, map, length, refl, ap, sym, ◌∙◌, true≢false, eqb-true, Option, Some, None, IfSome, unwrap_or, subst, arith}
+use Rattle.std.specs.List.{list_any}
+use Rattle.of10_ctl.specs.declared.kind.TheConstants.{PACKET_IN, PORT_STATUS}
+use Rattle.of10_ctl.specs.Frames.{is_bad}
+use Rattle.of10_flow.specs.declared.packet_in.PacketIn.{PacketIn}
+use Rattle.of10_flow.specs.PacketIns.{read_packet_in}
+use Rattle.of10_port.specs.declared.features.Features.{Features}
+use Rattle.of10_port.specs.declared.status.PortStatus.{PortStatus}
+use Rattle.of10_port.specs.Ports.{port_number}
+use Rattle.frame_header.specs.Probes.{probe_slot_of}
+use Rattle.flowspace.specs.declared.rules.Rule.{Rule}
+use Rattle.flowspace.specs.Owners.{has_port}
+use Rattle.flowspace.specs.Policies.{PolicyView}
+use Rattle.port_view.specs.declared.answer.Kept.{Kept as Answer}
+use Rattle.port_view.specs.declared.answer.Kept.TheVariants.{Kept, Ignored, TooManyPorts}
+use Rattle.port_view.specs.KnownPorts.{IsAscending, first_known, changed, changed_plainly, kept_of, known_of as known_by}
+use Rattle.port_view.specs.SlicePorts.{ports_of_slice}
+use Rattle.port_view.proofs.Knowing.{changed-not_kept, IsAscending-changed, IsAscending-none, IsAscending-known_of, few-changed, few-known_of}
+use Rattle.port_view.proofs.Following.{own-changed, own-changed_other}
+use Rattle.slice_words.specs.Messages.{is_kind, version_of, kind_of}
+use Rattle.slice_words.specs.Items.{Settings, Share, Item, Opened as Told, Up, Down, Msg, Lost, Handed, Removed, Status, Fault, Barrier, Queues, Entry, Last, End, is_up, features_in, known_ports, is_own_port}
+use Rattle.slice_words.specs.Answers.{no_buffer}
+use Rattle.slice_words.specs.Alone.{with_items}
+use Rattle.desk_words.specs.declared.event.Event.{Event}
+use Rattle.desk_words.specs.declared.event.Event.TheVariants.{SwitchUp, SwitchMsg, SwitchDown, SliceUp, SliceMsg, SliceDown}
+use Rattle.desk_words.specs.declared.event.Timed.{Timed}
+use Rattle.desk_words.specs.declared.phase.Phase.{Phase}
+use Rattle.desk_words.specs.declared.phase.Phase.TheVariants.{Fresh, Begun, Opened, Ended}
+use Rattle.desk_words.specs.Openings.{is_of, well_formed, features_told, status_told, phase_of, opening_after, opening_of, rules_of, known_after, known_of, Switch, switch_of}
+use Rattle.desk_words.specs.Histories.{is_slot, settings_at, own_ports, own_features, handed, shares_of, packet_items, status_items, is_kept, message_items, event_items, phase_items, Side, view_of}
+use Rattle.desk_words.specs.Laws.{HasSeen, SeesItsSwitch, AreKnownInOrder}
+use Rattle.desk_words.proofs.Alone.{has_told, blind}
+use Rattle.desk_words.proofs.Silence.{is_early, untold}
+
+-- ---- items that tell nothing of the switch
+
+-- an item tells of the switch's features or of its ports
+abbrev tells_switch : Item → Bool
+tells_switch (Told features) = true
+tells_switch (Status status) = true
+tells_switch item = false
+
+first_false : (a b : Bool) → (a || b) ≡ false → a ≡ false
+first_false true b is = is
+first_false false b is = refl
+
+second_false : (a b : Bool) → (a || b) ≡ false → b ≡ false
+second_false true b is = absurd (true≢false is)
+second_false false b is = is
+
+untelling : (item : Item) (view : List Item) → tells_switch item ≡ false → (features_in (item ∷ view) ≡ features_in view) × (known_ports (item ∷ view) ≡ known_ports view)
+untelling (Told features) view none = absurd (true≢false none)
+untelling (Status status) view none = absurd (true≢false none)
+untelling Up view none = (refl, refl)
+untelling Down view none = (refl, refl)
+untelling (Msg message moment) view none = (refl, refl)
+untelling (Lost k) view none = (refl, refl)
+untelling (Handed packet) view none = (refl, refl)
+untelling (Removed entry) view none = (refl, refl)
+untelling (Fault x class code pair) view none = (refl, refl)
+untelling (Barrier x) view none = (refl, refl)
+untelling (Queues x body) view none = (refl, refl)
+untelling (Entry x kind bytes) view none = (refl, refl)
+untelling (Last x kind) view none = (refl, refl)
+untelling End view none = (refl, refl)
+
+untelling_all : (items view : List Item) → list_any tells_switch items ≡ false → (features_in (with_items items view) ≡ features_in view) × (known_ports (with_items items view) ≡ known_ports view)
+untelling_all [] view none = (refl, refl)
+untelling_all (item ∷ items) view none =
+    let rest = untelling_all items (item ∷ view) (second_false (tells_switch item) (list_any tells_switch items) none) in
+    let one = untelling item view (first_false (tells_switch item) (list_any tells_switch items) none) in
+    (rest.0 ∙ one.0, rest.1 ∙ one.1)
+
+untelling_handed : (packet : PacketIn) (shares : List Share) → list_any tells_switch (map (λ share. handed share packet) shares) ≡ false
+untelling_handed packet [] = refl
+untelling_handed packet (share ∷ others) = untelling_handed packet others
+
+untelling_or : (b : Bool) (items : List Item) → list_any tells_switch items ≡ false → list_any tells_switch (if b then items else []) ≡ false
+untelling_or true items none = none
+untelling_or false items none = refl
+
+untelling_packet : (rules : List Rule) (slot : ℕ) (view : List Item) (packet : Option PacketIn)
+    → list_any tells_switch (elim packet [ None ↦ [] | Some p ↦ packet_items rules slot view p ]) ≡ false
+untelling_packet rules slot view None = refl
+untelling_packet rules slot view (Some packet) =
+    untelling_or (packet.buffer == no_buffer && is_none (probe_slot_of packet.payload) && is_up view) (map (λ share. handed share packet) (shares_of rules slot packet))
+    (untelling_handed packet (shares_of rules slot packet))
+
+-- ---- the known ports after a status
+
+abbrev is_kept_answer : Answer → Bool
+is_kept_answer Kept = true
+is_kept_answer Ignored = false
+is_kept_answer TooManyPorts = false
+
+ignored : Ignored ≡ Kept → ⊥
+ignored e = true≢false (sym (ap is_kept_answer e))
+
+too_many : TooManyPorts ≡ Kept → ⊥
+too_many e = true≢false (sym (ap is_kept_answer e))
+
+-- the slice's own ports, after a status that may be kept and may be of a port of the slice
+own_after : (rules : List Rule) (slot : ℕ) (view : List Item) (status : PortStatus) (known : List (List ℕ)) (kept : Answer) (own : Bool)
+    → kept_of status known ≡ kept → has_port rules slot (port_number status.port) ≡ own → IsAscending known
+    → known_ports view ≡ ports_of_slice rules slot known
+    → known_ports (with_items (if is_kept_answer kept && own then Status status ∷ [] else []) view) ≡ ports_of_slice rules slot (changed status known)
+own_after rules slot view status known Kept true kept own order same =
+    ap (changed_plainly status) same ∙ sym (own-changed (has_port rules slot) status known kept own)
+own_after rules slot view status known Kept false kept own order same =
+    same ∙ sym (own-changed_other (has_port rules slot) status known order own)
+own_after rules slot view status known Ignored own_ kept own order same =
+    same ∙ sym (ap (ports_of_slice rules slot) (changed-not_kept status known (λ is. ignored (sym kept ∙ is))))
+own_after rules slot view status known TooManyPorts own_ kept own order same =
+    same ∙ sym (ap (ports_of_slice rules slot) (changed-not_kept status known (λ is. too_many (sym kept ∙ is))))
+
+shown_status : (b : Bool) (view : List Item) (status : PortStatus) → features_in (with_items (if b then Status status ∷ [] else []) view) ≡ features_in view
+shown_status true view status = refl
+shown_status false view status = refl
+
+-- what a view shows beside known ports: the features that it showed, and the slice's own of these ports
+record Follows (s : Settings) (before after : List Item) (known : List (List ℕ)) : Type 0 where
+  features_stay : features_in after ≡ features_in before
+  ports_follow : known_ports after ≡ own_ports s known
+
+by_status : (s : Settings) (view : List Item) (known : List (List ℕ)) (status : PortStatus) → IsAscending known → known_ports view ≡ own_ports s known
+    → Follows s view (with_items (status_items s known status) view) (changed status known)
+by_status s view known status order same = record {
+  features_stay = shown_status (is_kept status known && is_own_port s (port_number status.port)) view status;
+  ports_follow = own_after s.rules s.slot view status known (kept_of status known) (has_port s.rules s.slot (port_number status.port)) refl refl order same;
+}
+
+by_told : (s : Settings) (view : List Item) (known : List (List ℕ)) (told : Option PortStatus) → IsAscending known → known_ports view ≡ own_ports s known
+    → Follows s view (with_items (elim told [ None ↦ [] | Some status ↦ status_items s known status ]) view) (elim told [ None ↦ known | Some status ↦ changed status known ])
+by_told s view known None order same = record { features_stay = refl; ports_follow = same }
+by_told s view known (Some status) order same = by_status s view known status order same
+
+-- items that tell nothing of the switch, where the ports stay
+by_untelling : (s : Settings) (view items : List Item) (known now : List (List ℕ)) → list_any tells_switch items ≡ false → now ≡ known → known_ports view ≡ own_ports s known
+    → Follows s view (with_items items view) now
+by_untelling s view items known now none stay same =
+    let both = untelling_all items view none in
+    record { features_stay = both.0; ports_follow = both.1 ∙ same ∙ ap (own_ports s) (sym stay) }
+
+no_kind : (right kind bad : Bool) → bad ≡ true → (right && kind && not bad) ≡ false
+no_kind true true true is = refl
+no_kind true false true is = refl
+no_kind false true true is = refl
+no_kind false false true is = refl
+no_kind right kind false is = absurd (true≢false (sym is))
+
+-- what is of one type is of no other
+twelve_not : (kind : ℕ) → (kind == 10) ≡ true → (kind == 12) ≡ false
+twelve_not kind is = rw (eqb-true kind 10 is) refl
+
+and_first : (a b c : Bool) → (a && b && c) ≡ true → b ≡ true
+and_first true true c is = refl
+and_first true false c is = absurd (true≢false (sym is))
+and_first false b c is = absurd (true≢false (sym is))
+
+no_second : (a b c : Bool) → b ≡ false → (a && b && c) ≡ false
+no_second true b c is = rw is refl
+no_second false b c is = refl
+
+other_kind : (right : Bool) (kind : ℕ) (bad : Bool) → (right && (kind == 10) && not bad) ≡ true → (right && (kind == 12) && not bad) ≡ false
+other_kind right kind bad is = no_second right (kind == 12) (not bad) (twelve_not kind (and_first right (kind == 10) (not bad) is))
+
+-- a message of a bad length, or of another type, tells no status
+bad_untold : (message : List ℕ) → is_bad message ≡ true → status_told message ≡ None
+bad_untold message bad = rw (no_kind (version_of message == 1) (is_kind PORT_STATUS message) (is_bad message) bad) refl
+
+packet_untold : (message : List ℕ) → is_of PACKET_IN message ≡ true → status_told message ≡ None
+packet_untold message packet = rw (other_kind (version_of message == 1) (kind_of message) (is_bad message) packet) refl
+
+abbrev known_with : List (List ℕ) → Option PortStatus → List (List ℕ)
+known_with known told = elim told [ None ↦ known | Some status ↦ changed status known ]
+
+known_told : (message : List ℕ) (known : List (List ℕ)) → status_told message ≡ None → known_after Opened known (SwitchMsg message) ≡ known
+known_told message known none = ap (known_with known) none
+
+by_message_test : (policy : PolicyView) (slot : ℕ) (switch : Switch) (view : List Item) (message : List ℕ) (bad packet : Bool) → is_bad message ≡ bad → is_of PACKET_IN message ≡ packet
+    → IsAscending switch.known → known_ports view ≡ own_ports (settings_at policy slot switch.features) switch.known
+    → Follows (settings_at policy slot switch.features) view
+    (with_items (if bad then End ∷ [] else if packet then elim (well_formed (read_packet_in message)) [ None ↦ [] | Some p ↦ packet_items (rules_of policy switch.features) slot view p ]
+    else elim (status_told message) [ None ↦ [] | Some status ↦ status_items (settings_at policy slot switch.features) switch.known status ]) view)
+    (known_after Opened switch.known (SwitchMsg message))
+by_message_test policy slot switch view message true packet is_it is_packet order same =
+    by_untelling (settings_at policy slot switch.features) view (End ∷ []) switch.known (known_after Opened switch.known (SwitchMsg message)) refl (known_told message switch.known (bad_untold message is_it)) same
+by_message_test policy slot switch view message false true is_it is_packet order same =
+    by_untelling (settings_at policy slot switch.features) view (elim (well_formed (read_packet_in message)) as (λ x. List Item) [ None ↦ [] | Some p ↦ packet_items (rules_of policy switch.features) slot view p ]) switch.known (known_after Opened switch.known (SwitchMsg message))
+    (untelling_packet (rules_of policy switch.features) slot view (well_formed (read_packet_in message))) (known_told message switch.known (packet_untold message is_packet)) same
+by_message_test policy slot switch view message false false is_it is_packet order same =
+    by_told (settings_at policy slot switch.features) view switch.known (status_told message) order same
+
+by_message : (policy : PolicyView) (slot : ℕ) (switch : Switch) (view : List Item) (message : List ℕ)
+    → IsAscending switch.known → known_ports view ≡ own_ports (settings_at policy slot switch.features) switch.known
+    → Follows (settings_at policy slot switch.features) view (with_items (message_items policy slot switch view message) view) (known_after Opened switch.known (SwitchMsg message))
+unfolding message_items
+by_message policy slot switch view message order same = by_message_test policy slot switch view message (is_bad message) (is_of PACKET_IN message) refl refl order same
+
+by_event : (policy : PolicyView) (slot moment : ℕ) (switch : Switch) (view : List Item) (event : Event)
+    → IsAscending switch.known → known_ports view ≡ own_ports (settings_at policy slot switch.features) switch.known
+    → Follows (settings_at policy slot switch.features) view (with_items (event_items policy slot switch view moment event) view) (known_after Opened switch.known event)
+by_event policy slot moment switch view SwitchUp order same = record { features_stay = refl; ports_follow = same }
+by_event policy slot moment switch view (SwitchMsg message) order same = by_message policy slot switch view message order same
+by_event policy slot moment switch view SwitchDown order same = record { features_stay = refl; ports_follow = same }
+by_event policy slot moment switch view (SliceUp other) order same =
+    by_untelling (settings_at policy slot switch.features) view (if other == slot then Up ∷ [] else []) switch.known switch.known (untelling_or (other == slot) (Up ∷ []) refl) refl same
+by_event policy slot moment switch view (SliceMsg other message) order same =
+    by_untelling (settings_at policy slot switch.features) view (if other == slot && is_up view then Msg message moment ∷ [] else []) switch.known switch.known (untelling_or (other == slot && is_up view) (Msg message moment ∷ []) refl) refl same
+by_event policy slot moment switch view (SliceDown other) order same =
+    by_untelling (settings_at policy slot switch.features) view (if other == slot then Down ∷ [] else []) switch.known switch.known (untelling_or (other == slot) (Down ∷ []) refl) refl same
+
+-- ---- histories
+
+by_phase : (policy : PolicyView) (slot : ℕ) (switch : Switch) (view : List Item) (timed : Timed) (phase : Phase) → is_early phase ≡ false
+    → IsAscending switch.known → known_ports view ≡ own_ports (settings_at policy slot switch.features) switch.known
+    → Follows (settings_at policy slot switch.features) view (with_items (phase_items policy slot switch view timed phase) view) (known_after phase switch.known timed.event)
+by_phase policy slot switch view timed Fresh late order same = absurd (true≢false late)
+by_phase policy slot switch view timed Begun late order same = absurd (true≢false late)
+by_phase policy slot switch view timed Opened late order same = by_event policy slot timed.moment switch view timed.event order same
+by_phase policy slot switch view timed Ended late order same = record { features_stay = refl; ports_follow = same }
+
+abbrev known_begun : List (List ℕ) → Option Features → List (List ℕ)
+known_begun known told = elim told [ None ↦ known | Some features ↦ first_known features.ports ]
+
+first_ascending : (features : Features) → IsAscending (first_known features.ports)
+unfolding known_by
+first_ascending features = IsAscending-known_of features []
+
+-- ---- the known ports ascend
+
+ascending_told : (known : List (List ℕ)) (told : Option PortStatus) → IsAscending known → IsAscending (known_with known told)
+ascending_told known None order = order
+ascending_told known (Some status) order = IsAscending-changed status known order
+
+ascending_begun : (known : List (List ℕ)) (told : Option Features) → IsAscending known → IsAscending (known_begun known told)
+ascending_begun known None order = order
+ascending_begun known (Some features) order = first_ascending features
+
+ascending_after : (phase : Phase) (known : List (List ℕ)) (event : Event) → IsAscending known → IsAscending (known_after phase known event)
+ascending_after Fresh known event order = order
+ascending_after Ended known event order = order
+ascending_after Begun known (SwitchMsg message) order = ascending_begun known (features_told message) order
+ascending_after Begun known SwitchUp order = order
+ascending_after Begun known SwitchDown order = order
+ascending_after Begun known (SliceUp slot) order = order
+ascending_after Begun known (SliceMsg slot message) order = order
+ascending_after Begun known (SliceDown slot) order = order
+ascending_after Opened known (SwitchMsg message) order = ascending_told known (status_told message) order
+ascending_after Opened known SwitchUp order = order
+ascending_after Opened known SwitchDown order = order
+ascending_after Opened known (SliceUp slot) order = order
+ascending_after Opened known (SliceMsg slot message) order = order
+ascending_after Opened known (SliceDown slot) order = order
+
+pub ascending : (h : List Timed) → IsAscending (known_of h)
+ascending [] = IsAscending-none
+ascending (timed ∷ h) = ascending_after (phase_of h) (known_of h) timed.event (ascending h)
+
+late_of : (early : Bool) → (early ≡ true → ⊥) → early ≡ false
+late_of true never = absurd (never refl)
+late_of false never = refl
+
+-- ---- what is seen at the opening, and after it
+
+none_some : {A : Type 0} {features : Features} → None ≡ Some features → A
+none_some is = absurd (true≢false (sym (ap has_told is)))
+
+-- the opening shows the features with the slice's own ports
+seen_first : (policy : PolicyView) (slot : ℕ) (switch : Switch) (timed : Timed) (event : Event) (phase : Phase) (features : Features)
+    → timed.event ≡ event → opening_after phase None event ≡ Some features
+    → (features_in (with_items (phase_items policy slot switch [] timed phase) []) ≡ Some (own_features (settings_at policy slot (Some features)) features))
+    × (known_ports (with_items (phase_items policy slot switch [] timed phase) []) ≡ own_ports (settings_at policy slot (Some features)) (known_after phase switch.known event))
+seen_first policy slot switch timed event Fresh features e told = none_some told
+seen_first policy slot switch timed event Opened features e told = none_some told
+seen_first policy slot switch timed event Ended features e told = none_some told
+seen_first policy slot switch timed SwitchUp Begun features e told = none_some told
+seen_first policy slot switch timed SwitchDown Begun features e told = none_some told
+seen_first policy slot switch timed (SliceUp other) Begun features e told = none_some told
+seen_first policy slot switch timed (SliceMsg other message) Begun features e told = none_some told
+seen_first policy slot switch timed (SliceDown other) Begun features e told = none_some told
+seen_first policy slot switch timed (SwitchMsg message) Begun features e told =
+    rw (e, told) (refl, ap (own_ports (settings_at policy slot (Some features))) (sym (ap (known_begun switch.known) told)))
+
+some_is : {one other : Features} → Some one ≡ Some other → one ≡ other
+some_is {one} is = ap (λ told. unwrap_or told one) is
+
+-- an event more, once the switch has told what it is
+seen_more : (policy : PolicyView) (slot : ℕ) (h : List Timed) (timed : Timed) (features : Features) → opening_of h ≡ Some features → is_slot policy slot ≡ true
+    → HasSeen policy slot h features → HasSeen policy slot (timed ∷ h) features
+seen_more policy slot h timed features is here before =
+    let s = settings_at policy slot (Some features) in
+    let same_settings : settings_at policy slot (opening_of h) ≡ s = ap (settings_at policy slot) is in
+    let late : is_early (phase_of h) ≡ false = late_of (is_early (phase_of h)) (λ early. none_some (sym (untold h early) ∙ is)) in
+    let follows = by_phase policy slot (switch_of h) (view_of policy slot h) timed (phase_of h) late (ascending h) (before.ports_known ∙ ap (λ (t : Settings). own_ports t (known_of h)) (sym same_settings)) in
+    record {
+      features_seen = rw here (follows.features_stay ∙ before.features_seen);
+      ports_known = rw here (follows.ports_follow ∙ ap (λ (t : Settings). own_ports t (known_after (phase_of h) (known_of h) timed.event)) same_settings);
+    }
+
+seen_now : (policy : PolicyView) (slot : ℕ) (h : List Timed) (timed : Timed) (features : Features) → opening_of h ≡ None → is_slot policy slot ≡ true
+    → opening_after (phase_of h) None timed.event ≡ Some features → HasSeen policy slot (timed ∷ h) features
+seen_now policy slot h timed features is here told =
+    let both = seen_first policy slot (switch_of h) timed timed.event (phase_of h) features refl told in
+    let start = blind policy slot h is in
+    record {
+      features_seen = rw here (ap (λ (side : Side). features_in (with_items (phase_items policy slot (switch_of h) side.sight.view timed (phase_of h)) side.sight.view)) start ∙ both.0);
+      ports_known = rw here (ap (λ (side : Side). known_ports (with_items (phase_items policy slot (switch_of h) side.sight.view timed (phase_of h)) side.sight.view)) start ∙ both.1);
+    }
+
+-- by whether the switch had told what it is before
+seen_by : (policy : PolicyView) (slot : ℕ) (h : List Timed) (timed : Timed) (features : Features) (told : Option Features) → opening_of h ≡ told → is_slot policy slot ≡ true
+    → SeesItsSwitch policy slot h features → opening_after (phase_of h) told timed.event ≡ Some features → HasSeen policy slot (timed ∷ h) features
+seen_by policy slot h timed features None is here before now = seen_now policy slot h timed features is here now
+seen_by policy slot h timed features (Some own) is here before now =
+    let same : opening_of h ≡ Some features = is ∙ now in
+    seen_more policy slot h timed features same here (before same here)
+
+pub seen : (policy : PolicyView) (slot : ℕ) (h : List Timed) (features : Features) → SeesItsSwitch policy slot h features
+seen policy slot [] features told here = none_some told
+seen policy slot (timed ∷ h) features told here =
+    seen_by policy slot h timed features (opening_of h) refl here (seen policy slot h features) told
+
+-- ---- how many ports are known
+
+few_told : (known : List (List ℕ)) (told : Option PortStatus) → length known ≤ 1364 → length (known_with known told) ≤ 1364
+few_told known None few = few
+few_told known (Some status) few = few-changed status known few
+
+first_few : (features : Features) → length features.ports ≤ 1364 → length (first_known features.ports) ≤ 1364
+unfolding known_by
+first_few features few = few-known_of features [] few
+
+abbrev HasFew : Option Features → Type 0
+HasFew told = IfSome told (λ features. length features.ports ≤ 1364)
+
+few_begun : (known : List (List ℕ)) (told : Option Features) → length known ≤ 1364 → HasFew told → length (known_begun known told) ≤ 1364
+few_begun known None few has = few
+few_begun known (Some features) few has = first_few features has
+
+few_after : (phase : Phase) (told : Option Features) (known : List (List ℕ)) (event : Event) → (is_early phase ≡ true → told ≡ None) → length known ≤ 1364
+    → HasFew (opening_after phase told event) → length (known_after phase known event) ≤ 1364
+few_after Fresh told known event early few has = few
+few_after Ended told known event early few has = few
+few_after Begun told known (SwitchMsg message) early few has = few_begun known (features_told message) few (subst (λ t. HasFew (opening_after Begun t (SwitchMsg message))) (early refl) has)
+few_after Begun told known SwitchUp early few has = few
+few_after Begun told known SwitchDown early few has = few
+few_after Begun told known (SliceUp slot) early few has = few
+few_after Begun told known (SliceMsg slot message) early few has = few
+few_after Begun told known (SliceDown slot) early few has = few
+few_after Opened told known (SwitchMsg message) early few has = few_told known (status_told message) few
+few_after Opened told known SwitchUp early few has = few
+few_after Opened told known SwitchDown early few has = few
+few_after Opened told known (SliceUp slot) early few has = few
+few_after Opened told known (SliceMsg slot message) early few has = few
+few_after Opened told known (SliceDown slot) early few has = few
+
+-- what is told first is told from then on
+few_before : (phase : Phase) (told : Option Features) (event : Event) → HasFew (opening_after phase told event) → HasFew told
+few_before phase None event has = tt
+few_before phase (Some features) event has = has
+
+few_known : (h : List Timed) → HasFew (opening_of h) → length (known_of h) ≤ 1364
+few_known [] has = omega arith
+few_known (timed ∷ h) has =
+    few_after (phase_of h) (opening_of h) (known_of h) timed.event (untold h) (few_known h (few_before (phase_of h) (opening_of h) timed.event has)) has
+
+pub in_order : (h : List Timed) → AreKnownInOrder h
+in_order h = record { ascending = ascending h; few = few_known h }

@@ -1,0 +1,291 @@
+-- A slice that is down is sent nothing until it comes up.
+use Rattle.std.proofs.Common.{◌≡◌, ℕ, ◌==◌, ◌&&◌, ◌||◌, Bool, true, false, cond, if◌then◌else◌, List, [], ◌∷◌, ◌++◌, map, refl, ap, ap₂, sym, ◌∙◌, append-nil, true≢false, Option, Some, None, is_none, inl, inr, ◌⊎◌}
+use Rattle.std.proofs.lemmas.Bool.{eq-eqb}
+use Rattle.std.specs.List.{list_any}
+use Rattle.of10_ctl.specs.declared.kind.TheConstants.{PACKET_IN}
+use Rattle.of10_ctl.specs.Frames.{is_bad}
+use Rattle.of10_flow.specs.declared.packet_in.PacketIn.{PacketIn}
+use Rattle.of10_flow.specs.PacketIns.{read_packet_in}
+use Rattle.of10_port.specs.declared.features.Features.{Features}
+use Rattle.of10_port.specs.declared.status.PortStatus.{PortStatus}
+use Rattle.of10_port.specs.Ports.{port_number}
+use Rattle.frame_header.specs.Probes.{probe_slot_of}
+use Rattle.flowspace.specs.declared.rules.Rule.{Rule}
+use Rattle.flowspace.specs.Policies.{PolicyView}
+use Rattle.slice_words.specs.Items.{Settings, is_own_port, Share, Item, Opened as Told, Up, Down, Msg, Lost, Handed, Removed, Status, Fault, Barrier, Queues, Entry, Last, End, is_up, is_forgetting}
+use Rattle.slice_words.specs.Answers.{no_buffer}
+use Rattle.slice_words.specs.Messages.{is_dismissing}
+use Rattle.slice_words.specs.Alone.{with_items, sent_for}
+use Rattle.slice_words.specs.Laws.{is_coming}
+use Rattle.slice_words.proofs.Joining.{silent}
+use Rattle.desk_words.specs.declared.event.Event.{Event}
+use Rattle.desk_words.specs.declared.event.Event.TheVariants.{SwitchUp, SwitchMsg, SwitchDown, SliceUp, SliceMsg, SliceDown}
+use Rattle.desk_words.specs.declared.event.Timed.{Timed}
+use Rattle.desk_words.specs.declared.phase.Phase.{Phase}
+use Rattle.desk_words.specs.declared.phase.Phase.TheVariants.{Fresh, Begun, Opened, Ended}
+use Rattle.desk_words.specs.Openings.{is_of, well_formed, status_told, features_told, phase_after, phase_of, opening_with, opening_after, opening_of, rules_of, Switch, switch_of}
+use Rattle.desk_words.specs.Histories.{is_slot, settings_at, Side, side_of, view_of, handed, shares_of, is_kept, packet_items, status_items, message_items, opening_items, event_items, phase_items, items_of, is_open, is_slice_up}
+use Rattle.desk_words.specs.Sent.{sent, sent_by}
+use Rattle.desk_words.specs.Laws.{is_up_of, IsSilentUntilUp, IsDownAfterDown}
+use Rattle.desk_words.proofs.Alone.{blind}
+
+-- ---- items that say nothing of the connection
+
+-- none of the items says that the slice came up, went down, or sent a message that ends its connection
+abbrev pub are_plain : List Item → Bool
+are_plain items = list_any is_forgetting items
+
+plain_or : (b : Bool) (items : List Item) → are_plain items ≡ false → are_plain (if b then items else []) ≡ false
+plain_or true items plain = plain
+plain_or false items plain = refl
+
+plain_handed : (packet : PacketIn) (shares : List Share) → are_plain (map (λ share. handed share packet) shares) ≡ false
+plain_handed packet [] = refl
+plain_handed packet (share ∷ others) = plain_handed packet others
+
+plain_packet : (rules : List Rule) (slot : ℕ) (view : List Item) (packet : Option PacketIn)
+    → are_plain (elim packet [ None ↦ [] | Some p ↦ packet_items rules slot view p ]) ≡ false
+plain_packet rules slot view None = refl
+plain_packet rules slot view (Some packet) =
+    plain_or (packet.buffer == no_buffer && is_none (probe_slot_of packet.payload) && is_up view) (map (λ share. handed share packet) (shares_of rules slot packet))
+    (plain_handed packet (shares_of rules slot packet))
+
+plain_status : (s : Settings) (known : List (List ℕ)) (status : Option PortStatus)
+    → are_plain (elim status [ None ↦ [] | Some said ↦ status_items s known said ]) ≡ false
+plain_status s known None = refl
+plain_status s known (Some status) = plain_or (is_kept status known && is_own_port s (port_number status.port)) (Status status ∷ []) refl
+
+plain_choice : (b : Bool) (some others : List Item) → are_plain some ≡ false → are_plain others ≡ false → are_plain (if b then some else others) ≡ false
+plain_choice true some others a b = a
+plain_choice false some others a b = b
+
+-- what a message of the switch shows says nothing of the slice's connection
+pub plain_message : (policy : PolicyView) (slot : ℕ) (switch : Switch) (view : List Item) (message : List ℕ) → are_plain (message_items policy slot switch view message) ≡ false
+unfolding message_items
+plain_message policy slot switch view message =
+    plain_choice (is_bad message) (End ∷ []) _ refl
+    (plain_choice (is_of PACKET_IN message) _ _
+    (plain_packet (rules_of policy switch.features) slot view (well_formed (read_packet_in message)))
+    (plain_status (settings_at policy slot switch.features) switch.known (status_told message)))
+
+pub plain_opening : (policy : PolicyView) (slot : ℕ) (told : Option Features) → are_plain (opening_items policy slot told) ≡ false
+plain_opening policy slot None = refl
+plain_opening policy slot (Some features) = refl
+
+stays : (item : Item) (view : List Item) → is_forgetting item ≡ false → is_up (item ∷ view) ≡ is_up view
+stays Up view plain = absurd (true≢false plain)
+stays Down view plain = absurd (true≢false plain)
+stays (Msg message moment) view plain = rw plain refl
+stays (Told features) view plain = refl
+stays (Lost k) view plain = refl
+stays (Handed packet) view plain = refl
+stays (Removed entry) view plain = refl
+stays (Status status) view plain = refl
+stays (Fault x class code pair) view plain = refl
+stays (Barrier x) view plain = refl
+stays (Queues x body) view plain = refl
+stays (Entry x kind bytes) view plain = refl
+stays (Last x kind) view plain = refl
+stays End view plain = refl
+
+first_false : (a b : Bool) → (a || b) ≡ false → a ≡ false
+first_false true b is = is
+first_false false b is = refl
+
+second_false : (a b : Bool) → (a || b) ≡ false → b ≡ false
+second_false true b is = absurd (true≢false is)
+second_false false b is = is
+
+-- such items leave the slice up or down
+pub stays_all : (items view : List Item) → are_plain items ≡ false → is_up (with_items items view) ≡ is_up view
+stays_all [] view plain = refl
+stays_all (item ∷ items) view plain =
+    stays_all items (item ∷ view) (second_false (is_forgetting item) (are_plain items) plain)
+    ∙ stays item view (first_false (is_forgetting item) (are_plain items) plain)
+
+-- ---- items without an up
+
+kept_down : (dismissing up : Bool) → up ≡ false → (if dismissing then false else up) ≡ false
+kept_down true up down = refl
+kept_down false up down = down
+
+no_items : (b : Bool) (items : List Item) → items ≡ [] → cond b items [] ≡ []
+no_items true items none = none
+no_items false items none = refl
+
+down_still : (item : Item) (view : List Item) → is_coming item ≡ false → is_up view ≡ false → is_up (item ∷ view) ≡ false
+down_still Up view going down = absurd (true≢false going)
+down_still Down view going down = refl
+down_still (Msg message moment) view going down = kept_down (is_dismissing message) (is_up view) down
+down_still (Told features) view going down = down
+down_still (Lost k) view going down = down
+down_still (Handed packet) view going down = down
+down_still (Removed entry) view going down = down
+down_still (Status status) view going down = down
+down_still (Fault x class code pair) view going down = down
+down_still (Barrier x) view going down = down
+down_still (Queues x body) view going down = down
+down_still (Entry x kind bytes) view going down = down
+down_still (Last x kind) view going down = down
+down_still End view going down = down
+
+-- nothing is sent for items without an up while the slice is down, and it stays down
+silent_items : (s : Settings) (view items : List Item) → is_up view ≡ false → list_any is_coming items ≡ false
+    → (sent_for s view items ≡ []) × (is_up (with_items items view) ≡ false)
+silent_items s view [] down going = (refl, down)
+silent_items s view (item ∷ items) down going =
+    let first = first_false (is_coming item) (list_any is_coming items) going in
+    let rest = silent_items s (item ∷ view) items (down_still item view first down) (second_false (is_coming item) (list_any is_coming items) going) in
+    (ap₂ (λ (a b : List (List ℕ)). a ++ b) (ap (λ answer. answer.to_slice) (silent s view item down first)) rest.0, rest.1)
+
+plain_no_up : (item : Item) → is_forgetting item ≡ false → is_coming item ≡ false
+plain_no_up Up plain = plain
+plain_no_up Down plain = refl
+plain_no_up (Msg message moment) plain = refl
+plain_no_up (Told features) plain = refl
+plain_no_up (Lost k) plain = refl
+plain_no_up (Handed packet) plain = refl
+plain_no_up (Removed entry) plain = refl
+plain_no_up (Status status) plain = refl
+plain_no_up (Fault x class code pair) plain = refl
+plain_no_up (Barrier x) plain = refl
+plain_no_up (Queues x body) plain = refl
+plain_no_up (Entry x kind bytes) plain = refl
+plain_no_up (Last x kind) plain = refl
+plain_no_up End plain = refl
+
+plain_none : (items : List Item) → are_plain items ≡ false → list_any is_coming items ≡ false
+plain_none [] plain = refl
+plain_none (item ∷ items) plain =
+    rw (plain_no_up item (first_false (is_forgetting item) (are_plain items) plain)) (plain_none items (second_false (is_forgetting item) (are_plain items) plain))
+
+one_none : (b : Bool) (item : Item) → is_coming item ≡ false → list_any is_coming (if b then item ∷ [] else []) ≡ false
+one_none true item going = rw going refl
+one_none false item going = refl
+
+-- an event that isn't the slice's up shows no up
+none_event : (policy : PolicyView) (slot : ℕ) (switch : Switch) (view : List Item) (moment : ℕ) (timed : Timed) (event : Event) → timed.event ≡ event → is_up_of slot timed ≡ false
+    → list_any is_coming (event_items policy slot switch view moment event) ≡ false
+none_event policy slot switch view moment timed SwitchUp e still = refl
+none_event policy slot switch view moment timed (SwitchMsg message) e still = plain_none (message_items policy slot switch view message) (plain_message policy slot switch view message)
+none_event policy slot switch view moment timed SwitchDown e still = refl
+none_event policy slot switch view moment timed (SliceUp other) e still =
+    let other_slot : (other == slot) ≡ false = (rw e at still) in rw other_slot refl
+none_event policy slot switch view moment timed (SliceMsg other message) e still = one_none (other == slot && is_up view) (Msg message moment) refl
+none_event policy slot switch view moment timed (SliceDown other) e still = one_none (other == slot) Down refl
+
+none_in : (policy : PolicyView) (slot : ℕ) (switch : Switch) (view : List Item) (timed : Timed) (phase : Phase) → is_up_of slot timed ≡ false
+    → list_any is_coming (phase_items policy slot switch view timed phase) ≡ false
+none_in policy slot switch view timed Fresh still = refl
+none_in policy slot switch view timed Begun still = plain_none (opening_items policy slot (opening_with Begun timed.event)) (plain_opening policy slot (opening_with Begun timed.event))
+none_in policy slot switch view timed Opened still = none_event policy slot switch view timed.moment timed timed.event refl still
+none_in policy slot switch view timed Ended still = refl
+
+none_or : (b : Bool) (items : List Item) → list_any is_coming items ≡ false → list_any is_coming (cond b items []) ≡ false
+none_or true items still = still
+none_or false items still = refl
+
+-- ---- before the opening nobody is up
+
+abbrev pub is_early : Phase → Bool
+is_early Fresh = true
+is_early Begun = true
+is_early phase = false
+
+early_told : (bad : Bool) (told : Option Features) → is_early (if bad then Ended else elim told [ None ↦ Begun | Some features ↦ Opened ]) ≡ true → told ≡ None
+early_told true told early = absurd (true≢false (sym early))
+early_told false None early = refl
+early_told false (Some features) early = absurd (true≢false (sym early))
+
+not_early : (bad : Bool) → is_early (if bad then Ended else Opened) ≡ true → ⊥
+not_early true early = true≢false (sym early)
+not_early false early = true≢false (sym early)
+
+untold_after : (phase : Phase) (told : Option Features) (event : Event) → (is_early phase ≡ true → told ≡ None) → is_early (phase_after phase event) ≡ true → opening_after phase told event ≡ None
+untold_after Fresh told event before early = ap (λ t. opening_after Fresh t event) (before refl)
+untold_after Begun told (SwitchMsg message) before early = ap (λ t. opening_after Begun t (SwitchMsg message)) (before refl) ∙ early_told (is_bad message) (features_told message) early
+untold_after Begun told SwitchUp before early = ap (λ t. opening_after Begun t SwitchUp) (before refl)
+untold_after Begun told SwitchDown before early = absurd (true≢false (sym early))
+untold_after Begun told (SliceUp slot) before early = ap (λ t. opening_after Begun t (SliceUp slot)) (before refl)
+untold_after Begun told (SliceMsg slot message) before early = ap (λ t. opening_after Begun t (SliceMsg slot message)) (before refl)
+untold_after Begun told (SliceDown slot) before early = ap (λ t. opening_after Begun t (SliceDown slot)) (before refl)
+untold_after Opened told (SwitchMsg message) before early = absurd (not_early (is_bad message) early)
+untold_after Opened told SwitchUp before early = absurd (true≢false (sym early))
+untold_after Opened told SwitchDown before early = absurd (true≢false (sym early))
+untold_after Opened told (SliceUp slot) before early = absurd (true≢false (sym early))
+untold_after Opened told (SliceMsg slot message) before early = absurd (true≢false (sym early))
+untold_after Opened told (SliceDown slot) before early = absurd (true≢false (sym early))
+untold_after Ended told event before early = absurd (true≢false (sym early))
+
+pub untold : (h : List Timed) → is_early (phase_of h) ≡ true → opening_of h ≡ None
+untold [] early = refl
+untold (timed ∷ h) early = untold_after (phase_of h) (opening_of h) timed.event (untold h) early
+
+early_down : (policy : PolicyView) (slot : ℕ) (h : List Timed) → is_early (phase_of h) ≡ true → is_up (view_of policy slot h) ≡ false
+early_down policy slot h early = ap (λ (side : Side). is_up side.sight.view) (blind policy slot h (untold h early))
+
+-- a phase is early, open, or over
+down_in : (policy : PolicyView) (slot : ℕ) (h : List Timed) (phase : Phase) → phase_of h ≡ phase → is_slice_up policy slot h ≡ false
+    → (is_up (view_of policy slot h) ≡ false) ⊎ (phase_of h ≡ Ended)
+down_in policy slot h Fresh is down = inl (early_down policy slot h (ap is_early is))
+down_in policy slot h Begun is down = inl (early_down policy slot h (ap is_early is))
+down_in policy slot h Opened is down = inl (rw is at down)
+down_in policy slot h Ended is down = inr is
+
+-- ---- one event, and more
+
+and_false : (a b : Bool) → b ≡ false → (a && b) ≡ false
+and_false true b is = is
+and_false false b is = refl
+
+one_silent : (policy : PolicyView) (slot : ℕ) (h : List Timed) (timed : Timed) → is_up_of slot timed ≡ false
+    → (is_up (view_of policy slot h) ≡ false) ⊎ (phase_of h ≡ Ended)
+    → (sent_by policy slot h timed ≡ []) × (is_slice_up policy slot (timed ∷ h) ≡ false)
+one_silent policy slot h timed still (inl down) =
+    let view = view_of policy slot h in
+    let items = items_of policy slot (switch_of h) (side_of policy slot h) timed in
+    let none = none_or (is_slot policy slot) (phase_items policy slot (switch_of h) view timed (phase_of h)) (none_in policy slot (switch_of h) view timed (phase_of h) still) in
+    let both = silent_items (settings_at policy slot (opening_of h)) view items down none in
+    (both.0, and_false (is_open (phase_after (phase_of h) timed.event)) (is_up (with_items items view)) both.1)
+one_silent policy slot h timed still (inr ended) =
+    let items = items_of policy slot (switch_of h) (side_of policy slot h) timed in
+    let none : items ≡ [] = ap (λ (phase : Phase). cond (is_slot policy slot) (phase_items policy slot (switch_of h) (view_of policy slot h) timed phase) []) ended ∙ no_items (is_slot policy slot) [] refl in (
+      ap (λ (shown : List Item). sent_for (settings_at policy slot (opening_of h)) (view_of policy slot h) shown) none,
+      ap (λ (phase : Phase). is_open (phase_after phase timed.event) && is_up (view_of policy slot (timed ∷ h))) ended,
+    )
+
+pub until_up : (policy : PolicyView) (slot : ℕ) (later h : List Timed) → IsSilentUntilUp policy slot later h
+until_up policy slot [] h down none = record { silent = refl; still_down = down }
+until_up policy slot (timed ∷ later) h down none =
+    let before = until_up policy slot later h down (second_false (is_up_of slot timed) (list_any (is_up_of slot) later) none) in
+    let now = one_silent policy slot (later ++ h) timed (first_false (is_up_of slot timed) (list_any (is_up_of slot) later) none)
+    (down_in policy slot (later ++ h) (phase_of (later ++ h)) refl before.still_down) in
+    record {
+      silent = ap₂ (λ (a b : List (List ℕ)). a ++ b) before.silent now.0 ∙ append-nil (sent policy slot h);
+      still_down = now.1;
+    }
+
+-- ---- a connection that ended
+
+same_slot : (slot : ℕ) → (slot == slot) ≡ true
+same_slot slot = eq-eqb slot slot refl
+
+-- a slot that no slice has sees nothing
+nowhere : (policy : PolicyView) (slot : ℕ) (h : List Timed) → is_slot policy slot ≡ false → view_of policy slot h ≡ []
+nowhere policy slot [] out = refl
+nowhere policy slot (timed ∷ h) out = rw out (nowhere policy slot h out)
+
+down_in_view : (policy : PolicyView) (slot moment : ℕ) (switch : Switch) (view : List Item) (here : Bool) → (here ≡ false → view ≡ [])
+    → is_up (with_items (cond here (event_items policy slot switch view moment (SliceDown slot)) []) view) ≡ false
+down_in_view policy slot moment switch view true out = rw (same_slot slot) refl
+down_in_view policy slot moment switch view false out = ap is_up (out refl)
+
+down_at : (policy : PolicyView) (slot moment : ℕ) (h : List Timed) (phase : Phase) → phase_of h ≡ phase → IsDownAfterDown policy slot moment h
+down_at policy slot moment h Fresh is = rw is refl
+down_at policy slot moment h Begun is = rw is refl
+down_at policy slot moment h Ended is = rw is refl
+down_at policy slot moment h Opened is =
+    rw is (down_in_view policy slot moment (switch_of h) (view_of policy slot h) (is_slot policy slot) (nowhere policy slot h))
+
+pub after_down : (policy : PolicyView) (slot moment : ℕ) (h : List Timed) → IsDownAfterDown policy slot moment h
+after_down policy slot moment h = down_at policy slot moment h (phase_of h) refl

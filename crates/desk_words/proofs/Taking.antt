@@ -1,0 +1,151 @@
+-- What is taken of a queue is what was sent, in order, up to what was dropped.
+use Rattle.std.proofs.Common.{◌≡◌, ℕ, ◌+◌, ◌||◌, nat_lt, Bool, true, false, if◌then◌else◌, List, [], ◌∷◌, ◌++◌, length, refl, ap, sym, subst, ◌∙◌, append_assoc, append-nil, true≢false, eqb-true}
+use Rattle.flowspace.specs.Policies.{PolicyView}
+use Rattle.outbox.specs.Queues.{Queue, no_messages, size, push, push_all, without_first}
+use Rattle.desk_words.specs.declared.event.Timed.{Timed}
+use Rattle.desk_words.specs.declared.answer.Dest.{Dest}
+use Rattle.desk_words.specs.declared.answer.Dest.TheVariants.{Switch, Slice}
+use Rattle.desk_words.specs.declared.answer.Taken.{Taken}
+use Rattle.desk_words.specs.declared.answer.Taken.TheVariants.{Message, Nothing, Choked, Ended, NotOpen}
+use Rattle.desk_words.specs.Sent.{sent_by, lane_by}
+use Rattle.desk_words.specs.Operations.{Operation, Step, Take, takes_in, events_of, empties_slice, ends, queue_event, lane_event, slice_limit, lane_limit, is_switch, is_slice, queue_of, lane_of, waiting_of, is_gone, is_early, empty_reply, take_reply, IsLegal}
+use Rattle.desk_words.specs.Laws.{message_in, sent_since, taken_since, lane_since, lane_taken_since, AreInOrder}
+
+-- ---- messages are put
+
+in_order_choked : (messages taken : List (List ℕ)) (q : Queue) (m : List ℕ) → AreInOrder messages taken q → AreInOrder (messages ++ m ∷ []) taken (record q { choked = true })
+in_order_choked messages taken q m o = record {
+  dropped = o.dropped ++ m ∷ [];
+  order =
+      ap (λ (rest : List (List ℕ)). taken ++ rest) (sym (append_assoc q.pending o.dropped (m ∷ [])))
+      ∙ sym (append_assoc taken (q.pending ++ o.dropped) (m ∷ [])) ∙ ap (λ (all : List (List ℕ)). all ++ m ∷ []) o.order;
+  kept = λ free. absurd (true≢false free);
+}
+
+in_order_kept : (messages taken : List (List ℕ)) (q : Queue) (m : List ℕ) → q.choked ≡ false → AreInOrder messages taken q → AreInOrder (messages ++ m ∷ []) taken (record q { pending = q.pending ++ m ∷ [] })
+in_order_kept messages taken q m free o = record {
+  dropped = [];
+  order =
+      ap (λ (rest : List (List ℕ)). taken ++ rest) (append-nil (q.pending ++ m ∷ []))
+      ∙ sym (append_assoc taken q.pending (m ∷ []))
+      ∙ ap (λ (all : List (List ℕ)). all ++ m ∷ []) (ap (λ (rest : List (List ℕ)). taken ++ rest) (sym (append-nil q.pending ∙ refl)) ∙ ap (λ (rest : List (List ℕ)). taken ++ (q.pending ++ rest)) (sym (o.kept free)) ∙ o.order);
+  kept = λ _. refl;
+}
+
+free_of : (choked full : Bool) → (choked || full) ≡ false → choked ≡ false
+free_of true full is = is
+free_of false full is = refl
+
+by_test : (messages taken : List (List ℕ)) (q : Queue) (m : List ℕ) (full : Bool) → ((full ≡ false) → q.choked ≡ false) → AreInOrder messages taken q
+    → AreInOrder (messages ++ m ∷ []) taken (if full then record q { choked = true } else record q { pending = q.pending ++ m ∷ [] })
+by_test messages taken q m true free o = in_order_choked messages taken q m o
+by_test messages taken q m false free o = in_order_kept messages taken q m (free refl) o
+
+pushed : (limit : ℕ) (messages taken : List (List ℕ)) (q : Queue) (m : List ℕ) → AreInOrder messages taken q → AreInOrder (messages ++ m ∷ []) taken (push limit q m)
+unfolding push
+pushed limit messages taken q m o =
+    by_test messages taken q m (q.choked || nat_lt limit (size q.pending + length m)) (free_of q.choked (nat_lt limit (size q.pending + length m))) o
+
+pushed_all : (limit : ℕ) (messages taken : List (List ℕ)) (q : Queue) (more : List (List ℕ)) → AreInOrder messages taken q → AreInOrder (messages ++ more) taken (push_all limit q more)
+unfolding push_all
+pushed_all limit messages taken q [] o = subst (λ (all : List (List ℕ)). AreInOrder all taken q) (sym (append-nil messages)) o
+pushed_all limit messages taken q (m ∷ more) o =
+    subst (λ (all : List (List ℕ)). AreInOrder all taken (push_all limit (push limit q m) more)) (append_assoc messages (m ∷ []) more)
+    (pushed_all limit (messages ++ m ∷ []) taken (push limit q m) more (pushed limit messages taken q m o))
+
+empty_order : AreInOrder [] [] no_messages
+empty_order = record { dropped = []; order = refl; kept = λ _. refl }
+
+-- a queue is emptied, or stays, before messages are put
+after_event : (limit : ℕ) (empties : Bool) (messages taken : List (List ℕ)) (q : Queue) (more : List (List ℕ)) → AreInOrder messages taken q
+    → AreInOrder ((if empties then [] else messages) ++ more) (if empties then [] else taken) (push_all limit (if empties then no_messages else q) more)
+after_event limit true messages taken q more o = pushed_all limit [] [] no_messages more empty_order
+after_event limit false messages taken q more o = pushed_all limit messages taken q more o
+
+-- ---- messages are taken
+
+taken_one : (messages taken pending : List (List ℕ)) (choked : Bool) (reply empty : Taken) → AreInOrder messages taken (record { pending = pending; choked = choked }) → message_in empty ≡ []
+    → reply ≡ elim pending [ [] ↦ empty | m ∷ later ↦ Message m ] → AreInOrder messages (taken ++ message_in reply) (without_first (record { pending = pending; choked = choked }))
+taken_one messages taken [] choked reply empty o none is = record {
+  dropped = o.dropped;
+  order = ap (λ (m : List (List ℕ)). (taken ++ m) ++ o.dropped) (ap message_in is ∙ none) ∙ ap (λ (m : List (List ℕ)). m ++ o.dropped) (append-nil taken) ∙ o.order;
+  kept = o.kept;
+}
+taken_one messages taken (m ∷ later) choked reply empty o none is = record {
+  dropped = o.dropped;
+  order = ap (λ (t : Taken). (taken ++ message_in t) ++ (later ++ o.dropped)) is ∙ append_assoc taken (m ∷ []) (later ++ o.dropped) ∙ o.order;
+  kept = o.kept;
+}
+
+no_message : (policy : PolicyView) (h : List Timed) (dest : Dest) (choked : Bool) (gone early : Bool)
+    → message_in (if gone then Ended else if early then NotOpen else if choked then Choked else Nothing) ≡ []
+no_message policy h dest choked true early = refl
+no_message policy h dest choked false true = refl
+no_message policy h dest true false false = refl
+no_message policy h dest false false false = refl
+
+-- ---- a slice's queue
+
+step_order : (policy : PolicyView) (slot : ℕ) (before : List Operation) (timed : Timed) (taken_in : Bool)
+    → AreInOrder (sent_since policy slot before) (taken_since policy slot before) (queue_of policy slot before)
+    → AreInOrder
+    (if taken_in then (if empties_slice policy slot (events_of before) timed then [] else sent_since policy slot before) ++ sent_by policy slot (events_of before) timed else sent_since policy slot before)
+    (if taken_in then (if empties_slice policy slot (events_of before) timed then [] else taken_since policy slot before) else taken_since policy slot before)
+    (if taken_in then queue_event policy slot (events_of before) timed (queue_of policy slot before) else queue_of policy slot before)
+step_order policy slot before timed true o =
+    after_event slice_limit (empties_slice policy slot (events_of before) timed) (sent_since policy slot before) (taken_since policy slot before) (queue_of policy slot before) (sent_by policy slot (events_of before) timed) o
+step_order policy slot before timed false o = o
+
+-- a take is for this slice or leaves its queue
+take_order : (policy : PolicyView) (slot : ℕ) (before : List Operation) (dest : Dest) (reply : Taken) (own : Bool) → (own ≡ true → waiting_of policy dest before ≡ queue_of policy slot before)
+    → AreInOrder (sent_since policy slot before) (taken_since policy slot before) (queue_of policy slot before) → reply ≡ take_reply policy before dest
+    → AreInOrder (sent_since policy slot before) (if own then taken_since policy slot before ++ message_in reply else taken_since policy slot before)
+    (if own then without_first (queue_of policy slot before) else queue_of policy slot before)
+take_order policy slot before dest reply true same o is =
+    let q = queue_of policy slot before in
+    taken_one (sent_since policy slot before) (taken_since policy slot before) q.pending q.choked reply (empty_reply policy (events_of before) dest q.choked) o
+    (no_message policy (events_of before) dest q.choked (is_gone policy (events_of before) dest) (is_early (events_of before) dest))
+    (is ∙ ap (λ (w : Queue). elim w.pending [ [] ↦ empty_reply policy (events_of before) dest w.choked | m ∷ later ↦ Message m ]) (same refl))
+take_order policy slot before dest reply false same o is = o
+
+own_queue : (policy : PolicyView) (slot : ℕ) (before : List Operation) (dest : Dest) → is_slice slot dest ≡ true → waiting_of policy dest before ≡ queue_of policy slot before
+own_queue policy slot before Switch is = absurd (true≢false (sym is))
+own_queue policy slot before (Slice other) is = ap (λ (s : ℕ). queue_of policy s before) (eqb-true other slot is)
+
+pub slice_order : (policy : PolicyView) (slot : ℕ) (ops : List Operation) → IsLegal policy ops → AreInOrder (sent_since policy slot ops) (taken_since policy slot ops) (queue_of policy slot ops)
+slice_order policy slot [] legal = empty_order
+slice_order policy slot (Step timed reply ∷ before) legal = step_order policy slot before timed (takes_in reply) (slice_order policy slot before legal.1)
+slice_order policy slot (Take dest reply ∷ before) legal =
+    take_order policy slot before dest reply (is_slice slot dest) (own_queue policy slot before dest) (slice_order policy slot before legal.1) legal.0
+
+-- ---- the switch's queue
+
+lane_step : (policy : PolicyView) (before : List Operation) (timed : Timed) (taken_in : Bool)
+    → AreInOrder (lane_since policy before) (lane_taken_since policy before) (lane_of policy before)
+    → AreInOrder
+    (if taken_in then (if ends (events_of before) timed then [] else lane_since policy before) ++ lane_by policy (events_of before) timed else lane_since policy before)
+    (if taken_in then (if ends (events_of before) timed then [] else lane_taken_since policy before) else lane_taken_since policy before)
+    (if taken_in then lane_event policy (events_of before) timed (lane_of policy before) else lane_of policy before)
+lane_step policy before timed true o =
+    after_event lane_limit (ends (events_of before) timed) (lane_since policy before) (lane_taken_since policy before) (lane_of policy before) (lane_by policy (events_of before) timed) o
+lane_step policy before timed false o = o
+
+lane_take : (policy : PolicyView) (before : List Operation) (dest : Dest) (reply : Taken) (own : Bool) → (own ≡ true → waiting_of policy dest before ≡ lane_of policy before)
+    → AreInOrder (lane_since policy before) (lane_taken_since policy before) (lane_of policy before) → reply ≡ take_reply policy before dest
+    → AreInOrder (lane_since policy before) (if own then lane_taken_since policy before ++ message_in reply else lane_taken_since policy before)
+    (if own then without_first (lane_of policy before) else lane_of policy before)
+lane_take policy before dest reply true same o is =
+    let q = lane_of policy before in
+    taken_one (lane_since policy before) (lane_taken_since policy before) q.pending q.choked reply (empty_reply policy (events_of before) dest q.choked) o
+    (no_message policy (events_of before) dest q.choked (is_gone policy (events_of before) dest) (is_early (events_of before) dest))
+    (is ∙ ap (λ (w : Queue). elim w.pending [ [] ↦ empty_reply policy (events_of before) dest w.choked | m ∷ later ↦ Message m ]) (same refl))
+lane_take policy before dest reply false same o is = o
+
+own_lane : (policy : PolicyView) (before : List Operation) (dest : Dest) → is_switch dest ≡ true → waiting_of policy dest before ≡ lane_of policy before
+own_lane policy before Switch is = refl
+own_lane policy before (Slice other) is = absurd (true≢false (sym is))
+
+pub lane_order : (policy : PolicyView) (ops : List Operation) → IsLegal policy ops → AreInOrder (lane_since policy ops) (lane_taken_since policy ops) (lane_of policy ops)
+lane_order policy [] legal = empty_order
+lane_order policy (Step timed reply ∷ before) legal = lane_step policy before timed (takes_in reply) (lane_order policy before legal.1)
+lane_order policy (Take dest reply ∷ before) legal = lane_take policy before dest reply (is_switch dest) (own_lane policy before dest) (lane_order policy before legal.1) legal.0

@@ -1,0 +1,60 @@
+-- What of a recording isn't built yet: the first frame that would need it, and the record that completes it. Numbers are the types of messages (OpenFlow 1.0.0, section 5.1).
+use Rattle.std.specs.Prelude.{ℕ, ◌==◌, ◌||◌, ◌&&◌, not, Bool, false, if◌then◌else◌, List, [], ◌∷◌, ◌-◌, is_some, find, zip, ◌≡◌, Option, Some, None}
+use Rattle.std.specs.List.{list_any}
+use Rattle.of10_ctl.specs.declared.kind.TheConstants.{ERROR, PACKET_IN, FLOW_REMOVED, PACKET_OUT, FLOW_MOD, STATS_REQUEST, STATS_REPLY, BARRIER_REQUEST, BARRIER_REPLY, QUEUE_GET_CONFIG_REQUEST, QUEUE_GET_CONFIG_REPLY}
+use Rattle.of10_flow.specs.declared.packet_in.PacketIn.{PacketIn}
+use Rattle.of10_flow.specs.PacketIns.{read_packet_in}
+use Rattle.frame_header.specs.Probes.{probe_slot_of}
+use Rattle.recording.specs.declared.item.Item.{Item}
+use Rattle.recording.specs.Recordings.{Told, switch_bytes, slice_bytes}
+use Rattle.slice_words.specs.Messages.{kind_of}
+use Rattle.slice_words.specs.Answers.{no_buffer}
+use Rattle.desk_words.specs.Openings.{is_of, well_formed}
+use Rattle.desk_words.specs.Recorded.{completed, told_in}
+
+-- a message is of one of these types
+abbrev pub is_one_of : List ℕ → List ℕ → Bool
+is_one_of kinds message = list_any (λ kind. is_of kind message) kinds
+
+-- what a slice's controller sends that isn't built: what is sent on to the switch
+abbrev pub is_unbuilt_of_slice : List ℕ → Bool
+is_unbuilt_of_slice message = is_one_of (PACKET_OUT ∷ FLOW_MOD ∷ STATS_REQUEST ∷ BARRIER_REQUEST ∷ QUEUE_GET_CONFIG_REQUEST ∷ []) message
+
+-- a packet that is buffered, or that bears a probe's mark
+abbrev pub is_special : PacketIn → Bool
+is_special packet = not (packet.buffer == no_buffer) || is_some (probe_slot_of packet.payload)
+
+abbrev pub is_special_packet_in : List ℕ → Bool
+is_special_packet_in message = is_of PACKET_IN message && elim (well_formed (read_packet_in message)) [ None ↦ false | Some packet ↦ is_special packet ]
+
+-- what a switch sends that isn't built: what it answers to what is sent on, and such packets
+abbrev pub is_unbuilt_of_switch : List ℕ → Bool
+is_unbuilt_of_switch message = is_one_of (ERROR ∷ FLOW_REMOVED ∷ STATS_REPLY ∷ BARRIER_REPLY ∷ QUEUE_GET_CONFIG_REPLY ∷ []) message || is_special_packet_in message
+
+-- the first frame that a record completes and that isn't built
+abbrev pub unbuilt_in : Told → List Told → Option (List ℕ)
+unbuilt_in r before =
+    if r.kind == switch_bytes then find is_unbuilt_of_switch (completed r before)
+    else if r.kind == slice_bytes then find is_unbuilt_of_slice (completed r before)
+    else None
+
+-- the type of a message that isn't built, and the place in the file where the record begins that completes it
+pub record Lack : Type 0 where
+  pub kind : ℕ
+  pub at : ℕ
+
+-- a record's head has 16 bytes
+abbrev pub head_place : Item → ℕ
+head_place item = item.from - 16
+
+abbrev pub lack_of : Item → List ℕ → Lack
+lack_of item message = record { kind = kind_of message; at = head_place item }
+
+-- the first lack of the items of a file, each with what it tells, after these records, newest first
+unfoldable pub first_lack : List Told → List (Item × Told) → Option Lack
+first_lack before [] = None
+first_lack before (pair ∷ later) = elim (unbuilt_in pair.1 before) [ None ↦ first_lack (pair.1 ∷ before) later | Some message ↦ Some (lack_of pair.0 message) ]
+
+-- nothing of the recording in a file lacks
+abbrev pub IsBuilt : List ℕ → List Item → Type 0
+IsBuilt file items = first_lack [] (zip items (told_in file items)) ≡ None

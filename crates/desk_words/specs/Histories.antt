@@ -1,0 +1,170 @@
+-- What a slice sees of a history: its view, which is a filter of the history (this proxy's own rule). An event of another slice shows it nothing.
+use Rattle.std.specs.Prelude.{ℕ, ◌==◌, ◌&&◌, ltb, Bool, true, false, if◌then◌else◌, List, [], ◌∷◌, ◌++◌, length, map, slice_get, Option, Some, None, is_none}
+use Rattle.std.specs.Option.{option_or}
+use Rattle.of10_model.specs.Header.{Header}
+use Rattle.of10_model.specs.Normal.{is_value, bit}
+use Rattle.of10_ctl.specs.declared.kind.TheConstants.{PACKET_IN}
+use Rattle.of10_ctl.specs.Frames.{is_bad}
+use Rattle.of10_flow.specs.declared.packet_in.PacketIn.{PacketIn}
+use Rattle.of10_flow.specs.PacketIns.{read_packet_in}
+use Rattle.of10_port.specs.declared.features.Features.{Features}
+use Rattle.of10_port.specs.declared.status.PortStatus.{PortStatus}
+use Rattle.of10_port.specs.Ports.{port_number}
+use Rattle.frame_header.specs.Headers.{header_of_packet}
+use Rattle.frame_header.specs.Probes.{probe_slot_of}
+use Rattle.flowspace.specs.declared.rules.Rule.{Rule}
+use Rattle.flowspace.specs.Order.{writer_of, readers_of}
+use Rattle.flowspace.specs.Policies.{PolicyView}
+use Rattle.port_view.specs.declared.answer.Kept.TheVariants.{Kept, Ignored, TooManyPorts}
+use Rattle.port_view.specs.KnownPorts.{first_known, kept_of}
+use Rattle.port_view.specs.SlicePorts.{ports_of_slice}
+use Rattle.slice_words.specs.Items.{Settings, settings_of, is_own_port, Share, Writer, Reader, Probe, Packet, Item, Up, Down, Msg, Handed, Status, End, Sight, is_up}
+use Rattle.slice_words.specs.Items as items
+use Rattle.slice_words.specs.Answers.{no_buffer}
+use Rattle.slice_words.specs.Alone.{with_items}
+use Rattle.desk_words.specs.declared.event.Event.{Event}
+use Rattle.desk_words.specs.declared.event.Event.TheVariants.{SwitchUp, SwitchMsg, SwitchDown, SliceUp, SliceMsg, SliceDown}
+use Rattle.desk_words.specs.declared.event.Timed.{Timed}
+use Rattle.desk_words.specs.declared.phase.Phase.{Phase}
+use Rattle.desk_words.specs.declared.phase.Phase.TheVariants.{Fresh, Begun, Opened, Ended}
+use Rattle.desk_words.specs.Openings.{is_of, well_formed, status_told, opening_with, rules_of, Switch, switch_of, phase_of}
+
+-- ---- slices of a policy
+
+-- a policy has a slice at a slot
+abbrev pub is_slot : PolicyView → ℕ → Bool
+is_slot policy slot = ltb slot (length policy.slices)
+
+-- the settings of the slice at a slot on a switch that told this of itself
+abbrev pub settings_at : PolicyView → ℕ → Option Features → Settings
+settings_at policy slot told =
+    elim (slice_get policy.slices slot) [
+      | None ↦ record { slot = slot; rate = 0; burst = 0; quota = 0; rules = [] }
+      | Some slice ↦ settings_of slice slot (rules_of policy told)
+    ]
+
+-- ---- what a slice sees
+
+-- a packet-in to which the switch gave a number, and how many buffered packets the slice was given before it, if it was one of the slice's
+pub record Numbered : Type 0 where
+  pub number : ℕ
+  pub ordinal : Option ℕ
+
+-- what a slice sees, and beside it all packet-ins with numbers since the opening, newest first: by these it can be told when a number of one of its packets is used again
+pub record Side : Type 0 where
+  pub sight : Sight
+  pub numbered : List Numbered
+
+abbrev pub side_start : Side
+side_start = record { sight = record { view = []; came = [] }; numbered = [] }
+
+-- ---- what one event shows a slice
+
+-- of the known ports the slice's own
+abbrev pub own_ports : Settings → List (List ℕ) → List (List ℕ)
+own_ports s known = ports_of_slice s.rules s.slot known
+
+-- the features that a slice sees: the slice's own of the known ports; how many tables there are it doesn't see
+abbrev pub own_features : Settings → Features → Features
+own_features s features = record features { tables = 1; ports = own_ports s (first_known features.ports) }
+
+-- a packet-in for the slice, with what share and as it stands
+abbrev pub handed : Share → PacketIn → Item
+handed share packet =
+    Handed (record { share = share; total_len = packet.total_len; in_port = packet.in_port; reason = packet.reason; payload = packet.payload })
+
+abbrev pub header_in : PacketIn → Header
+header_in packet = header_of_packet packet.in_port packet.payload
+
+-- the first rule that has the packet's header says who may write it, and who reads it
+abbrev pub shares_of : List Rule → ℕ → PacketIn → List Share
+shares_of rules slot packet =
+    (if is_value slot (writer_of rules (header_in packet)) then Writer false ∷ [] else [])
+    ++ (if bit (readers_of rules (header_in packet)) slot then Reader ∷ [] else [])
+
+-- a packet-in shows the slice its packet once for each of its shares, where it is up. What is buffered and what bears a probe's mark comes later
+abbrev pub packet_items : List Rule → ℕ → List Item → PacketIn → List Item
+packet_items rules slot view packet =
+    if packet.buffer == no_buffer && is_none (probe_slot_of packet.payload) && is_up view then map (λ share. handed share packet) (shares_of rules slot packet) else []
+
+-- a change is kept beside the ports that are known
+abbrev pub is_kept : PortStatus → List (List ℕ) → Bool
+is_kept status known = elim (kept_of status known) [ Kept ↦ true | Ignored ↦ false | TooManyPorts ↦ false ]
+
+-- a change that is kept is shown to the slices that have the port
+abbrev pub status_items : Settings → List (List ℕ) → PortStatus → List Item
+status_items s known status = if is_kept status known && is_own_port s (port_number status.port) then Status status ∷ [] else []
+
+-- a message of the switch that came after it told what it is. Errors, entries that are gone, barriers, queues and statistics come later
+unfoldable pub message_items : PolicyView → ℕ → Switch → List Item → List ℕ → List Item
+message_items policy slot switch view message =
+    if is_bad message then End ∷ []
+    else if is_of PACKET_IN message then elim (well_formed (read_packet_in message)) [ None ↦ [] | Some packet ↦ packet_items (rules_of policy switch.features) slot view packet ]
+    else elim (status_told message) [ None ↦ [] | Some status ↦ status_items (settings_at policy slot switch.features) switch.known status ]
+
+-- the opening shows the slice the features of the switch
+abbrev pub opening_items : PolicyView → ℕ → Option Features → List Item
+opening_items policy slot None = []
+opening_items policy slot (Some features) = items.Opened (own_features (settings_at policy slot (Some features)) features) ∷ []
+
+-- an event after the opening shows a slice what concerns it: its own connection and messages, while it is up, and what the switch says of it
+abbrev pub event_items : PolicyView → ℕ → Switch → List Item → ℕ → Event → List Item
+event_items policy slot switch view moment SwitchUp = []
+event_items policy slot switch view moment (SwitchMsg message) = message_items policy slot switch view message
+event_items policy slot switch view moment SwitchDown = End ∷ []
+event_items policy slot switch view moment (SliceUp other) = if other == slot then Up ∷ [] else []
+event_items policy slot switch view moment (SliceMsg other message) = if other == slot && is_up view then Msg message moment ∷ [] else []
+event_items policy slot switch view moment (SliceDown other) = if other == slot then Down ∷ [] else []
+
+-- the opening is the first event that shows anything, and the end the last
+abbrev pub phase_items : PolicyView → ℕ → Switch → List Item → Timed → Phase → List Item
+phase_items policy slot switch view timed Fresh = []
+phase_items policy slot switch view timed Begun = opening_items policy slot (opening_with Begun timed.event)
+phase_items policy slot switch view timed Opened = event_items policy slot switch view timed.moment timed.event
+phase_items policy slot switch view timed Ended = []
+
+-- what an event shows the slice at a slot of the policy, after what is known of the switch and what the slice sees, the oldest first
+abbrev pub items_of : PolicyView → ℕ → Switch → Side → Timed → List Item
+items_of policy slot switch side timed = if is_slot policy slot then phase_items policy slot switch side.sight.view timed switch.phase else []
+
+-- ---- what a history shows a slice
+
+-- what a slice sees with these items of an event. No packet is shown as buffered yet, so that no number comes to those that there are
+abbrev pub with_shown : Timed → List Item → Side → Side
+with_shown timed items side = record { sight = record { view = with_items items side.sight.view; came = side.sight.came }; numbered = side.numbered }
+
+-- what a history shows the slice at a slot: each event its items, after what the events before it showed
+abbrev pub side_of : PolicyView → ℕ → List Timed → Side
+side_of policy slot [] = side_start
+side_of policy slot (timed ∷ h) = with_shown timed (items_of policy slot (switch_of h) (side_of policy slot h) timed) (side_of policy slot h)
+
+abbrev pub sight_of : PolicyView → ℕ → List Timed → Sight
+sight_of policy slot h = (side_of policy slot h).sight
+
+abbrev pub view_of : PolicyView → ℕ → List Timed → List Item
+view_of policy slot h = (side_of policy slot h).sight.view
+
+-- a phase in which slices can be up
+abbrev pub is_open : Phase → Bool
+is_open Opened = true
+is_open phase = false
+
+-- the slice at a slot is up after a history: the switch has told what it is and hasn't ended, and the slice's connection came and hasn't gone
+abbrev pub is_slice_up : PolicyView → ℕ → List Timed → Bool
+is_slice_up policy slot h = is_open (phase_of h) && is_up (view_of policy slot h)
+
+-- ---- buffered packets
+
+-- the header of a packet that the switch handed up under a number
+abbrev pub header_numbered : ℕ → Option PacketIn → Option Header
+header_numbered number None = None
+header_numbered number (Some packet) = if packet.buffer == number then Some (header_in packet) else None
+
+abbrev pub header_handed : ℕ → Event → Option Header
+header_handed number (SwitchMsg message) = if is_of PACKET_IN message then header_numbered number (well_formed (read_packet_in message)) else None
+header_handed number event = None
+
+-- the header of the last packet since the opening that the switch handed up under a number
+abbrev pub buffer_header : List Timed → ℕ → Option Header
+buffer_header [] number = None
+buffer_header (timed ∷ h) number = if is_open (phase_of h) then option_or (header_handed number timed.event) (buffer_header h number) else buffer_header h number

@@ -1,0 +1,213 @@
+-- Statements about histories and operations. `src/laws.rt` has a function for each, which is proved.
+use Rattle.std.specs.Prelude.{ℕ, ◌≡◌, ◌==◌, ◌&&◌, ◌||◌, not, Bool, true, false, if◌then◌else◌, List, [], ◌∷◌, ◌++◌, filter, length, is_some, IfSome, ◌≤◌, Option, Some, None}
+use Rattle.std.specs.List.{list_any}
+use Rattle.std.specs.Option.{option_or}
+use Rattle.of10_ctl.specs.Frames.{is_bad}
+use Rattle.of10_port.specs.declared.features.Features.{Features}
+use Rattle.of10_ctl.specs.Streams.{frames_of, AreFirst}
+use Rattle.flowspace.specs.Policies.{PolicyView}
+use Rattle.port_view.specs.KnownPorts.{IsAscending}
+use Rattle.recording.specs.Recordings.{Told}
+use Rattle.outbox.specs.Queues.{Queue}
+use Rattle.slice_words.specs.Messages.{is_dismissing}
+use Rattle.slice_words.specs.Items.{features_in, known_ports}
+use Rattle.slice_words.specs.Alone.{alone}
+use Rattle.desk_words.specs.declared.event.Event.{Event}
+use Rattle.desk_words.specs.declared.event.Event.TheVariants.{SwitchUp, SwitchMsg, SwitchDown, SliceUp, SliceMsg, SliceDown}
+use Rattle.desk_words.specs.declared.event.Timed.{Timed}
+use Rattle.desk_words.specs.declared.answer.Taken.{Taken}
+use Rattle.desk_words.specs.declared.answer.Taken.TheVariants.{Message}
+use Rattle.desk_words.specs.Openings.{features_told, phase_of, opening_of, known_of, switch_of}
+use Rattle.desk_words.specs.Histories.{is_slot, settings_at, own_ports, own_features, side_start, side_of, view_of, is_open, is_slice_up}
+use Rattle.desk_words.specs.Sent.{sent_by, sent, lane_by}
+use Rattle.desk_words.specs.Verdicts.{is_fresh, is_ended, is_switch_up}
+use Rattle.desk_words.specs.Operations.{Operation, Step, Take, takes_in, events_of, empties_slice, ends, is_slice, is_switch}
+use Rattle.desk_words.specs.Recorded.{stream_before}
+
+-- ---- the switch's connection
+
+-- the switch has connected
+abbrev pub has_begun : List Timed → Bool
+has_begun h = list_any (λ timed. is_switch_up timed.event) h
+
+-- an event of the switch that ends its connection: it is gone, or sent a message of a bad length
+abbrev pub is_last : Event → Bool
+is_last SwitchDown = true
+is_last (SwitchMsg message) = is_bad message
+is_last event = false
+
+-- after the switch connected such an event came
+abbrev pub has_ended : List Timed → Bool
+has_ended [] = false
+has_ended (timed ∷ h) = has_ended h || (has_begun h && is_last timed.event)
+
+-- what an event tells of the switch
+abbrev pub features_with : Event → Option Features
+features_with (SwitchMsg message) = features_told message
+features_with event = None
+
+-- what the switch told of itself first, after it connected and before it ended
+abbrev pub first_told : List Timed → Option Features
+first_told [] = None
+first_told (timed ∷ h) = option_or (first_told h) (if has_begun h && not (has_ended h) then features_with timed.event else None)
+
+-- the phase and the opening of a history are those that its events say
+pub record IsPhaseByEvents (h : List Timed) : Type 0 where
+  pub fresh : is_fresh (phase_of h) ≡ not (has_begun h)
+  pub ended : is_ended (phase_of h) ≡ has_ended h
+  pub opening : opening_of h ≡ first_told h
+  pub open_then : is_open (phase_of h) ≡ (is_some (first_told h) && not (has_ended h))
+
+-- ---- a slice alone
+
+-- what a slice is sent is what a proxy sends that serves it alone, with its settings and its view
+abbrev pub IsAlone : PolicyView → ℕ → List Timed → Type 0
+IsAlone policy slot h = sent policy slot h ≡ alone (settings_at policy slot (opening_of h)) (view_of policy slot h)
+
+-- two policies and histories with the same settings and the same view of a slice have it sent the same
+abbrev pub AreAlike : PolicyView → ℕ → List Timed → PolicyView → ℕ → List Timed → Type 0
+AreAlike policy slot h other_policy other_slot other_h =
+    settings_at policy slot (opening_of h) ≡ settings_at other_policy other_slot (opening_of other_h)
+    → view_of policy slot h ≡ view_of other_policy other_slot other_h
+    → sent policy slot h ≡ sent other_policy other_slot other_h
+
+-- ---- other slices
+
+-- an event of the connection of another slice
+abbrev pub is_others : ℕ → Event → Bool
+is_others slot (SliceUp other) = not (other == slot)
+is_others slot (SliceMsg other message) = not (other == slot)
+is_others slot (SliceDown other) = not (other == slot)
+is_others slot event = false
+
+-- a history without them
+abbrev pub erased : ℕ → List Timed → List Timed
+erased slot h = filter (λ timed. not (is_others slot timed.event)) h
+
+-- of two histories the slice at a slot sees the same and is sent the same
+pub record AreSame (policy : PolicyView) (slot : ℕ) (g h : List Timed) : Type 0 where
+  pub switch : switch_of g ≡ switch_of h
+  pub side : side_of policy slot g ≡ side_of policy slot h
+  pub sends : sent policy slot g ≡ sent policy slot h
+
+-- nothing that other slices do changes what a slice sees or is sent
+abbrev pub IsErasable : PolicyView → ℕ → List Timed → Type 0
+IsErasable policy slot h = AreSame policy slot (erased slot h) h
+
+-- ---- before the opening, and while a slice is down
+
+-- before the switch tells what it is, a slice sees nothing
+abbrev pub IsBlindBefore : PolicyView → ℕ → List Timed → Type 0
+IsBlindBefore policy slot h = opening_of h ≡ None → side_of policy slot h ≡ side_start
+
+-- the slice's connection comes
+abbrev pub is_up_of : ℕ → Timed → Bool
+is_up_of slot timed = elim timed.event [
+  | SliceUp other ↦ other == slot
+  | SwitchUp ↦ false
+  | SwitchMsg message ↦ false
+  | SwitchDown ↦ false
+  | SliceMsg other message ↦ false
+  | SliceDown other ↦ false
+]
+
+-- nothing is sent to a slice by these later events, and it isn't up after them
+pub record AreSilent (policy : PolicyView) (slot : ℕ) (later h : List Timed) : Type 0 where
+  pub silent : sent policy slot (later ++ h) ≡ sent policy slot h
+  pub still_down : is_slice_up policy slot (later ++ h) ≡ false
+
+-- a slice that isn't up is sent nothing until its connection comes, and isn't up until then
+abbrev pub IsSilentUntilUp : PolicyView → ℕ → List Timed → List Timed → Type 0
+IsSilentUntilUp policy slot later h =
+    is_slice_up policy slot h ≡ false → list_any (is_up_of slot) later ≡ false → AreSilent policy slot later h
+
+-- a slice isn't up once its connection has ended
+abbrev pub IsDownAfterDown : PolicyView → ℕ → ℕ → List Timed → Type 0
+IsDownAfterDown policy slot moment h = is_slice_up policy slot (record { event = SliceDown slot; moment = moment } ∷ h) ≡ false
+
+-- ---- who is up, by the events
+
+-- the events that came after the switch had told what it is
+abbrev pub after_opening : List Timed → List Timed
+after_opening [] = []
+after_opening (timed ∷ h) = if is_open (phase_of h) then timed ∷ after_opening h else after_opening h
+
+-- an event says that the slice's connection came, went, or sent a message that ends it
+abbrev pub tells_of : ℕ → Event → Bool
+tells_of slot (SliceUp other) = other == slot
+tells_of slot (SliceMsg other message) = other == slot && is_dismissing message
+tells_of slot (SliceDown other) = other == slot
+tells_of slot event = false
+
+-- the newest of these events is an up
+abbrev pub is_last_up : ℕ → List Timed → Bool
+is_last_up slot [] = false
+is_last_up slot (timed ∷ before) = is_up_of slot timed
+
+-- a slice is up where the switch has told what it is and hasn't ended, and the last event since that says so is the slice's up
+abbrev pub IsUpByEvents : PolicyView → ℕ → List Timed → Type 0
+IsUpByEvents policy slot h =
+    is_slot policy slot ≡ true
+    → is_slice_up policy slot h ≡ (is_open (phase_of h) && is_last_up slot (filter (λ timed. tells_of slot timed.event) (after_opening h)))
+
+-- ---- what is taken
+
+abbrev pub message_in : Taken → List (List ℕ)
+message_in (Message message) = message ∷ []
+message_in taken = []
+
+-- what a slice was sent since its queue was last emptied, and what was taken for it since
+abbrev pub sent_since : PolicyView → ℕ → List Operation → List (List ℕ)
+sent_since policy slot [] = []
+sent_since policy slot (Step timed reply ∷ before) =
+    if takes_in reply then (if empties_slice policy slot (events_of before) timed then [] else sent_since policy slot before) ++ sent_by policy slot (events_of before) timed
+    else sent_since policy slot before
+sent_since policy slot (Take dest taken ∷ before) = sent_since policy slot before
+
+abbrev pub taken_since : PolicyView → ℕ → List Operation → List (List ℕ)
+taken_since policy slot [] = []
+taken_since policy slot (Step timed reply ∷ before) =
+    if takes_in reply then (if empties_slice policy slot (events_of before) timed then [] else taken_since policy slot before)
+    else taken_since policy slot before
+taken_since policy slot (Take dest taken ∷ before) = if is_slice slot dest then taken_since policy slot before ++ message_in taken else taken_since policy slot before
+
+-- the same of the switch
+abbrev pub lane_since : PolicyView → List Operation → List (List ℕ)
+lane_since policy [] = []
+lane_since policy (Step timed reply ∷ before) =
+    if takes_in reply then (if ends (events_of before) timed then [] else lane_since policy before) ++ lane_by policy (events_of before) timed
+    else lane_since policy before
+lane_since policy (Take dest taken ∷ before) = lane_since policy before
+
+abbrev pub lane_taken_since : PolicyView → List Operation → List (List ℕ)
+lane_taken_since policy [] = []
+lane_taken_since policy (Step timed reply ∷ before) =
+    if takes_in reply then (if ends (events_of before) timed then [] else lane_taken_since policy before) else lane_taken_since policy before
+lane_taken_since policy (Take dest taken ∷ before) = if is_switch dest then lane_taken_since policy before ++ message_in taken else lane_taken_since policy before
+
+-- what was sent is what was taken, what waits, and what was dropped, in this order; nothing was dropped unless the queue is choked
+pub record AreInOrder (messages taken : List (List ℕ)) (q : Queue) : Type 0 where
+  pub dropped : List (List ℕ)
+  pub order : taken ++ (q.pending ++ dropped) ≡ messages
+  pub kept : q.choked ≡ false → dropped ≡ []
+
+-- ---- streams
+
+-- the frames of a connection before a record are the first of those with the record's bytes: each is completed once
+abbrev pub AreCompletedOnce : Told → List Told → Type 0
+AreCompletedOnce r before = AreFirst (frames_of (stream_before r before)) (frames_of (stream_before r before ++ r.bytes))
+
+-- ---- what a slice has seen of its switch
+
+-- once the switch has told what it is, a slice of the policy has seen its features, and of the known ports it knows its own
+pub record HasSeen (policy : PolicyView) (slot : ℕ) (h : List Timed) (features : Features) : Type 0 where
+  pub features_seen : features_in (view_of policy slot h) ≡ Some (own_features (settings_at policy slot (Some features)) features)
+  pub ports_known : known_ports (view_of policy slot h) ≡ own_ports (settings_at policy slot (Some features)) (known_of h)
+
+abbrev pub SeesItsSwitch : PolicyView → ℕ → List Timed → Features → Type 0
+SeesItsSwitch policy slot h features = opening_of h ≡ Some features → is_slot policy slot ≡ true → HasSeen policy slot h features
+
+-- the known ports ascend, and fit a FEATURES_REPLY where those of the opening do
+pub record AreKnownInOrder (h : List Timed) : Type 0 where
+  pub ascending : IsAscending (known_of h)
+  pub few : IfSome (opening_of h) (λ features. length features.ports ≤ 1364) → length (known_of h) ≤ 1364

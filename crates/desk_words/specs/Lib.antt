@@ -1,0 +1,9 @@
+pub mod Openings
+pub mod Histories
+pub mod Sent
+pub mod Verdicts
+pub mod Operations
+pub mod Recorded
+pub mod Reports
+pub mod Built
+pub mod Laws

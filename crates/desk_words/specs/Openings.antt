@@ -1,0 +1,116 @@
+-- How far a switch's connection is, and what the switch told, by a history: the events of a desk, newest first. Sections are those of OpenFlow 1.0.0.
+use Rattle.std.specs.Prelude.{ℕ, ◌==◌, ◌&&◌, not, Bool, if◌then◌else◌, List, [], ◌∷◌, Option, Some, None, Result, Ok, Err}
+use Rattle.of10_action.specs.declared.fault.WireFault.{WireFault}
+use Rattle.of10_ctl.specs.declared.kind.TheConstants.{FEATURES_REPLY, PORT_STATUS}
+use Rattle.of10_ctl.specs.Frames.{is_bad}
+use Rattle.of10_port.specs.declared.features.Features.{Features}
+use Rattle.of10_port.specs.declared.status.PortStatus.{PortStatus}
+use Rattle.of10_port.specs.Features.{read_features}
+use Rattle.of10_port.specs.PortStatus.{read_port_status}
+use Rattle.flowspace.specs.declared.rules.Rule.{Rule}
+use Rattle.flowspace.specs.Order.{rules_on}
+use Rattle.flowspace.specs.Policies.{PolicyView}
+use Rattle.port_view.specs.KnownPorts.{first_known, changed}
+use Rattle.slice_words.specs.Messages.{version_of, is_kind}
+use Rattle.desk_words.specs.declared.event.Event.{Event}
+use Rattle.desk_words.specs.declared.event.Event.TheVariants.{SwitchUp, SwitchMsg, SwitchDown}
+use Rattle.desk_words.specs.declared.event.Timed.{Timed}
+use Rattle.desk_words.specs.declared.phase.Phase.{Phase}
+use Rattle.desk_words.specs.declared.phase.Phase.TheVariants.{Fresh, Begun, Opened, Ended}
+
+-- ---- messages of the switch
+
+-- a message of version 1 and of a type whose length counts its bytes (OpenFlow 1.0.0, section 5.1)
+abbrev pub is_of : ℕ → List ℕ → Bool
+is_of kind message = version_of message == 1 && is_kind kind message && not (is_bad message)
+
+-- what a reading gives, if there is no fault
+abbrev pub well_formed : {A : Type 0} → Result A WireFault → Option A
+well_formed (Ok said) = Some said
+well_formed (Err fault) = None
+
+-- what a message tells of the switch, where it is a FEATURES_REPLY (section 5.3.1)
+abbrev pub features_told : List ℕ → Option Features
+features_told message = if is_of FEATURES_REPLY message then well_formed (read_features message) else None
+
+-- what a message tells of a port, where it is a PORT_STATUS (section 5.4.3)
+abbrev pub status_told : List ℕ → Option PortStatus
+status_told message = if is_of PORT_STATUS message then well_formed (read_port_status message) else None
+
+-- ---- phases
+
+-- the first message that tells what the switch is opens the desk (section 5.3.1); one of a bad length ends it (this proxy's own rule)
+abbrev pub begun_after : List ℕ → Phase
+begun_after message = if is_bad message then Ended else elim (features_told message) [ None ↦ Begun | Some features ↦ Opened ]
+
+abbrev pub opened_after : List ℕ → Phase
+opened_after message = if is_bad message then Ended else Opened
+
+-- the switch connects, tells what it is, and its connection ends; nothing else of it moves on
+abbrev pub phase_after : Phase → Event → Phase
+phase_after Fresh SwitchUp = Begun
+phase_after Fresh event = Fresh
+phase_after Begun (SwitchMsg message) = begun_after message
+phase_after Begun SwitchDown = Ended
+phase_after Begun event = Begun
+phase_after Opened (SwitchMsg message) = opened_after message
+phase_after Opened SwitchDown = Ended
+phase_after Opened event = Opened
+phase_after Ended event = Ended
+
+abbrev pub phase_of : List Timed → Phase
+phase_of [] = Fresh
+phase_of (timed ∷ h) = phase_after (phase_of h) timed.event
+
+-- ---- the opening
+
+-- what the switch told of itself with an event, where that opens the desk
+abbrev pub opening_with : Phase → Event → Option Features
+opening_with Begun (SwitchMsg message) = features_told message
+opening_with phase event = None
+
+-- only what opens the desk counts
+abbrev pub opening_after : Phase → Option Features → Event → Option Features
+opening_after phase None event = opening_with phase event
+opening_after phase (Some features) event = Some features
+
+-- what the switch told of itself first
+abbrev pub opening_of : List Timed → Option Features
+opening_of [] = None
+opening_of (timed ∷ h) = opening_after (phase_of h) (opening_of h) timed.event
+
+-- the rules that hold on a switch by what it told, in rule order; none before that
+abbrev pub rules_of : PolicyView → Option Features → List Rule
+rules_of policy None = []
+rules_of policy (Some features) = rules_on features.datapath policy.rules
+
+-- ---- known ports
+
+-- the ports that are known after an event
+abbrev pub known_after : Phase → List (List ℕ) → Event → List (List ℕ)
+known_after Begun known (SwitchMsg message) = elim (features_told message) [ None ↦ known | Some features ↦ first_known features.ports ]
+known_after Opened known (SwitchMsg message) = elim (status_told message) [ None ↦ known | Some status ↦ changed status known ]
+known_after phase known event = known
+
+-- the ports that the switch told of: those of the opening, and then each change (sections 5.3.1 and 5.4.3)
+abbrev pub known_of : List Timed → List (List ℕ)
+known_of [] = []
+known_of (timed ∷ h) = known_after (phase_of h) (known_of h) timed.event
+
+-- ---- all that is known of a switch
+
+pub record Switch : Type 0 where
+  pub phase : Phase
+  pub features : Option Features
+  pub known : List (List ℕ)
+
+abbrev pub switch_after : Switch → Event → Switch
+switch_after switch event = record {
+  phase = phase_after switch.phase event;
+  features = opening_after switch.phase switch.features event;
+  known = known_after switch.phase switch.known event;
+}
+
+-- what a history says of the switch
+abbrev pub switch_of : List Timed → Switch
+switch_of h = record { phase = phase_of h; features = opening_of h; known = known_of h }

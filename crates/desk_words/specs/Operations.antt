@@ -1,0 +1,125 @@
+-- What a desk was asked to do, and what it must answer: steps, which are events, and takes, which are questions for the oldest message that waits. Lists have the newest first. All of this is this proxy's own rule.
+use Rattle.std.specs.Prelude.{ℕ, ◌≡◌, ◌==◌, ◌&&◌, ◌||◌, not, Bool, true, false, if◌then◌else◌, List, [], ◌∷◌, Result, Ok, Err}
+use Rattle.std.specs.declared.alloc.AllocError.{AllocError}
+use Rattle.flowspace.specs.Policies.{PolicyView}
+use Rattle.outbox.specs.Queues.{Queue, no_messages, push_all, without_first}
+use Rattle.desk_words.specs.declared.event.Event.{Event}
+use Rattle.desk_words.specs.declared.event.Event.TheVariants.{SliceUp, SliceDown}
+use Rattle.desk_words.specs.declared.event.Timed.{Timed}
+use Rattle.desk_words.specs.declared.answer.Dest.{Dest}
+use Rattle.desk_words.specs.declared.answer.Dest.TheVariants.{Switch, Slice}
+use Rattle.desk_words.specs.declared.answer.Verdict.{Verdict}
+use Rattle.desk_words.specs.declared.answer.Verdict.TheVariants as verdicts
+use Rattle.desk_words.specs.declared.answer.Taken.{Taken}
+use Rattle.desk_words.specs.declared.answer.Taken.TheVariants.{Message, Nothing, Choked, Ended, NotOpen}
+use Rattle.desk_words.specs.Openings.{phase_of}
+use Rattle.desk_words.specs.Histories.{is_slot, is_open, is_slice_up}
+use Rattle.desk_words.specs.Sent.{sent_by, lane_by}
+use Rattle.desk_words.specs.Verdicts.{is_fresh, is_ended, is_down, verdict}
+
+-- an operation with its reply
+pub data Operation : Type 0 where
+  Step : Timed → Result Verdict AllocError → Operation
+  Take : Dest → Taken → Operation
+
+-- ---- events
+
+-- a step is taken in unless memory ran out or the desk has ended
+abbrev pub takes_in : Result Verdict AllocError → Bool
+takes_in (Err fault) = false
+takes_in (Ok verdicts.Ended) = false
+takes_in (Ok verdict) = true
+
+-- the history of a desk: the events of the steps that it took in
+abbrev pub events_of : List Operation → List Timed
+events_of [] = []
+events_of (Step timed reply ∷ before) = if takes_in reply then timed ∷ events_of before else events_of before
+events_of (Take dest taken ∷ before) = events_of before
+
+-- ---- what waits
+
+-- how many bytes may wait for a slice, and for the switch
+abbrev pub slice_limit : ℕ
+slice_limit = 4194304
+
+abbrev pub lane_limit : ℕ
+lane_limit = 1048576
+
+-- an event empties the queue of the slice at a slot, which is so up after it: its connection ended, or it came and is up
+abbrev pub empties : ℕ → Bool → Event → Bool
+empties slot up (SliceDown other) = other == slot
+empties slot up (SliceUp other) = other == slot && up
+empties slot up event = false
+
+abbrev pub empties_slice : PolicyView → ℕ → List Timed → Timed → Bool
+empties_slice policy slot h timed = empties slot (is_slice_up policy slot (timed ∷ h)) timed.event
+
+-- an event ends the switch's connection, and so empties its queue
+abbrev pub ends : List Timed → Timed → Bool
+ends h timed = not (is_ended (phase_of h)) && is_ended (phase_of (timed ∷ h))
+
+-- what waits for a slice after an event
+abbrev pub queue_event : PolicyView → ℕ → List Timed → Timed → Queue → Queue
+queue_event policy slot h timed q = push_all slice_limit (if empties_slice policy slot h timed then no_messages else q) (sent_by policy slot h timed)
+
+-- what waits for the switch after an event
+abbrev pub lane_event : PolicyView → List Timed → Timed → Queue → Queue
+lane_event policy h timed q = push_all lane_limit (if ends h timed then no_messages else q) (lane_by policy h timed)
+
+abbrev pub is_switch : Dest → Bool
+is_switch Switch = true
+is_switch (Slice slot) = false
+
+abbrev pub is_slice : ℕ → Dest → Bool
+is_slice slot Switch = false
+is_slice slot (Slice other) = other == slot
+
+-- what waits for the slice at a slot after these operations: what it was sent, less what was taken
+abbrev pub queue_of : PolicyView → ℕ → List Operation → Queue
+queue_of policy slot [] = no_messages
+queue_of policy slot (Step timed reply ∷ before) = if takes_in reply then queue_event policy slot (events_of before) timed (queue_of policy slot before) else queue_of policy slot before
+queue_of policy slot (Take dest taken ∷ before) = if is_slice slot dest then without_first (queue_of policy slot before) else queue_of policy slot before
+
+-- what waits for the switch after these operations
+abbrev pub lane_of : PolicyView → List Operation → Queue
+lane_of policy [] = no_messages
+lane_of policy (Step timed reply ∷ before) = if takes_in reply then lane_event policy (events_of before) timed (lane_of policy before) else lane_of policy before
+lane_of policy (Take dest taken ∷ before) = if is_switch dest then without_first (lane_of policy before) else lane_of policy before
+
+-- what waits for a destination
+abbrev pub waiting_of : PolicyView → Dest → List Operation → Queue
+waiting_of policy Switch before = lane_of policy before
+waiting_of policy (Slice slot) before = queue_of policy slot before
+
+-- ---- replies
+
+-- no message will come for a destination: the switch's connection has ended, there is no such slot, or the slice isn't up though the switch has told what it is
+abbrev pub is_gone : PolicyView → List Timed → Dest → Bool
+is_gone policy h Switch = is_ended (phase_of h)
+is_gone policy h (Slice slot) = is_ended (phase_of h) || not (is_slot policy slot) || (is_open (phase_of h) && not (is_slice_up policy slot h))
+
+-- it is too early for a destination: the switch hasn't connected, or for a slice hasn't told what it is
+abbrev pub is_early : List Timed → Dest → Bool
+is_early h Switch = is_fresh (phase_of h)
+is_early h (Slice slot) = not (is_open (phase_of h))
+
+-- what is answered where nothing waits
+abbrev pub empty_reply : PolicyView → List Timed → Dest → Bool → Taken
+empty_reply policy h dest choked = if is_gone policy h dest then Ended else if is_early h dest then NotOpen else if choked then Choked else Nothing
+
+-- what is answered to a take: the oldest message that waits, or why there is none
+abbrev pub take_reply : PolicyView → List Operation → Dest → Taken
+take_reply policy before dest =
+    let q = waiting_of policy dest before in
+    elim q.pending [ [] ↦ empty_reply policy (events_of before) dest q.choked | message ∷ later ↦ Message message ]
+
+-- a reply to a step is right: the verdict on its event, or want of memory, but not for a down
+abbrev pub IsReply : PolicyView → List Operation → Timed → Result Verdict AllocError → Type 0
+IsReply policy before timed (Ok answered) = answered ≡ verdict policy (events_of before) timed
+IsReply policy before timed (Err fault) = is_down timed.event ≡ false
+
+-- a list of operations is legal where each reply is right by those before it
+abbrev pub IsLegal : PolicyView → List Operation → Type 0
+IsLegal policy [] = Unit {0}
+IsLegal policy (Step timed reply ∷ before) = IsReply policy before timed reply × IsLegal policy before
+IsLegal policy (Take dest taken ∷ before) = (taken ≡ take_reply policy before dest) × IsLegal policy before

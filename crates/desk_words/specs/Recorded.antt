@@ -1,0 +1,96 @@
+-- The events of a recording: what each of its records makes happen at the desk of its switch (this proxy's own rule). Records before another have the newest first.
+use Rattle.std.specs.Prelude.{ℕ, ◌==◌, ◌&&◌, ◌||◌, not, Bool, true, if◌then◌else◌, List, [], ◌∷◌, ◌++◌, length, take, drop, map}
+use Rattle.flowspace.specs.Policies.{PolicyView}
+use Rattle.of10_ctl.specs.Streams.{frames_of}
+use Rattle.recording.specs.declared.item.Item.{Item}
+use Rattle.recording.specs.Recordings.{Told, switch_up, switch_bytes, switch_down, slice_up, slice_bytes}
+use Rattle.desk_words.specs.declared.event.Event.{Event}
+use Rattle.desk_words.specs.declared.event.Event.TheVariants.{SwitchUp, SwitchMsg, SwitchDown, SliceUp, SliceMsg, SliceDown}
+use Rattle.desk_words.specs.declared.event.Timed.{Timed}
+use Rattle.desk_words.specs.Openings.{phase_of}
+use Rattle.desk_words.specs.Histories.{is_slice_up}
+use Rattle.desk_words.specs.Verdicts.{is_ended, is_over}
+
+-- ---- streams
+
+-- two records are of one connection: of the same switch, or of the same slice on it
+abbrev pub is_same_stream : Told → Told → Bool
+is_same_stream r other = other.switch == r.switch && other.kind == r.kind && other.slot == r.slot
+
+-- a record begins the connection that another carries bytes of
+abbrev pub begins_stream : Told → Told → Bool
+begins_stream r other =
+    other.switch == r.switch && (other.kind == switch_up || (r.kind == slice_bytes && other.kind == slice_up && other.slot == r.slot))
+
+-- the bytes of a record's connection before it, since that began
+abbrev pub stream_before : Told → List Told → List ℕ
+stream_before r [] = []
+stream_before r (other ∷ before) =
+    if begins_stream r other then [] else if is_same_stream r other then stream_before r before ++ other.bytes else stream_before r before
+
+-- the frames that a record completes in its connection's stream, whatever records the bytes came in
+abbrev pub completed : Told → List Told → List (List ℕ)
+completed r before = drop (length (frames_of (stream_before r before))) (frames_of (stream_before r before ++ r.bytes))
+
+-- ---- events
+
+abbrev pub timed_at : ℕ → Event → Timed
+timed_at moment event = record { event = event; moment = moment }
+
+-- what a record can make happen: a connection comes or goes, or messages come
+abbrev pub happenings : Told → List Told → List Event
+happenings r before =
+    if r.kind == switch_up then SwitchUp ∷ []
+    else if r.kind == switch_bytes then map (λ frame. SwitchMsg frame) (completed r before)
+    else if r.kind == switch_down then SwitchDown ∷ []
+    else if r.kind == slice_up then SliceUp r.slot ∷ []
+    else if r.kind == slice_bytes then map (λ frame. SliceMsg r.slot frame) (completed r before)
+    else SliceDown r.slot ∷ []
+
+-- a message is none of an ended switch, and none of a connection that was closed; anything else happens
+abbrev pub happens : PolicyView → List Timed → Event → Bool
+happens policy h (SwitchMsg message) = not (is_ended (phase_of h))
+happens policy h (SliceMsg slot message) = is_slice_up policy slot h
+happens policy h event = true
+
+-- the history after an event: one that is over takes nothing in
+abbrev pub next_of : List Timed → Timed → List Timed
+next_of h timed = if is_over h then h else timed ∷ h
+
+abbrev pub next_after : List Timed → List Timed → List Timed
+next_after h [] = h
+next_after h (timed ∷ later) = next_after (next_of h timed) later
+
+-- of what can happen one after another, what does
+abbrev pub happening : PolicyView → ℕ → List Timed → List Event → List Timed
+happening policy moment h [] = []
+happening policy moment h (event ∷ later) =
+    if happens policy h event then timed_at moment event ∷ happening policy moment (next_of h (timed_at moment event)) later
+    else happening policy moment h later
+
+-- the history of a switch after records. A switch that comes up has a fresh desk
+abbrev pub history_of : PolicyView → ℕ → List Told → List Timed
+history_of policy switch [] = []
+history_of policy switch (r ∷ before) =
+    if r.switch == switch then
+    (let h = (if r.kind == switch_up then [] else history_of policy switch before) in
+    next_after h (happening policy r.moment h (happenings r before)))
+    else history_of policy switch before
+
+-- the history in which a record's events come
+abbrev pub history_at : PolicyView → Told → List Told → List Timed
+history_at policy r before = if r.kind == switch_up then [] else history_of policy r.switch before
+
+-- the events that a record makes after others
+abbrev pub events_in : PolicyView → Told → List Told → List Timed
+events_in policy r before = happening policy r.moment (history_at policy r before) (happenings r before)
+
+-- ---- the records of a file
+
+-- the bytes that an item of a file carries
+abbrev pub carried : List ℕ → Item → List ℕ
+carried file item = take item.size (drop item.from file)
+
+-- what the items of a file tell
+abbrev pub told_in : List ℕ → List Item → List Told
+told_in file items = map (λ item. record { kind = item.kind; switch = item.switch; slot = item.slot; moment = item.moment; bytes = carried file item }) items

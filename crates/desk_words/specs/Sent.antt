@@ -1,0 +1,113 @@
+-- What a desk sends at an event: to the slices the answers to what they see, and to the switch, in its lane, messages of the proxy's own or of a slice (this proxy's own rule).
+use Rattle.std.specs.Prelude.{ℕ, if◌then◌else◌, List, [], ◌∷◌, ◌++◌, map, drop, Some, None}
+use Rattle.byteorder.specs.Endian.{big_bytes}
+use Rattle.of10_model.specs.declared.pattern.Pattern.{Pattern}
+use Rattle.of10_ctl.specs.declared.kind.TheConstants.{HELLO, ECHO_REQUEST, ECHO_REPLY, FEATURES_REQUEST, SET_CONFIG, BARRIER_REQUEST}
+use Rattle.of10_ctl.specs.Frames.{message_of}
+use Rattle.of10_flow.specs.FlowMods.{spell_flow_mod}
+use Rattle.flowspace.specs.Policies.{PolicyView}
+use Rattle.slice_words.specs.Messages.{xid_of}
+use Rattle.slice_words.specs.Answers.{no_buffer}
+use Rattle.slice_words.specs.Alone.{rendered, sent_for, put_for}
+use Rattle.desk_words.specs.declared.event.Event.{Event}
+use Rattle.desk_words.specs.declared.event.Event.TheVariants.{SwitchUp, SwitchMsg, SliceMsg}
+use Rattle.desk_words.specs.declared.event.Timed.{Timed}
+use Rattle.desk_words.specs.declared.phase.Phase.{Phase}
+use Rattle.desk_words.specs.declared.phase.Phase.TheVariants.{Begun, Opened, Ended}
+use Rattle.desk_words.specs.Openings.{is_of, features_told, Switch, switch_of, phase_of}
+use Rattle.desk_words.specs.Histories.{settings_at, items_of, Side, side_of}
+
+-- ---- to the slices
+
+-- what the slice at a slot is sent at an event, after what is known of the switch and what the slice sees
+abbrev pub sent_with : PolicyView → ℕ → Switch → Side → Timed → List (List ℕ)
+sent_with policy slot switch side timed = sent_for (settings_at policy slot switch.features) side.sight.view (items_of policy slot switch side timed)
+
+-- what it is sent at an event after a history
+abbrev pub sent_by : PolicyView → ℕ → List Timed → Timed → List (List ℕ)
+sent_by policy slot h timed = sent_with policy slot (switch_of h) (side_of policy slot h) timed
+
+-- what it is sent over a history, the oldest first
+abbrev pub sent : PolicyView → ℕ → List Timed → List (List ℕ)
+sent policy slot [] = []
+sent policy slot (timed ∷ h) = sent policy slot h ++ sent_by policy slot h timed
+
+-- ---- to the switch: the proxy's own messages
+
+-- the greeting, and the question what the switch is (OpenFlow 1.0.0, sections 5.5 and 5.3.1)
+abbrev pub greeting : List (List ℕ)
+greeting = message_of HELLO 0xff000000 [] ∷ message_of FEATURES_REQUEST 0xff000001 [] ∷ []
+
+-- packets are to be handed up whole (section 5.3.2)
+abbrev pub whole_packets : List ℕ
+whole_packets = message_of SET_CONFIG 0xff000002 (big_bytes 2 0 ++ big_bytes 2 0xffff)
+
+-- the match of all headers
+abbrev pub everything : Pattern
+everything = record {
+  in_port = None;
+  dl_src = None;
+  dl_dst = None;
+  dl_vlan = None;
+  dl_vlan_pcp = None;
+  dl_type = None;
+  nw_tos = None;
+  nw_proto = None;
+  nw_src = None;
+  nw_dst = None;
+  tp_src = None;
+  tp_dst = None;
+}
+
+-- every entry is to be deleted (section 5.3.3: OFPFC_DELETE of all headers, for no port and no buffer)
+abbrev pub clearing : List ℕ
+clearing = spell_flow_mod (record {
+  xid = 0xff000003;
+  pattern = everything;
+  cookie = 0;
+  command = 3;
+  idle = 0;
+  hard = 0;
+  priority = 0;
+  buffer = no_buffer;
+  out_port = 0xffff;
+  flags = 0;
+  actions = [];
+})
+
+-- what a switch that has told what it is is sent first: how to hand up packets, an empty table, and a barrier (sections 5.3.2, 5.3.3 and 5.3.7)
+abbrev pub preparation : List (List ℕ)
+preparation = whole_packets ∷ clearing ∷ message_of BARRIER_REQUEST 0xff000004 [] ∷ []
+
+-- a switch that asks whether this proxy is there is answered (section 5.5)
+abbrev pub echo_for : List ℕ → List (List ℕ)
+echo_for message = if is_of ECHO_REQUEST message then message_of ECHO_REPLY (xid_of message) (drop 8 message) ∷ [] else []
+
+abbrev pub begun_lane : List ℕ → List (List ℕ)
+begun_lane message = elim (features_told message) [ None ↦ echo_for message | Some features ↦ preparation ]
+
+-- ---- to the switch: messages of slices
+
+-- what the slice at a slot has sent to the switch at an event, after what is known of the switch and what the slice sees
+abbrev pub put_with : PolicyView → ℕ → Switch → Side → Timed → List (List ℕ)
+put_with policy slot switch side timed =
+    map (rendered side.sight.came) (put_for (settings_at policy slot switch.features) side.sight.view (items_of policy slot switch side timed))
+
+-- what it has sent at an event after a history
+abbrev pub slice_lane : PolicyView → ℕ → List Timed → Timed → List (List ℕ)
+slice_lane policy slot h timed = put_with policy slot (switch_of h) (side_of policy slot h) timed
+
+-- ---- to the switch: all
+
+-- what the switch is sent in a phase, where the slice at a slot has so much sent: before the switch connects nothing, and from its end on nothing
+abbrev pub lane_in : (ℕ → List (List ℕ)) → Phase → Event → List (List ℕ)
+lane_in of_slice Ended event = []
+lane_in of_slice phase SwitchUp = greeting
+lane_in of_slice Begun (SwitchMsg message) = begun_lane message
+lane_in of_slice Opened (SwitchMsg message) = echo_for message
+lane_in of_slice Opened (SliceMsg slot message) = of_slice slot
+lane_in of_slice phase event = []
+
+-- what the switch is sent at an event after a history
+abbrev pub lane_by : PolicyView → List Timed → Timed → List (List ℕ)
+lane_by policy h timed = lane_in (λ slot. slice_lane policy slot h timed) (phase_of h) timed.event

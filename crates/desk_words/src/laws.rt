@@ -1,0 +1,68 @@
+//! Laws of the definitions. Each function's contract is the law; its body does nothing.
+
+ghost use Rattle.std.specs.Prelude.{ℕ, List};
+ghost use Rattle.of10_port.specs.declared.features.Features.{Features};
+ghost use Rattle.flowspace.specs.Policies.{PolicyView};
+ghost use Rattle.recording.specs.Recordings.{Told};
+ghost use Rattle.desk_words.specs.declared.event.Timed.{Timed};
+ghost use Rattle.desk_words.specs.Operations.{Operation, IsLegal, queue_of, lane_of};
+ghost use Rattle.desk_words.specs.Laws.{IsPhaseByEvents, IsAlone, AreAlike, IsErasable, IsBlindBefore, IsSilentUntilUp, IsDownAfterDown, IsUpByEvents, sent_since, taken_since, lane_since, lane_taken_since, AreInOrder, AreCompletedOnce, SeesItsSwitch, AreKnownInOrder};
+
+/// The switch's connection has ended where, after it came, it went or a message of a bad length came; the
+/// opening is the first FEATURES_REPLY between.
+pub fn phase_by_events()
+    ensures { (h : List Timed) → IsPhaseByEvents h }
+{}
+
+/// What a slice is sent over a history is what a proxy sends that serves it alone, with its settings on
+/// its view of that history.
+pub fn slice_is_served_alone()
+    ensures { (policy : PolicyView) (slot : ℕ) (h : List Timed) → IsAlone policy slot h }
+{}
+
+/// A slice with the same settings and the same view in two worlds is sent the same in both.
+pub fn two_worlds()
+    ensures { (policy : PolicyView) (slot : ℕ) (h : List Timed) (other_policy : PolicyView) (other_slot : ℕ) (other_h : List Timed) → AreAlike policy slot h other_policy other_slot other_h }
+{}
+
+/// Without the events of all other slices a slice sees the same and is sent the same.
+pub fn erasure()
+    ensures { (policy : PolicyView) (slot : ℕ) (h : List Timed) → IsErasable policy slot h }
+{}
+
+/// Before the switch tells what it is a slice sees nothing.
+pub fn blind_before_the_opening()
+    ensures { (policy : PolicyView) (slot : ℕ) (h : List Timed) → IsBlindBefore policy slot h }
+{}
+
+/// A slice isn't up once its connection has ended, and is sent nothing until it comes up again.
+pub fn silent_until_up()
+    ensures down { (policy : PolicyView) (slot moment : ℕ) (h : List Timed) → IsDownAfterDown policy slot moment h }
+    ensures silent { (policy : PolicyView) (slot : ℕ) (later h : List Timed) → IsSilentUntilUp policy slot later h }
+{}
+
+/// A slice is up where the switch has told what it is and hasn't ended, and of the events since that the
+/// last that is the slice's up, its down or a message that ends its connection is an up.
+pub fn up_by_events()
+    ensures { (policy : PolicyView) (slot : ℕ) (h : List Timed) → IsUpByEvents policy slot h }
+{}
+
+/// What was taken for a destination since its queue was last emptied, what waits, and what was dropped
+/// are, in this order, all that it was sent since; nothing was dropped unless the queue is choked.
+pub fn messages_are_taken_in_order()
+    ensures slices { (policy : PolicyView) (slot : ℕ) (ops : List Operation) → IsLegal policy ops → AreInOrder (sent_since policy slot ops) (taken_since policy slot ops) (queue_of policy slot ops) }
+    ensures lane { (policy : PolicyView) (ops : List Operation) → IsLegal policy ops → AreInOrder (lane_since policy ops) (lane_taken_since policy ops) (lane_of policy ops) }
+{}
+
+/// The frames of a connection before a record are the first of those with the record's bytes, so that each
+/// frame is completed by one record.
+pub fn frames_are_completed_once()
+    ensures { (r : Told) (before : List Told) → AreCompletedOnce r before }
+{}
+
+/// Once the switch has told what it is, a slice has seen its features, and knows its own of the known
+/// ports. Those ascend by their numbers, and fit a FEATURES_REPLY.
+pub fn slice_sees_its_switch()
+    ensures seen { (policy : PolicyView) (slot : ℕ) (h : List Timed) (features : Features) → SeesItsSwitch policy slot h features }
+    ensures order { (h : List Timed) → AreKnownInOrder h }
+{}

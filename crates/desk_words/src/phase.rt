@@ -1,0 +1,12 @@
+/// How far the switch's connection is.
+#[derive(Clone, Copy, Debug, PartialEq, Eq)]
+pub enum Phase {
+    /// The switch hasn't connected.
+    Fresh,
+    /// It has connected.
+    Begun,
+    /// It has told what it is.
+    Opened,
+    /// Its connection has ended.
+    Ended,
+}

@@ -1,0 +1,52 @@
+-- What a slice is sent by a proxy that serves it alone: the answers to the items of its view, one after another (this proxy's own rule).
+use Rattle.std.specs.Prelude.{ℕ, ◌-◌, List, [], ◌∷◌, ◌++◌, length, get_or, Option, Some, None}
+use Rattle.byteorder.specs.Endian.{big_bytes}
+use Rattle.slice_words.specs.Items.{Settings, Item}
+use Rattle.slice_words.specs.Answers.{Outgoing, Answer, Past, answer, no_buffer}
+
+-- a way to answer an item after a view with its answers
+abbrev pub Answering : Type 0
+Answering = List Item → List Past → Item → Answer
+
+-- a view with the answers to its items
+abbrev pub played : Answering → List Item → List Past
+played answering [] = []
+played answering (item ∷ view) = record { item = item; answer = answering view (played answering view) item } ∷ played answering view
+
+-- what follows from an item after a view
+abbrev pub answer_to : Settings → List Item → Item → Answer
+answer_to s view item = answer s view (played (answer s) view) item
+
+-- all that a slice is sent over a view, the oldest first
+abbrev pub alone : Settings → List Item → List (List ℕ)
+alone s [] = []
+alone s (item ∷ view) = alone s view ++ (answer_to s view item).to_slice
+
+-- a view with items that come one after another
+abbrev pub with_items : List Item → List Item → List Item
+with_items [] view = view
+with_items (item ∷ items) view = with_items items (item ∷ view)
+
+-- what a slice is sent for items that come one after another
+abbrev pub sent_for : Settings → List Item → List Item → List (List ℕ)
+sent_for s view [] = []
+sent_for s view (item ∷ items) = (answer_to s view item).to_slice ++ sent_for s (item ∷ view) items
+
+-- what the switch is sent for them
+abbrev pub put_for : Settings → List Item → List Item → List Outgoing
+put_for s view [] = []
+put_for s view (item ∷ items) = (answer_to s view item).to_switch ++ put_for s (item ∷ view) items
+
+-- ---- the switch's own numbers
+
+-- the number with which a slice's k-th buffered packet came, among the numbers of all, newest first
+abbrev pub number_of : List ℕ → ℕ → ℕ
+number_of came k = get_or came (length came - 1 - k) no_buffer
+
+abbrev pub buffer_bytes : List ℕ → Option ℕ → List ℕ
+buffer_bytes came None = []
+buffer_bytes came (Some k) = big_bytes 4 (number_of came k)
+
+-- a message with the switch's own number for the packet that it names
+abbrev pub rendered : List ℕ → Outgoing → List ℕ
+rendered came outgoing = outgoing.front ++ buffer_bytes came outgoing.buffer ++ outgoing.back

@@ -1,0 +1,138 @@
+-- What a slice sees: its settings, and a view, which is a list of items with the newest first. All of this is this proxy's own rule, over the messages of OpenFlow 1.0.0.
+use Rattle.std.specs.Prelude.{ℕ, ◌+◌, max, Bool, true, false, if◌then◌else◌, List, [], ◌∷◌, filter, Option, Some, None}
+use Rattle.of10_model.specs.declared.pattern.Pattern.{Pattern}
+use Rattle.of10_flow.specs.declared.flow_removed.FlowRemoved.{FlowRemoved}
+use Rattle.of10_port.specs.declared.features.Features.{Features}
+use Rattle.of10_port.specs.declared.status.PortStatus.{PortStatus}
+use Rattle.flowspace.specs.declared.slices.Slice.{Slice}
+use Rattle.flowspace.specs.declared.rules.Rule.{Rule}
+use Rattle.flowspace.specs.Rules.{is_written_by}
+use Rattle.flowspace.specs.Owners.{has_port}
+use Rattle.port_view.specs.KnownPorts.{changed_plainly}
+use Rattle.slice_words.specs.Messages.{is_dismissing, is_setting, miss_send_len_of}
+
+-- ---- settings
+
+-- what a slice is on one switch: its slot, its limits, and the rules that it may write there, in rule order
+pub record Settings : Type 0 where
+  pub slot : ℕ
+  pub rate : ℕ
+  pub burst : ℕ
+  pub quota : ℕ
+  pub rules : List Rule
+
+-- the settings of the slice at a slot, among the rules of a switch in rule order
+abbrev pub settings_of : Slice → ℕ → List Rule → Settings
+settings_of slice slot rules = record { slot = slot; rate = slice.rate; burst = slice.burst; quota = slice.quota; rules = filter (is_written_by slot) rules }
+
+-- a slice has a port on its switch
+abbrev pub is_own_port : Settings → ℕ → Bool
+is_own_port s port = has_port s.rules s.slot port
+
+-- ---- items
+
+-- why a slice is given a packet: it may write the packet's header, and the switch may have buffered the packet; it may read the header; or the packet is its own probe
+pub data Share : Type 0 where
+  Writer : Bool → Share
+  Reader : Share
+  Probe : Share
+
+-- a packet that the switch hands up (section 5.4.1), without the switch's number for it
+pub record Packet : Type 0 where
+  pub share : Share
+  pub total_len : ℕ
+  pub in_port : ℕ
+  pub reason : ℕ
+  pub payload : List ℕ
+
+-- one thing that a slice sees. What the switch answers names the low 24 bits of a transaction id
+pub data Item : Type 0 where
+  -- the switch told what it is (section 5.3.1): its known ports are cut to those of the slice, and its tables count as one
+  Opened : Features → Item
+  -- the slice's controller connected, or its connection ended
+  Up : Item
+  Down : Item
+  -- a message of the controller, and the moment when it came
+  Msg : List ℕ → ℕ → Item
+  -- the switch uses the number of the slice's k-th buffered packet for another packet
+  Lost : ℕ → Item
+  -- a packet is handed up (section 5.4.1)
+  Handed : Packet → Item
+  -- an entry of the slice is gone (section 5.4.2); the transaction id counts as 0
+  Removed : FlowRemoved → Item
+  -- a port of the slice came, went or changed (section 5.4.3)
+  Status : PortStatus → Item
+  -- an error (section 5.4.4) with its class and code, and the match and priority of the flow-mod that it carries
+  Fault : ℕ → ℕ → ℕ → Option (Pattern × ℕ) → Item
+  -- the reply to a barrier (section 5.3.7), or to a question for a port's queues (section 5.3.4) with its body
+  Barrier : ℕ → Item
+  Queues : ℕ → List ℕ → Item
+  -- an entry of statistics (section 5.3.5) of a type, and the end of a reply
+  Entry : ℕ → ℕ → List ℕ → Item
+  Last : ℕ → ℕ → Item
+  -- the switch's connection ended
+  End : Item
+
+-- ---- what a slice sees
+
+-- a view, and beside it the switch's number of each buffered packet in it, newest first. A slice's own state may depend on these, and on nothing else
+pub record Sight : Type 0 where
+  pub view : List Item
+  pub came : List ℕ
+
+-- ---- look-ups in a view
+
+-- an item says that the slice came up, went down, or sent a message that ends its connection
+abbrev pub is_forgetting : Item → Bool
+is_forgetting Up = true
+is_forgetting Down = true
+is_forgetting (Msg message moment) = is_dismissing message
+is_forgetting item = false
+
+-- the slice is up where the last of its ups, downs and dismissing messages is an up
+abbrev pub is_up : List Item → Bool
+is_up [] = false
+is_up (Up ∷ view) = true
+is_up (Down ∷ view) = false
+is_up (Msg message moment ∷ view) = if is_dismissing message then false else is_up view
+is_up (item ∷ view) = is_up view
+
+-- what the controller set last for how much of a packet it wants, since it last came up; 128 before (section 5.3.2)
+abbrev pub miss_send_len : List Item → ℕ
+miss_send_len [] = 128
+miss_send_len (Up ∷ view) = 128
+miss_send_len (Down ∷ view) = 128
+miss_send_len (Msg message moment ∷ view) =
+    if is_dismissing message then 128 else if is_setting message then miss_send_len_of message else miss_send_len view
+miss_send_len (item ∷ view) = miss_send_len view
+
+-- the greatest moment of the controller's messages
+abbrev pub latest : List Item → ℕ
+latest [] = 0
+latest (Msg message moment ∷ view) = max moment (latest view)
+latest (item ∷ view) = latest view
+
+-- a share of a packet that the slice may use by number
+abbrev pub is_buffered : Share → Bool
+is_buffered (Writer buffered) = buffered
+is_buffered Reader = false
+is_buffered Probe = false
+
+-- how many buffered packets the slice was given
+abbrev pub buffered_count : List Item → ℕ
+buffered_count [] = 0
+buffered_count (Handed packet ∷ view) = if is_buffered packet.share then buffered_count view + 1 else buffered_count view
+buffered_count (item ∷ view) = buffered_count view
+
+-- what the switch told of itself
+abbrev pub features_in : List Item → Option Features
+features_in [] = None
+features_in (Opened features ∷ view) = Some features
+features_in (item ∷ view) = features_in view
+
+-- the ports of the slice: those that the switch told of first, and then each change (sections 5.3.1 and 5.4.3)
+abbrev pub known_ports : List Item → List (List ℕ)
+known_ports [] = []
+known_ports (Opened features ∷ view) = features.ports
+known_ports (Status status ∷ view) = changed_plainly status (known_ports view)
+known_ports (item ∷ view) = known_ports view

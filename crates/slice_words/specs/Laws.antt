@@ -1,0 +1,37 @@
+-- Statements about views and answers. `src/laws.rt` has a function for each, which is proved.
+use Rattle.std.specs.Prelude.{◌≡◌, ◌&&◌, Bool, true, false, List, [], ◌∷◌, ◌++◌, filter}
+use Rattle.slice_words.specs.Items.{Settings, Item, Up, Msg, is_up, is_forgetting}
+use Rattle.slice_words.specs.Messages.{is_dismissing}
+use Rattle.slice_words.specs.Answers.{silence}
+use Rattle.slice_words.specs.Alone.{answer_to, alone, with_items, sent_for}
+
+-- what is sent for items is what is sent over the view with them, less what was sent over the view before
+abbrev pub AreJoined : Settings → List Item → List Item → Type 0
+AreJoined s view items = alone s (with_items items view) ≡ alone s view ++ sent_for s view items
+
+-- the slice's controller connects
+abbrev pub is_coming : Item → Bool
+is_coming Up = true
+is_coming item = false
+
+-- nothing follows from an item other than an up while the slice isn't up
+abbrev pub IsSilentWhileDown : Settings → List Item → Item → Type 0
+IsSilentWhileDown s view item = is_up view ≡ false → is_coming item ≡ false → answer_to s view item ≡ silence
+
+-- the newest item of these that says so is an up
+abbrev pub is_last_up : List Item → Bool
+is_last_up [] = false
+is_last_up (item ∷ others) = is_coming item
+
+-- a slice is up where the last of its items that say so is an up
+abbrev pub IsUpByTheLast : List Item → Type 0
+IsUpByTheLast view = is_up view ≡ is_last_up (filter is_forgetting view)
+
+-- an item is a message that ends its connection
+abbrev pub is_dismissal : Item → Bool
+is_dismissal (Msg message moment) = is_dismissing message
+is_dismissal item = false
+
+-- the connection ends with an item exactly where the slice is up and the item is such a message
+abbrev pub EndsExactly : Settings → List Item → Item → Type 0
+EndsExactly s view item = (answer_to s view item).dismissed ≡ (is_up view && is_dismissal item)

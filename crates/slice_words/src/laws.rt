@@ -1,0 +1,26 @@
+//! Laws of the definitions. Each function's contract is the law; its body does nothing.
+
+ghost use Rattle.std.specs.Prelude.{List};
+ghost use Rattle.slice_words.specs.Items.{Settings, Item};
+ghost use Rattle.slice_words.specs.Laws.{AreJoined, IsSilentWhileDown, IsUpByTheLast, EndsExactly};
+
+/// What a slice is sent over a view with more items is what it was sent before them, and then what
+/// follows from each of them.
+pub fn answers_are_joined()
+    ensures { (s : Settings) (view items : List Item) → AreJoined s view items }
+{}
+
+/// Nothing follows from an item other than an up while the slice isn't up.
+pub fn silent_while_down()
+    ensures { (s : Settings) (view : List Item) (item : Item) → IsSilentWhileDown s view item }
+{}
+
+/// A slice is up where the last of its ups, its downs and its messages that end the connection is an up.
+pub fn up_by_the_last()
+    ensures { (view : List Item) → IsUpByTheLast view }
+{}
+
+/// A connection ends exactly with a message that ends it, of a slice that is up.
+pub fn ends_exactly()
+    ensures { (s : Settings) (view : List Item) (item : Item) → EndsExactly s view item }
+{}

@@ -1,0 +1,5 @@
+//! Definitions: what a slice sees, and what follows for it from what it sees. `laws` states what follows
+//! from the definitions.
+#![tactic(auto)]
+
+pub mod laws;
