@@ -12,3 +12,6 @@ mod state;
 pub use book::FlowBook;
 pub use booked::Booked;
 pub use state::SliceState;
+
+#[cfg(test)]
+mod tests;
