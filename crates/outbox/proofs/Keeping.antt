@@ -53,8 +53,8 @@ unfolding push
 push-within limit q message h = elim (cases_Bool (q.choked || ltb limit (size q.pending + length message))) [
   | inl dropped ↦ rw dropped h
   | inr kept ↦
-    let fits = ltb-false limit (size q.pending + length message) (or_parts q.choked (ltb limit (size q.pending + length message)) kept).1 in
-    rw kept (rw (size-push q.pending message) (omega arith))
+      let fits = ltb-false limit (size q.pending + length message) (or_parts q.choked (ltb limit (size q.pending + length message)) kept).1 in
+      rw kept (rw (size-push q.pending message) (omega arith))
 ]
 
 pub push_all-within : (limit : ℕ) (q : Queue) (messages : List (List ℕ)) → size q.pending ≤ limit → size (push_all limit q messages).pending ≤ limit
@@ -84,7 +84,7 @@ stands-kept limit q kept after message s free some fits pending choked bytes bou
     let same = s.bound in
     let within = s.within in
     let is : (q.choked || ltb limit (size q.pending + length message)) ≡ false =
-        rw (sym s.choked ∙ free, le-ltb limit (size q.pending + length message) (omega arith)) refl in
+    rw (sym s.choked ∙ free, le-ltb limit (size q.pending + length message) (omega arith)) refl in
     let longer = size-push q.pending message in
     rw is (record {
       pending = pending ∙ ap (λ (p : List (List ℕ)). p ++ message ∷ []) s.pending;
