@@ -2,6 +2,7 @@
 
 ghost use Rattle.std.specs.Prelude.{◌≤◌};
 
+use crate::checking::give;
 use crate::expanding::{send, split};
 use crate::messages::Messages;
 use crate::samples::Samples;
@@ -33,6 +34,8 @@ pub enum Benchmark {
     Splitting,
     /// Making the messages of 256 pieces.
     Sending,
+    /// Checking a list of actions against 256 rules.
+    Checking,
 }
 
 /// Those of single messages, in the order in which they are made.
@@ -45,8 +48,12 @@ pub const ALL: [Benchmark; 6] = [
     Benchmark::LargePackets,
 ];
 
-/// Those of flow-mods with many pieces.
-pub const EXPANDING: [Benchmark; 2] = [Benchmark::Splitting, Benchmark::Sending];
+/// Those with as many rules as a slice may write.
+pub const LARGE: [Benchmark; 3] = [
+    Benchmark::Splitting,
+    Benchmark::Sending,
+    Benchmark::Checking,
+];
 
 impl Benchmark {
     /// Its name.
@@ -60,13 +67,14 @@ impl Benchmark {
             Benchmark::LargePackets => "packet-in-1500",
             Benchmark::Splitting => "pieces",
             Benchmark::Sending => "build",
+            Benchmark::Checking => "check",
         }
     }
 
     /// Fewer calls than these are too few to measure.
     pub fn least_measured(self) -> u64 {
         match self {
-            Benchmark::Splitting | Benchmark::Sending => 1_000,
+            Benchmark::Splitting | Benchmark::Sending | Benchmark::Checking => 1_000,
             _ => 1_000_000,
         }
     }
@@ -74,7 +82,8 @@ impl Benchmark {
     /// How many bytes one call reads; none where it reads no bytes.
     pub fn bytes(self, messages: &Messages) -> Option<u64> {
         match self {
-            Benchmark::Asks(_) | Benchmark::Splitting | Benchmark::Sending => None,
+            Benchmark::Asks(_) | Benchmark::Splitting | Benchmark::Sending | Benchmark::Checking =>
+                None,
             Benchmark::Framing => Some(Messages::PIECE as u64),
             Benchmark::SmallPackets => Some(messages.small().as_slice().len() as u64),
             Benchmark::LargePackets => Some(messages.large().as_slice().len() as u64),
@@ -106,8 +115,8 @@ fn ask(samples: &Samples, question: Question, count: u64) -> u64
     found
 }
 
-/// Makes so many calls, and counts what they find: answers that are yes, frames, packets, pieces, or
-/// messages.
+/// Makes so many calls, and counts what they find: answers that are yes, frames, packets, pieces,
+/// messages, or lists.
 pub fn run(
     alloc: Global,
     samples: &Samples,
@@ -122,5 +131,6 @@ pub fn run(
         Benchmark::LargePackets => Messages::read(alloc, messages.large(), count),
         Benchmark::Splitting => split(alloc, count),
         Benchmark::Sending => send(alloc, count),
+        Benchmark::Checking => give(alloc, count),
     }
 }

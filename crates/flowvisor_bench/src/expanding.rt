@@ -13,7 +13,8 @@ use std::alloc::{AllocError, Global};
 
 const SLICE: &str = "version = 1\n[[slice]]\nname = \"alice\"\ncontroller = \"127.0.0.1:6633\"\n";
 
-fn policy(alloc: Global) -> Result<Option<SwitchPolicy>, AllocError> {
+/// The policy of that slice on some switch.
+pub fn policy(alloc: Global) -> Result<Option<SwitchPolicy>, AllocError> {
     let mut text = String::from_str(alloc, SLICE)?;
     for port in 0..WRITES {
         write!(

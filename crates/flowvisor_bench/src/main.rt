@@ -1,15 +1,16 @@
 //! Measures calls that the proxy makes for each message: `flowvisor_bench BENCHMARK COUNT`, where the
 //! benchmark is one that `benchmark` names, or `all` for those of single messages. It prints what the
 //! calls found and, from a million of them on, how many millions or how many megabytes there were in a
-//! second; of flow-mods with many pieces how many thousand, from a thousand on.
+//! second; of those with many rules how many thousand, from a thousand on.
 #![tactic(auto)]
 
 mod benchmark;
+mod checking;
 mod expanding;
 mod messages;
 mod samples;
 
-use benchmark::{ALL, Benchmark, EXPANDING, run};
+use benchmark::{ALL, Benchmark, LARGE, run};
 use messages::Messages;
 use samples::Samples;
 use std::process::ExitCode;
@@ -20,7 +21,7 @@ use std::{env, io};
 const MOST_CALLS: u64 = 100_000_000_000;
 
 const USAGE: &str =
-    "usage: flowvisor_bench matches|meet|includes|framing|packet-in-64|packet-in-1500|pieces|build|all COUNT\n";
+    "usage: flowvisor_bench matches|meet|includes|framing|packet-in-64|packet-in-1500|pieces|build|check|all COUNT\n";
 
 /// What the words ask for.
 #[derive(Drop)]
@@ -30,7 +31,7 @@ struct Order {
 }
 
 fn named(name: &str) -> Option<Benchmark> {
-    let mut benchmarks = ALL.into_iter().chain(EXPANDING);
+    let mut benchmarks = ALL.into_iter().chain(LARGE);
     benchmarks.find(|one| one.name() == name)
 }
 
@@ -66,7 +67,7 @@ fn measure(
     }
     let (each, unit) = match benchmark.bytes(messages) {
         Some(bytes) => (bytes, "MB"),
-        None if EXPANDING.contains(&benchmark) => (1_000, "thousand"),
+        None if LARGE.contains(&benchmark) => (1_000, "thousand"),
         None => (1, "million"),
     };
     let tenths = u128::from(count)
