@@ -1,8 +1,6 @@
 -- Slices found by name in a map that is filled from the last one to the first, and slots of which none stands twice.
-use Rattle.std.proofs.Common.{◌≡◌, ℕ, suc, ◌+◌, ◌-◌, ◌<◌, ◌≤◌, Bool, true, false, ◌&&◌, ◌||◌, not, cond, true≢false, nat_eq, List, [], ◌∷◌, ◌++◌, length, get_or, take, drop, Option, Some, bytes_eq, refl, sym, ap, ◌∙◌, arith}
+use Rattle.std.proofs.Common.{◌≡◌, ℕ, suc, ◌+◌, ◌-◌, ◌<◌, ◌≤◌, Bool, true, false, ◌&&◌, ◌||◌, not, cond, true≢false, nat_eq, List, [], ◌∷◌, ◌++◌, length, get_or, take, drop, Option, Some, bytes_eq, refl, sym, ◌∙◌, arith}
 use Rattle.std.specs.List.{list_any, position_from}
-use Rattle.std.specs.BTreeMap.{BTreeMap, get_by}
-use Rattle.std.specs.Map.{update}
 use Rattle.std.proofs.Math.Seq.{drop-cons}
 use Rattle.std.proofs.lemmas.Bool.Decides.{nat_tests}
 use Rattle.std.proofs.lemmas.List.{take_more, take-append-drop}

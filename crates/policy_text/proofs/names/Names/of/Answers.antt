@@ -1,6 +1,5 @@
-use Rattle.std.proofs.Common.{Some, ap, ◌-◌, ◌∙◌, sym, arith, ◌≡◌, ℕ}
+use Rattle.std.proofs.Common.{Some, ap, ◌-◌, ◌∙◌, sym, arith}
 use Rattle.std.proofs.lemmas.Map.Text.{btree_map_updates_str}
-use Rattle.std.proofs.lemmas.Iterator.Adapters.{position_from-zero}
 use Rattle.policy_text.proofs.Named.{slot_from_put, slot_from_whole}
 use Rattle.policy_text.proofs.names.Names.of.Goals as goal
 
