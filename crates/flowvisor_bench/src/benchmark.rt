@@ -5,6 +5,7 @@ ghost use Rattle.std.specs.Prelude.{◌≤◌};
 use crate::checking::give;
 use crate::expanding::{send, split};
 use crate::messages::Messages;
+use crate::policies::{check, largest};
 use crate::samples::Samples;
 use match_meet::{includes, meet};
 use std::alloc::{AllocError, Global};
@@ -36,6 +37,8 @@ pub enum Benchmark {
     Sending,
     /// Checking a list of actions against 256 rules.
     Checking,
+    /// Reading and loading the text of a policy of 2,048 rules in 32 slices.
+    Policies,
 }
 
 /// Those of single messages, in the order in which they are made.
@@ -67,7 +70,8 @@ impl Benchmark {
             Benchmark::LargePackets => "packet-in-1500",
             Benchmark::Splitting => "pieces",
             Benchmark::Sending => "build",
-            Benchmark::Checking => "check",
+            Benchmark::Checking => "actions",
+            Benchmark::Policies => "check",
         }
     }
 
@@ -75,6 +79,7 @@ impl Benchmark {
     pub fn least_measured(self) -> u64 {
         match self {
             Benchmark::Splitting | Benchmark::Sending | Benchmark::Checking => 1_000,
+            Benchmark::Policies => 10,
             _ => 1_000_000,
         }
     }
@@ -82,8 +87,11 @@ impl Benchmark {
     /// How many bytes one call reads; none where it reads no bytes.
     pub fn bytes(self, messages: &Messages) -> Option<u64> {
         match self {
-            Benchmark::Asks(_) | Benchmark::Splitting | Benchmark::Sending | Benchmark::Checking =>
-                None,
+            Benchmark::Asks(_)
+            | Benchmark::Splitting
+            | Benchmark::Sending
+            | Benchmark::Checking
+            | Benchmark::Policies => None,
             Benchmark::Framing => Some(Messages::PIECE as u64),
             Benchmark::SmallPackets => Some(messages.small().as_slice().len() as u64),
             Benchmark::LargePackets => Some(messages.large().as_slice().len() as u64),
@@ -116,7 +124,7 @@ fn ask(samples: &Samples, question: Question, count: u64) -> u64
 }
 
 /// Makes so many calls, and counts what they find: answers that are yes, frames, packets, pieces,
-/// messages, or lists.
+/// messages, lists, or policies that are accepted.
 pub fn run(
     alloc: Global,
     samples: &Samples,
@@ -132,5 +140,6 @@ pub fn run(
         Benchmark::Splitting => split(alloc, count),
         Benchmark::Sending => send(alloc, count),
         Benchmark::Checking => give(alloc, count),
+        Benchmark::Policies => Ok(check(alloc, &largest(alloc)?, count)),
     }
 }

@@ -1,13 +1,15 @@
-//! Measures calls that the proxy makes for each message: `flowvisor_bench BENCHMARK COUNT`, where the
-//! benchmark is one that `benchmark` names, or `all` for those of single messages. It prints what the
-//! calls found and, from a million of them on, how many millions or how many megabytes there were in a
-//! second; of those with many rules how many thousand, from a thousand on.
+//! Measures calls that the proxy makes for each message, and the reading of a large policy:
+//! `flowvisor_bench BENCHMARK COUNT`, where the benchmark is one that `benchmark` names, or `all` for those
+//! of single messages. It prints what the calls found and, from a million of them on, how many millions or
+//! how many megabytes there were in a second; of those with many rules how many thousand, from a thousand
+//! on; of policies how many, from ten on.
 #![tactic(auto)]
 
 mod benchmark;
 mod checking;
 mod expanding;
 mod messages;
+mod policies;
 mod samples;
 
 use benchmark::{ALL, Benchmark, LARGE, run};
@@ -21,7 +23,7 @@ use std::{env, io};
 const MOST_CALLS: u64 = 100_000_000_000;
 
 const USAGE: &str =
-    "usage: flowvisor_bench matches|meet|includes|framing|packet-in-64|packet-in-1500|pieces|build|check|all COUNT\n";
+    "usage: flowvisor_bench matches|meet|includes|framing|packet-in-64|packet-in-1500|pieces|build|actions|check|all COUNT\n";
 
 /// What the words ask for.
 #[derive(Drop)]
@@ -32,6 +34,9 @@ struct Order {
 
 fn named(name: &str) -> Option<Benchmark> {
     let mut benchmarks = ALL.into_iter().chain(LARGE);
+    if name == Benchmark::Policies.name() {
+        return Some(Benchmark::Policies);
+    }
     benchmarks.find(|one| one.name() == name)
 }
 
@@ -68,6 +73,7 @@ fn measure(
     let (each, unit) = match benchmark.bytes(messages) {
         Some(bytes) => (bytes, "MB"),
         None if LARGE.contains(&benchmark) => (1_000, "thousand"),
+        None if benchmark == Benchmark::Policies => (1_000_000, "policies"),
         None => (1, "million"),
     };
     let tenths = u128::from(count)
