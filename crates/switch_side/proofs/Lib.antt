@@ -1,0 +1,5 @@
+pub mod OwnPorts
+pub mod Slots
+pub mod Told
+pub mod Standing
+pub mod Answered

@@ -1,0 +1,89 @@
+-- Nothing that a message of the switch shows changes what a slice's state keeps.
+use Rattle.std.proofs.Common.{◌≡◌, ℕ, ◌==◌, ◌&&◌, Bool, true, false, if◌then◌else◌, List, [], ◌∷◌, map, refl, ap, subst, sym, ◌∙◌, Option, Some, None, is_none}
+use Rattle.of10_ctl.specs.declared.kind.TheConstants.{PACKET_IN}
+use Rattle.of10_ctl.specs.Frames.{is_bad}
+use Rattle.of10_flow.specs.declared.packet_in.PacketIn.{PacketIn}
+use Rattle.of10_flow.specs.PacketIns.{read_packet_in}
+use Rattle.of10_port.specs.declared.status.PortStatus.{PortStatus}
+use Rattle.of10_port.specs.Ports.{port_number}
+use Rattle.frame_header.specs.Probes.{probe_slot_of}
+use Rattle.flowspace.specs.declared.rules.Rule.{Rule}
+use Rattle.flowspace.specs.Policies.{PolicyView}
+use Rattle.flow_book.specs.declared.state.SliceState.{SliceState}
+use Rattle.slice_words.specs.Items.{Settings, is_own_port, Share, Item, Sight, Status, End, is_up}
+use Rattle.slice_words.specs.Answers.{no_buffer}
+use Rattle.slice_words.specs.Alone.{with_items}
+use Rattle.slice_words.specs.Standing.{SliceStands}
+use Rattle.desk_words.specs.declared.phase.Phase.{Phase}
+use Rattle.desk_words.specs.declared.phase.Phase.TheVariants.{Opened}
+use Rattle.desk_words.specs.Openings.{is_of, well_formed, status_told, rules_of, Switch}
+use Rattle.desk_words.specs.Histories.{is_slot, settings_at, Side, handed, shares_of, is_kept, packet_items, status_items, message_items, phase_items}
+use Rattle.switch_side.specs.Dispatches.{told_at}
+use Rattle.switch_side.specs.Laws.{StandsStill}
+
+-- what is seen with these items
+abbrev seen : Sight → List Item → Sight
+seen sight items = record { view = with_items items sight.view; came = sight.came }
+
+end_stands : (s : Settings) (sight : Sight) (state : SliceState) → SliceStands s sight state → SliceStands s (seen sight (End ∷ [])) state
+end_stands s sight state stands = record {
+  up = stands.up; miss_send_len = stands.miss_send_len; moment = stands.moment; requests = stands.requests;
+  collections = stands.collections; bucket = stands.bucket; rate = stands.rate; burst = stands.burst;
+}
+
+status_stands : (s : Settings) (sight : Sight) (state : SliceState) (status : PortStatus) → SliceStands s sight state → SliceStands s (seen sight (Status status ∷ [])) state
+status_stands s sight state status stands = record {
+  up = stands.up; miss_send_len = stands.miss_send_len; moment = stands.moment; requests = stands.requests;
+  collections = stands.collections; bucket = stands.bucket; rate = stands.rate; burst = stands.burst;
+}
+
+share_stands : (s : Settings) (sight : Sight) (state : SliceState) (packet : PacketIn) (share : Share) → SliceStands s sight state → SliceStands s (seen sight (handed share packet ∷ [])) state
+share_stands s sight state packet share stands = record {
+  up = stands.up; miss_send_len = stands.miss_send_len; moment = stands.moment; requests = stands.requests;
+  collections = stands.collections; bucket = stands.bucket; rate = stands.rate; burst = stands.burst;
+}
+
+shares_stand : (s : Settings) (sight : Sight) (state : SliceState) (packet : PacketIn) (shares : List Share) → SliceStands s sight state
+    → SliceStands s (seen sight (map (λ share. handed share packet) shares)) state
+shares_stand s sight state packet [] stands = stands
+shares_stand s sight state packet (share ∷ others) stands =
+    shares_stand s (seen sight (handed share packet ∷ [])) state packet others (share_stands s sight state packet share stands)
+
+-- of two lists of items that change nothing either may be shown
+either : (s : Settings) (sight : Sight) (state : SliceState) (b : Bool) (some others : List Item) → SliceStands s (seen sight some) state → SliceStands s (seen sight others) state
+    → SliceStands s (seen sight (if b then some else others)) state
+either s sight state true some others one other = one
+either s sight state false some others one other = other
+
+packet_stands : (s : Settings) (sight : Sight) (state : SliceState) (rules : List Rule) (slot : ℕ) (found : Option PacketIn) → SliceStands s sight state
+    → SliceStands s (seen sight (elim found [ None ↦ [] | Some packet ↦ packet_items rules slot sight.view packet ])) state
+packet_stands s sight state rules slot None stands = stands
+packet_stands s sight state rules slot (Some packet) stands =
+    either s sight state (packet.buffer == no_buffer && is_none (probe_slot_of packet.payload) && is_up sight.view) (map (λ share. handed share packet) (shares_of rules slot packet)) []
+    (shares_stand s sight state packet (shares_of rules slot packet) stands) stands
+
+port_stands : (s : Settings) (sight : Sight) (state : SliceState) (known : List (List ℕ)) (told : Option PortStatus) → SliceStands s sight state
+    → SliceStands s (seen sight (elim told [ None ↦ [] | Some status ↦ status_items s known status ])) state
+port_stands s sight state known None stands = stands
+port_stands s sight state known (Some status) stands =
+    either s sight state (is_kept status known && is_own_port s (port_number status.port)) (Status status ∷ []) [] (status_stands s sight state status stands) stands
+
+message_stands : (p : PolicyView) (slot : ℕ) (switch : Switch) (sight : Sight) (message : List ℕ) (state : SliceState) → SliceStands (settings_at p slot switch.features) sight state
+    → SliceStands (settings_at p slot switch.features) (seen sight (message_items p slot switch sight.view message)) state
+unfolding message_items
+message_stands p slot switch sight message state stands =
+    let s = settings_at p slot switch.features in
+    let packet_in : List Item = elim (well_formed (read_packet_in message)) [ None ↦ [] | Some packet ↦ packet_items (rules_of p switch.features) slot sight.view packet ] in
+    let port_status : List Item = elim (status_told message) [ None ↦ [] | Some status ↦ status_items s switch.known status ] in
+    either s sight state (is_bad message) (End ∷ []) _ (end_stands s sight state stands)
+    (either s sight state (is_of PACKET_IN message) packet_in port_status
+        (packet_stands s sight state (rules_of p switch.features) slot (well_formed (read_packet_in message)) stands)
+        (port_stands s sight state switch.known (status_told message) stands))
+
+pub stands_still : (p : PolicyView) (slot : ℕ) (switch : Switch) (side : Side) (moment : ℕ) (message : List ℕ) (state : SliceState) → StandsStill p slot switch side moment message state
+stands_still p slot switch side moment message state opened stands =
+    let s = settings_at p slot switch.features in
+    either s side.sight state (is_slot p slot) (phase_items p slot switch side.sight.view (told_at moment message) switch.phase) []
+    (subst (λ phase. SliceStands s (seen side.sight (phase_items p slot switch side.sight.view (told_at moment message) phase)) state) (sym opened)
+        (message_stands p slot switch side.sight message state stands))
+    stands

@@ -1,0 +1,107 @@
+-- What all slices are sent for a message of the switch.
+use Rattle.std.proofs.Common.{◌≡◌, ℕ, zero, suc, ◌+◌, ◌<◌, Bool, true, false, if◌then◌else◌, List, [], ◌∷◌, ◌++◌, length, slice_get, refl, ap, ap₂, subst, sym, ◌∙◌, arith, Option, Some, None}
+use Rattle.std.proofs.lemmas.Option.{slice_get_within, slice_get-get_or}
+use Rattle.std.proofs.lemmas.Bool.{lt-ltb}
+use Rattle.of10_ctl.specs.declared.kind.TheConstants.{PACKET_IN}
+use Rattle.of10_flow.specs.declared.packet_in.PacketIn.{PacketIn}
+use Rattle.of10_flow.specs.PacketIns.{read_packet_in, spell_packet_in}
+use Rattle.of10_port.specs.declared.status.PortStatus.{PortStatus}
+use Rattle.flowspace.specs.declared.rules.Rule.{Rule}
+use Rattle.flowspace.specs.declared.slices.Slice.{Slice}
+use Rattle.flowspace.specs.Order.{writer_of, readers_of}
+use Rattle.flowspace.specs.Owners.{has_port}
+use Rattle.flowspace.specs.Policies.{PolicyView}
+use Rattle.flow_book.specs.declared.state.SliceState.{SliceState}
+use Rattle.slice_words.specs.Items.{settings_of, is_own_port, is_up}
+use Rattle.desk_words.specs.declared.event.Timed.{Timed}
+use Rattle.desk_words.specs.declared.phase.Phase.TheVariants.{Opened}
+use Rattle.desk_words.specs.Openings.{is_of, well_formed, rules_of, Switch}
+use Rattle.desk_words.specs.Histories.{is_slot, settings_at, Side, header_in}
+use Rattle.desk_words.specs.Sent.{sent_with}
+use Rattle.switch_side.specs.Dispatches.{addressed, sent_from, status_kept, told_at, AllStand}
+use Rattle.switch_side.specs.Carrying.{unnumbered, is_plain, packet_for, status_for, said_from, packet_told, packet_in_told, port_told, message_told}
+use Rattle.switch_side.proofs.OwnPorts.{has_port-own}
+use Rattle.switch_side.proofs.Slots.{say_packet, say_status, say_found, say, slot_sent}
+
+-- ---- what is said to all is what is told
+
+abbrev Say : Type 0
+Say = ℕ → Bool → List (List ℕ)
+
+abbrev nothing : Say
+nothing slot up = []
+
+said_none : (slot : ℕ) (states : List SliceState) → said_from nothing slot states ≡ []
+said_none slot [] = refl
+said_none slot (state ∷ others) = said_none (slot + 1) others
+
+said_packet : (rules : List Rule) (states : List SliceState) (packet : PacketIn) (plain : Bool)
+    → said_from (λ slot up. if plain then packet_for (writer_of rules (header_in packet)) (readers_of rules (header_in packet)) (spell_packet_in (unnumbered packet)) slot up else []) 0 states
+      ≡ (if plain then said_from (packet_for (writer_of rules (header_in packet)) (readers_of rules (header_in packet)) (spell_packet_in (unnumbered packet))) 0 states else [])
+said_packet rules states packet true = refl
+said_packet rules states packet false = said_none 0 states
+
+said_found : (rules : List Rule) (states : List SliceState) (found : Option PacketIn)
+    → said_from (say_found rules found) 0 states ≡ elim found [ None ↦ [] | Some packet ↦ packet_told rules states packet ]
+said_found rules states None = said_none 0 states
+said_found rules states (Some packet) = said_packet rules states packet (is_plain packet)
+
+said_status : (rules : List Rule) (states : List SliceState) (status : Option PortStatus) → said_from (say_status rules status) 0 states ≡ port_told rules states status
+said_status rules states None = said_none 0 states
+said_status rules states (Some status) = refl
+
+said_kind : (rules : List Rule) (states : List SliceState) (packet_in : Bool) (found : Option PacketIn) (status : Option PortStatus)
+    → said_from (λ slot up. if packet_in then say_found rules found slot up else say_status rules status slot up) 0 states
+      ≡ (if packet_in then elim found [ None ↦ [] | Some packet ↦ packet_told rules states packet ] else port_told rules states status)
+said_kind rules states true found status = said_found rules states found
+said_kind rules states false found status = said_status rules states status
+
+said_told : (rules : List Rule) (known : List (List ℕ)) (states : List SliceState) (message : List ℕ)
+    → said_from (say rules known message) 0 states ≡ message_told rules known states message
+said_told rules known states message = said_kind rules states (is_of PACKET_IN message) (well_formed (read_packet_in message)) (status_kept known message)
+
+-- ---- what is said to each is what it is sent
+
+all_sent : (p : PolicyView) (switch : Switch) (sides : ℕ → Side) (timed : Timed) (said : Say) (slot : ℕ) (slices : List Slice) (states : List SliceState)
+    → length states ≡ length slices
+    → ((i k : ℕ) (state : SliceState) → slot + i ≡ k → slice_get states i ≡ Some state → said k state.up ≡ sent_with p k switch (sides k) timed)
+    → said_from said slot states ≡ sent_from p switch sides timed slot slices
+all_sent p switch sides timed said slot [] [] same each = refl
+all_sent p switch sides timed said slot (slice ∷ slices) (state ∷ states) same each =
+    ap₂ (λ (now later : List (ℕ × List ℕ)). now ++ later) (ap (addressed slot) (each 0 slot state (omega arith) refl))
+        (all_sent p switch sides timed said (slot + 1) slices states (omega (arith, same))
+            (λ i k other at found. each (suc i) k other (omega (arith, at)) found))
+all_sent p switch sides timed said slot [] (state ∷ states) same each = absurd (omega (arith, same))
+all_sent p switch sides timed said slot (slice ∷ slices) [] same each = absurd (omega (arith, same))
+
+-- ---- the slices of a policy
+
+own_ports : (p : PolicyView) (switch : Switch) (slot port : ℕ) (slice : Slice) → slice_get p.slices slot ≡ Some slice
+    → is_own_port (settings_at p slot switch.features) port ≡ has_port (rules_of p switch.features) slot port
+own_ports p switch slot port slice there = rw (there, settings_at) (has_port-own (rules_of p switch.features) slot port)
+
+has_slice : (slices : List Slice) (slot : ℕ) → slot < length slices → (slice : Slice) × (slice_get slices slot ≡ Some slice)
+has_slice [] slot lt = absurd (omega (arith, lt))
+has_slice (slice ∷ slices) zero lt = (slice, refl)
+has_slice (slice ∷ slices) (suc slot) lt = has_slice slices slot (omega (arith, lt))
+
+one_sent : (p : PolicyView) (switch : Switch) (sides : ℕ → Side) (moment : ℕ) (message : List ℕ) (states : List SliceState)
+    → switch.phase ≡ Opened → length states ≡ length p.slices → AllStand p switch sides states
+    → (slot k : ℕ) (state : SliceState) → 0 + slot ≡ k → slice_get states slot ≡ Some state
+    → say (rules_of p switch.features) switch.known message k state.up ≡ sent_with p k switch (sides k) (told_at moment message)
+one_sent p switch sides moment message states opened same stand slot k state at found =
+    let lt : k < length p.slices = omega (arith, slice_get_within states slot state found, same, at) in
+    let slice = has_slice p.slices k lt in
+    let same_slot : slot ≡ k = omega (arith, at) in
+    let here : slice_get states k ≡ Some state = subst (λ x. slice_get states x ≡ Some state) same_slot found in
+    ap (say (rules_of p switch.features) switch.known message k) (stand k state here).up
+    ∙ sym (slot_sent p k moment switch (sides k) message opened (lt-ltb k (length p.slices) lt) (λ port. own_ports p switch k port slice.0 slice.1))
+
+-- what the states are told is what the slices are sent
+pub told_sent : (p : PolicyView) (switch : Switch) (sides : ℕ → Side) (moment : ℕ) (message : List ℕ) (states : List SliceState)
+    → switch.phase ≡ Opened → length states ≡ length p.slices → AllStand p switch sides states
+    → message_told (rules_of p switch.features) switch.known states message ≡ sent_from p switch sides (told_at moment message) 0 p.slices
+told_sent p switch sides moment message states opened same stand =
+    sym (said_told (rules_of p switch.features) switch.known states message)
+    ∙ all_sent p switch sides (told_at moment message) (say (rules_of p switch.features) switch.known message) 0 p.slices states same
+        (one_sent p switch sides moment message states opened same stand)

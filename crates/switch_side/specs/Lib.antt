@@ -1,0 +1,3 @@
+pub mod Dispatches
+pub mod Carrying
+pub mod Laws

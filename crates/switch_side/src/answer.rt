@@ -1,0 +1,78 @@
+ghost use Rattle.std.specs.Prelude.{ℕ, ◌≡◌, ◌≤◌, ◌∷◌, [], true, length, IsTrue, IfOk, drop};
+ghost use Rattle.of10_ctl.specs.declared.kind.TheConstants.{ECHO_REPLY};
+ghost use Rattle.of10_ctl.specs.Frames.{IsFrame, message_of};
+ghost use Rattle.of10_ctl.specs.Kinds.{IsOf};
+ghost use Rattle.flowspace.specs.Policies.{PolicyView};
+ghost use Rattle.slice_words.specs.Messages.{xid_of};
+ghost use Rattle.desk_words.specs.Openings.{Switch, is_of};
+ghost use Rattle.desk_words.specs.Histories.{Side};
+ghost use Rattle.switch_side.specs.Dispatches.{Surrounds, AllStand, IsDispatch};
+ghost use Rattle.switch_side.specs.Carrying.{carried, telling, carried_for};
+
+use crate::dispatch::Dispatch;
+use crate::packets::packet_in;
+use crate::ports::port_status;
+use flow_book::SliceState;
+use flowspace::SwitchPolicy;
+use of10_ctl::kind::{ECHO_REPLY, ECHO_REQUEST, PACKET_IN, PORT_STATUS};
+use of10_ctl::{Frame, message};
+use port_view::PortView;
+use std::alloc::{AllocError, Global};
+
+fn is_of(frame: &Frame, kind: u8) -> bool
+    requires { IsFrame frame.now }
+    ensures value { result ≡ is_of kind frame.now }
+    ensures kind { IsTrue result → IsOf kind frame.now }
+{
+    frame.is_of(kind)
+}
+
+/// The reply to an ECHO_REQUEST (OpenFlow 1.0.0, section 5.5).
+fn echo(alloc: Global, frame: &Frame) -> Result<Dispatch, AllocError>
+    requires { IsOf 2 frame.now }
+    ensures { IfOk result (λ d. carried d ≡ record (telling [] None) { replies = message_of ECHO_REPLY (xid_of frame.now) (drop 8 frame.now) ∷ [] }) }
+{
+    let reply = message(alloc, ECHO_REPLY, frame.head().xid, frame.body())?;
+    Dispatch::replying(alloc, reply)
+}
+
+fn dispatch(
+    alloc: Global,
+    policy: &SwitchPolicy,
+    ports: &PortView,
+    states: &[SliceState],
+    frame: &Frame,
+) -> Result<Dispatch, AllocError>
+    requires few { length states.now ≤ 32 }
+    requires frame { IsFrame frame.now }
+    ensures { IfOk result (λ d. carried d ≡ carried_for policy.now.rules ports.now states.now frame.now) }
+{
+    if frame.bad_length() {
+        Ok(Dispatch::closing(alloc))
+    } else if is_of(frame, ECHO_REQUEST) {
+        echo(alloc, frame)
+    } else if is_of(frame, PACKET_IN) {
+        packet_in(alloc, policy, states, frame)
+    } else if is_of(frame, PORT_STATUS) {
+        port_status(alloc, policy, ports, states, frame)
+    } else {
+        Ok(Dispatch::nothing(alloc))
+    }
+}
+
+/// What follows from one message of a switch that has told what it is, with one state for each slice of the
+/// policy. Nothing is changed: `port` is still to be taken in by the known ports, and no state changes. A
+/// message that isn't of version 1, isn't well formed, or says nothing to anybody is dropped.
+pub fn react(
+    alloc: Global,
+    policy: &SwitchPolicy,
+    ports: &PortView,
+    states: &[SliceState],
+    frame: &Frame,
+) -> Result<Dispatch, AllocError>
+    requires { length states.now ≡ length policy.now.slices }
+    ensures { (p : PolicyView) (switch : Switch) (sides : ℕ → Side) (moment : ℕ) → Surrounds p switch policy.now ports.now → AllStand p switch sides states.now → IfOk result (IsDispatch p switch sides moment frame.now) }
+{
+    let (_slices, _bytes) = (policy.slices(), frame.as_slice());
+    dispatch(alloc, policy, ports, states, frame)
+}

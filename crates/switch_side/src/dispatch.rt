@@ -1,0 +1,63 @@
+ghost use Rattle.std.specs.Prelude.{◌≡◌, [], ◌∷◌, true, None, IfOk};
+ghost use Rattle.switch_side.specs.Carrying.{carried, telling};
+
+use of10_ctl::Frame;
+use of10_port::PortStatus;
+use std::alloc::{AllocError, Global};
+
+/// What follows from one message of a switch.
+#[derive(Debug, Drop)]
+pub struct Dispatch {
+    /// Messages for the slices, each with the slot of its slice, by ascending slot.
+    pub to_slices: Vec<(u8, Frame)>,
+    /// Messages for the switch.
+    pub to_switch: Vec<Frame>,
+    /// What the switch told of one of its ports, where the known ports would keep it.
+    pub port: Option<PortStatus>,
+    /// Whether the switch's connection ends.
+    pub close: bool,
+}
+
+impl Dispatch {
+    /// Messages for slices, and what the switch told of a port.
+    pub(crate) fn telling(
+        alloc: Global,
+        to_slices: Vec<(u8, Frame)>,
+        port: Option<PortStatus>,
+    ) -> Dispatch
+        ensures { carried result ≡ telling to_slices.items port }
+    {
+        Dispatch {
+            to_slices,
+            to_switch: Vec::new(alloc),
+            port,
+            close: false,
+        }
+    }
+
+    /// Nothing follows.
+    pub(crate) fn nothing(alloc: Global) -> Dispatch
+        ensures { carried result ≡ telling [] None }
+    {
+        Dispatch::telling(alloc, Vec::new(alloc), None)
+    }
+
+    /// A reply to the switch.
+    pub(crate) fn replying(alloc: Global, reply: Frame) -> Result<Dispatch, AllocError>
+        ensures { IfOk result (λ d. carried d ≡ record (telling [] None) { replies = reply ∷ [] }) }
+    {
+        let mut dispatch = Dispatch::nothing(alloc);
+        dispatch.to_switch.push(reply)?;
+        Ok(dispatch)
+    }
+
+    /// The connection ends.
+    pub(crate) fn closing(alloc: Global) -> Dispatch
+        ensures { carried result ≡ record (telling [] None) { ends = true } }
+    {
+        Dispatch {
+            close: true,
+            ..Dispatch::nothing(alloc)
+        }
+    }
+}

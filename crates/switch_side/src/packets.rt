@@ -1,0 +1,211 @@
+//! Packets that the switch hands up (OpenFlow 1.0.0, section 5.4.1).
+
+ghost use Rattle.std.specs.Prelude.{◌≡◌, ◌+◌, ◌≤◌, ◌++◌, [], ◌∷◌, length, option_map, IfOk, OnOk, None};
+ghost use Rattle.of10_model.specs.Normal.{is_value, bit};
+ghost use Rattle.of10_ctl.specs.Kinds.{IsOf};
+ghost use Rattle.of10_flow.specs.PacketIns.{spell_packet_in};
+ghost use Rattle.flowspace.specs.Order.{first_rule, writer_of, readers_of};
+ghost use Rattle.switch_side.specs.Dispatches.{addressed};
+ghost use Rattle.switch_side.specs.Carrying.{carried, telling, once, is_plain, packet_for, said_from, packet_told, packet_in_told};
+
+use crate::dispatch::Dispatch;
+use flow_book::SliceState;
+use flowspace::{Rule, SwitchPolicy};
+use frame_header::{header_of, probe_slot};
+use of10_action::DecodeFault;
+use of10_ctl::Frame;
+use of10_flow::PacketIn;
+use of10_flow::protocol::NO_BUFFER;
+use of10_match::Header12;
+use std::alloc::{AllocError, Global};
+
+/// Whether a slot is among the slots of these bits.
+fn is_among(readers: u32, slot: u8) -> bool
+    ensures { result ≡ bit readers slot }
+{
+    slot < 32 && (readers >> slot) & 1 == 1
+}
+
+/// The first rule that has the header.
+fn first_rule<'a>(policy: &'a SwitchPolicy, header: &Header12) -> Option<&'a Rule>
+    ensures { option_map (λ rule. rule.now) result ≡ first_rule policy.now.rules header.now }
+{
+    let place = policy.first(header)?;
+    policy.rules().get(usize::from(place))
+}
+
+/// Who is handed the packets of one header.
+#[derive(Drop)]
+struct Audience {
+    writer: Option<u8>,
+    /// Bit k stands for the slot k.
+    readers: u32,
+}
+
+impl Audience {
+    /// The slices that the first rule of the header names.
+    fn of(policy: &SwitchPolicy, header: &Header12) -> Audience
+        ensures writer { result.writer ≡ writer_of policy.now.rules header.now }
+        ensures readers { result.readers ≡ readers_of policy.now.rules header.now }
+    {
+        match first_rule(policy, header) {
+            None => Audience {
+                writer: None,
+                readers: 0,
+            },
+            Some(rule) => Audience {
+                writer: rule.writer,
+                readers: rule.readers,
+            },
+        }
+    }
+
+    /// The slice at a slot writes such packets.
+    fn has_writer(&self, slot: u8) -> bool
+        ensures { result ≡ is_value slot self.now.writer }
+    {
+        self.writer == Some(slot)
+    }
+
+    /// The slice at a slot reads such packets.
+    fn has_reader(&self, slot: u8) -> bool
+        ensures { result ≡ bit self.now.readers slot }
+    {
+        is_among(self.readers, slot)
+    }
+}
+
+fn put(
+    alloc: Global,
+    to_slices: &mut Vec<(u8, Frame)>,
+    slot: u8,
+    packet: &PacketIn,
+) -> Result<(), AllocError>
+    requires { 18 + length packet.now.payload ≤ 65535 }
+    ensures { OnOk result (to_slices.new.items ≡ to_slices.old.items ++ addressed slot (spell_packet_in packet.now ∷ [])) }
+{
+    let message = packet.encode(alloc)?;
+    to_slices.push((slot, message))?;
+    Ok(())
+}
+
+fn put_for_writer(
+    alloc: Global,
+    to_slices: &mut Vec<(u8, Frame)>,
+    slot: u8,
+    packet: &PacketIn,
+    audience: &Audience,
+) -> Result<(), AllocError>
+    requires { 18 + length packet.now.payload ≤ 65535 }
+    ensures { OnOk result (to_slices.new.items ≡ to_slices.old.items ++ addressed slot (once (is_value slot audience.now.writer) (spell_packet_in packet.now))) }
+{
+    if !audience.has_writer(slot) {
+        return Ok(());
+    }
+    put(alloc, to_slices, slot, packet)
+}
+
+fn put_for_reader(
+    alloc: Global,
+    to_slices: &mut Vec<(u8, Frame)>,
+    slot: u8,
+    packet: &PacketIn,
+    audience: &Audience,
+) -> Result<(), AllocError>
+    requires { 18 + length packet.now.payload ≤ 65535 }
+    ensures { OnOk result (to_slices.new.items ≡ to_slices.old.items ++ addressed slot (once (bit audience.now.readers slot) (spell_packet_in packet.now))) }
+{
+    if !audience.has_reader(slot) {
+        return Ok(());
+    }
+    put(alloc, to_slices, slot, packet)
+}
+
+/// The packet for the slice at a slot, if it is up.
+fn put_for_slice(
+    alloc: Global,
+    to_slices: &mut Vec<(u8, Frame)>,
+    slot: u8,
+    state: &SliceState,
+    packet: &PacketIn,
+    audience: &Audience,
+) -> Result<(), AllocError>
+    requires { 18 + length packet.now.payload ≤ 65535 }
+    ensures { OnOk result (to_slices.new.items ≡ to_slices.old.items ++ addressed slot (packet_for audience.now.writer audience.now.readers (spell_packet_in packet.now) slot state.now.up)) }
+{
+    if !state.up {
+        return Ok(());
+    }
+    put_for_writer(alloc, to_slices, slot, packet, audience)?;
+    put_for_reader(alloc, to_slices, slot, packet, audience)
+}
+
+fn put_for_all(
+    alloc: Global,
+    states: &[SliceState],
+    packet: &PacketIn,
+    audience: &Audience,
+) -> Result<Vec<(u8, Frame)>, AllocError>
+    requires few { length states.now ≤ 32 }
+    requires fits { 18 + length packet.now.payload ≤ 65535 }
+    ensures { IfOk result (λ v. v.items ≡ said_from (packet_for audience.now.writer audience.now.readers (spell_packet_in packet.now)) 0 states.now) }
+{
+    let mut to_slices = Vec::new(alloc);
+    for (place, state) in states.iter().enumerate() {
+        put_for_slice(alloc, &mut to_slices, place as u8, state, packet, audience)?;
+    }
+    Ok(to_slices)
+}
+
+/// The packet is neither buffered nor a probe.
+fn is_plain(packet: &PacketIn) -> bool
+    ensures { result ≡ is_plain packet.now }
+{
+    packet.buffer == NO_BUFFER && probe_slot(packet.payload.as_slice()).is_none()
+}
+
+/// A packet for the slices that are up of those that the first rule of its header names. One that is
+/// buffered or a probe is for nobody.
+fn handed(
+    alloc: Global,
+    policy: &SwitchPolicy,
+    states: &[SliceState],
+    packet: PacketIn,
+) -> Result<Vec<(u8, Frame)>, AllocError>
+    requires few { length states.now ≤ 32 }
+    requires fits { 18 + length packet.payload ≤ 65535 }
+    ensures { IfOk result (λ v. v.items ≡ packet_told policy.now.rules states.now packet) }
+{
+    if !is_plain(&packet) {
+        return Ok(Vec::new(alloc));
+    }
+    let header = header_of(packet.in_port, packet.payload.as_slice());
+    let audience = Audience::of(policy, &header);
+    let told = PacketIn {
+        xid: 0,
+        buffer: NO_BUFFER,
+        ..packet
+    };
+    put_for_all(alloc, states, &told, &audience)
+}
+
+/// What follows from a PACKET_IN; from one that isn't well formed nothing.
+pub(crate) fn packet_in(
+    alloc: Global,
+    policy: &SwitchPolicy,
+    states: &[SliceState],
+    frame: &Frame,
+) -> Result<Dispatch, AllocError>
+    requires kind { IsOf 10 frame.now }
+    requires few { length states.now ≤ 32 }
+    ensures { IfOk result (λ d. carried d ≡ telling (packet_in_told policy.now.rules states.now frame.now) None) }
+{
+    match PacketIn::decode(alloc, frame) {
+        Ok(packet) => {
+            let to_slices = handed(alloc, policy, states, packet)?;
+            Ok(Dispatch::telling(alloc, to_slices, None))
+        }
+        Err(DecodeFault::Wire(_)) => Ok(Dispatch::nothing(alloc)),
+        Err(DecodeFault::Memory) => Err(AllocError),
+    }
+}
