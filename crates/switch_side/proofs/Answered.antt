@@ -14,10 +14,10 @@ pub dispatched : (p : PolicyView) (switch : Switch) (sides : ℕ → Side) (mome
     → carried d ≡ carried_for policy.rules ports states message → IsDispatch p switch sides moment message d
 dispatched p switch sides moment policy ports states message d same around stand is = record {
   to_slices =
-    ap (λ (c : Carried). c.messages) is
-    ∙ ap (λ rules. message_told rules ports states message) around.rules
-    ∙ ap (λ known. message_told (rules_of p switch.features) known states message) around.known
-    ∙ told_sent p switch sides moment message states around.opened (same ∙ ap length around.slices) stand;
+      ap (λ (c : Carried). c.messages) is
+      ∙ ap (λ rules. message_told rules ports states message) around.rules
+      ∙ ap (λ known. message_told (rules_of p switch.features) known states message) around.known
+      ∙ told_sent p switch sides moment message states around.opened (same ∙ ap length around.slices) stand;
   to_switch = ap (λ (c : Carried). c.replies) is;
   port = ap (λ (c : Carried). c.status) is ∙ ap (λ known. status_kept known message) around.known;
   close = ap (λ (c : Carried). c.ends) is;

@@ -30,7 +30,7 @@ use Rattle.switch_side.specs.Carrying.{unnumbered, once, is_plain, packet_for, s
 -- what a slice that is up is sent for its shares of a packet
 shares_sent : (s : Settings) (view : List Item) (packet : PacketIn) (writes reads : Bool) → is_up view ≡ true
     → sent_for s view (map (λ share. handed share packet) ((if writes then Writer false ∷ [] else []) ++ (if reads then Reader ∷ [] else [])))
-      ≡ once writes (spell_packet_in (unnumbered packet)) ++ once reads (spell_packet_in (unnumbered packet))
+    ≡ once writes (spell_packet_in (unnumbered packet)) ++ once reads (spell_packet_in (unnumbered packet))
 unfolding packet_told
 shares_sent s view packet true true up = rw up refl
 shares_sent s view packet true false up = rw up refl
@@ -44,14 +44,14 @@ say_packet rules packet slot up =
 
 by_up : (s : Settings) (rules : List Rule) (slot : ℕ) (view : List Item) (packet : PacketIn) (up : Bool) → is_up view ≡ up
     → sent_for s view (if up then map (λ share. handed share packet) (shares_of rules slot packet) else [])
-      ≡ packet_for (writer_of rules (header_in packet)) (readers_of rules (header_in packet)) (spell_packet_in (unnumbered packet)) slot up
+    ≡ packet_for (writer_of rules (header_in packet)) (readers_of rules (header_in packet)) (spell_packet_in (unnumbered packet)) slot up
 by_up s rules slot view packet true is =
     shares_sent s view packet (is_value slot (writer_of rules (header_in packet))) (bit (readers_of rules (header_in packet)) slot) is
 by_up s rules slot view packet false is = refl
 
 by_form : (s : Settings) (rules : List Rule) (slot : ℕ) (view : List Item) (packet : PacketIn) (whole unmarked : Bool)
     → sent_for s view (if whole && unmarked && is_up view then map (λ share. handed share packet) (shares_of rules slot packet) else [])
-      ≡ (if whole && unmarked then packet_for (writer_of rules (header_in packet)) (readers_of rules (header_in packet)) (spell_packet_in (unnumbered packet)) slot (is_up view) else [])
+    ≡ (if whole && unmarked then packet_for (writer_of rules (header_in packet)) (readers_of rules (header_in packet)) (spell_packet_in (unnumbered packet)) slot (is_up view) else [])
 by_form s rules slot view packet true true = by_up s rules slot view packet (is_up view) refl
 by_form s rules slot view packet true false = refl
 by_form s rules slot view packet false true = refl
@@ -95,8 +95,8 @@ say rules known message slot up =
 by_kind : (s : Settings) (rules : List Rule) (known : List (List ℕ)) (slot : ℕ) (view : List Item) (packet_in : Bool) (found : Option PacketIn) (told : Option PortStatus)
     → ((port : ℕ) → is_own_port s port ≡ has_port rules slot port)
     → sent_for s view (if packet_in then elim found [ None ↦ [] | Some packet ↦ packet_items rules slot view packet ] else elim told [ None ↦ [] | Some status ↦ status_items s known status ])
-      ≡ (if packet_in then say_found rules found slot (is_up view)
-         else say_status rules (kept_beside known told) slot (is_up view))
+    ≡ (if packet_in then say_found rules found slot (is_up view)
+    else say_status rules (kept_beside known told) slot (is_up view))
 by_kind s rules known slot view true None told own = refl
 by_kind s rules known slot view true (Some packet) told own = packet_sent s rules slot view packet
 by_kind s rules known slot view false found None own = refl

@@ -27,20 +27,38 @@ seen sight items = record { view = with_items items sight.view; came = sight.cam
 
 end_stands : (s : Settings) (sight : Sight) (state : SliceState) → SliceStands s sight state → SliceStands s (seen sight (End ∷ [])) state
 end_stands s sight state stands = record {
-  up = stands.up; miss_send_len = stands.miss_send_len; moment = stands.moment; requests = stands.requests;
-  collections = stands.collections; bucket = stands.bucket; rate = stands.rate; burst = stands.burst;
+  up = stands.up;
+  miss_send_len = stands.miss_send_len;
+  moment = stands.moment;
+  requests = stands.requests;
+  collections = stands.collections;
+  bucket = stands.bucket;
+  rate = stands.rate;
+  burst = stands.burst;
 }
 
 status_stands : (s : Settings) (sight : Sight) (state : SliceState) (status : PortStatus) → SliceStands s sight state → SliceStands s (seen sight (Status status ∷ [])) state
 status_stands s sight state status stands = record {
-  up = stands.up; miss_send_len = stands.miss_send_len; moment = stands.moment; requests = stands.requests;
-  collections = stands.collections; bucket = stands.bucket; rate = stands.rate; burst = stands.burst;
+  up = stands.up;
+  miss_send_len = stands.miss_send_len;
+  moment = stands.moment;
+  requests = stands.requests;
+  collections = stands.collections;
+  bucket = stands.bucket;
+  rate = stands.rate;
+  burst = stands.burst;
 }
 
 share_stands : (s : Settings) (sight : Sight) (state : SliceState) (packet : PacketIn) (share : Share) → SliceStands s sight state → SliceStands s (seen sight (handed share packet ∷ [])) state
 share_stands s sight state packet share stands = record {
-  up = stands.up; miss_send_len = stands.miss_send_len; moment = stands.moment; requests = stands.requests;
-  collections = stands.collections; bucket = stands.bucket; rate = stands.rate; burst = stands.burst;
+  up = stands.up;
+  miss_send_len = stands.miss_send_len;
+  moment = stands.moment;
+  requests = stands.requests;
+  collections = stands.collections;
+  bucket = stands.bucket;
+  rate = stands.rate;
+  burst = stands.burst;
 }
 
 shares_stand : (s : Settings) (sight : Sight) (state : SliceState) (packet : PacketIn) (shares : List Share) → SliceStands s sight state
@@ -77,13 +95,13 @@ message_stands p slot switch sight message state stands =
     let port_status : List Item = elim (status_told message) [ None ↦ [] | Some status ↦ status_items s switch.known status ] in
     either s sight state (is_bad message) (End ∷ []) _ (end_stands s sight state stands)
     (either s sight state (is_of PACKET_IN message) packet_in port_status
-        (packet_stands s sight state (rules_of p switch.features) slot (well_formed (read_packet_in message)) stands)
-        (port_stands s sight state switch.known (status_told message) stands))
+    (packet_stands s sight state (rules_of p switch.features) slot (well_formed (read_packet_in message)) stands)
+    (port_stands s sight state switch.known (status_told message) stands))
 
 pub stands_still : (p : PolicyView) (slot : ℕ) (switch : Switch) (side : Side) (moment : ℕ) (message : List ℕ) (state : SliceState) → StandsStill p slot switch side moment message state
 stands_still p slot switch side moment message state opened stands =
     let s = settings_at p slot switch.features in
     either s side.sight state (is_slot p slot) (phase_items p slot switch side.sight.view (told_at moment message) switch.phase) []
     (subst (λ phase. SliceStands s (seen side.sight (phase_items p slot switch side.sight.view (told_at moment message) phase)) state) (sym opened)
-        (message_stands p slot switch side.sight message state stands))
+    (message_stands p slot switch side.sight message state stands))
     stands

@@ -37,7 +37,7 @@ said_none slot (state ∷ others) = said_none (slot + 1) others
 
 said_packet : (rules : List Rule) (states : List SliceState) (packet : PacketIn) (plain : Bool)
     → said_from (λ slot up. if plain then packet_for (writer_of rules (header_in packet)) (readers_of rules (header_in packet)) (spell_packet_in (unnumbered packet)) slot up else []) 0 states
-      ≡ (if plain then said_from (packet_for (writer_of rules (header_in packet)) (readers_of rules (header_in packet)) (spell_packet_in (unnumbered packet))) 0 states else [])
+    ≡ (if plain then said_from (packet_for (writer_of rules (header_in packet)) (readers_of rules (header_in packet)) (spell_packet_in (unnumbered packet))) 0 states else [])
 said_packet rules states packet true = refl
 said_packet rules states packet false = said_none 0 states
 
@@ -52,7 +52,7 @@ said_status rules states (Some status) = refl
 
 said_kind : (rules : List Rule) (states : List SliceState) (packet_in : Bool) (found : Option PacketIn) (status : Option PortStatus)
     → said_from (λ slot up. if packet_in then say_found rules found slot up else say_status rules status slot up) 0 states
-      ≡ (if packet_in then elim found [ None ↦ [] | Some packet ↦ packet_told rules states packet ] else port_told rules states status)
+    ≡ (if packet_in then elim found [ None ↦ [] | Some packet ↦ packet_told rules states packet ] else port_told rules states status)
 said_kind rules states true found status = said_found rules states found
 said_kind rules states false found status = said_status rules states status
 
@@ -69,8 +69,8 @@ all_sent : (p : PolicyView) (switch : Switch) (sides : ℕ → Side) (timed : Ti
 all_sent p switch sides timed said slot [] [] same each = refl
 all_sent p switch sides timed said slot (slice ∷ slices) (state ∷ states) same each =
     ap₂ (λ (now later : List (ℕ × List ℕ)). now ++ later) (ap (addressed slot) (each 0 slot state (omega arith) refl))
-        (all_sent p switch sides timed said (slot + 1) slices states (omega (arith, same))
-            (λ i k other at found. each (suc i) k other (omega (arith, at)) found))
+    (all_sent p switch sides timed said (slot + 1) slices states (omega (arith, same))
+    (λ i k other at found. each (suc i) k other (omega (arith, at)) found))
 all_sent p switch sides timed said slot [] (state ∷ states) same each = absurd (omega (arith, same))
 all_sent p switch sides timed said slot (slice ∷ slices) [] same each = absurd (omega (arith, same))
 
@@ -104,4 +104,4 @@ pub told_sent : (p : PolicyView) (switch : Switch) (sides : ℕ → Side) (momen
 told_sent p switch sides moment message states opened same stand =
     sym (said_told (rules_of p switch.features) switch.known states message)
     ∙ all_sent p switch sides (told_at moment message) (say (rules_of p switch.features) switch.known message) 0 p.slices states same
-        (one_sent p switch sides moment message states opened same stand)
+    (one_sent p switch sides moment message states opened same stand)

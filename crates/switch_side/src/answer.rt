@@ -19,6 +19,7 @@ use of10_ctl::{Frame, message};
 use port_view::PortView;
 use std::alloc::{AllocError, Global};
 
+/// Whether it is a message of version 1 and of this type whose length counts its bytes.
 fn is_of(frame: &Frame, kind: u8) -> bool
     requires { IsFrame frame.now }
     ensures value { result ≡ is_of kind frame.now }
@@ -36,6 +37,8 @@ fn echo(alloc: Global, frame: &Frame) -> Result<Dispatch, AllocError>
     Dispatch::replying(alloc, reply)
 }
 
+/// What follows, by the type of the message. Types that a switch doesn't send are dropped like those that
+/// say nothing to anybody.
 fn dispatch(
     alloc: Global,
     policy: &SwitchPolicy,
@@ -73,6 +76,7 @@ pub fn react(
     requires { length states.now ≡ length policy.now.slices }
     ensures { (p : PolicyView) (switch : Switch) (sides : ℕ → Side) (moment : ℕ) → Surrounds p switch policy.now ports.now → AllStand p switch sides states.now → IfOk result (IsDispatch p switch sides moment frame.now) }
 {
+    // A policy has at most 32 slices, and a frame at most 65,535 bytes.
     let (_slices, _bytes) = (policy.slices(), frame.as_slice());
     dispatch(alloc, policy, ports, states, frame)
 }

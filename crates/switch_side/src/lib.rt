@@ -10,3 +10,6 @@ mod ports;
 
 pub use answer::react;
 pub use dispatch::Dispatch;
+
+#[cfg(test)]
+mod tests;

@@ -82,43 +82,11 @@ fn put(
     packet: &PacketIn,
 ) -> Result<(), AllocError>
     requires { 18 + length packet.now.payload ≤ 65535 }
-    ensures { OnOk result (to_slices.new.items ≡ to_slices.old.items ++ addressed slot (spell_packet_in packet.now ∷ [])) }
+    ensures { OnOk result (to_slices.new.items ≡ to_slices.old.items ++ (slot, spell_packet_in packet.now) ∷ []) }
 {
     let message = packet.encode(alloc)?;
     to_slices.push((slot, message))?;
     Ok(())
-}
-
-fn put_for_writer(
-    alloc: Global,
-    to_slices: &mut Vec<(u8, Frame)>,
-    slot: u8,
-    packet: &PacketIn,
-    audience: &Audience,
-) -> Result<(), AllocError>
-    requires { 18 + length packet.now.payload ≤ 65535 }
-    ensures { OnOk result (to_slices.new.items ≡ to_slices.old.items ++ addressed slot (once (is_value slot audience.now.writer) (spell_packet_in packet.now))) }
-{
-    if !audience.has_writer(slot) {
-        return Ok(());
-    }
-    put(alloc, to_slices, slot, packet)
-}
-
-fn put_for_reader(
-    alloc: Global,
-    to_slices: &mut Vec<(u8, Frame)>,
-    slot: u8,
-    packet: &PacketIn,
-    audience: &Audience,
-) -> Result<(), AllocError>
-    requires { 18 + length packet.now.payload ≤ 65535 }
-    ensures { OnOk result (to_slices.new.items ≡ to_slices.old.items ++ addressed slot (once (bit audience.now.readers slot) (spell_packet_in packet.now))) }
-{
-    if !audience.has_reader(slot) {
-        return Ok(());
-    }
-    put(alloc, to_slices, slot, packet)
 }
 
 /// The packet for the slice at a slot, if it is up.
@@ -136,8 +104,13 @@ fn put_for_slice(
     if !state.up {
         return Ok(());
     }
-    put_for_writer(alloc, to_slices, slot, packet, audience)?;
-    put_for_reader(alloc, to_slices, slot, packet, audience)
+    if audience.has_writer(slot) {
+        put(alloc, to_slices, slot, packet)?;
+    }
+    if audience.has_reader(slot) {
+        put(alloc, to_slices, slot, packet)?;
+    }
+    Ok(())
 }
 
 fn put_for_all(
