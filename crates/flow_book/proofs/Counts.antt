@@ -140,8 +140,8 @@ found test [] h = absurd (false≢true h)
 found test (x ∷ xs) h = elim (cases_Bool (test x)) [
   | inl passes ↦ record { value = x; is = rw passes refl; passes = passes; within = or_left (same_booked x x) (list_any (same_booked x) xs) (itself x) }
   | inr fails ↦
-    let rest = found test xs (rw fails at h) in
-    record { value = rest.value; is = rw fails rest.is; passes = rest.passes; within = or_right (same_booked rest.value x) (list_any (same_booked rest.value) xs) rest.within }
+      let rest = found test xs (rw fails at h) in
+      record { value = rest.value; is = rw fails rest.is; passes = rest.passes; within = or_right (same_booked rest.value x) (list_any (same_booked rest.value) xs) rest.within }
 ]
 
 -- in a book in order a pair is found once, so lists with the same pairs find the same
@@ -149,23 +149,23 @@ pub find_same : (xs ys : List Booked) → HaveSame xs ys → IsInOrder ys → (m
 find_same xs ys same o m p = elim (cases_Bool (list_any (is_pair m p) ys)) [
   | inr none ↦ find_no (is_pair m p) xs (any_alike (is_pair m p) xs ys (same (is_pair m p)) ∙ none) ∙ sym (find_no (is_pair m p) ys none)
   | inl some ↦
-    let at = Any-from_list_any (is_pair m p) ys some in
-    let k = at.0 in
-    let x = at.1 in
-    let here : (d : Booked) → get_or ys k d ≡ x = λ d. get_or_default ys k d x at.2 ∙ at.3 in
-    let passes : PassesAt (is_pair m p) ys k = record {
-      in_range = at.2;
-      here = λ d. rw (here d) at.4;
-      elsewhere = no_other ys k m p o.ascending at.2 (λ d. Equal-pair m p (get_or ys k d) (rw (here d) at.4));
-    } in
-    let f = found (is_pair m p) xs (any_alike (is_pair m p) xs ys (same (is_pair m p)) ∙ some) in
-    let there = Any-from_list_any (same_booked f.value) ys (sym (any_alike (same_booked f.value) xs ys (same (same_booked f.value))) ∙ f.within) in
-    let moved : f.value ≡ there.1 = same_from f.value there.1 there.4 in
-    let one : there.1 ≡ x = elim (cases_Bool (there.0 == k)) [
-      | inl equal ↦ sym there.3 ∙ ap (λ n. get_or ys n there.1) (eqb-true there.0 k equal) ∙ here there.1
-      | inr other ↦ absurd (both_ways (is_pair m p there.1)
-          (rw there.3 at (no_other ys k m p o.ascending at.2 (λ d. Equal-pair m p (get_or ys k d) (rw (here d) at.4)) there.0 there.1 there.2 (eqb-false there.0 k other)))
-          (rw moved at f.passes))
-    ] in
-    f.is ∙ ap Some (moved ∙ one) ∙ sym (find_one (is_pair m p) ys k x (sym (here x)) passes)
+      let at = Any-from_list_any (is_pair m p) ys some in
+      let k = at.0 in
+      let x = at.1 in
+      let here : (d : Booked) → get_or ys k d ≡ x = λ d. get_or_default ys k d x at.2 ∙ at.3 in
+      let passes : PassesAt (is_pair m p) ys k = record {
+        in_range = at.2;
+        here = λ d. rw (here d) at.4;
+        elsewhere = no_other ys k m p o.ascending at.2 (λ d. Equal-pair m p (get_or ys k d) (rw (here d) at.4));
+      } in
+      let f = found (is_pair m p) xs (any_alike (is_pair m p) xs ys (same (is_pair m p)) ∙ some) in
+      let there = Any-from_list_any (same_booked f.value) ys (sym (any_alike (same_booked f.value) xs ys (same (same_booked f.value))) ∙ f.within) in
+      let moved : f.value ≡ there.1 = same_from f.value there.1 there.4 in
+      let one : there.1 ≡ x = elim (cases_Bool (there.0 == k)) [
+        | inl equal ↦ sym there.3 ∙ ap (λ n. get_or ys n there.1) (eqb-true there.0 k equal) ∙ here there.1
+        | inr other ↦ absurd (both_ways (is_pair m p there.1)
+            (rw there.3 at (no_other ys k m p o.ascending at.2 (λ d. Equal-pair m p (get_or ys k d) (rw (here d) at.4)) there.0 there.1 there.2 (eqb-false there.0 k other)))
+            (rw moved at f.passes))
+      ] in
+      f.is ∙ ap Some (moved ∙ one) ∙ sym (find_one (is_pair m p) ys k x (sym (here x)) passes)
 ]

@@ -13,7 +13,6 @@ use Rattle.flow_book.specs.declared.booked.Booked.{Booked}
 use Rattle.flow_book.specs.Books.{BookCall, Added, Removed, Failed, is_match, is_pair, is_booked, includes_booked, is_newcomer, first_booked, booked_again, is_first, without, book, booking}
 use Rattle.flow_book.specs.Pairs.{BooksPiece, Books, Releases, NoneOf, IsLastBooked, IsFirstBooked}
 use Rattle.flow_book.proofs.SamePairs.{HasPair, pair_parts, pair_from, same_match, match_itself}
-
 use Rattle.flow_book.proofs.Standing.{again_pair, booked_again-booked, newcomer-unbooked, booked-included}
 
 -- ---- which pieces a flow-mod books
@@ -119,26 +118,26 @@ module _ (m : Pattern) (p : ℕ) where
   found_fresh command [] q asked number xs b e = cc
   found_fresh command (z ∷ zs) q asked number xs b e = elim (cases_Bool (is_newcomer command q xs z)) [
     | inr stays ↦
-      let f = found_fresh command zs q asked number xs b (rw stays at e) in
-      record { at_priority = f.at_priority; among = contains_later z zs m f.among; comes = f.comes; so_asked = f.so_asked; so_numbered = f.so_numbered }
-    | inl comes ↦
-      let e' : find (is_pair m p) (first_booked q asked number z ∷ map (first_booked q asked number) (filter (is_newcomer command q xs) zs)) ≡ Some b = rw comes at e in
-      elim (cases_Bool (is_pair m p (first_booked q asked number z))) [
-      | inl same ↦
-        let h = pair_parts m p (first_booked q asked number z) same in
-        let it : Some (first_booked q asked number z) ≡ Some b = rw same at e' in
-        let is : first_booked q asked number z ≡ b = cc in
-        record {
-          at_priority = h.at_priority;
-          among = (zero, omega arith, h.of_match);
-          comes = subst (λ y. is_newcomer command q xs y ≡ true) h.of_match comes;
-          so_asked = sym (ap (λ y. y.asked) is);
-          so_numbered = sym (ap (λ y. y.number) is);
-        }
-      | inr other ↦
-        let f = found_fresh command zs q asked number xs b (rw other at e') in
+        let f = found_fresh command zs q asked number xs b (rw stays at e) in
         record { at_priority = f.at_priority; among = contains_later z zs m f.among; comes = f.comes; so_asked = f.so_asked; so_numbered = f.so_numbered }
-      ]
+    | inl comes ↦
+        let e' : find (is_pair m p) (first_booked q asked number z ∷ map (first_booked q asked number) (filter (is_newcomer command q xs) zs)) ≡ Some b = rw comes at e in
+        elim (cases_Bool (is_pair m p (first_booked q asked number z))) [
+          | inl same ↦
+              let h = pair_parts m p (first_booked q asked number z) same in
+              let it : Some (first_booked q asked number z) ≡ Some b = rw same at e' in
+              let is : first_booked q asked number z ≡ b = cc in
+              record {
+                at_priority = h.at_priority;
+                among = (zero, omega arith, h.of_match);
+                comes = subst (λ y. is_newcomer command q xs y ≡ true) h.of_match comes;
+                so_asked = sym (ap (λ y. y.asked) is);
+                so_numbered = sym (ap (λ y. y.number) is);
+              }
+          | inr other ↦
+              let f = found_fresh command zs q asked number xs b (rw other at e') in
+              record { at_priority = f.at_priority; among = contains_later z zs m f.among; comes = f.comes; so_asked = f.so_asked; so_numbered = f.so_numbered }
+        ]
   ]
 
   fresh_booked : (command : ℕ) (ms : List Pattern) (asked : Bool) (number : ℕ) (xs : List Booked) → is_newcomer command p xs m ≡ true → (k : ℕ) → k < length ms → slice_index_or ms k m ≡ m
@@ -150,8 +149,8 @@ module _ (m : Pattern) (p : ℕ) where
   fresh_booked command (z ∷ zs) asked number xs comes (suc k) lt at =
       let rest = fresh_booked command zs asked number xs comes k (omega arith) at in
       elim (cases_Bool (is_newcomer command p xs z)) [
-      | inl too ↦ rw too (or_right (is_pair m p (first_booked p asked number z)) (list_any (is_pair m p) (map (first_booked p asked number) (filter (is_newcomer command p xs) zs))) rest)
-      | inr stays ↦ rw stays rest
+        | inl too ↦ rw too (or_right (is_pair m p (first_booked p asked number z)) (list_any (is_pair m p) (map (first_booked p asked number) (filter (is_newcomer command p xs) zs))) rest)
+        | inr stays ↦ rw stays rest
       ]
 
   -- ---- other pairs
@@ -161,14 +160,14 @@ module _ (m : Pattern) (p : ℕ) where
     | inr apart ↦ inr (λ b same. elim (cases_Bool (is_pair o q b)) [
       | inr other ↦ other
       | inl both ↦ absurd (both_ways (is_match o m) apart (subst (λ y. is_match o y ≡ true) ((pair_parts m p b same).of_match) (subst (λ y. is_match y b.pattern ≡ true) ((pair_parts o q b both).of_match) (match_itself b.pattern))))
-      ])
+    ])
     | inl alike ↦ elim (cases_Bool (q == p)) [
       | inl level ↦ inl (same_match o m alike, eqb-true q p level)
       | inr apart ↦ inr (λ b same. elim (cases_Bool (is_pair o q b)) [
         | inr other ↦ other
         | inl both ↦ absurd (both_ways (q == p) apart (eq-eqb q p (sym (pair_parts o q b both).at_priority ∙ (pair_parts m p b same).at_priority)))
-        ])
-      ]
+      ])
+    ]
   ]
 
   find_without_itself : (xs : List Booked) (b : Booked) → find (is_pair m p) (without m p xs) ≡ Some b → ⊥
@@ -249,31 +248,31 @@ module _ (m : Pattern) (p : ℕ) where
       let within = any_found (is_pair m p) (book earlier) c at in
       let h = pair_parts m p c passes in
       elim (cases_Bool (command == 0 && list_any (λ piece. is_pair piece q c) ms)) [
-      | inl both ↦
-        let parts = and_parts (command == 0) (list_any (λ piece. is_pair piece q c) ms) both in
-        let any = Any-from_list_any (λ piece. is_pair piece q c) ms parts.1 in
-        let k = pair_parts any.1 q c any.4 in
-        let is_m : any.1 ≡ m = sym k.of_match ∙ h.of_match in
-        let among : Contains ms m = (any.0, any.2, get_or_default ms any.0 m any.1 any.2 ∙ any.3 ∙ is_m) in
-        rw both (
-          last_here command ms q asked asked number earlier (sym k.at_priority ∙ h.at_priority) refl among (inl (eqb-true command 0 parts.0)),
-          first_before (Added command ms q asked number) earlier c.number (λ r. r) said.1,
-        )
-      | inr neither ↦
-        let not_books : Books m p (Added command ms q asked number) earlier → ⊥ = λ b. elim b.2 [
-            | inl add ↦
-              both_ways (command == 0 && list_any (λ piece. is_pair piece q c) ms) neither
-              (and_from (command == 0) (list_any (λ piece. is_pair piece q c) ms) (eq-eqb command 0 add)
-              (list_any_at (λ piece. is_pair piece q c) ms b.1.0 m b.1.1 (rw b.1.2 (pair_from m q c (h.at_priority ∙ sym b.0) h.of_match))))
-            | inr other ↦ elim other [
-              | inl modify ↦ both_ways (includes_booked m (book earlier)) modify.1 (booked-included m p (book earlier) n within)
-              | inr strict ↦ both_ways (is_booked m p (book earlier)) strict.1 within
+        | inl both ↦
+            let parts = and_parts (command == 0) (list_any (λ piece. is_pair piece q c) ms) both in
+            let any = Any-from_list_any (λ piece. is_pair piece q c) ms parts.1 in
+            let k = pair_parts any.1 q c any.4 in
+            let is_m : any.1 ≡ m = sym k.of_match ∙ h.of_match in
+            let among : Contains ms m = (any.0, any.2, get_or_default ms any.0 m any.1 any.2 ∙ any.3 ∙ is_m) in
+            rw both (
+              last_here command ms q asked asked number earlier (sym k.at_priority ∙ h.at_priority) refl among (inl (eqb-true command 0 parts.0)),
+              first_before (Added command ms q asked number) earlier c.number (λ r. r) said.1,
+            )
+        | inr neither ↦
+            let not_books : Books m p (Added command ms q asked number) earlier → ⊥ = λ b. elim b.2 [
+              | inl add ↦
+                  both_ways (command == 0 && list_any (λ piece. is_pair piece q c) ms) neither
+                  (and_from (command == 0) (list_any (λ piece. is_pair piece q c) ms) (eq-eqb command 0 add)
+                  (list_any_at (λ piece. is_pair piece q c) ms b.1.0 m b.1.1 (rw b.1.2 (pair_from m q c (h.at_priority ∙ sym b.0) h.of_match))))
+              | inr other ↦ elim other [
+                | inl modify ↦ both_ways (includes_booked m (book earlier)) modify.1 (booked-included m p (book earlier) n within)
+                | inr strict ↦ both_ways (is_booked m p (book earlier)) strict.1 within
               ]
             ] in
-        rw neither (
-          last_before (Added command ms q asked number) earlier c.asked not_books (λ r. r) said.0,
-          first_before (Added command ms q asked number) earlier c.number (λ r. r) said.1,
-        )
+            rw neither (
+              last_before (Added command ms q asked number) earlier c.asked not_books (λ r. r) said.0,
+              first_before (Added command ms q asked number) earlier c.number (λ r. r) said.1,
+            )
       ]
 
   added_said : IsNormal m → (command : ℕ) (ms : List Pattern) (q : ℕ) (asked : Bool) (number : ℕ) (earlier : List BookCall) → ((c : Booked) → booking m p earlier ≡ Some c → Said earlier c)
@@ -284,17 +283,16 @@ module _ (m : Pattern) (p : ℕ) where
       let fresh = map (first_booked q asked number) (filter (is_newcomer command q xs) ms) in
       let old = map (booked_again command ms q asked) xs in
       elim (split_found (find (is_pair m p) fresh) (find (is_pair m p) old) b (sym (find-append (is_pair m p) fresh old) ∙ e)) [
-      | inl here ↦
-        let f = found_fresh command ms q asked number xs b here in
-        let comes : is_newcomer command p xs m ≡ true = subst (λ r. is_newcomer command r xs m ≡ true) f.at_priority f.comes in
-        let piece = newcomer_books command p m earlier comes in
-        (
-          last_here command ms q asked b.asked number earlier f.at_priority (sym f.so_asked) f.among piece,
-          first_here command ms q asked number b.number earlier f.at_priority (sym f.so_numbered) f.among piece (newcomer-unbooked command p xs m n comes),
-        )
-      | inr there ↦
-        let o = mapped (booked_again command ms q asked) (find (is_pair m p) xs) b (sym (find_map (is_pair m p) (booked_again command ms q asked) (again_pair command ms q asked m p) xs) ∙ there.1) in
-        subst (Said (Added command ms q asked number ∷ earlier)) o.gives (old_said n command ms q asked number earlier o.source o.at_source (said o.source o.at_source))
+        | inl here ↦
+            let f = found_fresh command ms q asked number xs b here in
+            let comes : is_newcomer command p xs m ≡ true = subst (λ r. is_newcomer command r xs m ≡ true) f.at_priority f.comes in
+            let piece = newcomer_books command p m earlier comes in (
+              last_here command ms q asked b.asked number earlier f.at_priority (sym f.so_asked) f.among piece,
+              first_here command ms q asked number b.number earlier f.at_priority (sym f.so_numbered) f.among piece (newcomer-unbooked command p xs m n comes),
+            )
+        | inr there ↦
+            let o = mapped (booked_again command ms q asked) (find (is_pair m p) xs) b (sym (find_map (is_pair m p) (booked_again command ms q asked) (again_pair command ms q asked m p) xs) ∙ there.1) in
+            subst (Said (Added command ms q asked number ∷ earlier)) o.gives (old_said n command ms q asked number earlier o.source o.at_source (said o.source o.at_source))
       ]
 
   removed_said : (call : BookCall) (o : Pattern) (q : ℕ) (earlier : List BookCall) → (Books m p call earlier → ⊥) → (Releases m p call earlier → (o ≡ m) × (q ≡ p)) → ((c : Booked) → booking m p earlier ≡ Some c → Said earlier c)
@@ -302,10 +300,10 @@ module _ (m : Pattern) (p : ℕ) where
   removed_said call o q earlier nb released said b e = elim (same_or_other o q) [
     | inl same ↦ absurd (find_without_itself (book earlier) b (subst (λ r. find (is_pair m p) (without m r (book earlier)) ≡ Some b) same.1 (subst (λ y. find (is_pair m p) (without y q (book earlier)) ≡ Some b) same.0 e)))
     | inr other ↦
-      let at : booking m p earlier ≡ Some b = sym (find_without_other o q (book earlier) other) ∙ e in
-      let h = pair_parts m p b (find_passes (is_pair m p) (book earlier) b at) in
-      let nr : Releases m p call earlier → ⊥ = λ r. (let s = released r in both_ways (is_pair o q b) (other b (find_passes (is_pair m p) (book earlier) b at)) (pair_from o q b (h.at_priority ∙ sym s.1) (h.of_match ∙ sym s.0))) in
-      (last_before call earlier b.asked nb nr (said b at).0, first_before call earlier b.number nr (said b at).1)
+        let at : booking m p earlier ≡ Some b = sym (find_without_other o q (book earlier) other) ∙ e in
+        let h = pair_parts m p b (find_passes (is_pair m p) (book earlier) b at) in
+        let nr : Releases m p call earlier → ⊥ = λ r. (let s = released r in both_ways (is_pair o q b) (other b (find_passes (is_pair m p) (book earlier) b at)) (pair_from o q b (h.at_priority ∙ sym s.1) (h.of_match ∙ sym s.0))) in
+        (last_before call earlier b.asked nb nr (said b at).0, first_before call earlier b.number nr (said b at).1)
   ]
 
   first_released : (number : ℕ) (o : Pattern) (q : ℕ) (earlier : List BookCall) → Releases m p (Failed number o q) earlier → is_first number (find (is_pair o q) (book earlier)) ≡ true
@@ -320,9 +318,9 @@ module _ (m : Pattern) (p : ℕ) where
   history n (Failed number o q ∷ earlier) b e = elim (cases_Bool (is_first number (find (is_pair o q) (book earlier)))) [
     | inl first ↦ removed_said (Failed number o q) o q earlier (λ k. k) (λ r. (r.0, r.1)) (history n earlier) b (rw first at e)
     | inr not_first ↦
-      let at : booking m p earlier ≡ Some b = rw not_first at e in
-      let nr : Releases m p (Failed number o q) earlier → ⊥ = λ r. both_ways (is_first number (find (is_pair o q) (book earlier))) not_first (first_released number o q earlier r) in
-      (last_before (Failed number o q) earlier b.asked (λ k. k) nr (history n earlier b at).0, first_before (Failed number o q) earlier b.number nr (history n earlier b at).1)
+        let at : booking m p earlier ≡ Some b = rw not_first at e in
+        let nr : Releases m p (Failed number o q) earlier → ⊥ = λ r. both_ways (is_first number (find (is_pair o q) (book earlier))) not_first (first_released number o q earlier r) in
+        (last_before (Failed number o q) earlier b.asked (λ k. k) nr (history n earlier b at).0, first_before (Failed number o q) earlier b.number nr (history n earlier b at).1)
   ]
 
   -- ---- the other way round
@@ -334,8 +332,8 @@ module _ (m : Pattern) (p : ℕ) where
       let fresh = map (first_booked p asked number) (filter (is_newcomer command p xs) ms) in
       let old = map (booked_again command ms p asked) xs in
       list_any-append (is_pair m p) fresh old ∙ elim (books_newcomer command p m earlier b.2) [
-      | inl comes ↦ or_left (list_any (is_pair m p) fresh) (list_any (is_pair m p) old) (fresh_booked command ms asked number xs comes b.1.0 b.1.1 b.1.2)
-      | inr within ↦ or_right (list_any (is_pair m p) fresh) (list_any (is_pair m p) old) (booked_again-booked command ms p asked m p xs ∙ within)
+        | inl comes ↦ or_left (list_any (is_pair m p) fresh) (list_any (is_pair m p) old) (fresh_booked command ms asked number xs comes b.1.0 b.1.1 b.1.2)
+        | inr within ↦ or_right (list_any (is_pair m p) fresh) (list_any (is_pair m p) old) (booked_again-booked command ms p asked m p xs ∙ within)
       ]
 
   not_removed : (o : Pattern) (q : ℕ) (xs : List Booked) → ((o ≡ m) × (q ≡ p) → ⊥) → is_booked m p xs ≡ true → is_booked m p (without o q xs) ≡ true
@@ -356,8 +354,8 @@ module _ (m : Pattern) (p : ℕ) where
     | inr not_first ↦ rw not_first within
     | inl first ↦ rw first (not_removed o q (book earlier)
         (λ same.
-            let f = is_first_found number (find (is_pair o q) (book earlier)) first in
-            nr (same.0, same.1, (f.0, subst (λ r. find (is_pair m r) (book earlier) ≡ Some f.0) same.1 (subst (λ y. find (is_pair y q) (book earlier) ≡ Some f.0) same.0 f.1), f.2)))
+        let f = is_first_found number (find (is_pair o q) (book earlier)) first in
+        nr (same.0, same.1, (f.0, subst (λ r. find (is_pair m r) (book earlier) ≡ Some f.0) same.1 (subst (λ y. find (is_pair y q) (book earlier) ≡ Some f.0) same.0 f.1), f.2)))
         within)
   ]
 

@@ -57,17 +57,17 @@ pub no_other : (xs : List Booked) (i : ℕ) (m : Pattern) (p : ℕ) → IsStrict
 no_other xs i m p up lt here k d within apart = elim (cases_Bool (is_pair m p (get_or xs k d))) [
   | inr other ↦ other
   | inl same ↦
-    let equal : stands_to (get_or xs k d) m p ≡ Equal = Equal-pair m p (get_or xs k d) same in
-    elim (cases_lt k i) [
-    | inl below ↦
-      let less : order (get_or xs k d) (get_or xs i d) ≡ Less = Less-from_sorted order xs k i d up below lt in
-      let tied : order (get_or xs k d) (get_or xs i d) ≡ stands_to (get_or xs k d) m p = alike_right key_cmp_total (key_of (get_or xs i d)) (p, Spell m) (key_of (get_or xs k d)) (here d) in
-      absurd (Less≢Equal (sym less ∙ tied ∙ equal))
-    | inr above ↦
-      let less : order (get_or xs i d) (get_or xs k d) ≡ Less = Less-from_sorted order xs i k d up (omega (arith, apart)) within in
-      let tied : order (get_or xs i d) (get_or xs k d) ≡ stands_to (get_or xs i d) m p = alike_right key_cmp_total (key_of (get_or xs k d)) (p, Spell m) (key_of (get_or xs i d)) equal in
-      absurd (Less≢Equal (sym less ∙ tied ∙ here d))
-    ]
+      let equal : stands_to (get_or xs k d) m p ≡ Equal = Equal-pair m p (get_or xs k d) same in
+      elim (cases_lt k i) [
+        | inl below ↦
+            let less : order (get_or xs k d) (get_or xs i d) ≡ Less = Less-from_sorted order xs k i d up below lt in
+            let tied : order (get_or xs k d) (get_or xs i d) ≡ stands_to (get_or xs k d) m p = alike_right key_cmp_total (key_of (get_or xs i d)) (p, Spell m) (key_of (get_or xs k d)) (here d) in
+            absurd (Less≢Equal (sym less ∙ tied ∙ equal))
+        | inr above ↦
+            let less : order (get_or xs i d) (get_or xs k d) ≡ Less = Less-from_sorted order xs i k d up (omega (arith, apart)) within in
+            let tied : order (get_or xs i d) (get_or xs k d) ≡ stands_to (get_or xs i d) m p = alike_right key_cmp_total (key_of (get_or xs k d)) (p, Spell m) (key_of (get_or xs i d)) equal in
+            absurd (Less≢Equal (sym less ∙ tied ∙ here d))
+      ]
 ]
 
 -- a test that passes at one place of a list alone

@@ -27,9 +27,9 @@ no_higher a b Greater then is e = cc
 pub priorities_rise : (xs : List Booked) → IsStrictlySortedBy order xs → IsNonDecreasingBy (λ b. b.priority) xs
 priorities_rise xs up i j d le lt = elim (cases_lt i j) [
   | inl below ↦
-    let a = get_or xs i d in
-    let b = get_or xs j d in
-    no_higher a.priority b.priority (nat_cmp a.priority b.priority) (slice_cmp nat_cmp (Spell a.pattern) (Spell b.pattern)) refl (Less-from_sorted order xs i j d up below lt)
+      let a = get_or xs i d in
+      let b = get_or xs j d in
+      no_higher a.priority b.priority (nat_cmp a.priority b.priority) (slice_cmp nat_cmp (Spell a.pattern) (Spell b.pattern)) refl (Less-from_sorted order xs i j d up below lt)
   | inr not_below ↦ (let same : i ≡ j = omega arith in let e = ap (λ k. (get_or xs k d).priority) same in omega (arith, e))
 ]
 
@@ -57,12 +57,12 @@ part_of_priority xs p from count within lower fits upper =
     filter_skip (λ b. b.priority == p) xs from within (λ k d lt. ne_eqb (get_or xs k d).priority p (λ e. omega (arith, ltb-true (get_or xs k d).priority p (lower.0 k d (omega arith) lt), e)))
     ∙ filter_front (λ b. b.priority == p) (drop from xs) count fits
     (λ k d lt.
-        let y = get_or (drop from xs) k d in
-        let high : ltb y.priority p ≡ false = rw (get_or-drop from xs k d) (lower.1 (from + k) d (omega arith) (omega (arith, length-drop from xs))) in
-        eq-eqb y.priority p (omega (arith, ltb-false y.priority p high, leb-true y.priority p (upper.0 k d (omega arith) lt))))
+    let y = get_or (drop from xs) k d in
+    let high : ltb y.priority p ≡ false = rw (get_or-drop from xs k d) (lower.1 (from + k) d (omega arith) (omega (arith, length-drop from xs))) in
+    eq-eqb y.priority p (omega (arith, ltb-false y.priority p high, leb-true y.priority p (upper.0 k d (omega arith) lt))))
     (λ k d le lt.
-        let y = get_or (drop from xs) k d in
-        ne_eqb y.priority p (λ e. omega (arith, leb-false y.priority p (upper.1 k d le lt), e)))
+    let y = get_or (drop from xs) k d in
+    ne_eqb y.priority p (λ e. omega (arith, leb-false y.priority p (upper.1 k d le lt), e)))
     )
 
 -- ---- overlaps

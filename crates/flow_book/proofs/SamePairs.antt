@@ -55,8 +55,8 @@ pub same_match : (a b : Pattern) → is_match a b ≡ true → a ≡ b
 unfolding is_match
 same_match a b e =
     let t = each_true (is_constraint a.in_port b.in_port) (is_constraint a.dl_src b.dl_src) (is_constraint a.dl_dst b.dl_dst) (is_constraint a.dl_vlan b.dl_vlan)
-        (is_constraint a.dl_vlan_pcp b.dl_vlan_pcp) (is_constraint a.dl_type b.dl_type) (is_constraint a.nw_tos b.nw_tos) (is_constraint a.nw_proto b.nw_proto)
-        (is_prefix a.nw_src b.nw_src) (is_prefix a.nw_dst b.nw_dst) (is_constraint a.tp_src b.tp_src) (is_constraint a.tp_dst b.tp_dst) e in
+    (is_constraint a.dl_vlan_pcp b.dl_vlan_pcp) (is_constraint a.dl_type b.dl_type) (is_constraint a.nw_tos b.nw_tos) (is_constraint a.nw_proto b.nw_proto)
+    (is_prefix a.nw_src b.nw_src) (is_prefix a.nw_dst b.nw_dst) (is_constraint a.tp_src b.tp_src) (is_constraint a.tp_dst b.tp_dst) e in
     same_fields a b (record {
       in_port = same_constraint a.in_port b.in_port t.is_in_port;
       dl_src = same_constraint a.dl_src b.dl_src t.is_dl_src;

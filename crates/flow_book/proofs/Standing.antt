@@ -33,8 +33,8 @@ unfolding book
 stands-failed calls xs after number m p same o e =
     let first = ap (is_first number) (find_same (book calls) xs same o m p) in
     elim (cases_Bool (is_first number (find (is_pair m p) xs))) [
-    | inl is ↦ record { same = rw (first, e, is) (without_same (book calls) xs m p same) }
-    | inr isnt ↦ record { same = rw (first, e, isnt) same }
+      | inl is ↦ record { same = rw (first, e, is) (without_same (book calls) xs m p same) }
+      | inr isnt ↦ record { same = rw (first, e, isnt) same }
     ]
 
 pub stands-added : (command : ℕ) (ms : List Pattern) (p : ℕ) (asked : Bool) (number : ℕ) (calls : List BookCall) (xs : List Booked) (after : Book) → HaveSame (book calls) xs
@@ -45,9 +45,9 @@ stands-added command ms p asked number calls xs after same h = record {
       let earlier = book calls in
       let again = booked_again command ms p asked in
       let fresh : fresh_of command ms p asked number earlier ≡ fresh_of command ms p asked number xs =
-          ap (map (first_booked p asked number)) (filter_agree (is_newcomer command p earlier) (is_newcomer command p xs) (newcomer_same earlier xs same command p) ms) in
+      ap (map (first_booked p asked number)) (filter_agree (is_newcomer command p earlier) (is_newcomer command p xs) (newcomer_same earlier xs same command p) ms) in
       let rest : passing test (map again earlier) ≡ passing test (map again xs) =
-          passing-map test again earlier ∙ same (λ b. test (again b)) ∙ sym (passing-map test again xs) in
+      passing-map test again earlier ∙ same (λ b. test (again b)) ∙ sym (passing-map test again xs) in
       passing-append test (fresh_of command ms p asked number earlier) (map again earlier)
       ∙ ap (λ n. passing test (fresh_of command ms p asked number earlier) + n) rest
       ∙ ap (λ l. passing test l + passing test (map again xs)) fresh
@@ -117,7 +117,7 @@ fresh_new command ms p asked number xs distinct normal =
       apart = λ i j d lt within.
           let within' : j < length zs = rw (length-map zs (first_booked p asked number)) at within in
           let other : is_match (get_or zs j d.pattern) (get_or zs i d.pattern) ≡ false =
-              other_match (get_or zs j d.pattern) (get_or zs i d.pattern) (λ e. apart i j d.pattern lt within' (sym e)) in
+          other_match (get_or zs j d.pattern) (get_or zs i d.pattern) (λ e. apart i j d.pattern lt within' (sym e)) in
           rw (get_or-map (first_booked p asked number) zs i d.pattern d (omega arith), get_or-map (first_booked p asked number) zs j d.pattern d within', other) (both_false (p == p));
       absent = unbooked_each command ms p asked number xs zs (filter_passes (is_newcomer command p xs) ms) normal;
     }

@@ -55,7 +55,7 @@ module _ (command : ℕ) (ms : List Pattern) (i : ℕ) (m : Pattern) (p : ℕ) (
   fresh_more is =
       let passes : is_newcomer command p xs (get_or ms i m) ≡ true = subst (λ q. is_newcomer command p xs q ≡ true) at is in
       let more : filter (is_newcomer command p xs) (take (i + 1) ms) ≡ filter (is_newcomer command p xs) (take i ms) ++ get_or ms i m ∷ [] =
-          filter_more (is_newcomer command p xs) ms i m lt ∙ ap (λ b. filter (is_newcomer command p xs) (take i ms) ++ (if b then get_or ms i m ∷ [] else [])) passes in
+      filter_more (is_newcomer command p xs) ms i m lt ∙ ap (λ b. filter (is_newcomer command p xs) (take i ms) ++ (if b then get_or ms i m ∷ [] else [])) passes in
       ap (map (first_booked p asked number)) more ∙ map-append (first_booked p asked number) (filter (is_newcomer command p xs) (take i ms)) (get_or ms i m ∷ [])
       ∙ ap (λ q. fresh_of command (take i ms) p asked number xs ++ first_booked p asked number q ∷ []) (sym at)
 
@@ -63,7 +63,7 @@ module _ (command : ℕ) (ms : List Pattern) (i : ℕ) (m : Pattern) (p : ℕ) (
   fresh_same isnt =
       let fails : is_newcomer command p xs (get_or ms i m) ≡ false = subst (λ q. is_newcomer command p xs q ≡ false) at isnt in
       let more : filter (is_newcomer command p xs) (take (i + 1) ms) ≡ filter (is_newcomer command p xs) (take i ms) ++ [] =
-          filter_more (is_newcomer command p xs) ms i m lt ∙ ap (λ b. filter (is_newcomer command p xs) (take i ms) ++ (if b then get_or ms i m ∷ [] else [])) fails in
+      filter_more (is_newcomer command p xs) ms i m lt ∙ ap (λ b. filter (is_newcomer command p xs) (take i ms) ++ (if b then get_or ms i m ∷ [] else [])) fails in
       ap (map (first_booked p asked number)) more ∙ map-append (first_booked p asked number) (filter (is_newcomer command p xs) (take i ms)) [] ∙ append-nil (fresh_of command (take i ms) p asked number xs)
 
   pub count_more : is_newcomer command p xs m ≡ true → newcomers_in command (take (i + 1) ms) p xs ≡ newcomers_in command (take i ms) p xs + 1

@@ -100,14 +100,7 @@ impl FlowBook {
 
     /// A flow-mod with this command and priority was sent on in these pieces by the request of the number,
     /// and asks or not to be told of removals.
-    pub fn added(
-        &mut self,
-        command: u16,
-        pieces: &[Match],
-        priority: u16,
-        asked: bool,
-        number: u64,
-    )
+    pub fn added(&mut self, command: u16, pieces: &[Match], priority: u16, asked: bool, number: u64)
         requires distinct { AllPairs (λ a b. a ≢ b) pieces.now }
         requires few { length pieces.now < 2 ^ 32 }
         requires room { newcomers_in command pieces.now priority self.old.booked ≤ self.old.room }

@@ -39,12 +39,7 @@ pub(crate) fn is_newcomer(entries: &[Entry], command: u16, piece: &Match, priori
     }
 }
 
-pub(crate) fn newcomers(
-    entries: &[Entry],
-    command: u16,
-    pieces: &[Match],
-    priority: u16,
-) -> usize
+pub(crate) fn newcomers(entries: &[Entry], command: u16, pieces: &[Match], priority: u16) -> usize
     requires { IsInOrder entries.now }
     ensures value { result ≡ newcomers_in command pieces.now priority entries.now }
     ensures within { result ≤ length pieces.now }

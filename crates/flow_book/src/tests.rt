@@ -151,8 +151,7 @@ fn plain_remove(list: &mut Vec<Booked>, pattern: &Match, priority: u16) {
 }
 
 fn plain_overlaps(list: &[Booked], piece: &Match, priority: u16) -> bool {
-    list.iter()
-        .any(|booked| booked.priority == priority && !disjoint(&booked.pattern, piece))
+    list.iter().any(|booked| booked.priority == priority && !disjoint(&booked.pattern, piece))
 }
 
 // Whether both answer the same about the pair.
@@ -192,17 +191,30 @@ fn answers_as_a_plain_list(rt: HostRuntime) -> Result<(), Fail> {
             _ => {
                 if one == other {
                     add(&mut book, command, &[one], priority, asked, step)?;
-                    plain_add(rt.alloc(), &mut list, command, &[one], priority, asked, step)?;
+                    plain_add(
+                        rt.alloc(),
+                        &mut list,
+                        command,
+                        &[one],
+                        priority,
+                        asked,
+                        step,
+                    )?;
                 } else {
                     add(&mut book, command, &[one, other], priority, asked, step)?;
-                    plain_add(rt.alloc(), &mut list, command, &[one, other], priority, asked, step)?;
+                    plain_add(
+                        rt.alloc(),
+                        &mut list,
+                        command,
+                        &[one, other],
+                        priority,
+                        asked,
+                        step,
+                    )?;
                 }
             }
         }
-        assert!(rt;
-            agree(&book, &list, command, &other, priority),
-            "at {step}"
-        );
+        assert!(rt; agree(&book, &list, command, &other, priority), "at {step}");
     }
     Ok(())
 }

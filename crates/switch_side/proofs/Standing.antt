@@ -33,6 +33,7 @@ end_stands s sight state stands = record {
   requests = stands.requests;
   collections = stands.collections;
   bucket = stands.bucket;
+  book = stands.book;
   rate = stands.rate;
   burst = stands.burst;
 }
@@ -45,6 +46,7 @@ status_stands s sight state status stands = record {
   requests = stands.requests;
   collections = stands.collections;
   bucket = stands.bucket;
+  book = stands.book;
   rate = stands.rate;
   burst = stands.burst;
 }
@@ -57,6 +59,7 @@ share_stands s sight state packet share stands = record {
   requests = stands.requests;
   collections = stands.collections;
   bucket = stands.bucket;
+  book = stands.book;
   rate = stands.rate;
   burst = stands.burst;
 }

@@ -7,9 +7,8 @@ pub loop-piece-init : goal.loop-piece-init
 loop-piece-init c = (sym (again_none c.args.priority c.args.asked c.args.entries.now), c.requires)
 
 pub loop-piece-preserved : goal.loop-piece-preserved
-loop-piece-preserved c =
-    (
-      c.book_pair_again.ensures.items ∙ ap (map (with_asked c.piece-item.result c.args.priority c.args.asked)) c.loop-piece.invariant.0
+loop-piece-preserved c = (
+  c.book_pair_again.ensures.items ∙ ap (map (with_asked c.piece-item.result c.args.priority c.args.asked)) c.loop-piece.invariant.0
       ∙ again_more c.args.pieces.now c.loop-piece.piece-index c.piece-item.result c.args.priority c.args.asked c.args.entries.now c.loop-piece-test.true c.piece-item.is,
-      c.book_pair_again.ensures.order,
-    )
+  c.book_pair_again.ensures.order,
+)

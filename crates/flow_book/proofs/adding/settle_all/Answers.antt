@@ -3,12 +3,11 @@ use Rattle.flow_book.proofs.Steps.{Settling, settle_more}
 use Rattle.flow_book.proofs.adding.settle_all.Goals as goal
 
 pub loop-entry-preserved : goal.loop-entry-preserved
-loop-entry-preserved c =
-    (
-      settle_more c.args.fresh.now.items c.args.entries.now.items c.pop.new.self.items c.in-Some.entry c.loop-entry.entries.items c.settle.new.entries.items
+loop-entry-preserved c = (
+  settle_more c.args.fresh.now.items c.args.entries.now.items c.pop.new.self.items c.in-Some.entry c.loop-entry.entries.items c.settle.new.entries.items
       (subst (λ l. Settling c.args.fresh.now.items c.args.entries.now.items l c.loop-entry.entries.items) c.in-Some.ensures.items c.loop-entry.invariant.0)
       c.settle.ensures.added c.settle.ensures.order,
-      omega (arith, c.loop-entry.invariant.1, c.in-Some.ensures.len, c.settle.ensures.len),
-      omega (arith, c.loop-entry.invariant.2, c.settle.ensures.capacity),
-      c.in-Some.ensures.capacity ∙ c.loop-entry.invariant.3,
-    )
+  omega (arith, c.loop-entry.invariant.1, c.in-Some.ensures.len, c.settle.ensures.len),
+  omega (arith, c.loop-entry.invariant.2, c.settle.ensures.capacity),
+  c.in-Some.ensures.capacity ∙ c.loop-entry.invariant.3,
+)

@@ -8,14 +8,13 @@ use Rattle.flow_book.proofs.Standing.{stands-removed}
 use Rattle.flow_book.proofs.book.FlowBook.removed.Goals as goal
 
 pub invariant_of-self : goal.invariant_of-self
-invariant_of-self c =
-    (
-      subst IsInOrder (sym (c.remove.ensures.items ∙ remove_pair c.self.inside.entries.items c.args.pattern.now c.args.priority c.in-Ok.place c.self.invariant.0 c.place_of.ensures.normal (rw c.deref.ensures.value at c.in-Ok.ensures.found)))
+invariant_of-self c = (
+  subst IsInOrder (sym (c.remove.ensures.items ∙ remove_pair c.self.inside.entries.items c.args.pattern.now c.args.priority c.in-Ok.place c.self.invariant.0 c.place_of.ensures.normal (rw c.deref.ensures.value at c.in-Ok.ensures.found)))
       (IsInOrder-filter (λ b. not (is_pair c.args.pattern.now c.args.priority b)) c.self.inside.entries.items c.self.invariant.0),
-      omega (arith, c.self.invariant.1, c.remove.ensures.len),
-      c.self.invariant.2,
-      c.self.invariant.3,
-    )
+  omega (arith, c.self.invariant.1, c.remove.ensures.len),
+  c.self.invariant.2,
+  c.self.invariant.3,
+)
 
 pub returns-in-Ok-clause-value : goal.returns-in-Ok-clause-value
 returns-in-Ok-clause-value c =
