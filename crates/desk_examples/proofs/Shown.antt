@@ -1,0 +1,71 @@
+-- The examples, by computing what the definitions say.
+use Rattle.std.specs.Prelude.{refl}
+use Rattle.std.specs.Fmt.{digits}
+use Rattle.hex.specs.Hex.{encode_with}
+use Rattle.of10_model.specs.Pattern.{has}
+use Rattle.of10_model.specs.Spelling.{Spell}
+use Rattle.of10_ctl.specs.Streams.{frames_at, frames_of}
+use Rattle.of10_port.specs.Features.{features_front, read_features, spell_features}
+use Rattle.of10_port.specs.PortStatus.{read_port_status, spell_port_status}
+use Rattle.of10_port.specs.Ports.{ports_in}
+use Rattle.of10_flow.specs.FlowMods.{spell_flow_mod}
+use Rattle.of10_flow.specs.PacketIns.{read_packet_in, spell_packet_in}
+use Rattle.frame_header.specs.Headers.{header_of_packet}
+use Rattle.frame_header.specs.Links.{link_of, tagged_link, typed}
+use Rattle.frame_header.specs.Networks.{arp_of, ipv4_of, network_of, transport_at, transport_of}
+use Rattle.frame_header.specs.Probes.{probe_slot_of, trailer_slot}
+use Rattle.port_view.specs.KnownPorts.{changed, changed_plainly, first_known, kept_of, with_port, without_port}
+use Rattle.slice_words.specs.Answers.{local_answer, message_answer, packet_told}
+use Rattle.slice_words.specs.Messages.{form_fault}
+use Rattle.desk_words.specs.Histories.{message_items}
+use Rattle.desk_words.specs.Reports.{report_from}
+use Rattle.desk_examples.specs.Examples.{PacketReaches, PacketPasses, BadLengthCloses, FeaturesAreTold, ConfigIsKept, FlagsAreRefused, OldVersionCloses, EchoIsAnswered, VendorIsRefused, PortModIsRefused}
+use Rattle.desk_examples.specs.Ports.{StatusReachesBob, OwnPortsAreTold}
+
+pub packet_reaches_shown : PacketReaches
+unfolding digits encode_with has Spell frames_at frames_of features_front read_features spell_features read_port_status spell_port_status ports_in spell_flow_mod read_packet_in spell_packet_in header_of_packet link_of tagged_link typed arp_of ipv4_of network_of transport_at transport_of probe_slot_of trailer_slot changed changed_plainly first_known kept_of with_port without_port local_answer message_answer packet_told form_fault message_items report_from
+packet_reaches_shown = refl
+
+pub packet_passes_shown : PacketPasses
+unfolding digits encode_with has Spell frames_at frames_of features_front read_features spell_features read_port_status spell_port_status ports_in spell_flow_mod read_packet_in spell_packet_in header_of_packet link_of tagged_link typed arp_of ipv4_of network_of transport_at transport_of probe_slot_of trailer_slot changed changed_plainly first_known kept_of with_port without_port local_answer message_answer packet_told form_fault message_items report_from
+packet_passes_shown = refl
+
+pub bad_length_closes_shown : BadLengthCloses
+unfolding digits encode_with has Spell frames_at frames_of features_front read_features spell_features read_port_status spell_port_status ports_in spell_flow_mod read_packet_in spell_packet_in header_of_packet link_of tagged_link typed arp_of ipv4_of network_of transport_at transport_of probe_slot_of trailer_slot changed changed_plainly first_known kept_of with_port without_port local_answer message_answer packet_told form_fault message_items report_from
+bad_length_closes_shown = refl
+
+pub features_are_told_shown : FeaturesAreTold
+unfolding digits encode_with has Spell frames_at frames_of features_front read_features spell_features read_port_status spell_port_status ports_in spell_flow_mod read_packet_in spell_packet_in header_of_packet link_of tagged_link typed arp_of ipv4_of network_of transport_at transport_of probe_slot_of trailer_slot changed changed_plainly first_known kept_of with_port without_port local_answer message_answer packet_told form_fault message_items report_from
+features_are_told_shown = refl
+
+pub config_is_kept_shown : ConfigIsKept
+unfolding digits encode_with has Spell frames_at frames_of features_front read_features spell_features read_port_status spell_port_status ports_in spell_flow_mod read_packet_in spell_packet_in header_of_packet link_of tagged_link typed arp_of ipv4_of network_of transport_at transport_of probe_slot_of trailer_slot changed changed_plainly first_known kept_of with_port without_port local_answer message_answer packet_told form_fault message_items report_from
+config_is_kept_shown = refl
+
+pub flags_are_refused_shown : FlagsAreRefused
+unfolding digits encode_with has Spell frames_at frames_of features_front read_features spell_features read_port_status spell_port_status ports_in spell_flow_mod read_packet_in spell_packet_in header_of_packet link_of tagged_link typed arp_of ipv4_of network_of transport_at transport_of probe_slot_of trailer_slot changed changed_plainly first_known kept_of with_port without_port local_answer message_answer packet_told form_fault message_items report_from
+flags_are_refused_shown = refl
+
+pub old_version_closes_shown : OldVersionCloses
+unfolding digits encode_with has Spell frames_at frames_of features_front read_features spell_features read_port_status spell_port_status ports_in spell_flow_mod read_packet_in spell_packet_in header_of_packet link_of tagged_link typed arp_of ipv4_of network_of transport_at transport_of probe_slot_of trailer_slot changed changed_plainly first_known kept_of with_port without_port local_answer message_answer packet_told form_fault message_items report_from
+old_version_closes_shown = refl
+
+pub echo_is_answered_shown : EchoIsAnswered
+unfolding digits encode_with has Spell frames_at frames_of features_front read_features spell_features read_port_status spell_port_status ports_in spell_flow_mod read_packet_in spell_packet_in header_of_packet link_of tagged_link typed arp_of ipv4_of network_of transport_at transport_of probe_slot_of trailer_slot changed changed_plainly first_known kept_of with_port without_port local_answer message_answer packet_told form_fault message_items report_from
+echo_is_answered_shown = refl
+
+pub vendor_is_refused_shown : VendorIsRefused
+unfolding digits encode_with has Spell frames_at frames_of features_front read_features spell_features read_port_status spell_port_status ports_in spell_flow_mod read_packet_in spell_packet_in header_of_packet link_of tagged_link typed arp_of ipv4_of network_of transport_at transport_of probe_slot_of trailer_slot changed changed_plainly first_known kept_of with_port without_port local_answer message_answer packet_told form_fault message_items report_from
+vendor_is_refused_shown = refl
+
+pub port_mod_is_refused_shown : PortModIsRefused
+unfolding digits encode_with has Spell frames_at frames_of features_front read_features spell_features read_port_status spell_port_status ports_in spell_flow_mod read_packet_in spell_packet_in header_of_packet link_of tagged_link typed arp_of ipv4_of network_of transport_at transport_of probe_slot_of trailer_slot changed changed_plainly first_known kept_of with_port without_port local_answer message_answer packet_told form_fault message_items report_from
+port_mod_is_refused_shown = refl
+
+pub status_reaches_bob_shown : StatusReachesBob
+unfolding digits encode_with has Spell frames_at frames_of features_front read_features spell_features read_port_status spell_port_status ports_in spell_flow_mod read_packet_in spell_packet_in header_of_packet link_of tagged_link typed arp_of ipv4_of network_of transport_at transport_of probe_slot_of trailer_slot changed changed_plainly first_known kept_of with_port without_port local_answer message_answer packet_told form_fault message_items report_from
+status_reaches_bob_shown = refl
+
+pub own_ports_are_told_shown : OwnPortsAreTold
+unfolding digits encode_with has Spell frames_at frames_of features_front read_features spell_features read_port_status spell_port_status ports_in spell_flow_mod read_packet_in spell_packet_in header_of_packet link_of tagged_link typed arp_of ipv4_of network_of transport_at transport_of probe_slot_of trailer_slot changed changed_plainly first_known kept_of with_port without_port local_answer message_answer packet_told form_fault message_items report_from
+own_ports_are_told_shown = refl

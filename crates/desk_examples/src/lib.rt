@@ -1,0 +1,39 @@
+//! Worked examples of what a desk must answer. Each function's contract is an example: the report of a
+//! short recording, as it follows from the definitions; its body does nothing.
+#![tactic(auto)]
+
+ghost use Rattle.desk_examples.specs.Examples.{PacketReaches, PacketPasses, BadLengthCloses, FeaturesAreTold, ConfigIsKept, FlagsAreRefused, OldVersionCloses, EchoIsAnswered, VendorIsRefused, PortModIsRefused};
+ghost use Rattle.desk_examples.specs.Ports.{StatusReachesBob, OwnPortsAreTold};
+
+/// A packet goes to the slice that may write its header, whole and without a buffer, and to no other.
+pub fn packet_reaches_its_writer()
+    ensures alice { PacketReaches }
+    ensures nobody { PacketPasses }
+{}
+
+/// A message whose length field doesn't count its header, and a HELLO of version 0, are answered and close
+/// the connection.
+pub fn message_closes()
+    ensures length { BadLengthCloses }
+    ensures version { OldVersionCloses }
+{}
+
+/// The switch's features, the configuration and echoes are answered.
+pub fn message_is_answered()
+    ensures features { FeaturesAreTold }
+    ensures config { ConfigIsKept }
+    ensures echo { EchoIsAnswered }
+{}
+
+/// Fragments handled otherwise, messages of vendors and changes of ports are refused.
+pub fn message_is_refused()
+    ensures flags { FlagsAreRefused }
+    ensures vendor { VendorIsRefused }
+    ensures ports { PortModIsRefused }
+{}
+
+/// A slice that may write packets of port 1 alone isn't told of port 2.
+pub fn slice_is_told_its_ports()
+    ensures status { StatusReachesBob }
+    ensures features { OwnPortsAreTold }
+{}
