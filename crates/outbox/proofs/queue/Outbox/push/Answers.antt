@@ -1,4 +1,4 @@
-use Rattle.std.proofs.Common.{◌≡◌, ◌+◌, ◌<◌, ◌≤◌, ◌-◌, length, ap, refl, inl, inr, arith}
+use Rattle.std.proofs.Common.{◌≡◌, length, ap, refl, inl, inr, arith}
 use Rattle.outbox.proofs.Keeping.{stands-dropped, stands-kept}
 use Rattle.outbox.proofs.queue.Outbox.push.Goals as goal
 use Rattle.outbox.proofs.queue.Outbox.push.Goals.{then-self-via-then-self, then-self-via-else-self+then-size-saturating_sub}
