@@ -1,5 +1,5 @@
 -- What follows by who is up is what follows by what the slices see.
-use Rattle.std.proofs.Common.{◌≡◌, ℕ, List, length, refl, ap, sym, ◌∙◌}
+use Rattle.std.proofs.Common.{◌≡◌, ℕ, List, length, ap, ◌∙◌}
 use Rattle.flowspace.specs.Policies.{PolicyView, SwitchView}
 use Rattle.flow_book.specs.declared.state.SliceState.{SliceState}
 use Rattle.desk_words.specs.Openings.{rules_of, Switch}

@@ -1,5 +1,5 @@
 -- Nothing that a message of the switch shows changes what a slice's state keeps.
-use Rattle.std.proofs.Common.{◌≡◌, ℕ, ◌==◌, ◌&&◌, Bool, true, false, if◌then◌else◌, List, [], ◌∷◌, map, refl, ap, subst, sym, ◌∙◌, Option, Some, None, is_none}
+use Rattle.std.proofs.Common.{ℕ, ◌==◌, ◌&&◌, Bool, true, false, if◌then◌else◌, List, [], ◌∷◌, map, subst, sym, Option, Some, None, is_none}
 use Rattle.of10_ctl.specs.declared.kind.TheConstants.{PACKET_IN}
 use Rattle.of10_ctl.specs.Frames.{is_bad}
 use Rattle.of10_flow.specs.declared.packet_in.PacketIn.{PacketIn}
@@ -14,8 +14,6 @@ use Rattle.slice_words.specs.Items.{Settings, is_own_port, Share, Item, Sight, S
 use Rattle.slice_words.specs.Answers.{no_buffer}
 use Rattle.slice_words.specs.Alone.{with_items}
 use Rattle.slice_words.specs.Standing.{SliceStands}
-use Rattle.desk_words.specs.declared.phase.Phase.{Phase}
-use Rattle.desk_words.specs.declared.phase.Phase.TheVariants.{Opened}
 use Rattle.desk_words.specs.Openings.{is_of, well_formed, status_told, rules_of, Switch}
 use Rattle.desk_words.specs.Histories.{is_slot, settings_at, Side, handed, shares_of, is_kept, packet_items, status_items, message_items, phase_items}
 use Rattle.switch_side.specs.Dispatches.{told_at}

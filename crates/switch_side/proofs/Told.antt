@@ -1,6 +1,6 @@
 -- What all slices are sent for a message of the switch.
 use Rattle.std.proofs.Common.{◌≡◌, ℕ, zero, suc, ◌+◌, ◌<◌, Bool, true, false, if◌then◌else◌, List, [], ◌∷◌, ◌++◌, length, slice_get, refl, ap, ap₂, subst, sym, ◌∙◌, arith, Option, Some, None}
-use Rattle.std.proofs.lemmas.Option.{slice_get_within, slice_get-get_or}
+use Rattle.std.proofs.lemmas.Option.{slice_get_within}
 use Rattle.std.proofs.lemmas.Bool.{lt-ltb}
 use Rattle.of10_ctl.specs.declared.kind.TheConstants.{PACKET_IN}
 use Rattle.of10_flow.specs.declared.packet_in.PacketIn.{PacketIn}
@@ -12,16 +12,16 @@ use Rattle.flowspace.specs.Order.{writer_of, readers_of}
 use Rattle.flowspace.specs.Owners.{has_port}
 use Rattle.flowspace.specs.Policies.{PolicyView}
 use Rattle.flow_book.specs.declared.state.SliceState.{SliceState}
-use Rattle.slice_words.specs.Items.{settings_of, is_own_port, is_up}
+use Rattle.slice_words.specs.Items.{is_own_port}
 use Rattle.desk_words.specs.declared.event.Timed.{Timed}
 use Rattle.desk_words.specs.declared.phase.Phase.TheVariants.{Opened}
 use Rattle.desk_words.specs.Openings.{is_of, well_formed, rules_of, Switch}
-use Rattle.desk_words.specs.Histories.{is_slot, settings_at, Side, header_in}
+use Rattle.desk_words.specs.Histories.{settings_at, Side, header_in}
 use Rattle.desk_words.specs.Sent.{sent_with}
 use Rattle.switch_side.specs.Dispatches.{addressed, sent_from, status_kept, told_at, AllStand}
-use Rattle.switch_side.specs.Carrying.{unnumbered, is_plain, packet_for, status_for, said_from, packet_told, packet_in_told, port_told, message_told}
+use Rattle.switch_side.specs.Carrying.{unnumbered, is_plain, packet_for, said_from, packet_told, port_told, message_told}
 use Rattle.switch_side.proofs.OwnPorts.{has_port-own}
-use Rattle.switch_side.proofs.Slots.{say_packet, say_status, say_found, say, slot_sent}
+use Rattle.switch_side.proofs.Slots.{say_status, say_found, say, slot_sent}
 
 -- ---- what is said to all is what is told
 

@@ -1,6 +1,5 @@
 -- The same by who is up, in place of what each slice sees. The parts of the code are proved by this.
-use Rattle.std.specs.Prelude.{ℕ, ◌==◌, ◌&&◌, ◌+◌, Bool, true, false, if◌then◌else◌, List, [], ◌∷◌, ◌++◌, Option, Some, None, is_none}
-use Rattle.of10_model.specs.Header.{Header}
+use Rattle.std.specs.Prelude.{ℕ, ◌==◌, ◌&&◌, ◌+◌, Bool, false, if◌then◌else◌, List, [], ◌∷◌, ◌++◌, Option, Some, None, is_none}
 use Rattle.of10_model.specs.Normal.{is_value, bit}
 use Rattle.of10_ctl.specs.declared.kind.TheConstants.{PACKET_IN}
 use Rattle.of10_ctl.specs.Frames.{is_bad}
@@ -15,8 +14,8 @@ use Rattle.flowspace.specs.Order.{writer_of, readers_of}
 use Rattle.flowspace.specs.Owners.{has_port}
 use Rattle.flow_book.specs.declared.state.SliceState.{SliceState}
 use Rattle.slice_words.specs.Answers.{no_buffer}
-use Rattle.desk_words.specs.Openings.{is_of, well_formed, status_told}
-use Rattle.desk_words.specs.Histories.{header_in, is_kept}
+use Rattle.desk_words.specs.Openings.{is_of, well_formed}
+use Rattle.desk_words.specs.Histories.{header_in}
 use Rattle.desk_words.specs.Sent.{echo_for}
 use Rattle.switch_side.specs.declared.dispatch.Dispatch.{Dispatch}
 use Rattle.switch_side.specs.Dispatches.{addressed, status_kept}
