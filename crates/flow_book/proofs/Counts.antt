@@ -1,14 +1,14 @@
 -- Lists that have the same pairs answer alike.
-use Rattle.std.proofs.Common.{ℕ, ◌≡◌, ◌≢◌, ◌+◌, ◌<◌, ◌≤◌, ◌==◌, ◌&&◌, ◌||◌, not, List, [], ◌∷◌, ◌++◌, zero, suc, length, get_or, map, ltb, Bool, Option, Some, None, refl, sym, ap, subst, ◌∙◌, arith, true, false, if◌then◌else◌, inl, inr}
-use Rattle.std.specs.Prelude.{filter, find, All, count_by, sum_by}
+use Rattle.std.proofs.Common.{ℕ, ◌≡◌, ◌+◌, ◌==◌, ◌&&◌, not, List, [], ◌∷◌, ◌++◌, length, get_or, map, ltb, Bool, Some, None, refl, sym, ap, ◌∙◌, arith, true, false, if◌then◌else◌, inl, inr}
+use Rattle.std.specs.Prelude.{filter, find}
 use Rattle.std.specs.List.{list_any}
 use Rattle.std.specs.List.Sorted.{IsPermutation}
-use Rattle.std.proofs.lemmas.Bool.{cases_Bool, cases_lt, both_ways, or_parts, or_right, and_parts, and_from, eqb-true, eqb-false, eq-eqb, or_left, false≢true}
+use Rattle.std.proofs.lemmas.Bool.{cases_Bool, both_ways, or_parts, or_right, and_parts, and_from, eqb-true, eqb-false, eq-eqb, or_left, false≢true}
 use Rattle.std.specs.Cmp.{booleans_Decides}
 use Rattle.std.proofs.Math.Bool.{beq}
 use Rattle.std.proofs.Common.{length-append}
 use Rattle.std.proofs.lemmas.Bool.{lt-ltb}
-use Rattle.std.proofs.lemmas.List.Elements.{filter-append, filter_agree, All-contains}
+use Rattle.std.proofs.lemmas.List.Elements.{filter-append, filter_agree}
 use Rattle.std.proofs.lemmas.List.Sums.{length-filter}
 use Rattle.std.proofs.lemmas.List.{get_or_default}
 use Rattle.std.proofs.lemmas.List.Folds.{Any-from_list_any}

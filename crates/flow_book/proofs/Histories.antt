@@ -1,5 +1,5 @@
 -- What the calls say of one pair.
-use Rattle.std.proofs.Common.{ℕ, ◌≡◌, ◌≢◌, ◌+◌, ◌<◌, ◌≤◌, ◌==◌, ◌&&◌, ◌||◌, ◌⊎◌, not, List, [], ◌∷◌, ◌++◌, zero, suc, length, map, Bool, Option, Some, None, refl, sym, ap, subst, ◌∙◌, arith, true, false, inl, inr}
+use Rattle.std.proofs.Common.{ℕ, ◌≡◌, ◌<◌, ◌==◌, ◌&&◌, ◌||◌, ◌⊎◌, not, List, [], ◌∷◌, ◌++◌, zero, suc, length, map, Bool, Option, Some, None, refl, sym, ap, subst, ◌∙◌, arith, true, false, inl, inr}
 use Rattle.std.specs.Prelude.{filter, find, Contains, option_map, slice_index_or}
 use Rattle.std.specs.Option.{option_or}
 use Rattle.std.specs.List.{list_any}
@@ -12,7 +12,7 @@ use Rattle.of10_model.specs.Normal.{IsNormal}
 use Rattle.flow_book.specs.declared.booked.Booked.{Booked}
 use Rattle.flow_book.specs.Books.{BookCall, Added, Removed, Failed, is_match, is_pair, is_booked, includes_booked, is_newcomer, first_booked, booked_again, is_first, without, book, booking}
 use Rattle.flow_book.specs.Pairs.{BooksPiece, Books, Releases, NoneOf, IsLastBooked, IsFirstBooked}
-use Rattle.flow_book.proofs.SamePairs.{HasPair, pair_parts, pair_from, same_match, match_itself}
+use Rattle.flow_book.proofs.SamePairs.{pair_parts, pair_from, same_match, match_itself}
 use Rattle.flow_book.proofs.Standing.{again_pair, booked_again-booked, newcomer-unbooked, booked-included}
 
 -- ---- which pieces a flow-mod books

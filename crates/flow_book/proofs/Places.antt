@@ -1,25 +1,23 @@
 -- What the place of a pair says of a book in order.
-use Rattle.std.proofs.Common.{ℕ, ◌≡◌, ◌≢◌, ◌+◌, ◌-◌, ◌<◌, ◌≤◌, ◌==◌, ◌&&◌, ◌||◌, not, List, [], ◌∷◌, ◌++◌, zero, suc, length, get_or, set, take, drop, map, Bool, Option, Some, None, Result, Ok, Err, IfOk, IfErr, IsTrue, refl, sym, ap, subst, ◌∙◌, arith, true, false, if◌then◌else◌, inl, inr}
+use Rattle.std.proofs.Common.{ℕ, ◌≡◌, ◌≢◌, ◌<◌, not, List, [], ◌∷◌, zero, suc, length, get_or, set, map, Bool, Some, None, Result, Ok, Err, IfOk, IfErr, refl, sym, ap, subst, ◌∙◌, arith, true, false, if◌then◌else◌, inl, inr}
 use Rattle.std.specs.Prelude.{filter, find, All, is_ok}
-use Rattle.std.specs.List.{list_any, insert, remove, AllWithin, HoldsAt, AllByRecursion}
-use Rattle.std.specs.List.Sorted.{IsPermutation, IsStrictlySortedBy}
-use Rattle.std.specs.declared.cmp.Ordering.{Ordering}
+use Rattle.std.specs.List.{insert, remove, AllByRecursion}
+use Rattle.std.specs.List.Sorted.{IsStrictlySortedBy}
 use Rattle.std.specs.declared.cmp.Ordering.TheVariants.{Less, Equal, Greater}
-use Rattle.std.proofs.lemmas.Bool.{cases_Bool, cases_lt, or_parts}
+use Rattle.std.proofs.lemmas.Bool.{cases_Bool, cases_lt}
 use Rattle.std.proofs.lemmas.List.Elements.{All-head, All-tail, All-cons, All-map, All-weaker, All-filter, All-from_recursion, recursion_from_All}
 use Rattle.std.proofs.lemmas.List.Kept.{IsStrictlySortedBy-filter}
 use Rattle.std.specs.Ordering.{ordering_reverse}
 use Rattle.std.proofs.lemmas.List.Folds.{list_any_at, list_any_none}
-use Rattle.std.proofs.lemmas.List.Sorted.{All-permutation, list_any-IsPermutation, IsPermutation-insert}
+use Rattle.std.proofs.lemmas.List.Sorted.{All-permutation, IsPermutation-insert}
 use Rattle.std.proofs.lemmas.Cmp.{alike_right}
-use Rattle.std.proofs.lemmas.List.{get_or_default}
 use Rattle.std.proofs.lemmas.Map.Keys.{Less-from_sorted}
 use Rattle.of10_model.specs.declared.pattern.Pattern.{Pattern}
 use Rattle.of10_model.specs.Normal.{IsNormal}
 use Rattle.of10_model.specs.Spelling.{Spell}
 use Rattle.flow_book.specs.declared.booked.Booked.{Booked}
 use Rattle.flow_book.specs.Order.{stands_to, order, IsInOrder, IsAt, IsGapFor}
-use Rattle.flow_book.specs.Books.{is_match, is_pair, is_booked, without}
+use Rattle.flow_book.specs.Books.{is_pair, is_booked, without}
 use Rattle.flow_book.specs.Adding.{with_asked}
 use Rattle.flow_book.proofs.Order.{key_of, key_cmp_total}
 use Rattle.flow_book.proofs.SamePairs.{pair-Equal, Equal-pair, other-Less, other-Greater}

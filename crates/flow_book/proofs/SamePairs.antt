@@ -1,28 +1,22 @@
 -- Pairs are the same exactly where the order says so, and what stands in order has each pair once.
-use Rattle.std.proofs.Common.{ℕ, ◌≡◌, ◌≢◌, ◌+◌, ◌<◌, ◌≤◌, ◌==◌, ◌&&◌, ◌||◌, not, List, [], ◌∷◌, ◌++◌, zero, suc, length, get_or, map, Bool, Option, Some, None, IsTrue, refl, sym, ap, subst, ◌∙◌, arith, true, false, if◌then◌else◌, inl, inr}
-use Rattle.std.specs.Prelude.{filter, find, All}
-use Rattle.std.specs.List.{list_any, insert, remove, AllWithin, HoldsAt}
-use Rattle.std.specs.List.Sorted.{IsPermutation}
-use Rattle.std.specs.declared.cmp.Ordering.{Ordering}
+use Rattle.std.proofs.Common.{ℕ, ◌≡◌, ◌≢◌, ◌==◌, Option, Some, None, refl, sym, ap, subst, ◌∙◌, true, false, inl, inr}
 use Rattle.std.specs.declared.cmp.Ordering.TheVariants.{Less, Equal, Greater}
 use Rattle.std.specs.Ordering.{nat_cmp}
 use Rattle.std.specs.Cmp.Lexicographic.{slice_cmp}
 use Rattle.std.proofs.lemmas.Bool.{eqb-true, eq-eqb, and_parts, and_from, cases_Bool}
 use Rattle.std.proofs.lemmas.Cmp.{tied_itself}
 use Rattle.std.proofs.lemmas.Map.Lookups.{exact_unsigned, exact_bytes, exact_pairs}
-use Rattle.std.proofs.lemmas.List.Elements.{All-head, All-tail}
-use Rattle.std.proofs.lemmas.List.Sorted.{All-permutation, list_any-IsPermutation}
 use Rattle.of10_model.specs.declared.pattern.Prefix.{Prefix}
 use Rattle.of10_model.specs.declared.pattern.Pattern.{Pattern}
 use Rattle.of10_model.specs.Normal.{IsNormal, Norm}
 use Rattle.of10_model.specs.Spelling.{Spell}
-use Rattle.of10_model.proofs.Applied.{SameFields, same_fields}
+use Rattle.of10_model.proofs.Applied.{same_fields}
 use Rattle.of10_model.proofs.Spelling.{Norm-Spell}
-use Rattle.of10_model.proofs.Twelve.{AllTrue, each_true, true_of_each}
+use Rattle.of10_model.proofs.Twelve.{each_true, true_of_each}
 use Rattle.flow_book.specs.declared.booked.Booked.{Booked}
-use Rattle.flow_book.specs.Order.{stands_to, order, IsInOrder, IsAt, IsGapFor}
-use Rattle.flow_book.specs.Books.{is_constraint, is_prefix, is_match, is_pair, is_booked}
-use Rattle.flow_book.proofs.Order.{Key, key_of, key_cmp, key_cmp_total}
+use Rattle.flow_book.specs.Order.{stands_to}
+use Rattle.flow_book.specs.Books.{is_constraint, is_prefix, is_match, is_pair}
+use Rattle.flow_book.proofs.Order.{key_of, key_cmp, key_cmp_total}
 
 -- ---- matches
 

@@ -1,5 +1,5 @@
 -- The book stands for one call more.
-use Rattle.std.proofs.Common.{ℕ, ◌≡◌, ◌≢◌, ◌+◌, ◌<◌, ◌≤◌, ◌==◌, ◌&&◌, ◌||◌, not, List, [], ◌∷◌, ◌++◌, zero, suc, length, get_or, take, drop, map, append-nil, Bool, Option, Some, None, refl, sym, ap, subst, ◌∙◌, arith, true, false, if◌then◌else◌, inl, inr}
+use Rattle.std.proofs.Common.{ℕ, ◌≡◌, ◌≢◌, ◌+◌, ◌<◌, ◌==◌, ◌&&◌, ◌||◌, not, List, [], ◌∷◌, ◌++◌, length, get_or, take, drop, map, append-nil, Bool, refl, sym, ap, subst, ◌∙◌, arith, true, false, if◌then◌else◌, inl, inr}
 use Rattle.std.specs.Prelude.{filter, find, All, AllPairs}
 use Rattle.std.specs.List.{list_any}
 use Rattle.std.specs.List.Sorted.{IsPermutation, IsStrictlySortedBy}
@@ -13,9 +13,9 @@ use Rattle.of10_model.specs.Inclusion.{includes_of}
 use Rattle.of10_model.proofs.Including.{includes-Includes}
 use Rattle.flow_book.specs.declared.booked.Booked.{Booked}
 use Rattle.flow_book.specs.Order.{IsInOrder}
-use Rattle.flow_book.specs.Books.{BookCall, Added, Removed, Failed, is_match, is_pair, is_booked, includes_booked, is_newcomer, newcomers_in, first_booked, booked_again, is_first, without, book, Book, BookStands, HaveSame}
+use Rattle.flow_book.specs.Books.{BookCall, Added, Removed, Failed, is_match, is_pair, is_booked, includes_booked, is_newcomer, first_booked, booked_again, is_first, without, book, Book, BookStands, HaveSame}
 use Rattle.flow_book.specs.Adding.{AreNew}
-use Rattle.flow_book.proofs.SamePairs.{HasPair, pair_parts, other_match}
+use Rattle.flow_book.proofs.SamePairs.{pair_parts, other_match}
 use Rattle.flow_book.proofs.Steps.{fresh_of}
 use Rattle.flow_book.proofs.Counts.{passing, passing-append, passing-filter, passing-map, any-map, any_weaker, newcomer_same, find_same, HaveSame-IsPermutation}
 
@@ -82,7 +82,7 @@ pub booked_again-booked : (command : ℕ) (ms : List Pattern) (p : ℕ) (asked :
 booked_again-booked command ms p asked m q xs = any-map (is_pair m q) (booked_again command ms p asked) (again_pair command ms p asked m q) xs
 
 -- a match that includes no booked one isn't booked
-includes_itself : (m : Pattern) → IsNormal m → includes_of m m ≡ true
+pub includes_itself : (m : Pattern) → IsNormal m → includes_of m m ≡ true
 includes_itself m n = includes-Includes m m n.0 n.0 (λ h i x. x)
 
 pub booked-included : (m : Pattern) (p : ℕ) (xs : List Booked) → IsNormal m → is_booked m p xs ≡ true → includes_booked m xs ≡ true

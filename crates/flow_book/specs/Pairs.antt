@@ -1,5 +1,5 @@
 -- What becomes of one pair of a match and a priority, call by call. Lists of calls have the newest first.
-use Rattle.std.specs.Prelude.{ℕ, ◌≡◌, ◌⊎◌, ◌<◌, false, Bool, List, [], ◌∷◌, ◌++◌, find, Contains, IsTrue, Option, Some, None}
+use Rattle.std.specs.Prelude.{ℕ, ◌≡◌, ◌⊎◌, false, Bool, List, [], ◌∷◌, ◌++◌, Contains, Some}
 use Rattle.of10_model.specs.declared.pattern.Pattern.{Pattern}
 use Rattle.flow_book.specs.declared.booked.Booked.{Booked}
 use Rattle.flow_book.specs.Books.{BookCall, Added, Removed, Failed, is_booked, includes_booked, book, booking}

@@ -1,4 +1,4 @@
-ghost use Rattle.std.specs.Prelude.{◌≡◌, ◌≢◌, ◌<◌, ◌≤◌, AllPairs, length};
+ghost use Rattle.std.specs.Prelude.{◌≡◌, ◌≢◌, ◌<◌, ◌≤◌, AllPairs, length, IsTrue};
 
 use super::*;
 use flowspace::{Slice, Text};
@@ -55,7 +55,7 @@ fn sample(which: u64) -> Match {
     }
 }
 
-// Books one or two pieces, the second where it is another.
+// Books the pieces.
 fn add(
     book: &mut FlowBook,
     command: u16,
@@ -72,6 +72,27 @@ fn add(
         book.added(command, pieces, priority, asked, number);
     }
     Ok(())
+}
+
+// Whether the first doesn't include the second, which is then another.
+fn differ(one: &Match, other: &Match) -> bool
+    ensures { IsTrue result → one.now ≢ other.now }
+{
+    let _ = one.pattern();
+    !includes(one, other)
+}
+
+fn add_both(
+    book: &mut FlowBook,
+    command: u16,
+    one: &Match,
+    other: &Match,
+    priority: u16,
+    number: u64,
+) -> Result<(), AllocError>
+    requires { one.now ≢ other.now }
+{
+    add(book, command, &[*one, *other], priority, false, number)
 }
 
 #[test]
@@ -189,24 +210,25 @@ fn answers_as_a_plain_list(rt: HostRuntime) -> Result<(), Fail> {
                 }
             }
             _ => {
-                if one == other {
+                if differ(&one, &other) {
+                    let pieces = [one, other];
+                    add_both(&mut book, command, &one, &other, priority, step)?;
+                    plain_add(
+                        rt.alloc(),
+                        &mut list,
+                        command,
+                        &pieces,
+                        priority,
+                        false,
+                        step,
+                    )?;
+                } else {
                     add(&mut book, command, &[one], priority, asked, step)?;
                     plain_add(
                         rt.alloc(),
                         &mut list,
                         command,
                         &[one],
-                        priority,
-                        asked,
-                        step,
-                    )?;
-                } else {
-                    add(&mut book, command, &[one, other], priority, asked, step)?;
-                    plain_add(
-                        rt.alloc(),
-                        &mut list,
-                        command,
-                        &[one, other],
                         priority,
                         asked,
                         step,

@@ -1,4 +1,4 @@
-use Rattle.std.proofs.Common.{arith, sym, subst, ◌∙◌}
+use Rattle.std.proofs.Common.{arith, subst, ◌∙◌}
 use Rattle.flow_book.proofs.Steps.{Settling, settle_more}
 use Rattle.flow_book.proofs.adding.settle_all.Goals as goal
 

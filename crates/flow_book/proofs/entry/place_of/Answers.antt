@@ -1,5 +1,5 @@
-use Rattle.std.proofs.Common.{subst, ◌∙◌, ap}
-use Rattle.of10_model.specs.Normal.{IsNormal, Norm}
+use Rattle.std.proofs.Common.{subst}
+use Rattle.of10_model.specs.Normal.{IsNormal}
 use Rattle.flow_book.proofs.entry.place_of.Goals as goal
 
 pub returns-clause-normal : goal.returns-clause-normal

@@ -1,4 +1,4 @@
-use Rattle.std.proofs.Common.{ap, sym, subst, ◌∙◌, arith, ◌≡◌, ◌+◌, ◌-◌, ◌^◌, ◌<◌, ◌≤◌, min, length, map, rules}
+use Rattle.std.proofs.Common.{ap, sym, ◌∙◌, arith, ◌≡◌, ◌+◌, ◌-◌, ◌^◌, ◌<◌, ◌≤◌, min, length, map, rules}
 use Rattle.std.specs.Prelude.{vec_len, vec_capacity}
 use Rattle.flow_book.specs.Books.{newcomers_in, booked_again}
 use Rattle.flow_book.proofs.Steps.{fresh_of}

@@ -1,6 +1,5 @@
-use Rattle.std.proofs.Common.{ap, sym, ◌∙◌, ◌≡◌, Some, None}
-use Rattle.std.specs.Prelude.{find}
-use Rattle.flow_book.specs.Books.{book, is_pair}
+use Rattle.std.proofs.Common.{ap, sym, ◌∙◌, Some}
+use Rattle.flow_book.specs.Books.{book}
 use Rattle.flow_book.proofs.Counts.{find_same}
 use Rattle.flow_book.proofs.Places.{find_pair-at, find_pair-gap}
 use Rattle.flow_book.proofs.book.FlowBook.booked.Goals as goal

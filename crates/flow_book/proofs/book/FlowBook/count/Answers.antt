@@ -1,4 +1,4 @@
-use Rattle.std.proofs.Common.{ap, sym, ◌∙◌, ◌≡◌, length, rules}
+use Rattle.std.proofs.Common.{sym, ◌∙◌, ◌≡◌, length, rules}
 use Rattle.flow_book.specs.Books.{book}
 use Rattle.flow_book.proofs.Counts.{length_same}
 use Rattle.flow_book.proofs.book.FlowBook.count.Goals as goal

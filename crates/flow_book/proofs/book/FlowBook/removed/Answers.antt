@@ -1,7 +1,6 @@
-use Rattle.std.proofs.Common.{ap, sym, subst, ◌∙◌, ◌≡◌, arith, Some, None, not, refl}
-use Rattle.std.specs.Prelude.{find}
+use Rattle.std.proofs.Common.{ap, sym, subst, ◌∙◌, arith, Some, not}
 use Rattle.flow_book.specs.Order.{IsInOrder}
-use Rattle.flow_book.specs.Books.{book, is_pair, without}
+use Rattle.flow_book.specs.Books.{book, is_pair}
 use Rattle.flow_book.proofs.Counts.{find_same}
 use Rattle.flow_book.proofs.Places.{find_pair-at, find_pair-gap, remove_pair, without-gap, IsInOrder-filter}
 use Rattle.flow_book.proofs.Standing.{stands-removed}
