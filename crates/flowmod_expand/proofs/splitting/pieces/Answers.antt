@@ -1,8 +1,8 @@
-use Rattle.std.proofs.Common.{◌≡◌, ◌≢◌, ◌+◌, ◌≤◌, length, take, count_by, AllPairs, sym, ◌∙◌, ap, subst, arith}
+use Rattle.std.proofs.Common.{◌≡◌, ◌≢◌, ◌≤◌, length, take, count_by, AllPairs, sym, ◌∙◌, ap, subst, arith}
 use Rattle.std.proofs.lemmas.List.{take_all}
 use Rattle.flowspace.specs.Rules.{is_written_by}
 use Rattle.flowmod_expand.specs.Pieces.{pieces_of}
-use Rattle.flowmod_expand.proofs.Splits.{Found, found_more, found_same}
+use Rattle.flowmod_expand.proofs.Splits.{found_more, found_same}
 use Rattle.flowmod_expand.proofs.Space.{pieces_of_distinct, pieces_of_few}
 use Rattle.flowmod_expand.proofs.splitting.pieces.Goals as goal
 use Rattle.flowmod_expand.proofs.splitting.pieces.Goals.{in-Some+in_ok-add, in_default}
