@@ -65,7 +65,8 @@ fn dispatch(
 
 /// What follows from one message of a switch that has told what it is, with one state for each slice of the
 /// policy. Nothing is changed: `port` is still to be taken in by the known ports, and no state changes. A
-/// message that isn't of version 1, isn't well formed, or says nothing to anybody is dropped.
+/// message whose length doesn't count its header ends the connection; one that isn't of version 1, isn't
+/// well formed, or says nothing to anybody is dropped.
 pub fn react(
     alloc: Global,
     policy: &SwitchPolicy,
