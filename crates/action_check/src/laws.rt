@@ -14,7 +14,8 @@ ghost use Rattle.action_check.specs.Refusals.{AreAllowed, IsFirstForbidden};
 ghost use Rattle.action_check.specs.Soundness.{IsOrigin, IsSound};
 
 /// Whatever list is permitted sends only to ports of the slice and to where else it may, and each packet
-/// that it sends is, as the actions before rewrite it, one that the slice may write.
+/// that it sends is, as the actions before rewrite it, one that the slice may write by some port of entry;
+/// where it is sent to the controller or through the table, by its own. Probes are excepted.
 pub fn permitted_lists_are_sound()
     ensures { (slices : List Slice) (rules : List Rule) → IsSwitchPolicy slices rules → (slot : ℕ) (origin : Origin) → IsOrigin origin → (actions : List Action) → All IsAction actions → (flood all : List ℕ) → All (HasPort rules slot) flood → All (HasPort rules slot) all → (given : List Action) → permitted rules slot origin actions flood all ≡ Ok given → IsSound rules slot origin given }
 {}

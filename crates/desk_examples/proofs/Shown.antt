@@ -21,6 +21,8 @@ use Rattle.desk_words.specs.Histories.{message_items}
 use Rattle.desk_words.specs.Reports.{report_from}
 use Rattle.desk_examples.specs.Examples.{PacketReaches, PacketPasses, BadLengthCloses, FeaturesAreTold, ConfigIsKept, FlagsAreRefused, OldVersionCloses, EchoIsAnswered, VendorIsRefused, PortModIsRefused}
 use Rattle.desk_examples.specs.Ports.{StatusReachesBob, OwnPortsAreTold}
+use Rattle.desk_examples.specs.Connections.{NothingHappens, SwitchGoes, BadLengthEndsTheSwitch, EarlySliceIsRefused}
+use Rattle.desk_examples.specs.Readers.{WriterIsToldAlone, ReaderIsTold}
 
 pub packet_reaches_shown : PacketReaches
 unfolding digits encode_with has Spell frames_at frames_of features_front read_features spell_features read_port_status spell_port_status ports_in spell_flow_mod read_packet_in spell_packet_in header_of_packet link_of tagged_link typed arp_of ipv4_of network_of transport_at transport_of probe_slot_of trailer_slot changed changed_plainly first_known kept_of with_port without_port local_answer message_answer packet_told form_fault message_items report_from
@@ -69,3 +71,27 @@ status_reaches_bob_shown = refl
 pub own_ports_are_told_shown : OwnPortsAreTold
 unfolding digits encode_with has Spell frames_at frames_of features_front read_features spell_features read_port_status spell_port_status ports_in spell_flow_mod read_packet_in spell_packet_in header_of_packet link_of tagged_link typed arp_of ipv4_of network_of transport_at transport_of probe_slot_of trailer_slot changed changed_plainly first_known kept_of with_port without_port local_answer message_answer packet_told form_fault message_items report_from
 own_ports_are_told_shown = refl
+
+pub nothing_happens_shown : NothingHappens
+unfolding digits encode_with has Spell frames_at frames_of features_front read_features spell_features read_port_status spell_port_status ports_in spell_flow_mod read_packet_in spell_packet_in header_of_packet link_of tagged_link typed arp_of ipv4_of network_of transport_at transport_of probe_slot_of trailer_slot changed changed_plainly first_known kept_of with_port without_port local_answer message_answer packet_told form_fault message_items report_from
+nothing_happens_shown = refl
+
+pub switch_goes_shown : SwitchGoes
+unfolding digits encode_with has Spell frames_at frames_of features_front read_features spell_features read_port_status spell_port_status ports_in spell_flow_mod read_packet_in spell_packet_in header_of_packet link_of tagged_link typed arp_of ipv4_of network_of transport_at transport_of probe_slot_of trailer_slot changed changed_plainly first_known kept_of with_port without_port local_answer message_answer packet_told form_fault message_items report_from
+switch_goes_shown = refl
+
+pub bad_length_ends_the_switch_shown : BadLengthEndsTheSwitch
+unfolding digits encode_with has Spell frames_at frames_of features_front read_features spell_features read_port_status spell_port_status ports_in spell_flow_mod read_packet_in spell_packet_in header_of_packet link_of tagged_link typed arp_of ipv4_of network_of transport_at transport_of probe_slot_of trailer_slot changed changed_plainly first_known kept_of with_port without_port local_answer message_answer packet_told form_fault message_items report_from
+bad_length_ends_the_switch_shown = refl
+
+pub early_slice_is_refused_shown : EarlySliceIsRefused
+unfolding digits encode_with has Spell frames_at frames_of features_front read_features spell_features read_port_status spell_port_status ports_in spell_flow_mod read_packet_in spell_packet_in header_of_packet link_of tagged_link typed arp_of ipv4_of network_of transport_at transport_of probe_slot_of trailer_slot changed changed_plainly first_known kept_of with_port without_port local_answer message_answer packet_told form_fault message_items report_from
+early_slice_is_refused_shown = refl
+
+pub writer_is_told_alone_shown : WriterIsToldAlone
+unfolding digits encode_with has Spell frames_at frames_of features_front read_features spell_features read_port_status spell_port_status ports_in spell_flow_mod read_packet_in spell_packet_in header_of_packet link_of tagged_link typed arp_of ipv4_of network_of transport_at transport_of probe_slot_of trailer_slot changed changed_plainly first_known kept_of with_port without_port local_answer message_answer packet_told form_fault message_items report_from
+writer_is_told_alone_shown = refl
+
+pub reader_is_told_shown : ReaderIsTold
+unfolding digits encode_with has Spell frames_at frames_of features_front read_features spell_features read_port_status spell_port_status ports_in spell_flow_mod read_packet_in spell_packet_in header_of_packet link_of tagged_link typed arp_of ipv4_of network_of transport_at transport_of probe_slot_of trailer_slot changed changed_plainly first_known kept_of with_port without_port local_answer message_answer packet_told form_fault message_items report_from
+reader_is_told_shown = refl

@@ -1,2 +1,4 @@
 pub mod Examples
 pub mod Ports
+pub mod Connections
+pub mod Readers

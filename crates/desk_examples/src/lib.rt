@@ -4,6 +4,8 @@
 
 ghost use Rattle.desk_examples.specs.Examples.{PacketReaches, PacketPasses, BadLengthCloses, FeaturesAreTold, ConfigIsKept, FlagsAreRefused, OldVersionCloses, EchoIsAnswered, VendorIsRefused, PortModIsRefused};
 ghost use Rattle.desk_examples.specs.Ports.{StatusReachesBob, OwnPortsAreTold};
+ghost use Rattle.desk_examples.specs.Connections.{NothingHappens, SwitchGoes, BadLengthEndsTheSwitch, EarlySliceIsRefused};
+ghost use Rattle.desk_examples.specs.Readers.{WriterIsToldAlone, ReaderIsTold};
 
 /// A packet goes to the slice that may write its header, whole and without a buffer, and to no other.
 pub fn packet_reaches_its_writer()
@@ -36,4 +38,20 @@ pub fn message_is_refused()
 pub fn slice_is_told_its_ports()
     ensures status { StatusReachesBob }
     ensures features { OwnPortsAreTold }
+{}
+
+/// Without a record nothing happens; the switch's connection ends, also by a message whose length field
+/// doesn't count its header; and a slice that connects before the switch has told what it is is refused.
+pub fn connections_end()
+    ensures nothing { NothingHappens }
+    ensures down { SwitchGoes }
+    ensures length { BadLengthEndsTheSwitch }
+    ensures early { EarlySliceIsRefused }
+{}
+
+/// A packet reaches the writer of the first rule of its header alone, and where nobody writes it the rule's
+/// reader.
+pub fn packet_reaches_its_reader()
+    ensures writer { WriterIsToldAlone }
+    ensures reader { ReaderIsTold }
 {}

@@ -1,5 +1,5 @@
 -- What a slice sees of a history: its view, which is a filter of the history (this proxy's own rule). An event of another slice shows it nothing.
-use Rattle.std.specs.Prelude.{ℕ, ◌==◌, ◌&&◌, ltb, Bool, true, false, if◌then◌else◌, List, [], ◌∷◌, ◌++◌, length, map, slice_get, Option, Some, None, is_none}
+use Rattle.std.specs.Prelude.{ℕ, ◌==◌, ◌&&◌, not, ltb, Bool, true, false, if◌then◌else◌, List, [], ◌∷◌, ◌++◌, length, map, slice_get, Option, Some, None, is_none}
 use Rattle.std.specs.Option.{option_or}
 use Rattle.of10_model.specs.Header.{Header}
 use Rattle.of10_model.specs.Normal.{is_value, bit}
@@ -50,7 +50,7 @@ pub record Numbered : Type 0 where
   pub number : ℕ
   pub ordinal : Option ℕ
 
--- what a slice sees, and beside it all packet-ins with numbers since the opening, newest first: by these it can be told when a number of one of its packets is used again
+-- what a slice sees, and beside it all packet-ins with numbers since the opening, newest first, by which it can be told when a number of one of its packets is used again. They are noted once packets are buffered
 pub record Side : Type 0 where
   pub sight : Sight
   pub numbered : List Numbered
@@ -82,7 +82,7 @@ shares_of rules slot packet =
     (if is_value slot (writer_of rules (header_in packet)) then Writer false ∷ [] else [])
     ++ (if bit (readers_of rules (header_in packet)) slot then Reader ∷ [] else [])
 
--- a packet-in shows the slice its packet once for each of its shares, where it is up. What is buffered and what bears a probe's mark comes later
+-- a packet-in shows the slice its packet once for each of its shares, where it is up. What is buffered, and what bears a probe's mark of a slot of the policy, comes later; until then a packet with any mark shows nothing
 abbrev pub packet_items : List Rule → ℕ → List Item → PacketIn → List Item
 packet_items rules slot view packet =
     if packet.buffer == no_buffer && is_none (probe_slot_of packet.payload) && is_up view then map (λ share. handed share packet) (shares_of rules slot packet) else []
@@ -123,9 +123,13 @@ phase_items policy slot switch view timed Begun = opening_items policy slot (ope
 phase_items policy slot switch view timed Opened = event_items policy slot switch view timed.moment timed.event
 phase_items policy slot switch view timed Ended = []
 
+-- a packet whose number comes again is lost to the slice that holds it. None is held yet
+abbrev pub lost_items : Side → Event → List Item
+lost_items side event = []
+
 -- what an event shows the slice at a slot of the policy, after what is known of the switch and what the slice sees, the oldest first
 abbrev pub items_of : PolicyView → ℕ → Switch → Side → Timed → List Item
-items_of policy slot switch side timed = if is_slot policy slot then phase_items policy slot switch side.sight.view timed switch.phase else []
+items_of policy slot switch side timed = if is_slot policy slot then lost_items side timed.event ++ phase_items policy slot switch side.sight.view timed switch.phase else []
 
 -- ---- what a history shows a slice
 
@@ -158,7 +162,7 @@ is_slice_up policy slot h = is_open (phase_of h) && is_up (view_of policy slot h
 -- the header of a packet that the switch handed up under a number
 abbrev pub header_numbered : ℕ → Option PacketIn → Option Header
 header_numbered number None = None
-header_numbered number (Some packet) = if packet.buffer == number then Some (header_in packet) else None
+header_numbered number (Some packet) = if packet.buffer == number && not (number == no_buffer) then Some (header_in packet) else None
 
 abbrev pub header_handed : ℕ → Event → Option Header
 header_handed number (SwitchMsg message) = if is_of PACKET_IN message then header_numbered number (well_formed (read_packet_in message)) else None

@@ -1,4 +1,4 @@
--- The report of a recording: a line for each message that is sent, by event (this proxy's own rule).
+-- The report of a recording: a line for each message that is sent, by event (this proxy's own rule). A summary of a made recording, which counts the same messages and their bytes, comes with what makes one.
 use Rattle.std.specs.Prelude.{ℕ, ◌+◌, if◌then◌else◌, List, [], ◌∷◌, ◌++◌, length, slice_get, Some, None, codes, decimal}
 use Rattle.std.specs.List.{flat_map}
 use Rattle.hex.specs.Hex.{encode_lower}

@@ -16,7 +16,7 @@ pub enum Verdict {
     Go,
     /// It is to be closed.
     Close,
-    /// The switch's connection has ended, and with it the desk.
+    /// The switch's connection has ended, and with it the desk; or there were 2^60 events.
     Ended,
 }
 
@@ -29,8 +29,9 @@ pub enum Taken {
     Nothing,
     /// Nothing, and messages were dropped since too much was pending.
     Choked,
-    /// Nothing, and the connection isn't up or the switch's has ended.
+    /// Nothing, and nothing will come: the switch's connection has ended, there is no such slot, or the
+    /// slice isn't up though the switch has told what it is.
     Ended,
-    /// Nothing, since the switch hasn't told yet what it is.
+    /// Nothing, since the switch hasn't connected; for a slice, since it hasn't told yet what it is.
     NotOpen,
 }

@@ -21,6 +21,7 @@ pub enum Event {
 /// An event and when it came.
 #[derive(Debug, Drop)]
 pub struct Timed {
+    /// What happened.
     pub event: Event,
     /// Milliseconds, since whatever the clock counts from.
     pub moment: u64,

@@ -61,7 +61,7 @@ pub fn frames_are_completed_once()
 {}
 
 /// Once the switch has told what it is, a slice has seen its features, and knows its own of the known
-/// ports. Those ascend by their numbers, and fit a FEATURES_REPLY.
+/// ports. Those ascend by their numbers, and are at most 1,364 where those of the opening are.
 pub fn slice_sees_its_switch()
     ensures seen { (policy : PolicyView) (slot : ℕ) (h : List Timed) (features : Features) → SeesItsSwitch policy slot h features }
     ensures order { (h : List Timed) → AreKnownInOrder h }

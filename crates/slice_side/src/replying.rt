@@ -1,10 +1,10 @@
 //! What is answered to a message, line by line.
 
-ghost use Rattle.std.specs.Prelude.{◌≡◌, ◌≤◌, false, length, List, IfOk, Some, option_to_list, true};
+ghost use Rattle.std.specs.Prelude.{ℕ, ◌≡◌, ◌≤◌, false, length, List, IfOk, Some, option_to_list, true};
 ghost use Rattle.of10_ctl.specs.Frames.{is_bad};
 ghost use Rattle.slice_words.specs.Messages.{version_of, is_kind, is_from_controller};
-ghost use Rattle.slice_words.specs.Items.{Item};
-ghost use Rattle.slice_words.specs.Answers.{error_for, hello_answer, config_reply, setting_answer, local_answer, formed_answer, message_answer};
+ghost use Rattle.slice_words.specs.Items.{Settings, Item};
+ghost use Rattle.slice_words.specs.Answers.{Past, error_for, hello_answer, config_reply, setting_answer, local_answer, formed_answer, message_answer};
 ghost use Rattle.slice_side.specs.Reactions.{Shown};
 
 use crate::fault::form_fault;
@@ -105,7 +105,7 @@ fn setting(alloc: Global, frame: &Frame) -> Result<Option<Frame>, AllocError>
 #[tactic(auto, unfolding(slice_words::specs::Answers::local_answer))]
 fn local(alloc: Global, around: &Around<'_>, frame: &Frame) -> Result<Option<Frame>, AllocError>
     requires { is_kind 9 frame.now ≡ true → 12 ≤ length frame.now }
-    ensures { (view : List Item) → Shown view around.now.policy.now.rules around.now.ports.now around.now.features.now around.now.slot around.now.miss_send_len → IfOk result (λ reply. option_to_list reply ≡ (local_answer view frame.now).to_slice) }
+    ensures { (s : Settings) (view : List Item) (past : List Past) (moment : ℕ) → Shown view around.now.policy.now.rules around.now.ports.now around.now.features.now around.now.slot around.now.miss_send_len → IfOk result (λ reply. option_to_list reply ≡ (local_answer s view past moment frame.now).to_slice) }
 {
     let head = frame.head();
     let bytes = frame.as_slice();
@@ -129,7 +129,7 @@ fn local(alloc: Global, around: &Around<'_>, frame: &Frame) -> Result<Option<Fra
 /// A message of a bad form is refused for its fault.
 fn formed(alloc: Global, around: &Around<'_>, frame: &Frame) -> Result<Option<Frame>, AllocError>
     requires { (version_of frame.now ≡ 1) × (is_bad frame.now ≡ false) }
-    ensures { (view : List Item) → Shown view around.now.policy.now.rules around.now.ports.now around.now.features.now around.now.slot around.now.miss_send_len → IfOk result (λ reply. option_to_list reply ≡ (formed_answer view frame.now).to_slice) }
+    ensures { (s : Settings) (view : List Item) (past : List Past) (moment : ℕ) → Shown view around.now.policy.now.rules around.now.ports.now around.now.features.now around.now.slot around.now.miss_send_len → IfOk result (λ reply. option_to_list reply ≡ (formed_answer s view past moment frame.now).to_slice) }
 {
     match form_fault(alloc, frame)? {
         None => local(alloc, around, frame),
@@ -147,7 +147,7 @@ pub(crate) fn reply(
     around: &Around<'_>,
     frame: &Frame,
 ) -> Result<Option<Frame>, AllocError>
-    ensures { (view : List Item) → Shown view around.now.policy.now.rules around.now.ports.now around.now.features.now around.now.slot around.now.miss_send_len → IfOk result (λ reply. option_to_list reply ≡ (message_answer view frame.now).to_slice) }
+    ensures { (s : Settings) (view : List Item) (past : List Past) (moment : ℕ) → Shown view around.now.policy.now.rules around.now.ports.now around.now.features.now around.now.slot around.now.miss_send_len → IfOk result (λ reply. option_to_list reply ≡ (message_answer s view past moment frame.now).to_slice) }
 {
     let head = frame.head();
     if frame.bad_length() {

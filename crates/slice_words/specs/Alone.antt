@@ -39,7 +39,7 @@ put_for s view (item ∷ items) = (answer_to s view item).to_switch ++ put_for s
 
 -- ---- the switch's own numbers
 
--- the number with which a slice's k-th buffered packet came, among the numbers of all, newest first
+-- the number with which a slice's k-th buffered packet came, among the numbers of all, newest first; k is below their number
 abbrev pub number_of : List ℕ → ℕ → ℕ
 number_of came k = get_or came (length came - 1 - k) no_buffer
 

@@ -25,6 +25,12 @@ pub record Answer : Type 0 where
   pub to_switch : List Outgoing
   pub dismissed : Bool
 
+-- an item and what followed from it
+pub record Past : Type 0 where
+  pub item : Item
+  pub answer : Answer
+
+-- nothing follows
 abbrev pub silence : Answer
 silence = record { to_slice = []; to_switch = []; dismissed = false }
 
@@ -83,22 +89,26 @@ config_reply length_set message = message_of GET_CONFIG_REPLY (xid_of message) (
 abbrev pub setting_answer : List ℕ → Answer
 setting_answer message = if flags_of message == 0 then silence else refused not_permitted message
 
--- messages of a good form that this proxy answers itself: echoes (section 5.5), features and configuration. What is sent on comes later
-unfoldable pub local_answer : List Item → List ℕ → Answer
-local_answer view message =
+-- what is to be sent on to the switch: flow-mods, packet-outs, statistics requests, barriers and questions for queues. Their lines come later: by the rate, by buffers that are held, by the rules, the book and the quota, and then what is sent
+abbrev pub forwarded_answer : Settings → List Item → List Past → ℕ → List ℕ → Answer
+forwarded_answer s view past moment message = silence
+
+-- messages of a good form: this proxy answers echoes (section 5.5), features and configuration itself
+unfoldable pub local_answer : Settings → List Item → List Past → ℕ → List ℕ → Answer
+local_answer s view past moment message =
     if is_kind ECHO_REQUEST message then told (message_of ECHO_REPLY (xid_of message) (drop 8 message) ∷ [])
     else if is_kind FEATURES_REQUEST message then features_answer view message
     else if is_kind GET_CONFIG_REQUEST message then told (config_reply (miss_send_len view) message ∷ [])
     else if is_kind SET_CONFIG message then setting_answer message
-    else silence
+    else forwarded_answer s view past moment message
 
 -- a message of a bad form is refused for its fault
-abbrev pub formed_answer : List Item → List ℕ → Answer
-formed_answer view message = elim (form_fault message) [ None ↦ local_answer view message | Some fault ↦ refused (class_and_code fault) message ]
+abbrev pub formed_answer : Settings → List Item → List Past → ℕ → List ℕ → Answer
+formed_answer s view past moment message = elim (form_fault message) [ None ↦ local_answer s view past moment message | Some fault ↦ refused (class_and_code fault) message ]
 
 -- a message of a controller, by the first of these lines that applies
-unfoldable pub message_answer : List Item → List ℕ → Answer
-message_answer view message =
+unfoldable pub message_answer : Settings → List Item → List Past → ℕ → List ℕ → Answer
+message_answer s view past moment message =
     if is_bad message then dismissal (error_for bad_length message ∷ [])
     else if is_kind HELLO message then hello_answer message
     else if not (version_of message == 1) then refused bad_version message
@@ -107,7 +117,7 @@ message_answer view message =
     else if is_kind ECHO_REPLY message then silence
     else if is_kind VENDOR message then refused bad_vendor message
     else if is_kind PORT_MOD message then refused not_permitted message
-    else formed_answer view message
+    else formed_answer s view past moment message
 
 -- ---- packets
 
@@ -133,15 +143,10 @@ packet_told view packet Probe = packet_message no_buffer (packet.total_len - 8) 
 
 -- ---- all items
 
--- an item and what followed from it
-pub record Past : Type 0 where
-  pub item : Item
-  pub answer : Answer
-
 -- what follows for a slice that is up. Of what the switch answers to requests nothing follows yet, since none is sent on
 abbrev pub answer_up : Settings → List Item → List Past → Item → Answer
 answer_up s view past Up = silence
-answer_up s view past (Msg message moment) = message_answer view message
+answer_up s view past (Msg message moment) = message_answer s view past moment message
 answer_up s view past (Handed packet) = told (packet_told view packet packet.share ∷ [])
 answer_up s view past (Removed entry) = silence
 answer_up s view past (Status status) = told (spell_port_status status 0 ∷ [])

@@ -1,4 +1,4 @@
--- The calls that a view makes of each part of a slice's state, newest first (this proxy's own rule). What is asked of the switch, the rate of it and what is booked come later; a connection that comes or ends forgets requests and collections.
+-- The calls that a view makes of each part of a slice's state, newest first (this proxy's own rule). What is asked of the switch, the rate of it, what is booked, and which buffered packets the slice holds come later; a connection that comes or ends forgets requests and collections.
 use Rattle.std.specs.Prelude.{ℕ, if◌then◌else◌, List, [], ◌∷◌}
 use Rattle.xid_map.specs.Requests.{RequestCall, Forget}
 use Rattle.xid_map.specs.Collections.{CollectionCall, EndAll}
@@ -11,7 +11,7 @@ abbrev pub request_calls : List Past → List RequestCall
 request_calls [] = []
 request_calls (p ∷ past) = if is_forgetting p.item then Forget ∷ request_calls past else request_calls past
 
--- statistics that are collected
+-- statistics that are collected: of their entries the longest run that fits is kept, and an aggregate sums all
 abbrev pub collection_calls : List Past → List CollectionCall
 collection_calls [] = []
 collection_calls (p ∷ past) = if is_forgetting p.item then EndAll ∷ collection_calls past else collection_calls past

@@ -14,7 +14,7 @@ use Rattle.slice_words.specs.Calls.{request_calls, collection_calls, questions, 
 abbrev pub past_of : Settings → List Item → List Past
 past_of s view = played (answer s) view
 
--- each part has the calls that the view makes of it, and the rest says what the look-ups in the view say
+-- each part has the calls that the view makes of it, and the rest says what the look-ups in the view say. The packets that the slice holds come later
 pub record SliceStands (s : Settings) (sight : Sight) (state : SliceState) : Type 0 where
   pub up : state.up ≡ is_up sight.view
   pub miss_send_len : state.miss_send_len ≡ miss_send_len sight.view
