@@ -5,6 +5,7 @@ ghost use Rattle.std.specs.Prelude.{◌≤◌};
 use crate::checking::give;
 use crate::expanding::{send, split};
 use crate::messages::Messages;
+use crate::parts::Part;
 use crate::policies::{check, largest};
 use crate::samples::Samples;
 use match_meet::{includes, meet};
@@ -39,6 +40,8 @@ pub enum Benchmark {
     Checking,
     /// Reading and loading the text of a policy of 2,048 rules in 32 slices.
     Policies,
+    /// A call to a part of a slice.
+    Of(Part),
 }
 
 /// Those of single messages, in the order in which they are made.
@@ -51,11 +54,18 @@ pub const ALL: [Benchmark; 6] = [
     Benchmark::LargePackets,
 ];
 
-/// Those with as many rules as a slice may write.
-pub const LARGE: [Benchmark; 3] = [
+/// The others: those with as many rules as there may be, and those of the parts of a slice.
+pub const OTHERS: [Benchmark; 10] = [
     Benchmark::Splitting,
     Benchmark::Sending,
     Benchmark::Checking,
+    Benchmark::Policies,
+    Benchmark::Of(Part::Issue),
+    Benchmark::Of(Part::Find),
+    Benchmark::Of(Part::Ask),
+    Benchmark::Of(Part::Booked),
+    Benchmark::Of(Part::Overlaps),
+    Benchmark::Of(Part::Newcomers),
 ];
 
 impl Benchmark {
@@ -72,6 +82,7 @@ impl Benchmark {
             Benchmark::Sending => "build",
             Benchmark::Checking => "actions",
             Benchmark::Policies => "check",
+            Benchmark::Of(part) => part.name(),
         }
     }
 
@@ -80,6 +91,7 @@ impl Benchmark {
         match self {
             Benchmark::Splitting | Benchmark::Sending | Benchmark::Checking => 1_000,
             Benchmark::Policies => 10,
+            Benchmark::Of(part) => part.least_measured(),
             _ => 1_000_000,
         }
     }
@@ -91,7 +103,8 @@ impl Benchmark {
             | Benchmark::Splitting
             | Benchmark::Sending
             | Benchmark::Checking
-            | Benchmark::Policies => None,
+            | Benchmark::Policies
+            | Benchmark::Of(_) => None,
             Benchmark::Framing => Some(Messages::PIECE as u64),
             Benchmark::SmallPackets => Some(messages.small().as_slice().len() as u64),
             Benchmark::LargePackets => Some(messages.large().as_slice().len() as u64),
@@ -124,7 +137,7 @@ fn ask(samples: &Samples, question: Question, count: u64) -> u64
 }
 
 /// Makes so many calls, and counts what they find: answers that are yes, frames, packets, pieces,
-/// messages, lists, or policies that are accepted.
+/// messages, lists, policies that are accepted, requests, or pairs.
 pub fn run(
     alloc: Global,
     samples: &Samples,
@@ -141,5 +154,6 @@ pub fn run(
         Benchmark::Sending => send(alloc, count),
         Benchmark::Checking => give(alloc, count),
         Benchmark::Policies => Ok(check(alloc, &largest(alloc)?, count)),
+        Benchmark::Of(part) => part.run(alloc, count),
     }
 }

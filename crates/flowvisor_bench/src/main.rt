@@ -2,17 +2,19 @@
 //! `flowvisor_bench BENCHMARK COUNT`, where the benchmark is one that `benchmark` names, or `all` for those
 //! of single messages. It prints what the calls found and, from a million of them on, how many millions or
 //! how many megabytes there were in a second; of those with many rules how many thousand, from a thousand
-//! on; of policies how many, from ten on.
+//! on, and of those that go through many booked pairs from ten thousand on; of policies how many, from ten
+//! on.
 #![tactic(auto)]
 
 mod benchmark;
 mod checking;
 mod expanding;
 mod messages;
+mod parts;
 mod policies;
 mod samples;
 
-use benchmark::{ALL, Benchmark, LARGE, run};
+use benchmark::{ALL, Benchmark, OTHERS, run};
 use messages::Messages;
 use samples::Samples;
 use std::process::ExitCode;
@@ -23,7 +25,7 @@ use std::{env, io};
 const MOST_CALLS: u64 = 100_000_000_000;
 
 const USAGE: &str =
-    "usage: flowvisor_bench matches|meet|includes|framing|packet-in-64|packet-in-1500|pieces|build|actions|check|all COUNT\n";
+    "usage: flowvisor_bench matches|meet|includes|framing|packet-in-64|packet-in-1500|pieces|build|actions|check|issue|find|ask|booked|overlaps|newcomers|all COUNT\n";
 
 /// What the words ask for.
 #[derive(Drop)]
@@ -33,10 +35,7 @@ struct Order {
 }
 
 fn named(name: &str) -> Option<Benchmark> {
-    let mut benchmarks = ALL.into_iter().chain(LARGE);
-    if name == Benchmark::Policies.name() {
-        return Some(Benchmark::Policies);
-    }
+    let mut benchmarks = ALL.into_iter().chain(OTHERS);
     benchmarks.find(|one| one.name() == name)
 }
 
@@ -72,8 +71,8 @@ fn measure(
     }
     let (each, unit) = match benchmark.bytes(messages) {
         Some(bytes) => (bytes, "MB"),
-        None if LARGE.contains(&benchmark) => (1_000, "thousand"),
         None if benchmark == Benchmark::Policies => (1_000_000, "policies"),
+        None if benchmark.least_measured() < 1_000_000 => (1_000, "thousand"),
         None => (1, "million"),
     };
     let tenths = u128::from(count)

@@ -1,0 +1,230 @@
+//! The parts of a slice: its requests, its rate, and the pairs that it has booked.
+
+use flow_book::FlowBook;
+use of10_flow::protocol::{ADD, MODIFY};
+use of10_match::Match;
+use of10_model::wire::{set_u16, set_u32};
+use rate_bucket::RateBucket;
+use std::alloc::{AllocError, Global};
+use xid_map::{AskKind, Asked, XidMap};
+
+/// How many requests are remembered.
+const REMEMBERED: u64 = 4_096;
+
+/// How many pairs are booked. Their matches are those of the first TCP ports.
+const BOOKED: u16 = 4_096;
+
+/// How many TCP ports there are matches of. Those of the last ports are not booked.
+const PORTS: u16 = 4_608;
+
+/// So many pairs have one priority.
+const OF_PRIORITY: u16 = 512;
+
+/// The most requests that a map may issue.
+const MOST_REQUESTS: u64 = 1 << 62;
+
+/// The first transaction id of the slice in slot 1, and how many it has.
+const FIRST_ID: u32 = 0x0100_0000;
+
+const IDS: u32 = 0x0100_0000;
+
+/// A call to a part of a slice.
+#[derive(Clone, Copy, Debug, PartialEq, Eq)]
+pub enum Part {
+    /// Issuing a request.
+    Issue,
+    /// Finding a request by its transaction id.
+    Find,
+    /// Asking whether a message keeps the rate.
+    Ask,
+    /// Looking a pair up.
+    Booked,
+    /// Whether a piece shares a header with a booked match of a priority.
+    Overlaps,
+    /// Counting what a MODIFY would book.
+    Newcomers,
+}
+
+impl Part {
+    /// Its name.
+    pub fn name(self) -> &'static str {
+        match self {
+            Part::Issue => "issue",
+            Part::Find => "find",
+            Part::Ask => "ask",
+            Part::Booked => "booked",
+            Part::Overlaps => "overlaps",
+            Part::Newcomers => "newcomers",
+        }
+    }
+
+    /// Fewer calls than these are too few to measure.
+    pub fn least_measured(self) -> u64 {
+        match self {
+            Part::Overlaps | Part::Newcomers => 10_000,
+            _ => 1_000_000,
+        }
+    }
+
+    /// Makes so many calls, and counts what they find.
+    pub fn run(self, alloc: Global, count: u64) -> Result<u64, AllocError> {
+        match self {
+            Part::Issue => issue(alloc, count),
+            Part::Find => find(alloc, count),
+            Part::Ask => Ok(ask(count)),
+            Part::Booked => look_up(alloc, count),
+            Part::Overlaps => overlap(alloc, count),
+            Part::Newcomers => modify(alloc, count),
+        }
+    }
+}
+
+/// A flow-mod of the slice.
+fn asked(xid: u32) -> Asked {
+    Asked {
+        xid,
+        first: [0; 64],
+        first_len: 64,
+        kind: AskKind::FlowMod,
+        port: 0,
+    }
+}
+
+/// A map that has issued so many requests, and how many of their transaction ids are the slice's.
+fn issued(alloc: Global, count: u64) -> Result<(XidMap, u64), AllocError> {
+    let mut map = XidMap::new(alloc, 1)?;
+    let mut found = 0u64;
+    for number in 0..count.min(MOST_REQUESTS) {
+        let id = map.issue(asked((number % u64::from(IDS)) as u32));
+        if id / IDS == FIRST_ID / IDS {
+            found = found.saturating_add(1);
+        }
+    }
+    Ok((map, found))
+}
+
+/// Issues so many requests, and counts the transaction ids that are the slice's.
+fn issue(alloc: Global, count: u64) -> Result<u64, AllocError> {
+    let (_map, found) = issued(alloc, count)?;
+    Ok(found)
+}
+
+/// Looks so often for one of the remembered requests, and counts those that are found by their numbers.
+fn find(alloc: Global, count: u64) -> Result<u64, AllocError> {
+    let (map, _) = issued(alloc, REMEMBERED)?;
+    let mut found = 0u64;
+    for number in 0..count {
+        let spread = number % REMEMBERED * 1_031 % REMEMBERED;
+        let request = map.find(FIRST_ID + spread as u32);
+        if request.is_some_and(|request| request.number == spread) {
+            found = found.saturating_add(1);
+        }
+    }
+    Ok(found)
+}
+
+/// Asks so often, two questions a millisecond of which one may be asked, and counts the answers that are
+/// yes.
+fn ask(count: u64) -> u64 {
+    let mut bucket = RateBucket::new(1_000, 1_000);
+    let mut found = 0u64;
+    for number in 0..count {
+        if bucket.ask(number / 2) {
+            found = found.saturating_add(1);
+        }
+    }
+    found
+}
+
+/// The packets to a TCP port.
+fn to_port(port: u16) -> Match {
+    let mut bytes = [0; 40];
+    set_u32(&mut bytes, 0, 0x0038_204f);
+    set_u16(&mut bytes, 22, 0x0800);
+    bytes[25] = 6;
+    set_u16(&mut bytes, 38, port);
+    Match::decode(&bytes)
+}
+
+fn priority(port: u16) -> u16 {
+    port / OF_PRIORITY
+}
+
+/// The TCP port that a number picks. Those of two numbers in a row are far apart.
+fn picked(number: u64) -> u16 {
+    (number % u64::from(PORTS) * 1_031 % u64::from(PORTS)) as u16
+}
+
+/// The match of each TCP port.
+fn matches(alloc: Global) -> Result<Vec<Match>, AllocError> {
+    let mut matches = Vec::new(alloc);
+    for port in 0..PORTS {
+        matches.push(to_port(port))?;
+    }
+    Ok(matches)
+}
+
+/// Books a pair.
+fn add(book: &mut FlowBook, piece: &Match, priority: u16) -> Result<(), AllocError> {
+    book.reserve(1)?;
+    if book.count() < u32::from(PORTS) {
+        book.added(ADD, &[*piece], priority, false, 0);
+    }
+    Ok(())
+}
+
+/// The book with its pairs.
+fn filled(alloc: Global) -> Result<FlowBook, AllocError> {
+    let mut book = FlowBook::new(alloc);
+    for port in 0..BOOKED {
+        add(&mut book, &to_port(port), priority(port))?;
+    }
+    Ok(book)
+}
+
+/// Looks pairs up so often, and counts those that are booked.
+fn look_up(alloc: Global, count: u64) -> Result<u64, AllocError> {
+    let matches = matches(alloc)?;
+    let book = filled(alloc)?;
+    let mut found = 0u64;
+    for number in 0..count {
+        let port = picked(number);
+        let pattern = matches.get(port as usize);
+        if pattern.is_some_and(|pattern| book.booked(pattern, priority(port)).is_some()) {
+            found = found.saturating_add(1);
+        }
+    }
+    Ok(found)
+}
+
+/// Asks so often whether a piece overlaps, at one priority after the other, and counts those that do.
+fn overlap(alloc: Global, count: u64) -> Result<u64, AllocError> {
+    let matches = matches(alloc)?;
+    let book = filled(alloc)?;
+    let mut found = 0u64;
+    for number in 0..count {
+        let port = picked(number);
+        if let Some(piece) = matches.get(port as usize) {
+            if book.overlaps(&[*piece], (number % 8) as u16) {
+                found = found.saturating_add(1);
+            }
+        }
+    }
+    Ok(found)
+}
+
+/// Counts so often what a MODIFY would book whose one piece includes none of the booked matches, so that it
+/// is compared with each.
+fn modify(alloc: Global, count: u64) -> Result<u64, AllocError> {
+    let matches = matches(alloc)?;
+    let book = filled(alloc)?;
+    let mut found = 0u64;
+    for number in 0..count {
+        let port = u64::from(BOOKED) + number % u64::from(PORTS - BOOKED);
+        if let Some(piece) = matches.get(port as usize) {
+            let newcomers = book.newcomers(MODIFY, &[*piece], 0);
+            found = found.saturating_add(u64::from(newcomers));
+        }
+    }
+    Ok(found)
+}
