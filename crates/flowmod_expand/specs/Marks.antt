@@ -1,26 +1,29 @@
 -- A number by which most matches that differ are told apart at once. All of this is the proxy's own rule.
-use Rattle.std.specs.Prelude.{ℕ, ◌≡◌, ◌+◌, ◌*◌, ◌/◌, ◌%◌, ◌^◌, Bool, true, false, List, slice_index_or, All, Option}
+use Rattle.std.specs.Prelude.{ℕ, ◌≡◌, ◌+◌, ◌*◌, ◌/◌, ◌%◌, ◌^◌, Bool, true, false, List, slice_index_or, All, Option, Some, None}
 use Rattle.of10_model.specs.declared.pattern.Prefix.{Prefix}
 use Rattle.of10_model.specs.declared.pattern.Pattern.{Pattern}
-use Rattle.of10_model.specs.Spelling.{number_or_zero, address_or_zero, ignored}
 
--- the address and how many of its bits are ignored
-abbrev pub address_sum : Option Prefix → ℕ
-address_sum address = address_or_zero address + ignored address
+-- a field's number: zero where the field is free, else one more than its value
+abbrev pub field_key : Option ℕ → ℕ
+field_key None = 0
+field_key (Some v) = v + 1
 
--- the fields in which matches of one slice differ most often, added up with factors
-unfoldable pub field_sum : Pattern → ℕ
-field_sum m =
-    address_sum m.nw_src * 3 + address_sum m.nw_dst * 5 + number_or_zero m.tp_src * 7 + number_or_zero m.tp_dst * 11 + number_or_zero m.in_port * 13
-    + number_or_zero m.dl_vlan * 17 + number_or_zero m.dl_src % 2 ^ 16 * 19 + number_or_zero m.dl_dst % 2 ^ 16 * 23
+-- an address's number: zero where it is free, else its value and behind it how many of its bits count
+abbrev pub prefix_key : Option Prefix → ℕ
+prefix_key None = 0
+prefix_key (Some p) = p.value * 256 + p.bits
 
--- a number below 1,024: the ten highest of 64 bits of the sum's product with 2^64 over the golden ratio
-abbrev pub folded : ℕ → ℕ
-folded sum = sum * 0x9e3779b97f4a7c15 % 2 ^ 64 / 2 ^ 54
+-- the numbers of the twelve fields, each by an odd factor of its own, added up
+unfoldable pub weighed : Pattern → ℕ
+weighed m =
+    prefix_key m.nw_dst * 0xaa5c0dcd6b125a97 + prefix_key m.nw_src * 0x86498aff40cc9389 + field_key m.tp_dst * 0xc0257e403811c379
+    + field_key m.tp_src * 0xf41cad5364f02a79 + field_key m.dl_dst * 0xb446e1900f163969 + field_key m.dl_src * 0xd8c0fde9ff1170c9
+    + field_key m.in_port * 0xfbc42e82782acb93 + field_key m.dl_vlan * 0x87b341d690d7a28b + field_key m.dl_vlan_pcp * 0xd949950498afa09f
+    + field_key m.dl_type * 0xaac3b94b66a96617 + field_key m.nw_proto * 0xd62287549a027b0b + field_key m.nw_tos * 0xa427f0e6cd04c29f
 
--- the number of a match, which matches that are one share
+-- the number of a match, below 1,024, which matches that are one share: the ten highest of the sum's 64 bits
 abbrev pub mark_of : Pattern → ℕ
-mark_of m = folded (field_sum m)
+mark_of m = weighed m % 2 ^ 64 / 2 ^ 54
 
 -- the numbers of the matches are marked
 abbrev pub AreMarked : List Bool → List Pattern → Type 0
