@@ -1,5 +1,5 @@
-//! The expansion of flow-mods, for a slice that has as many rules to write as it may have. Each is for a
-//! TCP port of its own, so a flow-mod for all packets has as many pieces.
+//! The expansion of flow-mods, for a slice that has as many rules to write as it may have. They are in turn
+//! for a VLAN and for a TCP port of their own, so a flow-mod for all packets has as many pieces.
 
 use flowmod_expand::{build, pieces};
 use flowspace::SwitchPolicy;
@@ -13,19 +13,48 @@ use std::alloc::{AllocError, Global};
 
 const SLICE: &str = "version = 1\n[[slice]]\nname = \"alice\"\ncontroller = \"127.0.0.1:6633\"\n";
 
-/// The policy of that slice on some switch.
-pub fn policy(alloc: Global) -> Result<Option<SwitchPolicy>, AllocError> {
-    let mut text = String::from_str(alloc, SLICE)?;
-    for port in 0..WRITES {
-        write!(
-            text,
-            "[[rule]]\npriority = 7\nwrite = \"alice\"\ndl_type = 2048\nnw_proto = 6\ntp_dst = {port}\n"
-        )?;
-    }
+fn add_port(text: &mut String, port: usize) -> Result<(), AllocError> {
+    write!(
+        text,
+        "[[rule]]\npriority = 7\nwrite = \"alice\"\ndl_type = 2048\nnw_proto = 6\ntp_dst = {port}\n"
+    )
+}
+
+fn add_vlan(text: &mut String, vlan: usize) -> Result<(), AllocError> {
+    write!(
+        text,
+        "[[rule]]\npriority = 7\nwrite = \"alice\"\ndl_vlan = {vlan}\n"
+    )
+}
+
+/// What the text says for some switch.
+fn of_switch(alloc: Global, text: &str) -> Result<Option<SwitchPolicy>, AllocError> {
     match read(alloc, text.as_bytes()) {
         Ok(policy) => Ok(Some(policy.of_switch(alloc, 0)?)),
         Err(_) => Ok(None),
     }
+}
+
+/// The policy of that slice where each rule is for a TCP port of its own.
+pub fn policy(alloc: Global) -> Result<Option<SwitchPolicy>, AllocError> {
+    let mut text = String::from_str(alloc, SLICE)?;
+    for port in 0..WRITES {
+        add_port(&mut text, port)?;
+    }
+    of_switch(alloc, &text)
+}
+
+/// That where the rules are in turn for a VLAN and for a TCP port.
+fn varied(alloc: Global) -> Result<Option<SwitchPolicy>, AllocError> {
+    let mut text = String::from_str(alloc, SLICE)?;
+    for number in 0..WRITES {
+        if number % 2 == 0 {
+            add_vlan(&mut text, number)?;
+        } else {
+            add_port(&mut text, number)?;
+        }
+    }
+    of_switch(alloc, &text)
 }
 
 fn add(alloc: Global) -> Result<FlowMod, AllocError> {
@@ -59,7 +88,7 @@ fn outputs(alloc: Global, count: usize) -> Result<Vec<Actions>, AllocError> {
 
 /// Finds the pieces of all packets so often, and counts them.
 pub fn split(alloc: Global, count: u64) -> Result<u64, AllocError> {
-    let Some(policy) = policy(alloc)? else {
+    let Some(policy) = varied(alloc)? else {
         return Ok(0);
     };
     let mut found = 0u64;
@@ -72,7 +101,7 @@ pub fn split(alloc: Global, count: u64) -> Result<u64, AllocError> {
 
 /// Makes the messages of those pieces so often, and counts them.
 pub fn send(alloc: Global, count: u64) -> Result<u64, AllocError> {
-    let Some(policy) = policy(alloc)? else {
+    let Some(policy) = varied(alloc)? else {
         return Ok(0);
     };
     let pieces = pieces(alloc, &policy, 0, &Match::all())?;
