@@ -1,0 +1,201 @@
+-- What comes into each queue.
+use Rattle.std.proofs.Common.{◌≡◌, ◌≢◌, ℕ, ◌+◌, ◌<◌, ◌≤◌, ◌==◌, Bool, true, false, if◌then◌else◌, List, [], ◌∷◌, ◌++◌, length, set, slice_get, refl, ap, ap₂, sym, ◌∙◌, subst, true≢false, eqb-true, append-nil, inl, inr, Some, arith}
+use Rattle.std.specs.Prelude.{ltb}
+use Rattle.std.proofs.lemmas.Bool.{cases_Bool, eq-eqb, cases_lt}
+use Rattle.std.proofs.lemmas.List.{length-set}
+use Rattle.std.proofs.lemmas.Option.{slice_get_within}
+use Rattle.flowspace.specs.declared.slices.Slice.{Slice}
+use Rattle.flowspace.specs.Policies.{PolicyView}
+use Rattle.outbox.specs.Queues.{Queue, no_messages, push, push_all, Kept, QueueStands}
+use Rattle.desk_words.specs.declared.event.Timed.{Timed}
+use Rattle.desk_words.specs.Openings.{Switch}
+use Rattle.desk_words.specs.Histories.{Side}
+use Rattle.desk_words.specs.Sent.{sent_with}
+use Rattle.switch_side.specs.Dispatches.{addressed, sent_from}
+use Rattle.proxy_core.specs.Slots.{SameQueue, HasMore, HasOnly}
+use Rattle.proxy_core.specs.Handing.{of_slot, HaveRoom, AreSame, AreHanded}
+use Rattle.proxy_core.proofs.Lists.{there, within}
+use Rattle.proxy_core.proofs.Places.{some_is, get_set, get_other}
+
+-- ---- one queue
+
+pub only_none : (a b : Kept) → ((limit : ℕ) (q : Queue) → QueueStands limit q a → QueueStands limit no_messages b) → HasOnly [] a b
+unfolding push_all
+only_none a b clear = clear
+
+pub only_one : (message : List ℕ) (a b c d : Kept) → SameQueue a b → ((limit : ℕ) (q : Queue) → QueueStands limit q b → QueueStands limit no_messages c)
+    → ((limit : ℕ) (q : Queue) → QueueStands limit q c → QueueStands limit (push limit q message) d) → HasOnly (message ∷ []) a d
+unfolding push_all
+only_one message a b c d same clear more = λ limit q h. more limit no_messages (clear limit q (same limit q h))
+
+pub none_more : (a : Kept) → HasMore [] a a
+unfolding push_all
+none_more a = λ limit q h. h
+
+one_more : (message : List ℕ) (a b : Kept) → ((limit : ℕ) (q : Queue) → QueueStands limit q a → QueueStands limit (push limit q message) b) → HasMore (message ∷ []) a b
+unfolding push_all
+one_more message a b more = more
+
+first_more : (message : List ℕ) (later : List (List ℕ)) (a b c : Kept) → HasMore (message ∷ []) a b → HasMore later b c → HasMore (message ∷ later) a c
+unfolding push_all
+first_more message later a b c one others = λ limit q h. others limit (push limit q message) (one limit q h)
+
+then_more : (later : List (List ℕ)) (a b c : Kept) → HasMore [] a b → HasMore later b c → HasMore later a c
+unfolding push_all
+then_more later a b c one others = λ limit q h. others limit q (one limit q h)
+
+-- ---- all queues
+
+same_kept : (slot : ℕ) (xs : List Kept) (a b : Kept) → slice_get xs slot ≡ Some a → slice_get xs slot ≡ Some b → a ≡ b
+same_kept slot xs a b ga gb = some_is (sym ga ∙ gb)
+
+pub same_all : (xs : List Kept) → AreSame xs xs
+same_all xs = record {
+  count = refl;
+  each = λ slot a b ga gb. subst (λ (k : Kept). SameQueue a k) (same_kept slot xs a b ga gb) (λ limit q h. h);
+}
+
+-- a queue that is as it was, in its place
+pub same_set : (old xs : List Kept) (at : ℕ) (x y : Kept) → AreSame old xs → slice_get xs at ≡ Some x → SameQueue x y → AreSame old (set xs at y)
+same_set old xs at x y same gx keeps = record {
+  count = length-set xs at y ∙ same.count;
+  each = λ slot a b ga gb. elim (cases_Bool (slot == at)) [
+    | inl is ↦
+        let e : slot ≡ at = eqb-true slot at is in
+        let gb2 : slice_get (set xs at y) at ≡ Some b = subst (λ (k : ℕ). slice_get (set xs at y) k ≡ Some b) e gb in
+        let is_y : y ≡ b = some_is (sym (get_set xs at x y gx) ∙ gb2) in
+        let first : SameQueue a x = same.each slot a x ga (subst (λ (k : ℕ). slice_get xs k ≡ Some x) (sym e) gx) in
+        subst (λ (k : Kept). SameQueue a k) is_y (λ limit q h. keeps limit q (first limit q h))
+    | inr isnt ↦
+        same.each slot a b ga (sym (get_other xs at slot y (λ e. true≢false (sym (eq-eqb slot at e) ∙ isnt))) ∙ gb)
+  ];
+}
+
+pub none_handed : (xs : List Kept) → AreHanded [] xs xs
+none_handed xs = record {
+  count = refl;
+  each = λ slot a b ga gb. subst (λ (k : Kept). HasMore [] a k) (same_kept slot xs a b ga gb) (none_more a);
+}
+
+slot_one : (slot i : ℕ) (message : List ℕ) (b : Bool) → (slot == i) ≡ b → of_slot i ((slot, message) ∷ []) ≡ (if b then message ∷ [] else [])
+slot_one slot i message true is = rw is refl
+slot_one slot i message false is = rw is refl
+
+unlike : (a b : ℕ) → a ≢ b → (a == b) ≡ false
+unlike a b other = elim (cases_Bool (a == b)) [ inl is ↦ absurd (other (eqb-true a b is)) | inr isnt ↦ isnt ]
+
+pub put_handed : (xs : List Kept) (slot : ℕ) (message : List ℕ) (x y : Kept) → slice_get xs slot ≡ Some x
+    → ((limit : ℕ) (q : Queue) → QueueStands limit q x → QueueStands limit (push limit q message) y)
+    → AreHanded ((slot, message) ∷ []) xs (set xs slot y)
+put_handed xs slot message x y gx more = record {
+  count = length-set xs slot y;
+  each = λ i a b ga gb. elim (cases_Bool (slot == i)) [
+    | inl is ↦
+        let e : slot ≡ i = eqb-true slot i is in
+        let is_x : x ≡ a = some_is (sym gx ∙ subst (λ (k : ℕ). slice_get xs k ≡ Some a) (sym e) ga) in
+        let is_y : y ≡ b = some_is (sym (get_set xs slot x y gx) ∙ subst (λ (k : ℕ). slice_get (set xs slot y) k ≡ Some b) (sym e) gb) in
+        subst (λ (m : List (List ℕ)). HasMore m a b) (sym (slot_one slot i message true is))
+        (subst (λ (k : Kept). HasMore (message ∷ []) k b) is_x (subst (λ (k : Kept). HasMore (message ∷ []) x k) is_y (one_more message x y more)))
+    | inr isnt ↦
+        let far : i ≢ slot = λ e. true≢false (sym (eq-eqb slot i (sym e)) ∙ isnt) in
+        subst (λ (m : List (List ℕ)). HasMore m a b) (sym (slot_one slot i message false isnt))
+        (subst (λ (k : Kept). HasMore [] a k) (some_is (sym ga ∙ sym (get_other xs slot i y far) ∙ gb)) (none_more a))
+  ];
+}
+
+pub none_put : (xs : List Kept) (slot : ℕ) (message : List ℕ) → length xs ≤ slot → AreHanded ((slot, message) ∷ []) xs xs
+none_put xs slot message out = record {
+  count = refl;
+  each = λ i a b ga gb.
+      let inside = slice_get_within xs i a ga in
+      let far : slot ≢ i = λ e. absurd (omega (arith, e)) in
+      subst (λ (m : List (List ℕ)). HasMore m a b) (sym (slot_one slot i message false (unlike slot i far)))
+      (subst (λ (k : Kept). HasMore [] a k) (same_kept i xs a b ga gb) (none_more a));
+}
+
+pub put_room : (xs : List Kept) (slot n : ℕ) (x y : Kept) → slice_get xs slot ≡ Some x → x.room ≤ y.room + 1 → HaveRoom (n + 1) xs → HaveRoom n (set xs slot y)
+put_room xs slot n x y gx less room = λ i b gb. elim (cases_Bool (slot == i)) [
+  | inl is ↦
+      let e : slot ≡ i = eqb-true slot i is in
+      let is_y : y ≡ b = some_is (sym (get_set xs slot x y gx) ∙ subst (λ (k : ℕ). slice_get (set xs slot y) k ≡ Some b) (sym e) gb) in
+      let was = room slot x gx in
+      subst (λ (k : Kept). n ≤ k.room) is_y (omega arith)
+  | inr isnt ↦
+      let far : i ≢ slot = λ e. true≢false (sym (eq-eqb slot i (sym e)) ∙ isnt) in
+      let was = room i b (sym (get_other xs slot i y far) ∙ gb) in
+      omega arith
+]
+
+pub less_room : (xs : List Kept) (n : ℕ) → HaveRoom (n + 1) xs → HaveRoom n xs
+less_room xs n room = λ i b gb. (let was = room i b gb in omega arith)
+
+slot_first : (slot i : ℕ) (message : List ℕ) (later : List (ℕ × List ℕ)) (b : Bool) → (slot == i) ≡ b
+    → of_slot i ((slot, message) ∷ later) ≡ (if b then message ∷ of_slot i later else of_slot i later)
+slot_first slot i message later true is = rw is refl
+slot_first slot i message later false is = rw is refl
+
+pub handed_more : (slot : ℕ) (message : List ℕ) (later : List (ℕ × List ℕ)) (xs ys zs : List Kept) → AreHanded ((slot, message) ∷ []) xs ys → AreHanded later ys zs
+    → AreHanded ((slot, message) ∷ later) xs zs
+handed_more slot message later xs ys zs one others = record {
+  count = others.count ∙ one.count;
+  each = λ i a c ga gc.
+      let b = there ys i (subst (λ (n : ℕ). ltb i n ≡ true) (sym one.count) (within xs i a ga)) in
+      let first = one.each i a b.0 ga b.1 in
+      let rest = others.each i b.0 c b.1 gc in
+      elim (cases_Bool (slot == i)) [
+        | inl is ↦ subst (λ (m : List (List ℕ)). HasMore m a c) (sym (slot_first slot i message later true is))
+            (first_more message (of_slot i later) a b.0 c (subst (λ (m : List (List ℕ)). HasMore m a b.0) (slot_one slot i message true is) first) rest)
+        | inr isnt ↦ subst (λ (m : List (List ℕ)). HasMore m a c) (sym (slot_first slot i message later false isnt))
+            (then_more (of_slot i later) a b.0 c (subst (λ (m : List (List ℕ)). HasMore m a b.0) (slot_one slot i message false isnt) first) rest)
+      ];
+}
+
+-- ---- what each slice is sent at a message of the switch
+
+joined_if : (b : Bool) (message : List ℕ) (whole front back : List (List ℕ)) → whole ≡ front ++ back → (if b then message ∷ whole else whole) ≡ (if b then message ∷ front else front) ++ back
+joined_if true message whole front back is = ap (λ (m : List (List ℕ)). message ∷ m) is
+joined_if false message whole front back is = is
+
+slot_append : (slot : ℕ) (a b : List (ℕ × List ℕ)) → of_slot slot (a ++ b) ≡ of_slot slot a ++ of_slot slot b
+slot_append slot [] b = refl
+slot_append slot (pair ∷ later) b = joined_if (pair.0 == slot) pair.1 (of_slot slot (later ++ b)) (of_slot slot later) (of_slot slot b) (slot_append slot later b)
+
+slot_own : (slot : ℕ) (messages : List (List ℕ)) → of_slot slot (addressed slot messages) ≡ messages
+slot_own slot [] = refl
+slot_own slot (message ∷ later) = slot_first slot slot message (addressed slot later) true (eq-eqb slot slot refl) ∙ ap (λ (m : List (List ℕ)). message ∷ m) (slot_own slot later)
+
+slot_others : (other slot : ℕ) (messages : List (List ℕ)) → other ≢ slot → of_slot slot (addressed other messages) ≡ []
+slot_others other slot [] far = refl
+slot_others other slot (message ∷ later) far = slot_first other slot message (addressed other later) false (unlike other slot far) ∙ slot_others other slot later far
+
+further : (a b : ℕ) → a ≤ b → a ≢ b → a + 1 ≤ b
+further a b low far = elim (cases_lt a b) [ inl less ↦ omega arith | inr more ↦ absurd (far (omega arith)) ]
+
+slot_behind : (p : PolicyView) (switch : Switch) (sides : ℕ → Side) (timed : Timed) (from slot : ℕ) (slices : List Slice) → slot < from
+    → of_slot slot (sent_from p switch sides timed from slices) ≡ []
+slot_behind p switch sides timed from slot [] less = refl
+slot_behind p switch sides timed from slot (slice ∷ others) less =
+    slot_append slot (addressed from (sent_with p from switch (sides from) timed)) (sent_from p switch sides timed (from + 1) others)
+    ∙ ap₂ (λ (a b : List (List ℕ)). a ++ b) (slot_others from slot (sent_with p from switch (sides from) timed) (λ e. absurd (omega (arith, e))))
+    (slot_behind p switch sides timed (from + 1) slot others (omega arith))
+
+slot_here : (p : PolicyView) (switch : Switch) (sides : ℕ → Side) (timed : Timed) (from : ℕ) (slice : Slice) (others : List Slice)
+    → of_slot from (sent_from p switch sides timed from (slice ∷ others)) ≡ sent_with p from switch (sides from) timed
+slot_here p switch sides timed from slice others =
+    slot_append from (addressed from (sent_with p from switch (sides from) timed)) (sent_from p switch sides timed (from + 1) others)
+    ∙ ap₂ (λ (a b : List (List ℕ)). a ++ b) (slot_own from (sent_with p from switch (sides from) timed)) (slot_behind p switch sides timed (from + 1) from others (omega arith))
+    ∙ append-nil _
+
+pub slot_sent : (p : PolicyView) (switch : Switch) (sides : ℕ → Side) (timed : Timed) (from slot : ℕ) (slices : List Slice) → from ≤ slot → slot < from + length slices
+    → of_slot slot (sent_from p switch sides timed from slices) ≡ sent_with p slot switch (sides slot) timed
+slot_sent p switch sides timed from slot [] low high = absurd (omega arith)
+slot_sent p switch sides timed from slot (slice ∷ others) low high = elim (cases_Bool (from == slot)) [
+  | inl is ↦
+      let e : from ≡ slot = eqb-true from slot is in
+      subst (λ (k : ℕ). of_slot k (sent_from p switch sides timed from (slice ∷ others)) ≡ sent_with p k switch (sides k) timed) e (slot_here p switch sides timed from slice others)
+  | inr isnt ↦
+      let far : from ≢ slot = λ e. true≢false (sym (eq-eqb from slot e) ∙ isnt) in
+      slot_append slot (addressed from (sent_with p from switch (sides from) timed)) (sent_from p switch sides timed (from + 1) others)
+      ∙ ap₂ (λ (a b : List (List ℕ)). a ++ b) (slot_others from slot (sent_with p from switch (sides from) timed) far)
+      (slot_sent p switch sides timed (from + 1) slot others (further from slot low far) (omega arith))
+]

@@ -1,0 +1,14 @@
+mod Lists
+mod Places
+mod Handed
+mod Rooms
+mod Fitting
+mod Standing
+mod Slices
+mod Acting
+mod Beginning
+mod Operating
+mod Events
+mod Sliced
+mod Switched
+mod Taking

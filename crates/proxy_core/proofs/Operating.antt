@@ -1,0 +1,138 @@
+-- Operations: what a desk stands for with one step or one take more.
+use Rattle.std.proofs.Common.{◌≡◌, ℕ, suc, arith, ◌+◌, ◌^◌, ◌||◌, ◌==◌, leb, not, Bool, true, false, if◌then◌else◌, List, [], ◌∷◌, length, slice_get, refl, ap, ap₂, sym, ◌∙◌, true≢false, Option, Some, None, Ok, Err}
+use Rattle.std.specs.declared.alloc.AllocError.{AllocError}
+use Rattle.flowspace.specs.Policies.{PolicyView}
+use Rattle.outbox.specs.Queues.{Queue, without_first}
+use Rattle.desk_words.specs.declared.event.Timed.{Timed}
+use Rattle.desk_words.specs.declared.phase.Phase.{Phase}
+use Rattle.desk_words.specs.declared.answer.Dest.{Dest}
+use Rattle.desk_words.specs.declared.answer.Dest.TheVariants.{Switch, Slice}
+use Rattle.desk_words.specs.declared.answer.Verdict.TheVariants as verdicts
+use Rattle.desk_words.specs.declared.answer.Verdict.TheVariants.{Go, Close}
+use Rattle.desk_words.specs.declared.answer.Taken.{Taken}
+use Rattle.desk_words.specs.declared.answer.Taken.TheVariants.{Message}
+use Rattle.desk_words.specs.Openings.{phase_of, switch_of}
+use Rattle.desk_words.specs.Histories.{side_of}
+use Rattle.desk_words.specs.Verdicts.{is_ended, is_over, is_down, closes}
+use Rattle.desk_words.specs.Operations.{Operation, Step, Take, events_of, queue_of, lane_of, waiting_of, empty_reply}
+use Rattle.proxy_core.specs.declared.parts.Desk.{Desk}
+use Rattle.proxy_core.specs.Desks.{Body, Acts, Stays, DeskStands, Replied, Answered, TakesNext, IsSilence, waiting_in, queues_less, lane_less, silence_now}
+use Rattle.proxy_core.proofs.Fitting.{coherent}
+
+-- ---- steps
+
+over_is : (p : PolicyView) (ops : List Operation) (desk : Desk) (b : Bool) → DeskStands p ops desk → (is_ended desk.phase || leb (2 ^ 60) desk.events) ≡ b → is_over (events_of ops) ≡ b
+over_is p ops desk b s is = sym (ap₂ (λ (phase : Phase) (n : ℕ). is_ended phase || leb (2 ^ 60) n) s.body.phase s.events) ∙ is
+
+-- nothing more comes
+pub over : (p : PolicyView) (ops : List Operation) (timed : Timed) (desk : Desk) → DeskStands p ops desk → (is_ended desk.phase || leb (2 ^ 60) desk.events) ≡ true → Replied p ops timed (Ok verdicts.Ended) desk
+over p ops timed desk s is = record {
+  right = sym (ap (λ (b : Bool). if b then verdicts.Ended else if closes p (events_of ops) timed then Close else Go) (over_is p ops desk true s is));
+  stands = record { body = s.body; events = s.events };
+}
+
+-- memory ran out
+pub refused : (p : PolicyView) (ops : List Operation) (timed : Timed) (fault : AllocError) (old new : Desk) → DeskStands p ops old → Stays old new → new.events ≡ old.events → is_down timed.event ≡ false
+    → Replied p ops timed (Err fault) new
+refused p ops timed fault old new s stays same down = record {
+  right = down;
+  stands = record { body = stays p _ _ _ _ s.body; events = same ∙ s.events };
+}
+
+-- all but the count of events
+counted : (p : PolicyView) (ops : List Operation) (n : ℕ) (desk : Desk) → Body p (switch_of (events_of ops)) (λ slot. side_of p slot (events_of ops)) (λ slot. queue_of p slot ops) (lane_of p ops) desk → n ≡ length (events_of ops)
+    → DeskStands p ops (record desk { events = n })
+counted p ops n desk b is = record {
+  body = record { same_policy = b.same_policy; phase = b.phase; lane = b.lane; opens = b.opens; beyond = b.beyond };
+  events = is;
+}
+
+not_ended : (a b : Bool) → (a || b) ≡ false → a ≡ false
+not_ended true b is = is
+not_ended false b is = refl
+
+closing_of : (b c : Bool) → b ≡ not c → c ≡ not b
+closing_of b true is = sym (ap not is)
+closing_of b false is = sym (ap not is)
+
+go_on : (over_ closing : Bool) → over_ ≡ false → closing ≡ false → Go ≡ (if over_ then verdicts.Ended else if closing then Close else Go)
+go_on over_ closing a b = rw (a, b) refl
+
+close_it : (over_ closing : Bool) → over_ ≡ false → closing ≡ true → Close ≡ (if over_ then verdicts.Ended else if closing then Close else Go)
+close_it over_ closing a b = rw (a, b) refl
+
+one_longer : (n k m : ℕ) → n ≡ k + 1 → k ≡ m → n ≡ suc m
+one_longer n k m a b = omega arith
+
+-- an event was taken in
+pub stepped : (p : PolicyView) (ops : List Operation) (timed : Timed) (go : Bool) (old new : Desk) (n : ℕ) → DeskStands p ops old → (is_ended old.phase || leb (2 ^ 60) old.events) ≡ false
+    → Acts old timed go new → n ≡ old.events + 1 → Replied p ops timed (Ok (if go then Go else Close)) (record new { events = n })
+stepped p ops timed true old new n s is acts count =
+    let on = over_is p ops old false s is in
+    let acted = acts p _ _ _ _ (coherent p (events_of ops)) s.body (not_ended (is_ended (phase_of (events_of ops))) (leb (2 ^ 60) (length (events_of ops))) on) in
+    record {
+      right = go_on (is_over (events_of ops)) (closes p (events_of ops) timed) on (closing_of true (closes p (events_of ops) timed) acted.goes_on);
+      stands = counted p (Step timed (Ok Go) ∷ ops) n new acted.body (one_longer n old.events (length (events_of ops)) count s.events);
+    }
+stepped p ops timed false old new n s is acts count =
+    let on = over_is p ops old false s is in
+    let acted = acts p _ _ _ _ (coherent p (events_of ops)) s.body (not_ended (is_ended (phase_of (events_of ops))) (leb (2 ^ 60) (length (events_of ops))) on) in
+    record {
+      right = close_it (is_over (events_of ops)) (closes p (events_of ops) timed) on (closing_of false (closes p (events_of ops) timed) acted.goes_on);
+      stands = counted p (Step timed (Ok Close) ∷ ops) n new acted.body (one_longer n old.events (length (events_of ops)) count s.events);
+    }
+
+-- ---- takes
+
+waiting_same : (p : PolicyView) (ops : List Operation) (dest : Dest) → waiting_in dest (λ slot. queue_of p slot ops) (lane_of p ops) ≡ waiting_of p dest ops
+waiting_same p ops Switch = refl
+waiting_same p ops (Slice slot) = refl
+
+first_of : (pending : List (List ℕ)) (message : List ℕ) (empty : Taken) → Some message ≡ slice_get pending 0 → Message message ≡ elim pending [ [] ↦ empty | m ∷ later ↦ Message m ]
+first_of [] message empty is = absurd (true≢false (ap (λ (o : Option (List ℕ)). elim o [ None ↦ false | Some m ↦ true ]) is))
+first_of (m ∷ later) message empty is = ap (λ (o : Option (List ℕ)). elim o [ None ↦ Message message | Some k ↦ Message k ]) is
+
+none_of : (pending : List (List ℕ)) (empty : Taken) → None ≡ slice_get pending 0 → empty ≡ elim pending [ [] ↦ empty | m ∷ later ↦ Message m ]
+none_of [] empty is = refl
+none_of (m ∷ later) empty is = absurd (true≢false (sym (ap (λ (o : Option (List ℕ)). elim o [ None ↦ false | Some m ↦ true ]) is)))
+
+stands_less : (p : PolicyView) (ops : List Operation) (dest : Dest) (taken : Taken) (desk : Desk)
+    → Body p (switch_of (events_of ops)) (λ slot. side_of p slot (events_of ops)) (queues_less dest (λ slot. queue_of p slot ops)) (lane_less dest (lane_of p ops)) desk
+    → desk.events ≡ length (events_of ops) → DeskStands p (Take dest taken ∷ ops) desk
+stands_less p ops dest taken desk b count = record { body = b; events = count }
+
+-- a message was taken
+pub took : (p : PolicyView) (ops : List Operation) (dest : Dest) (message : List ℕ) (old new : Desk) → DeskStands p ops old → TakesNext old dest (Some message) new → new.events ≡ old.events
+    → Answered p ops dest (Message message) new
+took p ops dest message old new s takes same =
+    let t = takes p _ _ _ _ s.body in
+    record {
+      right = first_of (waiting_of p dest ops).pending message _ (t.first ∙ ap (λ (q : Queue). slice_get q.pending 0) (waiting_same p ops dest));
+      stands = stands_less p ops dest (Message message) new t.body (same ∙ s.events);
+    }
+
+same_if : (b : Bool) (q : Queue) → (if b then without_first q else q).choked ≡ q.choked
+same_if true q = refl
+same_if false q = refl
+
+choked_less : (p : PolicyView) (ops : List Operation) (dest : Dest)
+    → (waiting_in dest (queues_less dest (λ slot. queue_of p slot ops)) (lane_less dest (lane_of p ops))).choked ≡ (waiting_of p dest ops).choked
+choked_less p ops Switch = refl
+choked_less p ops (Slice slot) = same_if (slot == slot) (queue_of p slot ops)
+
+silence_same : (p : PolicyView) (ops : List Operation) (dest : Dest) (choked : Bool) → silence_now p (switch_of (events_of ops)) (λ slot. side_of p slot (events_of ops)) dest choked ≡ empty_reply p (events_of ops) dest choked
+silence_same p ops Switch choked = refl
+silence_same p ops (Slice slot) choked = refl
+
+-- nothing waits
+pub silent : (p : PolicyView) (ops : List Operation) (dest : Dest) (taken : Taken) (old new : Desk) → DeskStands p ops old → TakesNext old dest None new → new.events ≡ old.events → IsSilence new dest taken
+    → Answered p ops dest taken new
+silent p ops dest taken old new s takes same is =
+    let t = takes p _ _ _ _ s.body in
+    let q = waiting_of p dest ops in
+    let said = is p _ _ _ _ (coherent p (events_of ops)) t.body in
+    record {
+      right = said ∙ ap (silence_now p (switch_of (events_of ops)) (λ slot. side_of p slot (events_of ops)) dest) (choked_less p ops dest) ∙ silence_same p ops dest q.choked
+          ∙ none_of q.pending (empty_reply p (events_of ops) dest q.choked) (t.first ∙ ap (λ (k : Queue). slice_get k.pending 0) (waiting_same p ops dest));
+      stands = stands_less p ops dest taken new t.body (same ∙ s.events);
+    }

@@ -1,0 +1,163 @@
+-- Queues and states, as they are made and made room in; and loops over messages.
+use Rattle.std.proofs.Common.{◌≡◌, ◌≢◌, ℕ, ◌+◌, ◌<◌, ◌≤◌, ◌==◌, ◌&&◌, Bool, true, false, List, [], ◌∷◌, ◌++◌, length, set, slice_get, refl, ap, ap₂, sym, ◌∙◌, subst, true≢false, eqb-true, inl, inr, Option, Some, None, arith}
+use Rattle.std.specs.Prelude.{ltb}
+use Rattle.std.proofs.lemmas.Bool.{cases_Bool, cases_lt, eq-eqb, ltb-true}
+use Rattle.std.proofs.lemmas.List.{length-append, length-set}
+use Rattle.flowspace.specs.declared.slices.Slice.{Slice}
+use Rattle.flow_book.specs.declared.state.SliceState.{SliceState}
+use Rattle.flow_book.specs.States.{IsFreshState}
+use Rattle.outbox.specs.Queues.{Queue, no_messages, push, push_all, Kept, QueueStands}
+use Rattle.desk_words.specs.Operations.{slice_limit}
+use Rattle.proxy_core.specs.declared.parts.Session.{Session}
+use Rattle.proxy_core.specs.Desks.{pending_at}
+use Rattle.proxy_core.specs.Opening.{has_slot, is_up_at, AtSlot, AreEmpty}
+use Rattle.proxy_core.proofs.Lists.{none_some, within}
+use Rattle.proxy_core.proofs.Places.{some_is, get_set, get_other, get_more}
+
+pub nothing_left : {A : Type 0} (xs : List A) → length xs ≡ 0 → xs ≡ []
+nothing_left [] h = refl
+nothing_left (x ∷ xs) h = absurd (omega arith)
+
+pub pushed_more : (limit : ℕ) (now : Queue) (message : List ℕ) (later all : List (List ℕ)) → all ≡ message ∷ later → push_all limit (push limit now message) later ≡ push_all limit now all
+unfolding push_all
+pushed_more limit now message later all is = sym (ap (push_all limit now) is)
+
+pub all_pushed : (limit : ℕ) (now q : Queue) (left all messages : List (List ℕ)) → left ≡ [] → push_all limit now left ≡ push_all limit q all → all ≡ messages → now ≡ push_all limit q messages
+unfolding push_all
+all_pushed limit now q left all messages none same is = sym (ap (push_all limit now) none) ∙ same ∙ ap (push_all limit q) is
+
+-- ---- room
+
+nearer : (a b : ℕ) → a < b + 1 → a ≢ b → a < b
+nearer a b less far = elim (cases_lt a b) [ inl is ↦ is | inr more ↦ absurd (far (omega arith)) ]
+
+pub rooms_more : (xs : List Kept) (at n : ℕ) (x y : Kept) → slice_get xs at ≡ Some x → n ≤ y.room
+    → ((slot : ℕ) (queue : Kept) → slot < at → slice_get xs slot ≡ Some queue → n ≤ queue.room)
+    → (slot : ℕ) (queue : Kept) → slot < at + 1 → slice_get (set xs at y) slot ≡ Some queue → n ≤ queue.room
+rooms_more xs at n x y gx room before slot queue less g = elim (cases_Bool (slot == at)) [
+  | inl is ↦ subst (λ (k : Kept). n ≤ k.room) (some_is (sym (get_set xs at x y gx) ∙ subst (λ (k : ℕ). slice_get (set xs at y) k ≡ Some queue) (eqb-true slot at is) g)) room
+  | inr isnt ↦
+      let far : slot ≢ at = λ e. true≢false (sym (eq-eqb slot at e) ∙ isnt) in
+      before slot queue (nearer slot at less far) (sym (get_other xs at slot y far) ∙ g)
+]
+
+-- ---- queues and states that are made
+
+pub empty_first : (xs : List Kept) → xs ≡ [] → AreEmpty (length xs) xs
+empty_first xs none = record {
+  total = refl;
+  each = λ slot queue g. none_some queue (sym (ap (λ (l : List Kept). slice_get l slot) none) ∙ g);
+}
+
+pub empty_more : (xs zs : List Kept) (y : Kept) → AreEmpty (length xs) xs → QueueStands slice_limit no_messages y → zs ≡ xs ++ y ∷ [] → AreEmpty (length zs) zs
+empty_more xs zs y empty stands is = record {
+  total = refl;
+  each = λ slot queue g. elim (get_more xs y slot queue (subst (λ (l : List Kept). slice_get l slot ≡ Some queue) is g)) [
+    | inl before ↦ empty.each slot queue before
+    | inr last ↦ subst (λ (k : Kept). QueueStands slice_limit no_messages k) last.1 stands
+  ];
+}
+
+pub empty_all : (n : ℕ) (xs : List Kept) → AreEmpty (length xs) xs → length xs ≡ n → AreEmpty n xs
+empty_all n xs empty is = record { total = is; each = empty.each }
+
+pub fresh_first : (slices : List Slice) (states : List SliceState) → states ≡ []
+    → (slot : ℕ) (slice : Slice) (state : SliceState) → slice_get slices slot ≡ Some slice → slice_get states slot ≡ Some state → IsFreshState slot slice state
+fresh_first slices states none slot slice state gs g = none_some state (sym (ap (λ (l : List SliceState). slice_get l slot) none) ∙ g)
+
+pub fresh_more : (slices : List Slice) (states more : List SliceState) (place : ℕ) (slice : Slice) (state : SliceState) → length states ≡ place → slice_get slices place ≡ Some slice → IsFreshState place slice state
+    → more ≡ states ++ state ∷ []
+    → ((slot : ℕ) (one : Slice) (its : SliceState) → slice_get slices slot ≡ Some one → slice_get states slot ≡ Some its → IsFreshState slot one its)
+    → (slot : ℕ) (one : Slice) (its : SliceState) → slice_get slices slot ≡ Some one → slice_get more slot ≡ Some its → IsFreshState slot one its
+fresh_more slices states more place slice state count at fresh is before slot one its go g = elim (get_more states state slot its (subst (λ (l : List SliceState). slice_get l slot ≡ Some its) is g)) [
+  | inl early ↦ before slot one its go early
+  | inr last ↦
+      let here : slot ≡ place = last.0 ∙ count in
+      let same : slice ≡ one = some_is (sym at ∙ subst (λ (k : ℕ). slice_get slices k ≡ Some one) here go) in
+      subst (λ (k : ℕ). IsFreshState k one its) (sym here) (subst (λ (s : Slice). IsFreshState place s its) same (subst (λ (k : SliceState). IsFreshState place slice k) last.1 fresh))
+]
+
+pub one_longer : {A : Type 0} (xs zs : List A) (x : A) (n : ℕ) → zs ≡ xs ++ x ∷ [] → length xs ≡ n → length zs ≡ n + 1
+one_longer xs zs x n is count = ap length is ∙ length-append xs (x ∷ []) ∙ omega (arith, count)
+
+-- ---- one slot of a session
+
+and_first : (a b : Bool) → (a && b) ≡ true → a ≡ true
+and_first true b is = refl
+and_first false b is = is
+
+and_second : (a b : Bool) → (a && b) ≡ true → b ≡ true
+and_second true b is = is
+and_second false b is = absurd (true≢false (sym is))
+
+pub in_states : (session : Session) (slot : ℕ) → has_slot session slot ≡ true → slot < length session.states.items
+in_states session slot is = ltb-true slot (length session.states.items) (and_first (ltb slot (length session.states.items)) (ltb slot (length session.queues.items)) is)
+
+pub there_up : (session : Session) (slot : ℕ) → is_up_at session slot ≡ true → has_slot session slot ≡ true
+there_up session slot is = and_first (has_slot session slot) (elim (slice_get session.states.items slot) as (λ o. Bool) [ None ↦ false | Some state ↦ state.up ]) is
+
+pub in_queues : (session : Session) (slot : ℕ) → has_slot session slot ≡ true → slot < length session.queues.items
+in_queues session slot is = ltb-true slot (length session.queues.items) (and_second (ltb slot (length session.states.items)) (ltb slot (length session.queues.items)) is)
+
+pub placed : (slot at : ℕ) (Becomes : SliceState → Kept → SliceState → Kept → Type 0) (old new : Session) (a x : SliceState) (b y : Kept) → at ≡ slot
+    → new.policy ≡ old.policy → new.features ≡ old.features → new.ports ≡ old.ports
+    → new.states.items ≡ set old.states.items at x → new.queues.items ≡ set old.queues.items at y
+    → slice_get old.states.items at ≡ Some a → slice_get old.queues.items at ≡ Some b → Becomes a b x y → AtSlot slot Becomes old new
+placed slot at Becomes old new a x b y here policy features ports states queues ga gb becomes = record {
+  policy = policy;
+  features = features;
+  ports = ports;
+  states_count = ap length states ∙ length-set old.states.items at x;
+  queues_count = ap length queues ∙ length-set old.queues.items at y;
+  own = λ a2 b2 x2 y2 ga2 gb2 gx2 gy2.
+      let is_a : a ≡ a2 = some_is (sym ga ∙ subst (λ (k : ℕ). slice_get old.states.items k ≡ Some a2) (sym here) ga2) in
+      let is_b : b ≡ b2 = some_is (sym gb ∙ subst (λ (k : ℕ). slice_get old.queues.items k ≡ Some b2) (sym here) gb2) in
+      let is_x : x ≡ x2 = some_is (sym (get_set old.states.items at a x ga) ∙ subst (λ (l : List SliceState). slice_get l at ≡ Some x2) states (subst (λ (k : ℕ). slice_get new.states.items k ≡ Some x2) (sym here) gx2)) in
+      let is_y : y ≡ y2 = some_is (sym (get_set old.queues.items at b y gb) ∙ subst (λ (l : List Kept). slice_get l at ≡ Some y2) queues (subst (λ (k : ℕ). slice_get new.queues.items k ≡ Some y2) (sym here) gy2)) in
+      subst (λ (k : SliceState). Becomes k b2 x2 y2) is_a (subst (λ (k : Kept). Becomes a k x2 y2) is_b (subst (λ (k : SliceState). Becomes a b k y2) is_x (subst (λ (k : Kept). Becomes a b x k) is_y becomes)));
+  others = λ i far. (
+    ap (λ (l : List SliceState). slice_get l i) states ∙ get_other old.states.items at i x (λ e. far (e ∙ here)),
+    ap (λ (l : List Kept). slice_get l i) queues ∙ get_other old.queues.items at i y (λ e. far (e ∙ here)),
+  );
+}
+
+is_there : (session : Session) (slot : ℕ) (a : SliceState) (b : Kept) → slice_get session.states.items slot ≡ Some a → slice_get session.queues.items slot ≡ Some b → has_slot session slot ≡ true
+is_there session slot a b ga gb = ap₂ (λ (x y : Bool). x && y) (within session.states.items slot a ga) (within session.queues.items slot b gb)
+
+-- the queue at a place was changed
+pub placed_queue : (slot at : ℕ) (Becomes : SliceState → Kept → SliceState → Kept → Type 0) (old new : Session) (b y : Kept) → at ≡ slot
+    → new.policy ≡ old.policy → new.features ≡ old.features → new.ports ≡ old.ports
+    → new.states.items ≡ old.states.items → new.queues.items ≡ set old.queues.items at y
+    → slice_get old.queues.items at ≡ Some b → ((a : SliceState) → Becomes a b a y) → AtSlot slot Becomes old new
+placed_queue slot at Becomes old new b y here policy features ports states queues gb becomes = record {
+  policy = policy;
+  features = features;
+  ports = ports;
+  states_count = ap length states;
+  queues_count = ap length queues ∙ length-set old.queues.items at y;
+  own = λ a2 b2 x2 y2 ga2 gb2 gx2 gy2.
+      let is_b : b ≡ b2 = some_is (sym gb ∙ subst (λ (k : ℕ). slice_get old.queues.items k ≡ Some b2) (sym here) gb2) in
+      let is_x : a2 ≡ x2 = some_is (sym ga2 ∙ subst (λ (l : List SliceState). slice_get l slot ≡ Some x2) states gx2) in
+      let is_y : y ≡ y2 = some_is (sym (get_set old.queues.items at b y gb) ∙ subst (λ (l : List Kept). slice_get l at ≡ Some y2) queues (subst (λ (k : ℕ). slice_get new.queues.items k ≡ Some y2) (sym here) gy2)) in
+      subst (λ (k : Kept). Becomes a2 k x2 y2) is_b (subst (λ (k : SliceState). Becomes a2 b k y2) is_x (subst (λ (k : Kept). Becomes a2 b a2 k) is_y (becomes a2)));
+  others = λ i far. (
+    ap (λ (l : List SliceState). slice_get l i) states,
+    ap (λ (l : List Kept). slice_get l i) queues ∙ get_other old.queues.items at i y (λ e. far (e ∙ here)),
+  );
+}
+
+-- how many messages wait at a place
+pub waits_at : (session : Session) (slot : ℕ) (queue : Kept) → slice_get session.queues.items slot ≡ Some queue → length queue.pending ≡ pending_at slot (Some session)
+waits_at session slot queue g = sym (ap (λ (o : Option Kept). elim o [ None ↦ 0 | Some q ↦ length q.pending ]) g)
+
+-- nothing changed where there is no such slot
+pub nowhere : (slot : ℕ) (Becomes : SliceState → Kept → SliceState → Kept → Type 0) (session : Session) → has_slot session slot ≡ false → AtSlot slot Becomes session session
+nowhere slot Becomes session out = record {
+  policy = refl;
+  features = refl;
+  ports = refl;
+  states_count = refl;
+  queues_count = refl;
+  own = λ a b x y ga gb gx gy. absurd (true≢false (sym (is_there session slot a b ga gb) ∙ out));
+  others = λ i far. (refl, refl);
+}

@@ -1,0 +1,288 @@
+-- A desk with a session after an event of a slice's connection.
+use Rattle.std.proofs.Common.{◌≡◌, ℕ, ◌==◌, ◌&&◌, ◌||◌, not, Bool, true, false, if◌then◌else◌, List, [], ◌∷◌, map, slice_get, refl, ap, ap₂, subst, sym, ◌∙◌, true≢false, eqb-true, append-nil, inl, inr, Option, Some, None}
+use Rattle.std.specs.Prelude.{ltb}
+use Rattle.std.proofs.lemmas.Bool.{cases_Bool, eq-eqb}
+use Rattle.std.specs.List.{filter}
+use Rattle.flowspace.specs.Rules.{is_written_by}
+use Rattle.flowspace.specs.Policies.{PolicyView}
+use Rattle.port_view.specs.SlicePorts.{ports_of_slice}
+use Rattle.flow_book.specs.declared.state.SliceState.{SliceState}
+use Rattle.outbox.specs.Queues.{Queue, push_all, Kept, QueueStands}
+use Rattle.slice_words.specs.Messages.{is_dismissing}
+use Rattle.slice_words.specs.Items.{Settings, Item, Msg, is_up}
+use Rattle.slice_words.specs.Alone.{put_for, answer_to, with_items, rendered}
+use Rattle.slice_words.proofs.Dismissing.{ends}
+use Rattle.slice_side.specs.Reactions.{Sees}
+use Rattle.desk_words.specs.declared.event.Event.{Event}
+use Rattle.desk_words.specs.declared.event.Event.TheVariants.{SliceUp, SliceMsg, SliceDown}
+use Rattle.desk_words.specs.declared.event.Timed.{Timed}
+use Rattle.desk_words.specs.declared.phase.Phase.{Phase}
+use Rattle.desk_words.specs.declared.phase.Phase.TheVariants.{Opened}
+use Rattle.desk_words.specs.Openings.{phase_after, known_after, Switch, switch_after}
+use Rattle.desk_words.specs.Histories.{is_slot, settings_at, own_features, Side, items_of, is_open}
+use Rattle.desk_words.specs.Sent.{lane_in, put_with}
+use Rattle.desk_words.specs.Verdicts.{is_fresh, is_ended}
+use Rattle.desk_words.specs.Operations.{slice_limit, lane_limit}
+use Rattle.desk_words.proofs.Erasing.{slices_switch}
+use Rattle.proxy_core.specs.declared.parts.Session.{Session}
+use Rattle.proxy_core.specs.declared.parts.Desk.{Desk}
+use Rattle.proxy_core.specs.Slots.{Comes, Keeps, Heard, Hears, SameQueue}
+use Rattle.proxy_core.specs.Desks.{SlotStands, SessionStands, Opens, Coherent, sides_after, up_after, queues_after, ends_now, lane_after, Acts, Stays}
+use Rattle.proxy_core.specs.Opening.{has_slot, is_up_at, AtSlot, Goes, StandsOn}
+use Rattle.proxy_core.proofs.Lists.{there}
+use Rattle.proxy_core.proofs.Fitting.{settings_known}
+use Rattle.proxy_core.proofs.Standing.{slot_after, items_opened, slots_are}
+use Rattle.proxy_core.proofs.Slices.{one_slot, kept_slot, others_up, others_down, others_msg, shown_msg, up_comes, comes_slot, goes_slot}
+use Rattle.proxy_core.proofs.Acting.{body_after, is_opened, session_passes, lane_more, lane_stays}
+
+-- ---- the desk has a session
+
+stands_in : (p : PolicyView) (switch : Switch) (sides : ℕ → Side) (qs : ℕ → Queue) (session : Session) (o : Option Session) → o ≡ Some session → Opens p switch sides qs o → SessionStands p switch sides qs session
+stands_in p switch sides qs session o is opens = subst (λ (k : Option Session). Opens p switch sides qs k) is opens
+
+-- want of memory changes nothing
+pub stays_on : (old new : Desk) (a b : Session) → old.session ≡ Some a → new.policy ≡ old.policy → new.phase ≡ old.phase → SameQueue old.lane new.lane → new.session ≡ Some b → StandsOn a b → Stays old new
+stays_on old new a b was policy phase lane now on p switch sides qs ql body = record {
+  same_policy = policy ∙ body.same_policy;
+  phase = phase ∙ body.phase;
+  lane = lane _ ql body.lane;
+  opens = subst (λ (k : Option Session). Opens p switch sides qs k) (sym now) (on p switch sides qs (stands_in p switch sides qs a old.session was body.opens));
+  beyond = body.beyond;
+}
+
+pub stays_kept : (old new : Desk) (a b : Session) (slot : ℕ) → old.session ≡ Some a → new.policy ≡ old.policy → new.phase ≡ old.phase → SameQueue old.lane new.lane → new.session ≡ Some b → AtSlot slot Keeps a b → Stays old new
+stays_kept old new a b slot was policy phase lane now at = stays_on old new a b was policy phase lane now (kept_slot slot a b at)
+
+-- the lane alone
+pub stays_same : (old new : Desk) → new.policy ≡ old.policy → new.phase ≡ old.phase → SameQueue old.lane new.lane → new.session ≡ old.session → Stays old new
+stays_same old new policy phase lane now p switch sides qs ql body = record {
+  same_policy = policy ∙ body.same_policy;
+  phase = phase ∙ body.phase;
+  lane = lane _ ql body.lane;
+  opens = subst (λ (k : Option Session). Opens p switch sides qs k) (sym now) body.opens;
+  beyond = body.beyond;
+}
+
+-- ---- verdicts
+
+phase_same : (switch : Switch) (event : Event) → switch_after switch event ≡ switch → phase_after switch.phase event ≡ switch.phase
+phase_same switch event is = ap (λ (k : Switch). k.phase) is
+
+known_same : (switch : Switch) (event : Event) → switch_after switch event ≡ switch → known_after switch.phase switch.known event ≡ switch.known
+known_same switch event is = ap (λ (k : Switch). k.known) is
+
+no_end : (switch : Switch) (timed : Timed) → phase_after switch.phase timed.event ≡ switch.phase → is_ended switch.phase ≡ false → ends_now switch timed ≡ false
+no_end switch timed stays on = ap₂ (λ (a b : Bool). not a && b) on (ap is_ended stays ∙ on)
+
+goes_up : (fresh there here up : Bool) → fresh ≡ false → there ≡ here → (here ≡ true → up ≡ true) → there ≡ not ((fresh && true) || not here || (not false && not up))
+goes_up fresh there true up f is comes = is ∙ sym (rw (f, comes refl) refl)
+goes_up fresh there false up f is comes = is ∙ sym (rw f refl)
+
+goes_down : (fresh there here : Bool) → fresh ≡ false → there ≡ here → there ≡ not ((fresh && true) || not here || false)
+goes_down fresh there true f is = is ∙ sym (rw f refl)
+goes_down fresh there false f is = is ∙ sym (rw f refl)
+
+-- ---- a slice's controller connects
+
+pub came : (old new : Desk) (a b : Session) (slot moment : ℕ) (there_ : Bool) → old.session ≡ Some a → new.policy ≡ old.policy → new.phase ≡ old.phase → new.lane ≡ old.lane → new.session ≡ Some b
+    → there_ ≡ has_slot a slot → AtSlot slot Comes a b → Acts old (record { event = SliceUp slot; moment = moment }) there_ new
+came old new a b slot moment there_ was policy phase lane now is at p switch sides qs ql fit body on =
+    let timed : Timed = record { event = SliceUp slot; moment = moment } in
+    let stands = stands_in p switch sides qs a old.session was body.opens in
+    let opened = is_opened p switch sides qs a fit stands on in
+    let still = slices_switch switch (SliceUp slot) refl in
+    record {
+      body = body_after p switch sides qs ql timed old new body policy (phase ∙ body.phase ∙ sym (phase_same switch (SliceUp slot) still))
+          (subst (λ (k : Kept). QueueStands lane_limit (lane_after p switch sides ql timed) k) (sym lane)
+          (lane_stays p switch sides ql timed old.lane body.lane (no_end switch timed (phase_same switch (SliceUp slot) still) on)
+          (ap (λ (k : Phase). lane_in (λ i. put_with p i switch (sides i) timed) k (SliceUp slot)) opened)))
+          (subst (λ (k : Option Session). Opens p (switch_after switch (SliceUp slot)) (sides_after p switch sides timed) (queues_after p switch sides qs timed) k) (sym now)
+          (one_slot p switch sides qs timed slot Comes a b stands at (known_same switch (SliceUp slot) still) (others_up p switch sides slot moment)
+          (λ x y z w here one comes. comes_slot p switch sides qs slot moment x y z w opened here one comes)));
+      goes_on = goes_up (is_fresh switch.phase) there_ (is_slot p slot) (up_after p switch sides timed slot) (ap is_fresh opened) (is ∙ slots_are p switch sides qs a slot stands)
+          (λ here. up_comes p switch sides slot moment opened here);
+    }
+
+-- ---- its connection ends
+
+pub went : (old new : Desk) (a b : Session) (slot moment : ℕ) (there_ : Bool) → old.session ≡ Some a → new.policy ≡ old.policy → new.phase ≡ old.phase → new.lane ≡ old.lane → new.session ≡ Some b
+    → there_ ≡ has_slot a slot → AtSlot slot Goes a b → Acts old (record { event = SliceDown slot; moment = moment }) there_ new
+went old new a b slot moment there_ was policy phase lane now is at p switch sides qs ql fit body on =
+    let timed : Timed = record { event = SliceDown slot; moment = moment } in
+    let stands = stands_in p switch sides qs a old.session was body.opens in
+    let opened = is_opened p switch sides qs a fit stands on in
+    let still = slices_switch switch (SliceDown slot) refl in
+    record {
+      body = body_after p switch sides qs ql timed old new body policy (phase ∙ body.phase ∙ sym (phase_same switch (SliceDown slot) still))
+          (subst (λ (k : Kept). QueueStands lane_limit (lane_after p switch sides ql timed) k) (sym lane)
+          (lane_stays p switch sides ql timed old.lane body.lane (no_end switch timed (phase_same switch (SliceDown slot) still) on)
+          (ap (λ (k : Phase). lane_in (λ i. put_with p i switch (sides i) timed) k (SliceDown slot)) opened)))
+          (subst (λ (k : Option Session). Opens p (switch_after switch (SliceDown slot)) (sides_after p switch sides timed) (queues_after p switch sides qs timed) k) (sym now)
+          (one_slot p switch sides qs timed slot Goes a b stands at (known_same switch (SliceDown slot) still) (others_down p switch sides slot moment)
+          (λ x y z w here one goes. goes_slot p switch sides qs slot moment x y z w opened here one goes)));
+      goes_on = goes_down (is_fresh switch.phase) there_ (is_slot p slot) (ap is_fresh opened) (is ∙ slots_are p switch sides qs a slot stands);
+    }
+
+-- ---- a message of it, where it is up
+
+-- what the slice is told of its switch is what it saw
+sees : (p : PolicyView) (switch : Switch) (sides : ℕ → Side) (qs : ℕ → Queue) (a : Session) (slot : ℕ) → Coherent p switch sides → SessionStands p switch sides qs a → is_slot p slot ≡ true → is_up (sides slot).sight.view ≡ true
+    → Sees (settings_at p slot switch.features) (sides slot).sight.view a.policy a.ports a.features slot
+sees p switch sides qs a slot fit s here up =
+    let saw = fit.seen a.features s.told slot here in
+    let slice = there p.slices slot here in
+    let known = settings_known p slot switch.features slice.0 slice.1 in
+    record {
+      same_slot = ap (λ (k : Settings). k.slot) known;
+      same_rules = ap (λ (k : Settings). k.rules) known ∙ ap (filter (is_written_by slot)) (sym s.rules);
+      opening = own_features (settings_at p slot switch.features) a.features;
+      opened = saw.0;
+      same_features = refl;
+      same_ports = saw.1 ∙ ap₂ (λ r (k : List (List ℕ)). ports_of_slice r slot k) (sym s.rules) (sym s.known);
+      up = up;
+    }
+
+-- what follows for the slice at the slot
+heard_at : (p : PolicyView) (switch : Switch) (sides : ℕ → Side) (qs : ℕ → Queue) (a : Session) (slot moment : ℕ) (message : List ℕ) (on : Bool) (lane new_lane : Kept) (x : SliceState) (y : Kept) (z : SliceState) (w : Kept)
+    → Coherent p switch sides → SessionStands p switch sides qs a → is_slot p slot ≡ true → is_up (sides slot).sight.view ≡ true → SlotStands p slot switch (sides slot) (qs slot) x y
+    → Hears a.policy a.ports a.features slot message moment on x y lane z w new_lane
+    → Heard (settings_at p slot switch.features) (sides slot).sight (Msg message moment) on y lane z w new_lane
+heard_at p switch sides qs a slot moment message on lane new_lane x y z w fit s here up one hears =
+    hears (settings_at p slot switch.features) (sides slot).sight one.state_stands (sees p switch sides qs a slot fit s here up)
+
+hears_slot : (p : PolicyView) (switch : Switch) (sides : ℕ → Side) (qs : ℕ → Queue) (slot moment : ℕ) (message : List ℕ) (on : Bool) (lane new_lane : Kept) (x : SliceState) (y : Kept) (z : SliceState) (w : Kept) → switch.phase ≡ Opened
+    → is_slot p slot ≡ true → is_up (sides slot).sight.view ≡ true → SlotStands p slot switch (sides slot) (qs slot) x y
+    → Heard (settings_at p slot switch.features) (sides slot).sight (Msg message moment) on y lane z w new_lane
+    → SlotStands p slot switch (sides_after p switch sides (record { event = SliceMsg slot message; moment = moment }) slot) (queues_after p switch sides qs (record { event = SliceMsg slot message; moment = moment }) slot) z w
+hears_slot p switch sides qs slot moment message on lane new_lane x y z w opened here up one heard =
+    slot_after p switch sides qs (record { event = SliceMsg slot message; moment = moment }) slot (Msg message moment ∷ []) false z w
+    (shown_msg p switch (sides slot) slot moment message opened here up) refl (
+      heard.stands,
+      subst (λ (m : List (List ℕ)). QueueStands slice_limit (push_all slice_limit (qs slot) m) w)
+          (sym (append-nil (answer_to (settings_at p slot switch.features) (sides slot).sight.view (Msg message moment)).to_slice)) (heard.to_slice slice_limit (qs slot) one.queue_stands),
+    )
+
+put_heard : (p : PolicyView) (switch : Switch) (sides : ℕ → Side) (slot moment : ℕ) (message : List ℕ) → switch.phase ≡ Opened → is_slot p slot ≡ true → is_up (sides slot).sight.view ≡ true
+    → put_with p slot switch (sides slot) (record { event = SliceMsg slot message; moment = moment })
+    ≡ map (rendered (sides slot).sight.came) (answer_to (settings_at p slot switch.features) (sides slot).sight.view (Msg message moment)).to_switch
+put_heard p switch sides slot moment message opened here up =
+    ap (λ (items : List Item). map (rendered (sides slot).sight.came) (put_for (settings_at p slot switch.features) (sides slot).sight.view items)) (shown_msg p switch (sides slot) slot moment message opened here up)
+    ∙ ap (map (rendered (sides slot).sight.came)) (append-nil (answer_to (settings_at p slot switch.features) (sides slot).sight.view (Msg message moment)).to_switch)
+
+goes_heard : (fresh on here up dismissing up_then : Bool) → fresh ≡ false → here ≡ true → up ≡ true → on ≡ not (up && dismissing) → up_then ≡ (if dismissing then false else up)
+    → on ≡ not ((fresh && true) || not here || (not false && not up_then))
+goes_heard fresh on here up true up_then f h u is then_ = is ∙ rw (f, h, u, then_) refl
+goes_heard fresh on here up false up_then f h u is then_ = is ∙ rw (f, h, then_, u) refl
+
+up_heard : (p : PolicyView) (switch : Switch) (sides : ℕ → Side) (slot moment : ℕ) (message : List ℕ) → switch.phase ≡ Opened → is_slot p slot ≡ true → is_up (sides slot).sight.view ≡ true
+    → up_after p switch sides (record { event = SliceMsg slot message; moment = moment }) slot ≡ (if is_dismissing message then false else is_up (sides slot).sight.view)
+up_heard p switch sides slot moment message opened here up =
+    ap₂ (λ (phase : Phase) (items : List Item). is_open (phase_after phase (SliceMsg slot message)) && is_up (with_items items (sides slot).sight.view)) opened
+    (shown_msg p switch (sides slot) slot moment message opened here up)
+
+-- who is up, by the state
+up_there : (a : Session) (slot : ℕ) (state : SliceState) (here : Bool) → has_slot a slot ≡ here → slice_get a.states.items slot ≡ Some state → is_up_at a slot ≡ (here && state.up)
+up_there a slot state here is g = ap₂ (λ (b : Bool) (o : Option SliceState). b && elim o [ None ↦ false | Some k ↦ k.up ]) is g
+
+pub up_state : (p : PolicyView) (switch : Switch) (sides : ℕ → Side) (qs : ℕ → Queue) (a : Session) (slot : ℕ) → SessionStands p switch sides qs a → is_slot p slot ≡ true → is_up_at a slot ≡ is_up (sides slot).sight.view
+up_state p switch sides qs a slot s here =
+    let x = there a.states.items slot (subst (λ (n : ℕ). ltb slot n ≡ true) (sym s.states_count) here) in
+    let y = there a.queues.items slot (subst (λ (n : ℕ). ltb slot n ≡ true) (sym s.queues_count) here) in
+    up_there a slot x.0 true (slots_are p switch sides qs a slot s ∙ here) x.1 ∙ (s.each slot x.0 y.0 x.1 y.1).state_stands.up
+
+first_true : (a b : Bool) → (a && b) ≡ true → a ≡ true
+first_true true b is = refl
+first_true false b is = is
+
+pub heard_up : (old new : Desk) (a b : Session) (slot moment : ℕ) (message : List ℕ) (on : Bool) → old.session ≡ Some a → new.policy ≡ old.policy → new.phase ≡ old.phase → new.session ≡ Some b
+    → is_up_at a slot ≡ true → AtSlot slot (λ x y z w. Hears a.policy a.ports a.features slot message moment on x y old.lane z w new.lane) a b
+    → Acts old (record { event = SliceMsg slot message; moment = moment }) on new
+heard_up old new a b slot moment message on was policy phase now is at p switch sides qs ql fit body alive =
+    let timed : Timed = record { event = SliceMsg slot message; moment = moment } in
+    let stands = stands_in p switch sides qs a old.session was body.opens in
+    let opened = is_opened p switch sides qs a fit stands alive in
+    let still = slices_switch switch (SliceMsg slot message) refl in
+    let here : is_slot p slot ≡ true = sym (slots_are p switch sides qs a slot stands) ∙ first_true (has_slot a slot) (elim (slice_get a.states.items slot) as (λ o. Bool) [ None ↦ false | Some k ↦ k.up ]) is in
+    let up : is_up (sides slot).sight.view ≡ true = sym (up_state p switch sides qs a slot stands here) ∙ is in
+    let x = there a.states.items slot (subst (λ (n : ℕ). ltb slot n ≡ true) (sym stands.states_count) here) in
+    let y = there a.queues.items slot (subst (λ (n : ℕ). ltb slot n ≡ true) (sym stands.queues_count) here) in
+    let z = there b.states.items slot (subst (λ (n : ℕ). ltb slot n ≡ true) (sym (at.states_count ∙ stands.states_count)) here) in
+    let w = there b.queues.items slot (subst (λ (n : ℕ). ltb slot n ≡ true) (sym (at.queues_count ∙ stands.queues_count)) here) in
+    let heard = heard_at p switch sides qs a slot moment message on old.lane new.lane x.0 y.0 z.0 w.0 fit stands here up (stands.each slot x.0 y.0 x.1 y.1) (at.own x.0 y.0 z.0 w.0 x.1 y.1 z.1 w.1) in
+    record {
+      body = body_after p switch sides qs ql timed old new body policy (phase ∙ body.phase ∙ sym (phase_same switch (SliceMsg slot message) still))
+          (lane_more p switch sides ql timed (map (rendered (sides slot).sight.came) (answer_to (settings_at p slot switch.features) (sides slot).sight.view (Msg message moment)).to_switch) old.lane new.lane body.lane
+          (no_end switch timed (phase_same switch (SliceMsg slot message) still) alive)
+          (ap (λ (k : Phase). lane_in (λ i. put_with p i switch (sides i) timed) k (SliceMsg slot message)) opened ∙ put_heard p switch sides slot moment message opened here up)
+          heard.to_switch)
+          (subst (λ (k : Option Session). Opens p (switch_after switch (SliceMsg slot message)) (sides_after p switch sides timed) (queues_after p switch sides qs timed) k) (sym now)
+          (one_slot p switch sides qs timed slot (λ x y z w. Hears a.policy a.ports a.features slot message moment on x y old.lane z w new.lane) a b stands at (known_same switch (SliceMsg slot message) still)
+          (others_msg p switch sides slot moment message)
+          (λ x y z w h one hears. hears_slot p switch sides qs slot moment message on old.lane new.lane x y z w opened h up one
+          (heard_at p switch sides qs a slot moment message on old.lane new.lane x y z w fit stands h up one hears))));
+      goes_on = goes_heard (is_fresh switch.phase) on (is_slot p slot) (is_up (sides slot).sight.view) (is_dismissing message) (up_after p switch sides timed slot) (ap is_fresh opened) here up
+          (heard.goes_on ∙ ap not (ends (settings_at p slot switch.features) (sides slot).sight.view (Msg message moment))) (up_heard p switch sides slot moment message opened here up);
+    }
+
+-- ---- a message of it, where it isn't up
+
+not_shown : (here own up : Bool) (items : List Item) → (here && up) ≡ false → (if here then (if own && up then items else []) else []) ≡ []
+not_shown true true true items down = absurd (true≢false down)
+not_shown true false true items down = refl
+not_shown true true false items down = refl
+not_shown true false false items down = refl
+not_shown false own up items down = refl
+
+by_slot : (here up said : Bool) → (here ≡ true → said ≡ up) → said ≡ false → (here && up) ≡ false
+by_slot true up said is no_ = sym (is refl) ∙ no_
+by_slot false up said is no_ = refl
+
+unshown : (p : PolicyView) (switch : Switch) (sides : ℕ → Side) (slot moment : ℕ) (message : List ℕ) → switch.phase ≡ Opened → (is_slot p slot && is_up (sides slot).sight.view) ≡ false
+    → items_of p slot switch (sides slot) (record { event = SliceMsg slot message; moment = moment }) ≡ []
+unshown p switch sides slot moment message opened down =
+    items_opened p slot switch (sides slot) (record { event = SliceMsg slot message; moment = moment }) opened
+    ∙ not_shown (is_slot p slot) (slot == slot) (is_up (sides slot).sight.view) (Msg message moment ∷ []) down
+
+unshown_all : (p : PolicyView) (switch : Switch) (sides : ℕ → Side) (slot moment : ℕ) (message : List ℕ) → switch.phase ≡ Opened → (is_slot p slot && is_up (sides slot).sight.view) ≡ false
+    → (i : ℕ) → items_of p i switch (sides i) (record { event = SliceMsg slot message; moment = moment }) ≡ []
+unshown_all p switch sides slot moment message opened down i = elim (cases_Bool (i == slot)) [
+  | inl is ↦ subst (λ (k : ℕ). items_of p k switch (sides k) (record { event = SliceMsg slot message; moment = moment }) ≡ []) (sym (eqb-true i slot is)) (unshown p switch sides slot moment message opened down)
+  | inr isnt ↦ (others_msg p switch sides slot moment message i (λ e. true≢false (sym (eq-eqb i slot e) ∙ isnt))).0
+]
+
+closed : (fresh here up up_then : Bool) → (here && up) ≡ false → (here ≡ true → up_then ≡ up) → false ≡ not ((fresh && true) || not here || (not false && not up_then))
+closed true here up up_then down same = refl
+closed false false up up_then down same = refl
+closed false true up up_then down same = sym (ap (λ (b : Bool). not (not b)) (same refl ∙ down))
+
+pub heard_down : (old new : Desk) (a b : Session) (slot moment : ℕ) (message : List ℕ) (on : Bool) → old.session ≡ Some a → new.policy ≡ old.policy → new.phase ≡ old.phase → new.session ≡ Some b
+    → is_up_at a slot ≡ false → on ≡ false → b ≡ a → new.lane ≡ old.lane
+    → Acts old (record { event = SliceMsg slot message; moment = moment }) on new
+heard_down old new a b slot moment message on was policy phase now is off same lane p switch sides qs ql fit body alive =
+    let timed : Timed = record { event = SliceMsg slot message; moment = moment } in
+    let stands = stands_in p switch sides qs a old.session was body.opens in
+    let opened = is_opened p switch sides qs a fit stands alive in
+    let still = slices_switch switch (SliceMsg slot message) refl in
+    let down = by_slot (is_slot p slot) (is_up (sides slot).sight.view) (is_up_at a slot) (up_state p switch sides qs a slot stands) is in
+    let none = unshown_all p switch sides slot moment message opened down in
+    record {
+      body = body_after p switch sides qs ql timed old new body policy (phase ∙ body.phase ∙ sym (phase_same switch (SliceMsg slot message) still))
+          (subst (λ (k : Kept). QueueStands lane_limit (lane_after p switch sides ql timed) k) (sym lane)
+          (lane_stays p switch sides ql timed old.lane body.lane (no_end switch timed (phase_same switch (SliceMsg slot message) still) alive)
+          (ap (λ (k : Phase). lane_in (λ i. put_with p i switch (sides i) timed) k (SliceMsg slot message)) opened
+          ∙ ap (λ (items : List Item). map (rendered (sides slot).sight.came) (put_for (settings_at p slot switch.features) (sides slot).sight.view items)) (none slot))))
+          (subst (λ (k : Option Session). Opens p (switch_after switch (SliceMsg slot message)) (sides_after p switch sides timed) (queues_after p switch sides qs timed) k) (sym now)
+          (subst (λ (k : Session). SessionStands p (switch_after switch (SliceMsg slot message)) (sides_after p switch sides timed) (queues_after p switch sides qs timed) k) (sym same)
+          (session_passes p switch sides qs timed a stands (known_same switch (SliceMsg slot message) still) none (λ i. refl))));
+      goes_on = off ∙ closed (is_fresh switch.phase) (is_slot p slot) (is_up (sides slot).sight.view) (up_after p switch sides timed slot) down
+          (λ here. ap₂ (λ (phase : Phase) (items : List Item). is_open (phase_after phase (SliceMsg slot message)) && is_up (with_items items (sides slot).sight.view)) opened (none slot));
+    }
+
+pub heard : (old new : Desk) (a b : Session) (slot moment : ℕ) (message : List ℕ) (on : Bool) → old.session ≡ Some a → new.policy ≡ old.policy → new.phase ≡ old.phase → new.session ≡ Some b
+    → (is_up_at a slot ≡ false → (on ≡ false) × (b ≡ a) × (new.lane ≡ old.lane))
+    → (is_up_at a slot ≡ true → AtSlot slot (λ x y z w. Hears a.policy a.ports a.features slot message moment on x y old.lane z w new.lane) a b)
+    → Acts old (record { event = SliceMsg slot message; moment = moment }) on new
+heard old new a b slot moment message on was policy phase now down up = elim (cases_Bool (is_up_at a slot)) [
+  | inl is ↦ heard_up old new a b slot moment message on was policy phase now is (up is)
+  | inr isnt ↦ (let d = down isnt in heard_down old new a b slot moment message on was policy phase now isnt d.0 d.1 d.2)
+]

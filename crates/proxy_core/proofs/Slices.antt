@@ -1,0 +1,177 @@
+-- A session after an event of a slice's connection.
+use Rattle.std.proofs.Common.{◌≡◌, ◌≢◌, ℕ, ◌==◌, ◌&&◌, not, Bool, true, false, if◌then◌else◌, List, [], ◌∷◌, slice_get, refl, ap, ap₂, subst, sym, ◌∙◌, true≢false, eqb-true, inl, inr, Some}
+use Rattle.std.specs.Prelude.{ltb}
+use Rattle.std.proofs.lemmas.Bool.{cases_Bool, eq-eqb}
+use Rattle.flowspace.specs.Policies.{PolicyView}
+use Rattle.flow_book.specs.declared.state.SliceState.{SliceState}
+use Rattle.outbox.specs.Queues.{Queue, no_messages, push_all, Kept, QueueStands}
+use Rattle.slice_words.specs.Items.{Settings, Item, Up, Down, Msg, is_up}
+use Rattle.slice_words.specs.Alone.{sent_for, with_items}
+use Rattle.slice_words.specs.Standing.{SliceStands}
+use Rattle.desk_words.specs.declared.event.Event.{Event}
+use Rattle.desk_words.specs.declared.event.Event.TheVariants.{SliceUp, SliceMsg, SliceDown}
+use Rattle.desk_words.specs.declared.event.Timed.{Timed}
+use Rattle.desk_words.specs.declared.phase.Phase.{Phase}
+use Rattle.desk_words.specs.declared.phase.Phase.TheVariants.{Opened}
+use Rattle.desk_words.specs.Openings.{phase_after, known_after, Switch, switch_after}
+use Rattle.desk_words.specs.Histories.{is_slot, settings_at, Side, items_of, is_open}
+use Rattle.desk_words.specs.Operations.{slice_limit, empties}
+use Rattle.desk_words.proofs.Erasing.{others_items}
+use Rattle.proxy_core.specs.declared.parts.Session.{Session}
+use Rattle.proxy_core.specs.Slots.{Keeps, Comes}
+use Rattle.proxy_core.specs.Desks.{SlotStands, SessionStands, sides_after, up_after, queues_after}
+use Rattle.proxy_core.specs.Opening.{AtSlot, Goes, StandsOn}
+use Rattle.proxy_core.proofs.Lists.{there, within}
+use Rattle.proxy_core.proofs.Standing.{slot_after, passes, items_opened, session_goes}
+
+pub unlike : (a b : ℕ) → a ≢ b → (b == a) ≡ false
+unlike a b other = elim (cases_Bool (b == a)) [ inl is ↦ absurd (other (sym (eqb-true b a is))) | inr isnt ↦ isnt ]
+
+unlike_of : (a b : ℕ) → (a == b) ≡ false → a ≢ b
+unlike_of a b isnt is = true≢false (sym (eq-eqb a b is) ∙ isnt)
+
+-- all slots, where an event changed what is at one
+pub one_slot : (p : PolicyView) (switch : Switch) (sides : ℕ → Side) (qs : ℕ → Queue) (timed : Timed) (slot : ℕ) (Becomes : SliceState → Kept → SliceState → Kept → Type 0) (old new : Session)
+    → SessionStands p switch sides qs old → AtSlot slot Becomes old new
+    → known_after switch.phase switch.known timed.event ≡ switch.known
+    → ((i : ℕ) → i ≢ slot → (items_of p i switch (sides i) timed ≡ []) × (empties i (up_after p switch sides timed i) timed.event ≡ false))
+    → ((a : SliceState) (b : Kept) (x : SliceState) (y : Kept) → is_slot p slot ≡ true → SlotStands p slot switch (sides slot) (qs slot) a b → Becomes a b x y
+    → SlotStands p slot switch (sides_after p switch sides timed slot) (queues_after p switch sides qs timed slot) x y)
+    → SessionStands p (switch_after switch timed.event) (sides_after p switch sides timed) (queues_after p switch sides qs timed) new
+one_slot p switch sides qs timed slot Becomes old new s at known others own =
+    session_goes p switch sides (sides_after p switch sides timed) qs (queues_after p switch sides qs timed) timed.event old new s at.policy at.features
+    (at.ports ∙ s.known ∙ sym known) at.states_count at.queues_count
+    (λ i x y gx gy. elim (cases_Bool (i == slot)) [
+      | inl is ↦
+          let e : i ≡ slot = eqb-true i slot is in
+          let gx2 : slice_get new.states.items slot ≡ Some x = subst (λ (k : ℕ). slice_get new.states.items k ≡ Some x) e gx in
+          let gy2 : slice_get new.queues.items slot ≡ Some y = subst (λ (k : ℕ). slice_get new.queues.items k ≡ Some y) e gy in
+          let a = there old.states.items slot (subst (λ (n : ℕ). ltb slot n ≡ true) at.states_count (within new.states.items slot x gx2)) in
+          let b = there old.queues.items slot (subst (λ (n : ℕ). ltb slot n ≡ true) at.queues_count (within new.queues.items slot y gy2)) in
+          let inside : is_slot p slot ≡ true = subst (λ (n : ℕ). ltb slot n ≡ true) s.states_count (within old.states.items slot a.0 a.1) in
+          subst (λ (k : ℕ). SlotStands p k switch (sides_after p switch sides timed k) (queues_after p switch sides qs timed k) x y) (sym e)
+          (own a.0 b.0 x y inside (s.each slot a.0 b.0 a.1 b.1) (at.own a.0 b.0 x y a.1 b.1 gx2 gy2))
+      | inr isnt ↦
+          let far = unlike_of i slot isnt in
+          let same = at.others i far in
+          let still = others i far in
+          passes p switch sides qs timed i x y still.0 still.1 (s.each i x y (sym same.0 ∙ gx) (sym same.1 ∙ gy))
+    ])
+
+-- want of memory at one slot
+pub kept_slot : (slot : ℕ) (old new : Session) → AtSlot slot Keeps old new → StandsOn old new
+kept_slot slot old new at p switch sides qs s = record {
+  told = s.told ∙ ap (λ f. Some f) (sym at.features);
+  slices = ap (λ v. v.slices) at.policy ∙ s.slices;
+  rules = ap (λ v. v.rules) at.policy ∙ s.rules;
+  known = at.ports ∙ s.known;
+  states_count = at.states_count ∙ s.states_count;
+  queues_count = at.queues_count ∙ s.queues_count;
+  each = λ i x y gx gy. elim (cases_Bool (i == slot)) [
+    | inl is ↦
+        let e : i ≡ slot = eqb-true i slot is in
+        let gx2 : slice_get new.states.items slot ≡ Some x = subst (λ (k : ℕ). slice_get new.states.items k ≡ Some x) e gx in
+        let gy2 : slice_get new.queues.items slot ≡ Some y = subst (λ (k : ℕ). slice_get new.queues.items k ≡ Some y) e gy in
+        let a = there old.states.items slot (subst (λ (n : ℕ). ltb slot n ≡ true) at.states_count (within new.states.items slot x gx2)) in
+        let b = there old.queues.items slot (subst (λ (n : ℕ). ltb slot n ≡ true) at.queues_count (within new.queues.items slot y gy2)) in
+        let was = s.each slot a.0 b.0 a.1 b.1 in
+        let keeps = at.own a.0 b.0 x y a.1 b.1 gx2 gy2 in
+        subst (λ (k : ℕ). SlotStands p k switch (sides k) (qs k) x y) (sym e) (record {
+          state_stands = subst (λ (state : SliceState). SliceStands (settings_at p slot switch.features) (sides slot).sight state) (sym keeps.0) was.state_stands;
+          queue_stands = keeps.1 _ (qs slot) was.queue_stands;
+        })
+    | inr isnt ↦
+        let same = at.others i (unlike_of i slot isnt) in
+        s.each i x y (sym same.0 ∙ gx) (sym same.1 ∙ gy)
+  ];
+}
+
+-- ---- an event of a slice shows the others nothing
+
+-- the slot of an event of a slice
+abbrev is_from : ℕ → Event → Bool
+is_from slot (SliceUp other) = other == slot
+is_from slot (SliceMsg other message) = other == slot
+is_from slot (SliceDown other) = other == slot
+is_from slot event = false
+
+pub others_up : (p : PolicyView) (switch : Switch) (sides : ℕ → Side) (slot moment i : ℕ) → i ≢ slot
+    → (items_of p i switch (sides i) (record { event = SliceUp slot; moment = moment }) ≡ [])
+    × (empties i (up_after p switch sides (record { event = SliceUp slot; moment = moment }) i) (SliceUp slot) ≡ false)
+others_up p switch sides slot moment i far = (
+  others_items p i switch (sides i) (record { event = SliceUp slot; moment = moment }) (ap not (unlike i slot far)),
+  ap (λ (b : Bool). b && up_after p switch sides (record { event = SliceUp slot; moment = moment }) i) (unlike i slot far),
+)
+
+pub others_down : (p : PolicyView) (switch : Switch) (sides : ℕ → Side) (slot moment i : ℕ) → i ≢ slot
+    → (items_of p i switch (sides i) (record { event = SliceDown slot; moment = moment }) ≡ [])
+    × (empties i (up_after p switch sides (record { event = SliceDown slot; moment = moment }) i) (SliceDown slot) ≡ false)
+others_down p switch sides slot moment i far =
+    (others_items p i switch (sides i) (record { event = SliceDown slot; moment = moment }) (ap not (unlike i slot far)), unlike i slot far)
+
+pub others_msg : (p : PolicyView) (switch : Switch) (sides : ℕ → Side) (slot moment : ℕ) (message : List ℕ) (i : ℕ) → i ≢ slot
+    → (items_of p i switch (sides i) (record { event = SliceMsg slot message; moment = moment }) ≡ [])
+    × (empties i (up_after p switch sides (record { event = SliceMsg slot message; moment = moment }) i) (SliceMsg slot message) ≡ false)
+others_msg p switch sides slot moment message i far =
+    (others_items p i switch (sides i) (record { event = SliceMsg slot message; moment = moment }) (ap not (unlike i slot far)), refl)
+
+-- ---- the slice itself
+
+same_slot : (slot : ℕ) → (slot == slot) ≡ true
+same_slot slot = eq-eqb slot slot refl
+
+both : (here own : Bool) (items : List Item) → here ≡ true → own ≡ true → (if here then (if own then items else []) else []) ≡ items
+both here own items is too = rw (is, too) refl
+
+pub shown_up : (p : PolicyView) (switch : Switch) (side : Side) (slot moment : ℕ) → switch.phase ≡ Opened → is_slot p slot ≡ true
+    → items_of p slot switch side (record { event = SliceUp slot; moment = moment }) ≡ Up ∷ []
+shown_up p switch side slot moment opened here =
+    items_opened p slot switch side (record { event = SliceUp slot; moment = moment }) opened ∙ both (is_slot p slot) (slot == slot) (Up ∷ []) here (same_slot slot)
+
+pub shown_down : (p : PolicyView) (switch : Switch) (side : Side) (slot moment : ℕ) → switch.phase ≡ Opened → is_slot p slot ≡ true
+    → items_of p slot switch side (record { event = SliceDown slot; moment = moment }) ≡ Down ∷ []
+shown_down p switch side slot moment opened here =
+    items_opened p slot switch side (record { event = SliceDown slot; moment = moment }) opened ∙ both (is_slot p slot) (slot == slot) (Down ∷ []) here (same_slot slot)
+
+pub shown_msg : (p : PolicyView) (switch : Switch) (side : Side) (slot moment : ℕ) (message : List ℕ) → switch.phase ≡ Opened → is_slot p slot ≡ true → is_up side.sight.view ≡ true
+    → items_of p slot switch side (record { event = SliceMsg slot message; moment = moment }) ≡ Msg message moment ∷ []
+shown_msg p switch side slot moment message opened here up =
+    items_opened p slot switch side (record { event = SliceMsg slot message; moment = moment }) opened
+    ∙ both (is_slot p slot) (slot == slot && is_up side.sight.view) (Msg message moment ∷ []) here (ap₂ (λ (a b : Bool). a && b) (same_slot slot) up)
+
+-- who is up after an event of a slice, by what it shows
+up_by : (p : PolicyView) (switch : Switch) (sides : ℕ → Side) (timed : Timed) (slot : ℕ) (items : List Item) → switch.phase ≡ Opened → items_of p slot switch (sides slot) timed ≡ items
+    → up_after p switch sides timed slot ≡ (is_open (phase_after Opened timed.event) && is_up (with_items items (sides slot).sight.view))
+up_by p switch sides timed slot items opened shown =
+    ap₂ (λ (phase : Phase) (is : List Item). is_open (phase_after phase timed.event) && is_up (with_items is (sides slot).sight.view)) opened shown
+
+pub up_comes : (p : PolicyView) (switch : Switch) (sides : ℕ → Side) (slot moment : ℕ) → switch.phase ≡ Opened → is_slot p slot ≡ true
+    → up_after p switch sides (record { event = SliceUp slot; moment = moment }) slot ≡ true
+up_comes p switch sides slot moment opened here =
+    up_by p switch sides (record { event = SliceUp slot; moment = moment }) slot (Up ∷ []) opened (shown_up p switch (sides slot) slot moment opened here)
+
+pub comes_slot : (p : PolicyView) (switch : Switch) (sides : ℕ → Side) (qs : ℕ → Queue) (slot moment : ℕ) (a : SliceState) (b : Kept) (x : SliceState) (y : Kept) → switch.phase ≡ Opened
+    → is_slot p slot ≡ true → SlotStands p slot switch (sides slot) (qs slot) a b → Comes a b x y
+    → SlotStands p slot switch (sides_after p switch sides (record { event = SliceUp slot; moment = moment }) slot) (queues_after p switch sides qs (record { event = SliceUp slot; moment = moment }) slot) x y
+comes_slot p switch sides qs slot moment a b x y opened here stands comes =
+    let timed : Timed = record { event = SliceUp slot; moment = moment } in
+    slot_after p switch sides qs timed slot (Up ∷ []) true x y
+    (shown_up p switch (sides slot) slot moment opened here)
+    (ap₂ (λ (a b : Bool). a && b) (same_slot slot) (up_comes p switch sides slot moment opened here))
+    (comes.0 (settings_at p slot switch.features) (sides slot).sight stands.state_stands, comes.1 _ (qs slot) stands.queue_stands)
+
+down_sent : (up : Bool) (view : List Item) (s : Settings) → is_up view ≡ up → sent_for s view (Down ∷ []) ≡ []
+down_sent true view s is = rw is refl
+down_sent false view s is = rw is refl
+
+pub goes_slot : (p : PolicyView) (switch : Switch) (sides : ℕ → Side) (qs : ℕ → Queue) (slot moment : ℕ) (a : SliceState) (b : Kept) (x : SliceState) (y : Kept) → switch.phase ≡ Opened
+    → is_slot p slot ≡ true → SlotStands p slot switch (sides slot) (qs slot) a b → Goes a b x y
+    → SlotStands p slot switch (sides_after p switch sides (record { event = SliceDown slot; moment = moment }) slot) (queues_after p switch sides qs (record { event = SliceDown slot; moment = moment }) slot) x y
+goes_slot p switch sides qs slot moment a b x y opened here stands goes =
+    let timed : Timed = record { event = SliceDown slot; moment = moment } in
+    slot_after p switch sides qs timed slot (Down ∷ []) true x y
+    (shown_down p switch (sides slot) slot moment opened here) (same_slot slot) (
+      goes.0 (settings_at p slot switch.features) (sides slot).sight stands.state_stands,
+      subst (λ (m : List (List ℕ)). QueueStands slice_limit (push_all slice_limit no_messages m) y) (sym (down_sent (is_up (sides slot).sight.view) (sides slot).sight.view (settings_at p slot switch.features) refl))
+          (goes.1 _ (qs slot) stands.queue_stands),
+    )

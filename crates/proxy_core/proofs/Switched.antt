@@ -1,0 +1,318 @@
+-- A desk after a message of the switch.
+use Rattle.std.proofs.Common.{◌≡◌, ℕ, ◌==◌, ◌&&◌, not, Bool, true, false, if◌then◌else◌, List, [], ◌∷◌, length, slice_get, refl, ap, ap₂, subst, sym, ◌∙◌, true≢false, inl, inr, ◌⊎◌, Option, Some, None, Result, Ok, Err, OnErr, IfOk, arith}
+use Rattle.std.specs.Prelude.{ltb}
+use Rattle.std.proofs.lemmas.Bool.{ltb-true}
+use Rattle.of10_ctl.specs.Frames.{is_bad}
+use Rattle.of10_ctl.specs.declared.kind.TheConstants.{PORT_STATUS}
+use Rattle.slice_words.specs.Messages.{version_of, is_kind}
+use Rattle.of10_port.specs.declared.features.Features.{Features}
+use Rattle.of10_port.specs.declared.status.PortStatus.{PortStatus}
+use Rattle.flowspace.specs.Policies.{PolicyView}
+use Rattle.port_view.specs.declared.answer.Kept.{Kept as Answer}
+use Rattle.port_view.specs.declared.answer.Kept.TheVariants.{Kept as IsKept, Ignored, TooManyPorts}
+use Rattle.port_view.specs.KnownPorts.{changed, kept_of}
+use Rattle.port_view.proofs.Knowing.{changed-not_kept}
+use Rattle.outbox.specs.Queues.{Queue, push_all, Kept, QueueStands}
+use Rattle.slice_words.specs.Items.{Item, End}
+use Rattle.desk_words.specs.declared.event.Event.{Event}
+use Rattle.desk_words.specs.declared.event.Event.TheVariants.{SwitchMsg}
+use Rattle.desk_words.specs.declared.event.Timed.{Timed}
+use Rattle.desk_words.specs.declared.phase.Phase.{Phase}
+use Rattle.desk_words.specs.declared.phase.Phase.TheVariants.{Fresh, Begun, Opened, Ended}
+use Rattle.desk_words.specs.Openings.{features_told, status_told, phase_after, opening_after, known_after, Switch, switch_after}
+use Rattle.desk_words.specs.Histories.{Side, message_items}
+use Rattle.desk_words.specs.Sent.{preparation, echo_for, lane_in, put_with}
+use Rattle.desk_words.specs.Verdicts.{is_fresh, is_ended, is_closing}
+use Rattle.desk_words.specs.Operations.{slice_limit}
+use Rattle.switch_side.specs.declared.dispatch.Dispatch.{Dispatch}
+use Rattle.switch_side.specs.Dispatches.{Surrounds, AllStand, IsDispatch, told_at, sent_from, kept_beside, status_kept}
+use Rattle.switch_side.proofs.Standing.{stands_still}
+use Rattle.proxy_core.specs.declared.parts.Session.{Session}
+use Rattle.proxy_core.specs.declared.parts.Desk.{Desk}
+use Rattle.proxy_core.specs.Slots.{HasOnly, HasMore}
+use Rattle.proxy_core.specs.Handing.{AreSame, AreHanded, kept_by}
+use Rattle.proxy_core.specs.Desks.{SessionStands, Opens, is_before, Coherent, sides_after, up_after, queues_after, Acts, ActsIn, Ends, PassesOn}
+use Rattle.proxy_core.specs.Opening.{Begins, CarriedOut, Carries, StandsOn}
+use Rattle.proxy_core.proofs.Lists.{none_some, there, within}
+use Rattle.proxy_core.proofs.Standing.{items_opened, session_goes}
+use Rattle.proxy_core.proofs.Handed.{slot_sent}
+use Rattle.proxy_core.proofs.Acting.{body_after, still_none, session_ends, lane_more, lane_ends}
+use Rattle.proxy_core.proofs.Beginning.{bad_features, bad_echo, told_good, session_begins}
+
+-- ---- a message of a switch that hasn't told what it is
+
+begun_bad : (message : List ℕ) → is_bad message ≡ true → phase_after Begun (SwitchMsg message) ≡ Ended
+begun_bad message bad = ap (λ (b : Bool). if b then Ended else elim (features_told message) [ None ↦ Begun | Some features ↦ Opened ]) bad
+
+begun_echo : (message : List ℕ) → is_bad message ≡ false → features_told message ≡ None → phase_after Begun (SwitchMsg message) ≡ Begun
+begun_echo message good none =
+    ap₂ (λ (b : Bool) (told : Option Features). if b then Ended else elim told [ None ↦ Begun | Some features ↦ Opened ]) good none
+
+begun_opens : (message : List ℕ) (features : Features) → features_told message ≡ Some features → phase_after Begun (SwitchMsg message) ≡ Opened
+begun_opens message features told =
+    ap₂ (λ (b : Bool) (t : Option Features). if b then Ended else elim t [ None ↦ Begun | Some f ↦ Opened ]) (told_good message features told) told
+
+lane_begun : (f : ℕ → List (List ℕ)) (message : List ℕ) (told : Option Features) → features_told message ≡ told
+    → lane_in f Begun (SwitchMsg message) ≡ (elim told [ None ↦ echo_for message | Some features ↦ preparation ])
+lane_begun f message told is = ap (λ (t : Option Features). elim t [ None ↦ echo_for message | Some features ↦ preparation ]) is
+
+twice : (b : Bool) → not (not b) ≡ b
+twice true = refl
+twice false = refl
+
+-- what a message of the switch closes
+closes_msg : (p : PolicyView) (up : ℕ → Bool) (phase after : Phase) (message : List ℕ) → is_fresh phase ≡ false → is_closing p phase up after (SwitchMsg message) ≡ is_ended after
+closes_msg p up Fresh after message far = absurd (true≢false far)
+closes_msg p up Begun after message far = twice (is_ended after)
+closes_msg p up Opened after message far = twice (is_ended after)
+closes_msg p up Ended after message far = twice (is_ended after)
+
+none_begun : (p : PolicyView) (switch : Switch) (sides : ℕ → Side) (qs : ℕ → Queue) (session : Option Session) → Coherent p switch sides → switch.phase ≡ Begun → Opens p switch sides qs session → session ≡ None
+none_begun p switch sides qs None fit begun opens = refl
+none_begun p switch sides qs (Some session) fit begun stands = none_some session.features (sym (fit.before_untold (ap is_before begun)) ∙ stands.told)
+
+-- the desk after a message that opens nothing
+begun_still : (p : PolicyView) (switch : Switch) (sides : ℕ → Side) (qs : ℕ → Queue) (moment : ℕ) (message : List ℕ) (session : Option Session) → Coherent p switch sides → switch.phase ≡ Begun → features_told message ≡ None
+    → Opens p switch sides qs session
+    → Opens p (switch_after switch (SwitchMsg message)) (sides_after p switch sides (told_at moment message)) (queues_after p switch sides qs (told_at moment message)) session
+begun_still p switch sides qs moment message session fit begun none opens =
+    let empty = none_begun p switch sides qs session fit begun opens in
+    subst (λ (o : Option Session). Opens p (switch_after switch (SwitchMsg message)) (sides_after p switch sides (told_at moment message)) (queues_after p switch sides qs (told_at moment message)) o) (sym empty)
+    (still_none p switch sides qs (told_at moment message) fit (subst (λ (o : Option Session). Opens p switch sides qs o) empty opens)
+    (ap (λ (k : Phase). opening_after k None (SwitchMsg message)) begun ∙ none))
+
+no_kind : (right kind bad : Bool) → bad ≡ true → (right && kind && not bad) ≡ false
+no_kind true true true is = refl
+no_kind true false true is = refl
+no_kind false true true is = refl
+no_kind false false true is = refl
+no_kind right kind false is = absurd (true≢false (sym is))
+
+abbrev is_kept_answer : Answer → Bool
+is_kept_answer IsKept = true
+is_kept_answer Ignored = false
+is_kept_answer TooManyPorts = false
+
+pub begun_ends : (old new : Desk) (moment : ℕ) (message : List ℕ) → Ends old new → is_bad message ≡ true → ActsIn Begun old (told_at moment message) false new
+begun_ends old new moment message ends bad p switch sides qs ql fit body begun =
+    let timed = told_at moment message in
+    let after : phase_after switch.phase (SwitchMsg message) ≡ Ended = ap (λ (k : Phase). phase_after k (SwitchMsg message)) begun ∙ begun_bad message bad in
+    let none = bad_features message bad in
+    record {
+      body = body_after p switch sides qs ql timed old new body ends.same_policy (ends.phase ∙ sym after)
+          (lane_ends p switch sides ql timed old.lane new.lane body.lane (ap₂ (λ (a b : Phase). not (is_ended a) && is_ended b) begun after)
+          (ap (λ (k : Phase). lane_in (λ i. put_with p i switch (sides i) timed) k (SwitchMsg message)) begun ∙ lane_begun (λ i. put_with p i switch (sides i) timed) message None none ∙ bad_echo message bad) ends.lane)
+          (subst (λ (o : Option Session). Opens p (switch_after switch (SwitchMsg message)) (sides_after p switch sides timed) (queues_after p switch sides qs timed) o) (sym ends.session)
+          (begun_still p switch sides qs moment message old.session fit begun none body.opens));
+      goes_on = sym (ap not (closes_msg p (up_after p switch sides timed) switch.phase (phase_after switch.phase (SwitchMsg message)) message (ap is_fresh begun) ∙ ap is_ended after));
+    }
+
+pub begun_answers : (old new : Desk) (moment : ℕ) (message : List ℕ) → new.policy ≡ old.policy → new.phase ≡ old.phase → HasMore (echo_for message) old.lane new.lane → new.session ≡ old.session
+    → is_bad message ≡ false → features_told message ≡ None → ActsIn Begun old (told_at moment message) true new
+begun_answers old new moment message policy phase more session good none p switch sides qs ql fit body begun =
+    let timed = told_at moment message in
+    let after : phase_after switch.phase (SwitchMsg message) ≡ Begun = ap (λ (k : Phase). phase_after k (SwitchMsg message)) begun ∙ begun_echo message good none in
+    record {
+      body = body_after p switch sides qs ql timed old new body policy (phase ∙ body.phase ∙ begun ∙ sym after)
+          (lane_more p switch sides ql timed (echo_for message) old.lane new.lane body.lane (ap₂ (λ (a b : Phase). not (is_ended a) && is_ended b) begun after)
+          (ap (λ (k : Phase). lane_in (λ i. put_with p i switch (sides i) timed) k (SwitchMsg message)) begun ∙ lane_begun (λ i. put_with p i switch (sides i) timed) message None none) more)
+          (subst (λ (o : Option Session). Opens p (switch_after switch (SwitchMsg message)) (sides_after p switch sides timed) (queues_after p switch sides qs timed) o) (sym session)
+          (begun_still p switch sides qs moment message old.session fit begun none body.opens));
+      goes_on = sym (ap not (closes_msg p (up_after p switch sides timed) switch.phase (phase_after switch.phase (SwitchMsg message)) message (ap is_fresh begun) ∙ ap is_ended after));
+    }
+
+pub opened : (old new : Desk) (moment : ℕ) (message : List ℕ) (features : Features) (session : Session) → new.policy ≡ old.policy → new.phase ≡ Opened → HasMore preparation old.lane new.lane → new.session ≡ Some session
+    → features_told message ≡ Some features → Begins old.policy features session → ActsIn Begun old (told_at moment message) true new
+opened old new moment message features session policy phase more now told begins p switch sides qs ql fit body begun =
+    let timed = told_at moment message in
+    let after : phase_after switch.phase (SwitchMsg message) ≡ Opened = ap (λ (k : Phase). phase_after k (SwitchMsg message)) begun ∙ begun_opens message features told in
+    let empty = none_begun p switch sides qs old.session fit begun body.opens in
+    record {
+      body = body_after p switch sides qs ql timed old new body policy (phase ∙ sym after)
+          (lane_more p switch sides ql timed preparation old.lane new.lane body.lane (ap₂ (λ (a b : Phase). not (is_ended a) && is_ended b) begun after)
+          (ap (λ (k : Phase). lane_in (λ i. put_with p i switch (sides i) timed) k (SwitchMsg message)) begun ∙ lane_begun (λ i. put_with p i switch (sides i) timed) message (Some features) told) more)
+          (subst (λ (o : Option Session). Opens p (switch_after switch (SwitchMsg message)) (sides_after p switch sides timed) (queues_after p switch sides qs timed) o) (sym now)
+          (session_begins p switch sides qs moment message features session fit (subst (λ (o : Option Session). Opens p switch sides qs o) empty body.opens) begun told
+          (subst (λ (v : PolicyView). Begins v features session) body.same_policy begins)));
+      goes_on = sym (ap not (closes_msg p (up_after p switch sides timed) switch.phase (phase_after switch.phase (SwitchMsg message)) message (ap is_fresh begun) ∙ ap is_ended after));
+    }
+
+-- ---- a message of a switch that has told what it is
+
+-- a message of a bad length ends the session
+opened_bad : (message : List ℕ) → is_bad message ≡ true → phase_after Opened (SwitchMsg message) ≡ Ended
+opened_bad message bad = ap (λ (b : Bool). if b then Ended else Opened) bad
+
+opened_good : (message : List ℕ) → is_bad message ≡ false → phase_after Opened (SwitchMsg message) ≡ Opened
+opened_good message good = ap (λ (b : Bool). if b then Ended else Opened) good
+
+bad_shown : (p : PolicyView) (slot : ℕ) (switch : Switch) (view : List Item) (message : List ℕ) → is_bad message ≡ true → message_items p slot switch view message ≡ End ∷ []
+unfolding message_items
+bad_shown p slot switch view message bad = rw bad refl
+
+bad_status : (message : List ℕ) → is_bad message ≡ true → status_told message ≡ None
+bad_status message bad = rw (no_kind (version_of message == 1) (is_kind PORT_STATUS message) (is_bad message) bad) refl
+
+-- the session of a switch that ends
+pub bad_ends : (p : PolicyView) (switch : Switch) (sides : ℕ → Side) (qs : ℕ → Queue) (moment : ℕ) (message : List ℕ) (session : Session) → SessionStands p switch sides qs session → switch.phase ≡ Opened → is_bad message ≡ true
+    → SessionStands p (switch_after switch (SwitchMsg message)) (sides_after p switch sides (told_at moment message)) (queues_after p switch sides qs (told_at moment message)) session
+bad_ends p switch sides qs moment message session stands open_ bad =
+    session_ends p switch sides qs (told_at moment message) session stands
+    (ap (λ (k : Phase). known_after k switch.known (SwitchMsg message)) open_ ∙ ap (λ (t : Option PortStatus). elim t [ None ↦ switch.known | Some status ↦ changed status switch.known ]) (bad_status message bad))
+    (λ slot here. items_opened p slot switch (sides slot) (told_at moment message) open_
+    ∙ ap₂ (λ (b : Bool) (items : List Item). if b then items else []) here (bad_shown p slot switch (sides slot).sight.view message bad))
+    (λ slot. refl)
+
+opens_bad : (p : PolicyView) (switch : Switch) (sides : ℕ → Side) (qs : ℕ → Queue) (moment : ℕ) (message : List ℕ) (session : Option Session) → Coherent p switch sides → switch.phase ≡ Opened → is_bad message ≡ true → Opens p switch sides qs session
+    → Opens p (switch_after switch (SwitchMsg message)) (sides_after p switch sides (told_at moment message)) (queues_after p switch sides qs (told_at moment message)) session
+opens_bad p switch sides qs moment message (Some session) fit open_ bad stands = bad_ends p switch sides qs moment message session stands open_ bad
+opens_bad p switch sides qs moment message None fit open_ bad opens = (let some = fit.open_told open_ in none_some some.0 (sym opens.0 ∙ some.1))
+
+-- a message of a bad length that was heard, where the session stays as it is
+pub hears_bad : (old mid new : Desk) (moment : ℕ) (message : List ℕ) → PassesOn moment message false old mid → Ends mid new → ActsIn Opened old (told_at moment message) false new
+hears_bad old mid new moment message passes ends p switch sides qs ql fit body open_ =
+    let timed = told_at moment message in
+    let passed = passes p switch sides qs ql fit body open_ in
+    let bad = passed.0 in
+    let after : phase_after switch.phase (SwitchMsg message) ≡ Ended = ap (λ (k : Phase). phase_after k (SwitchMsg message)) open_ ∙ opened_bad message bad in
+    record {
+      body = body_after p switch sides qs ql timed old new body (ends.same_policy ∙ ap (λ (d : Desk). d.policy) passed.1) (ends.phase ∙ sym after)
+          (lane_ends p switch sides ql timed old.lane new.lane body.lane (ap₂ (λ (a b : Phase). not (is_ended a) && is_ended b) open_ after)
+          (ap (λ (k : Phase). lane_in (λ i. put_with p i switch (sides i) timed) k (SwitchMsg message)) open_ ∙ bad_echo message bad)
+          (subst (λ (d : Desk). HasOnly [] d.lane new.lane) passed.1 ends.lane))
+          (subst (λ (o : Option Session). Opens p (switch_after switch (SwitchMsg message)) (sides_after p switch sides timed) (queues_after p switch sides qs timed) o) (sym (ends.session ∙ ap (λ (d : Desk). d.session) passed.1))
+          (opens_bad p switch sides qs moment message old.session fit open_ bad body.opens));
+      goes_on = sym (ap not (closes_msg p (up_after p switch sides timed) switch.phase (phase_after switch.phase (SwitchMsg message)) message (ap is_fresh open_) ∙ ap is_ended after));
+    }
+
+-- a message that was carried out
+pub hears_good : (old new : Desk) (moment : ℕ) (message : List ℕ) → PassesOn moment message true old new → ActsIn Opened old (told_at moment message) true new
+hears_good old new moment message passes p switch sides qs ql fit body open_ =
+    let timed = told_at moment message in
+    let passed = passes p switch sides qs ql fit body open_ in
+    let after : phase_after switch.phase (SwitchMsg message) ≡ Opened = ap (λ (k : Phase). phase_after k (SwitchMsg message)) open_ ∙ opened_good message passed.0 in
+    record {
+      body = body_after p switch sides qs ql timed old new body passed.1 (passed.2 ∙ body.phase ∙ open_ ∙ sym after)
+          (lane_more p switch sides ql timed (echo_for message) old.lane new.lane body.lane (ap₂ (λ (a b : Phase). not (is_ended a) && is_ended b) open_ after)
+          (ap (λ (k : Phase). lane_in (λ i. put_with p i switch (sides i) timed) k (SwitchMsg message)) open_) passed.4)
+          passed.3;
+      goes_on = sym (ap not (closes_msg p (up_after p switch sides timed) switch.phase (phase_after switch.phase (SwitchMsg message)) message (ap is_fresh open_) ∙ ap is_ended after));
+    }
+
+-- ---- a message that is carried out
+
+-- a change that isn't kept changes nothing
+by_answer : (status : PortStatus) (known : List (List ℕ)) (answer : Answer) → kept_of status known ≡ answer
+    → changed status known ≡ kept_by (if (elim answer [ IsKept ↦ true | Ignored ↦ false | TooManyPorts ↦ false ]) then Some status else None) known
+by_answer status known IsKept is = refl
+by_answer status known Ignored is = changed-not_kept status known (λ e. true≢false (ap is_kept_answer (sym e ∙ is)))
+by_answer status known TooManyPorts is = changed-not_kept status known (λ e. true≢false (ap is_kept_answer (sym e ∙ is)))
+
+ports_kept : (known : List (List ℕ)) (told : Option PortStatus) → (elim told [ None ↦ known | Some status ↦ changed status known ]) ≡ kept_by (kept_beside known told) known
+ports_kept known None = refl
+ports_kept known (Some status) = by_answer status known (kept_of status known) refl
+
+surrounds : (p : PolicyView) (switch : Switch) (sides : ℕ → Side) (qs : ℕ → Queue) (session : Session) → SessionStands p switch sides qs session → switch.phase ≡ Opened → Surrounds p switch session.policy session.ports
+surrounds p switch sides qs session s open_ = record { opened = open_; slices = s.slices; rules = s.rules; known = s.known }
+
+all_stand : (p : PolicyView) (switch : Switch) (sides : ℕ → Side) (qs : ℕ → Queue) (session : Session) → SessionStands p switch sides qs session → AllStand p switch sides session.states.items
+all_stand p switch sides qs session s slot state g =
+    let here = subst (λ (n : ℕ). ltb slot n ≡ true) s.states_count (within session.states.items slot state g) in
+    let y = there session.queues.items slot (subst (λ (n : ℕ). ltb slot n ≡ true) (sym s.queues_count) here) in
+    (s.each slot state y.0 g y.1).state_stands
+
+-- the session after it
+pub carried_session : (p : PolicyView) (switch : Switch) (sides : ℕ → Side) (qs : ℕ → Queue) (moment : ℕ) (message : List ℕ) (old new : Session) (rooms : List Kept) → SessionStands p switch sides qs old → switch.phase ≡ Opened
+    → new.policy ≡ old.policy → new.features ≡ old.features → new.states ≡ old.states → new.ports ≡ kept_by (status_kept switch.known message) old.ports
+    → AreSame old.queues.items rooms → AreHanded (sent_from p switch sides (told_at moment message) 0 p.slices) rooms new.queues.items
+    → SessionStands p (switch_after switch (SwitchMsg message)) (sides_after p switch sides (told_at moment message)) (queues_after p switch sides qs (told_at moment message)) new
+carried_session p switch sides qs moment message old new rooms s open_ policy features states ports same handed =
+    session_goes p switch sides (sides_after p switch sides (told_at moment message)) qs (queues_after p switch sides qs (told_at moment message)) (SwitchMsg message) old new s policy features
+    (ports ∙ ap (kept_by (status_kept switch.known message)) s.known ∙ sym (ports_kept switch.known (status_told message)) ∙ sym (ap (λ (k : Phase). known_after k switch.known (SwitchMsg message)) open_))
+    (ap (λ v. length v.items) states) (handed.count ∙ same.count)
+    (λ slot x y gx gy.
+    let gx_old : slice_get old.states.items slot ≡ Some x = subst (λ v. slice_get v.items slot ≡ Some x) states gx in
+    let here = subst (λ (n : ℕ). ltb slot n ≡ true) s.states_count (within old.states.items slot x gx_old) in
+    let was = there old.queues.items slot (subst (λ (n : ℕ). ltb slot n ≡ true) (sym s.queues_count) here) in
+    let mid = there rooms slot (subst (λ (n : ℕ). ltb slot n ≡ true) (sym (same.count ∙ s.queues_count)) here) in
+    let one = s.each slot x was.0 gx_old was.1 in
+    let roomy = same.each slot was.0 mid.0 was.1 mid.1 slice_limit (qs slot) one.queue_stands in
+    record {
+      state_stands = stands_still p slot switch (sides slot) moment message x open_ one.state_stands;
+      queue_stands = subst (λ (m : List (List ℕ)). QueueStands slice_limit (push_all slice_limit (qs slot) m) y)
+          (slot_sent p switch sides (told_at moment message) 0 slot p.slices (omega arith) (let less = ltb-true slot (length p.slices) here in omega arith)) (handed.each slot mid.0 y mid.1 gy slice_limit (qs slot) roomy);
+    })
+
+-- want of memory after room was made in some queues
+pub kept_queues : (old new : Session) → new.policy ≡ old.policy → new.features ≡ old.features → new.states ≡ old.states → new.ports ≡ old.ports → AreSame old.queues.items new.queues.items → StandsOn old new
+kept_queues old new policy features states ports same p switch sides qs s = record {
+  told = s.told ∙ ap (λ (f : Features). Some f) (sym features);
+  slices = ap (λ v. v.slices) policy ∙ s.slices;
+  rules = ap (λ v. v.rules) policy ∙ s.rules;
+  known = ports ∙ s.known;
+  states_count = ap (λ v. length v.items) states ∙ s.states_count;
+  queues_count = same.count ∙ s.queues_count;
+  each = λ slot x y gx gy.
+      let gx_old : slice_get old.states.items slot ≡ Some x = subst (λ v. slice_get v.items slot ≡ Some x) states gx in
+      let here = subst (λ (n : ℕ). ltb slot n ≡ true) s.states_count (within old.states.items slot x gx_old) in
+      let was = there old.queues.items slot (subst (λ (n : ℕ). ltb slot n ≡ true) (sym s.queues_count) here) in
+      let one = s.each slot x was.0 gx_old was.1 in
+      record { state_stands = one.state_stands; queue_stands = same.each slot was.0 y was.1 gy slice_limit (qs slot) one.queue_stands };
+}
+
+-- all that follows from a message, for the session and the lane
+pub carried_out : (moment : ℕ) (message : List ℕ) (old new : Session) (lane new_lane : Kept) (rooms : List Kept) (p : PolicyView) (switch : Switch) (sides : ℕ → Side) (qs : ℕ → Queue) (d : Dispatch) → switch.phase ≡ Opened → SessionStands p switch sides qs old
+    → ((p : PolicyView) (switch : Switch) (sides : ℕ → Side) (moment : ℕ) → Surrounds p switch old.policy old.ports → AllStand p switch sides old.states.items → IsDispatch p switch sides moment message d)
+    → d.close ≡ false → new.policy ≡ old.policy → new.features ≡ old.features → new.states ≡ old.states → new.ports ≡ kept_by d.port old.ports
+    → AreSame old.queues.items rooms → AreHanded d.to_slices.items rooms new.queues.items → HasMore d.to_switch.items lane new_lane
+    → CarriedOut p switch sides qs moment message true old lane new new_lane
+carried_out moment message old new lane new_lane rooms p switch sides qs d open_ s dispatched goes policy features states ports same handed more =
+    let is = dispatched p switch sides moment (surrounds p switch sides qs old s open_) (all_stand p switch sides qs old s) in (
+      sym is.close ∙ goes,
+      carried_session p switch sides qs moment message old new rooms s open_ policy features states (ports ∙ ap (λ (t : Option PortStatus). kept_by t old.ports) is.port) same
+          (subst (λ (m : List (ℕ × List ℕ)). AreHanded m rooms new.queues.items) is.to_slices handed),
+      subst (λ (m : List (List ℕ)). HasMore m lane new_lane) is.to_switch more,
+    )
+
+pub closed_bad : (moment : ℕ) (message : List ℕ) (old : Session) (p : PolicyView) (switch : Switch) (sides : ℕ → Side) (qs : ℕ → Queue) (d : Dispatch) → switch.phase ≡ Opened → SessionStands p switch sides qs old
+    → ((p : PolicyView) (switch : Switch) (sides : ℕ → Side) (moment : ℕ) → Surrounds p switch old.policy old.ports → AllStand p switch sides old.states.items → IsDispatch p switch sides moment message d)
+    → d.close ≡ true → is_bad message ≡ true
+closed_bad moment message old p switch sides qs d open_ s dispatched goes =
+    sym (dispatched p switch sides moment (surrounds p switch sides qs old s open_) (all_stand p switch sides qs old s)).close ∙ goes
+
+-- ---- the desk hands a message on
+
+pub passes_on : (moment : ℕ) (message : List ℕ) (go : Bool) (old : Desk) (a b : Session) (lane : Kept) → old.session ≡ Some a → Carries moment message go a old.lane b lane
+    → PassesOn moment message go old (record old { lane = lane; session = Some b })
+passes_on moment message true old a b lane was carries p switch sides qs ql fit body open_ =
+    let r = carries p switch sides qs open_ (subst (λ (o : Option Session). Opens p switch sides qs o) was body.opens) in
+    (r.0, refl, refl, r.1, r.2)
+passes_on moment message false old a b lane was carries p switch sides qs ql fit body open_ =
+    let r = carries p switch sides qs open_ (subst (λ (o : Option Session). Opens p switch sides qs o) was body.opens) in
+    (r.0, ap₂ (λ (l : Kept) (o : Option Session). let d : Desk = record old { lane = l; session = o } in d) r.2 (ap (λ (s : Session). Some s) r.1 ∙ sym was))
+
+-- ---- phases
+
+pub acts_of : (phase : Phase) (old new : Desk) (timed : Timed) (go : Bool) → old.phase ≡ phase → ActsIn phase old timed go new → Acts old timed go new
+acts_of phase old new timed go is acts p switch sides qs ql fit body on = acts p switch sides qs ql fit body (sym body.phase ∙ is)
+
+pub ended_never : (old new : Desk) (timed : Timed) (go : Bool) → old.phase ≡ Ended → Acts old timed go new
+ended_never old new timed go is p switch sides qs ql fit body on = absurd (true≢false (sym (ap is_ended (sym body.phase ∙ is)) ∙ on))
+
+pub not_fresh : (phase : Phase) → (phase ≡ Begun) ⊎ ((phase ≡ Opened) ⊎ (phase ≡ Ended)) → phase ≡ Fresh → ⊥
+not_fresh phase (inl is) e = true≢false (sym (ap is_fresh e) ∙ ap is_fresh is)
+not_fresh phase (inr (inl is)) e = true≢false (sym (ap is_fresh e) ∙ ap is_fresh is)
+not_fresh phase (inr (inr is)) e = true≢false (sym (ap is_fresh e) ∙ ap is_fresh is)
+
+pub at_event : (old new : Desk) (timed : Timed) (event : Event) (go : Bool) → timed.event ≡ event → Acts old (record { event = event; moment = timed.moment }) go new → Acts old timed go new
+at_event old new timed event go is acts = subst (λ (e : Event). Acts old (record { event = e; moment = timed.moment }) go new) (sym is) acts
+
+-- ---- results
+
+pub err_both : {T E P Q R : Type 0} (r : Result T E) → (P → Q → R) → OnErr r P → OnErr r Q → OnErr r R
+err_both (Ok x) f a b = a
+err_both (Err e) f a b = f a b
+
+pub ok_both : {T E : Type 0} (r : Result T E) (P Q R : T → Type 0) → ((x : T) → P x → Q x → R x) → IfOk r P → IfOk r Q → IfOk r R
+ok_both (Ok x) P Q R f a b = f x a b
+ok_both (Err e) P Q R f a b = a

@@ -1,0 +1,187 @@
+-- A desk after a take.
+use Rattle.std.proofs.Common.{◌≡◌, ◌≢◌, ℕ, ◌==◌, ◌&&◌, ◌||◌, not, Bool, true, false, if◌then◌else◌, List, slice_get, refl, ap, ap₂, subst, sym, ◌∙◌, true≢false, eqb-true, inl, inr, ◌⊎◌, Option, Some, None}
+use Rattle.std.specs.Prelude.{ltb}
+use Rattle.std.proofs.lemmas.Bool.{cases_Bool, eq-eqb}
+use Rattle.flowspace.specs.Policies.{PolicyView}
+use Rattle.flow_book.specs.declared.state.SliceState.{SliceState}
+use Rattle.outbox.specs.Queues.{Queue, no_messages, without_first, Kept, QueueStands}
+use Rattle.slice_words.specs.Items.{is_up}
+use Rattle.slice_words.specs.Standing.{SliceStands}
+use Rattle.desk_words.specs.declared.phase.Phase.{Phase}
+use Rattle.desk_words.specs.declared.phase.Phase.TheVariants.{Fresh, Begun, Opened}
+use Rattle.desk_words.specs.declared.answer.Dest.{Dest}
+use Rattle.desk_words.specs.declared.answer.Dest.TheVariants.{Switch, Slice}
+use Rattle.desk_words.specs.declared.answer.Taken.{Taken}
+use Rattle.desk_words.specs.declared.answer.Taken.TheVariants as takens
+use Rattle.desk_words.specs.declared.answer.Taken.TheVariants.{Message, Nothing, Choked, NotOpen}
+use Rattle.desk_words.specs.Openings.{Switch as Known}
+use Rattle.desk_words.specs.Histories.{is_slot, settings_at, Side, is_open}
+use Rattle.desk_words.specs.Verdicts.{is_ended}
+use Rattle.desk_words.specs.Operations.{slice_limit, lane_limit}
+use Rattle.proxy_core.specs.declared.parts.Session.{Session}
+use Rattle.proxy_core.specs.declared.parts.Desk.{Desk}
+use Rattle.proxy_core.specs.Desks.{SlotStands, SessionStands, Opens, queues_less, TakesNext, silence_now, silence_before, IsSilence, is_message, Shrinks}
+use Rattle.proxy_core.specs.Opening.{has_slot, is_up_at, AtSlot, IsNext, silence_at}
+use Rattle.proxy_core.proofs.Lists.{there, within}
+use Rattle.proxy_core.proofs.Standing.{slots_are}
+use Rattle.proxy_core.proofs.Acting.{is_opened}
+use Rattle.proxy_core.proofs.Events.{before_in, shut_before}
+use Rattle.proxy_core.proofs.Sliced.{up_state}
+
+-- ---- the first message of a slice
+
+less_if : (b : Bool) (q : Queue) → q ≡ no_messages → (if b then without_first q else q) ≡ no_messages
+less_if true q is = ap without_first is
+less_if false q is = is
+
+by_place : (p : PolicyView) (switch : Known) (sides : ℕ → Side) (qs : ℕ → Queue) (a : Session) (slot : ℕ) (next : Option (List ℕ)) (b : Session) → SessionStands p switch sides qs a → AtSlot slot (IsNext next) a b → (has_slot a slot ≡ false → next ≡ None)
+    → (is_slot p slot ≡ false → qs slot ≡ no_messages) → (here : Bool) → is_slot p slot ≡ here → next ≡ slice_get (qs slot).pending 0
+by_place p switch sides qs a slot next b s at nowhere beyond false is =
+    nowhere (slots_are p switch sides qs a slot s ∙ is) ∙ sym (ap (λ (q : Queue). slice_get q.pending 0) (beyond is))
+by_place p switch sides qs a slot next b s at nowhere beyond true is =
+    let x = there a.states.items slot (subst (λ (n : ℕ). ltb slot n ≡ true) (sym s.states_count) is) in
+    let y = there a.queues.items slot (subst (λ (n : ℕ). ltb slot n ≡ true) (sym s.queues_count) is) in
+    let z = there b.states.items slot (subst (λ (n : ℕ). ltb slot n ≡ true) (sym (at.states_count ∙ s.states_count)) is) in
+    let w = there b.queues.items slot (subst (λ (n : ℕ). ltb slot n ≡ true) (sym (at.queues_count ∙ s.queues_count)) is) in
+    ((at.own x.0 y.0 z.0 w.0 x.1 y.1 z.1 w.1).1 slice_limit (qs slot) (s.each slot x.0 y.0 x.1 y.1).queue_stands).0
+
+less_one : (slot i : ℕ) (q : Queue) (b : Bool) → (slot == i) ≡ b → (if slot == i then without_first q else q) ≡ (if b then without_first q else q)
+less_one slot i q b is = ap (λ (k : Bool). if k then without_first q else q) is
+
+session_less : (p : PolicyView) (switch : Known) (sides : ℕ → Side) (qs : ℕ → Queue) (a : Session) (slot : ℕ) (next : Option (List ℕ)) (b : Session) → SessionStands p switch sides qs a → AtSlot slot (IsNext next) a b
+    → SessionStands p switch sides (queues_less (Slice slot) qs) b
+session_less p switch sides qs a slot next b s at = record {
+  told = s.told ∙ ap (λ f. Some f) (sym at.features);
+  slices = ap (λ v. v.slices) at.policy ∙ s.slices;
+  rules = ap (λ v. v.rules) at.policy ∙ s.rules;
+  known = at.ports ∙ s.known;
+  states_count = at.states_count ∙ s.states_count;
+  queues_count = at.queues_count ∙ s.queues_count;
+  each = λ i z w gz gw. elim (cases_Bool (slot == i)) [
+    | inl is ↦
+        let e : slot ≡ i = eqb-true slot i is in
+        let gz2 : slice_get b.states.items slot ≡ Some z = subst (λ (k : ℕ). slice_get b.states.items k ≡ Some z) (sym e) gz in
+        let gw2 : slice_get b.queues.items slot ≡ Some w = subst (λ (k : ℕ). slice_get b.queues.items k ≡ Some w) (sym e) gw in
+        let x = there a.states.items slot (subst (λ (n : ℕ). ltb slot n ≡ true) at.states_count (within b.states.items slot z gz2)) in
+        let y = there a.queues.items slot (subst (λ (n : ℕ). ltb slot n ≡ true) at.queues_count (within b.queues.items slot w gw2)) in
+        let was = s.each slot x.0 y.0 x.1 y.1 in
+        let next_ = at.own x.0 y.0 z w x.1 y.1 gz2 gw2 in
+        subst (λ (k : ℕ). SlotStands p k switch (sides k) (queues_less (Slice slot) qs k) z w) e (record {
+          state_stands = subst (λ (state : SliceState). SliceStands (settings_at p slot switch.features) (sides slot).sight state) (sym next_.0) was.state_stands;
+          queue_stands = subst (λ (q : Queue). QueueStands slice_limit q w) (sym (less_one slot slot (qs slot) true (eq-eqb slot slot refl))) (next_.1 slice_limit (qs slot) was.queue_stands).1;
+        })
+    | inr isnt ↦
+        let far : i ≢ slot = λ e. true≢false (sym (eq-eqb slot i (sym e)) ∙ isnt) in
+        let same = at.others i far in
+        let was = s.each i z w (sym same.0 ∙ gz) (sym same.1 ∙ gw) in
+        record {
+          state_stands = was.state_stands;
+          queue_stands = subst (λ (q : Queue). QueueStands slice_limit q w) (sym (less_one slot i (qs i) false isnt)) was.queue_stands;
+        }
+  ];
+}
+
+pub took_slice : (old : Desk) (a b : Session) (slot : ℕ) (next : Option (List ℕ)) → old.session ≡ Some a → AtSlot slot (IsNext next) a b → (has_slot a slot ≡ false → next ≡ None)
+    → TakesNext old (Slice slot) next (record old { session = Some b })
+took_slice old a b slot next was at nowhere p switch sides qs ql body =
+    let s = subst (λ (o : Option Session). Opens p switch sides qs o) was body.opens in
+    record {
+      first = by_place p switch sides qs a slot next b s at nowhere (body.beyond slot) (is_slot p slot) refl;
+      body = record {
+        same_policy = body.same_policy;
+        phase = body.phase;
+        lane = body.lane;
+        opens = session_less p switch sides qs a slot next b s at;
+        beyond = λ i out. less_if (slot == i) (qs i) (body.beyond i out);
+      };
+    }
+
+pub took_none : (old : Desk) (slot : ℕ) → old.session ≡ None → TakesNext old (Slice slot) None old
+took_none old slot was p switch sides qs ql body =
+    let s = subst (λ (o : Option Session). Opens p switch sides qs o) was body.opens in
+    record {
+      first = sym (ap (λ (q : Queue). slice_get q.pending 0) (s.1 slot));
+      body = record {
+        same_policy = body.same_policy;
+        phase = body.phase;
+        lane = body.lane;
+        opens = subst (λ (o : Option Session). Opens p switch sides (queues_less (Slice slot) qs) o) (sym was) (s.0, λ i. less_if (slot == i) (qs i) (s.1 i));
+        beyond = λ i out. less_if (slot == i) (qs i) (body.beyond i out);
+      };
+    }
+
+-- ---- the first message for the switch
+
+pub took_lane : (old : Desk) (lane : Kept) (next : Option (List ℕ)) → ((limit : ℕ) (q : Queue) → QueueStands limit q old.lane → next ≡ slice_get q.pending 0)
+    → ((limit : ℕ) (q : Queue) → QueueStands limit q old.lane → QueueStands limit (without_first q) lane) → TakesNext old Switch next (record old { lane = lane })
+took_lane old lane next value stands p switch sides qs ql body = record {
+  first = value lane_limit ql body.lane;
+  body = record { same_policy = body.same_policy; phase = body.phase; lane = stands lane_limit ql body.lane; opens = body.opens; beyond = body.beyond };
+}
+
+-- ---- nothing waits
+
+silent_up : (open_ here up : Bool) (choked : Bool) (phase : Phase) (said : Taken) → phase ≡ Opened → here ≡ true → up ≡ true → said ≡ (if choked then Choked else Nothing)
+    → said ≡ (if is_ended phase || not here || (is_open phase && not (is_open phase && up)) then takens.Ended else if not (is_open phase) then NotOpen else if choked then Choked else Nothing)
+silent_up open_ here up choked phase said o h u is = is ∙ sym (rw (o, h, u) refl)
+
+silent_gone : (here up choked : Bool) (phase : Phase) → phase ≡ Opened → (here && up) ≡ false
+    → takens.Ended ≡ (if is_ended phase || not here || (is_open phase && not (is_open phase && up)) then takens.Ended else if not (is_open phase) then NotOpen else if choked then Choked else Nothing)
+silent_gone true true choked phase o gone = absurd (true≢false gone)
+silent_gone true false choked phase o gone = sym (rw o refl)
+silent_gone false up choked phase o gone = sym (rw o refl)
+
+at_up : (a : Session) (slot : ℕ) (queue : Kept) → is_up_at a slot ≡ true → slice_get a.queues.items slot ≡ Some queue → silence_at slot a ≡ (if queue.choked then Choked else Nothing)
+at_up a slot queue up g =
+    ap₂ (λ (b : Bool) (o : Option Kept). if b then elim o [ None ↦ takens.Ended | Some q ↦ if q.choked then Choked else Nothing ] else takens.Ended) up g
+
+at_down : (a : Session) (slot : ℕ) → is_up_at a slot ≡ false → silence_at slot a ≡ takens.Ended
+at_down a slot down = ap (λ (b : Bool). if b then elim (slice_get a.queues.items slot) [ None ↦ takens.Ended | Some q ↦ if q.choked then Choked else Nothing ] else takens.Ended) down
+
+not_here : (a : Session) (slot : ℕ) → has_slot a slot ≡ false → is_up_at a slot ≡ false
+not_here a slot out = ap (λ (b : Bool). b && elim (slice_get a.states.items slot) [ None ↦ false | Some state ↦ state.up ]) out
+
+silence_cases : (p : PolicyView) (switch : Known) (sides : ℕ → Side) (qs : ℕ → Queue) (a : Session) (slot : ℕ) (here up : Bool) → SessionStands p switch sides qs a → switch.phase ≡ Opened → is_slot p slot ≡ here → is_up (sides slot).sight.view ≡ up
+    → silence_at slot a ≡ silence_now p switch sides (Slice slot) (qs slot).choked
+silence_cases p switch sides qs a slot false up s open_ here is =
+    at_down a slot (not_here a slot (slots_are p switch sides qs a slot s ∙ here))
+    ∙ silent_gone (is_slot p slot) (is_up (sides slot).sight.view) (qs slot).choked switch.phase open_ (ap (λ (b : Bool). b && is_up (sides slot).sight.view) here)
+silence_cases p switch sides qs a slot true false s open_ here is =
+    at_down a slot (up_state p switch sides qs a slot s here ∙ is)
+    ∙ silent_gone (is_slot p slot) (is_up (sides slot).sight.view) (qs slot).choked switch.phase open_ (ap₂ (λ (b c : Bool). b && c) here is)
+silence_cases p switch sides qs a slot true true s open_ here is =
+    let x = there a.states.items slot (subst (λ (n : ℕ). ltb slot n ≡ true) (sym s.states_count) here) in
+    let y = there a.queues.items slot (subst (λ (n : ℕ). ltb slot n ≡ true) (sym s.queues_count) here) in
+    silent_up true (is_slot p slot) (is_up (sides slot).sight.view) (qs slot).choked switch.phase (silence_at slot a) open_ here is
+    (at_up a slot y.0 (up_state p switch sides qs a slot s here ∙ is) y.1 ∙ ap (λ (b : Bool). if b then Choked else Nothing) (s.each slot x.0 y.0 x.1 y.1).queue_stands.choked)
+
+not_ended : (phase : Phase) → (phase ≡ Fresh) ⊎ ((phase ≡ Begun) ⊎ (phase ≡ Opened)) → is_ended phase ≡ false
+not_ended phase (inl is) = ap is_ended is
+not_ended phase (inr (inl is)) = ap is_ended is
+not_ended phase (inr (inr is)) = ap is_ended is
+
+pub silence_known : (desk : Desk) (a : Session) (slot : ℕ) (taken : Taken) → desk.session ≡ Some a → (desk.phase ≡ Fresh) ⊎ ((desk.phase ≡ Begun) ⊎ (desk.phase ≡ Opened)) → taken ≡ silence_at slot a → IsSilence desk (Slice slot) taken
+silence_known desk a slot taken was on is p switch sides qs ql fit body =
+    let s = subst (λ (o : Option Session). Opens p switch sides qs o) was body.opens in
+    let alive : is_ended switch.phase ≡ false = ap is_ended (sym body.phase) ∙ not_ended desk.phase on in
+    is ∙ silence_cases p switch sides qs a slot (is_slot p slot) (is_up (sides slot).sight.view) s (is_opened p switch sides qs a fit s alive) refl refl
+
+early_cases : (ended open_ here up choked : Bool) → ended ≡ false → open_ ≡ false
+    → (if here then NotOpen else takens.Ended) ≡ (if ended || not here || (open_ && not (open_ && up)) then takens.Ended else if not open_ then NotOpen else if choked then Choked else Nothing)
+early_cases ended open_ true up choked e o = sym (rw (e, o) refl)
+early_cases ended open_ false up choked e o = sym (rw e refl)
+
+pub silence_early : (desk : Desk) (slot : ℕ) (taken : Taken) → desk.session ≡ None → (desk.phase ≡ Fresh) ⊎ ((desk.phase ≡ Begun) ⊎ (desk.phase ≡ Opened)) → taken ≡ silence_before desk.policy slot → IsSilence desk (Slice slot) taken
+silence_early desk slot taken was on is p switch sides qs ql fit body =
+    let s = subst (λ (o : Option Session). Opens p switch sides qs o) was body.opens in
+    let alive : is_ended switch.phase ≡ false = ap is_ended (sym body.phase) ∙ not_ended desk.phase on in
+    is ∙ ap (λ (v : PolicyView). silence_before v slot) body.same_policy
+    ∙ early_cases (is_ended switch.phase) (is_open switch.phase) (is_slot p slot) (is_up (sides slot).sight.view) (qs slot).choked alive (shut_before switch.phase (before_in p switch sides qs fit s alive))
+
+-- what is no message makes nothing shorter
+pub shrinks_not : (dest : Dest) (taken : Taken) (old new : Desk) → is_message taken ≡ false → Shrinks dest taken old new
+shrinks_not dest (Message message) old new is = absurd (true≢false is)
+shrinks_not dest Nothing old new is = tt
+shrinks_not dest Choked old new is = tt
+shrinks_not dest takens.Ended old new is = tt
+shrinks_not dest NotOpen old new is = tt

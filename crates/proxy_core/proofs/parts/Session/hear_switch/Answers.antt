@@ -1,0 +1,29 @@
+use Rattle.std.proofs.Common.{refl, sym, subst}
+use Rattle.switch_side.specs.Dispatches.{AllStand}
+use Rattle.std.proofs.lemmas.Result.{err_from_is_err_and}
+use Rattle.proxy_core.proofs.Switched.{kept_queues, carried_out, closed_bad}
+use Rattle.proxy_core.proofs.parts.Session.hear_switch.Goals as goal
+
+pub returns-then-close-clause-ok : goal.returns-then-close-clause-ok
+returns-then-close-clause-ok c moment p switch sides qs open_ s = (
+  closed_bad moment c.args.frame.now c.args.self.now p switch sides qs c.in_ok-to_slices.field-0 open_ s
+      (λ p2 switch2 sides2 moment2 around stand. c.in_ok-to_slices.ensures p2 switch2 sides2 moment2 around (subst (AllStand p2 switch2 sides2) (sym c.deref.ensures.value) stand)) c.if-close.true,
+  refl,
+  refl,
+)
+
+pub returns-in_err-make_rooms-clause-err : goal.returns-in_err-make_rooms-clause-err
+returns-in_err-make_rooms-clause-err c =
+    let p = err_from_is_err_and c.from_residual-in_err-make_rooms.result c.from_residual-in_err-make_rooms.ensures.1 in
+    rw p.1 (kept_queues c.args.self.now _ refl refl refl refl c.make_rooms.ensures.same)
+
+pub returns-in_err-keep-clause-err : goal.returns-in_err-keep-clause-err
+returns-in_err-keep-clause-err c =
+    let p = err_from_is_err_and c.from_residual-in_err-keep.result c.from_residual-in_err-keep.ensures.1 in
+    rw p.1 (kept_queues c.args.self.now _ refl refl refl c.in_err-keep.ensures.err c.make_rooms.ensures.same)
+
+pub returns-clause-ok : goal.returns-clause-ok
+returns-clause-ok c moment p switch sides qs open_ s =
+    carried_out moment c.args.frame.now c.args.self.now _ c.args.lane.now c.push_all.new.waiting c.make_rooms.new.queues.items p switch sides qs c.in_ok-to_slices.field-0 open_ s
+    (λ p2 switch2 sides2 moment2 around stand. c.in_ok-to_slices.ensures p2 switch2 sides2 moment2 around (subst (AllStand p2 switch2 sides2) (sym c.deref.ensures.value) stand)) c.if-close.false
+    refl refl refl c.in_ok-keep.ensures.ok c.make_rooms.ensures.same c.hand_out.ensures (λ limit q h. c.push_all.ensures limit q (c.make_room.ensures.stands limit q h))

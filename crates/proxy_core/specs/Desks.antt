@@ -1,0 +1,249 @@
+-- When a desk is the one that a list of operations makes of a policy. All of this is this proxy's own rule.
+use Rattle.std.specs.Prelude.{ℕ, ◌≡◌, ◌<◌, ◌&&◌, ◌||◌, not, Bool, true, false, if◌then◌else◌, List, [], ◌∷◌, length, slice_get, Option, Some, None, Result}
+use Rattle.std.specs.declared.alloc.AllocError.{AllocError}
+use Rattle.of10_ctl.specs.Frames.{is_bad}
+use Rattle.flowspace.specs.Policies.{PolicyView}
+use Rattle.flow_book.specs.declared.state.SliceState.{SliceState}
+use Rattle.port_view.specs.SlicePorts.{ports_of_slice}
+use Rattle.outbox.specs.Queues.{Queue, no_messages, push_all, without_first, Kept, QueueStands}
+use Rattle.slice_words.specs.Items.{is_up, features_in, known_ports}
+use Rattle.slice_words.specs.Standing.{SliceStands}
+use Rattle.of10_port.specs.declared.features.Features.{Features}
+use Rattle.desk_words.specs.declared.event.Event.TheVariants.{SwitchMsg}
+use Rattle.desk_words.specs.declared.event.Timed.{Timed}
+use Rattle.desk_words.specs.declared.phase.Phase.{Phase}
+use Rattle.desk_words.specs.declared.phase.Phase.TheVariants.{Begun, Opened, Ended}
+use Rattle.desk_words.specs.declared.answer.Dest.{Dest}
+use Rattle.desk_words.specs.declared.answer.Dest.TheVariants.{Switch, Slice}
+use Rattle.desk_words.specs.declared.answer.Taken.{Taken}
+use Rattle.desk_words.specs.declared.answer.Taken.TheVariants as takens
+use Rattle.desk_words.specs.declared.answer.Taken.TheVariants.{Message, Nothing, Choked, NotOpen}
+use Rattle.desk_words.specs.declared.answer.Verdict.{Verdict}
+use Rattle.desk_words.specs.Openings.{rules_of, phase_after, Switch as Known, switch_after, switch_of}
+use Rattle.desk_words.specs.Histories.{is_slot, settings_at, own_features, Side, side_start, items_of, with_shown, side_of, is_open}
+use Rattle.desk_words.specs.Sent.{sent_with, put_with, lane_in, echo_for}
+use Rattle.desk_words.specs.Verdicts.{is_fresh, is_ended, is_closing}
+use Rattle.desk_words.specs.Operations.{Operation, Step, Take, events_of, slice_limit, lane_limit, empties, is_slice, is_switch, queue_of, lane_of, take_reply, IsReply}
+use Rattle.proxy_core.specs.declared.parts.Session.{Session}
+use Rattle.proxy_core.specs.declared.parts.Desk.{Desk}
+use Rattle.proxy_core.specs.Slots.{HasMore, HasOnly}
+
+-- ---- what a desk stands for: what is known of the switch, what each slice sees, and what waits
+
+-- the state and the queue at a slot belong to what its slice sees and to what waits for it
+pub record SlotStands (policy : PolicyView) (slot : ℕ) (switch : Known) (side : Side) (q : Queue) (state : SliceState) (queue : Kept) : Type 0 where
+  pub state_stands : SliceStands (settings_at policy slot switch.features) side.sight state
+  pub queue_stands : QueueStands slice_limit q queue
+
+-- the switch told these features first, its policy and its ports are so known, and each slot stands
+pub record SessionStands (policy : PolicyView) (switch : Known) (sides : ℕ → Side) (qs : ℕ → Queue) (session : Session) : Type 0 where
+  pub told : switch.features ≡ Some session.features
+  pub slices : session.policy.slices ≡ policy.slices
+  pub rules : session.policy.rules ≡ rules_of policy switch.features
+  pub known : session.ports ≡ switch.known
+  pub states_count : length session.states.items ≡ length policy.slices
+  pub queues_count : length session.queues.items ≡ length policy.slices
+  pub each : (slot : ℕ) (state : SliceState) (queue : Kept) → slice_get session.states.items slot ≡ Some state → slice_get session.queues.items slot ≡ Some queue
+      → SlotStands policy slot switch (sides slot) (qs slot) state queue
+
+-- there is no session before the switch has told what it is, and nothing waits for a slice
+abbrev pub Opens : PolicyView → Known → (ℕ → Side) → (ℕ → Queue) → Option Session → Type 0
+Opens policy switch sides qs None = (switch.features ≡ None) × ((slot : ℕ) → qs slot ≡ no_messages)
+Opens policy switch sides qs (Some session) = SessionStands policy switch sides qs session
+
+-- all of a desk but its count of events
+pub record Body (policy : PolicyView) (switch : Known) (sides : ℕ → Side) (qs : ℕ → Queue) (ql : Queue) (desk : Desk) : Type 0 where
+  pub same_policy : desk.policy ≡ policy
+  pub phase : desk.phase ≡ switch.phase
+  pub lane : QueueStands lane_limit ql desk.lane
+  pub opens : Opens policy switch sides qs desk.session
+  pub beyond : (slot : ℕ) → is_slot policy slot ≡ false → qs slot ≡ no_messages
+
+-- ---- what holds of every history
+
+-- a phase before the switch told what it is
+abbrev pub is_before : Phase → Bool
+is_before Opened = false
+is_before phase = not (is_ended phase)
+
+-- a slice has seen the features of the opening, and knows its own of the ports that are known now
+abbrev pub HasSeen : PolicyView → Known → Features → ℕ → Side → Type 0
+HasSeen policy switch features slot side =
+    (features_in side.sight.view ≡ Some (own_features (settings_at policy slot switch.features) features))
+    × (known_ports side.sight.view ≡ ports_of_slice (rules_of policy switch.features) slot switch.known)
+
+-- what is known of a switch and what slices see fit together
+pub record Coherent (policy : PolicyView) (switch : Known) (sides : ℕ → Side) : Type 0 where
+  pub open_told : switch.phase ≡ Opened → (features : Features) × (switch.features ≡ Some features)
+  pub before_untold : is_before switch.phase ≡ true → switch.features ≡ None
+  pub blind : switch.features ≡ None → (slot : ℕ) → sides slot ≡ side_start
+  pub beyond : (slot : ℕ) → is_slot policy slot ≡ false → sides slot ≡ side_start
+  pub seen : (features : Features) → switch.features ≡ Some features → (slot : ℕ) → is_slot policy slot ≡ true → HasSeen policy switch features slot (sides slot)
+
+-- ---- after an event
+
+-- what each slice sees after an event
+abbrev pub sides_after : PolicyView → Known → (ℕ → Side) → Timed → ℕ → Side
+sides_after policy switch sides timed slot = with_shown timed (items_of policy slot switch (sides slot) timed) (sides slot)
+
+-- whether each slice is up after it
+abbrev pub up_after : PolicyView → Known → (ℕ → Side) → Timed → ℕ → Bool
+up_after policy switch sides timed slot = is_open (phase_after switch.phase timed.event) && is_up (sides_after policy switch sides timed slot).sight.view
+
+-- what waits for each slice after it
+abbrev pub queues_after : PolicyView → Known → (ℕ → Side) → (ℕ → Queue) → Timed → ℕ → Queue
+queues_after policy switch sides qs timed slot =
+    push_all slice_limit (if empties slot (up_after policy switch sides timed slot) timed.event then no_messages else qs slot) (sent_with policy slot switch (sides slot) timed)
+
+-- an event ends the switch's connection
+abbrev pub ends_now : Known → Timed → Bool
+ends_now switch timed = not (is_ended switch.phase) && is_ended (phase_after switch.phase timed.event)
+
+-- what waits for the switch after it
+abbrev pub lane_after : PolicyView → Known → (ℕ → Side) → Queue → Timed → Queue
+lane_after policy switch sides ql timed =
+    push_all lane_limit (if ends_now switch timed then no_messages else ql) (lane_in (λ slot. put_with policy slot switch (sides slot) timed) switch.phase timed.event)
+
+-- whether an event closes its connection
+abbrev pub closes_now : PolicyView → Known → (ℕ → Side) → Timed → Bool
+closes_now policy switch sides timed = is_closing policy switch.phase (up_after policy switch sides timed) (phase_after switch.phase timed.event) timed.event
+
+-- a desk after an event, and whether the connection goes on that the event came from
+pub record Acted (policy : PolicyView) (switch : Known) (sides : ℕ → Side) (qs : ℕ → Queue) (ql : Queue) (timed : Timed) (go : Bool) (desk : Desk) : Type 0 where
+  pub body : Body policy (switch_after switch timed.event) (sides_after policy switch sides timed) (queues_after policy switch sides qs timed) (lane_after policy switch sides ql timed) desk
+  pub goes_on : go ≡ not (closes_now policy switch sides timed)
+
+-- what the desk stood for before an event, it stands for with the event after it
+abbrev pub Acts : Desk → Timed → Bool → Desk → Type 0
+Acts old timed go new =
+    (policy : PolicyView) (switch : Known) (sides : ℕ → Side) (qs : ℕ → Queue) (ql : Queue)
+    → Coherent policy switch sides → Body policy switch sides qs ql old → is_ended switch.phase ≡ false → Acted policy switch sides qs ql timed go new
+
+-- the same where the switch's connection is in a phase
+abbrev pub ActsIn : Phase → Desk → Timed → Bool → Desk → Type 0
+ActsIn phase old timed go new =
+    (policy : PolicyView) (switch : Known) (sides : ℕ → Side) (qs : ℕ → Queue) (ql : Queue)
+    → Coherent policy switch sides → Body policy switch sides qs ql old → switch.phase ≡ phase → Acted policy switch sides qs ql timed go new
+
+-- the switch's connection ended, and nothing waits for it
+pub record Ends (old new : Desk) : Type 0 where
+  pub same_policy : new.policy ≡ old.policy
+  pub phase : new.phase ≡ Ended
+  pub lane : HasOnly [] old.lane new.lane
+  pub session : new.session ≡ old.session
+
+-- a message of the switch went to the session, or has a bad length and so nothing changed yet
+abbrev pub PassedOn : PolicyView → Known → (ℕ → Side) → (ℕ → Queue) → Timed → List ℕ → Bool → Desk → Desk → Type 0
+PassedOn policy switch sides qs timed message true old new =
+    (is_bad message ≡ false) × (new.policy ≡ old.policy) × (new.phase ≡ old.phase)
+    × Opens policy (switch_after switch timed.event) (sides_after policy switch sides timed) (queues_after policy switch sides qs timed) new.session
+    × HasMore (echo_for message) old.lane new.lane
+PassedOn policy switch sides qs timed message false old new = (is_bad message ≡ true) × (new ≡ old)
+
+abbrev pub PassesOn : ℕ → List ℕ → Bool → Desk → Desk → Type 0
+PassesOn moment message go old new =
+    (policy : PolicyView) (switch : Known) (sides : ℕ → Side) (qs : ℕ → Queue) (ql : Queue)
+    → Coherent policy switch sides → Body policy switch sides qs ql old → switch.phase ≡ Opened
+    → PassedOn policy switch sides qs (record { event = SwitchMsg message; moment = moment }) message go old new
+
+-- the switch has connected and not told what it is, and the policy has a slice at the slot
+abbrev pub is_begun : Phase → Bool
+is_begun Begun = true
+is_begun phase = false
+
+abbrev pub is_begun_with : Phase → PolicyView → ℕ → Bool
+is_begun_with phase policy slot = is_begun phase && is_slot policy slot
+
+-- ---- takes
+
+-- what waits for a destination, where so much waits for the slices and for the switch
+abbrev pub waiting_in : Dest → (ℕ → Queue) → Queue → Queue
+waiting_in Switch qs ql = ql
+waiting_in (Slice slot) qs ql = qs slot
+
+-- what waits after the first message of a destination was taken
+abbrev pub queues_less : Dest → (ℕ → Queue) → ℕ → Queue
+queues_less dest qs slot = if is_slice slot dest then without_first (qs slot) else qs slot
+
+abbrev pub lane_less : Dest → Queue → Queue
+lane_less dest ql = if is_switch dest then without_first ql else ql
+
+-- the first message that waits for a destination was taken
+pub record TookNext (policy : PolicyView) (switch : Known) (sides : ℕ → Side) (qs : ℕ → Queue) (ql : Queue) (dest : Dest) (next : Option (List ℕ)) (desk : Desk) : Type 0 where
+  pub first : next ≡ slice_get (waiting_in dest qs ql).pending 0
+  pub body : Body policy switch sides (queues_less dest qs) (lane_less dest ql) desk
+
+abbrev pub TakesNext : Desk → Dest → Option (List ℕ) → Desk → Type 0
+TakesNext old dest next new =
+    (policy : PolicyView) (switch : Known) (sides : ℕ → Side) (qs : ℕ → Queue) (ql : Queue) → Body policy switch sides qs ql old → TookNext policy switch sides qs ql dest next new
+
+-- no message will come for a destination, or it is too early for one
+abbrev pub is_gone_now : PolicyView → Known → (ℕ → Side) → Dest → Bool
+is_gone_now policy switch sides Switch = is_ended switch.phase
+is_gone_now policy switch sides (Slice slot) =
+    is_ended switch.phase || not (is_slot policy slot) || (is_open switch.phase && not (is_open switch.phase && is_up (sides slot).sight.view))
+
+abbrev pub is_early_now : Known → Dest → Bool
+is_early_now switch Switch = is_fresh switch.phase
+is_early_now switch (Slice slot) = not (is_open switch.phase)
+
+-- what is answered where nothing waits
+abbrev pub silence_now : PolicyView → Known → (ℕ → Side) → Dest → Bool → Taken
+silence_now policy switch sides dest choked =
+    if is_gone_now policy switch sides dest then takens.Ended else if is_early_now switch dest then NotOpen else if choked then Choked else Nothing
+
+-- a slice before the switch has told what it is
+abbrev pub silence_before : PolicyView → ℕ → Taken
+silence_before policy slot = if is_slot policy slot then NotOpen else takens.Ended
+
+abbrev pub IsSilence : Desk → Dest → Taken → Type 0
+IsSilence desk dest taken =
+    (policy : PolicyView) (switch : Known) (sides : ℕ → Side) (qs : ℕ → Queue) (ql : Queue)
+    → Coherent policy switch sides → Body policy switch sides qs ql desk → taken ≡ silence_now policy switch sides dest (waiting_in dest qs ql).choked
+
+abbrev pub is_message : Taken → Bool
+is_message (Message message) = true
+is_message taken = false
+
+-- how many messages wait for a destination
+abbrev pub pending_at : ℕ → Option Session → ℕ
+pending_at slot None = 0
+pending_at slot (Some session) = elim (slice_get session.queues.items slot) [ None ↦ 0 | Some queue ↦ length queue.pending ]
+
+abbrev pub left : Dest → Desk → ℕ
+left Switch desk = length desk.lane.pending
+left (Slice slot) desk = pending_at slot desk.session
+
+-- what the desk stood for it stands for still
+abbrev pub Stays : Desk → Desk → Type 0
+Stays old new = (policy : PolicyView) (switch : Known) (sides : ℕ → Side) (qs : ℕ → Queue) (ql : Queue) → Body policy switch sides qs ql old → Body policy switch sides qs ql new
+
+-- ---- operations
+
+-- one message less waits where one is taken
+abbrev pub Shrinks : Dest → Taken → Desk → Desk → Type 0
+Shrinks dest (Message message) old new = left dest new < left dest old
+Shrinks dest taken old new = Unit {0}
+
+-- a desk stands for a policy and a list of operations: what is known of the switch, what each slice sees and how many events there were is what their events say, and what waits is what they left
+pub record DeskStands (policy : PolicyView) (ops : List Operation) (desk : Desk) : Type 0 where
+  pub body : Body policy (switch_of (events_of ops)) (λ slot. side_of policy slot (events_of ops)) (λ slot. queue_of policy slot ops) (lane_of policy ops) desk
+  pub events : desk.events ≡ length (events_of ops)
+
+-- the reply to a step is right, and the desk stands for the list with it
+pub record Replied (policy : PolicyView) (ops : List Operation) (timed : Timed) (reply : Result Verdict AllocError) (desk : Desk) : Type 0 where
+  pub right : IsReply policy ops timed reply
+  pub stands : DeskStands policy (Step timed reply ∷ ops) desk
+
+-- what is taken is what waits first, or why there is nothing, and the desk stands for the list with it
+pub record Answered (policy : PolicyView) (ops : List Operation) (dest : Dest) (taken : Taken) (desk : Desk) : Type 0 where
+  pub right : taken ≡ take_reply policy ops dest
+  pub stands : DeskStands policy (Take dest taken ∷ ops) desk
+
+-- for every list that a desk stands for, a step of this event is answered rightly and leaves the desk standing
+abbrev pub Steps : Desk → Timed → Result Verdict AllocError → Desk → Type 0
+Steps old timed reply new = (policy : PolicyView) (ops : List Operation) → DeskStands policy ops old → Replied policy ops timed reply new
+
+-- the same of a take
+abbrev pub Takes : Desk → Dest → Taken → Desk → Type 0
+Takes old dest taken new = (policy : PolicyView) (ops : List Operation) → DeskStands policy ops old → Answered policy ops dest taken new

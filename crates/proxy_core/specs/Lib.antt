@@ -1,0 +1,4 @@
+pub mod Slots
+pub mod Desks
+pub mod Opening
+pub mod Handing

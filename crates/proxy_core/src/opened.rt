@@ -1,0 +1,109 @@
+//! How a session begins, and what a message of the switch brings to it.
+
+ghost use Rattle.std.specs.Prelude.{ℕ, ◌≡◌, ◌≤◌, ◌+◌, [], ◌∷◌, length, IfOk, OnOk, OnErr, All};
+ghost use Rattle.flowspace.specs.Slices.{IsPlainSlice};
+ghost use Rattle.proxy_core.specs.Opening.{AreFresh, AreEmpty, Begins};
+ghost use Rattle.proxy_core.specs.Handing.{HaveRoom, AreSame, AreHanded, kept_by};
+
+use crate::lane::make_room;
+use crate::parts::Session;
+use flow_book::SliceState;
+use flowspace::{Policy, Slice};
+use of10_ctl::Frame;
+use of10_port::{Features, PortStatus};
+use outbox::Outbox;
+use port_view::PortView;
+use std::alloc::{AllocError, Global};
+
+/// How many bytes may wait for a slice's controller.
+const SLICE_LIMIT: u64 = 4_194_304;
+
+/// The states of slices that have seen nothing.
+fn fresh_states(alloc: Global, slices: &[Slice]) -> Result<Vec<SliceState>, AllocError>
+    requires plain { All IsPlainSlice slices.now }
+    requires few { length slices.now ≤ 32 }
+    ensures { IfOk result (λ v. AreFresh slices.now v.items) }
+{
+    let mut states = Vec::with_capacity(alloc, slices.len())?;
+    for (place, slice) in slices.iter().enumerate() {
+        states.push(SliceState::new(alloc, place as u8, slice)?)?;
+    }
+    Ok(states)
+}
+
+/// So many queues in which nothing waits.
+fn empty_queues(alloc: Global, count: usize) -> Result<Vec<Outbox>, AllocError>
+    ensures { IfOk result (λ v. AreEmpty count v.items) }
+{
+    let mut queues = Vec::with_capacity(alloc, count)?;
+    while queues.len() < count {
+        queues.push(Outbox::new(alloc, SLICE_LIMIT))?;
+    }
+    Ok(queues)
+}
+
+impl Session {
+    /// The session that begins with what the switch told of itself.
+    pub(crate) fn new(
+        alloc: Global,
+        policy: &Policy,
+        features: Features,
+    ) -> Result<Session, AllocError>
+        requires { length features.ports ≤ 1364 }
+        ensures { IfOk result (λ s. Begins policy.now features s) }
+    {
+        let slices = policy.slices();
+        Ok(Session {
+            policy: policy.of_switch(alloc, features.datapath)?,
+            ports: PortView::new(alloc, &features)?,
+            states: fresh_states(alloc, slices)?,
+            queues: empty_queues(alloc, slices.len())?,
+            features,
+        })
+    }
+}
+
+/// Takes memory for so many more messages in each queue.
+pub(crate) fn make_rooms(queues: &mut Vec<Outbox>, count: usize) -> Result<(), AllocError>
+    ensures room { OnOk result (HaveRoom count queues.new.items) }
+    ensures same { AreSame queues.old.items queues.new.items }
+{
+    for at in 0..queues.len() {
+        make_room(&mut queues[at], count)?;
+    }
+    Ok(())
+}
+
+/// Takes in what the switch told of one of its ports.
+pub(crate) fn keep(ports: &mut PortView, told: Option<PortStatus>) -> Result<(), AllocError>
+    ensures ok { OnOk result (ports.new ≡ kept_by told ports.old) }
+    ensures err { OnErr result (ports.new ≡ ports.old) }
+{
+    if let Some(status) = told {
+        ports.take_status(&status)?;
+    }
+    Ok(())
+}
+
+/// Puts a message into the queue of a slot, if there is one.
+fn put(queues: &mut Vec<Outbox>, slot: u8, message: Frame)
+    requires { HaveRoom 1 queues.old.items }
+    ensures handed { AreHanded ((slot, message) ∷ []) queues.old.items queues.new.items }
+    ensures room { (n : ℕ) → HaveRoom (n + 1) queues.old.items → HaveRoom n queues.new.items }
+{
+    let at = usize::from(slot);
+    if at < queues.len() {
+        queues[at].push(message);
+    }
+}
+
+/// Puts messages into the queues of their slots, for which there is room. One for a slot that isn't there is
+/// dropped.
+pub(crate) fn hand_out(queues: &mut Vec<Outbox>, messages: Vec<(u8, Frame)>)
+    requires { HaveRoom (length messages.items) queues.old.items }
+    ensures { AreHanded messages.items queues.old.items queues.new.items }
+{
+    for (slot, message) in messages {
+        put(queues, slot, message);
+    }
+}

@@ -1,0 +1,30 @@
+use desk_words::Phase;
+use flow_book::SliceState;
+use flowspace::{Policy, SwitchPolicy};
+use of10_port::Features;
+use outbox::Outbox;
+use port_view::PortView;
+
+/// What there is once the switch has told what it is: its part of the policy, what it told of itself first,
+/// its known ports, and for each slice of the policy a state and the messages that wait for its controller.
+#[derive(Drop)]
+pub(crate) struct Session {
+    pub(crate) policy: SwitchPolicy,
+    pub(crate) features: Features,
+    pub(crate) ports: PortView,
+    pub(crate) states: Vec<SliceState>,
+    pub(crate) queues: Vec<Outbox>,
+}
+
+/// The desk of one switch. Events are stepped in one after another; the messages that they make wait until
+/// they are taken.
+#[derive(Drop)]
+pub struct Desk {
+    pub(crate) policy: Policy,
+    pub(crate) phase: Phase,
+    /// How many events were taken in.
+    pub(crate) events: u64,
+    /// The messages that wait for the switch.
+    pub(crate) lane: Outbox,
+    pub(crate) session: Option<Session>,
+}
