@@ -258,8 +258,9 @@ impl Desk {
         matches!(self.phase, Phase::Ended) || self.events >= EVENTS
     }
 
-    /// One event. `AllocError` leaves everything as it was, and the event isn't counted; it never comes at
-    /// the end of a connection. After `Ended` nothing more changes.
+    /// One event. `AllocError` leaves what the desk stands for as it was, though memory that was taken may
+    /// stay, and the event isn't counted; it never comes at the end of a connection. After `Ended` nothing
+    /// more changes.
     pub fn step(&mut self, alloc: Global, timed: Timed) -> Result<Verdict, AllocError>
         ensures { Steps self.old timed result self.new }
     {

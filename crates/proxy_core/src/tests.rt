@@ -109,6 +109,23 @@ fn a_packet_goes_to_its_writer_alone(rt: HostRuntime) -> Result<(), Fail> {
 }
 
 #[test]
+fn second_features_open_nothing(rt: HostRuntime) -> Result<(), Fail> {
+    let alloc = rt.alloc();
+    let mut desk = desk(alloc)?;
+    open(&rt, alloc, &mut desk)?;
+    for _message in 0..5 {
+        assert!(rt; matches!(desk.take(Dest::Switch), Taken::Message(_)));
+    }
+    let again = features(alloc)?;
+    assert_eq!(rt;
+        step(alloc, &mut desk, Event::SwitchMsg(again))?,
+        Verdict::Go
+    );
+    assert!(rt; matches!(desk.take(Dest::Switch), Taken::Nothing));
+    Ok(())
+}
+
+#[test]
 fn the_65th_of_the_longest_replies_chokes(rt: HostRuntime) -> Result<(), Fail> {
     let alloc = rt.alloc();
     let mut desk = desk(alloc)?;
