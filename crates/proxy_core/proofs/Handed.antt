@@ -1,5 +1,5 @@
--- What comes into each queue.
-use Rattle.std.proofs.Common.{◌≡◌, ◌≢◌, ℕ, ◌+◌, ◌<◌, ◌≤◌, ◌==◌, Bool, true, false, if◌then◌else◌, List, [], ◌∷◌, ◌++◌, length, set, slice_get, refl, ap, ap₂, sym, ◌∙◌, subst, true≢false, eqb-true, append-nil, inl, inr, Some, arith}
+-- What comes into each queue, and the room for it.
+use Rattle.std.proofs.Common.{◌≡◌, ◌≢◌, ℕ, suc, ◌+◌, ◌<◌, ◌≤◌, ◌==◌, Bool, true, false, if◌then◌else◌, List, [], ◌∷◌, ◌++◌, length, set, slice_get, refl, ap, ap₂, sym, ◌∙◌, subst, true≢false, eqb-true, append-nil, inl, inr, Some, arith}
 use Rattle.std.specs.Prelude.{ltb}
 use Rattle.std.proofs.lemmas.Bool.{cases_Bool, eq-eqb, cases_lt}
 use Rattle.std.proofs.lemmas.List.{length-set}
@@ -13,7 +13,7 @@ use Rattle.desk_words.specs.Histories.{Side}
 use Rattle.desk_words.specs.Sent.{sent_with}
 use Rattle.switch_side.specs.Dispatches.{addressed, sent_from}
 use Rattle.proxy_core.specs.Slots.{SameQueue, HasMore, HasOnly}
-use Rattle.proxy_core.specs.Handing.{of_slot, HaveRoom, AreSame, AreHanded}
+use Rattle.proxy_core.specs.Handing.{of_slot, HasRoomAt, HaveRoom, AreSame, AreHanded}
 use Rattle.proxy_core.proofs.Lists.{there, within}
 use Rattle.proxy_core.proofs.Places.{some_is, get_set, get_other}
 
@@ -71,6 +71,14 @@ same_set old xs at x y same gx keeps = record {
   ];
 }
 
+pub same_then : (xs ys zs : List Kept) → AreSame xs ys → AreSame ys zs → AreSame xs zs
+same_then xs ys zs one other = record {
+  count = other.count ∙ one.count;
+  each = λ i a c ga gc.
+      let b = there ys i (subst (λ (n : ℕ). ltb i n ≡ true) (sym one.count) (within xs i a ga)) in
+      λ limit q h. other.each i b.0 c b.1 gc limit q (one.each i a b.0 ga b.1 limit q h);
+}
+
 pub none_handed : (xs : List Kept) → AreHanded [] xs xs
 none_handed xs = record {
   count = refl;
@@ -113,22 +121,6 @@ none_put xs slot message out = record {
       (subst (λ (k : Kept). HasMore [] a k) (same_kept i xs a b ga gb) (none_more a));
 }
 
-pub put_room : (xs : List Kept) (slot n : ℕ) (x y : Kept) → slice_get xs slot ≡ Some x → x.room ≤ y.room + 1 → HaveRoom (n + 1) xs → HaveRoom n (set xs slot y)
-put_room xs slot n x y gx less room = λ i b gb. elim (cases_Bool (slot == i)) [
-  | inl is ↦
-      let e : slot ≡ i = eqb-true slot i is in
-      let is_y : y ≡ b = some_is (sym (get_set xs slot x y gx) ∙ subst (λ (k : ℕ). slice_get (set xs slot y) k ≡ Some b) (sym e) gb) in
-      let was = room slot x gx in
-      subst (λ (k : Kept). n ≤ k.room) is_y (omega arith)
-  | inr isnt ↦
-      let far : i ≢ slot = λ e. true≢false (sym (eq-eqb slot i (sym e)) ∙ isnt) in
-      let was = room i b (sym (get_other xs slot i y far) ∙ gb) in
-      omega arith
-]
-
-pub less_room : (xs : List Kept) (n : ℕ) → HaveRoom (n + 1) xs → HaveRoom n xs
-less_room xs n room = λ i b gb. (let was = room i b gb in omega arith)
-
 slot_first : (slot i : ℕ) (message : List ℕ) (later : List (ℕ × List ℕ)) (b : Bool) → (slot == i) ≡ b
     → of_slot i ((slot, message) ∷ later) ≡ (if b then message ∷ of_slot i later else of_slot i later)
 slot_first slot i message later true is = rw is refl
@@ -149,6 +141,88 @@ handed_more slot message later xs ys zs one others = record {
             (then_more (of_slot i later) a b.0 c (subst (λ (m : List (List ℕ)). HasMore m a b.0) (slot_one slot i message false isnt) first) rest)
       ];
 }
+
+-- ---- room
+
+first_room : (slot i n : ℕ) (message : List ℕ) (later : List (ℕ × List ℕ)) → length (of_slot i ((slot, message) ∷ later)) ≤ n → length (of_slot i later) ≤ n
+first_room slot i n message later room = elim (cases_Bool (slot == i)) [
+  | inl is ↦ (let first = ap length (slot_first slot i message later true is) in omega (arith, room))
+  | inr isnt ↦ (let first = ap length (slot_first slot i message later false isnt) in omega (arith, room))
+]
+
+pub put_room : (xs : List Kept) (slot : ℕ) (message : List ℕ) (later : List (ℕ × List ℕ)) (x y : Kept) → slice_get xs slot ≡ Some x → x.room ≤ y.room + 1
+    → HaveRoom ((slot, message) ∷ later) xs → HaveRoom later (set xs slot y)
+put_room xs slot message later x y gx less room i b gb = elim (cases_Bool (slot == i)) [
+  | inl is ↦
+      let e : slot ≡ i = eqb-true slot i is in
+      let is_y : y ≡ b = some_is (sym (get_set xs slot x y gx) ∙ subst (λ (k : ℕ). slice_get (set xs slot y) k ≡ Some b) (sym e) gb) in
+      let was = room i x (subst (λ (k : ℕ). slice_get xs k ≡ Some x) e gx) in
+      let first = ap length (slot_first slot i message later true is) in
+      subst (λ (k : Kept). length (of_slot i later) ≤ k.room) is_y (omega (arith, less, was, first))
+  | inr isnt ↦
+      let far : i ≢ slot = λ e. true≢false (sym (eq-eqb slot i (sym e)) ∙ isnt) in
+      first_room slot i b.room message later (room i b (sym (get_other xs slot i y far) ∙ gb))
+]
+
+-- without the first message
+pub less_room : (xs : List Kept) (slot : ℕ) (message : List ℕ) (later : List (ℕ × List ℕ)) → HaveRoom ((slot, message) ∷ later) xs → HaveRoom later xs
+less_room xs slot message later room i b gb = first_room slot i b.room message later (room i b gb)
+
+pub room_of_first : (xs : List Kept) (slot : ℕ) (message : List ℕ) (later : List (ℕ × List ℕ)) → HaveRoom ((slot, message) ∷ later) xs → HasRoomAt slot 1 xs
+room_of_first xs slot message later room b gb =
+    let was = room slot b gb in
+    let first = ap length (slot_first slot slot message later true (eq-eqb slot slot refl)) in
+    omega (arith, was, first)
+
+-- a queue has more room, in its place
+pub more_room : (xs : List Kept) (at : ℕ) (x y : Kept) (slot n : ℕ) → slice_get xs at ≡ Some x → x.room ≤ y.room → HasRoomAt slot n xs → HasRoomAt slot n (set xs at y)
+more_room xs at x y slot n gx more room b gb = elim (cases_Bool (slot == at)) [
+  | inl is ↦
+      let e : slot ≡ at = eqb-true slot at is in
+      let is_y : y ≡ b = some_is (sym (get_set xs at x y gx) ∙ subst (λ (k : ℕ). slice_get (set xs at y) k ≡ Some b) e gb) in
+      let was = room x (subst (λ (k : ℕ). slice_get xs k ≡ Some x) (sym e) gx) in
+      subst (λ (k : Kept). n ≤ k.room) is_y (omega (arith, more, was))
+  | inr isnt ↦ room b (sym (get_other xs at slot y (λ e. true≢false (sym (eq-eqb slot at e) ∙ isnt))) ∙ gb)
+]
+
+pub room_at : (xs : List Kept) (at n : ℕ) (x y : Kept) → slice_get xs at ≡ Some x → n ≤ y.room → HasRoomAt at n (set xs at y)
+room_at xs at n x y gx room b gb = subst (λ (k : Kept). n ≤ k.room) (some_is (sym (get_set xs at x y gx) ∙ gb)) room
+
+nearer : (a b : ℕ) → a < b + 1 → a ≢ b → a < b
+nearer a b less far = elim (cases_lt a b) [ inl is ↦ is | inr more ↦ absurd (far (omega arith)) ]
+
+-- one place further, where the message there has room and what had room still has
+pub rooms_more : (messages : List (ℕ × List ℕ)) (at n : ℕ) (here : ℕ × List ℕ) (xs zs : List Kept) → slice_get messages at ≡ Some here → HasRoomAt here.0 n zs
+    → ((slot : ℕ) → HasRoomAt slot n xs → HasRoomAt slot n zs)
+    → ((i : ℕ) (pair : ℕ × List ℕ) → i < at → slice_get messages i ≡ Some pair → HasRoomAt pair.0 n xs)
+    → (i : ℕ) (pair : ℕ × List ℕ) → i < at + 1 → slice_get messages i ≡ Some pair → HasRoomAt pair.0 n zs
+rooms_more messages at n here xs zs gm room still before i pair less g = elim (cases_Bool (i == at)) [
+  | inl is ↦ subst (λ (m : ℕ × List ℕ). HasRoomAt m.0 n zs) (some_is (sym gm ∙ subst (λ (k : ℕ). slice_get messages k ≡ Some pair) (eqb-true i at is) g)) room
+  | inr isnt ↦ still pair.0 (before i pair (nearer i at less (λ e. true≢false (sym (eq-eqb i at e) ∙ isnt))) g)
+]
+
+few_of_slot : (slot : ℕ) (messages : List (ℕ × List ℕ)) → length (of_slot slot messages) ≤ length messages
+few_of_slot slot [] = omega arith
+few_of_slot slot (pair ∷ later) =
+    let few = few_of_slot slot later in
+    elim (cases_Bool (pair.0 == slot)) [
+      | inl is ↦ (let first = ap length (slot_first pair.0 slot pair.1 later true is) in omega (arith, few, first))
+      | inr isnt ↦ (let first = ap length (slot_first pair.0 slot pair.1 later false isnt) in omega (arith, few, first))
+    ]
+
+-- where each queue that gets a message has room for so many as there are, each has room for its own
+pub room_for_own : (slot room n : ℕ) (messages : List (ℕ × List ℕ)) → length messages ≤ n
+    → ((i : ℕ) (pair : ℕ × List ℕ) → slice_get messages i ≡ Some pair → pair.0 ≡ slot → n ≤ room) → length (of_slot slot messages) ≤ room
+room_for_own slot room n [] few named = omega arith
+room_for_own slot room n (pair ∷ later) few named =
+    let all = few_of_slot slot (pair ∷ later) in
+    elim (cases_Bool (pair.0 == slot)) [
+      | inl is ↦ (let enough = named 0 pair refl (eqb-true pair.0 slot is) in omega (arith, few, all, enough))
+      | inr isnt ↦
+          let rest = room_for_own slot room n later (omega (arith, few)) (λ i one g e. named (suc i) one g e) in
+          let first = ap length (slot_first pair.0 slot pair.1 later false isnt) in
+          omega (arith, rest, first)
+    ]
 
 -- ---- what each slice is sent at a message of the switch
 

@@ -1,7 +1,7 @@
--- Queues and states, as they are made and made room in; and loops over messages.
-use Rattle.std.proofs.Common.{◌≡◌, ◌≢◌, ℕ, ◌+◌, ◌<◌, ◌≤◌, ◌==◌, ◌&&◌, Bool, true, false, List, [], ◌∷◌, ◌++◌, length, set, slice_get, refl, ap, ap₂, sym, ◌∙◌, subst, true≢false, eqb-true, inl, inr, Option, Some, None, arith}
+-- Queues and states, as they are made; the places of a session; and loops over messages.
+use Rattle.std.proofs.Common.{◌≡◌, ℕ, ◌+◌, ◌<◌, ◌&&◌, Bool, true, false, List, [], ◌∷◌, ◌++◌, length, set, slice_get, refl, ap, ap₂, sym, ◌∙◌, subst, true≢false, inl, inr, Option, Some, None, arith}
 use Rattle.std.specs.Prelude.{ltb}
-use Rattle.std.proofs.lemmas.Bool.{cases_Bool, cases_lt, eq-eqb, ltb-true}
+use Rattle.std.proofs.lemmas.Bool.{ltb-true}
 use Rattle.std.proofs.lemmas.List.{length-append, length-set}
 use Rattle.flowspace.specs.declared.slices.Slice.{Slice}
 use Rattle.flow_book.specs.declared.state.SliceState.{SliceState}
@@ -25,21 +25,6 @@ pushed_more limit now message later all is = sym (ap (push_all limit now) is)
 pub all_pushed : (limit : ℕ) (now q : Queue) (left all messages : List (List ℕ)) → left ≡ [] → push_all limit now left ≡ push_all limit q all → all ≡ messages → now ≡ push_all limit q messages
 unfolding push_all
 all_pushed limit now q left all messages none same is = sym (ap (push_all limit now) none) ∙ same ∙ ap (push_all limit q) is
-
--- ---- room
-
-nearer : (a b : ℕ) → a < b + 1 → a ≢ b → a < b
-nearer a b less far = elim (cases_lt a b) [ inl is ↦ is | inr more ↦ absurd (far (omega arith)) ]
-
-pub rooms_more : (xs : List Kept) (at n : ℕ) (x y : Kept) → slice_get xs at ≡ Some x → n ≤ y.room
-    → ((slot : ℕ) (queue : Kept) → slot < at → slice_get xs slot ≡ Some queue → n ≤ queue.room)
-    → (slot : ℕ) (queue : Kept) → slot < at + 1 → slice_get (set xs at y) slot ≡ Some queue → n ≤ queue.room
-rooms_more xs at n x y gx room before slot queue less g = elim (cases_Bool (slot == at)) [
-  | inl is ↦ subst (λ (k : Kept). n ≤ k.room) (some_is (sym (get_set xs at x y gx) ∙ subst (λ (k : ℕ). slice_get (set xs at y) k ≡ Some queue) (eqb-true slot at is) g)) room
-  | inr isnt ↦
-      let far : slot ≢ at = λ e. true≢false (sym (eq-eqb slot at e) ∙ isnt) in
-      before slot queue (nearer slot at less far) (sym (get_other xs at slot y far) ∙ g)
-]
 
 -- ---- queues and states that are made
 

@@ -10,9 +10,13 @@ abbrev pub of_slot : ℕ → List (ℕ × List ℕ) → List (List ℕ)
 of_slot slot [] = []
 of_slot slot (pair ∷ later) = if pair.0 == slot then pair.1 ∷ of_slot slot later else of_slot slot later
 
--- each queue has room for so many messages more
-abbrev pub HaveRoom : ℕ → List Kept → Type 0
-HaveRoom count queues = (slot : ℕ) (queue : Kept) → slice_get queues slot ≡ Some queue → count ≤ queue.room
+-- the queue of a slot, if there is one, has room for so many messages more
+abbrev pub HasRoomAt : ℕ → ℕ → List Kept → Type 0
+HasRoomAt slot count queues = (queue : Kept) → slice_get queues slot ≡ Some queue → count ≤ queue.room
+
+-- each queue has room for the messages of its slot
+abbrev pub HaveRoom : List (ℕ × List ℕ) → List Kept → Type 0
+HaveRoom messages queues = (slot : ℕ) → HasRoomAt slot (length (of_slot slot messages)) queues
 
 -- what waits in each queue is what waited there
 pub record AreSame (old new : List Kept) : Type 0 where

@@ -1,9 +1,9 @@
 //! How a session begins, and what a message of the switch brings to it.
 
-ghost use Rattle.std.specs.Prelude.{ℕ, ◌≡◌, ◌≤◌, ◌+◌, [], ◌∷◌, length, IfOk, OnOk, OnErr, All};
+ghost use Rattle.std.specs.Prelude.{ℕ, ◌≡◌, ◌≤◌, List, [], ◌∷◌, length, IfOk, OnOk, OnErr, All};
 ghost use Rattle.flowspace.specs.Slices.{IsPlainSlice};
 ghost use Rattle.proxy_core.specs.Opening.{AreFresh, AreEmpty, Begins};
-ghost use Rattle.proxy_core.specs.Handing.{HaveRoom, AreSame, AreHanded, kept_by};
+ghost use Rattle.proxy_core.specs.Handing.{HasRoomAt, HaveRoom, AreSame, AreHanded, kept_by};
 
 use crate::lane::make_room;
 use crate::parts::Session;
@@ -63,13 +63,29 @@ impl Session {
     }
 }
 
-/// Takes memory for so many more messages in each queue.
-pub(crate) fn make_rooms(queues: &mut Vec<Outbox>, count: usize) -> Result<(), AllocError>
-    ensures room { OnOk result (HaveRoom count queues.new.items) }
+/// Takes memory for so many more messages in the queue of a slot, if there is one.
+fn make_room_at(queues: &mut Vec<Outbox>, slot: u8, count: usize) -> Result<(), AllocError>
+    ensures room { OnOk result (HasRoomAt slot count queues.new.items) }
+    ensures more { (slot n : ℕ) → HasRoomAt slot n queues.old.items → HasRoomAt slot n queues.new.items }
     ensures same { AreSame queues.old.items queues.new.items }
 {
-    for at in 0..queues.len() {
+    let at = usize::from(slot);
+    if at < queues.len() {
         make_room(&mut queues[at], count)?;
+    }
+    Ok(())
+}
+
+/// Takes memory for messages in the queues of their slots.
+pub(crate) fn make_rooms(
+    queues: &mut Vec<Outbox>,
+    messages: &[(u8, Frame)],
+) -> Result<(), AllocError>
+    ensures room { OnOk result (HaveRoom messages.now queues.new.items) }
+    ensures same { AreSame queues.old.items queues.new.items }
+{
+    for at in 0..messages.len() {
+        make_room_at(queues, messages[at].0, messages.len())?;
     }
     Ok(())
 }
@@ -87,9 +103,9 @@ pub(crate) fn keep(ports: &mut PortView, told: Option<PortStatus>) -> Result<(),
 
 /// Puts a message into the queue of a slot, if there is one.
 fn put(queues: &mut Vec<Outbox>, slot: u8, message: Frame)
-    requires { HaveRoom 1 queues.old.items }
+    requires { HasRoomAt slot 1 queues.old.items }
     ensures handed { AreHanded ((slot, message) ∷ []) queues.old.items queues.new.items }
-    ensures room { (n : ℕ) → HaveRoom (n + 1) queues.old.items → HaveRoom n queues.new.items }
+    ensures room { (later : List (ℕ × List ℕ)) → HaveRoom ((slot, message) ∷ later) queues.old.items → HaveRoom later queues.new.items }
 {
     let at = usize::from(slot);
     if at < queues.len() {
@@ -100,7 +116,7 @@ fn put(queues: &mut Vec<Outbox>, slot: u8, message: Frame)
 /// Puts messages into the queues of their slots, for which there is room. One for a slot that isn't there is
 /// dropped.
 pub(crate) fn hand_out(queues: &mut Vec<Outbox>, messages: Vec<(u8, Frame)>)
-    requires { HaveRoom (length messages.items) queues.old.items }
+    requires { HaveRoom messages.items queues.old.items }
     ensures { AreHanded messages.items queues.old.items queues.new.items }
 {
     for (slot, message) in messages {

@@ -112,7 +112,7 @@ impl Session {
             return Ok(false);
         }
         make_room(lane, to_switch.len())?;
-        make_rooms(&mut self.queues, to_slices.len())?;
+        make_rooms(&mut self.queues, &to_slices)?;
         keep(&mut self.ports, port)?;
         hand_out(&mut self.queues, to_slices);
         push_all(lane, to_switch);

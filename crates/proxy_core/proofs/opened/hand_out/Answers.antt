@@ -1,15 +1,14 @@
 use Rattle.std.proofs.Common.{◌≡◌, [], length, ap, sym, ◌∙◌, subst, arith}
 use Rattle.std.specs.Vec.Iter.{into_iter_items}
-use Rattle.proxy_core.specs.Handing.{AreHanded}
+use Rattle.proxy_core.specs.Handing.{HaveRoom, AreHanded}
 use Rattle.proxy_core.proofs.Rooms.{nothing_left}
-use Rattle.proxy_core.proofs.Handed.{none_handed, handed_more}
+use Rattle.proxy_core.proofs.Handed.{none_handed, handed_more, room_of_first}
 use Rattle.proxy_core.proofs.opened.hand_out.Goals as goal
 
 pub put-requires : goal.put-requires
-put-requires c = λ slot queue g.
-    let short = ap length c.in-Some.ensures.steps.0 in
-    let room = c.loop-slot.invariant.room slot queue g in
-    omega arith
+put-requires c =
+    room_of_first c.loop-slot.queues.items c.in-Some.slot c.in-Some.message (into_iter_items c.next.new.self)
+    (subst (λ m. HaveRoom m c.loop-slot.queues.items) c.in-Some.ensures.steps.0 c.loop-slot.invariant.room)
 
 pub loop-slot-preserved : goal.loop-slot-preserved
 loop-slot-preserved c =
@@ -20,7 +19,7 @@ loop-slot-preserved c =
     let gone = steps.1 in
     record {
       whole = omega arith;
-      room = c.put.ensures.room (length (into_iter_items c.next.new.self)) (λ slot queue g. (let room = at.invariant.room slot queue g in omega arith));
+      room = c.put.ensures.room (into_iter_items c.next.new.self) (subst (λ m. HaveRoom m at.queues.items) steps.0 at.invariant.room);
       handed = λ later h. at.invariant.handed later (subst (λ m. AreHanded m at.queues.items later) (sym steps.0)
           (handed_more c.in-Some.slot c.in-Some.message (into_iter_items c.next.new.self) at.queues.items c.put.new.queues.items later c.put.ensures.handed h));
     }

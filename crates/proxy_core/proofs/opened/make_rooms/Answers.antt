@@ -1,45 +1,27 @@
-use Rattle.std.proofs.Common.{arith}
+use Rattle.std.proofs.Common.{ℕ, ◌≡◌, List, Some, slice_get, length, refl, sym, subst, arith}
 use Rattle.std.proofs.lemmas.Option.{slice_get_read, slice_get_within}
-use Rattle.proxy_core.proofs.Rooms.{rooms_more}
-use Rattle.proxy_core.proofs.Handed.{same_all, same_set}
+use Rattle.proxy_core.specs.Handing.{HasRoomAt}
+use Rattle.proxy_core.proofs.Handed.{same_then, rooms_more, room_for_own}
 use Rattle.proxy_core.proofs.opened.make_rooms.Goals as goal
 
-pub loop-at-init : goal.loop-at-init
-loop-at-init c = record { same = same_all c.args.queues.now.items; room = λ slot queue less g. absurd (omega arith) }
-
-pub returns-in_err-make_room-clause-same : goal.returns-in_err-make_room-clause-same
-returns-in_err-make_room-clause-same c =
-    let xs = c.loop-at.queues in
-    let ok = xs.ok.0 in
-    let first = c.args.queues.now.ok.0 in
-    let less = c.loop-at-test.true in
-    let end = c.len-at-end.ensures in
-    let same = c.loop-at.invariant.same.count in
-    same_set c.args.queues.now.items xs.items c.loop-at.at c.index_mut.result.now c.make_room.new.waiting c.loop-at.invariant.same
-    (slice_get_read xs.items _ c.loop-at.at c.index_mut.result.now ok (omega arith) c.index_mut.ensures.value) c.make_room.ensures.stands
+pub returns-in_err-make_room_at-clause-same : goal.returns-in_err-make_room_at-clause-same
+returns-in_err-make_room_at-clause-same c = same_then c.args.queues.now.items c.loop-at.queues.items c.make_room_at.new.queues.items c.loop-at.invariant.same c.make_room_at.ensures.same
 
 pub loop-at-preserved : goal.loop-at-preserved
 loop-at-preserved c =
-    let xs = c.loop-at.queues in
-    let ok = xs.ok.0 in
-    let first = c.args.queues.now.ok.0 in
-    let less = c.loop-at-test.true in
-    let end = c.len-at-end.ensures in
-    let same = c.loop-at.invariant.same.count in
-    let gx = slice_get_read xs.items _ c.loop-at.at c.index_mut.result.now ok (omega arith) c.index_mut.ensures.value in
+    let messages = c.args.messages.now in
     record {
-      same = same_set c.args.queues.now.items xs.items c.loop-at.at c.index_mut.result.now c.make_room.new.waiting c.loop-at.invariant.same gx c.make_room.ensures.stands;
-      room = rooms_more xs.items c.loop-at.at c.args.count c.index_mut.result.now c.make_room.new.waiting gx c.in_ok-make_room.ensures.room c.loop-at.invariant.room;
+      same = same_then c.args.queues.now.items c.loop-at.queues.items c.make_room_at.new.queues.items c.loop-at.invariant.same c.make_room_at.ensures.same;
+      room = rooms_more messages c.loop-at.at (length messages) c.index-messages-at.result c.loop-at.queues.items c.make_room_at.new.queues.items
+          (slice_get_read messages (length messages) c.loop-at.at c.index-messages-at.result refl c.loop-at-test.true c.index-messages-at.is)
+          (subst (λ (m : ℕ × List ℕ). HasRoomAt m.0 (length messages) c.make_room_at.new.queues.items) (sym c.index-messages-at.is) c.in_ok-make_room_at.ensures.room)
+          (λ slot. c.make_room_at.ensures.more slot (length messages)) c.loop-at.invariant.room;
     }
 
 pub returns-clause-room : goal.returns-clause-room
 returns-clause-room c = λ slot queue g.
-    let first = c.args.queues.now.ok.0 in
+    let messages = c.args.messages.now in
     let out = c.loop-at-test.false in
-    let end = c.len-at-end.ensures in
-    let same = c.loop-at.invariant.same.count in
-    let inside = slice_get_within c.loop-at.queues.items slot queue g in
-    c.loop-at.invariant.room slot queue (omega arith) g
-
-pub returns-clause-same : goal.returns-clause-same
-returns-clause-same c = c.loop-at.invariant.same
+    room_for_own slot queue.room (length messages) messages (omega arith)
+    (λ i pair gi e. c.loop-at.invariant.room i pair (let within = slice_get_within messages i pair gi in omega arith) gi queue
+    (subst (λ (k : ℕ). slice_get c.loop-at.queues.items k ≡ Some queue) (sym e) g))

@@ -1,10 +1,9 @@
-use Rattle.std.proofs.Common.{ℕ, ◌≡◌, ◌≤◌, ◌<◌, Some, slice_get}
-use Rattle.outbox.specs.Queues.{Kept}
-use Rattle.proxy_core.specs.Handing.{AreSame}
+use Rattle.std.proofs.Common.{ℕ, ◌≡◌, ◌<◌, List, length, Some, slice_get}
+use Rattle.proxy_core.specs.Handing.{HasRoomAt, AreSame}
 use Rattle.proxy_core.proofs.opened.make_rooms.Given as goal
 
 abbrev pub invariant-loop-at : goal.invariant-loop-at
 invariant-loop-at l = record {
   same : AreSame l.initial.queues.items l.queues.items;
-  room : (slot : ℕ) (queue : Kept) → slot < l.at → slice_get l.queues.items slot ≡ Some queue → l.count ≤ queue.room;
+  room : (i : ℕ) (pair : ℕ × List ℕ) → i < l.at → slice_get l.messages i ≡ Some pair → HasRoomAt pair.0 (length l.messages) l.queues.items;
 }

@@ -1,7 +1,7 @@
 use Rattle.std.proofs.Common.{◌≡◌, [], ◌∷◌, set, slice_get, Some, sym, subst, ℕ, arith}
 use Rattle.std.proofs.lemmas.Option.{slice_get_read}
-use Rattle.proxy_core.specs.Handing.{AreHanded}
-use Rattle.proxy_core.proofs.Handed.{put_handed, none_put, put_room}
+use Rattle.proxy_core.specs.Handing.{HaveRoom, AreHanded}
+use Rattle.proxy_core.proofs.Handed.{put_handed, none_put, put_room, less_room}
 use Rattle.proxy_core.proofs.opened.put.Goals as goal
 
 pub returns-then-at-len-clause-handed : goal.returns-then-at-len-clause-handed
@@ -15,13 +15,18 @@ returns-then-at-len-clause-handed c =
     (put_handed xs.items c.args.slot c.args.message c.index_mut.result.now c.push.new.self (subst (λ (k : ℕ). slice_get xs.items k ≡ Some c.index_mut.result.now) c.from-at.ensures gx) c.push.ensures.stands)
 
 pub returns-then-at-len-clause-room : goal.returns-then-at-len-clause-room
-returns-then-at-len-clause-room c = λ n room.
+returns-then-at-len-clause-room c = λ later room.
     let xs = c.args.queues.now in
     let ok = xs.ok.0 in
     let small = c.if-at-len.true in
     let count = c.len.ensures in
-    put_room xs.items c.from-at.result n c.index_mut.result.now c.push.new.self
-    (slice_get_read xs.items _ c.from-at.result c.index_mut.result.now ok (omega arith) c.index_mut.ensures.value) c.push.ensures.room room
+    subst (λ (k : ℕ). HaveRoom later (set xs.items k c.push.new.self)) (sym c.from-at.ensures)
+    (put_room xs.items c.args.slot c.args.message later c.index_mut.result.now c.push.new.self
+    (subst (λ (k : ℕ). slice_get xs.items k ≡ Some c.index_mut.result.now) c.from-at.ensures
+    (slice_get_read xs.items _ c.from-at.result c.index_mut.result.now ok (omega arith) c.index_mut.ensures.value)) c.push.ensures.room room)
+
+pub returns-else-at-len-clause-room : goal.returns-else-at-len-clause-room
+returns-else-at-len-clause-room c = λ later room. less_room c.args.queues.now.items c.args.slot c.args.message later room
 
 pub returns-else-at-len-clause-handed : goal.returns-else-at-len-clause-handed
 returns-else-at-len-clause-handed c =
