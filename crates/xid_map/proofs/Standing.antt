@@ -1,7 +1,7 @@
 -- The collections stand for one call more.
 use Rattle.std.proofs.Common.{◌≡◌, ◌≢◌, ℕ, ◌++◌, not, true, false, List, [], ◌∷◌, zero, suc, take, drop, map, get_or, refl, ap, sym, ◌∙◌, inl, inr, if◌then◌else◌}
 use Rattle.std.specs.Prelude.{◌==◌, find, filter, slice_set, Some, None, option_map}
-use Rattle.std.proofs.lemmas.Bool.{cases_Bool, eq-eqb, ne_eqb, or_parts, or_left, or_right}
+use Rattle.std.proofs.lemmas.Bool.{cases_Bool, both_ways, eq-eqb, ne_eqb, or_parts, or_left, or_right}
 use Rattle.std.proofs.lemmas.Bool.Decides.{eqb_tells}
 use Rattle.std.proofs.lemmas.List.{take-map}
 use Rattle.xid_map.specs.Collections.{CollectionCall, Start, Add, Sum, Finish, EndAll, is_among, collecting, begins, Gathered, gathered, collection_of, Collected, CollectionsStand}
@@ -78,6 +78,10 @@ is_among-nowhere number (x ∷ xs) calls (m ∷ ms) same out =
     let this : x.gathered ≡ gathered m calls = cc in
     let other : (m == number) ≡ false = ne_eqb m number (λ e. out.0 (ap (λ g. g.number) this ∙ gathered-number m calls ∙ e)) in
     rw (other, is_among-nowhere number xs calls ms (cc) out.1) refl
+
+pub collects_nowhere : (number : ℕ) (xs : List Collected) (calls : List CollectionCall) → CollectionsStand calls xs → Nowhere number xs → is_among number (collecting calls) ≡ true → ⊥
+collects_nowhere number xs calls s out within =
+    both_ways (is_among number (collecting calls)) (is_among-nowhere number xs calls (collecting calls) s.same out) within
 
 gathered-at : (number k : ℕ) (xs : List Collected) (z : Collected) (calls : List CollectionCall) (ns : List ℕ) → parts xs ≡ all_gathered calls ns
     → StandsAt number k xs → z ≡ get_or xs k z → z.gathered ≡ gathered number calls

@@ -1,5 +1,5 @@
-ghost use Rattle.std.specs.Prelude.{ℕ, ◌≡◌, ◌≢◌, ◌+◌, ◌<◌, ◌==◌, List, [], ◌∷◌, length, take, vec_capacity, find, position, IfOk, IfSome, OnOk, option_map, option_copied};
-ghost use Rattle.xid_map.specs.Collections.{CollectionCall, Start, Add, Sum, Finish, EndAll, kept, IsLongestRun, entries_of, sums_of, room_of, HasRoom, CollectionsStand};
+ghost use Rattle.std.specs.Prelude.{ℕ, ◌≡◌, ◌≢◌, ◌+◌, ◌<◌, ◌==◌, List, [], ◌∷◌, length, take, vec_capacity, find, position, IfOk, IfSome, IsTrue, OnOk, option_map, option_copied};
+ghost use Rattle.xid_map.specs.Collections.{CollectionCall, Start, Add, Sum, Finish, EndAll, is_among, collecting, kept, IsLongestRun, entries_of, sums_of, room_of, HasRoom, CollectionsStand};
 
 use crate::collection::Collection;
 use of10_action::Bytes;
@@ -77,6 +77,7 @@ impl Collections {
     /// Starts to collect for the request, unless it collects. Where eight do, the oldest is given up.
     pub fn start(&mut self, number: u64)
         ensures stands { (calls : List CollectionCall) → CollectionsStand calls self.old → CollectionsStand (Start number ∷ calls) self.new }
+        ensures again { (calls : List CollectionCall) → CollectionsStand calls self.old → IsTrue (is_among number (collecting calls)) → self.new ≡ self.old }
         ensures kept { (other more : ℕ) → other ≢ number → HasRoom other more self.old → HasRoom other more self.new }
     {
         if place_of(&self.all, number).is_some() {

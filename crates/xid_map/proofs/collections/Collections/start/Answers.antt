@@ -1,5 +1,5 @@
 use Rattle.xid_map.proofs.Places.{StandsAt-is_some, Nowhere-is_some}
-use Rattle.xid_map.proofs.Standing.{CollectionsStand-start_again, CollectionsStand-start}
+use Rattle.xid_map.proofs.Standing.{collects_nowhere, CollectionsStand-start_again, CollectionsStand-start}
 use Rattle.xid_map.proofs.collections.Collections.start.Goals as goal
 
 pub returns-then-is_some-clause-stands : goal.returns-then-is_some-clause-stands
@@ -13,3 +13,8 @@ returns-clause-stands c calls s =
     (CollectionsStand-start c.args.number c.self.inside.all.items c.new-collection.result calls (rw (← c.self.view_is) at s)
     (Nowhere-is_some c.args.number c.self.inside.all.items c.place_of.result (rw c.deref.ensures.value at c.place_of.ensures.value) c.if-is_some.ensures)
     c.new-collection.ensures)
+
+pub returns-clause-again : goal.returns-clause-again
+returns-clause-again c calls s within =
+    absurd (collects_nowhere c.args.number c.self.inside.all.items calls (rw (← c.self.view_is) at s)
+    (Nowhere-is_some c.args.number c.self.inside.all.items c.place_of.result (rw c.deref.ensures.value at c.place_of.ensures.value) c.if-is_some.ensures) within)
