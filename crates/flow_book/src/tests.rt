@@ -37,21 +37,17 @@ fn matching(wildcards: u32, port: u16) -> Match {
     Match::decode(&bytes)
 }
 
-// Matches of which some include others.
+// Matches of which some include others: by a port, by an address or a part of it.
 fn sample(which: u64) -> Match {
     match which {
-        0 => matching(0x003f_ffff, 0),
-        1 => matching(0x003f_ffef, 0),
-        2 => matching(0x003f_ffcf, 0),
-        3 => matching(0x003f_ff4f, 80),
-        4 => matching(0x003f_ff4f, 22),
-        5 => matching(0x0036_3fef, 0),
-        6 => matching(0x0034_3fef, 0),
-        7 => matching(0x0034_3fcf, 0),
-        8 => matching(0x0034_3f4f, 80),
-        9 => matching(0x0034_3f4f, 22),
-        10 => matching(0x0030_3f4f, 80),
-        _ => matching(0x0030_3fef, 0),
+        0 => matching(0x003f_ffcf, 0),
+        1 => matching(0x003f_ff4f, 80),
+        2 => matching(0x003f_ff4f, 22),
+        3 => matching(0x0036_3fcf, 0),
+        4 => matching(0x0034_3f4f, 80),
+        5 => matching(0x0030_3f4f, 80),
+        6 => matching(0x0030_3f4f, 22),
+        _ => matching(0x0030_3fcf, 0),
     }
 }
 
@@ -80,19 +76,6 @@ fn differ(one: &Match, other: &Match) -> bool
 {
     let _ = one.pattern();
     !includes(one, other)
-}
-
-fn add_both(
-    book: &mut FlowBook,
-    command: u16,
-    one: &Match,
-    other: &Match,
-    priority: u16,
-    number: u64,
-) -> Result<(), AllocError>
-    requires { one.now ≢ other.now }
-{
-    add(book, command, &[*one, *other], priority, false, number)
 }
 
 #[test]
@@ -175,68 +158,311 @@ fn plain_overlaps(list: &[Booked], piece: &Match, priority: u16) -> bool {
     list.iter().any(|booked| booked.priority == priority && !disjoint(&booked.pattern, piece))
 }
 
-// Whether both answer the same about the pair.
-fn agree(book: &FlowBook, list: &[Booked], command: u16, piece: &Match, priority: u16) -> bool {
-    let pieces = [*piece];
-    book.count() as usize == list.len()
-        && book.booked(piece, priority) == plain_find(list, piece, priority)
-        && book.overlaps(&pieces, priority) == plain_overlaps(list, piece, priority)
-        && (book.newcomers(command, &pieces, priority) == 1)
-            == plain_newcomer(list, command, piece, priority)
+// A flow-mod without its pieces.
+#[derive(Clone, Copy)]
+struct FlowMod {
+    command: u16,
+    priority: u16,
+    asked: bool,
+    number: u64,
+}
+
+// What can come up where the book is called.
+#[derive(Clone, Copy, Debug, PartialEq, Eq)]
+enum Case {
+    AddBooks,
+    AddBooksAgain,
+    ModifyBooks,
+    ModifyBooksBoth,
+    ModifyOfBooked,
+    // the pair isn't booked, but a match that it includes is
+    ModifyOfWider,
+    StrictBooks,
+    StrictOfBooked,
+    Delete,
+    DeleteStrict,
+    Fits,
+    IsTooMany,
+    Overlaps,
+    OverlapsNothing,
+    RemovesBooked,
+    RemovesNothing,
+    FailureReleases,
+    FailureOfAnother,
+    FailureOfNothing,
+    IsAsked,
+    IsNotAsked,
+    IsNotBooked,
+}
+
+const CASES: [Case; 22] = [
+    Case::AddBooks,
+    Case::AddBooksAgain,
+    Case::ModifyBooks,
+    Case::ModifyBooksBoth,
+    Case::ModifyOfBooked,
+    Case::ModifyOfWider,
+    Case::StrictBooks,
+    Case::StrictOfBooked,
+    Case::Delete,
+    Case::DeleteStrict,
+    Case::Fits,
+    Case::IsTooMany,
+    Case::Overlaps,
+    Case::OverlapsNothing,
+    Case::RemovesBooked,
+    Case::RemovesNothing,
+    Case::FailureReleases,
+    Case::FailureOfAnother,
+    Case::FailureOfNothing,
+    Case::IsAsked,
+    Case::IsNotAsked,
+    Case::IsNotBooked,
+];
+
+fn piece_case(list: &[Booked], sent: &FlowMod, piece: &Match) -> Case {
+    let booked = plain_find(list, piece, sent.priority).is_some();
+    let comes = plain_newcomer(list, sent.command, piece, sent.priority);
+    match sent.command {
+        ADD if comes => Case::AddBooks,
+        ADD => Case::AddBooksAgain,
+        MODIFY if comes => Case::ModifyBooks,
+        MODIFY if booked => Case::ModifyOfBooked,
+        MODIFY => Case::ModifyOfWider,
+        MODIFY_STRICT if comes => Case::StrictBooks,
+        MODIFY_STRICT => Case::StrictOfBooked,
+        DELETE => Case::Delete,
+        _ => Case::DeleteStrict,
+    }
+}
+
+fn removal_case(found: Option<Booked>) -> Case {
+    match found {
+        Some(_) => Case::RemovesBooked,
+        None => Case::RemovesNothing,
+    }
+}
+
+fn failure_case(found: Option<Booked>, number: u64) -> Case {
+    match found {
+        Some(booked) if booked.number == number => Case::FailureReleases,
+        Some(_) => Case::FailureOfAnother,
+        None => Case::FailureOfNothing,
+    }
+}
+
+fn booking_case(found: Option<Booked>) -> Case {
+    match found {
+        Some(booked) if booked.asked => Case::IsAsked,
+        Some(_) => Case::IsNotAsked,
+        None => Case::IsNotBooked,
+    }
+}
+
+// The book beside the list of the plain program, and what came up.
+#[derive(Drop)]
+struct Both {
+    book: FlowBook,
+    list: Vec<Booked>,
+    seen: Vec<Case>,
+}
+
+impl Both {
+    fn new(alloc: Global) -> Both {
+        Both {
+            book: FlowBook::new(alloc),
+            list: Vec::new(alloc),
+            seen: Vec::new(alloc),
+        }
+    }
+
+    // Whether both answer the same about the flow-mod before it is sent on.
+    fn asked_alike(
+        &mut self,
+        sent: &FlowMod,
+        pieces: &[Match],
+        quota: u32,
+    ) -> Result<bool, AllocError>
+        requires distinct { AllPairs (λ a b. a ≢ b) pieces.now }
+        requires few { length pieces.now ≤ 2 }
+    {
+        let mut newcomers = 0u32;
+        let mut overlaps = false;
+        for piece in pieces {
+            self.seen.push(piece_case(&self.list, sent, piece))?;
+            overlaps |= plain_overlaps(&self.list, piece, sent.priority);
+            if plain_newcomer(&self.list, sent.command, piece, sent.priority) {
+                newcomers = newcomers.saturating_add(1);
+            }
+        }
+        if sent.command == MODIFY && newcomers == 2 {
+            self.seen.push(Case::ModifyBooksBoth)?;
+        }
+        let fits = self.list.len().saturating_add(newcomers as usize) <= quota as usize;
+        self.seen
+            .push(if fits { Case::Fits } else { Case::IsTooMany })?;
+        self.seen.push(if overlaps {
+            Case::Overlaps
+        } else {
+            Case::OverlapsNothing
+        })?;
+        Ok(
+            self.book.newcomers(sent.command, pieces, sent.priority) == newcomers
+                && self.book.fits(sent.command, pieces, sent.priority, quota) == fits
+                && self.book.overlaps(pieces, sent.priority) == overlaps,
+        )
+    }
+
+    fn send(
+        &mut self,
+        alloc: Global,
+        sent: &FlowMod,
+        pieces: &[Match],
+        quota: u32,
+    ) -> Result<bool, AllocError>
+        requires distinct { AllPairs (λ a b. a ≢ b) pieces.now }
+        requires few { length pieces.now ≤ 2 }
+    {
+        let alike = self.asked_alike(sent, pieces, quota)?;
+        let (command, priority, asked, number) = (
+            sent.command,
+            sent.priority,
+            sent.asked,
+            sent.number,
+        );
+        add(&mut self.book, command, pieces, priority, asked, number)?;
+        plain_add(
+            alloc,
+            &mut self.list,
+            command,
+            pieces,
+            priority,
+            asked,
+            number,
+        )?;
+        Ok(alike)
+    }
+
+    fn send_both(
+        &mut self,
+        alloc: Global,
+        sent: &FlowMod,
+        one: &Match,
+        other: &Match,
+        quota: u32,
+    ) -> Result<bool, AllocError>
+        requires { one.now ≢ other.now }
+    {
+        self.send(alloc, sent, &[*one, *other], quota)
+    }
+
+    fn flow_mod(
+        &mut self,
+        alloc: Global,
+        draws: &mut Draws,
+        number: u64,
+    ) -> Result<bool, AllocError> {
+        let command = match draws.below(6) {
+            5 => MODIFY,
+            command => command as u16,
+        };
+        let priority = draws.below(2) as u16;
+        let asked = draws.below(2) == 0;
+        let sent = FlowMod {
+            command,
+            priority,
+            asked,
+            number,
+        };
+        let quota = draws.below(12) as u32;
+        let (one, other) = (sample(draws.below(8)), sample(draws.below(8)));
+        if differ(&one, &other) {
+            self.send_both(alloc, &sent, &one, &other, quota)
+        } else {
+            self.send(alloc, &sent, &[one], quota)
+        }
+    }
+
+    // One that is booked, or any.
+    fn draw(&self, draws: &mut Draws) -> (Match, u16, u64) {
+        let place = draws.below(16) as usize;
+        match self.list.get(place) {
+            Some(booked) => (booked.pattern, booked.priority, booked.number),
+            None => (
+                sample(draws.below(8)),
+                draws.below(2) as u16,
+                draws.below(8),
+            ),
+        }
+    }
+
+    fn removal(&mut self, draws: &mut Draws) -> Result<bool, AllocError> {
+        let (pattern, priority, _) = self.draw(draws);
+        let wanted = plain_find(&self.list, &pattern, priority);
+        self.seen.push(removal_case(wanted))?;
+        plain_remove(&mut self.list, &pattern, priority);
+        Ok(self.book.removed(&pattern, priority) == wanted)
+    }
+
+    // The request that booked the pair fails, or one that booked another.
+    fn failure(&mut self, draws: &mut Draws) -> Result<(), AllocError> {
+        let (pattern, priority, of_first) = self.draw(draws);
+        let (_, _, of_another) = self.draw(draws);
+        let number = if draws.below(2) == 0 {
+            of_first
+        } else {
+            of_another
+        };
+        let case = failure_case(plain_find(&self.list, &pattern, priority), number);
+        self.seen.push(case)?;
+        if case == Case::FailureReleases {
+            plain_remove(&mut self.list, &pattern, priority);
+        }
+        self.book.failed(number, &pattern, priority);
+        Ok(())
+    }
+
+    // Whether both say the same of the pair.
+    fn booked_alike(&mut self, pattern: &Match, priority: u16) -> Result<bool, AllocError> {
+        let wanted = plain_find(&self.list, pattern, priority);
+        self.seen.push(booking_case(wanted))?;
+        Ok(self.book.booked(pattern, priority) == wanted)
+    }
+
+    // Whether both have booked the same.
+    fn alike(&mut self) -> Result<bool, AllocError> {
+        let mut alike = self.book.count() as usize == self.list.len();
+        for which in 0..16u64 {
+            alike &= self.booked_alike(&sample(which / 2), (which % 2) as u16)?;
+        }
+        Ok(alike)
+    }
+
+    fn times(&self, case: Case) -> usize {
+        self.seen.iter().filter(|seen| **seen == case).count()
+    }
 }
 
 #[test]
 fn answers_as_a_plain_list(rt: HostRuntime) -> Result<(), Fail> {
     let mut draws = Draws { state: 5 };
-    let mut book = FlowBook::new(rt.alloc());
-    let mut list: Vec<Booked> = Vec::new(rt.alloc());
-    for step in 0..3_000u64 {
-        let command = draws.below(4) as u16;
-        let priority = draws.below(3) as u16;
-        let asked = draws.below(2) == 0;
-        let (one, other) = (sample(draws.below(12)), sample(draws.below(12)));
-        match draws.below(4) {
-            0 => {
-                let wanted = plain_find(&list, &one, priority);
-                assert_eq!(rt; book.removed(&one, priority), wanted, "at {step}");
-                plain_remove(&mut list, &one, priority);
+    let mut both = Both::new(rt.alloc());
+    for step in 0..8_000u64 {
+        let answered_alike = match draws.below(8) {
+            0..3 => both.removal(&mut draws)?,
+            3 | 4 => {
+                both.failure(&mut draws)?;
+                true
             }
-            1 => {
-                let number = step.saturating_sub(draws.below(40));
-                book.failed(number, &one, priority);
-                let first = plain_find(&list, &one, priority);
-                if first.is_some_and(|booked| booked.number == number) {
-                    plain_remove(&mut list, &one, priority);
-                }
-            }
-            _ => {
-                if differ(&one, &other) {
-                    let pieces = [one, other];
-                    add_both(&mut book, command, &one, &other, priority, step)?;
-                    plain_add(
-                        rt.alloc(),
-                        &mut list,
-                        command,
-                        &pieces,
-                        priority,
-                        false,
-                        step,
-                    )?;
-                } else {
-                    add(&mut book, command, &[one], priority, asked, step)?;
-                    plain_add(
-                        rt.alloc(),
-                        &mut list,
-                        command,
-                        &[one],
-                        priority,
-                        asked,
-                        step,
-                    )?;
-                }
-            }
-        }
-        assert!(rt; agree(&book, &list, command, &other, priority), "at {step}");
+            _ => both.flow_mod(rt.alloc(), &mut draws, step)?,
+        };
+        assert!(rt; answered_alike, "at {step}");
+        let booked_alike = both.alike()?;
+        assert!(rt; booked_alike, "at {step}");
+    }
+    for case in CASES {
+        let times = both.times(case);
+        assert!(rt; times >= 50, "{case:?} {times} times");
     }
     Ok(())
 }

@@ -1,4 +1,4 @@
-ghost use Rattle.std.specs.Prelude.{◌≡◌, ◌<◌, ◌≤◌, IfOk, vec_len};
+ghost use Rattle.std.specs.Prelude.{◌≡◌, ◌^◌, ◌<◌, ◌≤◌, length, IfOk, vec_len};
 
 use super::*;
 use std::alloc::{AllocError, Global};
@@ -70,20 +70,21 @@ fn finds_as_the_list_of_all_requests(rt: HostRuntime) -> Result<(), Fail> {
     let mut draws = Draws { state: 2 };
     let mut map = XidMap::new(rt.alloc(), 5)?;
     let mut requests: Vec<Issued> = Vec::new(rt.alloc());
-    let mut hits = 0u32;
-    for step in 0..9_000u32 {
+    let (mut hits, mut forgets, mut wraps) = (0u32, 0u32, 0u32);
+    for step in 0..12_000u32 {
         let (number, physical) = map.next();
         let other = number.saturating_add(2).saturating_sub(draws.below(4_200));
-        match draws.below(2_000) {
+        match draws.below(4_000) {
             0 => {
                 map.forget_all();
                 requests.clear();
+                forgets = forgets.saturating_add(1);
             }
-            1..100 => {
+            1..200 => {
                 map.mark_error(other);
                 mark(&mut requests, other, true, false);
             }
-            100..200 => {
+            200..400 => {
                 map.mark_done(other);
                 mark(&mut requests, other, false, true);
             }
@@ -105,8 +106,15 @@ fn finds_as_the_list_of_all_requests(rt: HostRuntime) -> Result<(), Fail> {
         if answer.is_some_and(|request| request.failed || request.done) {
             hits = hits.saturating_add(1);
         }
+        if requests.len() > 4096 {
+            wraps = wraps.saturating_add(1);
+        }
     }
     assert!(rt; hits > 100, "{hits} of the requests found were marked");
+    assert!(rt;
+        forgets > 0 && wraps > 2_000,
+        "{forgets} forgotten, {wraps} with 4,097"
+    );
     Ok(())
 }
 
@@ -198,69 +206,195 @@ fn pattern(alloc: Global) -> Result<Vec<u8>, AllocError>
     Ok(bytes)
 }
 
-// Whether both have collected the same for the request.
-fn agree(collections: &Collections, all: &[Plain], number: u64) -> bool {
-    let wanted = plain_of(all, number);
-    collections.entries(number) == wanted.map(|one| one.entries.as_slice())
-        && collections.sums(number) == wanted.map(|one| one.sums)
-        && collections.room(number) as usize == wanted.map_or(0, plain_room)
+// What can come up where the collections are called.
+#[derive(Clone, Copy, Debug, PartialEq, Eq)]
+enum Case {
+    Starts,
+    StartsAgain,
+    GivesUpTheOldest,
+    Adds,
+    AddsToNone,
+    LeavesOut,
+    // an entry after one that was left out, which alone would be within the limit
+    LeavesOutLater,
+    // an entry after one that was left out, which would be left out alone
+    LeavesOutBoth,
+    Sums,
+    SumsForNone,
+    Finishes,
+    FinishesNone,
+    Forgets,
 }
 
-fn finish_alike(collections: &mut Collections, all: &mut Vec<Plain>, number: u64) -> bool {
-    let entries = collections.finish(number);
-    let wanted = plain_of(all, number).map(|one| one.entries.as_slice());
-    let alike = entries.as_ref().map(|entries| entries.as_slice()) == wanted;
-    all.retain(|one| one.number != number);
-    alike
+const CASES: [Case; 13] = [
+    Case::Starts,
+    Case::StartsAgain,
+    Case::GivesUpTheOldest,
+    Case::Adds,
+    Case::AddsToNone,
+    Case::LeavesOut,
+    Case::LeavesOutLater,
+    Case::LeavesOutBoth,
+    Case::Sums,
+    Case::SumsForNone,
+    Case::Finishes,
+    Case::FinishesNone,
+    Case::Forgets,
+];
+
+fn start_case(all: &[Plain], number: u64) -> Case {
+    if plain_of(all, number).is_some() {
+        Case::StartsAgain
+    } else if all.len() == 8 {
+        Case::GivesUpTheOldest
+    } else {
+        Case::Starts
+    }
+}
+
+fn add_case(all: &[Plain], number: u64, length: usize) -> Case {
+    match plain_of(all, number) {
+        None => Case::AddsToNone,
+        Some(one) => {
+            let within = one.entries.len().saturating_add(length) <= 524_288;
+            match (one.passed, within) {
+                (false, true) => Case::Adds,
+                (false, false) => Case::LeavesOut,
+                (true, true) => Case::LeavesOutLater,
+                (true, false) => Case::LeavesOutBoth,
+            }
+        }
+    }
+}
+
+// The collections beside those of the plain program, and what came up.
+#[derive(Drop)]
+struct Both {
+    collections: Collections,
+    all: Vec<Plain>,
+    seen: Vec<Case>,
+}
+
+impl Both {
+    fn new(alloc: Global) -> Result<Both, AllocError> {
+        Ok(Both {
+            collections: Collections::new(alloc)?,
+            all: Vec::new(alloc),
+            seen: Vec::new(alloc),
+        })
+    }
+
+    // Whether both have collected the same entries for the request.
+    fn entries_agree(&self, number: u64) -> bool {
+        let wanted = plain_of(&self.all, number);
+        self.collections.entries(number) == wanted.map(|one| one.entries.as_slice())
+    }
+
+    // Whether both have collected as much for the request.
+    fn counts_agree(&self, number: u64) -> bool {
+        let wanted = plain_of(&self.all, number);
+        let length = self
+            .collections
+            .entries(number)
+            .map(|entries| entries.len());
+        length == wanted.map(|one| one.entries.len())
+            && self.collections.sums(number) == wanted.map(|one| one.sums)
+            && self.collections.room(number) as usize == wanted.map_or(0, plain_room)
+    }
+
+    fn start(&mut self, alloc: Global, number: u64) -> Result<(), AllocError> {
+        self.seen.push(start_case(&self.all, number))?;
+        self.collections.start(number);
+        plain_start(alloc, &mut self.all, number)
+    }
+
+    fn add(&mut self, number: u64, entry: &[u8]) -> Result<(), AllocError>
+        requires { length entry.now < 2 ^ 32 }
+    {
+        self.seen.push(add_case(&self.all, number, entry.len()))?;
+        self.collections.reserve(number, entry.len() as u32)?;
+        self.collections.add(number, entry);
+        plain_add(&mut self.all, number, entry)
+    }
+
+    fn sum(&mut self, number: u64, packets: u64, bytes: u64) -> Result<(), AllocError> {
+        let collects = plain_of(&self.all, number).is_some();
+        self.seen.push(if collects {
+            Case::Sums
+        } else {
+            Case::SumsForNone
+        })?;
+        self.collections.sum(number, packets, bytes);
+        plain_sum(&mut self.all, number, packets, bytes);
+        Ok(())
+    }
+
+    // Whether both give the same.
+    fn finish(&mut self, number: u64) -> Result<bool, AllocError> {
+        let entries = self.collections.finish(number);
+        let wanted = plain_of(&self.all, number).map(|one| one.entries.as_slice());
+        let alike = entries.as_ref().map(|entries| entries.as_slice()) == wanted;
+        let collects = wanted.is_some();
+        self.seen.push(if collects {
+            Case::Finishes
+        } else {
+            Case::FinishesNone
+        })?;
+        self.all.retain(|one| one.number != number);
+        Ok(alike)
+    }
+
+    fn forget_all(&mut self) -> Result<(), AllocError> {
+        if !self.all.is_empty() {
+            self.seen.push(Case::Forgets)?;
+        }
+        self.collections.forget_all();
+        self.all.clear();
+        Ok(())
+    }
+
+    fn times(&self, case: Case) -> usize {
+        self.seen.iter().filter(|seen| **seen == case).count()
+    }
 }
 
 #[test]
 fn collects_as_the_list_of_collections(rt: HostRuntime) -> Result<(), Fail> {
     let mut draws = Draws { state: 3 };
     let pattern = pattern(rt.alloc())?;
-    let mut collections = Collections::new(rt.alloc())?;
-    let mut all = Vec::new(rt.alloc());
-    let mut passed = 0u32;
-    for step in 0..3_000u32 {
-        let number = draws.below(9);
-        match draws.below(3_000) {
-            0 => {
-                collections.forget_all();
-                all.clear();
+    let mut both = Both::new(rt.alloc())?;
+    for step in 0..5_000u32 {
+        let number = draws.below(10);
+        match draws.below(200) {
+            0 => both.forget_all()?,
+            1..30 => both.start(rt.alloc(), number)?,
+            30..36 => {
+                let alike = both.finish(number)?;
+                assert!(rt; alike, "at {step}");
             }
-            1..100 => {
-                collections.start(number);
-                plain_start(rt.alloc(), &mut all, number)?;
-            }
-            100..130 => {
-                assert!(rt;
-                    finish_alike(&mut collections, &mut all, number),
-                    "at {step}"
-                );
-            }
-            130..1_600 => {
+            36..140 => {
                 let from = draws.below(200_000) as usize;
-                let most = if draws.below(8) == 0 { 200_000 } else { 200 };
+                let large = number < 3 && draws.below(2) == 0;
+                let most = if large { 200_000 } else { 200 };
                 let length = draws.below(most) as usize;
-                let entry = &pattern[from..from + length];
-                collections.reserve(number, length as u32)?;
-                collections.add(number, entry);
-                plain_add(&mut all, number, entry)?;
+                both.add(number, &pattern[from..from + length])?;
             }
-            _ => {
-                let (packets, bytes) = (draws.below(1 << 31) << 33, draws.below(1 << 31) << 33);
-                collections.sum(number, packets, bytes);
-                plain_sum(&mut all, number, packets, bytes);
-            }
+            _ => both.sum(
+                number,
+                draws.below(1 << 31) << 33,
+                draws.below(1 << 31) << 33,
+            )?,
         }
-        assert!(rt; agree(&collections, &all, number), "at {step}");
-        if plain_of(&all, number).is_some_and(|one| one.passed) {
-            passed = passed.saturating_add(1);
+        for request in 0..10u64 {
+            assert!(rt; both.counts_agree(request), "at {step}");
+        }
+        if step % 64 == 0 {
+            assert!(rt; both.entries_agree(number), "at {step}");
         }
     }
-    assert!(rt;
-        passed > 100,
-        "{passed} looks at collections that passed the limit"
-    );
+    for case in CASES {
+        let times = both.times(case);
+        assert!(rt; times >= 20, "{case:?} {times} times");
+    }
     Ok(())
 }

@@ -1,6 +1,6 @@
 use Rattle.std.proofs.Common.{◌≢◌, ◌∷◌, [], zero, suc, arith}
 use Rattle.std.specs.Prelude.{AllPairs}
-use Rattle.flow_book.proofs.tests.add_both.Goals as goal
+use Rattle.flow_book.proofs.tests.Both.send_both.Goals as goal
 
 two_apart : {X : Type 0} (a b : X) → a ≢ b → AllPairs (λ x y. x ≢ y) (a ∷ b ∷ [])
 two_apart a b apart i zero d lt within = absurd (omega arith)
@@ -8,5 +8,5 @@ two_apart a b apart zero (suc zero) d lt within = apart
 two_apart a b apart (suc i) (suc zero) d lt within = absurd (omega arith)
 two_apart a b apart i (suc (suc j)) d lt within = absurd (omega arith)
 
-pub add-requires-clause-distinct : goal.add-requires-clause-distinct
-add-requires-clause-distinct c = two_apart c.args.one.now c.args.other.now c.requires
+pub send-requires-clause-distinct : goal.send-requires-clause-distinct
+send-requires-clause-distinct c = two_apart c.args.one.now c.args.other.now c.requires
