@@ -6,3 +6,4 @@ pub mod Priorities
 pub mod Counts
 pub mod Standing
 pub mod Histories
+pub mod Once

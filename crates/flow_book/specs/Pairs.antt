@@ -1,6 +1,7 @@
 -- What becomes of one pair of a match and a priority, call by call. Lists of calls have the newest first.
-use Rattle.std.specs.Prelude.{ℕ, ◌≡◌, ◌⊎◌, false, Bool, List, [], ◌∷◌, ◌++◌, Contains, Some}
+use Rattle.std.specs.Prelude.{ℕ, ◌≡◌, ◌≢◌, ◌⊎◌, false, Bool, List, [], ◌∷◌, ◌++◌, All, AllPairs, Contains, Some}
 use Rattle.of10_model.specs.declared.pattern.Pattern.{Pattern}
+use Rattle.of10_model.specs.Normal.{IsNormal}
 use Rattle.flow_book.specs.declared.booked.Booked.{Booked}
 use Rattle.flow_book.specs.Books.{BookCall, Added, Removed, Failed, is_booked, includes_booked, book, booking}
 
@@ -50,3 +51,18 @@ pub record IsFirstBooked (pattern : Pattern) (priority : ℕ) (of_number : ℕ) 
   pub books : Books pattern priority (Added command pieces priority wish of_number) earlier
   pub unbooked : is_booked pattern priority (book earlier) ≡ false
   pub not_released : NoneOf (Releases pattern priority) later (Added command pieces priority wish of_number ∷ earlier)
+
+-- matches of which no two are the same, each in its normal form
+pub record ArePieces (pieces : List Pattern) : Type 0 where
+  pub distinct : AllPairs (λ a b. a ≢ b) pieces
+  pub normal : All IsNormal pieces
+
+-- a call that is a flow-mod has such pieces
+abbrev pub HasPieces : BookCall → Type 0
+HasPieces (Added command pieces priority asked number) = ArePieces pieces
+HasPieces (Removed pattern priority) = Unit {0}
+HasPieces (Failed number pattern priority) = Unit {0}
+
+-- two booked pairs have one match and one priority
+abbrev pub IsSamePair : Booked → Booked → Type 0
+IsSamePair a b = (a.pattern ≡ b.pattern) × (a.priority ≡ b.priority)

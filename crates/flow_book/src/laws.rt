@@ -1,11 +1,11 @@
 //! Laws of the definitions. Each function's contract is the law; its body does nothing.
 
-ghost use Rattle.std.specs.Prelude.{ℕ, ◌≡◌, ◌↔◌, List, Bool, IsTrue, Some};
+ghost use Rattle.std.specs.Prelude.{ℕ, ◌≡◌, ◌↔◌, List, Bool, IsTrue, All, AllPairs, Some};
 ghost use Rattle.of10_model.specs.declared.pattern.Pattern.{Pattern};
 ghost use Rattle.of10_model.specs.Normal.{IsNormal};
 ghost use Rattle.flow_book.specs.declared.booked.Booked.{Booked as BookedPair};
 ghost use Rattle.flow_book.specs.Books.{BookCall, is_booked, book, booking};
-ghost use Rattle.flow_book.specs.Pairs.{IsLastBooked, IsFirstBooked};
+ghost use Rattle.flow_book.specs.Pairs.{IsLastBooked, IsFirstBooked, HasPieces, IsSamePair};
 
 /// A pair is booked exactly where the last call that books or releases it books it.
 pub fn pair_is_booked_by_the_last_call()
@@ -17,4 +17,10 @@ pub fn pair_is_booked_by_the_last_call()
 pub fn booked_pair_is_as_its_calls_say()
     ensures asked { (pattern : Pattern) (priority : ℕ) (calls : List BookCall) (b : BookedPair) → IsNormal pattern → booking pattern priority calls ≡ Some b → IsLastBooked pattern priority b.asked calls }
     ensures number { (pattern : Pattern) (priority : ℕ) (calls : List BookCall) (b : BookedPair) → IsNormal pattern → booking pattern priority calls ≡ Some b → IsFirstBooked pattern priority b.number calls }
+{}
+
+/// No two booked entries have the same match and priority, after any calls whose flow-mods have no piece
+/// twice.
+pub fn each_pair_is_booked_once()
+    ensures { (calls : List BookCall) → All HasPieces calls → AllPairs (λ a b. IsSamePair a b → ⊥) (book calls) }
 {}
