@@ -1,5 +1,5 @@
 -- A book has each pair at most once.
-use Rattle.std.proofs.Common.{ℕ, ◌≡◌, ◌<◌, ◌==◌, ◌&&◌, not, List, [], ◌∷◌, ◌++◌, zero, suc, length, get_or, map, Bool, refl, sym, ap, subst, ◌∙◌, arith, true, false, if◌then◌else◌, inl, inr}
+use Rattle.std.proofs.Common.{ℕ, ◌≡◌, ◌<◌, ◌==◌, ◌&&◌, not, List, [], ◌∷◌, ◌++◌, zero, suc, length, get_or, map, Bool, refl, sym, ◌∙◌, arith, false, inl, inr}
 use Rattle.std.specs.Prelude.{filter, find, All, AllPairs}
 use Rattle.std.specs.List.{list_any}
 use Rattle.std.proofs.lemmas.Bool.{cases_Bool, both_ways, or_parts}
@@ -14,10 +14,10 @@ use Rattle.flow_book.specs.Adding.{AreNew}
 use Rattle.flow_book.specs.Pairs.{ArePieces, HasPieces, IsSamePair}
 use Rattle.flow_book.proofs.SamePairs.{pair_from}
 use Rattle.flow_book.proofs.Steps.{fresh_of}
-use Rattle.flow_book.proofs.Standing.{again_pair, fresh_new}
+use Rattle.flow_book.proofs.Standing.{fresh_new}
 
 -- no pair is another
-abbrev Apart : List Booked → Type 0
+abbrev pub Apart : List Booked → Type 0
 Apart xs = AllPairs (λ a b. IsSamePair a b → ⊥) xs
 
 not_same : (a b : Booked) → is_pair a.pattern a.priority b ≡ false → IsSamePair a b → ⊥
@@ -31,7 +31,7 @@ unbooked_apart x (y ∷ ys) out =
     All-cons (λ y. IsSamePair x y → ⊥) y ys (not_same x y p.0) (unbooked_apart x ys p.1)
 
 -- new pairs come to pairs that are apart
-new_apart : (fresh booked : List Booked) → AreNew fresh booked → Apart booked → Apart (fresh ++ booked)
+pub new_apart : (fresh booked : List Booked) → AreNew fresh booked → Apart booked → Apart (fresh ++ booked)
 new_apart [] booked new apart = apart
 new_apart (x ∷ xs) booked new apart =
     let rest : AreNew xs booked = record {

@@ -1,4 +1,4 @@
-ghost use Rattle.std.specs.Prelude.{◌≡◌, ◌≢◌, ◌<◌, ◌≤◌, AllPairs, length, IsTrue};
+ghost use Rattle.std.specs.Prelude.{◌≡◌, ◌≢◌, ◌+◌, ◌<◌, ◌≤◌, All, AllPairs, length, IsTrue};
 
 use super::*;
 use flowspace::{Slice, Text};
@@ -61,9 +61,9 @@ fn add(
     number: u64,
 ) -> Result<(), AllocError>
     requires distinct { AllPairs (λ a b. a ≢ b) pieces.now }
-    requires few { length pieces.now ≤ 2 }
+    requires few { length pieces.now ≤ 100 }
 {
-    book.reserve(2)?;
+    book.reserve(100)?;
     if book.count() < 1000 {
         book.added(command, pieces, priority, asked, number);
     }
@@ -463,6 +463,56 @@ fn answers_as_a_plain_list(rt: HostRuntime) -> Result<(), Fail> {
     for case in CASES {
         let times = both.times(case);
         assert!(rt; times >= 50, "{case:?} {times} times");
+    }
+    Ok(())
+}
+
+// Whether each piece is another match.
+fn all_differ(pieces: &[Match], piece: &Match) -> bool
+    ensures { IsTrue result → All (λ other. other ≢ piece.now) pieces.now }
+{
+    for other in pieces {
+        if !differ(other, piece) {
+            return false;
+        }
+    }
+    true
+}
+
+// Appends the piece where it isn't among them.
+fn push_apart(pieces: &mut Vec<Match>, piece: Match) -> Result<(), AllocError>
+    requires { AllPairs (λ a b. a ≢ b) pieces.old.items }
+    ensures distinct { AllPairs (λ a b. a ≢ b) pieces.new.items }
+    ensures few { length pieces.new.items ≤ length pieces.old.items + 1 }
+{
+    if all_differ(pieces, &piece) {
+        pieces.push(piece)?;
+    }
+    Ok(())
+}
+
+#[test]
+fn many_come_to_the_book_at_once(rt: HostRuntime) -> Result<(), Fail> {
+    let mut pieces = Vec::new(rt.alloc());
+    for step in 0..96u16 {
+        push_apart(&mut pieces, matching(0x0030_3f4f, step * 37 % 97))?;
+    }
+    let mut book = FlowBook::new(rt.alloc());
+    for port in [0u16, 48, 96] {
+        add(&mut book, ADD, &[matching(0x0030_3f4f, port)], 5, true, 7)?;
+    }
+    add(&mut book, ADD, &pieces, 5, false, 8)?;
+    assert_eq!(rt; book.count(), 96);
+    for port in 0..97u16 {
+        let pattern = matching(0x0030_3f4f, port);
+        let number = match port {
+            0 | 48 | 96 => Some(7),
+            // 96 times 37 is 60 modulo 97
+            60 => None,
+            _ => Some(8),
+        };
+        let booked = book.booked(&pattern, 5);
+        assert_eq!(rt; booked.map(|booked| booked.number), number, "at {port}");
     }
     Ok(())
 }
