@@ -65,6 +65,29 @@ fn the_oldest_of_4097_is_forgotten(rt: HostRuntime) -> Result<(), Fail> {
     Ok(())
 }
 
+// Marks the request in both, as failed or as done.
+fn mark_both(map: &mut XidMap, requests: &mut [Issued], number: u64, failed: bool)
+    ensures { map.new.issued ≡ map.old.issued }
+{
+    if failed {
+        map.mark_error(number);
+    } else {
+        map.mark_done(number);
+    }
+    mark(requests, number, failed, !failed);
+}
+
+fn push(requests: &mut Vec<Issued>, number: u64, asked: Asked) -> Result<(), AllocError> {
+    let (failed, done) = (false, false);
+    requests.push(Issued {
+        number,
+        asked,
+        failed,
+        done,
+    })?;
+    Ok(())
+}
+
 #[test]
 fn finds_as_the_list_of_all_requests(rt: HostRuntime) -> Result<(), Fail> {
     let mut draws = Draws { state: 2 };
@@ -80,24 +103,14 @@ fn finds_as_the_list_of_all_requests(rt: HostRuntime) -> Result<(), Fail> {
                 requests.clear();
                 forgets = forgets.saturating_add(1);
             }
-            1..200 => {
-                map.mark_error(other);
-                mark(&mut requests, other, true, false);
-            }
-            200..400 => {
-                map.mark_done(other);
-                mark(&mut requests, other, false, true);
+            1..400 => {
+                let failed = draws.below(2) == 0;
+                mark_both(&mut map, &mut requests, other, failed);
             }
             _ => {
                 let asked = asked(step, AskKind::Flow);
                 assert_eq!(rt; map.issue(asked), physical);
-                let (failed, done) = (false, false);
-                requests.push(Issued {
-                    number,
-                    asked,
-                    failed,
-                    done,
-                })?;
+                push(&mut requests, number, asked)?;
             }
         }
         let sought = 0x0500_0000 + (other % 0x0100_0000) as u32;
@@ -106,9 +119,7 @@ fn finds_as_the_list_of_all_requests(rt: HostRuntime) -> Result<(), Fail> {
         if answer.is_some_and(|request| request.failed || request.done) {
             hits = hits.saturating_add(1);
         }
-        if requests.len() > 4096 {
-            wraps = wraps.saturating_add(1);
-        }
+        wraps = wraps.saturating_add(u32::from(requests.len() > 4096));
     }
     assert!(rt; hits > 100, "{hits} of the requests found were marked");
     assert!(rt;
