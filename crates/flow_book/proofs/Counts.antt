@@ -44,7 +44,7 @@ module _ {X : Type 0} where
   filter_all [] = refl
   filter_all (x ∷ xs) = ap (λ l. x ∷ l) (filter_all xs)
 
-  any_is_passing : (test : X → Bool) (xs : List X) → list_any test xs ≡ ltb 0 (passing test xs)
+  pub any_is_passing : (test : X → Bool) (xs : List X) → list_any test xs ≡ ltb 0 (passing test xs)
   any_is_passing test [] = refl
   any_is_passing test (x ∷ xs) = elim (cases_Bool (test x)) [
     | inl passes ↦ rw passes (sym (lt-ltb 0 (length (x ∷ filter test xs)) (omega arith)))

@@ -179,7 +179,7 @@ IsInOrder-filter test xs o = record {
 All-insert : (P : Booked → Type 0) (xs : List Booked) (i : ℕ) (y : Booked) → P y → All P xs → All P (insert xs i y)
 All-insert P xs i y here all = All-permutation P (y ∷ xs) (insert xs i y) (IsPermutation-insert xs i y) (All-cons P y xs here all)
 
-turned : (a b : Booked) → order a b ≡ Greater → order b a ≡ Less
+pub turned : (a b : Booked) → order a b ≡ Greater → order b a ≡ Less
 turned a b e = key_cmp_total.antisymm (key_of b) (key_of a) ∙ ap ordering_reverse e
 
 ascending-insert : (xs : List Booked) (i : ℕ) (y : Booked) → IsStrictlySortedBy order xs → IsGapFor xs y.pattern y.priority i → IsStrictlySortedBy order (insert xs i y)

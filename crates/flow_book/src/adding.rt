@@ -12,6 +12,10 @@ use crate::pairs::is_newcomer;
 use of10_flow::protocol::ADD;
 use of10_match::Match;
 
+/// So many newcomers are put to their places together, since each alone moves all entries behind it. For
+/// fewer the moves are cheaper than the comparisons of a sort.
+const MANY: usize = 64;
+
 /// Appends the entry, for which there is room.
 fn push(fresh: &mut Vec<Entry>, entry: Entry)
     requires { vec_len fresh.old < vec_capacity fresh.old }
@@ -117,8 +121,8 @@ fn settle(entries: &mut Vec<Entry>, entry: Entry)
     }
 }
 
-/// Puts entries of pairs that aren't booked to their places. There is room for them.
-pub(crate) fn settle_all(entries: &mut Vec<Entry>, fresh: &mut Vec<Entry>)
+/// Puts entries of pairs that aren't booked to their places, one by one. There is room for them.
+fn settle_each(entries: &mut Vec<Entry>, fresh: &mut Vec<Entry>)
     requires order { IsInOrder entries.old.items }
     requires unbooked { AreNew fresh.old.items entries.old.items }
     requires room { vec_len entries.old + vec_len fresh.old ≤ vec_capacity entries.old }
@@ -132,5 +136,46 @@ pub(crate) fn settle_all(entries: &mut Vec<Entry>, fresh: &mut Vec<Entry>)
 {
     while let Some(entry) = fresh.pop() {
         settle(entries, entry);
+    }
+}
+
+/// Appends entries of pairs that aren't booked, and puts all to their places. There is room for them.
+fn settle_together(entries: &mut Vec<Entry>, fresh: &mut Vec<Entry>)
+    requires order { IsInOrder entries.old.items }
+    requires unbooked { AreNew fresh.old.items entries.old.items }
+    requires normal { All (λ b. IsNormal b.pattern) fresh.old.items }
+    requires room { vec_len entries.old + vec_len fresh.old ≤ vec_capacity entries.old }
+    ensures added { IsPermutation (fresh.old.items ++ entries.old.items) entries.new.items }
+    ensures order { IsInOrder entries.new.items }
+    ensures len { vec_len entries.new ≡ vec_len entries.old + vec_len fresh.old }
+    ensures capacity { vec_capacity entries.old ≤ vec_capacity entries.new }
+    ensures empty { fresh.new.items ≡ [] }
+    ensures emptied { vec_len fresh.new ≡ 0 }
+    ensures fresh_capacity { vec_capacity fresh.new ≡ vec_capacity fresh.old }
+{
+    match entries.append(fresh) {
+        Ok(()) => entries.sort_unstable_by(|one, other| one.order(other)),
+        Err(_) => unreachable!(),
+    }
+}
+
+/// Puts entries of pairs that aren't booked to their places. There is room for them.
+pub(crate) fn settle_all(entries: &mut Vec<Entry>, fresh: &mut Vec<Entry>)
+    requires order { IsInOrder entries.old.items }
+    requires unbooked { AreNew fresh.old.items entries.old.items }
+    requires normal { All (λ b. IsNormal b.pattern) fresh.old.items }
+    requires room { vec_len entries.old + vec_len fresh.old ≤ vec_capacity entries.old }
+    ensures added { IsPermutation (fresh.old.items ++ entries.old.items) entries.new.items }
+    ensures order { IsInOrder entries.new.items }
+    ensures len { vec_len entries.new ≡ vec_len entries.old + vec_len fresh.old }
+    ensures capacity { vec_capacity entries.old ≤ vec_capacity entries.new }
+    ensures empty { fresh.new.items ≡ [] }
+    ensures emptied { vec_len fresh.new ≡ 0 }
+    ensures fresh_capacity { vec_capacity fresh.new ≡ vec_capacity fresh.old }
+{
+    if fresh.len() < MANY {
+        settle_each(entries, fresh);
+    } else {
+        settle_together(entries, fresh);
     }
 }

@@ -6,7 +6,7 @@ ghost use Rattle.std.specs.Cmp.Lexicographic.{slice_cmp};
 ghost use Rattle.of10_model.specs.declared.pattern.Pattern.{Pattern};
 ghost use Rattle.of10_model.specs.Normal.{IsNormal, Norm};
 ghost use Rattle.of10_model.specs.Spelling.{Spell};
-ghost use Rattle.flow_book.specs.Order.{IsInOrder, IsAt, IsGapFor};
+ghost use Rattle.flow_book.specs.Order.{order, IsInOrder, IsAt, IsGapFor};
 
 use crate::booked::Booked;
 use of10_match::Match;
@@ -63,6 +63,13 @@ impl Entry {
             Ordering::Equal => self.spelled.cmp(spelled),
             other => other,
         }
+    }
+
+    /// How the entry's pair stands to the other's.
+    pub(crate) fn order(&self, other: &Entry) -> Ordering
+        ensures { result ≡ order self.now other.now }
+    {
+        self.stands_to(other.booked.priority, &other.spelled)
     }
 }
 

@@ -1,7 +1,7 @@
 use Rattle.std.proofs.Common.{◌≡◌, ◌+◌, ◌≤◌}
 use Rattle.std.specs.Prelude.{vec_len, vec_capacity}
 use Rattle.flow_book.proofs.Steps.{Settling}
-use Rattle.flow_book.proofs.adding.settle_all.Given as goal
+use Rattle.flow_book.proofs.adding.settle_each.Given as goal
 
 abbrev pub invariant-loop-entry : goal.invariant-loop-entry
 invariant-loop-entry l =

@@ -1,6 +1,6 @@
 use Rattle.std.proofs.Common.{arith, subst, ◌∙◌}
 use Rattle.flow_book.proofs.Steps.{Settling, settle_more}
-use Rattle.flow_book.proofs.adding.settle_all.Goals as goal
+use Rattle.flow_book.proofs.adding.settle_each.Goals as goal
 
 pub loop-entry-preserved : goal.loop-entry-preserved
 loop-entry-preserved c = (
