@@ -1,0 +1,6 @@
+pub mod Messages
+pub mod AnswerSizes
+pub mod Ports
+pub mod Items
+pub mod Lane
+pub mod Fitting

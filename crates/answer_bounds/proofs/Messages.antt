@@ -1,0 +1,92 @@
+-- Few messages, and how long those are that this proxy makes.
+use Rattle.std.proofs.Common.{ℕ, suc, ◌+◌, ◌*◌, ◌≤◌, List, [], ◌∷◌, ◌++◌, length, take, drop, Bool, true, false, if◌then◌else◌, arith}
+use Rattle.std.specs.List.{All}
+use Rattle.std.proofs.lemmas.List.{length-append, length-take, length-drop}
+use Rattle.std.proofs.lemmas.List.Elements.{All-nil, All-cons, All-head, All-tail, All-append}
+use Rattle.std.proofs.lemmas.List.Sums.{sum_by-cons}
+use Rattle.byteorder.specs.Endian.{big_bytes}
+use Rattle.of10_ctl.specs.declared.kind.TheConstants.{ECHO_REPLY, GET_CONFIG_REPLY}
+use Rattle.of10_ctl.specs.Frames.{message_of, error_of}
+use Rattle.of10_ctl.proofs.Reading.{length-message}
+use Rattle.of10_flow.specs.declared.packet_in.PacketIn.{PacketIn}
+use Rattle.of10_flow.specs.PacketIns.{spell_packet_in}
+use Rattle.of10_port.specs.declared.features.Features.{Features}
+use Rattle.of10_port.specs.declared.status.PortStatus.{PortStatus}
+use Rattle.of10_port.specs.Ports.{IsPort}
+use Rattle.of10_port.specs.Features.{spell_features}
+use Rattle.of10_port.specs.PortStatus.{spell_port_status}
+use Rattle.of10_port.proofs.Pieces.{length-port_bytes}
+use Rattle.of10_port.proofs.Again.{IsOf-features, IsOf-port_status}
+use Rattle.outbox.specs.Queues.{size}
+use Rattle.answer_bounds.specs.Bounds.{AreFew}
+
+-- ---- few messages
+
+-- a message has no more bytes than a length field can say
+abbrev pub IsShort : List ℕ → Type 0
+IsShort message = length message ≤ 65535
+
+pub few-none : (most : ℕ) → AreFew most []
+few-none most = record { few = omega arith; short = All-nil IsShort }
+
+pub few-one : (message : List ℕ) → IsShort message → AreFew 1 (message ∷ [])
+few-one message short = record { few = omega arith; short = All-cons IsShort message [] short (All-nil IsShort) }
+
+pub few-append : (m n : ℕ) (some others : List (List ℕ)) → AreFew m some → AreFew n others → AreFew (m + n) (some ++ others)
+few-append m n some others a b =
+    let whole = length-append some others in
+    let front = a.few in
+    let back = b.few in
+    record { few = omega arith; short = All-append IsShort some others a.short b.short }
+
+pub few-more : (m n : ℕ) (messages : List (List ℕ)) → m ≤ n → AreFew m messages → AreFew n messages
+few-more m n messages more a =
+    let few = a.few in
+    record { few = omega arith; short = a.short }
+
+-- one message at most in front of others
+pub few-next : (n : ℕ) (some others : List (List ℕ)) → AreFew 1 some → AreFew n others → AreFew (suc n) (some ++ others)
+few-next n some others a b = few-more (1 + n) (suc n) (some ++ others) (omega arith) (few-append 1 n some others a b)
+
+-- either of two lists
+pub few-either : (most : ℕ) (b : Bool) (some others : List (List ℕ)) → AreFew most some → AreFew most others → AreFew most (if b then some else others)
+few-either most true some others a b = a
+few-either most false some others a b = b
+
+pub size-short : (messages : List (List ℕ)) → All IsShort messages → size messages ≤ 65535 * length messages
+size-short [] h = omega arith
+size-short (message ∷ later) h =
+    let all = sum_by-cons length message later in
+    let one = All-head IsShort message later h in
+    let rest = size-short later (All-tail IsShort message later h) in
+    omega arith
+
+-- ---- how long messages are
+
+pub short-message : (kind xid : ℕ) (body : List ℕ) → length body ≤ 65527 → IsShort (message_of kind xid body)
+short-message kind xid body small = omega (arith, length-message kind xid body)
+
+-- an echo's reply is as long as the request
+pub short-echo : (xid : ℕ) (message : List ℕ) → IsShort message → IsShort (message_of ECHO_REPLY xid (drop 8 message))
+short-echo xid message short =
+    let rest = length-drop 8 message in
+    short-message ECHO_REPLY xid (drop 8 message) (omega arith)
+
+pub short-config : (xid wanted : ℕ) → IsShort (message_of GET_CONFIG_REPLY xid (big_bytes 2 0 ++ big_bytes 2 wanted))
+short-config xid wanted = short-message GET_CONFIG_REPLY xid (big_bytes 2 0 ++ big_bytes 2 wanted) (omega arith)
+
+-- an error carries at most 64 bytes
+pub short-error : (xid class code : ℕ) (cause : List ℕ) → IsShort (error_of xid class code cause)
+short-error xid class code cause =
+    let carried = length-take 64 cause in
+    short-message 1 xid (big_bytes 2 class ++ (big_bytes 2 code ++ take 64 cause)) (omega arith)
+
+pub short-features : (f : Features) (xid : ℕ) → All IsPort f.ports → length f.ports ≤ 1364 → IsShort (spell_features f xid)
+short-features f xid ports few = (IsOf-features f xid (length-port_bytes f.ports ports) few).0.small
+
+pub short-status : (status : PortStatus) (xid : ℕ) → IsPort status.port → IsShort (spell_port_status status xid)
+short-status status xid whole = (IsOf-port_status status xid whole).0.small
+
+pub short-packet : (packet : PacketIn) → 18 + length packet.payload ≤ 65535 → IsShort (spell_packet_in packet)
+unfolding spell_packet_in
+short-packet packet fits = omega arith

@@ -1,0 +1,221 @@
+-- The ports that a slice knows are no more than fit a FEATURES_REPLY, each of 48 bytes.
+use Rattle.std.proofs.Common.{◌≡◌, ℕ, zero, suc, ◌/◌, ◌==◌, ◌≤◌, nat_lt, not, Bool, true, false, if◌then◌else◌, inl, inr, List, [], ◌∷◌, length, drop, refl, ap, sym, subst, eqb-true, Option, Some, None, IfSome, arith}
+use Rattle.std.specs.Prelude.{fold}
+use Rattle.std.specs.List.{All}
+use Rattle.std.specs.Simd.{first_chunks}
+use Rattle.std.proofs.lemmas.Bool.{cases_Bool}
+use Rattle.std.proofs.lemmas.List.{length-drop}
+use Rattle.std.proofs.lemmas.List.Elements.{All-nil, All-cons, All-head, All-tail, All-append, All-filter}
+use Rattle.std.proofs.lemmas.List.Filters.{length-filter_both}
+use Rattle.of10_ctl.specs.declared.kind.TheConstants.{FEATURES_REPLY, PORT_STATUS}
+use Rattle.of10_port.specs.declared.features.Features.{Features}
+use Rattle.of10_port.specs.declared.status.PortStatus.{PortStatus}
+use Rattle.of10_port.specs.Ports.{IsPort, port_number, ports_in}
+use Rattle.of10_port.specs.Features.{has_whole_ports, read_features}
+use Rattle.of10_port.specs.PortStatus.{read_port_status}
+use Rattle.of10_port.proofs.Pieces.{IsPort-ports_in}
+use Rattle.flowspace.specs.declared.rules.Rule.{Rule}
+use Rattle.flowspace.specs.Owners.{has_port}
+use Rattle.flowspace.specs.Policies.{PolicyView}
+use Rattle.port_view.specs.KnownPorts.{is_known_number, is_of_number, ports_below, ports_above, with_port, without_port, with_told, first_known, kept_of, changed_plainly, changed}
+use Rattle.port_view.specs.SlicePorts.{ports_of_slice}
+use Rattle.port_view.proofs.Knowing.{cases_kept, changed-kept, changed-not_kept}
+use Rattle.slice_words.specs.Items.{Item, known_ports}
+use Rattle.desk_words.specs.declared.event.Event.{Event}
+use Rattle.desk_words.specs.declared.event.Event.TheVariants.{SwitchUp, SwitchMsg, SwitchDown, SliceUp, SliceMsg, SliceDown}
+use Rattle.desk_words.specs.declared.event.Timed.{Timed}
+use Rattle.desk_words.specs.declared.phase.Phase.{Phase}
+use Rattle.desk_words.specs.declared.phase.Phase.TheVariants.{Fresh, Begun, Opened, Ended}
+use Rattle.desk_words.specs.Openings.{is_of, well_formed, features_told, status_told, phase_of, opening_after, opening_of, known_after, known_of}
+use Rattle.desk_words.specs.Histories.{is_slot, settings_at, Side, view_of}
+use Rattle.desk_words.specs.Laws.{HasSeen}
+use Rattle.desk_words.proofs.Alone.{blind}
+use Rattle.desk_words.proofs.Seen.{seen, in_order}
+use Rattle.answer_bounds.specs.Bounds.{IsFramed, AreFramed}
+use Rattle.answer_bounds.proofs.AnswerSizes.{HasFewPorts}
+
+-- ---- what messages tell of ports
+
+-- the ports of features have 48 bytes each
+abbrev HasWhole : Features → Type 0
+HasWhole features = All IsPort features.ports
+
+-- they fit a FEATURES_REPLY
+abbrev HasFew : Features → Type 0
+HasFew features = length features.ports ≤ 1364
+
+-- the port of a status has 48 bytes
+abbrev pub IsWhole : PortStatus → Type 0
+IsWhole status = IsPort status.port
+
+if_told : {A : Type 0} (P : A → Type 0) (b : Bool) (told : Option A) → IfSome told P → IfSome (if b then told else None) P
+if_told P true told h = h
+if_told P false told h = tt
+
+read_whole : (message : List ℕ) → IfSome (well_formed (read_features message)) HasWhole
+unfolding read_features
+read_whole message = elim (cases_Bool (has_whole_ports message)) [
+  | inl is ↦ rw is (IsPort-ports_in (drop 32 message))
+  | inr isnt ↦ rw isnt tt
+]
+
+told_whole : (message : List ℕ) → IfSome (features_told message) HasWhole
+told_whole message = if_told HasWhole (is_of FEATURES_REPLY message) (well_formed (read_features message)) (read_whole message)
+
+length-chunks : (k : ℕ) (bytes : List ℕ) → length (first_chunks 48 k bytes) ≡ k
+length-chunks zero bytes = refl
+length-chunks (suc k) bytes = ap suc (length-chunks k (drop 48 bytes))
+
+length-ports_in : (bytes : List ℕ) → length (ports_in bytes) ≡ length bytes / 48
+unfolding ports_in
+length-ports_in bytes = length-chunks (length bytes / 48) bytes
+
+few_in : (message : List ℕ) → length message ≤ 65535 → length (ports_in (drop 32 message)) ≤ 1364
+few_in message short =
+    let rest = length-drop 32 message in
+    let count = length-ports_in (drop 32 message) in
+    omega arith
+
+read_few : (message : List ℕ) → length message ≤ 65535 → IfSome (well_formed (read_features message)) HasFew
+unfolding read_features
+read_few message short = elim (cases_Bool (has_whole_ports message)) [
+  | inl is ↦ rw is (few_in message short)
+  | inr isnt ↦ rw isnt tt
+]
+
+told_few : (message : List ℕ) → length message ≤ 65535 → IfSome (features_told message) HasFew
+told_few message short = if_told HasFew (is_of FEATURES_REPLY message) (well_formed (read_features message)) (read_few message short)
+
+read_status : (message : List ℕ) → IfSome (well_formed (read_port_status message)) IsWhole
+unfolding read_port_status
+read_status message = elim (cases_Bool (length message == 64)) [
+  | inl is ↦ (let long = eqb-true (length message) 64 is in let rest = length-drop 16 message in rw is (omega arith))
+  | inr isnt ↦ rw isnt tt
+]
+
+pub told_status : (message : List ℕ) → IfSome (status_told message) IsWhole
+told_status message = if_told IsWhole (is_of PORT_STATUS message) (well_formed (read_port_status message)) (read_status message)
+
+-- ---- each known port has 48 bytes
+
+whole_either : (b : Bool) (some others : List (List ℕ)) → All IsPort some → All IsPort others → All IsPort (if b then some else others)
+whole_either true some others a b = a
+whole_either false some others a b = b
+
+whole_with : (port : List ℕ) (known : List (List ℕ)) → IsPort port → All IsPort known → All IsPort (with_port port known)
+unfolding with_port
+whole_with port known one all =
+    All-append IsPort (ports_below (port_number port) known) (port ∷ ports_above (port_number port) known)
+    (All-filter (λ other. nat_lt (port_number other) (port_number port)) IsPort known all)
+    (All-cons IsPort port (ports_above (port_number port) known) one (All-filter (λ other. nat_lt (port_number port) (port_number other)) IsPort known all))
+
+whole_without : (number : ℕ) (known : List (List ℕ)) → All IsPort known → All IsPort (without_port number known)
+unfolding without_port
+whole_without number known all = All-filter (λ port. not (is_of_number number port)) IsPort known all
+
+whole_told : (known : List (List ℕ)) (port : List ℕ) → All IsPort known → IsPort port → All IsPort (with_told known port)
+whole_told known port all one = whole_either (is_known_number (port_number port)) (with_port port known) known (whole_with port known one all) all
+
+whole_fold : (ports known : List (List ℕ)) → All IsPort ports → All IsPort known → All IsPort (fold with_told known ports)
+whole_fold [] known ports all = all
+whole_fold (port ∷ later) known ports all =
+    whole_fold later (with_told known port) (All-tail IsPort port later ports) (whole_told known port all (All-head IsPort port later ports))
+
+whole_first : (ports : List (List ℕ)) → All IsPort ports → All IsPort (first_known ports)
+unfolding first_known
+whole_first ports all = whole_fold ports [] all (All-nil IsPort)
+
+whole_plainly : (status : PortStatus) (known : List (List ℕ)) → IsWhole status → All IsPort known → All IsPort (changed_plainly status known)
+unfolding changed_plainly
+whole_plainly status known one all =
+    whole_either (status.reason == 1) (without_port (port_number status.port) known) (with_port status.port known)
+    (whole_without (port_number status.port) known all) (whole_with status.port known one all)
+
+whole_changed : (status : PortStatus) (known : List (List ℕ)) → IsWhole status → All IsPort known → All IsPort (changed status known)
+whole_changed status known one all = elim (cases_kept (kept_of status known)) [
+  | inl is ↦ rw (changed-kept status known is) (whole_plainly status known one all)
+  | inr isnt ↦ rw (changed-not_kept status known isnt) all
+]
+
+whole_begun : (known : List (List ℕ)) (told : Option Features) → IfSome told HasWhole → All IsPort known
+    → All IsPort (elim told [ None ↦ known | Some features ↦ first_known features.ports ])
+whole_begun known None has all = all
+whole_begun known (Some features) has all = whole_first features.ports has
+
+whole_opened : (known : List (List ℕ)) (told : Option PortStatus) → IfSome told IsWhole → All IsPort known
+    → All IsPort (elim told [ None ↦ known | Some status ↦ changed status known ])
+whole_opened known None has all = all
+whole_opened known (Some status) has all = whole_changed status known has all
+
+whole_after : (phase : Phase) (known : List (List ℕ)) (event : Event) → All IsPort known → All IsPort (known_after phase known event)
+whole_after Fresh known event all = all
+whole_after Ended known event all = all
+whole_after Begun known (SwitchMsg message) all = whole_begun known (features_told message) (told_whole message) all
+whole_after Begun known SwitchUp all = all
+whole_after Begun known SwitchDown all = all
+whole_after Begun known (SliceUp slot) all = all
+whole_after Begun known (SliceMsg slot message) all = all
+whole_after Begun known (SliceDown slot) all = all
+whole_after Opened known (SwitchMsg message) all = whole_opened known (status_told message) (told_status message) all
+whole_after Opened known SwitchUp all = all
+whole_after Opened known SwitchDown all = all
+whole_after Opened known (SliceUp slot) all = all
+whole_after Opened known (SliceMsg slot message) all = all
+whole_after Opened known (SliceDown slot) all = all
+
+whole_known : (h : List Timed) → All IsPort (known_of h)
+whole_known [] = All-nil IsPort
+whole_known (timed ∷ h) = whole_after (phase_of h) (known_of h) timed.event (whole_known h)
+
+-- ---- there are no more than fit a FEATURES_REPLY
+
+few_after : (phase : Phase) (told : Option Features) (event : Event) → IfSome told HasFew → IsFramed event → IfSome (opening_after phase told event) HasFew
+few_after phase (Some features) event has framed = has
+few_after Fresh None event has framed = tt
+few_after Opened None event has framed = tt
+few_after Ended None event has framed = tt
+few_after Begun None (SwitchMsg message) has framed = told_few message framed.small
+few_after Begun None SwitchUp has framed = tt
+few_after Begun None SwitchDown has framed = tt
+few_after Begun None (SliceUp slot) has framed = tt
+few_after Begun None (SliceMsg slot message) has framed = tt
+few_after Begun None (SliceDown slot) has framed = tt
+
+few_opening : (h : List Timed) → AreFramed h → IfSome (opening_of h) HasFew
+few_opening [] framed = tt
+few_opening (timed ∷ h) framed =
+    few_after (phase_of h) (opening_of h) timed.event (few_opening h (All-tail (λ t. IsFramed t.event) timed h framed)) (All-head (λ t. IsFramed t.event) timed h framed)
+
+few_known : (h : List Timed) → AreFramed h → length (known_of h) ≤ 1364
+few_known h framed = (in_order h).few (few_opening h framed)
+
+-- ---- the slice's own of them
+
+few_own : (rules : List Rule) (slot : ℕ) (known : List (List ℕ)) → length known ≤ 1364 → length (ports_of_slice rules slot known) ≤ 1364
+few_own rules slot known few =
+    let parts = length-filter_both (λ port. has_port rules slot (port_number port)) (λ port. not (has_port rules slot (port_number port))) (λ port. refl) known in
+    omega arith
+
+whole_own : (rules : List Rule) (slot : ℕ) (known : List (List ℕ)) → All IsPort known → All IsPort (ports_of_slice rules slot known)
+whole_own rules slot known all = All-filter (λ port. has_port rules slot (port_number port)) IsPort known all
+
+-- a view that knows the slice's own of these ports
+few_view : (view : List Item) (rules : List Rule) (slot : ℕ) (known : List (List ℕ)) → known_ports view ≡ ports_of_slice rules slot known
+    → length known ≤ 1364 → All IsPort known → HasFewPorts view
+few_view view rules slot known is few all = record {
+  few = rw is (few_own rules slot known few);
+  whole = rw is (whole_own rules slot known all);
+}
+
+few_start : HasFewPorts []
+few_start = record { few = omega arith; whole = All-nil IsPort }
+
+few_by : (policy : PolicyView) (slot : ℕ) (h : List Timed) (told : Option Features) → opening_of h ≡ told → AreFramed h → is_slot policy slot ≡ true → HasFewPorts (view_of policy slot h)
+few_by policy slot h None is framed here = subst (λ (side : Side). HasFewPorts side.sight.view) (sym (blind policy slot h is)) few_start
+few_by policy slot h (Some features) is framed here =
+    let s = settings_at policy slot (Some features) in
+    let has : HasSeen policy slot h features = seen policy slot h features is here in
+    few_view (view_of policy slot h) s.rules s.slot (known_of h) has.ports_known (few_known h framed) (whole_known h)
+
+pub few_ports : (policy : PolicyView) (slot : ℕ) (h : List Timed) → AreFramed h → is_slot policy slot ≡ true → HasFewPorts (view_of policy slot h)
+few_ports policy slot h framed here = few_by policy slot h (opening_of h) refl framed here

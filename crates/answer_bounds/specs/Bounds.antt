@@ -1,0 +1,36 @@
+-- What follows from one event is few messages, and they fit the limits of the queues.
+use Rattle.std.specs.Prelude.{ℕ, ◌≤◌, List, length}
+use Rattle.std.specs.List.{All}
+use Rattle.of10_ctl.specs.Frames.{IsFrame}
+use Rattle.flowspace.specs.Policies.{PolicyView}
+use Rattle.outbox.specs.Queues.{size}
+use Rattle.desk_words.specs.declared.event.Event.{Event}
+use Rattle.desk_words.specs.declared.event.Event.TheVariants.{SwitchMsg, SliceMsg}
+use Rattle.desk_words.specs.declared.event.Timed.{Timed}
+use Rattle.desk_words.specs.Sent.{sent_by, lane_by}
+use Rattle.desk_words.specs.Operations.{slice_limit, lane_limit}
+
+-- the message of an event is a frame; other events have none
+abbrev pub IsFramed : Event → Type 0
+IsFramed (SwitchMsg message) = IsFrame message
+IsFramed (SliceMsg slot message) = IsFrame message
+IsFramed event = Unit {0}
+
+-- so are those of a history
+abbrev pub AreFramed : List Timed → Type 0
+AreFramed h = All (λ timed. IsFramed timed.event) h
+
+-- what follows from an event after a history fits the limits: for the switch, and for each slice
+pub record Fits (policy : PolicyView) (h : List Timed) (timed : Timed) : Type 0 where
+  pub lane : size (lane_by policy h timed) ≤ lane_limit
+  pub slices : (slot : ℕ) → size (sent_by policy slot h timed) ≤ slice_limit
+
+-- no more messages than that, each of no more bytes than a length field can say (OpenFlow 1.0.0, section 5.1)
+pub record AreFew (most : ℕ) (messages : List (List ℕ)) : Type 0 where
+  pub few : length messages ≤ most
+  pub short : All (λ message. length message ≤ 65535) messages
+
+-- what follows from an event after a history is at most three messages for the switch, and two for each slice
+pub record SendsFew (policy : PolicyView) (h : List Timed) (timed : Timed) : Type 0 where
+  pub lane : AreFew 3 (lane_by policy h timed)
+  pub slices : (slot : ℕ) → AreFew 2 (sent_by policy slot h timed)
