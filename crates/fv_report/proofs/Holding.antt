@@ -1,0 +1,257 @@
+-- What a desk stands for after a take and after a step.
+use Rattle.std.proofs.Common.{◌≡◌, ◌≤◌, ◌+◌, ◌==◌, ◌||◌, ◌&&◌, not, ltb, ℕ, Bool, true, false, if◌then◌else◌, List, [], ◌∷◌, drop, length, refl, sym, ap, ◌∙◌, subst, eqb-true, eq-eqb, None, Ok, slice_get, arith}
+use Rattle.std.proofs.lemmas.Bool.Decides.{nat_tests}
+use Rattle.flowspace.specs.Policies.{PolicyView}
+use Rattle.outbox.specs.Queues.{Queue, no_messages, size, push_all, without_first}
+use Rattle.outbox.proofs.Keeping.{push_all-kept}
+use Rattle.slice_words.specs.Items.{is_up}
+use Rattle.desk_words.specs.declared.event.Timed.{Timed}
+use Rattle.desk_words.specs.declared.phase.Phase.{Phase}
+use Rattle.desk_words.specs.declared.phase.Phase.TheVariants.{Fresh, Begun, Opened, Ended as Over}
+use Rattle.desk_words.specs.declared.answer.Dest.TheVariants.{Switch, Slice}
+use Rattle.desk_words.specs.declared.answer.Verdict.{Verdict}
+use Rattle.desk_words.specs.declared.answer.Verdict.TheVariants as verdicts
+use Rattle.desk_words.specs.declared.answer.Verdict.TheVariants.{Go, Close}
+use Rattle.desk_words.specs.declared.answer.Taken.{Taken}
+use Rattle.desk_words.specs.declared.answer.Taken.TheVariants.{Message, Nothing, Choked, Ended, NotOpen}
+use Rattle.desk_words.specs.Openings.{phase_of}
+use Rattle.desk_words.specs.Histories.{is_slot, is_open, is_slice_up, view_of}
+use Rattle.desk_words.specs.Verdicts.{is_ended, is_fresh, is_over, closes}
+use Rattle.desk_words.specs.Sent.{sent_by, lane_by}
+use Rattle.desk_words.specs.Operations.{Operation, Step, Take, takes_in, events_of, slice_limit, lane_limit, empties_slice, ends, queue_event, lane_event, queue_of, lane_of, empty_reply}
+use Rattle.answer_bounds.specs.Bounds.{IsFramed, AreFramed, Fits}
+use Rattle.answer_bounds.proofs.Fitting.{answers_fit}
+use Rattle.proxy_core.specs.declared.parts.Desk.{Desk}
+use Rattle.proxy_core.specs.Desks.{DeskStands, Takes, Steps}
+use Rattle.fv_report.specs.Holding.{waiting, Holds, nothing, IsQuiet, with_waiting, from_slot, After}
+use Rattle.fv_report.specs.Taking.{message_taken, is_nothing, is_the_end}
+
+-- ---- what waits, said otherwise
+
+pub holds_same : (p : PolicyView) (h : List Timed) (a b : ℕ → List (List ℕ)) (lane : List (List ℕ)) (desk : Desk) → ((slot : ℕ) → a slot ≡ b slot) → Holds p h a lane desk → Holds p h b lane desk
+holds_same p h a b lane desk same holds = record {
+  ops = holds.ops;
+  stands = holds.stands;
+  events = holds.events;
+  queues = λ slot. holds.queues slot ∙ ap waiting (same slot);
+  lane_queue = holds.lane_queue;
+}
+
+own_waiting : (b : Bool) (slot other : ℕ) (slices : ℕ → List (List ℕ)) → (slot == other) ≡ b → slices other ≡ (if b then slices slot else slices other)
+own_waiting true slot other slices is = ap slices (sym (eqb-true slot other is))
+own_waiting false slot other slices is = refl
+
+-- of each slice waits what waits
+pub holds_own : (p : PolicyView) (h : List Timed) (slot : ℕ) (slices : ℕ → List (List ℕ)) (lane : List (List ℕ)) (desk : Desk) → Holds p h slices lane desk → Holds p h (with_waiting slot (slices slot) slices) lane desk
+holds_own p h slot slices lane desk holds = holds_same p h slices (with_waiting slot (slices slot) slices) lane desk (λ other. own_waiting (slot == other) slot other slices refl) holds
+
+-- ---- takes
+
+no_message : (a b c : Bool) → message_taken (if a then Ended else if b then NotOpen else if c then Choked else Nothing) ≡ None
+no_message true b c = refl
+no_message false true c = refl
+no_message false false true = refl
+no_message false false false = refl
+
+taken_first : (messages : List (List ℕ)) (a b c : Bool) → message_taken (elim messages [ [] ↦ (if a then Ended else if b then NotOpen else if c then Choked else Nothing) | message ∷ later ↦ Message message ]) ≡ slice_get messages 0
+taken_first [] a b c = no_message a b c
+taken_first (message ∷ later) a b c = refl
+
+-- the first message for the switch is taken
+pub take_lane : (p : PolicyView) (h : List Timed) (slices : ℕ → List (List ℕ)) (lane : List (List ℕ)) (old new : Desk) (taken : Taken) → Takes old Switch taken new → Holds p h slices lane old
+    → (message_taken taken ≡ slice_get lane 0) × Holds p h slices (drop 1 lane) new
+take_lane p h slices lane old new taken takes holds =
+    let answered = takes p holds.ops holds.stands in
+    let first : message_taken taken ≡ slice_get lane 0 =
+    ap message_taken answered.right
+    ∙ ap (λ (q : Queue). message_taken (elim q.pending [ [] ↦ empty_reply p (events_of holds.ops) Switch q.choked | message ∷ later ↦ Message message ])) holds.lane_queue
+    ∙ taken_first lane (is_ended (phase_of (events_of holds.ops))) (is_fresh (phase_of (events_of holds.ops))) false in (
+      first,
+      record {
+        ops = Take Switch taken ∷ holds.ops;
+        stands = answered.stands;
+        events = holds.events;
+        queues = holds.queues;
+        lane_queue = ap without_first holds.lane_queue;
+      },
+    )
+
+queue_less : (b : Bool) (q : Queue) (messages others : List (List ℕ)) → q ≡ waiting (if b then messages else others) → (if b then without_first q else q) ≡ waiting (if b then drop 1 messages else others)
+queue_less true q messages others is = ap without_first is
+queue_less false q messages others is = is
+
+own_queue : (slot : ℕ) (messages others : List (List ℕ)) (b : Bool) (q : Queue) → b ≡ true → q ≡ waiting (if b then messages else others) → q ≡ waiting messages
+own_queue slot messages others b q own is = subst (λ (k : Bool). q ≡ waiting (if k then messages else others)) own is
+
+-- the first message for a slice is taken
+pub take_slice : (p : PolicyView) (h : List Timed) (slot : ℕ) (slices : ℕ → List (List ℕ)) (messages lane : List (List ℕ)) (old new : Desk) (taken : Taken) → Takes old (Slice slot) taken new
+    → Holds p h (with_waiting slot messages slices) lane old → (message_taken taken ≡ slice_get messages 0) × Holds p h (with_waiting slot (drop 1 messages) slices) lane new
+take_slice p h slot slices messages lane old new taken takes holds =
+    let answered = takes p holds.ops holds.stands in
+    let evs = events_of holds.ops in
+    let own : queue_of p slot holds.ops ≡ waiting messages = own_queue slot messages (slices slot) (slot == slot) (queue_of p slot holds.ops) (eq-eqb slot slot refl) (holds.queues slot) in
+    let first : message_taken taken ≡ slice_get messages 0 =
+    ap message_taken answered.right
+    ∙ ap (λ (q : Queue). message_taken (elim q.pending [ [] ↦ empty_reply p evs (Slice slot) q.choked | message ∷ later ↦ Message message ])) own
+    ∙ taken_first messages (is_ended (phase_of evs) || not (is_slot p slot) || (is_open (phase_of evs) && not (is_slice_up p slot evs))) (not (is_open (phase_of evs))) false in (
+      first,
+      record {
+        ops = Take (Slice slot) taken ∷ holds.ops;
+        stands = answered.stands;
+        events = holds.events;
+        queues = λ other. queue_less (slot == other) (queue_of p other holds.ops) messages (slices other) (holds.queues other);
+        lane_queue = holds.lane_queue;
+      },
+    )
+
+-- ---- questions at a desk at which nothing waits
+
+not_up : (p : PolicyView) (slot : ℕ) (h : List Timed) → is_slot p slot ≡ false → is_up (view_of p slot h) ≡ false
+not_up p slot [] out = refl
+not_up p slot (timed ∷ h) out = rw out (not_up p slot h out)
+
+up_when : (phase : Phase) (slot up : Bool) → (slot ≡ false → up ≡ false)
+    → is_nothing (if is_ended phase || not slot || (is_open phase && not (is_open phase && up)) then Ended else if not (is_open phase) then NotOpen else if false then Choked else Nothing) ≡ (is_open phase && up)
+up_when Fresh true up none = refl
+up_when Fresh false up none = refl
+up_when Begun true up none = refl
+up_when Begun false up none = refl
+up_when Over slot up none = refl
+up_when Opened true true none = refl
+up_when Opened true false none = refl
+up_when Opened false true none = sym (none refl)
+up_when Opened false false none = refl
+
+end_when : (phase : Phase) → is_the_end (if is_ended phase then Ended else if is_fresh phase then NotOpen else if false then Choked else Nothing) ≡ is_ended phase
+end_when Fresh = refl
+end_when Begun = refl
+end_when Opened = refl
+end_when Over = refl
+
+-- whether a slice is up
+pub ask_up : (p : PolicyView) (h : List Timed) (slot : ℕ) (old new : Desk) (taken : Taken) → Takes old (Slice slot) taken new → IsQuiet p h old → is_nothing taken ≡ is_slice_up p slot h
+ask_up p h slot old new taken takes quiet =
+    let answered = takes p quiet.ops quiet.stands in
+    let evs = events_of quiet.ops in
+    ap is_nothing answered.right
+    ∙ ap (λ (q : Queue). is_nothing (elim q.pending [ [] ↦ empty_reply p evs (Slice slot) q.choked | message ∷ later ↦ Message message ])) (quiet.queues slot)
+    ∙ up_when (phase_of evs) (is_slot p slot) (is_up (view_of p slot evs)) (not_up p slot evs)
+    ∙ ap (is_slice_up p slot) quiet.events
+
+-- whether the switch's connection has ended
+pub ask_end : (p : PolicyView) (h : List Timed) (old new : Desk) (taken : Taken) → Takes old Switch taken new → IsQuiet p h old → is_the_end taken ≡ is_ended (phase_of h)
+ask_end p h old new taken takes quiet =
+    let answered = takes p quiet.ops quiet.stands in
+    let evs = events_of quiet.ops in
+    ap is_the_end answered.right
+    ∙ ap (λ (q : Queue). is_the_end (elim q.pending [ [] ↦ empty_reply p evs Switch q.choked | message ∷ later ↦ Message message ])) quiet.lane_queue
+    ∙ end_when (phase_of evs)
+    ∙ ap (λ events. is_ended (phase_of events)) quiet.events
+
+quiet_again : (slot other : ℕ) (b : Bool) → (if b then [] else nothing other) ≡ nothing other
+quiet_again slot other true = refl
+quiet_again slot other false = refl
+
+-- nothing waits after a question, either
+pub still_quiet : (p : PolicyView) (h : List Timed) (slot : ℕ) (old new : Desk) (taken : Taken) → Takes old (Slice slot) taken new → IsQuiet p h old → IsQuiet p h new
+still_quiet p h slot old new taken takes quiet =
+    holds_same p h (with_waiting slot [] nothing) nothing [] new (λ other. quiet_again slot other (slot == other))
+    (take_slice p h slot nothing [] [] old new taken takes (holds_same p h nothing (with_waiting slot [] nothing) [] old (λ other. sym (quiet_again slot other (slot == other))) quiet)).1
+
+pub still_quiet_lane : (p : PolicyView) (h : List Timed) (old new : Desk) (taken : Taken) → Takes old Switch taken new → IsQuiet p h old → IsQuiet p h new
+still_quiet_lane p h old new taken takes quiet = (take_lane p h nothing [] old new taken takes quiet).1
+
+-- ---- steps
+
+emptied : (b : Bool) (q : Queue) → q ≡ no_messages → (if b then no_messages else q) ≡ no_messages
+emptied true q is = refl
+emptied false q is = is
+
+-- what waits for one destination after an event, where nothing waited
+all_wait : (limit : ℕ) (b : Bool) (q : Queue) (messages : List (List ℕ)) → q ≡ waiting [] → size messages ≤ limit → push_all limit (if b then no_messages else q) messages ≡ waiting messages
+all_wait limit b q messages is fits = ap (λ k. push_all limit k messages) (emptied b q is) ∙ push_all-kept limit [] messages (omega arith)
+
+verdict_over : (a b : Bool) → verdicts.Ended ≡ (if a then verdicts.Ended else if b then Close else Go) → a ≡ true
+verdict_over true b is = refl
+verdict_over false true is = absurd cc
+verdict_over false false is = absurd cc
+
+verdict_on : (v : Verdict) (a b : Bool) → (v ≡ verdicts.Ended → ⊥) → v ≡ (if a then verdicts.Ended else if b then Close else Go) → a ≡ false
+verdict_on v true b unlike is = absurd (unlike is)
+verdict_on v false b unlike is = refl
+
+-- an event that isn't taken in
+pub step_over : (p : PolicyView) (h : List Timed) (timed : Timed) (old new : Desk) → Steps old timed (Ok verdicts.Ended) new → IsQuiet p h old → After p h timed false new
+step_over p h timed old new steps quiet =
+    let replied = steps p quiet.ops quiet.stands in
+    let evs = events_of quiet.ops in (
+      subst (λ events. is_over events ≡ true) quiet.events (verdict_over (is_over evs) (closes p evs timed) replied.right),
+      record { ops = Step timed (Ok verdicts.Ended) ∷ quiet.ops; stands = replied.stands; events = quiet.events; queues = quiet.queues; lane_queue = quiet.lane_queue },
+    )
+
+taken_in : (p : PolicyView) (ops : List Operation) (timed : Timed) (new : Desk) (v : Verdict) → DeskStands p (Step timed (Ok v) ∷ ops) new → events_of (Step timed (Ok v) ∷ ops) ≡ timed ∷ events_of ops
+    → ((slot : ℕ) → queue_of p slot (Step timed (Ok v) ∷ ops) ≡ queue_event p slot (events_of ops) timed (queue_of p slot ops)) → lane_of p (Step timed (Ok v) ∷ ops) ≡ lane_event p (events_of ops) timed (lane_of p ops)
+    → ((slot : ℕ) → queue_of p slot ops ≡ waiting []) → lane_of p ops ≡ waiting [] → Fits p (events_of ops) timed
+    → Holds p (timed ∷ events_of ops) (λ slot. sent_by p slot (events_of ops) timed) (lane_by p (events_of ops) timed) new
+taken_in p ops timed new v stands events queues lane quiet quiet_lane fits = record {
+  ops = Step timed (Ok v) ∷ ops;
+  stands = stands;
+  events = events;
+  queues = λ slot. queues slot ∙ all_wait slice_limit (empties_slice p slot (events_of ops) timed) (queue_of p slot ops) (sent_by p slot (events_of ops) timed) (quiet slot) (fits.slices slot);
+  lane_queue = lane ∙ all_wait lane_limit (ends (events_of ops) timed) (lane_of p ops) (lane_by p (events_of ops) timed) quiet_lane fits.lane;
+}
+
+-- an event that is taken in
+pub step_go : (p : PolicyView) (h : List Timed) (timed : Timed) (old new : Desk) → Steps old timed (Ok Go) new → IsQuiet p h old → AreFramed h → IsFramed timed.event → After p h timed true new
+step_go p h timed old new steps quiet framed one =
+    let replied = steps p quiet.ops quiet.stands in
+    let evs = events_of quiet.ops in
+    subst (λ events. After p events timed true new) quiet.events (
+      verdict_on Go (is_over evs) (closes p evs timed) (λ e. absurd cc) replied.right,
+      taken_in p quiet.ops timed new Go replied.stands refl (λ slot. refl) refl quiet.queues quiet.lane_queue (answers_fit p evs timed (subst AreFramed (sym quiet.events) framed) one),
+    )
+
+pub step_close : (p : PolicyView) (h : List Timed) (timed : Timed) (old new : Desk) → Steps old timed (Ok Close) new → IsQuiet p h old → AreFramed h → IsFramed timed.event → After p h timed true new
+step_close p h timed old new steps quiet framed one =
+    let replied = steps p quiet.ops quiet.stands in
+    let evs = events_of quiet.ops in
+    subst (λ events. After p events timed true new) quiet.events (
+      verdict_on Close (is_over evs) (closes p evs timed) (λ e. absurd cc) replied.right,
+      taken_in p quiet.ops timed new Close replied.stands refl (λ slot. refl) refl quiet.queues quiet.lane_queue (answers_fit p evs timed (subst AreFramed (sym quiet.events) framed) one),
+    )
+
+-- an event with a verdict
+pub stepped : (p : PolicyView) (h : List Timed) (timed : Timed) (old new : Desk) (v : Verdict) (b : Bool) → Steps old timed (Ok v) new → b ≡ takes_in (Ok v) → IsQuiet p h old → AreFramed h → IsFramed timed.event → After p h timed b new
+stepped p h timed old new Go b steps is quiet framed one = subst (λ (k : Bool). After p h timed k new) (sym is) (step_go p h timed old new steps quiet framed one)
+stepped p h timed old new Close b steps is quiet framed one = subst (λ (k : Bool). After p h timed k new) (sym is) (step_close p h timed old new steps quiet framed one)
+stepped p h timed old new verdicts.Ended b steps is quiet framed one = subst (λ (k : Bool). After p h timed k new) (sym is) (step_over p h timed old new steps quiet)
+
+-- ---- slices one after another
+
+below : (other at : ℕ) → at ≡ other → ltb other (at + 1) ≡ true
+below other at same = grind (arith, nat_tests, same)
+
+not_yet : (other at : ℕ) → (at == other) ≡ false → ltb other (at + 1) ≡ ltb other at
+not_yet other at is = grind (arith, nat_tests, is)
+
+next_slot : (at other : ℕ) (b : Bool) (slices : ℕ → List (List ℕ)) → (at == other) ≡ b → (if b then [] else if ltb other at then [] else slices other) ≡ (if ltb other (at + 1) then [] else slices other)
+next_slot at other true slices is = let same = eqb-true at other is in rw (below other at same) refl
+next_slot at other false slices is = rw (not_yet other at is) refl
+
+-- one slot more was emptied
+pub holds_next : (p : PolicyView) (h : List Timed) (at : ℕ) (slices : ℕ → List (List ℕ)) (lane : List (List ℕ)) (desk : Desk) → Holds p h (with_waiting at [] (from_slot at slices)) lane desk → Holds p h (from_slot (at + 1) slices) lane desk
+holds_next p h at slices lane desk holds = holds_same p h (with_waiting at [] (from_slot at slices)) (from_slot (at + 1) slices) lane desk (λ other. next_slot at other (at == other) slices refl) holds
+
+none_waits : (b : Bool) (q : Queue) (messages : List (List ℕ)) → (b ≡ false → q ≡ waiting []) → q ≡ waiting (if b then [] else messages) → q ≡ waiting []
+none_waits true q messages beyond is = is
+none_waits false q messages beyond is = beyond refl
+
+-- all slots were emptied
+pub holds_none : (p : PolicyView) (h : List Timed) (slices : ℕ → List (List ℕ)) (lane : List (List ℕ)) (desk : Desk) → Holds p h (from_slot (length p.slices) slices) lane desk → Holds p h nothing lane desk
+holds_none p h slices lane desk holds = record {
+  ops = holds.ops;
+  stands = holds.stands;
+  events = holds.events;
+  queues = λ slot. none_waits (is_slot p slot) (queue_of p slot holds.ops) (slices slot) (holds.stands.body.beyond slot) (holds.queues slot);
+  lane_queue = holds.lane_queue;
+}

@@ -1,0 +1,10 @@
+pub mod Writing
+pub mod Draining
+pub mod Holding
+pub mod Slices
+pub mod Turning
+pub mod Streaming
+pub mod Playing
+pub mod Recorded
+pub mod Running
+pub mod Lacking

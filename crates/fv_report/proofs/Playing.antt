@@ -1,0 +1,259 @@
+-- Events that are played one after another.
+use Rattle.std.proofs.Common.{◌≡◌, ◌+◌, ℕ, suc, Bool, true, false, if◌then◌else◌, List, [], ◌∷◌, ◌++◌, map, length, refl, sym, ap, ap₂, ◌∙◌, append_assoc, subst, Option, Some, None, Result, Ok, Err, IfOk, arith}
+use Rattle.std.specs.Result.{IsErr}
+use Rattle.std.proofs.lemmas.List.{append-nil, length-append, append_cancel_left}
+use Rattle.std.proofs.lemmas.List.Elements.{All-cons}
+use Rattle.fv_base.specs.Told.{appended}
+use Rattle.flowspace.specs.Policies.{PolicyView}
+use Rattle.of10_ctl.specs.Frames.{IsFrame}
+use Rattle.of10_ctl.specs.Streams.{Stream, Stands, frames_of}
+use Rattle.answer_bounds.specs.Bounds.{IsFramed, AreFramed}
+use Rattle.desk_words.specs.declared.event.Event.{Event}
+use Rattle.desk_words.specs.declared.event.Timed.{Timed}
+use Rattle.desk_words.specs.declared.answer.Dest.{Dest}
+use Rattle.desk_words.specs.declared.answer.Dest.TheVariants.{Switch, Slice}
+use Rattle.desk_words.specs.Verdicts.{is_over}
+use Rattle.desk_words.specs.Recorded.{timed_at, happens, next_of, next_after, happening}
+use Rattle.desk_words.specs.Reports as report
+use Rattle.desk_words.specs.Reports.{event_lines, lines_of}
+use Rattle.proxy_core.specs.declared.parts.Desk.{Desk}
+use Rattle.fv_report.specs.declared.line.Place.{Place}
+use Rattle.fv_report.specs.Lines.{place_of}
+use Rattle.fv_report.specs.Writing.{WrotePart}
+use Rattle.fv_report.specs.Holding.{IsQuiet}
+use Rattle.fv_report.specs.Streams.{TookFrame}
+use Rattle.fv_report.specs.Plays.{event_from, Played, Plays, Hears}
+use Rattle.fv_report.proofs.Writing.{both, part_of_first, part_of_second, part_of_all, appended_none, at_fault, no_ok, not_ok}
+
+-- ---- one event
+
+pub framed_from : (from : Dest) (frame : List ℕ) → IsFrame frame → IsFramed (event_from from frame)
+framed_from Switch frame is = is
+framed_from (Slice slot) frame is = is
+
+framed_next : (h : List Timed) (timed : Timed) (b : Bool) → AreFramed h → IsFramed timed.event → AreFramed (if b then h else timed ∷ h)
+framed_next h timed true framed one = framed
+framed_next h timed false framed one = All-cons (λ (t : Timed). IsFramed t.event) timed h one framed
+
+one_event : (p : PolicyView) (moment : ℕ) (h : List Timed) (event : Event) → happens p h event ≡ true → happening p moment h (event ∷ []) ≡ timed_at moment event ∷ []
+one_event p moment h event is = rw is refl
+
+pub no_event : (p : PolicyView) (moment : ℕ) (h : List Timed) (event : Event) → happens p h event ≡ false → happening p moment h (event ∷ []) ≡ []
+no_event p moment h event is = rw is refl
+
+-- the event was played
+pub played_one : {E : Type 0} (p : PolicyView) (timed : Timed) (h : List Timed) (place : Place) (result : Result Place E) (before after : Option (List ℕ)) (desk : Desk)
+    → happens p h timed.event ≡ true → after ≡ appended before (event_lines p (place_of place) h timed) → IsQuiet p (next_of h timed) desk → AreFramed h → IsFramed timed.event
+    → IfOk result (λ later. later.number ≡ place.number + 1) → IfOk result (λ later. later.switch ≡ place.switch) → Plays p timed.moment h (timed.event ∷ []) place result before after desk
+played_one p timed h place (Ok later) before after desk is written quiet framed one number switch =
+    let own = one_event p timed.moment h timed.event is in
+    record {
+      writes = written ∙ ap (appended before) (sym (append-nil (event_lines p (place_of place) h timed)) ∙ ap (lines_of p (place_of place) h) (sym own));
+      played = record {
+        number = number ∙ ap (λ (events : List Timed). place.number + length events) (sym own);
+        switch = switch;
+        quiet = subst (λ (events : List Timed). IsQuiet p (next_after h events) desk) (sym own) quiet;
+        framed = subst (λ (events : List Timed). AreFramed (next_after h events)) (sym own) (framed_next h timed (is_over h) framed one);
+      };
+    }
+played_one p timed h place (Err fault) before after desk is written quiet framed one number switch =
+    let own = one_event p timed.moment h timed.event is in
+    record {
+      writes = subst (λ (events : List Timed). WrotePart (lines_of p (place_of place) h events) before after) (sym own)
+          (part_of_first (event_lines p (place_of place) h timed) [] before after (part_of_all (event_lines p (place_of place) h timed) before after written));
+      played = tt;
+    }
+
+-- a piece of its lines was written
+pub failed_one : {E : Type 0} (p : PolicyView) (timed : Timed) (h : List Timed) (place : Place) (result : Result Place E) (before after : Option (List ℕ)) (desk : Desk)
+    → happens p h timed.event ≡ true → IsErr result → WrotePart (event_lines p (place_of place) h timed) before after → Plays p timed.moment h (timed.event ∷ []) place result before after desk
+failed_one p timed h place result before after desk is err part =
+    let own = one_event p timed.moment h timed.event is in
+    record {
+      writes = at_fault result (lines_of p (place_of place) h (happening p timed.moment h (timed.event ∷ []))) before after err
+          (subst (λ (events : List Timed). WrotePart (lines_of p (place_of place) h events) before after) (sym own) (part_of_first (event_lines p (place_of place) h timed) [] before after part));
+      played = no_ok (λ later. Played p h (happening p timed.moment h (timed.event ∷ [])) place later desk) result err;
+    }
+
+no_more : (n : ℕ) → n ≡ n + 0
+no_more n = omega arith
+
+-- nothing happened
+pub passed_one : {E : Type 0} (p : PolicyView) (moment : ℕ) (h : List Timed) (event : Event) (place : Place) (before : Option (List ℕ)) (desk : Desk)
+    → happens p h event ≡ false → IsQuiet p h desk → AreFramed h → Plays {E = E} p moment h (event ∷ []) place (Ok place) before before desk
+passed_one p moment h event place before desk is quiet framed =
+    let own = no_event p moment h event is in
+    record {
+      writes = appended_none before ∙ ap (λ (events : List Timed). appended before (lines_of p (place_of place) h events)) (sym own);
+      played = record {
+        number = no_more place.number ∙ ap (λ (events : List Timed). place.number + length events) (sym own);
+        switch = refl;
+        quiet = subst (λ (events : List Timed). IsQuiet p (next_after h events) desk) (sym own) quiet;
+        framed = subst (λ (events : List Timed). AreFramed (next_after h events)) (sym own) framed;
+      };
+    }
+
+-- ---- events one after another
+
+-- the first and the others
+happening_first : (p : PolicyView) (moment : ℕ) (h : List Timed) (event : Event) (later : List Event) (b : Bool) → happens p h event ≡ b
+    → happening p moment h (event ∷ later) ≡ happening p moment h (event ∷ []) ++ happening p moment (next_after h (happening p moment h (event ∷ []))) later
+happening_first p moment h event later true is = rw is refl
+happening_first p moment h event later false is = rw is refl
+
+next_after_both : (h first second : List Timed) → next_after h (first ++ second) ≡ next_after (next_after h first) second
+next_after_both h [] second = refl
+next_after_both h (timed ∷ first) second = next_after_both (next_of h timed) first second
+
+further : (n : ℕ) (k : ℕ) → n + 1 + k ≡ n + suc k
+further n k = omega arith
+
+lines_both : (p : PolicyView) (number switch : ℕ) (h first second : List Timed)
+    → lines_of p (record { number = number; switch = switch }) h (first ++ second) ≡ lines_of p (record { number = number; switch = switch }) h first ++ lines_of p (record { number = number + length first; switch = switch }) (next_after h first) second
+lines_both p number switch h [] second = ap (λ (n : ℕ). lines_of p (record { number = n; switch = switch }) h second) (no_more number)
+lines_both p number switch h (timed ∷ first) second =
+    let place : report.Place = record { number = number; switch = switch } in
+    ap (λ text. event_lines p place h timed ++ text) (lines_both p (number + 1) switch (next_of h timed) first second)
+    ∙ ap (λ (n : ℕ). event_lines p place h timed ++ (lines_of p (record { number = number + 1; switch = switch }) (next_of h timed) first ++ lines_of p (record { number = n; switch = switch }) (next_after (next_of h timed) first) second)) (further number (length first))
+    ∙ sym (append_assoc (event_lines p place h timed) (lines_of p (record { number = number + 1; switch = switch }) (next_of h timed) first) (lines_of p (record { number = number + suc (length first); switch = switch }) (next_after (next_of h timed) first) second))
+
+-- ---- the frames of a connection
+
+-- so far: these frames are left of a connection, and the lines of the others are written
+pub record Hearing (p : PolicyView) (moment : ℕ) (from : Dest) (first_place place : Place) (first : List Timed) (all : List (List ℕ)) (fed : List ℕ) (before now : Option (List ℕ)) (desk : Desk) (framer : Stream) : Type 0 where
+  pub h : List Timed
+  pub given : List (List ℕ)
+  pub rest : List (List ℕ)
+  pub quiet : IsQuiet p h desk
+  pub framed : AreFramed h
+  pub stands : Stands framer fed given
+  pub cut : given ++ rest ≡ frames_of fed
+  pub done : List ℕ
+  pub written : now ≡ appended before done
+  pub lines : done ++ lines_of p (place_of place) h (happening p moment h (map (event_from from) rest)) ≡ lines_of p (place_of first_place) first (happening p moment first (map (event_from from) all))
+  pub number : place.number + length (happening p moment h (map (event_from from) rest)) ≡ first_place.number + length (happening p moment first (map (event_from from) all))
+  pub switch : place.switch ≡ first_place.switch
+  pub next : next_after h (happening p moment h (map (event_from from) rest)) ≡ next_after first (happening p moment first (map (event_from from) all))
+
+pub hearing_first : (p : PolicyView) (moment : ℕ) (from : Dest) (place : Place) (h : List Timed) (rest : List (List ℕ)) (fed : List ℕ) (given : List (List ℕ)) (before : Option (List ℕ)) (desk : Desk) (framer : Stream)
+    → IsQuiet p h desk → AreFramed h → Stands framer fed given → given ++ rest ≡ frames_of fed → Hearing p moment from place place h rest fed before before desk framer
+hearing_first p moment from place h rest fed given before desk framer quiet framed stands cut = record {
+  h = h;
+  given = given;
+  rest = rest;
+  quiet = quiet;
+  framed = framed;
+  stands = stands;
+  cut = cut;
+  done = [];
+  written = appended_none before;
+  lines = refl;
+  number = refl;
+  switch = refl;
+  next = refl;
+}
+
+-- the frame that is taken is the first of those that are left
+first_left : (given rest others : List (List ℕ)) (frame : List ℕ) (frames : List (List ℕ)) → given ++ rest ≡ frames → (given ++ frame ∷ []) ++ others ≡ frames → rest ≡ frame ∷ others
+first_left given rest others frame frames a b = append_cancel_left given rest (frame ∷ others) (a ∙ sym b ∙ append_assoc given (frame ∷ []) others)
+
+place_after : (place later : Place) (n : ℕ) → later.number ≡ n → later.switch ≡ place.switch → place_of later ≡ (let k : report.Place = record { number = n; switch = place.switch } in k)
+place_after place later n number switch = ap₂ (λ (a b : ℕ). let k : report.Place = record { number = a; switch = b } in k) number switch
+
+-- one message more was heard
+pub hearing_more : (p : PolicyView) (moment : ℕ) (from : Dest) (first_place place later : Place) (first : List Timed) (all : List (List ℕ)) (fed : List ℕ) (before now later_told : Option (List ℕ)) (old desk : Desk) (framer new : Stream) (frame : List ℕ)
+    (s : Hearing p moment from first_place place first all fed before now old framer) → TookFrame (Some frame) fed s.given new
+    → later_told ≡ appended now (lines_of p (place_of place) s.h (happening p moment s.h (event_from from frame ∷ []))) → Played p s.h (happening p moment s.h (event_from from frame ∷ [])) place later desk
+    → Hearing p moment from first_place later first all fed before later_told desk new
+hearing_more p moment from first_place place later first all fed before now later_told old desk framer new frame s took written played =
+    let event = event_from from frame in
+    let own = happening p moment s.h (event ∷ []) in
+    let others = took.0.0 in
+    let left : s.rest ≡ frame ∷ others = first_left s.given s.rest others frame (frames_of fed) s.cut took.0.1 in
+    let events = map (event_from from) others in
+    let h = next_after s.h own in
+    let split : happening p moment s.h (map (event_from from) s.rest) ≡ own ++ happening p moment h events = ap (λ (r : List (List ℕ)). happening p moment s.h (map (event_from from) r)) left ∙ happening_first p moment s.h event events (happens p s.h event) refl in
+    let text = lines_of p (place_of place) s.h own in
+    let placed : place_of later ≡ (let k : report.Place = record { number = place.number + length own; switch = place.switch } in k) = place_after place later (place.number + length own) played.number played.switch in
+    let counted = ap length split ∙ length-append own (happening p moment h events) in
+    let was = s.number in
+    let number = played.number in
+    record {
+      h = h;
+      given = s.given ++ frame ∷ [];
+      rest = others;
+      quiet = played.quiet;
+      framed = played.framed;
+      stands = took.1;
+      cut = took.0.1;
+      done = s.done ++ text;
+      written = both before now later_told s.done text s.written written;
+      lines =
+          append_assoc s.done text (lines_of p (place_of later) h (happening p moment h events))
+          ∙ ap (λ (k : report.Place). s.done ++ (text ++ lines_of p k h (happening p moment h events))) placed
+          ∙ ap (λ t. s.done ++ t) (sym (lines_both p place.number place.switch s.h own (happening p moment h events)))
+          ∙ ap (λ (e : List Timed). s.done ++ lines_of p (place_of place) s.h e) (sym split)
+          ∙ s.lines;
+      number = omega (arith, counted, was, number);
+      switch = played.switch ∙ s.switch;
+      next = sym (next_after_both s.h own (happening p moment h events)) ∙ ap (next_after s.h) (sym split) ∙ s.next;
+    }
+
+-- a piece of the next message's lines was written
+pub hearing_part : (p : PolicyView) (moment : ℕ) (from : Dest) (first_place place : Place) (first : List Timed) (all : List (List ℕ)) (fed : List ℕ) (before now later_told : Option (List ℕ)) (old : Desk) (framer new : Stream) (frame : List ℕ)
+    (s : Hearing p moment from first_place place first all fed before now old framer) → TookFrame (Some frame) fed s.given new
+    → WrotePart (lines_of p (place_of place) s.h (happening p moment s.h (event_from from frame ∷ []))) now later_told
+    → WrotePart (lines_of p (place_of first_place) first (happening p moment first (map (event_from from) all))) before later_told
+hearing_part p moment from first_place place first all fed before now later_told old framer new frame s took part =
+    let event = event_from from frame in
+    let own = happening p moment s.h (event ∷ []) in
+    let others = took.0.0 in
+    let left : s.rest ≡ frame ∷ others = first_left s.given s.rest others frame (frames_of fed) s.cut took.0.1 in
+    let events = map (event_from from) others in
+    let h = next_after s.h own in
+    let split : happening p moment s.h (map (event_from from) s.rest) ≡ own ++ happening p moment h events = ap (λ (r : List (List ℕ)). happening p moment s.h (map (event_from from) r)) left ∙ happening_first p moment s.h event events (happens p s.h event) refl in
+    let text = lines_of p (place_of place) s.h own in
+    let behind = lines_of p (record { number = place.number + length own; switch = place.switch }) h (happening p moment h events) in
+    subst (λ t. WrotePart t before later_told)
+    (ap (λ t. s.done ++ t) (sym (lines_both p place.number place.switch s.h own (happening p moment h events))) ∙ ap (λ (e : List Timed). s.done ++ lines_of p (place_of place) s.h e) (sym split) ∙ s.lines)
+    (part_of_second s.done (text ++ behind) before now later_told s.written (part_of_first text behind now later_told part))
+
+-- what was written before a fault that wrote nothing
+pub hearing_stopped : (p : PolicyView) (moment : ℕ) (from : Dest) (first_place place : Place) (first : List Timed) (all : List (List ℕ)) (fed : List ℕ) (before now : Option (List ℕ)) (old : Desk) (framer : Stream)
+    (s : Hearing p moment from first_place place first all fed before now old framer) → WrotePart (lines_of p (place_of first_place) first (happening p moment first (map (event_from from) all))) before now
+hearing_stopped p moment from first_place place first all fed before now old framer s =
+    subst (λ t. WrotePart t before now) s.lines (part_of_first s.done (lines_of p (place_of place) s.h (happening p moment s.h (map (event_from from) s.rest))) before now (part_of_all s.done before now s.written))
+
+-- a fault ends the hearing
+pub hearing_failed : {E : Type 0} (p : PolicyView) (moment : ℕ) (from : Dest) (place : Place) (h : List Timed) (rest : List (List ℕ)) (fed : List ℕ) (result : Result Place E) (before after : Option (List ℕ)) (desk : Desk) (framer : Stream)
+    → IsErr result → WrotePart (lines_of p (place_of place) h (happening p moment h (map (event_from from) rest))) before after → Hears p moment from h fed rest place result before after desk framer
+hearing_failed p moment from place h rest fed result before after desk framer err part = record {
+  plays = record {
+    writes = at_fault result (lines_of p (place_of place) h (happening p moment h (map (event_from from) rest))) before after err part;
+    played = no_ok (λ later. Played p h (happening p moment h (map (event_from from) rest)) place later desk) result err;
+  };
+  given = not_ok (Stands framer fed (frames_of fed)) result err;
+}
+
+nothing_behind : (given rest : List (List ℕ)) (frames : List (List ℕ)) → given ++ rest ≡ frames → given ≡ frames → rest ≡ []
+nothing_behind given rest frames a b = append_cancel_left given rest [] (a ∙ sym b ∙ sym (append-nil given))
+
+-- all frames were heard
+pub hearing_all : {E : Type 0} (p : PolicyView) (moment : ℕ) (from : Dest) (first_place place : Place) (first : List Timed) (all : List (List ℕ)) (fed : List ℕ) (before now : Option (List ℕ)) (desk : Desk) (framer new : Stream)
+    (s : Hearing p moment from first_place place first all fed before now desk framer) → TookFrame None fed s.given new
+    → Hears {E = E} p moment from first fed all first_place (Ok place) before now desk new
+hearing_all p moment from first_place place first all fed before now desk framer new s took =
+    let none : s.rest ≡ [] = nothing_behind s.given s.rest (frames_of fed) s.cut took.0 in
+    let empty : happening p moment s.h (map (event_from from) s.rest) ≡ [] = ap (λ (r : List (List ℕ)). happening p moment s.h (map (event_from from) r)) none in
+    record {
+      plays = record {
+        writes = s.written ∙ ap (appended before) (sym (append-nil s.done) ∙ ap (λ (e : List Timed). s.done ++ lines_of p (place_of place) s.h e) (sym empty) ∙ s.lines);
+        played = record {
+          number = no_more place.number ∙ ap (λ (e : List Timed). place.number + length e) (sym empty) ∙ s.number;
+          switch = s.switch;
+          quiet = subst (λ (e : List Timed). IsQuiet p e desk) (ap (next_after s.h) (sym empty) ∙ s.next) s.quiet;
+          framed = subst AreFramed (ap (next_after s.h) (sym empty) ∙ s.next) s.framed;
+        };
+      };
+      given = subst (Stands new fed) took.0 took.1;
+    }

@@ -1,0 +1,251 @@
+-- Connections and histories after one record more.
+use Rattle.std.proofs.Common.{◌≡◌, ◌+◌, ◌<◌, ◌≤◌, ◌==◌, ℕ, zero, suc, Bool, true, false, if◌then◌else◌, List, [], ◌∷◌, ◌++◌, map, drop, set, ltb, length, refl, sym, ap, ap₂, ◌∙◌, subst, true≢false, eq-eqb, Option, Some, None, Result, Ok, slice_get, get_or, arith}
+use Rattle.std.proofs.lemmas.Option.{slice_get_read}
+use Rattle.std.specs.Result.{IsErr}
+use Rattle.std.proofs.Common.{inl, inr}
+use Rattle.std.proofs.lemmas.Bool.{cases_Bool, ltb-true, ltb-false}
+use Rattle.std.proofs.lemmas.Bool.Decides.{nat_tests}
+use Rattle.std.proofs.Math.Seq.{drop-append_seam}
+use Rattle.std.proofs.Math.Nat.{le_refl}
+use Rattle.of10_ctl.specs.Streams.{Stream, Stands, frames_at, frames_of}
+use Rattle.flowspace.specs.Policies.{PolicyView}
+use Rattle.recording.specs.declared.item.Item.{Item}
+use Rattle.recording.specs.Recordings.{Told, switch_up, switch_bytes, slice_up, slice_bytes}
+use Rattle.desk_words.specs.declared.event.Timed.{Timed}
+use Rattle.desk_words.specs.declared.answer.Dest.{Dest}
+use Rattle.desk_words.specs.Recorded.{happening, begins_stream, is_same_stream, stream_before, completed, history_of, history_at, events_in, next_after}
+use Rattle.desk_words.proofs.Completed.{frames_first}
+use Rattle.answer_bounds.specs.Bounds.{AreFramed}
+use Rattle.desk_words.specs.Reports as report
+use Rattle.desk_words.specs.Reports.{lines_of}
+use Rattle.fv_base.specs.Told.{appended}
+use Rattle.proxy_core.specs.declared.parts.Desk.{Desk}
+use Rattle.fv_report.specs.declared.line.Place.{Place}
+use Rattle.fv_report.specs.declared.switch.Switch.{Switch}
+use Rattle.fv_report.specs.declared.streams.Streams.{Streams}
+use Rattle.fv_report.specs.Lines.{place_of}
+use Rattle.fv_report.specs.Writing.{WrotePart}
+use Rattle.fv_report.specs.Holding.{IsQuiet}
+use Rattle.fv_report.specs.Plays.{event_from, Played, Plays}
+use Rattle.fv_report.specs.Switches.{told_by, SwitchStands, RecordPlayed, PlaysRecord}
+use Rattle.fv_report.proofs.Writing.{at_fault, no_ok, none_of}
+use Rattle.fv_report.specs.Streams.{Restarts, AreFresh, connection, StreamStands, StreamsStand}
+
+same_number : (n : ℕ) → (n == n) ≡ true
+same_number n = eq-eqb n n refl
+
+-- ---- histories
+
+-- the history after a record is the one before it, and then its events
+pub history_more : (p : PolicyView) (r : Told) (before : List Told) → history_of p r.switch (r ∷ before) ≡ next_after (history_at p r before) (events_in p r before)
+history_more p r before = rw (same_number r.switch) refl
+
+-- another switch's history stays
+pub history_other : (p : PolicyView) (number : ℕ) (r : Told) (before : List Told) → (r.switch == number) ≡ false → history_of p number (r ∷ before) ≡ history_of p number before
+history_other p number r before is = rw is refl
+
+-- ---- streams
+
+-- only what connection a record is of matters
+pub stream_by : (r : Told) (before : List Told) → stream_before r before ≡ stream_before (connection r.switch r.kind r.slot) before
+stream_by r [] = refl
+stream_by r (other ∷ before) = ap (λ (bytes : List ℕ). if begins_stream r other then [] else if is_same_stream r other then bytes ++ other.bytes else bytes) (stream_by r before)
+
+-- another switch's connections stay
+pub stream_other : (switch kind slot : ℕ) (r : Told) (before : List Told) → (r.switch == switch) ≡ false → stream_before (connection switch kind slot) (r ∷ before) ≡ stream_before (connection switch kind slot) before
+stream_other switch kind slot r before is = rw is refl
+
+-- frames of some bytes and those that more bytes complete are all
+pub frames_fed : (fed bytes : List ℕ) → frames_of fed ++ drop (length (frames_of fed)) (frames_of (fed ++ bytes)) ≡ frames_of (fed ++ bytes)
+frames_fed fed bytes =
+    let first = frames_first (length fed) fed bytes (le_refl _) in
+    let given = frames_of fed in
+    ap (λ (frames : List (List ℕ)). given ++ drop (length given) frames) (sym first.1) ∙ ap (λ (others : List (List ℕ)). given ++ others) (drop-append_seam given first.0) ∙ first.1
+
+pub no_frames : [] ≡ frames_of []
+unfolding frames_of frames_at
+no_frames = refl
+
+-- ---- the connections of a switch after a record of it
+
+-- a framer stands for the same stream still
+kept : (switch kind slot : ℕ) (r : Told) (before : List Told) (framer : Stream) → stream_before (connection switch kind slot) (r ∷ before) ≡ stream_before (connection switch kind slot) before
+    → StreamStands (connection switch kind slot) before framer → StreamStands (connection switch kind slot) (r ∷ before) framer
+kept switch kind slot r before framer same stands = subst (λ (bytes : List ℕ). Stands framer bytes (frames_of bytes)) (sym same) stands
+
+fresh : (switch kind slot : ℕ) (r : Told) (before : List Told) (framer : Stream) → stream_before (connection switch kind slot) (r ∷ before) ≡ [] → Stands framer [] [] → StreamStands (connection switch kind slot) (r ∷ before) framer
+fresh switch kind slot r before framer empty stands = subst (λ (bytes : List ℕ). Stands framer bytes (frames_of bytes)) (sym empty) (subst (Stands framer []) no_frames stands)
+
+-- the switch connected
+pub streams_up : (slices switch slot moment : ℕ) (bytes : List ℕ) (before : List Told) (streams : Streams) → AreFresh slices streams
+    → StreamsStand slices switch (record { kind = switch_up; switch = switch; slot = slot; moment = moment; bytes = bytes } ∷ before) streams
+streams_up slices switch slot moment bytes before streams are = record {
+  of_switch = fresh switch switch_bytes 0 (record { kind = switch_up; switch = switch; slot = slot; moment = moment; bytes = bytes }) before streams.switch (rw (same_number switch) refl) are.0;
+  number = are.1.number;
+  of_slices = λ at framer is. fresh switch slice_bytes at (record { kind = switch_up; switch = switch; slot = slot; moment = moment; bytes = bytes }) before framer (rw (same_number switch) refl) (are.1.each at framer is);
+}
+
+-- bytes of the switch
+pub streams_heard : (slices switch moment : ℕ) (bytes : List ℕ) (before : List Told) (old new : Streams) → StreamsStand slices switch before old → new.slices ≡ old.slices
+    → Stands new.switch (stream_before (connection switch switch_bytes 0) before ++ bytes) (frames_of (stream_before (connection switch switch_bytes 0) before ++ bytes))
+    → StreamsStand slices switch (record { kind = switch_bytes; switch = switch; slot = 0; moment = moment; bytes = bytes } ∷ before) new
+streams_heard slices switch moment bytes before old new stands same own =
+    let r : Told = record { kind = switch_bytes; switch = switch; slot = 0; moment = moment; bytes = bytes } in
+    let more : stream_before (connection switch switch_bytes 0) (r ∷ before) ≡ stream_before (connection switch switch_bytes 0) before ++ bytes = rw (same_number switch) refl in
+    record {
+      of_switch = subst (λ (b : List ℕ). Stands new.switch b (frames_of b)) (sym more) own;
+      number = ap (λ v. length v.items) same ∙ stands.number;
+      of_slices = λ at framer is. kept switch slice_bytes at r before framer (rw (same_number switch) refl) (stands.of_slices at framer (ap (λ v. slice_get v.items at) (sym same) ∙ is));
+    }
+
+-- nothing came on the connections with a record of this kind
+pub streams_kept : (slices kind switch slot moment : ℕ) (bytes : List ℕ) (before : List Told) (streams : Streams) → (kind == switch_up) ≡ false → (kind == switch_bytes) ≡ false → (kind == slice_up) ≡ false → (kind == slice_bytes) ≡ false
+    → StreamsStand slices switch before streams → StreamsStand slices switch (record { kind = kind; switch = switch; slot = slot; moment = moment; bytes = bytes } ∷ before) streams
+streams_kept slices kind switch slot moment bytes before streams a b d e stands =
+    let r : Told = record { kind = kind; switch = switch; slot = slot; moment = moment; bytes = bytes } in
+    record {
+      of_switch = kept switch switch_bytes 0 r before streams.switch (rw (same_number switch, a, b) refl) stands.of_switch;
+      number = stands.number;
+      of_slices = λ at framer is. kept switch slice_bytes at r before framer (rw (same_number switch, a, d, e) refl) (stands.of_slices at framer is);
+    }
+
+abbrev is_there : {X : Type 0} → Option X → Bool
+is_there None = false
+is_there (Some x) = true
+
+zero_suc : (n : ℕ) → (0 == suc n) ≡ false
+zero_suc n = grind (arith, nat_tests)
+
+suc_zero : (n : ℕ) → (suc n == 0) ≡ false
+suc_zero n = grind (arith, nat_tests)
+
+suc_suc : (n m : ℕ) → (n == m) ≡ false → (suc n == suc m) ≡ false
+suc_suc n m is = grind (arith, nat_tests, is)
+
+-- what holds of the other elements and of a new one holds after one was replaced
+pub set_get : {X : Type 0} (P : ℕ → X → Type 0) (xs : List X) (at : ℕ) (x : X) → ((other : ℕ) (y : X) → (at == other) ≡ false → slice_get xs other ≡ Some y → P other y) → P at x
+    → (other : ℕ) (y : X) → slice_get (set xs at x) other ≡ Some y → P other y
+set_get P [] at x others own other y is = absurd (true≢false (sym (ap is_there is)))
+set_get P (z ∷ zs) zero x others own zero y is = subst (P 0) (ap (λ (o : Option _). elim o [ None ↦ x | Some k ↦ k ]) is) own
+set_get P (z ∷ zs) zero x others own (suc other) y is = others (suc other) y (zero_suc other) is
+set_get P (z ∷ zs) (suc at) x others own zero y is = others 0 y (suc_zero at) is
+set_get P (z ∷ zs) (suc at) x others own (suc other) y is = set_get (λ n. P (suc n)) zs at x (λ k w unlike g. others (suc k) w (suc_suc at k unlike) g) own other y is
+
+pub set_length : {X : Type 0} (xs : List X) (at : ℕ) (x : X) → length (set xs at x) ≡ length xs
+set_length [] at x = refl
+set_length (y ∷ ys) zero x = refl
+set_length (y ∷ ys) (suc at) x = ap suc (set_length ys at x)
+
+-- a slice's controller connected
+pub streams_slice_up : (slices switch slot moment : ℕ) (bytes : List ℕ) (before : List Told) (old new : Streams) (framer : Stream) → StreamsStand slices switch before old → new.switch ≡ old.switch
+    → new.slices.items ≡ set old.slices.items slot framer → Stands framer [] [] → StreamsStand slices switch (record { kind = slice_up; switch = switch; slot = slot; moment = moment; bytes = bytes } ∷ before) new
+streams_slice_up slices switch slot moment bytes before old new framer stands same replaced own =
+    let r : Told = record { kind = slice_up; switch = switch; slot = slot; moment = moment; bytes = bytes } in
+    record {
+      of_switch = kept switch switch_bytes 0 r before new.switch (rw (same_number switch) refl) (subst (StreamStands (connection switch switch_bytes 0) before) (sym same) stands.of_switch);
+      number = ap length replaced ∙ set_length old.slices.items slot framer ∙ stands.number;
+      of_slices = λ at f is.
+          set_get (λ n s. StreamStands (connection switch slice_bytes n) (r ∷ before) s) old.slices.items slot framer
+          (λ other s unlike g. kept switch slice_bytes other r before s (rw (same_number switch, unlike) refl) (stands.of_slices other s g))
+          (fresh switch slice_bytes slot r before framer (rw (same_number switch, same_number slot) refl) own) at f (ap (λ xs. slice_get xs at) (sym replaced) ∙ is);
+    }
+
+-- bytes of a slice's controller
+pub streams_slice_heard : (slices switch slot moment : ℕ) (bytes : List ℕ) (before : List Told) (old new : Streams) (framer : Stream) → StreamsStand slices switch before old → new.switch ≡ old.switch
+    → new.slices.items ≡ set old.slices.items slot framer
+    → Stands framer (stream_before (connection switch slice_bytes slot) before ++ bytes) (frames_of (stream_before (connection switch slice_bytes slot) before ++ bytes))
+    → StreamsStand slices switch (record { kind = slice_bytes; switch = switch; slot = slot; moment = moment; bytes = bytes } ∷ before) new
+streams_slice_heard slices switch slot moment bytes before old new framer stands same replaced own =
+    let r : Told = record { kind = slice_bytes; switch = switch; slot = slot; moment = moment; bytes = bytes } in
+    let more : stream_before (connection switch slice_bytes slot) (r ∷ before) ≡ stream_before (connection switch slice_bytes slot) before ++ bytes = rw (same_number switch, same_number slot) refl in
+    record {
+      of_switch = kept switch switch_bytes 0 r before new.switch (rw (same_number switch) refl) (subst (StreamStands (connection switch switch_bytes 0) before) (sym same) stands.of_switch);
+      number = ap length replaced ∙ set_length old.slices.items slot framer ∙ stands.number;
+      of_slices = λ at f is.
+          set_get (λ n s. StreamStands (connection switch slice_bytes n) (r ∷ before) s) old.slices.items slot framer
+          (λ other s unlike g. kept switch slice_bytes other r before s (rw (same_number switch, unlike) refl) (stands.of_slices other s g))
+          (subst (λ (b : List ℕ). Stands framer b (frames_of b)) (sym more) own) at f (ap (λ xs. slice_get xs at) (sym replaced) ∙ is);
+    }
+
+-- ---- one record played
+
+placed : (p : PolicyView) (place : Place) (number switch : ℕ) (h own : List Timed) → place.number ≡ number → place.switch ≡ switch → lines_of p (place_of place) h own ≡ (let k : report.Place = record { number = number; switch = switch } in lines_of p k h own)
+placed p place number switch h own a b = ap₂ (λ (n m : ℕ). let k : report.Place = record { number = n; switch = m } in lines_of p k h own) a b
+
+-- all its events were played
+pub record_played : {E S : Type 0} (p : PolicyView) (r : Told) (before : List Told) (number : ℕ) (place later : Place) (written_before written : Option (List ℕ)) (desk : Desk) (AfterIt : S → Type 0) (state : S)
+    → place.number ≡ number → place.switch ≡ r.switch → written ≡ appended written_before (lines_of p (place_of place) (history_at p r before) (events_in p r before)) → Played p (history_at p r before) (events_in p r before) place later desk
+    → AfterIt state → RecordPlayed {E = E} p r before number (Ok later.number) written_before written AfterIt state
+record_played p r before number place later written_before written desk AfterIt state numbered same writes played after = record {
+  writes = writes ∙ ap (appended written_before) (placed p place number r.switch (history_at p r before) (events_in p r before) numbered same);
+  count = played.number ∙ ap (λ (n : ℕ). n + length (events_in p r before)) numbered;
+  stands = after;
+}
+
+-- a fault came between
+pub record_failed : {E S : Type 0} (p : PolicyView) (r : Told) (before : List Told) (number : ℕ) (place : Place) (result : Result ℕ E) (written_before written : Option (List ℕ)) (AfterIt : S → Type 0) (state : S)
+    → place.number ≡ number → place.switch ≡ r.switch → IsErr result → WrotePart (lines_of p (place_of place) (history_at p r before) (events_in p r before)) written_before written
+    → RecordPlayed p r before number result written_before written AfterIt state
+record_failed p r before number place result written_before written AfterIt state numbered same err part =
+    let text = lines_of p (record { number = number; switch = r.switch }) (history_at p r before) (events_in p r before) in
+    record {
+      writes = at_fault result text written_before written err (subst (λ (t : List ℕ). WrotePart t written_before written) (placed p place number r.switch (history_at p r before) (events_in p r before) numbered same) part);
+      count = no_ok (λ later. later ≡ number + length (events_in p r before)) result err;
+      stands = no_ok (λ _. AfterIt state) result err;
+    }
+
+-- the switch after it
+pub switch_after : (p : PolicyView) (r : Told) (before : List Told) (place later : Place) (new : Switch) → Played p (history_at p r before) (events_in p r before) place later new.desk → StreamsStand (length p.slices) r.switch (r ∷ before) new.streams
+    → SwitchStands p r.switch (r ∷ before) new
+switch_after p r before place later new played streams = record {
+  quiet = subst (λ (h : List Timed). IsQuiet p h new.desk) (sym (history_more p r before)) played.quiet;
+  framed = subst AreFramed (sym (history_more p r before)) played.framed;
+  streams = streams;
+}
+
+-- a stream at a slot that isn't there stays as it is
+set_past : (xs : List Stream) (at : ℕ) (x : Stream) → length xs ≤ at → xs ≡ set xs at x
+set_past [] at x past = refl
+set_past (y ∷ ys) zero x past = absurd (omega arith)
+set_past (y ∷ ys) (suc at) x past = ap (λ zs. y ∷ zs) (set_past ys at x (omega arith))
+
+pub nothing_restarts : (xs : List Stream) (at : ℕ) → length xs ≤ at → Restarts at xs xs
+nothing_restarts xs at past = (record { left = []; ended = false }, set_past xs at _ past, record { ended = refl; frames = λ later. refl })
+
+-- a record of a kind that is known
+pub by_kind : {E : Type 0} (p : PolicyView) (item : Item) (bytes : List ℕ) (kind number : ℕ) (result : Result ℕ E) (before after : Option (List ℕ)) (old new : Switch) → item.kind ≡ kind
+    → PlaysRecord p (record { kind = kind; switch = item.switch; slot = item.slot; moment = item.moment; bytes = bytes }) number result before after old new → PlaysRecord p (told_by item bytes) number result before after old new
+by_kind p item bytes kind number result before after old new is plays =
+    subst (λ (k : ℕ). PlaysRecord p (record { kind = k; switch = item.switch; slot = item.slot; moment = item.moment; bytes = bytes }) number result before after old new) (sym is) plays
+
+-- a fault before the record was played
+pub not_played : {E : Type 0} (p : PolicyView) (r : Told) (number : ℕ) (result : Result ℕ E) (told : Option (List ℕ)) (old new : Switch) → IsErr result → PlaysRecord p r number result told told old new
+not_played p r number result told old new err before stands =
+    let place : Place = record { number = number; switch = r.switch } in
+    record_failed p r before number place result told told (SwitchStands p r.switch (r ∷ before)) new refl refl err (none_of (lines_of p (place_of place) (history_at p r before) (events_in p r before)) told)
+
+-- a record of a switch's bytes, whose slot is 0
+pub by_bytes : {E : Type 0} (p : PolicyView) (item : Item) (bytes : List ℕ) (number : ℕ) (result : Result ℕ E) (before after : Option (List ℕ)) (old new : Switch) → item.kind ≡ switch_bytes → item.slot ≡ 0
+    → PlaysRecord p (record { kind = switch_bytes; switch = item.switch; slot = 0; moment = item.moment; bytes = bytes }) number result before after old new → PlaysRecord p (told_by item bytes) number result before after old new
+by_bytes p item bytes number result before after old new is none plays =
+    by_kind p item bytes switch_bytes number result before after old new is
+    (subst (λ (s : ℕ). PlaysRecord p (record { kind = switch_bytes; switch = item.switch; slot = s; moment = item.moment; bytes = bytes }) number result before after old new) (sym none) plays)
+
+-- the frames that a record completes, by its connection
+pub completed_by : (r : Told) (before : List Told) → (let fed = stream_before (connection r.switch r.kind r.slot) before in drop (length (frames_of fed)) (frames_of (fed ++ r.bytes))) ≡ completed r before
+completed_by r before = ap (λ (fed : List ℕ). drop (length (frames_of fed)) (frames_of (fed ++ r.bytes))) (sym (stream_by r before))
+
+-- the same frames are played the same way
+pub heard_same : {E : Type 0} (p : PolicyView) (moment : ℕ) (from : Dest) (h : List Timed) (place : Place) (result : Result Place E) (before after : Option (List ℕ)) (desk : Desk) (rest own : List (List ℕ)) → rest ≡ own
+    → Plays p moment h (map (event_from from) rest) place result before after desk → Plays p moment h (map (event_from from) own) place result before after desk
+heard_same p moment from h place result before after desk rest own same plays = subst (λ (frames : List (List ℕ)). Plays p moment h (map (event_from from) frames) place result before after desk) same plays
+
+pub wrote_same : (p : PolicyView) (moment : ℕ) (from : Dest) (h : List Timed) (place : Place) (before after : Option (List ℕ)) (rest own : List (List ℕ)) → rest ≡ own
+    → WrotePart (lines_of p (place_of place) h (happening p moment h (map (event_from from) rest))) before after → WrotePart (lines_of p (place_of place) h (happening p moment h (map (event_from from) own))) before after
+wrote_same p moment from h place before after rest own same part = subst (λ (frames : List (List ℕ)). WrotePart (lines_of p (place_of place) h (happening p moment h (map (event_from from) frames))) before after) same part
+
+pub less_or_more : (n m : ℕ) → (n < m → ⊥) → m ≤ n
+less_or_more n m unlike = elim (cases_Bool (ltb n m)) [ inl is ↦ absurd (unlike (ltb-true n m is)) | inr isnt ↦ ltb-false n m isnt ]
+
+pub found : {X : Type 0} (xs : List X) (at : ℕ) (x : X) → ltb at (length xs) ≡ true → x ≡ get_or xs at x → slice_get xs at ≡ Some x
+found xs at x within is = slice_get_read xs (length xs) at x refl (ltb-true at (length xs) within) is

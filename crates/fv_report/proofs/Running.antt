@@ -1,0 +1,201 @@
+-- All switches of a recording, and all its records.
+use Rattle.std.proofs.Common.{◌≡◌, ◌+◌, ◌<◌, ◌≤◌, ◌==◌, ◌||◌, ℕ, zero, suc, Bool, true, false, List, [], ◌∷◌, ◌++◌, drop, take, set, length, refl, sym, ap, ◌∙◌, append_assoc, subst, eqb-true, Option, Some, None, Result, Ok, Err, slice_get, get_or, add-one, arith}
+use Rattle.std.specs.Result.{IsErr}
+use Rattle.std.proofs.lemmas.List.Elements.{All-nil}
+use Rattle.std.proofs.lemmas.Bool.{cases_Bool}
+use Rattle.std.proofs.Common.{inl, inr}
+use Rattle.fv_base.specs.Told.{appended}
+use Rattle.of10_ctl.specs.Streams.{Stream, Stands, frames_of}
+use Rattle.flowspace.specs.Policies.{PolicyView}
+use Rattle.recording.specs.declared.item.Item.{Item}
+use Rattle.recording.specs.Recordings.{Told, IsItem, byte_limit, switch_bytes, slice_bytes}
+use Rattle.answer_bounds.specs.Bounds.{IsFramed, AreFramed}
+use Rattle.desk_words.specs.declared.event.Timed.{Timed}
+use Rattle.desk_words.specs.Recorded.{stream_before, history_of, history_at, events_in, carried, told_in}
+use Rattle.desk_words.specs.Reports as report
+use Rattle.desk_words.specs.Reports.{lines_of, last_line, report_from}
+use Rattle.fv_report.specs.declared.switch.Switch.{Switch}
+use Rattle.fv_report.specs.declared.streams.Streams.{Streams}
+use Rattle.fv_report.specs.Writing.{WrotePart, Wrote}
+use Rattle.fv_report.specs.Holding.{IsQuiet}
+use Rattle.fv_report.specs.Streams.{connection, StreamStands, StreamsStand}
+use Rattle.fv_report.specs.Switches.{told_by, IsRecord, IsFreshSwitch, SwitchStands, RecordPlayed, PlaysRecord, IsUntouched, IsAt, PlaysAt, AreUnknown, AllStand, PlaysAmong}
+use Rattle.fv_report.proofs.Writing.{both, part_of_first, part_of_second, at_fault, no_ok, none_of, wrote_second}
+use Rattle.fv_report.proofs.Recorded.{no_frames, history_other, stream_other, set_get, set_length}
+
+neither : (a b : Bool) → (a || b) ≡ false → (a ≡ false) × (b ≡ false)
+neither true b is = absurd cc
+neither false b is = (refl, is)
+
+-- ---- a switch of which nothing came
+
+no_stream : (switch kind slot : ℕ) (before : List Told) → IsUntouched switch before → stream_before (connection switch kind slot) before ≡ []
+no_stream switch kind slot [] none = refl
+no_stream switch kind slot (r ∷ before) none = let parts = neither (r.switch == switch) _ none in stream_other switch kind slot r before parts.0 ∙ no_stream switch kind slot before parts.1
+
+no_history : (p : PolicyView) (switch : ℕ) (before : List Told) → IsUntouched switch before → history_of p switch before ≡ []
+no_history p switch [] none = refl
+no_history p switch (r ∷ before) none = let parts = neither (r.switch == switch) _ none in history_other p switch r before parts.0 ∙ no_history p switch before parts.1
+
+unfed : (switch kind slot : ℕ) (before : List Told) (framer : Stream) → IsUntouched switch before → Stands framer [] [] → StreamStands (connection switch kind slot) before framer
+unfed switch kind slot before framer none stands = subst (λ (bytes : List ℕ). Stands framer bytes (frames_of bytes)) (sym (no_stream switch kind slot before none)) (subst (Stands framer []) no_frames stands)
+
+-- a fresh switch is the one of which nothing came
+pub fresh_stands : (p : PolicyView) (switch : ℕ) (before : List Told) (new : Switch) → IsUntouched switch before → IsFreshSwitch p new → SwitchStands p switch before new
+fresh_stands p switch before new none fresh = record {
+  quiet = subst (λ (h : List Timed). IsQuiet p h new.desk) (sym (no_history p switch before none)) fresh.quiet;
+  framed = subst AreFramed (sym (no_history p switch before none)) (All-nil (λ (t : Timed). IsFramed t.event));
+  streams = record {
+    of_switch = unfed switch switch_bytes 0 before new.streams.switch none fresh.streams.0;
+    number = fresh.streams.1.number;
+    of_slices = λ slot framer is. unfed switch slice_bytes slot before framer none (fresh.streams.1.each slot framer is);
+  };
+}
+
+-- ---- one record among all switches
+
+-- what follows for another state
+pub played_otherwise : {E S T : Type 0} (p : PolicyView) (r : Told) (before : List Told) (number : ℕ) (result : Result ℕ E) (a b : Option (List ℕ)) (First : S → Type 0) (Second : T → Type 0) (s : S) (t : T)
+    → RecordPlayed p r before number result a b First s → (First s → Second t) → RecordPlayed p r before number result a b Second t
+played_otherwise p r before number (Ok later) a b First Second s t played so = record { writes = played.writes; count = played.count; stands = so played.stands }
+played_otherwise p r before number (Err fault) a b First Second s t played so = record { writes = played.writes; count = tt; stands = tt }
+
+-- nothing was played before a fault
+pub none_played : {E S : Type 0} (p : PolicyView) (r : Told) (before : List Told) (number : ℕ) (result : Result ℕ E) (told : Option (List ℕ)) (AfterIt : S → Type 0) (state : S) → IsErr result → RecordPlayed p r before number result told told AfterIt state
+none_played p r before number result told AfterIt state err =
+    let text = lines_of p (record { number = number; switch = r.switch }) (history_at p r before) (events_in p r before) in
+    record {
+      writes = at_fault result text told told err (none_of text told);
+      count = no_ok (λ later. later ≡ number + length (events_in p r before)) result err;
+      stands = no_ok (λ _. AfterIt state) result err;
+    }
+
+-- a piece of its lines was written before a fault
+pub part_played : {E S : Type 0} (p : PolicyView) (r : Told) (before : List Told) (number : ℕ) (result : Result ℕ E) (told wrote : Option (List ℕ)) (AfterIt : S → Type 0) (state : S) → IsErr result
+    → WrotePart (lines_of p (record { number = number; switch = r.switch }) (history_at p r before) (events_in p r before)) told wrote → RecordPlayed p r before number result told wrote AfterIt state
+part_played p r before number result told wrote AfterIt state err part = record {
+  writes = at_fault result (lines_of p (record { number = number; switch = r.switch }) (history_at p r before) (events_in p r before)) told wrote err part;
+  count = no_ok (λ later. later ≡ number + length (events_in p r before)) result err;
+  stands = no_ok (λ _. AfterIt state) result err;
+}
+
+pub at_some : {E : Type 0} (p : PolicyView) (r : Told) (number : ℕ) (result : Result ℕ E) (a b : Option (List ℕ)) (old new : Switch) → PlaysRecord p r number result a b old new → PlaysAt p r number result a b (Some old) (Some new)
+at_some p r number result a b old new plays before is = played_otherwise p r before number result a b (SwitchStands p r.switch (r ∷ before)) (IsAt p r.switch (r ∷ before)) new (Some new) (plays before is) (λ stands. stands)
+
+pub at_none : {E : Type 0} (p : PolicyView) (r : Told) (number : ℕ) (result : Result ℕ E) (a b : Option (List ℕ)) (fresh new : Switch) → IsFreshSwitch p fresh → PlaysRecord p r number result a b fresh new → PlaysAt p r number result a b None (Some new)
+at_none p r number result a b fresh new is_fresh plays before none =
+    played_otherwise p r before number result a b (SwitchStands p r.switch (r ∷ before)) (IsAt p r.switch (r ∷ before)) new (Some new) (plays before (fresh_stands p r.switch before fresh none is_fresh)) (λ stands. stands)
+
+stream_stays : (switch kind slot : ℕ) (r : Told) (before : List Told) (framer : Stream) → (r.switch == switch) ≡ false → StreamStands (connection switch kind slot) before framer → StreamStands (connection switch kind slot) (r ∷ before) framer
+stream_stays switch kind slot r before framer other stands = subst (λ (bytes : List ℕ). Stands framer bytes (frames_of bytes)) (sym (stream_other switch kind slot r before other)) stands
+
+pub streams_other : (slices switch : ℕ) (r : Told) (before : List Told) (streams : Streams) → (r.switch == switch) ≡ false → StreamsStand slices switch before streams → StreamsStand slices switch (r ∷ before) streams
+streams_other slices switch r before streams other stands = record {
+  of_switch = stream_stays switch switch_bytes 0 r before streams.switch other stands.of_switch;
+  number = stands.number;
+  of_slices = λ slot framer is. stream_stays switch slice_bytes slot r before framer other (stands.of_slices slot framer is);
+}
+
+-- a record of one switch leaves the others
+at_other : (p : PolicyView) (number : ℕ) (r : Told) (before : List Told) (known : Option Switch) → (r.switch == number) ≡ false → IsAt p number before known → IsAt p number (r ∷ before) known
+at_other p number r before None other none = rw other none
+at_other p number r before (Some switch) other stands = record {
+  quiet = subst (λ (h : List Timed). IsQuiet p h switch.desk) (sym (history_other p number r before other)) stands.quiet;
+  framed = subst AreFramed (sym (history_other p number r before other)) stands.framed;
+  streams = streams_other (length p.slices) number r before switch.streams other stands.streams;
+}
+
+-- one switch was played, and the others stay
+pub among : {E : Type 0} (p : PolicyView) (r : Told) (number : ℕ) (result : Result ℕ E) (a b : Option (List ℕ)) (switches : List (Option Switch)) (old new : Option Switch) → slice_get switches r.switch ≡ Some old → PlaysAt p r number result a b old new
+    → PlaysAmong p r number result a b switches (set switches r.switch new)
+among p r number result a b switches old new is plays before stands =
+    played_otherwise p r before number result a b (IsAt p r.switch (r ∷ before)) (AllStand p (r ∷ before)) new (set switches r.switch new) (plays before (stands.each r.switch old is)) (λ own. record {
+      count = set_length switches r.switch new ∙ stands.count;
+      each = λ at known g. set_get (λ n s. IsAt p n (r ∷ before) s) switches r.switch new (λ n s unlike gs. at_other p n r before s unlike (stands.each n s gs)) own at known g;
+    })
+
+-- ---- all records
+
+unlike : (n m : ℕ) → (n ≡ m → ⊥) → (n == m) ≡ false
+unlike n m no_path = elim (cases_Bool (n == m)) [ inl is ↦ absurd (no_path (eqb-true n m is)) | inr isnt ↦ isnt ]
+
+no_bytes : (size kind : ℕ) (bytes : List ℕ) → size ≤ byte_limit kind → (kind == switch_bytes) ≡ false → (kind == slice_bytes) ≡ false → take size bytes ≡ []
+no_bytes size kind bytes within a b =
+    let none : byte_limit kind ≡ 0 = rw (a, b) refl in
+    let is : size ≡ 0 = omega (arith, within, none) in
+    ap (λ n. take n bytes) is
+
+-- a record of a file is one of a recording
+pub record_of : (slices : ℕ) (file : List ℕ) (item : Item) → IsItem slices file item → IsRecord slices item (carried file item)
+record_of slices file item is = record {
+  known = is.known;
+  switch = is.switch;
+  of_switch = is.of_switch;
+  of_slice = is.of_slice;
+  silent = λ a b. no_bytes item.size item.kind (drop item.from file) is.size (unlike item.kind switch_bytes a) (unlike item.kind slice_bytes b);
+}
+
+-- the records that are left of a file, and what is written so far
+pub record Running (p : PolicyView) (file : List ℕ) (all left : List Item) (events : ℕ) (before now : Option (List ℕ)) (switches : List (Option Switch)) : Type 0 where
+  pub past : List Told
+  pub stands : AllStand p past switches
+  pub done : List ℕ
+  pub written : now ≡ appended before done
+  pub whole : done ++ report_from p events past (told_in file left) ≡ report.report p (told_in file all)
+
+pub running_first : (p : PolicyView) (file : List ℕ) (all : List Item) (before : Option (List ℕ)) (switches : List (Option Switch)) → AreUnknown switches → before ≡ appended before [] → Running p file all all 0 before before switches
+running_first p file all before switches unknown same = record {
+  past = [];
+  stands = record { count = unknown.0; each = λ number switch is. subst (IsAt p number []) (sym (unknown.1 number switch is)) refl };
+  done = [];
+  written = same;
+  whole = refl;
+}
+
+-- one record more was played
+pub running_more : {E : Type 0} (p : PolicyView) (file : List ℕ) (all from left : List Item) (item : Item) (events later : ℕ) (before now after : Option (List ℕ)) (old new : List (Option Switch)) → from ≡ item ∷ left → (s : Running p file all from events before now old)
+    → RecordPlayed {E = E} p (told_by item (carried file item)) s.past events (Ok later) now after (AllStand p (told_by item (carried file item) ∷ s.past)) new → Running p file all left later before after new
+unfolding report_from
+running_more p file all from left item events later before now after old new is s played =
+    let r = told_by item (carried file item) in
+    let text = lines_of p (record { number = events; switch = r.switch }) (history_at p r s.past) (events_in p r s.past) in
+    record {
+      past = r ∷ s.past;
+      stands = played.stands;
+      done = s.done ++ text;
+      written = both before now after s.done text s.written played.writes;
+      whole =
+          append_assoc s.done text (report_from p later (r ∷ s.past) (told_in file left)) ∙ ap (λ (n : ℕ). s.done ++ (text ++ report_from p n (r ∷ s.past) (told_in file left))) played.count
+          ∙ ap (λ (items : List Item). s.done ++ report_from p events s.past (told_in file items)) (sym is) ∙ s.whole;
+    }
+
+-- a piece of the next record's lines was written
+pub running_part : {E : Type 0} (p : PolicyView) (file : List ℕ) (all from left : List Item) (item : Item) (events : ℕ) (fault : E) (before now after : Option (List ℕ)) (old new : List (Option Switch)) → from ≡ item ∷ left → (s : Running p file all from events before now old)
+    → RecordPlayed {E = E} p (told_by item (carried file item)) s.past events (Err fault) now after (AllStand p (told_by item (carried file item) ∷ s.past)) new → WrotePart (report.report p (told_in file all)) before after
+unfolding report_from
+running_part p file all from left item events fault before now after old new is s played =
+    let r = told_by item (carried file item) in
+    let text = lines_of p (record { number = events; switch = r.switch }) (history_at p r s.past) (events_in p r s.past) in
+    let rest = report_from p (events + length (events_in p r s.past)) (r ∷ s.past) (told_in file left) in
+    subst (λ t. WrotePart t before after) (ap (λ (items : List Item). s.done ++ report_from p events s.past (told_in file items)) (sym is) ∙ s.whole)
+    (part_of_second s.done (text ++ rest) before now after s.written (part_of_first text rest now after played.writes))
+
+-- all records were played, and the last line is written
+pub running_last : {A E : Type 0} (p : PolicyView) (file : List ℕ) (all : List Item) (events : ℕ) (before now after : Option (List ℕ)) (old : List (Option Switch)) (result : Result A E) (s : Running p file all [] events before now old)
+    → Wrote result (last_line events) now after → Wrote result (report.report p (told_in file all)) before after
+unfolding report_from
+running_last p file all events before now after old result s wrote =
+    subst (λ t. Wrote result t before after) s.whole (wrote_second result s.done (last_line events) before now after s.written wrote)
+
+left_then : (items : List Item) (i : ℕ) (other : Item) → i < length items → drop i items ≡ get_or items i other ∷ drop (suc i) items
+left_then [] i other within = absurd (omega arith)
+left_then (item ∷ items) zero other within = refl
+left_then (item ∷ items) (suc i) other within = left_then items i other (omega arith)
+
+-- what is left from a place on is the record there, and what is left behind it
+pub left_more : (items : List Item) (i : ℕ) (other : Item) → i < length items → drop i items ≡ get_or items i other ∷ drop (i + 1) items
+left_more items i other within = left_then items i other within ∙ ap (λ n. get_or items i other ∷ drop n items) (sym (add-one i))
+
+pub none_left : (items : List Item) (i : ℕ) → i ≡ length items → drop i items ≡ []
+none_left [] i is = ap (λ n. drop n []) is
+none_left (item ∷ items) i is = ap (λ n. drop n (item ∷ items)) is ∙ none_left items (length items) refl

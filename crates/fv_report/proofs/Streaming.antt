@@ -1,0 +1,39 @@
+-- Frames that are taken one after another, and fresh framers.
+use Rattle.std.proofs.Common.{◌≡◌, ◌+◌, ◌*◌, ◌<◌, ◌≤◌, ℕ, zero, suc, Bool, true, false, List, [], ◌∷◌, ◌++◌, length, sym, ap, ◌∙◌, subst, true≢false, Option, Some, None, IfSome, slice_get, arith}
+use Rattle.std.proofs.lemmas.List.{append-nil}
+use Rattle.of10_ctl.specs.declared.framer.Next.{Next}
+use Rattle.of10_ctl.specs.declared.framer.Next.TheVariants.{Frame, NeedMore, Ended}
+use Rattle.of10_ctl.specs.Streams.{Stream, Stands, frames_of, has_bad, answer, frame_in}
+use Rattle.of10_ctl.proofs.Answering.{frame_exact, need_more_exact, ended_exact}
+use Rattle.fv_report.specs.Streams.{frame_given, TookFrame}
+
+-- a framer that ended gave all frames
+ended_all : (s : Stream) (fed : List ℕ) (given : List (List ℕ)) → Stands s fed given → has_bad given ≡ true → given ≡ frames_of fed
+ended_all s fed given stands bad =
+    sym (ap frames_of (sym (append-nil fed)) ∙ stands.frames [] ∙ rw (stands.ended ∙ bad) (append-nil given))
+
+-- what a framer answers says which frame was taken
+pub took : (old new : Stream) (fed : List ℕ) (given : List (List ℕ)) (next : Next) → Stands old fed given → next ≡ answer fed given → Stands new fed (given ++ frame_in next) → TookFrame (frame_given next) fed given new
+took old new fed given (Frame frame) stands is then = ((frame_exact old fed given frame stands).0 (sym is), then)
+took old new fed given NeedMore stands is then = (((need_more_exact old fed given stands).0 (sym is)).0, subst (Stands new fed) (append-nil given) then)
+took old new fed given Ended stands is then = (ended_all old fed given stands ((ended_exact old fed given stands).0 (sym is)), subst (Stands new fed) (append-nil given) then)
+
+pub shorter_by : (next : Next) (before after : ℕ) → after + 8 * length (frame_in next) ≤ before → IfSome (frame_given next) (λ _. after < before)
+shorter_by (Frame frame) before after less = omega arith
+shorter_by NeedMore before after less = tt
+shorter_by Ended before after less = tt
+
+abbrev is_there : Option Stream → Bool
+is_there None = false
+is_there (Some stream) = true
+
+-- one fresh framer more
+pub fresh_more : (framers : List Stream) (new : Stream) → ((slot : ℕ) (framer : Stream) → slice_get framers slot ≡ Some framer → Stands framer [] []) → Stands new [] []
+    → (slot : ℕ) (framer : Stream) → slice_get (framers ++ new ∷ []) slot ≡ Some framer → Stands framer [] []
+fresh_more [] new each own zero framer is = subst (λ f. Stands f [] []) (ap (λ (o : Option Stream). elim o [ None ↦ new | Some f ↦ f ]) is) own
+fresh_more [] new each own (suc slot) framer is = absurd (true≢false (sym (ap is_there is)))
+fresh_more (first ∷ others) new each own zero framer is = each 0 framer is
+fresh_more (first ∷ others) new each own (suc slot) framer is = fresh_more others new (λ at f g. each (suc at) f g) own slot framer is
+
+pub fresh_none : (slot : ℕ) (framer : Stream) → slice_get {X = Stream} [] slot ≡ Some framer → Stands framer [] []
+fresh_none slot framer is = absurd (true≢false (sym (ap is_there is)))

@@ -1,0 +1,59 @@
+-- Texts that are written one after another.
+use Rattle.std.proofs.Common.{◌≡◌, ℕ, List, [], ◌++◌, refl, sym, ap, ◌∙◌, append_assoc, Option, Some, None, Result, Ok, Err, IfOk, OnOk}
+use Rattle.std.specs.Result.{IsErr}
+use Rattle.std.proofs.lemmas.List.{append-nil}
+use Rattle.fv_base.specs.Told.{appended}
+use Rattle.fv_report.specs.Writing.{WrotePart, Wrote}
+
+pub appended_twice : (told : Option (List ℕ)) (first second : List ℕ) → appended (appended told first) second ≡ appended told (first ++ second)
+appended_twice None first second = refl
+appended_twice (Some before) first second = ap Some (append_assoc before first second)
+
+pub appended_none : (told : Option (List ℕ)) → told ≡ appended told []
+appended_none None = refl
+appended_none (Some before) = ap Some (sym (append-nil before))
+
+-- two texts were written
+pub both : (before now later : Option (List ℕ)) (first second : List ℕ) → now ≡ appended before first → later ≡ appended now second → later ≡ appended before (first ++ second)
+both before now later first second a b = b ∙ ap (λ told. appended told second) a ∙ appended_twice before first second
+
+-- nothing of a text was written
+pub none_of : (text : List ℕ) (before : Option (List ℕ)) → WrotePart text before before
+none_of text before = ([], (text, refl), appended_none before)
+
+-- a piece of the first of two texts
+pub part_of_first : (first second : List ℕ) (before now : Option (List ℕ)) → WrotePart first before now → WrotePart (first ++ second) before now
+part_of_first first second before now (piece, (rest, is), told) = (piece, (rest ++ second, sym (append_assoc piece rest second) ∙ ap (λ text. text ++ second) is), told)
+
+-- the first of two texts, and a piece of the second
+pub part_of_second : (first second : List ℕ) (before now later : Option (List ℕ)) → now ≡ appended before first → WrotePart second now later → WrotePart (first ++ second) before later
+part_of_second first second before now later a (piece, (rest, is), told) =
+    (first ++ piece, (rest, append_assoc first piece rest ∙ ap (λ text. first ++ text) is), both before now later first piece a told)
+
+-- a whole text is a piece of itself
+pub part_of_all : (text : List ℕ) (before now : Option (List ℕ)) → now ≡ appended before text → WrotePart text before now
+part_of_all text before now a = (text, ([], append-nil text), a)
+
+-- after the first of two texts the second
+pub wrote_second : {A E : Type 0} (result : Result A E) (first second : List ℕ) (before now later : Option (List ℕ)) → now ≡ appended before first → Wrote result second now later → Wrote result (first ++ second) before later
+wrote_second (Ok value) first second before now later a b = both before now later first second a b
+wrote_second (Err fault) first second before now later a b = part_of_second first second before now later a b
+
+-- at a fault a piece was written
+pub at_fault : {A E : Type 0} (result : Result A E) (text : List ℕ) (before now : Option (List ℕ)) → IsErr result → WrotePart text before now → Wrote result text before now
+at_fault (Err fault) text before now is part = part
+at_fault (Ok value) text before now is part = absurd cc
+
+-- what is said of a success holds at a fault
+pub no_ok : {A E : Type 0} (P : A → Type 0) (result : Result A E) → IsErr result → IfOk result P
+no_ok P (Err fault) is = tt
+no_ok P (Ok value) is = absurd cc
+
+pub not_ok : {A E : Type 0} (P : Type 0) (result : Result A E) → IsErr result → OnOk result P
+not_ok P (Err fault) is = tt
+not_ok P (Ok value) is = absurd cc
+
+-- what holds holds at a success
+pub on_ok : {A E P : Type 0} (result : Result A E) → P → OnOk result P
+on_ok (Ok value) holds = holds
+on_ok (Err fault) holds = tt

@@ -1,0 +1,44 @@
+use Rattle.std.proofs.Common.{◌≡◌, ℕ, List, subst, arith}
+use Rattle.fv_base.specs.Told.{appended}
+use Rattle.desk_words.specs.Reports.{lane_lines}
+use Rattle.fv_report.specs.Lines.{place_of}
+use Rattle.fv_report.specs.Writing.{WrotePart}
+use Rattle.fv_report.specs.Holding.{Holds}
+use Rattle.fv_report.proofs.Writing.{at_fault}
+use Rattle.fv_report.proofs.Draining.{lane_text, drained_more, drained_part, drained_all, drained_end}
+use Rattle.fv_report.proofs.drain.drain_lane.Goals as goal
+
+pub returns-in_err-put_line-clause-writes : goal.returns-in_err-put_line-clause-writes
+returns-in_err-put_line-clause-writes g c = λ policy h slices lane holds.
+    let place = place_of c.args.place in
+    let now = g.K.Sink.contents c.loop-message.out in
+    let later = g.K.Sink.contents c.put_line.new.out in
+    let d = c.loop-message.invariant.drained policy h slices lane holds in
+    at_fault c.from_residual.result (lane_lines place lane) (g.K.Sink.contents c.args.out.now) later c.from_residual.ensures.0
+    (drained_part (λ messages. Holds policy h slices messages c.loop-message.desk) (lane_text place) lane (g.K.Sink.contents c.args.out.now) now later c.in-Some.message d
+    (c.in-Some.ensures.takes policy h slices d.left d.holds).0 (subst (λ (m : List ℕ). WrotePart (lane_text place m) now later) c.as_slice.ensures.value c.in_err-put_line.ensures.writes))
+
+pub loop-message-preserved : goal.loop-message-preserved
+loop-message-preserved g c = record {
+  drained = λ policy h slices lane holds.
+      let place = place_of c.args.place in
+      let now = g.K.Sink.contents c.loop-message.out in
+      let later = g.K.Sink.contents c.put_line.new.out in
+      let d = c.loop-message.invariant.drained policy h slices lane holds in
+      let next = c.in-Some.ensures.takes policy h slices d.left d.holds in
+      drained_more (λ messages. Holds policy h slices messages c.loop-message.desk) (λ messages. Holds policy h slices messages c.next_of_lane.new.desk) (lane_text place) lane (g.K.Sink.contents c.args.out.now) now later c.in-Some.message d
+      next.0 next.1 (subst (λ (m : List ℕ). later ≡ appended now (lane_text place m)) c.as_slice.ensures.value c.in_ok-put_line.ensures.writes);
+  count = let before = c.loop-message.invariant.count in let after = c.put_line.ensures.count in omega arith;
+}
+
+pub returns-clause-writes : goal.returns-clause-writes
+returns-clause-writes g c = λ policy h slices lane holds.
+    let d = c.loop-message.invariant.drained policy h slices lane holds in
+    drained_all (λ messages. Holds policy h slices messages c.loop-message.desk) (lane_text (place_of c.args.place)) lane (g.K.Sink.contents c.args.out.now) (g.K.Sink.contents c.loop-message.out) d
+    (c.in_default.ensures.takes policy h slices d.left d.holds).0
+
+pub returns-clause-empties : goal.returns-clause-empties
+returns-clause-empties g c = λ policy h slices lane holds.
+    let d = c.loop-message.invariant.drained policy h slices lane holds in
+    let next = c.in_default.ensures.takes policy h slices d.left d.holds in
+    drained_end (λ messages. Holds policy h slices messages c.next_of_lane.new.desk) d.left next.0 next.1

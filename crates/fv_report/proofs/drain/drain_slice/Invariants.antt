@@ -1,0 +1,20 @@
+use Rattle.std.proofs.Common.{◌≤◌, ℕ, List}
+use Rattle.flowspace.specs.Policies.{PolicyView}
+use Rattle.desk_words.specs.declared.event.Timed.{Timed}
+use Rattle.desk_words.specs.declared.answer.Dest.TheVariants.{Slice}
+use Rattle.proxy_core.specs.Desks.{left}
+use Rattle.fv_report.specs.Lines.{place_of}
+use Rattle.fv_report.specs.Holding.{Holds, with_waiting}
+use Rattle.fv_report.proofs.Draining.{slice_text, Drained}
+use Rattle.fv_report.proofs.drain.drain_slice.Given as goal
+
+abbrev pub invariant-loop-message : goal.invariant-loop-message
+invariant-loop-message g l = record {
+  drained : (policy : PolicyView) (h : List Timed) (slices : ℕ → List (List ℕ)) (lane : List (List ℕ)) → Holds policy h slices lane l.fn.desk
+      → Drained (λ messages. Holds policy h (with_waiting l.slot messages slices) lane l.desk) (slice_text (place_of l.place) l.name) (slices l.slot)
+      (g.K.Sink.contents l.fn.out) (g.K.Sink.contents l.out);
+  count : g.K.Sink.faults l.fn.out ≤ g.K.Sink.faults l.out;
+}
+
+abbrev pub decreases-loop-message : goal.decreases-loop-message
+decreases-loop-message g l = left (Slice l.slot) l.desk

@@ -1,0 +1,54 @@
+use Rattle.std.proofs.Common.{◌≡◌, ℕ, List, length, refl, ap, subst, Some, slice_get, arith}
+use Rattle.std.proofs.lemmas.Option.{slice_get_read}
+use Rattle.flowspace.specs.declared.slices.Slice.{Slice}
+use Rattle.fv_report.specs.Lines.{place_of}
+use Rattle.fv_report.specs.Holding.{Holds, from_slot}
+use Rattle.fv_report.specs.Slices.{lines_by_slot}
+use Rattle.fv_report.proofs.Holding.{holds_next, holds_none}
+use Rattle.fv_report.proofs.Writing.{at_fault}
+use Rattle.fv_report.proofs.Slices.{slot_more, slot_part, slots_done}
+use Rattle.fv_report.proofs.drain.drain_slices.Goals as goal
+
+pub returns-in_err-drain_slice-clause-writes : goal.returns-in_err-drain_slice-clause-writes
+returns-in_err-drain_slice-clause-writes g c = λ h slices lane holds.
+    let at = c.loop-slot.slot in
+    let all = c.args.policy.now.slices in
+    let place = place_of c.args.place in
+    let whole = lines_by_slot place slices 0 all in
+    let before = g.K.Sink.contents c.args.out.now in
+    let now = g.K.Sink.contents c.loop-slot.out in
+    let later = g.K.Sink.contents c.drain_slice.new.out in
+    let d = c.loop-slot.invariant.drained h slices lane holds in
+    at_fault c.from_residual.result whole before later c.from_residual.ensures.0
+    (slot_part place slices all at c.slice-item.result c.as_str.result.now d.0 whole before now later (subst (λ (xs : List Slice). slice_get xs at ≡ Some c.slice-item.result) c.slices-slice-items.ensures.value (slice_get_read c.slices-slice-items.result.now (length c.slices-slice-items.result.now) at c.slice-item.result refl c.loop-slot-test.true c.slice-item.is)) c.as_str.ensures d.1 d.2
+    (c.in_err-drain_slice.ensures.writes c.args.policy.now h (from_slot at slices) lane d.3))
+
+pub loop-slot-preserved : goal.loop-slot-preserved
+loop-slot-preserved g c = record {
+  drained = λ h slices lane holds.
+      let at = c.loop-slot.slot in
+      let all = c.args.policy.now.slices in
+      let place = place_of c.args.place in
+      let d = c.loop-slot.invariant.drained h slices lane holds in
+      let more = slot_more place slices all at c.slice-item.result c.as_str.result.now d.0 (lines_by_slot place slices 0 all) (g.K.Sink.contents c.args.out.now) (g.K.Sink.contents c.loop-slot.out) (g.K.Sink.contents c.drain_slice.new.out)
+      (subst (λ (xs : List Slice). slice_get xs at ≡ Some c.slice-item.result) c.slices-slice-items.ensures.value (slice_get_read c.slices-slice-items.result.now (length c.slices-slice-items.result.now) at c.slice-item.result refl c.loop-slot-test.true c.slice-item.is)) c.as_str.ensures d.1 d.2 (c.in_ok-drain_slice.ensures.writes c.args.policy.now h (from_slot at slices) lane d.3) in
+      (more.0, more.1, more.2, holds_next c.args.policy.now h at slices lane c.drain_slice.new.desk (c.in_ok-drain_slice.ensures.empties c.args.policy.now h (from_slot at slices) lane d.3));
+  count = let before = c.loop-slot.invariant.count in let after = c.drain_slice.ensures.count in omega arith;
+}
+
+pub returns-clause-writes : goal.returns-clause-writes
+returns-clause-writes g c = λ h slices lane holds.
+    let d = c.loop-slot.invariant.drained h slices lane holds in
+    let out = c.loop-slot-test.false in
+    let within = c.loop-slot.auto.slot-end in
+    let same = ap length c.slices-slice-items.ensures.value in
+    slots_done (place_of c.args.place) slices c.args.policy.now.slices c.loop-slot.slot d.0 (lines_by_slot (place_of c.args.place) slices 0 c.args.policy.now.slices) (g.K.Sink.contents c.args.out.now) (g.K.Sink.contents c.loop-slot.out) (omega arith) d.1 d.2
+
+pub returns-clause-empties : goal.returns-clause-empties
+returns-clause-empties g c = λ h slices lane holds.
+    let d = c.loop-slot.invariant.drained h slices lane holds in
+    let out = c.loop-slot-test.false in
+    let within = c.loop-slot.auto.slot-end in
+    let same = ap length c.slices-slice-items.ensures.value in
+    let end : c.loop-slot.slot ≡ length c.args.policy.now.slices = omega arith in
+    holds_none c.args.policy.now h slices lane c.loop-slot.desk (subst (λ (n : ℕ). Holds c.args.policy.now h (from_slot n slices) lane c.loop-slot.desk) end d.3)

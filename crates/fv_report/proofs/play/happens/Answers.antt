@@ -1,0 +1,8 @@
+use Rattle.std.proofs.Common.{not, ap, ◌∙◌, sym}
+use Rattle.desk_words.specs.declared.answer.Dest.{Dest}
+use Rattle.desk_words.specs.Recorded.{happens}
+use Rattle.fv_report.specs.Plays.{event_from}
+use Rattle.fv_report.proofs.play.happens.Goals as goal
+
+pub returns-in-Switch-clause-answer : goal.returns-in-Switch-clause-answer
+returns-in-Switch-clause-answer c = λ p h message quiet. ap not (c.has_ended.ensures.answer p h quiet) ∙ ap (λ (from : Dest). happens p h (event_from from message)) (sym c.in-Switch.is)

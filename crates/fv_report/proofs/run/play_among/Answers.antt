@@ -1,0 +1,18 @@
+use Rattle.std.proofs.Common.{◌≡◌, ℕ, Some, set, slice_get, subst, sym, arith}
+use Rattle.std.proofs.lemmas.Option.{slice_get_read}
+use Rattle.fv_report.specs.Switches.{told_by, PlaysAmong}
+use Rattle.fv_report.proofs.Running.{among}
+use Rattle.fv_report.proofs.run.play_among.Goals as goal
+
+pub returns-clause-plays : goal.returns-clause-plays
+returns-clause-plays g c =
+    let p = c.args.policy.now in
+    let r = told_by c.args.item.now c.args.bytes.now in
+    let xs = c.args.switches.now in
+    let ok = xs.ok.0 in
+    let switch = c.requires.item.switch in
+    let count = c.requires.count in
+    let same = c.from.ensures in
+    let there : slice_get xs.items r.switch ≡ Some c.index_mut-known.result.now = subst (λ (n : ℕ). slice_get xs.items n ≡ Some c.index_mut-known.result.now) same (slice_get_read xs.items _ c.from.result c.index_mut-known.result.now ok (omega arith) c.index_mut-known.ensures.value) in
+    subst (λ (n : ℕ). PlaysAmong p r c.args.events c.play_at.result (g.K.Sink.contents c.args.out.now) (g.K.Sink.contents c.play_at.new.out) xs.items (set xs.items n c.play_at.new.known)) (sym same)
+    (among p r c.args.events c.play_at.result (g.K.Sink.contents c.args.out.now) (g.K.Sink.contents c.play_at.new.out) xs.items c.index_mut-known.result.now c.play_at.new.known there c.play_at.ensures.plays)

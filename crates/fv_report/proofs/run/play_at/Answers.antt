@@ -1,0 +1,26 @@
+use Rattle.std.proofs.Common.{◌∷◌, Option, Some, Ok, subst, sym}
+use Rattle.fv_report.specs.declared.switch.Switch.{Switch}
+use Rattle.fv_report.specs.Switches.{told_by, IsAt, PlaysAt}
+use Rattle.fv_report.proofs.Running.{none_played, part_played, at_none, fresh_stands}
+use Rattle.fv_report.proofs.run.play_at.Goals as goal
+
+pub returns-in_err-switch-in-None-clause-plays : goal.returns-in_err-switch-in-None-clause-plays
+returns-in_err-switch-in-None-clause-plays g c = λ before is.
+    let p = c.args.policy.now in
+    let r = told_by c.args.item.now c.args.bytes.now in
+    none_played p r before c.args.events c.from_residual.result (g.K.Sink.contents c.args.out.now) (IsAt p r.switch (r ∷ before)) _ c.from_residual.ensures.0
+
+pub returns-in_err-later-in-None-clause-plays : goal.returns-in_err-later-in-None-clause-plays
+returns-in_err-later-in-None-clause-plays g c = λ before is.
+    let p = c.args.policy.now in
+    let r = told_by c.args.item.now c.args.bytes.now in
+    let none = subst (λ (known : Option Switch). IsAt p r.switch before known) c.in-None.is is in
+    part_played p r before c.args.events c.from_residual-in_err-later-in-None.result (g.K.Sink.contents c.args.out.now) (g.K.Sink.contents c.play_record-in-None.new.out) (IsAt p r.switch (r ∷ before)) _ c.from_residual-in_err-later-in-None.ensures.0
+    (c.in_err-later-in-None.ensures.plays before (fresh_stands p r.switch before c.in_ok-switch-in-None.switch none c.in_ok-switch-in-None.ensures)).writes
+
+pub returns-in_ok-later-in-None-clause-plays : goal.returns-in_ok-later-in-None-clause-plays
+returns-in_ok-later-in-None-clause-plays g c =
+    let p = c.args.policy.now in
+    let r = told_by c.args.item.now c.args.bytes.now in
+    subst (λ (known : Option Switch). PlaysAt p r c.args.events (Ok c.in_ok-later-in-None.later) (g.K.Sink.contents c.args.out.now) (g.K.Sink.contents c.play_record-in-None.new.out) known (Some c.play_record-in-None.new.switch)) (sym c.in-None.is)
+    (at_none p r c.args.events (Ok c.in_ok-later-in-None.later) (g.K.Sink.contents c.args.out.now) (g.K.Sink.contents c.play_record-in-None.new.out) c.in_ok-switch-in-None.switch c.play_record-in-None.new.switch c.in_ok-switch-in-None.ensures c.in_ok-later-in-None.ensures.plays)

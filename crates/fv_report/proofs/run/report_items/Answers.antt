@@ -1,0 +1,53 @@
+use Rattle.std.proofs.Common.{List, drop, ◌+◌, subst, arith}
+use Rattle.recording.specs.declared.item.Item.{Item}
+use Rattle.desk_words.specs.Recorded.{told_in}
+use Rattle.desk_words.specs.Reports.{report}
+use Rattle.fv_report.proofs.Writing.{at_fault, appended_none}
+use Rattle.fv_report.proofs.Running.{Running, running_first, running_more, running_part, running_last, left_more, none_left}
+use Rattle.fv_report.proofs.run.report_items.Goals as goal
+
+pub loop-item-init : goal.loop-item-init
+loop-item-init g c = record {
+  running = running_first c.args.policy.now c.args.bytes.now c.args.items.now (g.K.Sink.contents c.args.out.now) c.in_ok-switches.switches.items c.in_ok-switches.ensures (appended_none (g.K.Sink.contents c.args.out.now));
+  sixteen = c.in_ok-switches.ensures.0;
+  count = omega arith;
+}
+
+pub returns-in_err-events-clause-writes : goal.returns-in_err-events-clause-writes
+returns-in_err-events-clause-writes g c =
+    let p = c.args.policy.now in
+    let file = c.args.bytes.now in
+    let all = c.args.items.now in
+    let i = c.loop-item.item-index in
+    let before = g.K.Sink.contents c.args.out.now in
+    let now = g.K.Sink.contents c.loop-item.out in
+    let after = g.K.Sink.contents c.play_item.new.out in
+    let s = c.loop-item.invariant.running in
+    at_fault c.from_residual-in_err-events.result (report p (told_in file all)) before after c.from_residual-in_err-events.ensures.0
+    (running_part p file all (drop i all) (drop (i + 1) all) _ c.loop-item.events _ before now after c.loop-item.switches.items c.play_item.new.switches.items (left_more all i _ c.loop-item-test.true) s (c.in_err-events.ensures.plays s.past s.stands))
+
+pub loop-item-preserved : goal.loop-item-preserved
+loop-item-preserved g c =
+    let p = c.args.policy.now in
+    let file = c.args.bytes.now in
+    let all = c.args.items.now in
+    let i = c.loop-item.item-index in
+    let before = g.K.Sink.contents c.args.out.now in
+    let now = g.K.Sink.contents c.loop-item.out in
+    let after = g.K.Sink.contents c.play_item.new.out in
+    let s = c.loop-item.invariant.running in
+    record {
+      running = running_more p file all (drop i all) (drop (i + 1) all) _ c.loop-item.events c.in_ok-events.events before now after c.loop-item.switches.items c.play_item.new.switches.items (left_more all i _ c.loop-item-test.true) s (c.in_ok-events.ensures.plays s.past s.stands);
+      sixteen = c.play_item.ensures.length;
+      count = let was = c.loop-item.invariant.count in let is = c.play_item.ensures.count in omega arith;
+    }
+
+pub returns-clause-writes : goal.returns-clause-writes
+returns-clause-writes g c =
+    let p = c.args.policy.now in
+    let file = c.args.bytes.now in
+    let all = c.args.items.now in
+    let out = c.loop-item-test.false in
+    let end = c.loop-item.auto.item-index-end in
+    let s = subst (λ (left : List Item). Running p file all left c.loop-item.events (g.K.Sink.contents c.args.out.now) (g.K.Sink.contents c.loop-item.out) c.loop-item.switches.items) (none_left all c.loop-item.item-index (omega arith)) c.loop-item.invariant.running in
+    running_last p file all c.loop-item.events (g.K.Sink.contents c.args.out.now) (g.K.Sink.contents c.loop-item.out) (g.K.Sink.contents c.put_last.new.out) c.loop-item.switches.items c.put_last.result s c.put_last.ensures.writes

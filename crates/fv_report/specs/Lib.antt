@@ -1,0 +1,10 @@
+pub mod Writing
+pub mod Lines
+pub mod Slices
+pub mod Holding
+pub mod Taking
+pub mod Turns
+pub mod Streams
+pub mod Plays
+pub mod Switches
+pub mod Lacks

@@ -1,0 +1,77 @@
+-- Switches of a recording after some of its records (this proxy's own rule). Records have the newest first.
+use Rattle.std.specs.Prelude.{ℕ, ◌≡◌, ◌≤◌, ◌<◌, ◌+◌, ◌==◌, false, List, [], ◌∷◌, length, slice_get, Option, Some, None, Result, IfOk}
+use Rattle.std.specs.List.{list_any}
+use Rattle.flowspace.specs.Policies.{PolicyView}
+use Rattle.recording.specs.declared.item.Item.{Item}
+use Rattle.recording.specs.Recordings.{Told, switch_bytes, slice_up, slice_bytes}
+use Rattle.answer_bounds.specs.Bounds.{AreFramed}
+use Rattle.desk_words.specs.Recorded.{history_of, history_at, events_in}
+use Rattle.desk_words.specs.Reports.{lines_of}
+use Rattle.fv_report.specs.declared.switch.Switch.{Switch}
+use Rattle.fv_report.specs.Writing.{Wrote}
+use Rattle.fv_report.specs.Holding.{IsQuiet}
+use Rattle.fv_report.specs.Streams.{AreFresh, StreamsStand}
+
+-- what a record with these bytes tells
+abbrev pub told_by : Item → List ℕ → Told
+told_by item bytes = record { kind = item.kind; switch = item.switch; slot = item.slot; moment = item.moment; bytes = bytes }
+
+-- nothing has happened at a switch yet
+pub record IsFreshSwitch (policy : PolicyView) (switch : Switch) : Type 0 where
+  pub quiet : IsQuiet policy [] switch.desk
+  pub streams : AreFresh (length policy.slices) switch.streams
+
+-- a switch is the one of a number after records
+pub record SwitchStands (policy : PolicyView) (number : ℕ) (before : List Told) (switch : Switch) : Type 0 where
+  pub quiet : IsQuiet policy (history_of policy number before) switch.desk
+  pub framed : AreFramed (history_of policy number before)
+  pub streams : StreamsStand (length policy.slices) number before switch.streams
+
+-- the lines of a record's events were written, and what follows is told where all of them were
+pub record RecordPlayed {E S : Type 0} (policy : PolicyView) (r : Told) (before : List Told) (number : ℕ) (result : Result ℕ E) (written_before written : Option (List ℕ)) (AfterIt : S → Type 0) (state : S) : Type 0 where
+  pub writes : Wrote result (lines_of policy (record { number = number; switch = r.switch }) (history_at policy r before) (events_in policy r before)) written_before written
+  pub count : IfOk result (λ later. later ≡ number + length (events_in policy r before))
+  pub stands : IfOk result (λ _. AfterIt state)
+
+-- a record is played at its switch
+abbrev pub PlaysRecord : {E : Type 0} → PolicyView → Told → ℕ → Result ℕ E → Option (List ℕ) → Option (List ℕ) → Switch → Switch → Type 0
+PlaysRecord policy r number result written_before written old new =
+    (before : List Told) → SwitchStands policy r.switch before old
+    → RecordPlayed policy r before number result written_before written (SwitchStands policy r.switch (r ∷ before)) new
+
+-- no record is of the switch
+abbrev pub IsUntouched : ℕ → List Told → Type 0
+IsUntouched number before = list_any (λ r. r.switch == number) before ≡ false
+
+abbrev pub IsAt : PolicyView → ℕ → List Told → Option Switch → Type 0
+IsAt policy number before None = IsUntouched number before
+IsAt policy number before (Some switch) = SwitchStands policy number before switch
+
+-- the same, where there may not have been the switch before
+abbrev pub PlaysAt : {E : Type 0} → PolicyView → Told → ℕ → Result ℕ E → Option (List ℕ) → Option (List ℕ) → Option Switch → Option Switch → Type 0
+PlaysAt policy r number result written_before written old new =
+    (before : List Told) → IsAt policy r.switch before old
+    → RecordPlayed policy r before number result written_before written (IsAt policy r.switch (r ∷ before)) new
+
+-- each switch is the one of its number after records
+pub record AllStand (policy : PolicyView) (before : List Told) (switches : List (Option Switch)) : Type 0 where
+  pub count : length switches ≡ 16
+  pub each : (number : ℕ) (switch : Option Switch) → slice_get switches number ≡ Some switch → IsAt policy number before switch
+
+-- the same of a record at all switches
+abbrev pub PlaysAmong : {E : Type 0} → PolicyView → Told → ℕ → Result ℕ E → Option (List ℕ) → Option (List ℕ) → List (Option Switch) → List (Option Switch) → Type 0
+PlaysAmong policy r number result written_before written old new =
+    (before : List Told) → AllStand policy before old
+    → RecordPlayed policy r before number result written_before written (AllStand policy (r ∷ before)) new
+
+-- a record of a recording: a known kind, one of 16 switches, slot 0 or a slot of the policy, and bytes only where its kind has them
+pub record IsRecord (slices : ℕ) (item : Item) (bytes : List ℕ) : Type 0 where
+  pub known : item.kind ≤ 5
+  pub switch : item.switch < 16
+  pub of_switch : item.kind < slice_up → item.slot ≡ 0
+  pub of_slice : slice_up ≤ item.kind → item.slot < slices
+  pub silent : (item.kind ≡ switch_bytes → ⊥) → (item.kind ≡ slice_bytes → ⊥) → bytes ≡ []
+
+-- sixteen switches of which nothing is known
+abbrev pub AreUnknown : List (Option Switch) → Type 0
+AreUnknown switches = (length switches ≡ 16) × ((number : ℕ) (switch : Option Switch) → slice_get switches number ≡ Some switch → switch ≡ None)

@@ -1,0 +1,220 @@
+//! What of a recording isn't built yet.
+
+ghost use Rattle.std.specs.Prelude.{◌≡◌, [], zip, IfOk, option_map};
+ghost use Rattle.std.specs.List.{All};
+ghost use Rattle.of10_ctl.specs.Frames.{IsFrame};
+ghost use Rattle.recording.specs.Recordings.{IsItem};
+ghost use Rattle.desk_words.specs.Openings.{is_of};
+ghost use Rattle.desk_words.specs.Recorded.{told_in};
+ghost use Rattle.desk_words.specs.Built.{is_one_of, is_special, is_special_packet_in, is_unbuilt_of_switch, is_unbuilt_of_slice, first_lack};
+ghost use Rattle.fv_report.specs.Switches.{told_by, IsRecord};
+ghost use Rattle.fv_report.specs.Lacks.{is_unbuilt, FindsIn, FindsInBytes, FindsAtSlot, FindsAt, AllFresh, lack_at, lack_seen};
+
+use crate::run::carried;
+use crate::streams::{Streams, next_frame, restart};
+use frame_header::probe_slot;
+use of10_action::DecodeFault;
+use of10_ctl::kind::{
+    BARRIER_REPLY, BARRIER_REQUEST, ERROR, FLOW_MOD, FLOW_REMOVED, PACKET_IN, PACKET_OUT,
+    QUEUE_GET_CONFIG_REPLY, QUEUE_GET_CONFIG_REQUEST, STATS_REPLY, STATS_REQUEST,
+};
+use of10_ctl::{Frame, Framer};
+use of10_flow::PacketIn;
+use of10_flow::protocol::NO_BUFFER;
+use proxy_core::Dest;
+use recording::{Item, SLICE_BYTES, SLICE_UP, SWITCH_BYTES, SWITCH_UP, SWITCHES};
+use std::alloc::{AllocError, Global};
+
+/// Bytes of a record before those that it carries.
+const RECORD_HEAD: usize = 16;
+
+/// A message that isn't built yet.
+#[derive(Clone, Copy, Debug, PartialEq, Eq)]
+pub struct Lack {
+    /// Its type (OpenFlow 1.0.0, section 5.1).
+    pub kind: u8,
+    /// The place in the file where the record begins that completes it, in bytes.
+    pub at: u64,
+}
+
+/// Whether a message is of version 1 and of one of these types, with a length that counts its bytes.
+fn is_one_of(frame: &Frame, kinds: &[u8]) -> bool
+    ensures { result ≡ is_one_of kinds.now frame.now }
+{
+    kinds.iter().any(|kind| is_of(frame, *kind))
+}
+
+fn is_of(frame: &Frame, kind: u8) -> bool
+    ensures { result ≡ is_of kind frame.now }
+{
+    let head = frame.head();
+    head.version == 1 && head.kind == kind && !frame.bad_length()
+}
+
+/// Whether the switch buffers the packet, or the packet bears a probe's mark.
+fn is_special(packet: &PacketIn) -> bool
+    ensures { result ≡ is_special packet.now }
+{
+    packet.buffer != NO_BUFFER || probe_slot(packet.payload.as_slice()).is_some()
+}
+
+fn is_special_packet_in(alloc: Global, frame: &Frame) -> Result<bool, AllocError>
+    requires { IsFrame frame.now }
+    ensures { IfOk result (λ special. special ≡ is_special_packet_in frame.now) }
+{
+    if !is_of(frame, PACKET_IN) {
+        return Ok(false);
+    }
+    match PacketIn::decode(alloc, frame) {
+        Ok(packet) => Ok(is_special(&packet)),
+        Err(DecodeFault::Wire(_)) => Ok(false),
+        Err(DecodeFault::Memory) => Err(AllocError),
+    }
+}
+
+fn is_unbuilt_of_switch(alloc: Global, frame: &Frame) -> Result<bool, AllocError>
+    requires { IsFrame frame.now }
+    ensures { IfOk result (λ unbuilt. unbuilt ≡ is_unbuilt_of_switch frame.now) }
+{
+    let kinds = [
+        ERROR,
+        FLOW_REMOVED,
+        STATS_REPLY,
+        BARRIER_REPLY,
+        QUEUE_GET_CONFIG_REPLY,
+    ];
+    if is_one_of(frame, &kinds) {
+        return Ok(true);
+    }
+    is_special_packet_in(alloc, frame)
+}
+
+fn is_unbuilt_of_slice(frame: &Frame) -> bool
+    ensures { result ≡ is_unbuilt_of_slice frame.now }
+{
+    let kinds = [
+        PACKET_OUT,
+        FLOW_MOD,
+        STATS_REQUEST,
+        BARRIER_REQUEST,
+        QUEUE_GET_CONFIG_REQUEST,
+    ];
+    is_one_of(frame, &kinds)
+}
+
+/// Whether a message that came on a connection isn't built.
+fn is_unbuilt(alloc: Global, from: Dest, frame: &Frame) -> Result<bool, AllocError>
+    requires { IsFrame frame.now }
+    ensures { IfOk result (λ unbuilt. unbuilt ≡ is_unbuilt from frame.now) }
+{
+    match from {
+        Dest::Switch => is_unbuilt_of_switch(alloc, frame),
+        Dest::Slice(_) => Ok(is_unbuilt_of_slice(frame)),
+    }
+}
+
+/// The type of the first frame of a connection that isn't built, of those that its framer hasn't given.
+fn first_in_stream(alloc: Global, from: Dest, framer: &mut Framer) -> Result<Option<u8>, AllocError>
+    ensures { IfOk result (λ kind. FindsIn from kind framer.old framer.new) }
+{
+    while let Some(frame) = next_frame(framer)? {
+        if is_unbuilt(alloc, from, &frame)? {
+            return Ok(Some(frame.head().kind));
+        }
+    }
+    Ok(None)
+}
+
+/// The type of the first frame that more bytes of a connection complete and that isn't built.
+fn first_in_bytes(
+    alloc: Global,
+    from: Dest,
+    framer: &mut Framer,
+    bytes: &[u8],
+) -> Result<Option<u8>, AllocError>
+    ensures { IfOk result (λ kind. FindsInBytes from bytes.now kind framer.old framer.new) }
+{
+    framer.feed(bytes)?;
+    first_in_stream(alloc, from, framer)
+}
+
+/// The same of a slice's connection. Each slot of the policy has a stream.
+fn first_at_slot(
+    alloc: Global,
+    slot: u8,
+    framers: &mut Vec<Framer>,
+    bytes: &[u8],
+) -> Result<Option<u8>, AllocError>
+    ensures { IfOk result (λ kind. FindsAtSlot slot bytes.now kind framers.old.items framers.new.items) }
+{
+    match framers.get_mut(usize::from(slot)) {
+        Some(framer) => first_in_bytes(alloc, Dest::Slice(slot), framer, bytes),
+        None => Ok(None),
+    }
+}
+
+/// The type of the first frame that a record completes and that isn't built.
+fn first_in_record(
+    alloc: Global,
+    slices: u8,
+    streams: &mut Streams,
+    item: &Item,
+    bytes: &[u8],
+) -> Result<Option<u8>, AllocError>
+    requires item { IsRecord slices item.now bytes.now }
+    ensures { IfOk result (λ kind. FindsAt slices (told_by item.now bytes.now) kind streams.old streams.new) }
+{
+    match item.kind {
+        SWITCH_UP => {
+            *streams = Streams::new(alloc, slices)?;
+            Ok(None)
+        }
+        SWITCH_BYTES => first_in_bytes(alloc, Dest::Switch, &mut streams.switch, bytes),
+        SLICE_UP => {
+            restart(alloc, &mut streams.slices, item.slot);
+            Ok(None)
+        }
+        SLICE_BYTES => first_at_slot(alloc, item.slot, &mut streams.slices, bytes),
+        _ => Ok(None),
+    }
+}
+
+/// The streams of so many switches, on which nothing came.
+fn fresh_streams(alloc: Global, slices: u8) -> Result<Vec<Streams>, AllocError>
+    ensures { IfOk result (λ v. AllFresh slices v.items) }
+{
+    let mut switches = Vec::new(alloc);
+    for _ in 0..SWITCHES {
+        switches.push(Streams::new(alloc, slices)?)?;
+    }
+    Ok(switches)
+}
+
+fn lack_of(kind: u8, item: &Item) -> Lack
+    ensures { result ≡ lack_at item.now kind }
+{
+    Lack {
+        kind,
+        at: item.from.saturating_sub(RECORD_HEAD) as u64,
+    }
+}
+
+/// The first message of a recording that isn't built yet, under a policy of so many slices.
+pub fn first_lack(
+    alloc: Global,
+    slices: u8,
+    bytes: &[u8],
+    items: &[Item],
+) -> Result<Option<Lack>, AllocError>
+    requires { All (IsItem slices bytes.now) items.now }
+    ensures { IfOk result (λ lack. lack ≡ option_map lack_seen (first_lack [] (zip items.now (told_in bytes.now items.now)))) }
+{
+    let mut switches = fresh_streams(alloc, slices)?;
+    for item in items {
+        let streams = &mut switches[usize::from(item.switch)];
+        if let Some(kind) = first_in_record(alloc, slices, streams, item, carried(bytes, item))? {
+            return Ok(Some(lack_of(kind, item)));
+        }
+    }
+    Ok(None)
+}

@@ -1,0 +1,17 @@
+//! The report of a recording: its records are played at the desks of their switches, and each message that
+//! comes of them is a line.
+#![tactic(auto)]
+
+mod drain;
+mod fault;
+mod lack;
+mod line;
+mod play;
+mod run;
+mod streams;
+mod switch;
+mod turn;
+
+pub use fault::ReportFault;
+pub use lack::{Lack, first_lack};
+pub use run::{report, report_items};

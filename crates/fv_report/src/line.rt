@@ -1,0 +1,162 @@
+//! The lines of a report.
+
+ghost use Rattle.std.specs.Prelude.{◌≡◌, ◌≤◌, ◌++◌, OnOk, IfErr};
+ghost use Rattle.hex.specs.Hex.{encode_lower};
+ghost use Rattle.fv_base.specs.Told.{Rose};
+ghost use Rattle.desk_words.specs.Reports.{place_text, last_line};
+ghost use Rattle.fv_report.specs.Lines.{place_of, said_text, line_of};
+ghost use Rattle.fv_report.specs.Writing.{Wrote};
+
+use crate::fault::ReportFault;
+use fv_base::{Sink, put_all};
+use itoa::Buffer;
+use std::alloc::{AllocError, Global};
+
+/// Where a line belongs: the number of its event, from 0 over the whole recording, and the event's switch.
+#[derive(Clone, Copy)]
+pub(crate) struct Place {
+    pub(crate) number: u64,
+    pub(crate) switch: u8,
+}
+
+/// What a line says of its event.
+#[derive(Clone, Copy)]
+pub(crate) enum Said<'a> {
+    /// This message goes to the switch.
+    Lane(&'a [u8]),
+    /// This message goes to the slice of the name.
+    To(&'a str, &'a [u8]),
+    /// The connection of the slice of this name is closed.
+    Close(&'a str),
+    /// The switch's connection ended.
+    Down,
+}
+
+/// The line that is being made; its memory serves the next one again.
+#[derive(Drop)]
+pub(crate) struct LineBuffer {
+    bytes: Vec<u8>,
+}
+
+impl LineBuffer {
+    /// Takes no memory.
+    pub(crate) fn new(alloc: Global) -> LineBuffer {
+        LineBuffer {
+            bytes: Vec::new(alloc),
+        }
+    }
+
+    /// Begins a line with its place.
+    fn begin(&mut self, place: Place) -> Result<(), AllocError>
+        ensures { OnOk result (self.new.bytes.items ≡ place_text (place_of place)) }
+    {
+        self.bytes.clear();
+        self.bytes
+            .extend_from_slice(Buffer::new().format(place.number).as_bytes())?;
+        self.bytes.extend_from_slice(b" ")?;
+        self.bytes
+            .extend_from_slice(Buffer::new().format(place.switch).as_bytes())?;
+        self.bytes.extend_from_slice(b" ")
+    }
+
+    /// Appends a message in hex.
+    fn put_hex(&mut self, message: &[u8]) -> Result<(), AllocError>
+        ensures { OnOk result (self.new.bytes.items ≡ self.old.bytes.items ++ encode_lower message.now) }
+    {
+        let at = self.bytes.len();
+        self.bytes
+            .resize(at.saturating_add(message.len().saturating_mul(2)), 0)?;
+        if hex::encode_to_slice(message, &mut self.bytes[at..]).is_err() {
+            return Err(AllocError);
+        }
+        Ok(())
+    }
+
+    /// Appends what the line says.
+    fn say(&mut self, said: Said<'_>) -> Result<(), AllocError>
+        ensures { OnOk result (self.new.bytes.items ≡ self.old.bytes.items ++ said_text said.entry) }
+    {
+        match said {
+            Said::Lane(message) => {
+                self.bytes.extend_from_slice(b"lane ")?;
+                self.put_hex(message)
+            }
+            Said::To(name, message) => {
+                self.bytes.extend_from_slice(b"to ")?;
+                self.bytes.extend_from_slice(name.as_bytes())?;
+                self.bytes.extend_from_slice(b" ")?;
+                self.put_hex(message)
+            }
+            Said::Close(name) => {
+                self.bytes.extend_from_slice(b"close ")?;
+                self.bytes.extend_from_slice(name.as_bytes())
+            }
+            Said::Down => self.bytes.extend_from_slice(b"down"),
+        }
+    }
+
+    /// Makes a whole line.
+    fn make(&mut self, place: Place, said: Said<'_>) -> Result<(), AllocError>
+        ensures { OnOk result (self.new.bytes.items ≡ line_of place said.entry) }
+    {
+        self.begin(place)?;
+        self.say(said)?;
+        self.bytes.extend_from_slice(b"\n")
+    }
+
+    /// Makes the last line: how many events there were.
+    fn make_last(&mut self, events: u64) -> Result<(), AllocError>
+        ensures { OnOk result (self.new.bytes.items ≡ last_line events) }
+    {
+        self.bytes.clear();
+        self.bytes.extend_from_slice(b"end ")?;
+        self.bytes
+            .extend_from_slice(Buffer::new().format(events).as_bytes())?;
+        self.bytes.extend_from_slice(b"\n")
+    }
+}
+
+/// Puts the bytes of a line, all at once.
+fn put<K: Sink>(out: &mut K, bytes: &[u8]) -> Result<(), ReportFault>
+    ensures writes { Wrote result bytes.now (K.contents out.old) (K.contents out.new) }
+    ensures cause { IfErr result (λ f. f ≡ ReportFault.WriteFault → Rose (K.faults out.old) (K.faults out.new)) }
+    ensures count { K.faults out.old ≤ K.faults out.new }
+{
+    match put_all(out, bytes) {
+        Ok(()) => Ok(()),
+        Err(_) => Err(ReportFault::WriteFault),
+    }
+}
+
+/// Puts one line, whole.
+pub(crate) fn put_line<K: Sink>(
+    out: &mut K,
+    line: &mut LineBuffer,
+    place: Place,
+    said: Said<'_>,
+) -> Result<(), ReportFault>
+    ensures writes { Wrote result (line_of place said.entry) (K.contents out.old) (K.contents out.new) }
+    ensures cause { IfErr result (λ f. f ≡ ReportFault.WriteFault → Rose (K.faults out.old) (K.faults out.new)) }
+    ensures count { K.faults out.old ≤ K.faults out.new }
+{
+    if line.make(place, said).is_err() {
+        return Err(ReportFault::Memory);
+    }
+    put(out, &line.bytes)
+}
+
+/// Puts the last line.
+pub(crate) fn put_last<K: Sink>(
+    out: &mut K,
+    line: &mut LineBuffer,
+    events: u64,
+) -> Result<(), ReportFault>
+    ensures writes { Wrote result (last_line events) (K.contents out.old) (K.contents out.new) }
+    ensures cause { IfErr result (λ f. f ≡ ReportFault.WriteFault → Rose (K.faults out.old) (K.faults out.new)) }
+    ensures count { K.faults out.old ≤ K.faults out.new }
+{
+    if line.make_last(events).is_err() {
+        return Err(ReportFault::Memory);
+    }
+    put(out, &line.bytes)
+}

@@ -1,0 +1,161 @@
+//! A whole recording.
+
+ghost use Rattle.std.specs.Prelude.{ℕ, ◌≡◌, ◌≤◌, List, length, Ok, IfOk, IfErr};
+ghost use Rattle.std.specs.List.{All};
+ghost use Rattle.fv_base.specs.Told.{Rose};
+ghost use Rattle.recording.specs.declared.item.Item.{Item};
+ghost use Rattle.recording.specs.Recordings.{IsItem, read_items};
+ghost use Rattle.desk_words.specs.Recorded.{carried, told_in};
+ghost use Rattle.desk_words.specs.Reports.{report};
+ghost use Rattle.fv_report.specs.Writing.{Wrote};
+ghost use Rattle.fv_report.specs.Switches.{told_by, IsRecord, PlaysAt, PlaysAmong, AreUnknown};
+
+use crate::fault::ReportFault;
+use crate::line::{LineBuffer, put_last};
+use crate::switch::{Switch, play_record, slice_count};
+use flowspace::Policy;
+use fv_base::Sink;
+use recording::{Item, SWITCHES, items};
+use std::alloc::{AllocError, Global};
+
+/// The bytes that a record of the file carries.
+pub(crate) fn carried<'a>(file: &'a [u8], item: &Item) -> &'a [u8]
+    ensures { result.now ≡ carried file.now item.now }
+{
+    let rest = file.get(item.from..).unwrap_or(&[]);
+    &rest[..item.size.min(rest.len())]
+}
+
+/// No switch is known yet.
+fn no_switches(alloc: Global) -> Result<Vec<Option<Switch>>, AllocError>
+    ensures { IfOk result (λ v. AreUnknown v.items) }
+{
+    let mut switches = Vec::new(alloc);
+    while switches.len() < SWITCHES {
+        switches.push(None)?;
+    }
+    Ok(switches)
+}
+
+/// Plays a record at its switch, which is there from its first record on.
+fn play_at<K: Sink>(
+    alloc: Global,
+    out: &mut K,
+    line: &mut LineBuffer,
+    policy: &Policy,
+    events: u64,
+    known: &mut Option<Switch>,
+    item: &Item,
+    bytes: &[u8],
+) -> Result<u64, ReportFault>
+    requires item { IsRecord (length policy.now.slices) item.now bytes.now }
+    ensures plays { PlaysAt policy.now (told_by item.now bytes.now) events result (K.contents out.old) (K.contents out.new) known.old known.new }
+    ensures cause { IfErr result (λ f. f ≡ ReportFault.WriteFault → Rose (K.faults out.old) (K.faults out.new)) }
+    ensures count { K.faults out.old ≤ K.faults out.new }
+{
+    match known {
+        Some(switch) => play_record(alloc, out, line, policy, events, switch, item, bytes),
+        None => {
+            let mut switch = Switch::new(alloc, policy)?;
+            let later = play_record(alloc, out, line, policy, events, &mut switch, item, bytes)?;
+            *known = Some(switch);
+            Ok(later)
+        }
+    }
+}
+
+/// Plays a record among all switches.
+fn play_among<K: Sink>(
+    alloc: Global,
+    out: &mut K,
+    line: &mut LineBuffer,
+    policy: &Policy,
+    events: u64,
+    switches: &mut Vec<Option<Switch>>,
+    item: &Item,
+    bytes: &[u8],
+) -> Result<u64, ReportFault>
+    requires item { IsRecord (length policy.now.slices) item.now bytes.now }
+    requires count { length switches.old.items ≡ 16 }
+    ensures plays { PlaysAmong policy.now (told_by item.now bytes.now) events result (K.contents out.old) (K.contents out.new) switches.old.items switches.new.items }
+    ensures length { length switches.new.items ≡ 16 }
+    ensures cause { IfErr result (λ f. f ≡ ReportFault.WriteFault → Rose (K.faults out.old) (K.faults out.new)) }
+    ensures count { K.faults out.old ≤ K.faults out.new }
+{
+    let known = &mut switches[usize::from(item.switch)];
+    play_at(alloc, out, line, policy, events, known, item, bytes)
+}
+
+/// Plays a record of the file.
+fn play_item<K: Sink>(
+    alloc: Global,
+    out: &mut K,
+    line: &mut LineBuffer,
+    policy: &Policy,
+    events: u64,
+    switches: &mut Vec<Option<Switch>>,
+    file: &[u8],
+    item: &Item,
+) -> Result<u64, ReportFault>
+    requires item { IsItem (length policy.now.slices) file.now item.now }
+    requires count { length switches.old.items ≡ 16 }
+    ensures plays { PlaysAmong policy.now (told_by item.now (carried file.now item.now)) events result (K.contents out.old) (K.contents out.new) switches.old.items switches.new.items }
+    ensures length { length switches.new.items ≡ 16 }
+    ensures cause { IfErr result (λ f. f ≡ ReportFault.WriteFault → Rose (K.faults out.old) (K.faults out.new)) }
+    ensures count { K.faults out.old ≤ K.faults out.new }
+{
+    let bytes = carried(file, item);
+    play_among(alloc, out, line, policy, events, switches, item, bytes)
+}
+
+/// Writes the report of the records of a file, line by line. A fault leaves a prefix of it.
+pub fn report_items<K: Sink>(
+    alloc: Global,
+    policy: &Policy,
+    bytes: &[u8],
+    items: &[Item],
+    out: &mut K,
+) -> Result<(), ReportFault>
+    requires { All (IsItem (length policy.now.slices) bytes.now) items.now }
+    ensures writes { Wrote result (report policy.now (told_in bytes.now items.now)) (K.contents out.old) (K.contents out.new) }
+    ensures cause { IfErr result (λ f. f ≡ ReportFault.WriteFault → Rose (K.faults out.old) (K.faults out.new)) }
+    ensures count { K.faults out.old ≤ K.faults out.new }
+{
+    let mut switches = no_switches(alloc)?;
+    let mut line = LineBuffer::new(alloc);
+    let mut events = 0;
+    for item in items {
+        events = play_item(
+            alloc,
+            out,
+            &mut line,
+            policy,
+            events,
+            &mut switches,
+            bytes,
+            item,
+        )?;
+    }
+    put_last(out, &mut line, events)
+}
+
+/// Writes the report of a recording to `out`: for each event a line for each message that the switch and
+/// the slices get, for a connection that is closed and for the end of the switch's, and at the end how many
+/// events there were. A fault leaves a prefix of the report.
+pub fn report<K: Sink>(
+    alloc: Global,
+    policy: &Policy,
+    bytes: &[u8],
+    out: &mut K,
+) -> Result<(), ReportFault>
+    requires { (items : List Item) × (read_items (length policy.now.slices) bytes.now ≡ Ok items) }
+    ensures writes { (items : List Item) → read_items (length policy.now.slices) bytes.now ≡ Ok items → Wrote result (report policy.now (told_in bytes.now items)) (K.contents out.old) (K.contents out.new) }
+    ensures cause { IfErr result (λ f. f ≡ ReportFault.WriteFault → Rose (K.faults out.old) (K.faults out.new)) }
+    ensures count { K.faults out.old ≤ K.faults out.new }
+{
+    match items(alloc, bytes, slice_count(policy)) {
+        Ok(items) => report_items(alloc, policy, bytes, &items, out),
+        // The recording is accepted, so this is want of memory.
+        Err(_) => Err(ReportFault::Memory),
+    }
+}

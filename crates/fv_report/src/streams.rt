@@ -1,0 +1,67 @@
+//! The connections of one switch, cut into frames.
+
+ghost use Rattle.std.specs.Prelude.{ℕ, ◌≡◌, ◌<◌, ◌++◌, List, [], ◌∷◌, length, IfOk, IfSome, OnErr};
+ghost use Rattle.of10_ctl.specs.Frames.{IsFrame};
+ghost use Rattle.of10_ctl.specs.Streams.{Stands};
+ghost use Rattle.fv_report.specs.Streams.{AreFreshFramers, AreFresh, Restarts, frame_given, TakesFrame};
+
+use of10_ctl::{Frame, Framer, Next};
+use std::alloc::{AllocError, Global};
+
+/// What came on the connections of one switch and of its slices' controllers, by slot.
+#[derive(Drop)]
+pub(crate) struct Streams {
+    pub(crate) switch: Framer,
+    pub(crate) slices: Vec<Framer>,
+}
+
+fn fresh_framers(alloc: Global, count: u8) -> Result<Vec<Framer>, AllocError>
+    ensures { IfOk result (λ v. AreFreshFramers count v.items) }
+{
+    let mut framers = Vec::new(alloc);
+    while framers.len() < usize::from(count) {
+        framers.push(Framer::new(alloc))?;
+    }
+    Ok(framers)
+}
+
+impl Streams {
+    /// Nothing came yet, for a policy of so many slices.
+    pub(crate) fn new(alloc: Global, slices: u8) -> Result<Streams, AllocError>
+        ensures { IfOk result (AreFresh slices) }
+    {
+        Ok(Streams {
+            switch: Framer::new(alloc),
+            slices: fresh_framers(alloc, slices)?,
+        })
+    }
+}
+
+/// A stream begins anew, where there is one at the slot.
+pub(crate) fn restart(alloc: Global, framers: &mut Vec<Framer>, slot: u8)
+    ensures { Restarts slot framers.old.items framers.new.items }
+{
+    if let Some(framer) = framers.get_mut(usize::from(slot)) {
+        *framer = Framer::new(alloc);
+    }
+}
+
+fn frame_in(next: Next) -> Option<Frame>
+    ensures value { result ≡ frame_given next }
+    ensures frame { IfSome result IsFrame }
+{
+    match next {
+        Next::Frame(frame) => Some(frame),
+        Next::NeedMore | Next::Ended => None,
+    }
+}
+
+/// The next frame of a stream, if all its bytes came and no frame before it has a bad length.
+pub(crate) fn next_frame(framer: &mut Framer) -> Result<Option<Frame>, AllocError>
+    ensures takes { IfOk result (λ next. TakesFrame next framer.old framer.new) }
+    ensures frame { IfOk result (λ next. IfSome next IsFrame) }
+    ensures shorter { IfOk result (λ next. IfSome next (λ _. length framer.new.left < length framer.old.left)) }
+{
+    let next = framer.next()?;
+    Ok(frame_in(next))
+}

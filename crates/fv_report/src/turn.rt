@@ -1,0 +1,180 @@
+//! One event at a desk, and its lines.
+
+ghost use Rattle.std.specs.Prelude.{ℕ, ◌≡◌, ◌≤◌, ◌++◌, true, false, if◌then◌else◌, List, [], ◌∷◌, Ok, OnOk, IfOk, IfErr};
+ghost use Rattle.fv_base.specs.Told.{Rose};
+ghost use Rattle.flowspace.specs.Policies.{PolicyView};
+ghost use Rattle.desk_words.specs.declared.event.Timed.{Timed};
+ghost use Rattle.answer_bounds.specs.Bounds.{IsFramed, AreFramed};
+ghost use Rattle.desk_words.specs.Openings.{phase_of};
+ghost use Rattle.desk_words.specs.Histories.{is_slice_up};
+ghost use Rattle.desk_words.specs.Verdicts.{is_ended};
+ghost use Rattle.desk_words.specs.Operations.{takes_in};
+ghost use Rattle.desk_words.specs.Recorded.{next_of};
+ghost use Rattle.desk_words.specs.Reports.{name_at, event_lines};
+ghost use Rattle.fv_report.specs.Lines.{place_of};
+ghost use Rattle.fv_report.specs.Writing.{Wrote};
+ghost use Rattle.fv_report.specs.Holding.{Holds, IsQuiet, After};
+ghost use Rattle.fv_report.specs.Taking.{is_nothing, is_the_end};
+ghost use Rattle.fv_report.specs.Turns.{speaker, closing_lines, end_lines, told_lines};
+
+use crate::drain::{drain_lane, drain_slices};
+use crate::fault::ReportFault;
+use crate::line::{LineBuffer, Place, Said, put_line};
+use flowspace::Policy;
+use fv_base::Sink;
+use proxy_core::{Desk, Dest, Event, Taken, Timed, Verdict};
+use std::alloc::Global;
+
+fn is_nothing(taken: &Taken) -> bool
+    ensures { result ≡ is_nothing taken.now }
+{
+    matches!(taken, Taken::Nothing)
+}
+
+fn is_the_end(taken: &Taken) -> bool
+    ensures { result ≡ is_the_end taken.now }
+{
+    matches!(taken, Taken::Ended)
+}
+
+/// Whether the slice at a slot is up, at a desk at which nothing waits.
+pub(crate) fn is_up(desk: &mut Desk, slot: u8) -> bool
+    ensures answer { (policy : PolicyView) (h : List Timed) → IsQuiet policy h desk.old → result ≡ is_slice_up policy slot h }
+    ensures same { (policy : PolicyView) (h : List Timed) → IsQuiet policy h desk.old → IsQuiet policy h desk.new }
+{
+    is_nothing(&desk.take(Dest::Slice(slot)))
+}
+
+/// Whether the switch's connection has ended, at a desk at which nothing waits.
+pub(crate) fn has_ended(desk: &mut Desk) -> bool
+    ensures answer { (policy : PolicyView) (h : List Timed) → IsQuiet policy h desk.old → result ≡ is_ended (phase_of h) }
+    ensures same { (policy : PolicyView) (h : List Timed) → IsQuiet policy h desk.old → IsQuiet policy h desk.new }
+{
+    is_the_end(&desk.take(Dest::Switch))
+}
+
+/// The slot of the slice whose controller connected or sent a message.
+fn speaker(event: &Event) -> Option<u8>
+    ensures { result ≡ speaker event.now }
+{
+    match event {
+        Event::SliceUp(slot) | Event::SliceMsg(slot, _) => Some(*slot),
+        Event::SwitchUp | Event::SwitchMsg(_) | Event::SwitchDown | Event::SliceDown(_) => None,
+    }
+}
+
+/// Whether an event with this verdict is taken in.
+fn is_taken_in(verdict: Verdict) -> bool
+    ensures { result ≡ takes_in (Ok verdict) }
+{
+    match verdict {
+        Verdict::Ended => false,
+        Verdict::Go | Verdict::Close => true,
+    }
+}
+
+/// One event. Whether it is taken in, so that what it makes waits; else nothing more comes of the desk.
+fn step(alloc: Global, desk: &mut Desk, timed: Timed) -> Result<bool, ReportFault>
+    ensures after { IfOk result (λ taken_in. (policy : PolicyView) (h : List Timed) → IsQuiet policy h desk.old → AreFramed h → IsFramed timed.event → After policy h timed taken_in desk.new) }
+    ensures memory { IfErr result (λ f. f ≡ ReportFault.Memory) }
+{
+    match desk.step(alloc, timed) {
+        Ok(verdict) => Ok(is_taken_in(verdict)),
+        Err(_) => Err(ReportFault::Memory),
+    }
+}
+
+/// The name of the slice at a slot.
+fn name_of(policy: &Policy, slot: u8) -> &str
+    ensures { result.now ≡ name_at policy.now.slices slot }
+{
+    match policy.slices().get(usize::from(slot)) {
+        Some(slice) => slice.name.as_str(),
+        None => "",
+    }
+}
+
+/// The line of a connection that is closed, where the slice that spoke isn't up.
+fn put_close<K: Sink>(
+    out: &mut K,
+    line: &mut LineBuffer,
+    desk: &mut Desk,
+    policy: &Policy,
+    place: Place,
+    speaker: Option<u8>,
+) -> Result<(), ReportFault>
+    ensures writes { (h : List Timed) → IsQuiet policy.now h desk.old → Wrote result (closing_lines policy.now (place_of place) h speaker) (K.contents out.old) (K.contents out.new) }
+    ensures same { (h : List Timed) → IsQuiet policy.now h desk.old → IsQuiet policy.now h desk.new }
+    ensures cause { IfErr result (λ f. f ≡ ReportFault.WriteFault → Rose (K.faults out.old) (K.faults out.new)) }
+    ensures count { K.faults out.old ≤ K.faults out.new }
+{
+    let Some(slot) = speaker else {
+        return Ok(());
+    };
+    if is_up(desk, slot) {
+        return Ok(());
+    }
+    put_line(out, line, place, Said::Close(name_of(policy, slot)))
+}
+
+/// The line of the end of the switch's connection, where it has ended.
+fn put_end<K: Sink>(
+    out: &mut K,
+    line: &mut LineBuffer,
+    desk: &mut Desk,
+    place: Place,
+) -> Result<(), ReportFault>
+    ensures writes { (policy : PolicyView) (h : List Timed) → IsQuiet policy h desk.old → Wrote result (end_lines (place_of place) h) (K.contents out.old) (K.contents out.new) }
+    ensures same { (policy : PolicyView) (h : List Timed) → IsQuiet policy h desk.old → IsQuiet policy h desk.new }
+    ensures cause { IfErr result (λ f. f ≡ ReportFault.WriteFault → Rose (K.faults out.old) (K.faults out.new)) }
+    ensures count { K.faults out.old ≤ K.faults out.new }
+{
+    if !has_ended(desk) {
+        return Ok(());
+    }
+    put_line(out, line, place, Said::Down)
+}
+
+/// The lines of an event that was taken in: of its messages, of the connection that is closed, and of the
+/// switch's end.
+fn tell<K: Sink>(
+    out: &mut K,
+    line: &mut LineBuffer,
+    desk: &mut Desk,
+    policy: &Policy,
+    place: Place,
+    speaker: Option<u8>,
+) -> Result<(), ReportFault>
+    ensures writes { (h : List Timed) (slices : ℕ → List (List ℕ)) (lane : List (List ℕ)) → Holds policy.now h slices lane desk.old → Wrote result (told_lines policy.now (place_of place) h slices lane speaker) (K.contents out.old) (K.contents out.new) }
+    ensures quiet { OnOk result ((h : List Timed) (slices : ℕ → List (List ℕ)) (lane : List (List ℕ)) → Holds policy.now h slices lane desk.old → IsQuiet policy.now h desk.new) }
+    ensures cause { IfErr result (λ f. f ≡ ReportFault.WriteFault → Rose (K.faults out.old) (K.faults out.new)) }
+    ensures count { K.faults out.old ≤ K.faults out.new }
+{
+    drain_lane(out, line, desk, place)?;
+    drain_slices(out, line, desk, place, policy)?;
+    put_close(out, line, desk, policy, place, speaker)?;
+    put_end(out, line, desk, place)
+}
+
+/// One event at a desk at which nothing waits, and all its lines.
+pub(crate) fn turn<K: Sink>(
+    alloc: Global,
+    out: &mut K,
+    line: &mut LineBuffer,
+    desk: &mut Desk,
+    policy: &Policy,
+    place: Place,
+    timed: Timed,
+) -> Result<(), ReportFault>
+    ensures writes { (h : List Timed) → IsQuiet policy.now h desk.old → AreFramed h → IsFramed timed.event → Wrote result (event_lines policy.now (place_of place) h timed) (K.contents out.old) (K.contents out.new) }
+    ensures quiet { OnOk result ((h : List Timed) → IsQuiet policy.now h desk.old → AreFramed h → IsFramed timed.event → IsQuiet policy.now (next_of h timed) desk.new) }
+    ensures cause { IfErr result (λ f. f ≡ ReportFault.WriteFault → Rose (K.faults out.old) (K.faults out.new)) }
+    ensures count { K.faults out.old ≤ K.faults out.new }
+{
+    let speaker = speaker(&timed.event);
+    if step(alloc, desk, timed)? {
+        tell(out, line, desk, policy, place, speaker)
+    } else {
+        put_close(out, line, desk, policy, place, speaker)
+    }
+}
