@@ -1,5 +1,6 @@
 -- How a call of the program ends: its status, its line, and what has to be so for it. All of this is the program's own rule.
-use Rattle.std.specs.Prelude.{◌≡◌, ℕ, ◌<◌, ◌≤◌, ◌⊎◌, List, [], length, codes, Bool, true, false, Option, Some, None, IfSome, Result, Ok, Err}
+use Rattle.std.specs.Prelude.{◌≡◌, ℕ, ◌<◌, ◌≤◌, ◌⊎◌, List, [], length, codes, Bool, true, false, Option, Some, None, IfSome, Result, Ok, Err, option_map, zip}
+use Rattle.std.specs.List.{All}
 use Rattle.fv_base.specs.Told.{appended, IsPrefix, Rose}
 use Rattle.fv_base.specs.Words.{FormBytes, OfCheck, OfReplay, form_of}
 use Rattle.flowspace.specs.Policies.{PolicyView}
@@ -7,12 +8,16 @@ use Rattle.policy_text.specs.declared.fault.ReadFault as text
 use Rattle.policy_text.specs.Documents.{document_of, policy_of}
 use Rattle.recording.specs.declared.item.Item.{Item}
 use Rattle.recording.specs.declared.fault.RecordingFault.{RecordingFault}
-use Rattle.recording.specs.Recordings.{read_items}
-use Rattle.fv_cli.specs.declared.built.Unbuilt.{Unbuilt}
+use Rattle.recording.specs.Recordings.{IsItem, read_items}
+use Rattle.fv_report.specs.declared.lack.Lack.{Lack}
+use Rattle.fv_report.specs.Lacks.{lack_seen}
+use Rattle.fv_report.specs.Writing.{WrotePart}
+use Rattle.desk_words.specs.Recorded.{told_in}
+use Rattle.desk_words.specs.Built.{first_lack}
+use Rattle.desk_words.specs.Reports.{report}
 use Rattle.fv_cli.specs.declared.ending.Ending.{Ending}
 use Rattle.fv_cli.specs.declared.ending.Ending.TheVariants.{Done, Usage, ReadFault, WriteFault, NoMemory, NoMemoryToRun, TooLarge, PolicyRefused, RecordingRefused, NotBuilt}
-use Rattle.fv_cli.specs.Built.{first_unbuilt}
-use Rattle.fv_cli.specs.Lines.{policy_line, recording_line, unbuilt_line, accepted_line}
+use Rattle.fv_cli.specs.Lines.{policy_line, recording_line, lack_line, accepted_line}
 
 abbrev pub status_of : Ending → ℕ
 status_of Done = 0
@@ -24,7 +29,7 @@ status_of WriteFault = 5
 status_of NoMemory = 6
 status_of NoMemoryToRun = 6
 status_of TooLarge = 7
-status_of (NotBuilt unbuilt) = 8
+status_of (NotBuilt lack) = 8
 
 -- the line on the error stream; nothing where all was done
 abbrev pub line_of : Ending → List ℕ
@@ -37,7 +42,7 @@ line_of WriteFault = codes "write fault\n"
 line_of NoMemory = codes "no memory\n"
 line_of NoMemoryToRun = codes "no memory\n"
 line_of TooLarge = codes "too large\n"
-line_of (NotBuilt unbuilt) = unbuilt_line unbuilt
+line_of (NotBuilt lack) = lack_line lack
 
 -- the limits of the two files in bytes
 abbrev pub policy_limit : ℕ
@@ -60,10 +65,20 @@ PolicySays said policy = IfSome policy (λ bytes. (length bytes ≤ policy_limit
 abbrev pub RecordingFails : ℕ → RecordingFault → Option (List ℕ) → Type 0
 RecordingFails slices fault recording = IfSome recording (λ bytes. (length bytes ≤ recording_limit) × (read_items slices bytes ≡ Err fault))
 
--- where the recording is told, it is within its limit and accepted under so many slices, and this is the first of its records that isn't built
-abbrev pub RecordingLacks : ℕ → Option Unbuilt → Option (List ℕ) → Type 0
-RecordingLacks slices unbuilt recording =
-    IfSome recording (λ bytes. (length bytes ≤ recording_limit) × (items : List Item) × (read_items slices bytes ≡ Ok items) × (first_unbuilt bytes items ≡ unbuilt))
+-- where the recording is told, it is within its limit, accepted under so many slices, and of its messages this is the first that isn't built, or none
+pub record IsAccepted (slices : ℕ) (lack : Option Lack) (bytes : List ℕ) (items : List Item) : Type 0 where
+  pub within : length bytes ≤ recording_limit
+  pub records : read_items slices bytes ≡ Ok items
+  pub lacks : option_map lack_seen (first_lack [] (zip items (told_in bytes items))) ≡ lack
+
+abbrev pub RecordingLacks : ℕ → Option Lack → Option (List ℕ) → Type 0
+RecordingLacks slices lack recording = IfSome recording (λ bytes. (items : List Item) × IsAccepted slices lack bytes items)
+
+-- a recording that was taken: what was loaded is the file where that is told, and it is accepted and built
+pub record IsTaken (slices : ℕ) (loaded : List ℕ) (items : List Item) (file : Option (List ℕ)) : Type 0 where
+  pub whole : IfSome file (λ bytes. loaded ≡ bytes)
+  pub accepted : IsAccepted slices None loaded items
+  pub items_are : All (IsItem slices loaded) items
 
 -- ---- why a file isn't taken
 
@@ -82,7 +97,7 @@ IsPolicyCause file before after ending = IsLoadCause policy_limit file before af
 -- a recording isn't had
 abbrev pub IsRecordingCause : ℕ → Option (List ℕ) → ℕ → ℕ → Ending → Type 0
 IsRecordingCause slices file before after (RecordingRefused fault) = RecordingFails slices fault file
-IsRecordingCause slices file before after (NotBuilt unbuilt) = RecordingLacks slices (Some unbuilt) file
+IsRecordingCause slices file before after (NotBuilt lack) = RecordingLacks slices (Some lack) file
 IsRecordingCause slices file before after ending = IsLoadCause recording_limit file before after ending
 
 -- ---- causes
@@ -101,35 +116,43 @@ pub record Outside : Type 0 where
 abbrev pub RoseAt : Outside → List ℕ → Type 0
 RoseAt w path = Rose (w.read_before path) (w.read_after path)
 
--- the first bytes of a text were written
-abbrev pub WrotePart : Outside → List ℕ → Type 0
-WrotePart w line = (piece : List ℕ) × IsPrefix piece line × (w.out_after ≡ appended w.out_before piece)
+-- the whole text was written, or its first bytes
+abbrev pub WroteAll : Outside → List ℕ → Type 0
+WroteAll w text = w.out_after ≡ appended w.out_before text
+
+abbrev pub WroteSome : Outside → List ℕ → Type 0
+WroteSome w text = WrotePart text w.out_before w.out_after
+
+-- where the recording is told, it is accepted, all of it is built, and this holds of its report under the policy
+abbrev pub ReportIs : Outside → PolicyView → List ℕ → (List ℕ → Type 0) → Type 0
+ReportIs w p recording Holds =
+    IfSome (w.files recording) (λ bytes. (items : List Item) × IsAccepted (length p.slices) None bytes items × Holds (report p (told_in bytes items)))
 
 -- the cause of an ending, where the words asked for a check of a policy
 abbrev pub IsCheckCause : Outside → List ℕ → Ending → Type 0
-IsCheckCause w policy Done = (p : PolicyView) × PolicySays (Ok p) (w.files policy) × (w.out_after ≡ appended w.out_before (accepted_line p))
-IsCheckCause w policy WriteFault = (p : PolicyView) × PolicySays (Ok p) (w.files policy) × WrotePart w (accepted_line p) × Rose w.put_before w.put_after
+IsCheckCause w policy Done = (p : PolicyView) × PolicySays (Ok p) (w.files policy) × WroteAll w (accepted_line p)
+IsCheckCause w policy WriteFault = (p : PolicyView) × PolicySays (Ok p) (w.files policy) × WroteSome w (accepted_line p) × Rose w.put_before w.put_after
 IsCheckCause w policy ending = IsPolicyCause (w.files policy) (w.read_before policy) (w.read_after policy) ending
 
 -- the cause of an ending, where the words asked for a replay of a recording under a policy
 abbrev pub IsReplayCause : Outside → List ℕ → List ℕ → Ending → Type 0
-IsReplayCause w policy recording Done = (p : PolicyView) × PolicySays (Ok p) (w.files policy) × RecordingLacks (length p.slices) None (w.files recording)
+IsReplayCause w policy recording Done = (p : PolicyView) × PolicySays (Ok p) (w.files policy) × ReportIs w p recording (WroteAll w)
 IsReplayCause w policy recording Usage = ⊥
 IsReplayCause w policy recording (PolicyRefused fault) = PolicySays (Err fault) (w.files policy)
 IsReplayCause w policy recording (RecordingRefused fault) = (p : PolicyView) × PolicySays (Ok p) (w.files policy) × RecordingFails (length p.slices) fault (w.files recording)
 IsReplayCause w policy recording ReadFault = RoseAt w policy ⊎ ((p : PolicyView) × PolicySays (Ok p) (w.files policy) × RoseAt w recording)
-IsReplayCause w policy recording WriteFault = (p : PolicyView) × PolicySays (Ok p) (w.files policy) × RecordingLacks (length p.slices) None (w.files recording) × Rose w.put_before w.put_after
+IsReplayCause w policy recording WriteFault = (p : PolicyView) × PolicySays (Ok p) (w.files policy) × ReportIs w p recording (WroteSome w) × Rose w.put_before w.put_after
 IsReplayCause w policy recording NoMemory = Unit {0}
-IsReplayCause w policy recording NoMemoryToRun = (p : PolicyView) × PolicySays (Ok p) (w.files policy) × RecordingLacks (length p.slices) None (w.files recording)
+IsReplayCause w policy recording NoMemoryToRun = (p : PolicyView) × PolicySays (Ok p) (w.files policy) × ReportIs w p recording (WroteSome w)
 IsReplayCause w policy recording TooLarge = PassesLimit policy_limit (w.files policy) ⊎ ((p : PolicyView) × PolicySays (Ok p) (w.files policy) × PassesLimit recording_limit (w.files recording))
-IsReplayCause w policy recording (NotBuilt unbuilt) = (p : PolicyView) × PolicySays (Ok p) (w.files policy) × RecordingLacks (length p.slices) (Some unbuilt) (w.files recording)
+IsReplayCause w policy recording (NotBuilt lack) = (p : PolicyView) × PolicySays (Ok p) (w.files policy) × RecordingLacks (length p.slices) (Some lack) (w.files recording)
 
--- the ending of a run over a policy and a recording that were taken
-abbrev pub IsRunEnding : ℕ → ℕ → Ending → Type 0
-IsRunEnding before after Done = Unit {0}
-IsRunEnding before after WriteFault = Rose before after
-IsRunEnding before after NoMemoryToRun = Unit {0}
-IsRunEnding before after _ = ⊥
+-- the ending of a run over a policy and a recording that were taken, which has this report
+abbrev pub IsRunEnding : List ℕ → Option (List ℕ) → Option (List ℕ) → ℕ → ℕ → Ending → Type 0
+IsRunEnding text before after count_before count_after Done = after ≡ appended before text
+IsRunEnding text before after count_before count_after WriteFault = WrotePart text before after × Rose count_before count_after
+IsRunEnding text before after count_before count_after NoMemoryToRun = WrotePart text before after
+IsRunEnding text before after count_before count_after _ = ⊥
 
 -- the words decide first: without a form it is the usage, and nothing else is
 abbrev pub Causes : Outside → Option FormBytes → Ending → Type 0

@@ -5,8 +5,8 @@ ghost use Rattle.fv_cli.specs.Endings.{status_of, line_of, IsPut};
 ghost use Rattle.fv_cli.specs.Lines.{whole_text};
 
 use crate::base::Sink;
-use crate::built::Unbuilt;
-use crate::lines::{Line, plain_line, policy_line, put_pieces, recording_line, unbuilt_line};
+use crate::lines::{Line, lack_line, plain_line, policy_line, put_pieces, recording_line};
+use fv_report::Lack;
 use policy_text::ReadFault;
 use recording::RecordingFault;
 
@@ -32,7 +32,7 @@ pub enum Ending {
     /// The recording has no form. The fault is never want of memory.
     RecordingRefused(RecordingFault),
     /// The recording needs what isn't built yet.
-    NotBuilt(Unbuilt),
+    NotBuilt(Lack),
 }
 
 impl Ending {
@@ -67,7 +67,7 @@ impl Ending {
             Ending::TooLarge => plain_line("too large\n"),
             Ending::PolicyRefused(fault) => policy_line(fault),
             Ending::RecordingRefused(fault) => recording_line(*fault),
-            Ending::NotBuilt(unbuilt) => unbuilt_line(*unbuilt),
+            Ending::NotBuilt(lack) => lack_line(*lack),
         }
     }
 

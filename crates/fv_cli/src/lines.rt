@@ -4,11 +4,11 @@
 ghost use Rattle.std.specs.Prelude.{◌≡◌, ◌≤◌, ◌++◌, ℕ, List, length, codes, decimal, OnOk, OnErr};
 ghost use Rattle.fv_base.specs.Told.{appended, IsPrefix, Rose};
 ghost use Rattle.policy_text.specs.Places.{place_text};
-ghost use Rattle.fv_cli.specs.Lines.{piece_text, whole_text, what_text, field_text, improper_text, refusal_text, reading_text, policy_line, recording_line, unbuilt_line, accepted_line};
+ghost use Rattle.fv_cli.specs.Lines.{piece_text, whole_text, what_text, field_text, improper_text, refusal_text, reading_text, policy_line, recording_line, lack_line, accepted_line};
 
 use crate::base::{Failed, Sink, put_all};
-use crate::built::Unbuilt;
 use flowspace::{Field, Policy, PolicyFault, What};
+use fv_report::Lack;
 use itoa::Buffer;
 use policy_text::{Part, Place, ReadFault};
 use recording::RecordingFault;
@@ -244,15 +244,15 @@ pub(crate) fn recording_line<'a>(fault: RecordingFault) -> Line<'a>
     }
 }
 
-/// The line of a record that isn't built.
-pub(crate) fn unbuilt_line<'a>(unbuilt: Unbuilt) -> Line<'a>
-    ensures { whole_text result ≡ unbuilt_line unbuilt }
+/// The line of a recording that needs what isn't built.
+pub(crate) fn lack_line<'a>(lack: Lack) -> Line<'a>
+    ensures { whole_text result ≡ lack_line lack }
 {
     [
         Piece::Text("not built: type "),
-        Piece::Number(u64::from(unbuilt.kind)),
+        Piece::Number(u64::from(lack.kind)),
         Piece::Text(" at "),
-        Piece::Number(unbuilt.at),
+        Piece::Number(lack.at),
         Piece::Text("\n"),
         NOTHING,
         NOTHING,

@@ -1,15 +1,18 @@
 //! The program's call without the system: the words in, files and output by their traits, the status out.
 
 ghost use Rattle.std.specs.Prelude.{◌≡◌, ◌≤◌, ◌<◌, ◌^◌, ℕ, List, length, true, Ok, None, IfOk, IfErr, IfSome};
+ghost use Rattle.std.specs.List.{All};
 ghost use Rattle.fv_base.specs.Words.{form_of};
-ghost use Rattle.fv_cli.specs.Endings.{PolicySays, RecordingLacks, IsLoadCause, IsPolicyCause, IsRecordingCause, IsRunEnding, IsCheckCause, IsReplayCause, Causes, is_early, Ended};
+ghost use Rattle.recording.specs.Recordings.{IsItem};
+ghost use Rattle.desk_words.specs.Recorded.{told_in};
+ghost use Rattle.desk_words.specs.Reports.{report};
+ghost use Rattle.fv_cli.specs.Endings.{PolicySays, IsTaken, IsLoadCause, IsPolicyCause, IsRecordingCause, IsRunEnding, IsCheckCause, IsReplayCause, Causes, is_early, Ended};
 
 use crate::base::{Failed, Files, Form, LoadFault, Sink, Words, WordsFault, load_file, read_words};
-use crate::built::first_unbuilt;
 use crate::ending::Ending;
 use crate::lines::{accepted_line, put_pieces};
-use crate::reporting::{ReportFault, report_items, slice_count};
 use flowspace::Policy;
+use fv_report::{ReportFault, first_lack, report_items};
 use policy_text::ReadFault;
 use recording::{Item, RecordingFault, items};
 use std::alloc::Global;
@@ -69,7 +72,7 @@ fn load_recording<F: Files>(
     path: &str,
     slices: u8,
 ) -> Result<Recording, Ending>
-    ensures built { IfOk result (λ _. RecordingLacks slices None (F.contents files.old path.now)) }
+    ensures taken { IfOk result (λ recording. IsTaken slices recording.bytes.items recording.items.items (F.contents files.old path.now)) }
     ensures cause { IfErr result (IsRecordingCause slices (F.contents files.old path.now) (F.faults files.old path.now) (F.faults files.new path.now)) }
     ensures same { (at : List ℕ) → F.contents files.new at ≡ F.contents files.old at }
     ensures count { (at : List ℕ) → F.faults files.old at ≤ F.faults files.new at }
@@ -83,9 +86,10 @@ fn load_recording<F: Files>(
         Err(RecordingFault::Memory) => return Err(Ending::NoMemory),
         Err(fault) => return Err(Ending::RecordingRefused(fault)),
     };
-    match first_unbuilt(&bytes, &items) {
-        Some(unbuilt) => Err(Ending::NotBuilt(unbuilt)),
-        None => Ok(Recording { bytes, items }),
+    match first_lack(alloc, slices, &bytes, &items) {
+        Ok(None) => Ok(Recording { bytes, items }),
+        Ok(Some(lack)) => Err(Ending::NotBuilt(lack)),
+        Err(_) => Err(Ending::NoMemory),
     }
 }
 
@@ -126,9 +130,17 @@ fn replay<F: Files, O: Sink>(
     run(alloc, &policy, &recording, out)
 }
 
+/// How many slices a policy has.
+fn slice_count(policy: &Policy) -> u8
+    ensures { result ≡ length policy.now.slices }
+{
+    policy.slices().len() as u8
+}
+
 /// Runs the recording under the policy.
 fn run<O: Sink>(alloc: Global, policy: &Policy, recording: &Recording, out: &mut O) -> Ending
-    ensures { IsRunEnding (O.faults out.old) (O.faults out.new) result }
+    requires { All (IsItem (length policy.now.slices) recording.now.bytes.items) recording.now.items.items }
+    ensures { IsRunEnding (report policy.now (told_in recording.now.bytes.items recording.now.items.items)) (O.contents out.old) (O.contents out.new) (O.faults out.old) (O.faults out.new) result }
 {
     match report_items(alloc, policy, &recording.bytes, &recording.items, out) {
         Ok(()) => Ending::Done,
@@ -160,7 +172,7 @@ fn decide<F: Files, O: Sink>(alloc: Global, words: &Words, files: &mut F, out: &
 /// | 2, 3 | the policy, or the recording, was read and is refused; the line says why and where |
 /// | 4, 5 | a file can't be read; the output can't be written |
 /// | 6, 7 | no memory; a file is too large (policy 1 MiB, recording 256 MiB) |
-/// | 8 | the recording needs what isn't built yet; the line names the first such record's type and place |
+/// | 8 | the recording has a message that isn't built yet; the line names the first one's type and the place of the record that completes it |
 ///
 /// The words are looked at first, then the policy and then the recording; nothing is written to `out`
 /// before all of them are found good.

@@ -3,6 +3,8 @@
 mod checks;
 mod messages;
 mod recordings;
+mod records;
+mod sessions;
 mod streams;
 
 use crate::base::{Files, MemoryFiles, MemorySink, Words};

@@ -1,10 +1,10 @@
-//! Streams that come byte by byte.
+//! Streams that come byte by byte: through a framer of the test's own, and in records of one byte.
 
+use super::records::{Cut, Step, TO_WEB, play, recording_of};
 use super::{
     ALICE_UP, BOB_UP, FEATURES, MAGIC, OPENING, POLICY, SWITCH_UP, WEB_PACKET, WEB_REPORT,
-    bytes_of, call, expect_answer,
+    bytes_of, expect_answer,
 };
-use crate::base::{MemoryFiles, MemorySink};
 use of10_ctl::{Framer, Next};
 use std::alloc::Global;
 use std::test::Fail;
@@ -53,11 +53,10 @@ fn a_stream_cut_into_bytes_makes_the_same_report(rt: HostRuntime) -> Result<(), 
         matches!(framer.next()?, Next::NeedMore),
         "no byte is left over"
     );
-    let mut files = MemoryFiles::new(alloc);
-    files.add("policy", POLICY.as_bytes())?;
-    files.add("recording", &recording)?;
-    let words = ["replay", "policy", "recording"];
-    let answer = call(alloc, &words, &mut files, MemorySink::new(alloc))?;
+    let answer = play(alloc, POLICY, &recording)?;
+    expect_answer(&rt, &answer, 0, &[OPENING, WEB_REPORT], "");
+    let steps = [Step::Opened, Step::Switch(&[TO_WEB])];
+    let answer = play(alloc, POLICY, &recording_of(alloc, Cut::Bytes, &steps)?)?;
     expect_answer(&rt, &answer, 0, &[OPENING, WEB_REPORT], "");
     Ok(())
 }
