@@ -7,6 +7,7 @@ use crate::expanding::{send, split};
 use crate::messages::Messages;
 use crate::parts::Part;
 use crate::policies::{check, largest};
+use crate::reporting::report;
 use crate::samples::Samples;
 use match_meet::{includes, meet};
 use std::alloc::{AllocError, Global};
@@ -42,6 +43,8 @@ pub enum Benchmark {
     Policies,
     /// A call to a part of a slice.
     Of(Part),
+    /// Writing the report of a recording.
+    Report,
 }
 
 /// Those of single messages, in the order in which they are made.
@@ -54,8 +57,9 @@ pub const ALL: [Benchmark; 6] = [
     Benchmark::LargePackets,
 ];
 
-/// The others: those with as many rules as there may be, and those of the parts of a slice.
-pub const OTHERS: [Benchmark; 10] = [
+/// The others: those with as many rules as there may be, those of the parts of a slice, and that of a
+/// whole recording.
+pub const OTHERS: [Benchmark; 11] = [
     Benchmark::Splitting,
     Benchmark::Sending,
     Benchmark::Checking,
@@ -66,6 +70,7 @@ pub const OTHERS: [Benchmark; 10] = [
     Benchmark::Of(Part::Booked),
     Benchmark::Of(Part::Overlaps),
     Benchmark::Of(Part::Newcomers),
+    Benchmark::Report,
 ];
 
 impl Benchmark {
@@ -83,6 +88,7 @@ impl Benchmark {
             Benchmark::Checking => "actions",
             Benchmark::Policies => "check",
             Benchmark::Of(part) => part.name(),
+            Benchmark::Report => "report",
         }
     }
 
@@ -92,6 +98,7 @@ impl Benchmark {
             Benchmark::Splitting | Benchmark::Sending | Benchmark::Checking => 1_000,
             Benchmark::Policies => 10,
             Benchmark::Of(part) => part.least_measured(),
+            Benchmark::Report => 10_000,
             _ => 1_000_000,
         }
     }
@@ -104,7 +111,8 @@ impl Benchmark {
             | Benchmark::Sending
             | Benchmark::Checking
             | Benchmark::Policies
-            | Benchmark::Of(_) => None,
+            | Benchmark::Of(_)
+            | Benchmark::Report => None,
             Benchmark::Framing => Some(Messages::PIECE as u64),
             Benchmark::SmallPackets => Some(messages.small().as_slice().len() as u64),
             Benchmark::LargePackets => Some(messages.large().as_slice().len() as u64),
@@ -137,7 +145,7 @@ fn ask(samples: &Samples, question: Question, count: u64) -> u64
 }
 
 /// Makes so many calls, and counts what they find: answers that are yes, frames, packets, pieces,
-/// messages, lists, policies that are accepted, requests, or pairs.
+/// messages, lists, policies that are accepted, requests, pairs, or packets that are reported.
 pub fn run(
     alloc: Global,
     samples: &Samples,
@@ -155,5 +163,6 @@ pub fn run(
         Benchmark::Checking => give(alloc, count),
         Benchmark::Policies => Ok(check(alloc, &largest(alloc)?, count)),
         Benchmark::Of(part) => part.run(alloc, count),
+        Benchmark::Report => report(alloc, count),
     }
 }

@@ -1,9 +1,10 @@
-//! Measures calls that the proxy makes for each message, and the reading of a large policy:
+//! Measures calls that the proxy makes for each message, the reading of a large policy and the report of a
+//! recording:
 //! `flowvisor_bench BENCHMARK COUNT`, where the benchmark is one that `benchmark` names, or `all` for those
 //! of single messages. It prints what the calls found and, from a million of them on, how many millions or
 //! how many megabytes there were in a second; of those with many rules how many thousand, from a thousand
 //! on, and of those that go through many booked pairs from ten thousand on; of policies how many, from ten
-//! on.
+//! on, and of the report of a recording how many events, from ten thousand on.
 #![tactic(auto)]
 
 mod benchmark;
@@ -12,6 +13,7 @@ mod expanding;
 mod messages;
 mod parts;
 mod policies;
+mod reporting;
 mod samples;
 
 use benchmark::{ALL, Benchmark, OTHERS, run};
@@ -25,7 +27,7 @@ use std::{env, io};
 const MOST_CALLS: u64 = 100_000_000_000;
 
 const USAGE: &str =
-    "usage: flowvisor_bench matches|meet|includes|framing|packet-in-64|packet-in-1500|pieces|build|actions|check|issue|find|ask|booked|overlaps|newcomers|all COUNT\n";
+    "usage: flowvisor_bench matches|meet|includes|framing|packet-in-64|packet-in-1500|pieces|build|actions|check|issue|find|ask|booked|overlaps|newcomers|report|all COUNT\n";
 
 /// What the words ask for.
 #[derive(Drop)]
@@ -72,6 +74,7 @@ fn measure(
     let (each, unit) = match benchmark.bytes(messages) {
         Some(bytes) => (bytes, "MB"),
         None if benchmark == Benchmark::Policies => (1_000_000, "policies"),
+        None if benchmark == Benchmark::Report => (1_000_000, "events"),
         None if benchmark.least_measured() < 1_000_000 => (1_000, "thousand"),
         None => (1, "million"),
     };
