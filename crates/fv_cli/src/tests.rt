@@ -8,7 +8,8 @@ mod sessions;
 mod streams;
 
 use crate::base::{Files, MemoryFiles, MemorySink, Words};
-use crate::offline;
+use crate::{offline, report};
+use recording::items;
 use std::alloc::Global;
 use std::process::Abort;
 use std::test::Fail;
@@ -140,6 +141,22 @@ fn a_packet_reaches_the_slice_that_owns_its_port(rt: HostRuntime) -> Result<(), 
     let slow = MemorySink::with_plan(alloc, 7, Vec::new(alloc));
     let answer = replay(alloc, POLICY, &pieces, slow)?;
     expect_answer(&rt, &answer, 0, &[OPENING, WEB_REPORT], "");
+    Ok(())
+}
+
+#[test]
+fn the_report_of_a_recording_in_memory_is_written(rt: HostRuntime) -> Result<(), Fail> {
+    let alloc = rt.alloc();
+    let policy = policy_text::read(alloc, POLICY.as_bytes())?;
+    let pieces = [MAGIC, SWITCH_UP, FEATURES, ALICE_UP, BOB_UP, WEB_PACKET];
+    let bytes = bytes_of(alloc, &pieces)?;
+    let mut out = MemorySink::new(alloc);
+    let records = items(alloc, &bytes, policy.slices().len() as u8)?;
+    assert_eq!(rt; records.len(), 5);
+    assert!(rt; report(alloc, &policy, &bytes, &mut out).is_ok());
+    assert!(rt; out.as_slice().starts_with(OPENING.as_bytes()));
+    assert!(rt; out.as_slice().ends_with(WEB_REPORT.as_bytes()));
+    assert_eq!(rt; out.as_slice().len(), OPENING.len() + WEB_REPORT.len());
     Ok(())
 }
 

@@ -20,7 +20,7 @@ const WEB: &str =
     "[[rule]]\npriority = 100\nwrite = \"alice\"\ndl_type = 2048\nnw_proto = 6\ntp_dst = 80\n";
 
 /// Rules behind the slices, and what is said of the policy: its status, its output and its error line.
-const CASES: [(&[&str], u8, &str, &str); 10] = [
+const CASES: [(&[&str], u8, &str, &str); 12] = [
     (&[], 0, "ok 2 0\n", ""),
     (
         &[WEB, "[[rule]]\npriority = 10\nread = [\"bob\"]\n"],
@@ -66,6 +66,18 @@ const CASES: [(&[&str], u8, &str, &str); 10] = [
         "policy: bad value rule.0.nw_tos\n",
     ),
     (&["[[rule]"], 2, "", "policy: not TOML\n"),
+    (
+        &["[[slice]]\nname = \"bob\"\ncontroller = \"127.0.0.1:6635\"\n"],
+        2,
+        "",
+        "policy: slice 2 is a duplicate\n",
+    ),
+    (
+        &["[[rule]]\npriority = 1\nread = [\"bob\", \"alice\", \"bob\"]\n"],
+        2,
+        "",
+        "policy: rule 0 improper read\n",
+    ),
 ];
 
 fn expect_check(
@@ -102,5 +114,63 @@ fn policies_are_accepted_or_refused_with_the_place(rt: HostRuntime) -> Result<()
         let text = joined(alloc, rules)?;
         expect_check(&rt, alloc, text.as_str(), (*status, out, err))?;
     }
+    Ok(())
+}
+
+/// Two slices and so many rules.
+fn with_rules(alloc: Global, rule: &str, count: u32) -> Result<String, Fail> {
+    let mut text = String::new(alloc);
+    text.push_str(SLICES)?;
+    for _ in 0..count {
+        text.push_str(rule)?;
+    }
+    Ok(text)
+}
+
+/// So many slices, and no rule.
+fn with_slices(alloc: Global, count: u32) -> Result<String, Fail> {
+    let mut text = String::new(alloc);
+    text.push_str("version = 1\n")?;
+    for number in 0..count {
+        write!(
+            text,
+            "[[slice]]\nname = \"s{number}\"\ncontroller = \"c\"\n"
+        )?;
+    }
+    Ok(text)
+}
+
+#[test]
+fn policies_of_too_many_parts_are_refused_with_their_number(rt: HostRuntime) -> Result<(), Fail> {
+    let alloc = rt.alloc();
+    let plain = "[[rule]]\npriority = 1\n";
+    let writing = "[[rule]]\npriority = 1\nwrite = \"alice\"\n";
+    let slices = "policy: too many slices 33\n";
+    expect_check(
+        &rt,
+        alloc,
+        with_slices(alloc, 33)?.as_str(),
+        (2, "", slices),
+    )?;
+    expect_check(
+        &rt,
+        alloc,
+        with_slices(alloc, 32)?.as_str(),
+        (0, "ok 32 0\n", ""),
+    )?;
+    let rules = "policy: too many rules 2049\n";
+    expect_check(
+        &rt,
+        alloc,
+        with_rules(alloc, plain, 2049)?.as_str(),
+        (2, "", rules),
+    )?;
+    let writes = "policy: too many write rules 257\n";
+    expect_check(
+        &rt,
+        alloc,
+        with_rules(alloc, writing, 257)?.as_str(),
+        (2, "", writes),
+    )?;
     Ok(())
 }

@@ -2,8 +2,8 @@
 
 use super::records::{ALICE, BOB, Cut, Step, play, recording_of};
 use super::{
-    ALICE_UP, BOB_UP, FEATURES, MAGIC, OPENING, POLICY, SWITCH_UP, WEB_PACKET, expect_answer,
-    replay,
+    ALICE_UP, BOB_UP, FEATURES, MAGIC, OPENING, POLICY, SHELL_PACKET, SWITCH_UP, WEB_PACKET,
+    expect_answer, replay,
 };
 use crate::base::MemorySink;
 use Step::{At, Opened, Slice, SliceDown, SliceUp, Switch, SwitchUp};
@@ -220,5 +220,52 @@ fn a_packet_reaches_its_readers_too(rt: HostRuntime) -> Result<(), Fail> {
     let pieces = [MAGIC, SWITCH_UP, FEATURES, ALICE_UP, BOB_UP, WEB_PACKET];
     let answer = replay(alloc, SHARED, &pieces, MemorySink::new(alloc))?;
     expect_answer(&rt, &answer, 0, &[OPENING, BOTH], "");
+    Ok(())
+}
+
+/// Bob reads what nobody writes.
+const WATCHED: &str = "\
+version = 1
+[[slice]]
+name = \"alice\"
+controller = \"127.0.0.1:6633\"
+[[slice]]
+name = \"bob\"
+controller = \"127.0.0.1:6634\"
+[[rule]]
+priority = 100
+write = \"alice\"
+dl_type = 2048
+nw_proto = 6
+tp_dst = 80
+[[rule]]
+priority = 10
+read = [\"bob\"]
+";
+
+const APART: &str = "\
+2 0 to alice 0100000800000000
+3 0 to bob 0100000800000000
+4 0 to alice 010a004800000000ffffffff003600010000000000000002000000000001080045000028000000004006\
+00000a0000010a0000020400005000000000000000005002000000000000
+5 0 to bob 010a004800000000ffffffff003600010000000000000002000000000001080045000028000000004006\
+00000a0000010a0000020400001600000000000000005002000000000000
+end 6
+";
+
+#[test]
+fn a_packet_that_nobody_writes_reaches_its_readers(rt: HostRuntime) -> Result<(), Fail> {
+    let alloc = rt.alloc();
+    let pieces = [
+        MAGIC,
+        SWITCH_UP,
+        FEATURES,
+        ALICE_UP,
+        BOB_UP,
+        WEB_PACKET,
+        SHELL_PACKET,
+    ];
+    let answer = replay(alloc, WATCHED, &pieces, MemorySink::new(alloc))?;
+    expect_answer(&rt, &answer, 0, &[OPENING, APART], "");
     Ok(())
 }

@@ -51,7 +51,7 @@ const PORT_4: &str =
 
 /// A controller's requests that are answered at once, or refused (OpenFlow 1.0.0, sections 5.3, 5.4.4 and
 /// 5.5).
-const REQUESTS: [Session; 10] = [
+const REQUESTS: [Session; 11] = [
     // FEATURES_REQUEST.
     (
         &[Opened, Slice(ALICE, "0105000800000007")],
@@ -84,16 +84,31 @@ const REQUESTS: [Session; 10] = [
             "\nend 8\n",
         ],
     ),
+    // SET_CONFIG to what it is anyway, and an echo of the other slice's controller.
+    (
+        &[
+            Opened,
+            Slice(ALICE, "0109000c0000000100000080"),
+            Slice(ALICE, "0107000800000002"),
+            Slice(ALICE, "0102000c00000004aabbccdd"),
+        ],
+        &[
+            OPENED,
+            "5 0 to alice 0108000c0000000200000080\n",
+            "6 0 to alice 0103000c00000004aabbccdd\n",
+            "end 7\n",
+        ],
+    ),
     // SET_CONFIG with fragment flags changes nothing.
     (
         &[
             Opened,
-            Slice(ALICE, "0109000c0000000300010040"),
+            Slice(ALICE, "0109000c0000000300010080"),
             Slice(ALICE, "0107000800000002"),
         ],
         &[
             OPENED,
-            "4 0 to alice 0101001800000003000100050109000c0000000300010040\n",
+            "4 0 to alice 0101001800000003000100050109000c0000000300010080\n",
             "5 0 to alice 0108000c0000000200000080\n",
             "end 6\n",
         ],
