@@ -36,7 +36,7 @@ const PACKET: [u8; 72] = [
 ];
 
 /// So many of them fit the longest record, which carries 16 MiB.
-const PACKETS: u64 = 233_016;
+const PACKETS: u32 = 233_016;
 
 /// Bytes of the shortest line that reports one: that of event 4.
 const LINE: u64 = 158;
@@ -49,9 +49,9 @@ fn put_head(out: &mut Vec<u8>, kind: u8, size: u32) -> Result<(), AllocError> {
 }
 
 /// A record with so many packets.
-fn put_packets(out: &mut Vec<u8>, count: u64) -> Result<(), AllocError> {
-    let size = count.saturating_mul(PACKET.len() as u64);
-    put_head(out, SWITCH_BYTES, size as u32)?;
+fn put_packets(out: &mut Vec<u8>, count: u32) -> Result<(), AllocError> {
+    let size = count.saturating_mul(PACKET.len() as u32);
+    put_head(out, SWITCH_BYTES, size)?;
     for _ in 0..count {
         out.extend_from_slice(&PACKET)?;
     }
@@ -66,10 +66,10 @@ fn recording_of(alloc: Global, count: u64) -> Result<Vec<u8>, AllocError> {
     put_head(&mut out, SWITCH_BYTES, FEATURES.len() as u32)?;
     out.extend_from_slice(&FEATURES)?;
     put_head(&mut out, SLICE_UP, 0)?;
-    for _ in 0..count / PACKETS {
+    for _ in 0..count / u64::from(PACKETS) {
         put_packets(&mut out, PACKETS)?;
     }
-    put_packets(&mut out, count % PACKETS)?;
+    put_packets(&mut out, (count % u64::from(PACKETS)) as u32)?;
     Ok(out)
 }
 
