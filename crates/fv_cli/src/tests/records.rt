@@ -71,7 +71,7 @@ struct Maker {
 
 impl Maker {
     fn put_record(&mut self, kind: u8, slot: u8, carried: &[u8]) -> Result<(), Fail> {
-        let size = carried.len() as u32;
+        let size = carried.len().min(u32::MAX as usize) as u32;
         self.bytes.extend_from_slice(&[kind, self.switch, slot, 0])?;
         self.bytes.extend_from_slice(&size.to_be_bytes())?;
         self.bytes.extend_from_slice(&[0; 8])?;
