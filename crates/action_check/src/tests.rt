@@ -1,17 +1,16 @@
 mod draws;
 mod given;
+mod plain;
+mod soundness;
 
 use crate::CheckFault::{Refused, TooMany};
-use crate::{CheckFault, Origin};
-use draws::Draws;
+use crate::Origin;
 use flowspace::SwitchPolicy;
 use given::{
-    ALICE, ANY, BOB, FIRST_NET, Packets, SECOND_NET, answer, answer_with, code, load, match_of,
-    packet, rule, to_net, to_tcp,
+    ALICE, BOB, FIRST_NET, Packets, SECOND_NET, answer, answer_with, code, load, match_of, packet,
+    rule, to_net, to_tcp,
 };
-use match_meet::rewrite_header;
-use of10_action::{Action, Actions};
-use of10_match::Header12;
+use of10_action::Action;
 use of10_port::protocol::{ALL, CONTROLLER, FLOOD, IN_PORT, LOCAL, NONE, NORMAL, TABLE};
 use std::alloc::{AllocError, Global};
 use std::test::Fail;
@@ -279,126 +278,5 @@ fn lists_have_65463_bytes_at_most(rt: HostRuntime) -> Result<(), Fail> {
         let answer = answer(rt.alloc(), &policy, ALICE, &own, &actions)?;
         assert_eq!(rt; answer.err(), *expected, "case {index}");
     }
-    Ok(())
-}
-
-fn is_written(policy: &SwitchPolicy, slot: u8, header: &Header12) -> bool {
-    policy.writer(header) == Some(slot)
-}
-
-// The rules that are drawn name the ports 1 and 2 alone.
-fn is_written_from_somewhere(policy: &SwitchPolicy, slot: u8, header: &Header12) -> bool {
-    [1, 2, 3].iter().any(|in_port| {
-        is_written(
-            policy,
-            slot,
-            &Header12 {
-                in_port: *in_port,
-                ..*header
-            },
-        )
-    })
-}
-
-fn sends_what_it_may(policy: &SwitchPolicy, slot: u8, header: &Header12, action: &Action) -> bool {
-    match *action {
-        Action::Output {
-            port: CONTROLLER | TABLE,
-            ..
-        } => is_written(policy, slot, header),
-        Action::Output { port, .. } | Action::Enqueue { port, .. } => {
-            (port <= 3 || port == IN_PORT) && is_written_from_somewhere(policy, slot, header)
-        }
-        _ => true,
-    }
-}
-
-/// Whether a packet is sent by the list only as the slice may write it.
-fn is_sound(policy: &SwitchPolicy, slot: u8, header: &Header12, list: &Actions) -> bool {
-    let mut image = *header;
-    for action in list.as_slice() {
-        if !sends_what_it_may(policy, slot, &image, action) {
-            return false;
-        }
-        image = rewrite_header(&image, action);
-    }
-    true
-}
-
-/// The list that is given for alice, if one is.
-fn given_list(
-    alloc: Global,
-    policy: &SwitchPolicy,
-    origin: &Origin,
-    actions: &[Action],
-) -> Result<Option<Actions>, Fail> {
-    let answer = if policy.has_port(ALICE, 3) {
-        answer(alloc, policy, ALICE, origin, actions)?
-    } else {
-        answer_with(alloc, policy, ALICE, origin, actions, (&[], &[]))?
-    };
-    Ok(answer.ok())
-}
-
-/// How many packets of a piece are sent by the list for it; `None` where one is sent that may not be.
-fn sound_packets(
-    alloc: Global,
-    policy: &SwitchPolicy,
-    draws: &mut Draws,
-) -> Result<Option<u32>, Fail> {
-    let packets = draws.packets();
-    let m = match_of(&packets);
-    let actions = [draws.action(), draws.action(), draws.sending()];
-    let Some(list) = given_list(alloc, policy, &Origin::Piece(m), &actions)? else {
-        return Ok(Some(0));
-    };
-    let mut sent = 0;
-    for _ in 0..8 {
-        let header = draws.header(&packets);
-        if m.matches(&header) {
-            if !is_sound(policy, ALICE, &header, &list) {
-                return Ok(None);
-            }
-            sent = u32::saturating_add(sent, 1);
-        }
-    }
-    Ok(Some(sent))
-}
-
-/// The same for one packet that is sent.
-fn sound_packet(
-    alloc: Global,
-    policy: &SwitchPolicy,
-    draws: &mut Draws,
-) -> Result<Option<u32>, Fail> {
-    let packets = draws.packets();
-    let header = draws.header(&packets);
-    let actions = [draws.action(), draws.action(), draws.sending()];
-    Ok(
-        match given_list(alloc, policy, &Origin::Packet(header), &actions)? {
-            Some(list) => is_sound(policy, ALICE, &header, &list).then_some(1),
-            None => Some(0),
-        },
-    )
-}
-
-#[test]
-fn lists_that_are_given_are_sound(rt: HostRuntime) -> Result<(), Fail> {
-    let mut draws = Draws::new(11);
-    let (mut of_pieces, mut of_packets) = (0_u32, 0_u32);
-    for round in 0..3000 {
-        let rules = [draws.rule(3), draws.rule(2), draws.rule(1)];
-        if let Ok(policy) = load(rt.alloc(), &rules)? {
-            let flow = sound_packets(rt.alloc(), &policy, &mut draws)?;
-            let packet = sound_packet(rt.alloc(), &policy, &mut draws)?;
-            assert!(rt; flow.is_some() && packet.is_some(), "round {round}");
-            of_pieces = of_pieces.saturating_add(flow.unwrap_or(0));
-            of_packets = of_packets.saturating_add(packet.unwrap_or(0));
-        }
-    }
-    assert!(rt;
-        of_pieces > 500 && of_packets > 100,
-        "{of_pieces} and {of_packets}"
-    );
     Ok(())
 }

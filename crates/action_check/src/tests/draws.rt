@@ -1,13 +1,13 @@
 //! Rules, packets and actions of few values, drawn by a linear congruential generator.
 
 ghost use Rattle.std.specs.Prelude.{◌<◌};
-ghost use Rattle.of10_action.specs.Actions.{HasAddress};
 
-use crate::tests::given::{ALICE, BOB, FIRST_NET, Packets, SECOND_NET, packet, rule};
-use flowspace::Rule;
+use super::given::{ALICE, BOB, FIRST_NET, Packets, SECOND_NET, packet};
+use super::plain::Grant;
+use super::{enqueue, output};
 use of10_action::Action;
 use of10_match::Header12;
-use of10_port::protocol::{CONTROLLER, FLOOD, IN_PORT};
+use of10_port::protocol::{ALL, CONTROLLER, FLOOD, IN_PORT, NONE};
 
 #[derive(Drop)]
 pub struct Draws {
@@ -53,6 +53,20 @@ impl Draws {
         }
     }
 
+    fn host_bits(&mut self) -> u8 {
+        match self.below(3) {
+            0 => 32,
+            _ => 16,
+        }
+    }
+
+    fn any_entry(&mut self) -> u16 {
+        match self.below(4) {
+            0 => NONE,
+            port => u16::from(port),
+        }
+    }
+
     fn entry(&mut self) -> Option<u16> {
         match self.below(6) {
             0 => Some(1),
@@ -79,19 +93,47 @@ impl Draws {
     }
 
     /// A rule, more of them alice's.
-    pub fn rule(&mut self, priority: u32) -> Rule {
+    pub fn grant(&mut self) -> Grant {
         let writer = match self.below(4) {
             0 => BOB,
             _ => ALICE,
         };
-        rule(priority, &self.packets(), writer)
+        Grant {
+            packets: self.packets(),
+            writer,
+        }
     }
 
-    /// A packet that is likely one of these.
+    fn packets_within(&mut self, wide: &Packets) -> Packets {
+        let drawn = self.packets();
+        let (net, bits) = match wide.bits {
+            0 => (drawn.net, drawn.bits),
+            16 => (wide.net, self.host_bits()),
+            _ => (wide.net, wide.bits),
+        };
+        Packets {
+            in_port: wide.in_port.or(drawn.in_port),
+            net,
+            bits,
+            tcp: wide.tcp.or(drawn.tcp),
+        }
+    }
+
+    /// Packets of one rule, or any.
+    pub fn packets_near(&mut self, grants: &[Grant; 3]) -> Packets {
+        match self.below(4) {
+            0 => self.packets(),
+            1 => self.packets_within(&grants[0].packets),
+            2 => self.packets_within(&grants[1].packets),
+            _ => self.packets_within(&grants[2].packets),
+        }
+    }
+
+    /// One of the packets, from port 1, 2 or 3 or from none.
     pub fn header(&mut self, packets: &Packets) -> Header12 {
         let in_port = match packets.in_port {
             Some(port) => port,
-            None => u16::from(self.below(4)),
+            None => self.any_entry(),
         };
         let host = match packets.bits {
             0 => self.net(),
@@ -105,41 +147,31 @@ impl Draws {
         packet(in_port, host, service)
     }
 
+    /// How many actions come before the last.
+    pub fn before(&mut self) -> u8 {
+        self.below(3)
+    }
+
     /// An action that sends, or one that rewrites.
-    pub fn action(&mut self) -> Action
-        ensures { HasAddress result }
-    {
-        match self.below(7) {
-            0 => Action::SetNwDst(self.net()),
-            1 => Action::SetTpDst(self.service()),
-            2 => Action::SetVlanVid(u16::from(self.below(9))),
-            3 => Action::StripVlan,
-            4 => Action::SetNwTos(self.below(64)),
+    pub fn action(&mut self) -> Action {
+        match self.below(10) {
+            0 | 1 => Action::SetNwDst(self.net() | u32::from(self.below(3))),
+            2 | 3 => Action::SetTpDst(self.service()),
+            4 => Action::SetVlanVid(4088 + u16::from(self.below(9))),
+            5 => Action::StripVlan,
+            6 => Action::SetNwTos(self.below(64)),
             _ => self.sending(),
         }
     }
 
-    pub fn sending(&mut self) -> Action
-        ensures { HasAddress result }
-    {
-        match self.below(5) {
-            0 => Action::Enqueue { port: 1, queue: 0 },
-            1 => Action::Output {
-                port: CONTROLLER,
-                max_len: 128,
-            },
-            2 => Action::Output {
-                port: FLOOD,
-                max_len: 0,
-            },
-            3 => Action::Output {
-                port: IN_PORT,
-                max_len: 0,
-            },
-            _ => Action::Output {
-                port: 2,
-                max_len: 0,
-            },
+    fn sending(&mut self) -> Action {
+        match self.below(6) {
+            0 => enqueue(1),
+            1 => output(CONTROLLER),
+            2 => output(FLOOD),
+            3 => output(ALL),
+            4 => output(IN_PORT),
+            _ => output(2),
         }
     }
 }
