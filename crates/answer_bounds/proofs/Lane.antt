@@ -11,7 +11,8 @@ use Rattle.desk_words.specs.declared.event.Event.{Event}
 use Rattle.desk_words.specs.declared.event.Event.TheVariants.{SwitchUp, SwitchMsg, SwitchDown, SliceUp, SliceMsg, SliceDown}
 use Rattle.desk_words.specs.declared.phase.Phase.{Phase}
 use Rattle.desk_words.specs.declared.phase.Phase.TheVariants.{Fresh, Begun, Opened, Ended}
-use Rattle.desk_words.specs.Openings.{is_of, features_told}
+use Rattle.of10_ctl.specs.Kinds.{is_of}
+use Rattle.desk_words.specs.Openings.{features_told}
 use Rattle.desk_words.specs.Sent.{greeting, whole_packets, clearing, preparation, echo_for, lane_in}
 use Rattle.answer_bounds.specs.Bounds.{IsFramed, AreFew}
 use Rattle.answer_bounds.proofs.Messages.{IsShort, few-none, few-one, few-append, few-more, few-either, short-message, short-echo}

@@ -68,7 +68,7 @@ fn load_policy(rt: &HostRuntime, path: &str) -> Result<Policy, Ending> {
 }
 
 fn records(rt: &HostRuntime, file: &[u8], policy: &Policy) -> Result<Vec<Item>, Ending> {
-    match recording::items(rt.alloc(), file, report::slice_count(policy)) {
+    match recording::items(rt.alloc(), file, policy.slice_count()) {
         Ok(items) => Ok(items),
         Err(RecordingFault::Memory) => Err(Ending::NoMemory),
         Err(fault) => Err(Ending::RecordingRefused(fault)),

@@ -16,11 +16,6 @@ struct Place {
     switch: u8,
 }
 
-/// How many slices a policy has.
-pub(crate) fn slice_count(policy: &Policy) -> u8 {
-    policy.slices().len().min(255) as u8
-}
-
 fn name_of(policy: &Policy, slot: u8) -> &str {
     policy
         .slices()
@@ -51,7 +46,7 @@ fn put_messages(
         out.push_str("lane ")?;
         put_message(out, alloc, message)?;
     }
-    for slot in 0..slice_count(policy) {
+    for slot in 0..policy.slice_count() {
         for message in &sent(alloc, policy, slot, history, last)? {
             let name = name_of(policy, slot);
             put_place(out, place)?;

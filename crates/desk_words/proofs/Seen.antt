@@ -27,7 +27,8 @@ use Rattle.desk_words.specs.declared.event.Event.TheVariants.{SwitchUp, SwitchMs
 use Rattle.desk_words.specs.declared.event.Timed.{Timed}
 use Rattle.desk_words.specs.declared.phase.Phase.{Phase}
 use Rattle.desk_words.specs.declared.phase.Phase.TheVariants.{Fresh, Begun, Opened, Ended}
-use Rattle.desk_words.specs.Openings.{is_of, well_formed, features_told, status_told, phase_of, opening_after, opening_of, rules_of, known_after, known_of, Switch, switch_of}
+use Rattle.of10_ctl.specs.Kinds.{is_of}
+use Rattle.desk_words.specs.Openings.{well_formed, features_told, status_told, phase_of, opening_after, opening_of, rules_of, known_after, known_of, Switch, switch_of}
 use Rattle.desk_words.specs.Histories.{is_slot, settings_at, own_ports, own_features, handed, shares_of, packet_items, status_items, is_kept, message_items, event_items, phase_items, Side, view_of}
 use Rattle.desk_words.specs.Laws.{HasSeen, SeesItsSwitch, AreKnownInOrder}
 use Rattle.desk_words.proofs.Alone.{has_told, blind}

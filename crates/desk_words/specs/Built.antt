@@ -1,5 +1,5 @@
 -- What of a recording isn't built yet: the first frame that would need it, and the record that completes it. Numbers are the types of messages (OpenFlow 1.0.0, section 5.1).
-use Rattle.std.specs.Prelude.{ℕ, ◌==◌, ◌||◌, ◌&&◌, not, Bool, false, if◌then◌else◌, List, [], ◌∷◌, ◌-◌, is_some, find, zip, ◌≡◌, Option, Some, None}
+use Rattle.std.specs.Prelude.{ℕ, ◌==◌, ◌||◌, ◌&&◌, not, Bool, false, if◌then◌else◌, List, [], ◌∷◌, ◌-◌, is_some, find, Option, Some, None}
 use Rattle.std.specs.List.{list_any}
 use Rattle.of10_ctl.specs.declared.kind.TheConstants.{ERROR, PACKET_IN, FLOW_REMOVED, PACKET_OUT, FLOW_MOD, STATS_REQUEST, STATS_REPLY, BARRIER_REQUEST, BARRIER_REPLY, QUEUE_GET_CONFIG_REQUEST, QUEUE_GET_CONFIG_REPLY}
 use Rattle.of10_flow.specs.declared.packet_in.PacketIn.{PacketIn}
@@ -9,8 +9,9 @@ use Rattle.recording.specs.declared.item.Item.{Item}
 use Rattle.recording.specs.Recordings.{Told, switch_bytes, slice_bytes}
 use Rattle.slice_words.specs.Messages.{kind_of}
 use Rattle.slice_words.specs.Answers.{no_buffer}
-use Rattle.desk_words.specs.Openings.{is_of, well_formed}
-use Rattle.desk_words.specs.Recorded.{completed, told_in}
+use Rattle.of10_ctl.specs.Kinds.{is_of}
+use Rattle.desk_words.specs.Openings.{well_formed}
+use Rattle.desk_words.specs.Recorded.{completed}
 
 -- a message is of one of these types
 abbrev pub is_one_of : List ℕ → List ℕ → Bool
@@ -54,7 +55,3 @@ lack_of item message = record { kind = kind_of message; at = head_place item }
 unfoldable pub first_lack : List Told → List (Item × Told) → Option Lack
 first_lack before [] = None
 first_lack before (pair ∷ later) = elim (unbuilt_in pair.1 before) [ None ↦ first_lack (pair.1 ∷ before) later | Some message ↦ Some (lack_of pair.0 message) ]
-
--- nothing of the recording in a file lacks
-abbrev pub IsBuilt : List ℕ → List Item → Type 0
-IsBuilt file items = first_lack [] (zip items (told_in file items)) ≡ None

@@ -27,7 +27,8 @@ use Rattle.desk_words.specs.declared.event.Event.TheVariants.{SwitchUp, SwitchMs
 use Rattle.desk_words.specs.declared.event.Timed.{Timed}
 use Rattle.desk_words.specs.declared.phase.Phase.{Phase}
 use Rattle.desk_words.specs.declared.phase.Phase.TheVariants.{Fresh, Begun, Opened, Ended}
-use Rattle.desk_words.specs.Openings.{is_of, well_formed, status_told, opening_with, rules_of, Switch, switch_of, phase_of}
+use Rattle.of10_ctl.specs.Kinds.{is_of}
+use Rattle.desk_words.specs.Openings.{well_formed, status_told, opening_with, rules_of, Switch, switch_of, phase_of}
 
 -- ---- slices of a policy
 

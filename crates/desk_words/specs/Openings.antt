@@ -3,6 +3,7 @@ use Rattle.std.specs.Prelude.{ℕ, ◌==◌, ◌&&◌, not, Bool, if◌then◌el
 use Rattle.of10_action.specs.declared.fault.WireFault.{WireFault}
 use Rattle.of10_ctl.specs.declared.kind.TheConstants.{FEATURES_REPLY, PORT_STATUS}
 use Rattle.of10_ctl.specs.Frames.{is_bad}
+use Rattle.of10_ctl.specs.Kinds.{is_of}
 use Rattle.of10_port.specs.declared.features.Features.{Features}
 use Rattle.of10_port.specs.declared.status.PortStatus.{PortStatus}
 use Rattle.of10_port.specs.Features.{read_features}
@@ -19,10 +20,6 @@ use Rattle.desk_words.specs.declared.phase.Phase.{Phase}
 use Rattle.desk_words.specs.declared.phase.Phase.TheVariants.{Fresh, Begun, Opened, Ended}
 
 -- ---- messages of the switch
-
--- a message of version 1 and of a type whose length counts its bytes (OpenFlow 1.0.0, section 5.1)
-abbrev pub is_of : ℕ → List ℕ → Bool
-is_of kind message = version_of message == 1 && is_kind kind message && not (is_bad message)
 
 -- what a reading gives, if there is no fault
 abbrev pub well_formed : {A : Type 0} → Result A WireFault → Option A

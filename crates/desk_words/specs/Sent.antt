@@ -14,7 +14,8 @@ use Rattle.desk_words.specs.declared.event.Event.TheVariants.{SwitchUp, SwitchMs
 use Rattle.desk_words.specs.declared.event.Timed.{Timed}
 use Rattle.desk_words.specs.declared.phase.Phase.{Phase}
 use Rattle.desk_words.specs.declared.phase.Phase.TheVariants.{Begun, Opened, Ended}
-use Rattle.desk_words.specs.Openings.{is_of, features_told, Switch, switch_of, phase_of}
+use Rattle.of10_ctl.specs.Kinds.{is_of}
+use Rattle.desk_words.specs.Openings.{features_told, Switch, switch_of, phase_of}
 use Rattle.desk_words.specs.Histories.{settings_at, items_of, Side, side_of}
 
 -- ---- to the slices

@@ -18,8 +18,10 @@ use Rattle.of10_model.specs.Inclusion.{includes_of}
 use Rattle.of10_model.specs.Meet.{is_disjoint}
 use Rattle.flow_book.specs.declared.booked.Booked.{Booked}
 use Rattle.flow_book.specs.Order.{IsInOrder}
-use Rattle.flow_book.specs.Books.{is_match, is_pair, is_newcomer, newcomers_in, fits_in, overlaps_in, HaveSame}
-use Rattle.flow_book.proofs.SamePairs.{same_match, match_itself, Equal-pair}
+use Rattle.flow_book.specs.Books.{is_pair, is_newcomer, newcomers_in, fits_in, overlaps_in, HaveSame}
+use Rattle.of10_model.specs.Same.{is_same}
+use Rattle.of10_model.proofs.Same.{one-is_same, is_same-one}
+use Rattle.flow_book.proofs.SamePairs.{Equal-pair}
 use Rattle.flow_book.proofs.Places.{PassesAt, find_one, no_other}
 
 module _ {X : Type 0} where
@@ -107,14 +109,14 @@ module _ (xs ys : List Booked) (same : HaveSame xs ys) where
 -- ---- the pair that is found
 
 abbrev pub same_booked : Booked → Booked → Bool
-same_booked a b = is_match a.pattern b.pattern && a.priority == b.priority && beq a.asked b.asked && a.number == b.number
+same_booked a b = is_same a.pattern b.pattern && a.priority == b.priority && beq a.asked b.asked && a.number == b.number
 
 same_from : (a b : Booked) → same_booked a b ≡ true → a ≡ b
 same_from a b e =
-    let three = and_parts (is_match a.pattern b.pattern && a.priority == b.priority && beq a.asked b.asked) (a.number == b.number) e in
-    let two = and_parts (is_match a.pattern b.pattern && a.priority == b.priority) (beq a.asked b.asked) three.0 in
-    let one = and_parts (is_match a.pattern b.pattern) (a.priority == b.priority) two.0 in
-    let pattern = same_match a.pattern b.pattern one.0 in
+    let three = and_parts (is_same a.pattern b.pattern && a.priority == b.priority && beq a.asked b.asked) (a.number == b.number) e in
+    let two = and_parts (is_same a.pattern b.pattern && a.priority == b.priority) (beq a.asked b.asked) three.0 in
+    let one = and_parts (is_same a.pattern b.pattern) (a.priority == b.priority) two.0 in
+    let pattern = one-is_same a.pattern b.pattern one.0 in
     let priority = eqb-true a.priority b.priority one.1 in
     let asked = (booleans_Decides a.asked b.asked).0 two.1 in
     let number = eqb-true a.number b.number three.1 in
@@ -122,9 +124,9 @@ same_from a b e =
 
 itself : (a : Booked) → same_booked a a ≡ true
 itself a =
-    and_from (is_match a.pattern a.pattern && a.priority == a.priority && beq a.asked a.asked) (a.number == a.number)
-    (and_from (is_match a.pattern a.pattern && a.priority == a.priority) (beq a.asked a.asked)
-    (and_from (is_match a.pattern a.pattern) (a.priority == a.priority) (match_itself a.pattern) (eq-eqb a.priority a.priority refl))
+    and_from (is_same a.pattern a.pattern && a.priority == a.priority && beq a.asked a.asked) (a.number == a.number)
+    (and_from (is_same a.pattern a.pattern && a.priority == a.priority) (beq a.asked a.asked)
+    (and_from (is_same a.pattern a.pattern) (a.priority == a.priority) (is_same-one a.pattern) (eq-eqb a.priority a.priority refl))
     ((booleans_Decides a.asked a.asked).1 refl))
     (eq-eqb a.number a.number refl)
 

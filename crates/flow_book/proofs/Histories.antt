@@ -10,9 +10,11 @@ use Rattle.std.proofs.lemmas.Map.Views.{any-filter_same}
 use Rattle.of10_model.specs.declared.pattern.Pattern.{Pattern}
 use Rattle.of10_model.specs.Normal.{IsNormal}
 use Rattle.flow_book.specs.declared.booked.Booked.{Booked}
-use Rattle.flow_book.specs.Books.{BookCall, Added, Removed, Failed, is_match, is_pair, is_booked, includes_booked, is_newcomer, first_booked, booked_again, is_first, without, book, booking}
+use Rattle.flow_book.specs.Books.{BookCall, Added, Removed, Failed, is_pair, is_booked, includes_booked, is_newcomer, first_booked, booked_again, is_first, without, book, booking}
 use Rattle.flow_book.specs.Pairs.{BooksPiece, Books, Releases, NoneOf, IsLastBooked, IsFirstBooked}
-use Rattle.flow_book.proofs.SamePairs.{pair_parts, pair_from, same_match, match_itself}
+use Rattle.of10_model.specs.Same.{is_same}
+use Rattle.of10_model.proofs.Same.{one-is_same, is_same-one}
+use Rattle.flow_book.proofs.SamePairs.{pair_parts, pair_from}
 use Rattle.flow_book.proofs.Standing.{again_pair, booked_again-booked, newcomer-unbooked, booked-included}
 
 -- ---- which pieces a flow-mod books
@@ -156,13 +158,13 @@ module _ (m : Pattern) (p : ℕ) where
   -- ---- other pairs
 
   same_or_other : (o : Pattern) (q : ℕ) → ((o ≡ m) × (q ≡ p)) ⊎ ((b : Booked) → is_pair m p b ≡ true → is_pair o q b ≡ false)
-  same_or_other o q = elim (cases_Bool (is_match o m)) [
+  same_or_other o q = elim (cases_Bool (is_same o m)) [
     | inr apart ↦ inr (λ b same. elim (cases_Bool (is_pair o q b)) [
       | inr other ↦ other
-      | inl both ↦ absurd (both_ways (is_match o m) apart (subst (λ y. is_match o y ≡ true) ((pair_parts m p b same).of_match) (subst (λ y. is_match y b.pattern ≡ true) ((pair_parts o q b both).of_match) (match_itself b.pattern))))
+      | inl both ↦ absurd (both_ways (is_same o m) apart (subst (λ y. is_same o y ≡ true) ((pair_parts m p b same).of_match) (subst (λ y. is_same y b.pattern ≡ true) ((pair_parts o q b both).of_match) (is_same-one b.pattern))))
     ])
     | inl alike ↦ elim (cases_Bool (q == p)) [
-      | inl level ↦ inl (same_match o m alike, eqb-true q p level)
+      | inl level ↦ inl (one-is_same o m alike, eqb-true q p level)
       | inr apart ↦ inr (λ b same. elim (cases_Bool (is_pair o q b)) [
         | inr other ↦ other
         | inl both ↦ absurd (both_ways (q == p) apart (eq-eqb q p (sym (pair_parts o q b both).at_priority ∙ (pair_parts m p b same).at_priority)))

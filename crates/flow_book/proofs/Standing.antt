@@ -13,8 +13,9 @@ use Rattle.of10_model.specs.Inclusion.{includes_of}
 use Rattle.of10_model.proofs.Including.{includes-Includes}
 use Rattle.flow_book.specs.declared.booked.Booked.{Booked}
 use Rattle.flow_book.specs.Order.{IsInOrder}
-use Rattle.flow_book.specs.Books.{BookCall, Added, Removed, Failed, is_match, is_pair, is_booked, includes_booked, is_newcomer, first_booked, booked_again, is_first, without, book, Book, BookStands, HaveSame}
+use Rattle.flow_book.specs.Books.{BookCall, Added, Removed, Failed, is_pair, is_booked, includes_booked, is_newcomer, first_booked, booked_again, is_first, without, book, Book, BookStands, HaveSame}
 use Rattle.flow_book.specs.Adding.{AreNew}
+use Rattle.of10_model.specs.Same.{is_same}
 use Rattle.flow_book.proofs.SamePairs.{pair_parts, other_match}
 use Rattle.flow_book.proofs.Steps.{fresh_of}
 use Rattle.flow_book.proofs.Counts.{passing, passing-append, passing-filter, passing-map, any-map, any_weaker, newcomer_same, find_same, HaveSame-IsPermutation}
@@ -116,7 +117,7 @@ fresh_new command ms p asked number xs distinct normal =
     record {
       apart = λ i j d lt within.
           let within' : j < length zs = rw (length-map zs (first_booked p asked number)) at within in
-          let other : is_match (get_or zs j d.pattern) (get_or zs i d.pattern) ≡ false =
+          let other : is_same (get_or zs j d.pattern) (get_or zs i d.pattern) ≡ false =
           other_match (get_or zs j d.pattern) (get_or zs i d.pattern) (λ e. apart i j d.pattern lt within' (sym e)) in
           rw (get_or-map (first_booked p asked number) zs i d.pattern d (omega arith), get_or-map (first_booked p asked number) zs j d.pattern d within', other) (both_false (p == p));
       absent = unbooked_each command ms p asked number xs zs (filter_passes (is_newcomer command p xs) ms) normal;

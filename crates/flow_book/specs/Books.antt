@@ -3,8 +3,8 @@
 use Rattle.std.specs.Prelude.{ℕ, ◌≡◌, ◌+◌, ◌==◌, ◌&&◌, ◌||◌, nat_le, not, Bool, true, false, if◌then◌else◌, List, [], ◌∷◌, ◌++◌, length, filter, map, find, count_by, Option, Some, None}
 use Rattle.std.specs.List.{list_any}
 use Rattle.std.specs.Option.{option_map_or}
-use Rattle.of10_model.specs.declared.pattern.Prefix.{Prefix}
 use Rattle.of10_model.specs.declared.pattern.Pattern.{Pattern}
+use Rattle.of10_model.specs.Same.{is_same}
 use Rattle.of10_model.specs.Inclusion.{includes_of}
 use Rattle.of10_model.specs.Meet.{is_disjoint}
 use Rattle.flow_book.specs.declared.booked.Booked.{Booked}
@@ -15,30 +15,9 @@ pub data BookCall : Type 0 where
   Removed : Pattern → ℕ → BookCall
   Failed : ℕ → Pattern → ℕ → BookCall
 
--- two constraints are the same
-abbrev pub is_constraint : Option ℕ → Option ℕ → Bool
-is_constraint None None = true
-is_constraint None (Some w) = false
-is_constraint (Some v) None = false
-is_constraint (Some v) (Some w) = v == w
-
--- two constraints on an address are the same
-abbrev pub is_prefix : Option Prefix → Option Prefix → Bool
-is_prefix None None = true
-is_prefix None (Some q) = false
-is_prefix (Some p) None = false
-is_prefix (Some p) (Some q) = p.bits == q.bits && p.value == q.value
-
--- two matches are the same: all twelve constraints are
-unfoldable pub is_match : Pattern → Pattern → Bool
-is_match a b =
-    is_constraint a.in_port b.in_port && is_constraint a.dl_src b.dl_src && is_constraint a.dl_dst b.dl_dst && is_constraint a.dl_vlan b.dl_vlan
-    && is_constraint a.dl_vlan_pcp b.dl_vlan_pcp && is_constraint a.dl_type b.dl_type && is_constraint a.nw_tos b.nw_tos && is_constraint a.nw_proto b.nw_proto
-    && is_prefix a.nw_src b.nw_src && is_prefix a.nw_dst b.nw_dst && is_constraint a.tp_src b.tp_src && is_constraint a.tp_dst b.tp_dst
-
 -- a booked pair is the one of this match and priority
 abbrev pub is_pair : Pattern → ℕ → Booked → Bool
-is_pair pattern priority b = b.priority == priority && is_match b.pattern pattern
+is_pair pattern priority b = b.priority == priority && is_same b.pattern pattern
 
 -- the pair of this match and priority is among those booked
 abbrev pub is_booked : Pattern → ℕ → List Booked → Bool

@@ -1,4 +1,3 @@
-pub mod Same
 pub mod Somewhere
 pub mod Repeats
 pub mod Marked

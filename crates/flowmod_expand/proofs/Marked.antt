@@ -5,9 +5,9 @@ use Rattle.std.proofs.lemmas.List.{get_or-set_same, get_or-set_other}
 use Rattle.std.proofs.lemmas.List.Elements.{All-push}
 use Rattle.std.proofs.lemmas.List.Folds.{list_any_none}
 use Rattle.of10_model.specs.declared.pattern.Pattern.{Pattern}
-use Rattle.flowmod_expand.specs.Pieces.{is_same}
+use Rattle.of10_model.specs.Same.{is_same}
 use Rattle.flowmod_expand.specs.Marks.{mark_of, AreMarked}
-use Rattle.flowmod_expand.proofs.Same.{one-is_same}
+use Rattle.of10_model.proofs.Same.{one-is_same}
 use Rattle.flowmod_expand.proofs.Repeats.{is_among}
 
 other_unmarked : (marks : List Bool) (m earlier : Pattern) → get_or marks (mark_of earlier) false ≡ true → get_or marks (mark_of m) false ≡ false → (b : Bool) → is_same earlier m ≡ b → b ≡ false

@@ -8,8 +8,9 @@ use Rattle.std.proofs.lemmas.List.Kept.{AllPairs-cons, AllPairs-filter}
 use Rattle.std.proofs.lemmas.List.Sums.{length-filter, count_by-le-length}
 use Rattle.std.proofs.lemmas.Map.Views.{any-filter_same}
 use Rattle.of10_model.specs.declared.pattern.Pattern.{Pattern}
-use Rattle.flowmod_expand.specs.Pieces.{is_same, without_repeats}
-use Rattle.flowmod_expand.proofs.Same.{one-is_same, is_same-one}
+use Rattle.of10_model.specs.Same.{is_same}
+use Rattle.flowmod_expand.specs.Pieces.{without_repeats}
+use Rattle.of10_model.proofs.Same.{one-is_same, is_same-one}
 use Rattle.flowmod_expand.proofs.Somewhere.{Any-first, Any-later, Any-cases, Any-filter, filter-Any}
 
 -- the tests of the definition and of the code

@@ -5,10 +5,11 @@ ghost use Rattle.std.specs.List.{list_any};
 ghost use Rattle.of10_model.specs.Header.{Header};
 ghost use Rattle.of10_model.specs.Pattern.{Has};
 ghost use Rattle.of10_model.specs.Normal.{IsNormal};
+ghost use Rattle.of10_model.specs.Same.{same, same_prefix, is_same};
 ghost use Rattle.of10_model.specs.Meet.{meet_of};
 ghost use Rattle.flowspace.specs.Rules.{is_written_by};
 ghost use Rattle.flowspace.specs.Owners.{HasWriteRule, Owns};
-ghost use Rattle.flowmod_expand.specs.Pieces.{same, same_prefix, is_same, pieces_of};
+ghost use Rattle.flowmod_expand.specs.Pieces.{pieces_of};
 ghost use Rattle.flowmod_expand.specs.Marks.{mark_of, AreMarked};
 
 use crate::marks::{MARKS, mark_of};
@@ -43,7 +44,7 @@ fn same_prefix(a: Option<Prefix>, b: Option<Prefix>) -> bool
 }
 
 // The fields in which matches of one slice differ most often come first.
-#[tactic(auto, unfolding(crate::specs::Pieces::is_same))]
+#[tactic(auto, unfolding(of10_model::specs::Same::is_same))]
 fn is_same(a: &Pattern, b: &Pattern) -> bool
     ensures { result ≡ is_same a.now b.now }
 {

@@ -1,7 +1,6 @@
 pub mod Ranking
 pub mod Ordering
 pub mod Parts
-pub mod Disjoint
 pub mod Bits
 pub mod Filed
 pub mod Along

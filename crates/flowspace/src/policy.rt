@@ -67,6 +67,13 @@ impl Policy {
         &self.slices
     }
 
+    /// How many slices there are, 1 to 32.
+    pub fn slice_count(&self) -> u8
+        ensures { result ≡ length self.now.slices }
+    {
+        self.slices.len() as u8
+    }
+
     /// The rules, as they stand in the file.
     pub fn rules(&self) -> &[Rule]
         ensures value { result.now ≡ self.now.rules }

@@ -67,7 +67,8 @@ impl SwitchPolicy {
         Some(place as u16)
     }
 
-    fn first_rule(&self, h: &Header12) -> Option<&Rule>
+    /// The first rule in rule order whose match has the header.
+    pub fn first_rule(&self, h: &Header12) -> Option<&Rule>
         ensures { option_map (λ rule. rule.now) result ≡ first_rule self.now.rules h.now }
     {
         let place = self.first(h)?;

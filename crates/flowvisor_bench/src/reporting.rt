@@ -73,20 +73,13 @@ fn recording_of(alloc: Global, count: u64) -> Result<Vec<u8>, AllocError> {
     Ok(out)
 }
 
-/// How many slices a policy has.
-fn slice_count(policy: &Policy) -> u8
-    ensures { result ≡ length policy.now.slices }
-{
-    policy.slices().len() as u8
-}
-
 /// Writes the report of a recording of so many packets, and counts their lines.
 pub fn report(alloc: Global, count: u64) -> Result<u64, AllocError> {
     let Ok(policy) = read(alloc, POLICY.as_bytes()) else {
         return Err(AllocError);
     };
     let recording = recording_of(alloc, count)?;
-    let Ok(items) = items(alloc, &recording, slice_count(&policy)) else {
+    let Ok(items) = items(alloc, &recording, policy.slice_count()) else {
         return Err(AllocError);
     };
     let mut out = NeverSink::new();

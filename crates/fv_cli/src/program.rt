@@ -123,18 +123,11 @@ fn replay<F: Files, O: Sink>(
         Ok(policy) => policy,
         Err(ending) => return ending,
     };
-    let recording = match load_recording(alloc, files, recording, slice_count(&policy)) {
+    let recording = match load_recording(alloc, files, recording, policy.slice_count()) {
         Ok(recording) => recording,
         Err(ending) => return ending,
     };
     run(alloc, &policy, &recording, out)
-}
-
-/// How many slices a policy has.
-fn slice_count(policy: &Policy) -> u8
-    ensures { result ≡ length policy.now.slices }
-{
-    policy.slices().len() as u8
 }
 
 /// Runs the recording under the policy.

@@ -2,9 +2,9 @@
 
 ghost use Rattle.std.specs.Prelude.{◌≡◌, [], zip, IfOk, option_map};
 ghost use Rattle.std.specs.List.{All};
-ghost use Rattle.of10_ctl.specs.Frames.{IsFrame};
+ghost use Rattle.of10_flow.specs.PacketIns.{packet_of};
 ghost use Rattle.recording.specs.Recordings.{IsItem};
-ghost use Rattle.desk_words.specs.Openings.{is_of};
+ghost use Rattle.of10_ctl.specs.Kinds.{is_of};
 ghost use Rattle.desk_words.specs.Recorded.{told_in};
 ghost use Rattle.desk_words.specs.Built.{is_one_of, is_special, is_special_packet_in, is_unbuilt_of_switch, is_unbuilt_of_slice, first_lack};
 ghost use Rattle.fv_report.specs.Switches.{told_by, IsRecord};
@@ -13,13 +13,12 @@ ghost use Rattle.fv_report.specs.Lacks.{is_unbuilt, FindsIn, FindsInBytes, Finds
 use crate::run::carried;
 use crate::streams::{Streams, next_frame, restart};
 use frame_header::probe_slot;
-use of10_action::DecodeFault;
 use of10_ctl::kind::{
     BARRIER_REPLY, BARRIER_REQUEST, ERROR, FLOW_MOD, FLOW_REMOVED, PACKET_IN, PACKET_OUT,
     QUEUE_GET_CONFIG_REPLY, QUEUE_GET_CONFIG_REQUEST, STATS_REPLY, STATS_REQUEST,
 };
 use of10_ctl::{Frame, Framer};
-use of10_flow::PacketIn;
+use of10_flow::PacketInView;
 use of10_flow::protocol::NO_BUFFER;
 use proxy_core::Dest;
 use recording::{Item, SLICE_BYTES, SLICE_UP, SWITCH_BYTES, SWITCH_UP, SWITCHES};
@@ -41,40 +40,30 @@ pub struct Lack {
 fn is_one_of(frame: &Frame, kinds: &[u8]) -> bool
     ensures { result ≡ is_one_of kinds.now frame.now }
 {
-    kinds.iter().any(|kind| is_of(frame, *kind))
-}
-
-fn is_of(frame: &Frame, kind: u8) -> bool
-    ensures { result ≡ is_of kind frame.now }
-{
-    let head = frame.head();
-    head.version == 1 && head.kind == kind && !frame.bad_length()
+    kinds.iter().any(|kind| frame.is_of(*kind))
 }
 
 /// Whether the switch buffers the packet, or the packet bears a probe's mark.
-fn is_special(packet: &PacketIn) -> bool
-    ensures { result ≡ is_special packet.now }
+fn is_special(packet: &PacketInView<'_>) -> bool
+    ensures { result ≡ is_special (packet_of packet.now) }
 {
-    packet.buffer != NO_BUFFER || probe_slot(packet.payload.as_slice()).is_some()
+    packet.buffer != NO_BUFFER || probe_slot(packet.payload).is_some()
 }
 
-fn is_special_packet_in(alloc: Global, frame: &Frame) -> Result<bool, AllocError>
-    requires { IsFrame frame.now }
-    ensures { IfOk result (λ special. special ≡ is_special_packet_in frame.now) }
+fn is_special_packet_in(frame: &Frame) -> bool
+    ensures { result ≡ is_special_packet_in frame.now }
 {
-    if !is_of(frame, PACKET_IN) {
-        return Ok(false);
+    if !frame.is_of(PACKET_IN) {
+        return false;
     }
-    match PacketIn::decode(alloc, frame) {
-        Ok(packet) => Ok(is_special(&packet)),
-        Err(DecodeFault::Wire(_)) => Ok(false),
-        Err(DecodeFault::Memory) => Err(AllocError),
+    match PacketInView::decode(frame) {
+        Ok(packet) => is_special(&packet),
+        Err(_) => false,
     }
 }
 
-fn is_unbuilt_of_switch(alloc: Global, frame: &Frame) -> Result<bool, AllocError>
-    requires { IsFrame frame.now }
-    ensures { IfOk result (λ unbuilt. unbuilt ≡ is_unbuilt_of_switch frame.now) }
+fn is_unbuilt_of_switch(frame: &Frame) -> bool
+    ensures { result ≡ is_unbuilt_of_switch frame.now }
 {
     let kinds = [
         ERROR,
@@ -83,10 +72,7 @@ fn is_unbuilt_of_switch(alloc: Global, frame: &Frame) -> Result<bool, AllocError
         BARRIER_REPLY,
         QUEUE_GET_CONFIG_REPLY,
     ];
-    if is_one_of(frame, &kinds) {
-        return Ok(true);
-    }
-    is_special_packet_in(alloc, frame)
+    is_one_of(frame, &kinds) || is_special_packet_in(frame)
 }
 
 fn is_unbuilt_of_slice(frame: &Frame) -> bool
@@ -103,22 +89,21 @@ fn is_unbuilt_of_slice(frame: &Frame) -> bool
 }
 
 /// Whether a message that came on a connection isn't built.
-fn is_unbuilt(alloc: Global, from: Dest, frame: &Frame) -> Result<bool, AllocError>
-    requires { IsFrame frame.now }
-    ensures { IfOk result (λ unbuilt. unbuilt ≡ is_unbuilt from frame.now) }
+fn is_unbuilt(from: Dest, frame: &Frame) -> bool
+    ensures { result ≡ is_unbuilt from frame.now }
 {
     match from {
-        Dest::Switch => is_unbuilt_of_switch(alloc, frame),
-        Dest::Slice(_) => Ok(is_unbuilt_of_slice(frame)),
+        Dest::Switch => is_unbuilt_of_switch(frame),
+        Dest::Slice(_) => is_unbuilt_of_slice(frame),
     }
 }
 
 /// The type of the first frame of a connection that isn't built, of those that its framer hasn't given.
-fn first_in_stream(alloc: Global, from: Dest, framer: &mut Framer) -> Result<Option<u8>, AllocError>
+fn first_in_stream(from: Dest, framer: &mut Framer) -> Result<Option<u8>, AllocError>
     ensures { IfOk result (λ kind. FindsIn from kind framer.old framer.new) }
 {
     while let Some(frame) = next_frame(framer)? {
-        if is_unbuilt(alloc, from, &frame)? {
+        if is_unbuilt(from, &frame) {
             return Ok(Some(frame.head().kind));
         }
     }
@@ -127,7 +112,6 @@ fn first_in_stream(alloc: Global, from: Dest, framer: &mut Framer) -> Result<Opt
 
 /// The type of the first frame that more bytes of a connection complete and that isn't built.
 fn first_in_bytes(
-    alloc: Global,
     from: Dest,
     framer: &mut Framer,
     bytes: &[u8],
@@ -135,12 +119,11 @@ fn first_in_bytes(
     ensures { IfOk result (λ kind. FindsInBytes from bytes.now kind framer.old framer.new) }
 {
     framer.feed(bytes)?;
-    first_in_stream(alloc, from, framer)
+    first_in_stream(from, framer)
 }
 
 /// The same of a slice's connection. Each slot of the policy has a stream.
 fn first_at_slot(
-    alloc: Global,
     slot: u8,
     framers: &mut Vec<Framer>,
     bytes: &[u8],
@@ -148,7 +131,7 @@ fn first_at_slot(
     ensures { IfOk result (λ kind. FindsAtSlot slot bytes.now kind framers.old.items framers.new.items) }
 {
     match framers.get_mut(usize::from(slot)) {
-        Some(framer) => first_in_bytes(alloc, Dest::Slice(slot), framer, bytes),
+        Some(framer) => first_in_bytes(Dest::Slice(slot), framer, bytes),
         None => Ok(None),
     }
 }
@@ -169,12 +152,12 @@ fn first_in_record(
             *streams = Streams::new(alloc, slices)?;
             Ok(None)
         }
-        SWITCH_BYTES => first_in_bytes(alloc, Dest::Switch, &mut streams.switch, bytes),
+        SWITCH_BYTES => first_in_bytes(Dest::Switch, &mut streams.switch, bytes),
         SLICE_UP => {
             restart(alloc, &mut streams.slices, item.slot);
             Ok(None)
         }
-        SLICE_BYTES => first_at_slot(alloc, item.slot, &mut streams.slices, bytes),
+        SLICE_BYTES => first_at_slot(item.slot, &mut streams.slices, bytes),
         _ => Ok(None),
     }
 }

@@ -12,7 +12,7 @@ ghost use Rattle.fv_report.specs.Switches.{told_by, IsRecord, PlaysAt, PlaysAmon
 
 use crate::fault::ReportFault;
 use crate::line::{LineBuffer, put_last};
-use crate::switch::{Switch, play_record, slice_count};
+use crate::switch::{Switch, play_record};
 use flowspace::Policy;
 use fv_base::Sink;
 use recording::{Item, SWITCHES, items};
@@ -153,7 +153,7 @@ pub fn report<K: Sink>(
     ensures cause { IfErr result (λ f. f ≡ ReportFault.WriteFault → Rose (K.faults out.old) (K.faults out.new)) }
     ensures count { K.faults out.old ≤ K.faults out.new }
 {
-    match items(alloc, bytes, slice_count(policy)) {
+    match items(alloc, bytes, policy.slice_count()) {
         Ok(items) => report_items(alloc, policy, bytes, &items, out),
         // The recording is accepted, so this is want of memory.
         Err(_) => Err(ReportFault::Memory),

@@ -22,13 +22,6 @@ pub(crate) struct Switch {
     pub(crate) streams: Streams,
 }
 
-/// How many slices a policy has.
-pub(crate) fn slice_count(policy: &Policy) -> u8
-    ensures { result ≡ length policy.now.slices }
-{
-    policy.slices().len() as u8
-}
-
 impl Switch {
     /// Nothing has happened yet.
     pub(crate) fn new(alloc: Global, policy: &Policy) -> Result<Switch, AllocError>
@@ -36,7 +29,7 @@ impl Switch {
     {
         Ok(Switch {
             desk: Desk::new(alloc, policy.copy(alloc)?),
-            streams: Streams::new(alloc, slice_count(policy))?,
+            streams: Streams::new(alloc, policy.slice_count())?,
         })
     }
 }

@@ -1,3 +1,4 @@
+pub mod Apart
 pub mod CoverNormal
 pub mod CoverHas
 pub mod Ranges

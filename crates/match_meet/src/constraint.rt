@@ -1,6 +1,6 @@
 //! Two constraints on one field.
 
-ghost use Rattle.std.specs.Prelude.{◌≡◌};
+ghost use Rattle.std.specs.Prelude.{◌≡◌, is_none};
 ghost use Rattle.of10_model.specs.Normal.{IsPrefix};
 ghost use Rattle.of10_model.specs.Meet.{both, both_prefix, begins_as};
 ghost use Rattle.of10_model.specs.Inclusion.{covers, covers_prefix};
@@ -64,6 +64,43 @@ pub fn both_prefix(a: Option<Prefix>, b: Option<Prefix>) -> Option<Option<Prefix
                 begins_as(&q, p.value).then_some(a)
             }
         }
+    }
+}
+
+// ---- whether no value meets both
+
+pub fn differ_u8(a: Option<u8>, b: Option<u8>) -> bool
+    ensures { result ≡ is_none (both a b) }
+{
+    a.is_some_and(|x| b.is_some_and(|y| x != y))
+}
+
+pub fn differ_u16(a: Option<u16>, b: Option<u16>) -> bool
+    ensures { result ≡ is_none (both a b) }
+{
+    a.is_some_and(|x| b.is_some_and(|y| x != y))
+}
+
+pub fn differ_u64(a: Option<u64>, b: Option<u64>) -> bool
+    ensures { result ≡ is_none (both a b) }
+{
+    a.is_some_and(|x| b.is_some_and(|y| x != y))
+}
+
+pub fn differ_prefix(a: Option<Prefix>, b: Option<Prefix>) -> bool
+    requires first { IsPrefix a }
+    requires second { IsPrefix b }
+    ensures { result ≡ is_none (both_prefix a b) }
+{
+    match (a, b) {
+        (Some(p), Some(q)) => {
+            if p.bits <= q.bits {
+                !begins_as(&p, q.value)
+            } else {
+                !begins_as(&q, p.value)
+            }
+        }
+        _ => false,
     }
 }
 

@@ -1,14 +1,15 @@
 //! Matches as sets of headers.
 
-ghost use Rattle.std.specs.Prelude.{◌≡◌, ◌↔◌, IsTrue, IsNone, IfSome, IfNone};
+ghost use Rattle.std.specs.Prelude.{◌≡◌, ◌↔◌, ◌||◌, IsTrue, IsNone, IfSome, IfNone, is_none};
 ghost use Rattle.of10_model.specs.Header.{Header, IsHeader};
 ghost use Rattle.of10_model.specs.Pattern.{Has};
 ghost use Rattle.of10_model.specs.Normal.{IsPrefix};
-ghost use Rattle.of10_model.specs.Meet.{meet_of, is_disjoint, Disjoint};
+ghost use Rattle.of10_model.specs.Meet.{both, both_prefix, meet_of, is_disjoint, Disjoint};
 ghost use Rattle.of10_model.specs.Inclusion.{includes_of, Includes, any_in_port};
 
 use crate::constraint::{
     both_prefix, both_u8, both_u16, both_u64, covers_prefix, covers_u8, covers_u16, covers_u64,
+    differ_prefix, differ_u8, differ_u16, differ_u64,
 };
 use of10_match::Match;
 use of10_model::Pattern;
@@ -37,6 +38,33 @@ fn meet_patterns(a: &Pattern, b: &Pattern) -> Option<Pattern>
     })
 }
 
+// The fields in which matches differ most often come first.
+fn differ(a: &Pattern, b: &Pattern) -> bool
+    requires first_source { IsPrefix a.now.nw_src }
+    requires first_destination { IsPrefix a.now.nw_dst }
+    requires second_source { IsPrefix b.now.nw_src }
+    requires second_destination { IsPrefix b.now.nw_dst }
+    ensures { result ≡ (is_none (both a.now.tp_dst b.now.tp_dst) || is_none (both_prefix a.now.nw_dst b.now.nw_dst)
+        || is_none (both_prefix a.now.nw_src b.now.nw_src) || is_none (both a.now.in_port b.now.in_port)
+        || is_none (both a.now.dl_vlan b.now.dl_vlan) || is_none (both a.now.dl_dst b.now.dl_dst)
+        || is_none (both a.now.dl_src b.now.dl_src) || is_none (both a.now.nw_proto b.now.nw_proto)
+        || is_none (both a.now.dl_type b.now.dl_type) || is_none (both a.now.tp_src b.now.tp_src)
+        || is_none (both a.now.nw_tos b.now.nw_tos) || is_none (both a.now.dl_vlan_pcp b.now.dl_vlan_pcp)) }
+{
+    differ_u16(a.tp_dst, b.tp_dst)
+        || differ_prefix(a.nw_dst, b.nw_dst)
+        || differ_prefix(a.nw_src, b.nw_src)
+        || differ_u16(a.in_port, b.in_port)
+        || differ_u16(a.dl_vlan, b.dl_vlan)
+        || differ_u64(a.dl_dst, b.dl_dst)
+        || differ_u64(a.dl_src, b.dl_src)
+        || differ_u8(a.nw_proto, b.nw_proto)
+        || differ_u16(a.dl_type, b.dl_type)
+        || differ_u16(a.tp_src, b.tp_src)
+        || differ_u8(a.nw_tos, b.nw_tos)
+        || differ_u8(a.dl_vlan_pcp, b.dl_vlan_pcp)
+}
+
 fn disjoint_patterns(a: &Pattern, b: &Pattern) -> bool
     requires first_source { IsPrefix a.now.nw_src }
     requires first_destination { IsPrefix a.now.nw_dst }
@@ -44,7 +72,7 @@ fn disjoint_patterns(a: &Pattern, b: &Pattern) -> bool
     requires second_destination { IsPrefix b.now.nw_dst }
     ensures { result ≡ is_disjoint a.now b.now }
 {
-    meet_patterns(a, b).is_none()
+    differ(a, b)
 }
 
 fn any_in_port(m: &Pattern) -> Pattern

@@ -1,7 +1,7 @@
 ghost use Rattle.std.specs.Prelude.{◌≡◌, ◌↔◌, ◌<◌, ◌^◌, IsTrue, IfOk, drop, length};
 ghost use Rattle.of10_ctl.specs.Heads.{head_of, length_field};
 ghost use Rattle.of10_ctl.specs.Frames.{IsFrame, is_bad};
-ghost use Rattle.of10_ctl.specs.Kinds.{IsOf};
+ghost use Rattle.of10_ctl.specs.Kinds.{IsOf, is_of};
 
 use crate::head::Head;
 use of10_model::wire::{u16_at, u32_at};
@@ -79,6 +79,7 @@ impl Frame {
     /// Its header (OpenFlow 1.0.0, section 5.1).
     pub fn head(&self) -> Head
         ensures value { result ≡ head_of self.now }
+        ensures frame { IsFrame self.now }
         ensures range { (result.version < 2 ^ 8) × (result.kind < 2 ^ 8) × (result.length < 2 ^ 16) × (result.xid < 2 ^ 32) }
     {
         Head {
@@ -105,7 +106,8 @@ impl Frame {
 
     /// Whether it is a message of version 1 and of this type whose length counts its bytes.
     pub fn is_of(&self, kind: u8) -> bool
-        ensures value { IsTrue result ↔ IsOf kind self.now }
+        ensures value { result ≡ is_of kind self.now }
+        ensures kind { IsTrue result ↔ IsOf kind self.now }
         ensures sized { IsTrue result → length_field self.now ≡ length self.now }
     {
         self.items[0] == 1 && self.items[1] == kind && !self.bad_length()

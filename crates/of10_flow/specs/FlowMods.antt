@@ -2,7 +2,7 @@
 use Rattle.std.specs.Prelude.{ℕ, ◌+◌, ◌<◌, ◌≤◌, ◌^◌, nat_lt, if◌then◌else◌, List, ◌++◌, length, take, drop, Result, Ok, Err}
 use Rattle.std.specs.List.{All}
 use Rattle.byteorder.specs.Endian.{big_bytes}
-use Rattle.of10_model.specs.Normal.{number_at, Norm, IsNormal}
+use Rattle.of10_model.specs.Normal.{number_at, match_at, IsNormal}
 use Rattle.of10_model.specs.Spelling.{Spell}
 use Rattle.of10_action.specs.declared.action.Action.{Action}
 use Rattle.of10_action.specs.declared.fault.WireFault.{WireFault}
@@ -38,7 +38,7 @@ unfoldable pub flow_mod_with : List Action → List ℕ → FlowMod
 flow_mod_with actions bytes =
     record {
       xid = number_at bytes 4 4;
-      pattern = Norm (take 40 (drop 8 bytes));
+      pattern = match_at bytes 8;
       cookie = number_at bytes 48 8;
       command = number_at bytes 56 2;
       idle = number_at bytes 58 2;

@@ -1,7 +1,7 @@
 -- Messages that tell of an entry that a switch removed (OpenFlow 1.0.0, section 5.4.2).
 use Rattle.std.specs.Prelude.{ℕ, ◌==◌, ◌<◌, ◌^◌, if◌then◌else◌, List, ◌++◌, length, take, drop, Result, Ok, Err}
 use Rattle.byteorder.specs.Endian.{big_bytes}
-use Rattle.of10_model.specs.Normal.{number_at, Norm, IsNormal}
+use Rattle.of10_model.specs.Normal.{number_at, match_at, IsNormal}
 use Rattle.of10_model.specs.Spelling.{Spell}
 use Rattle.of10_action.specs.declared.fault.WireFault.{WireFault}
 use Rattle.of10_action.specs.declared.fault.WireFault.TheVariants.{Length}
@@ -33,7 +33,7 @@ unfoldable pub read_flow_removed : List ℕ → Result FlowRemoved WireFault
 read_flow_removed bytes =
     if length bytes == 88 then Ok (record {
       xid = number_at bytes 4 4;
-      pattern = Norm (take 40 (drop 8 bytes));
+      pattern = match_at bytes 8;
       cookie = number_at bytes 48 8;
       priority = number_at bytes 56 2;
       reason = number_at bytes 58 1;

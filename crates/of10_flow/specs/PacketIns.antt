@@ -7,6 +7,11 @@ use Rattle.of10_action.specs.declared.fault.WireFault.TheVariants.{Length}
 use Rattle.of10_action.specs.Actions.{padding}
 use Rattle.of10_ctl.specs.Frames.{message_of}
 use Rattle.of10_flow.specs.declared.packet_in.PacketIn.{PacketIn}
+use Rattle.of10_flow.specs.declared.packet_in.PacketInView.{PacketInView}
+
+-- what a view of a packet-in shows
+abbrev pub packet_of : PacketInView → PacketIn
+packet_of view = record { xid = view.xid; buffer = view.buffer; total_len = view.total_len; in_port = view.in_port; reason = view.reason; payload = view.payload.now }
 
 -- each field lies in the range of its place in the message, and the message fits its length field (section 5.4.1)
 pub record IsPacketIn (m : PacketIn) : Type 0 where

@@ -7,7 +7,7 @@ ghost use Rattle.of10_action.specs.Reading.{Gives};
 ghost use Rattle.of10_ctl.specs.Kinds.{IsOf};
 ghost use Rattle.of10_flow.specs.FlowMods.{IsFlowMod, flow_mod_with, read_flow_mod, spell_flow_mod};
 
-use crate::pattern::{pattern_at, put_pattern};
+use crate::pattern::put_pattern;
 use of10_action::{Actions, DecodeFault, WireFault, decode_list, encode_list, list_size};
 use of10_ctl::kind::FLOW_MOD;
 use of10_ctl::{Frame, begin};
@@ -50,7 +50,7 @@ fn with_actions(actions: Actions, bytes: &[u8]) -> FlowMod
 {
     FlowMod {
         xid: u32_at(bytes, 4),
-        pattern: pattern_at(bytes, 8),
+        pattern: Match::decode_at(bytes, 8),
         cookie: u64_at(bytes, 48),
         command: u16_at(bytes, 56),
         idle: u16_at(bytes, 58),

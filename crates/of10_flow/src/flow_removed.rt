@@ -7,7 +7,7 @@ ghost use Rattle.of10_action.specs.Reading.{Gives, Reads};
 ghost use Rattle.of10_ctl.specs.Kinds.{IsOf};
 ghost use Rattle.of10_flow.specs.FlowRemoveds.{IsFlowRemoved, read_flow_removed, spell_flow_removed};
 
-use crate::pattern::{pattern_at, put_pattern};
+use crate::pattern::put_pattern;
 use of10_action::{DecodeFault, WireFault};
 use of10_ctl::kind::FLOW_REMOVED;
 use of10_ctl::{Frame, begin};
@@ -46,7 +46,7 @@ fn read(bytes: &[u8]) -> Result<FlowRemoved, WireFault>
     }
     Ok(FlowRemoved {
         xid: u32_at(bytes, 4),
-        pattern: pattern_at(bytes, 8),
+        pattern: Match::decode_at(bytes, 8),
         cookie: u64_at(bytes, 48),
         priority: u16_at(bytes, 56),
         reason: u8_at(bytes, 58),

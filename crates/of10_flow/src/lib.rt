@@ -11,7 +11,7 @@ pub mod protocol;
 
 pub use flow_mod::FlowMod;
 pub use flow_removed::FlowRemoved;
-pub use packet_in::PacketIn;
+pub use packet_in::{PacketIn, PacketInView};
 pub use packet_out::PacketOut;
 
 #[cfg(test)]

@@ -1,9 +1,9 @@
 ghost use Rattle.std.specs.Prelude.{◌≡◌, ◌+◌, ◌≤◌, ◌++◌, length, OnOk, IfOk};
 ghost use Rattle.byteorder.specs.Endian.{big_bytes};
 ghost use Rattle.of10_action.specs.Actions.{padding};
-ghost use Rattle.of10_action.specs.Reading.{Gives};
+ghost use Rattle.of10_action.specs.Reading.{Gives, Reads};
 ghost use Rattle.of10_ctl.specs.Kinds.{IsOf};
-ghost use Rattle.of10_flow.specs.PacketIns.{IsPacketIn, read_packet_in, spell_packet_in};
+ghost use Rattle.of10_flow.specs.PacketIns.{IsPacketIn, packet_of, read_packet_in, spell_packet_in};
 
 use of10_action::{Bytes, DecodeFault, WireFault};
 use of10_ctl::kind::PACKET_IN;
@@ -26,24 +26,38 @@ pub struct PacketIn {
     pub payload: Bytes,
 }
 
+/// The same with its payload where it lies, as in the frame that carries it: nothing is copied.
+#[derive(Clone, Copy, Debug)]
+pub struct PacketInView<'a> {
+    pub xid: u32,
+    /// The buffer that holds the packet, or `protocol::NO_BUFFER`.
+    pub buffer: u32,
+    /// Bytes of the whole packet, of which the payload may be the first ones.
+    pub total_len: u16,
+    /// The port by which the packet was received.
+    pub in_port: u16,
+    /// Why it is sent: 0 no entry matched, 1 an action says so.
+    pub reason: u8,
+    pub payload: &'a [u8],
+}
+
 /// What the bytes of a packet-in say.
 #[tactic(auto, unfolding(crate::specs::PacketIns::read_packet_in))]
-fn read(alloc: Global, bytes: &[u8]) -> Result<PacketIn, DecodeFault>
+fn read(bytes: &[u8]) -> Result<PacketInView<'_>, WireFault>
     requires { length bytes.now ≤ 65535 }
-    ensures exact { Gives (λ m. m) result (read_packet_in bytes.now) }
-    ensures range { IfOk result IsPacketIn }
+    ensures exact { Reads packet_of result (read_packet_in bytes.now) }
+    ensures range { IfOk result (λ view. IsPacketIn (packet_of view)) }
 {
     if bytes.len() < 18 {
-        return Err(DecodeFault::Wire(WireFault::Length(bytes.len() as u16)));
+        return Err(WireFault::Length(bytes.len() as u16));
     }
-    let payload = Bytes::of(alloc, &bytes[18..])?;
-    Ok(PacketIn {
+    Ok(PacketInView {
         xid: u32_at(bytes, 4),
         buffer: u32_at(bytes, 8),
         total_len: u16_at(bytes, 12),
         in_port: u16_at(bytes, 14),
         reason: u8_at(bytes, 16),
-        payload,
+        payload: &bytes[18..],
     })
 }
 
@@ -62,6 +76,46 @@ fn put_cause(out: &mut Vec<u8>, in_port: u16, reason: u8) -> Result<(), AllocErr
     put_u8(out, 0)
 }
 
+impl<'a> PacketInView<'a> {
+    /// The packet-in that the frame is, or its length where it is shorter than its fields. Takes no memory.
+    pub fn decode(frame: &'a Frame) -> Result<PacketInView<'a>, WireFault>
+        requires { IsOf 10 frame.now }
+        ensures exact { Reads packet_of result (read_packet_in frame.now) }
+        ensures range { IfOk result (λ view. IsPacketIn (packet_of view)) }
+    {
+        read(frame.as_slice())
+    }
+
+    /// The message, of at most 65,535 bytes.
+    #[tactic(auto, unfolding(crate::specs::PacketIns::spell_packet_in))]
+    pub fn encode(&self, alloc: Global) -> Result<Frame, AllocError>
+        requires { 18 + length self.now.payload.now ≤ 65535 }
+        ensures value { IfOk result (λ f. f ≡ spell_packet_in (packet_of self.now)) }
+        ensures kind { IfOk result (λ f. IsOf 10 f) }
+        ensures size { IfOk result (λ f. length f ≡ 18 + length self.now.payload.now) }
+    {
+        let mut out = begin(alloc, PACKET_IN, self.xid, 10 + self.payload.len())?;
+        put_packet(&mut out, self.buffer, self.total_len)?;
+        put_cause(&mut out, self.in_port, self.reason)?;
+        out.extend_from_slice(self.payload)?;
+        Ok(Frame::of(out))
+    }
+
+    /// The same with a copy of the payload.
+    fn copied(&self, alloc: Global) -> Result<PacketIn, AllocError>
+        ensures { IfOk result (λ packet. packet ≡ packet_of self.now) }
+    {
+        Ok(PacketIn {
+            xid: self.xid,
+            buffer: self.buffer,
+            total_len: self.total_len,
+            in_port: self.in_port,
+            reason: self.reason,
+            payload: Bytes::of(alloc, self.payload)?,
+        })
+    }
+}
+
 impl PacketIn {
     /// The packet-in that the frame is, or its length where it is shorter than its fields.
     pub fn decode(alloc: Global, frame: &Frame) -> Result<PacketIn, DecodeFault>
@@ -69,22 +123,33 @@ impl PacketIn {
         ensures exact { Gives (λ m. m) result (read_packet_in frame.now) }
         ensures range { IfOk result IsPacketIn }
     {
-        read(alloc, frame.as_slice())
+        match PacketInView::decode(frame) {
+            Ok(view) => Ok(view.copied(alloc)?),
+            Err(fault) => Err(DecodeFault::Wire(fault)),
+        }
+    }
+
+    /// The same packet-in; nothing is copied.
+    pub fn view(&self) -> PacketInView<'_>
+        ensures { packet_of result ≡ self.now }
+    {
+        PacketInView {
+            xid: self.xid,
+            buffer: self.buffer,
+            total_len: self.total_len,
+            in_port: self.in_port,
+            reason: self.reason,
+            payload: self.payload.as_slice(),
+        }
     }
 
     /// The message, of at most 65,535 bytes.
-    #[tactic(auto, unfolding(crate::specs::PacketIns::spell_packet_in))]
     pub fn encode(&self, alloc: Global) -> Result<Frame, AllocError>
         requires { 18 + length self.now.payload ≤ 65535 }
         ensures value { IfOk result (λ f. f ≡ spell_packet_in self.now) }
         ensures kind { IfOk result (λ f. IsOf 10 f) }
         ensures size { IfOk result (λ f. length f ≡ 18 + length self.now.payload) }
     {
-        let payload = self.payload.as_slice();
-        let mut out = begin(alloc, PACKET_IN, self.xid, 10 + payload.len())?;
-        put_packet(&mut out, self.buffer, self.total_len)?;
-        put_cause(&mut out, self.in_port, self.reason)?;
-        out.extend_from_slice(payload)?;
-        Ok(Frame::of(out))
+        self.view().encode(alloc)
     }
 }

@@ -1,6 +1,6 @@
-ghost use Rattle.std.specs.Prelude.{◌≡◌, ◌↔◌, IsTrue};
+ghost use Rattle.std.specs.Prelude.{◌≡◌, ◌↔◌, ◌+◌, ◌≤◌, IsTrue, length};
 ghost use Rattle.of10_model.specs.Pattern.{Has, has, meets, meets_prefix};
-ghost use Rattle.of10_model.specs.Normal.{IsNormal, IsPrefix, Norm, is_exact};
+ghost use Rattle.of10_model.specs.Normal.{IsNormal, IsPrefix, Norm, is_exact, match_at};
 ghost use Rattle.of10_model.specs.Header.{Header, IsHeader};
 ghost use Rattle.of10_model.specs.Spelling.{Spell};
 ghost use Rattle.of10_model.specs.Exact.{exact_of, all_free, IsTidy};
@@ -140,6 +140,17 @@ impl Match {
         Match {
             pattern: normal(&read(bytes)),
         }
+    }
+
+    /// The normal form of the match that the 40 bytes from `at` spell.
+    pub fn decode_at(bytes: &[u8], at: usize) -> Match
+        requires { at + 40 ≤ length bytes.now }
+        ensures value { result ≡ match_at bytes.now at }
+        ensures normal { IsNormal result }
+    {
+        let mut spelling = [0; 40];
+        spelling.copy_from_slice(&bytes[at..at + 40]);
+        Match::decode(&spelling)
     }
 
     /// The one normal spelling of the match (OpenFlow 1.0.0, section 5.2.3): padding, unused bits and the

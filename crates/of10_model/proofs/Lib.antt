@@ -2,6 +2,7 @@ pub mod Twelve
 pub mod Membership
 pub mod Ranges
 pub mod Applied
+pub mod Same
 pub mod Spelling
 pub mod Exact
 pub mod Meeting

@@ -1,5 +1,6 @@
 pub mod Header
 pub mod Pattern
+pub mod Same
 pub mod Normal
 pub mod Spelling
 pub mod Exact

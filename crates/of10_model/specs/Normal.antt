@@ -1,5 +1,5 @@
 -- The normal form of a match: what each spelling of 40 bytes means, and which of the matches with the same headers is kept.
-use Rattle.std.specs.Prelude.{ℕ, ◌≡◌, ◌==◌, ◌||◌, ◌&&◌, not, ◌<◌, ◌≤◌, ◌-◌, ◌*◌, ◌/◌, ◌%◌, ◌^◌, leb, Bool, true, false, if◌then◌else◌, List, drop, Option, Some, None}
+use Rattle.std.specs.Prelude.{ℕ, ◌≡◌, ◌==◌, ◌||◌, ◌&&◌, not, ◌<◌, ◌≤◌, ◌-◌, ◌*◌, ◌/◌, ◌%◌, ◌^◌, leb, Bool, true, false, if◌then◌else◌, List, take, drop, Option, Some, None}
 use Rattle.byteorder.specs.Endian.{big_number}
 use Rattle.of10_model.specs.declared.pattern.Prefix.{Prefix}
 use Rattle.of10_model.specs.declared.pattern.Pattern.{Pattern}
@@ -119,6 +119,10 @@ applied m =
 -- the normal form of what 40 bytes spell
 abbrev pub Norm : List ℕ → Pattern
 Norm bytes = applied (spelled bytes)
+
+-- the match that the 40 bytes from a place spell, in normal form
+abbrev pub match_at : List ℕ → ℕ → Pattern
+match_at bytes place = Norm (take 40 (drop place bytes))
 
 -- ---- normal matches
 

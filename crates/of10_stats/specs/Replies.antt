@@ -1,11 +1,10 @@
 -- STATS_REPLY (OpenFlow 1.0.0, section 5.3.5).
 use Rattle.std.specs.Prelude.{◌≡◌, ◌⊎◌, ℕ, ◌%◌, ◌==◌, leb, nat_lt, if◌then◌else◌, List, length, Option, Some, None, Result, Ok, Err}
 use Rattle.of10_model.specs.declared.pattern.Pattern.{Pattern}
-use Rattle.of10_model.specs.Normal.{number_at}
+use Rattle.of10_model.specs.Normal.{number_at, match_at}
 use Rattle.of10_action.specs.declared.fault.WireFault.{WireFault}
 use Rattle.of10_action.specs.declared.fault.WireFault.TheVariants.{Length}
 use Rattle.of10_stats.specs.declared.reply.StatsPart.{StatsPart}
-use Rattle.of10_stats.specs.Requests.{match_at}
 
 -- the type of statistics, whether more parts follow, and that the body begins behind the flags (section 5.3.5)
 unfoldable pub part_of : List ℕ → Result StatsPart WireFault

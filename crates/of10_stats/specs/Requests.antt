@@ -1,8 +1,8 @@
 -- STATS_REQUEST (OpenFlow 1.0.0, section 5.3.5).
-use Rattle.std.specs.Prelude.{ℕ, ◌+◌, ◌<◌, ◌^◌, ◌==◌, ◌||◌, nat_lt, if◌then◌else◌, List, [], ◌∷◌, ◌++◌, length, take, drop, slice_index, Result, Ok, Err}
+use Rattle.std.specs.Prelude.{ℕ, ◌+◌, ◌<◌, ◌^◌, ◌==◌, ◌||◌, nat_lt, if◌then◌else◌, List, [], ◌∷◌, ◌++◌, length, slice_index, Result, Ok, Err}
 use Rattle.byteorder.specs.Endian.{big_bytes}
 use Rattle.of10_model.specs.declared.pattern.Pattern.{Pattern}
-use Rattle.of10_model.specs.Normal.{number_at, Norm, IsNormal}
+use Rattle.of10_model.specs.Normal.{number_at, match_at, IsNormal}
 use Rattle.of10_model.specs.Spelling.{Spell}
 use Rattle.of10_action.specs.Actions.{padding}
 use Rattle.of10_action.specs.declared.fault.WireFault.{WireFault}
@@ -53,10 +53,6 @@ spell_request r xid = message_of 16 xid (big_bytes 2 (kind_of r) ++ big_bytes 2 
 -- bytes of what a request of each type asks (section 5.3.5)
 abbrev pub body_size : ℕ → ℕ
 body_size kind = if kind == 1 || kind == 2 then 44 else (if kind == 4 || kind == 5 then 8 else 0)
-
--- the normal form of the match in the 40 bytes from a place (section 5.2.3)
-abbrev pub match_at : List ℕ → ℕ → Pattern
-match_at bytes place = Norm (take 40 (drop place bytes))
 
 -- the request of a type that the message makes, padding disregarded (section 5.3.5)
 unfoldable pub request_of : ℕ → List ℕ → StatsRequest

@@ -3,7 +3,6 @@ ghost use Rattle.of10_model.specs.Normal.{number_at};
 ghost use Rattle.of10_stats.specs.Replies.{IsEntry, IsPortEntry, entry_size_of, flow_length, flow_of, length_of};
 
 use crate::protocol::{AGGREGATE, DESC, FLOW, PORT, QUEUE, TABLE};
-use crate::request::match_at;
 use of10_match::Match;
 use of10_model::wire::{u16_at, u64_at};
 
@@ -74,7 +73,7 @@ pub fn flow_entry(entry: &[u8]) -> (Match, u64, u64)
     requires { IsEntry 1 entry.now }
     ensures { result ≡ flow_of entry.now }
 {
-    (match_at(entry, 4), u64_at(entry, 72), u64_at(entry, 80))
+    (Match::decode_at(entry, 4), u64_at(entry, 72), u64_at(entry, 80))
 }
 
 /// The port of an entry of a port or of a queue (OpenFlow 1.0.0, section 5.3.5).

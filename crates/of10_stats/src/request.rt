@@ -2,7 +2,7 @@ ghost use Rattle.std.specs.Prelude.{◌≡◌, ◌+◌, ◌≤◌, ◌++◌, IfO
 ghost use Rattle.of10_model.specs.Normal.{IsNormal};
 ghost use Rattle.of10_action.specs.Reading.{Reads};
 ghost use Rattle.of10_ctl.specs.Kinds.{IsOf};
-ghost use Rattle.of10_stats.specs.Requests.{IsRequest, body_size, flow_body, kind_of, match_at, read_request, request_body, request_of, spell_request};
+ghost use Rattle.of10_stats.specs.Requests.{IsRequest, body_size, flow_body, kind_of, read_request, request_body, request_of, spell_request};
 
 use crate::protocol::{AGGREGATE, DESC, FLOW, PORT, QUEUE, TABLE, VENDOR};
 use of10_action::WireFault;
@@ -43,17 +43,6 @@ pub enum StatsRequest {
     },
 }
 
-/// The match in the 40 bytes from `at`.
-pub(crate) fn match_at(bytes: &[u8], at: usize) -> Match
-    requires { at + 40 ≤ length bytes.now }
-    ensures value { result ≡ match_at bytes.now at }
-    ensures normal { IsNormal result }
-{
-    let mut raw = [0; 40];
-    raw.copy_from_slice(&bytes[at..at + 40]);
-    Match::decode(&raw)
-}
-
 /// Bytes of what a request of the type asks.
 fn body_size(kind: u16) -> usize
     ensures value { result ≡ body_size kind }
@@ -77,12 +66,12 @@ fn request_of(kind: u16, bytes: &[u8]) -> StatsRequest
     match kind {
         DESC => StatsRequest::Desc,
         FLOW => StatsRequest::Flow {
-            pattern: match_at(bytes, 12),
+            pattern: Match::decode_at(bytes, 12),
             table: bytes[52],
             out_port: u16_at(bytes, 54),
         },
         AGGREGATE => StatsRequest::Aggregate {
-            pattern: match_at(bytes, 12),
+            pattern: Match::decode_at(bytes, 12),
             table: bytes[52],
             out_port: u16_at(bytes, 54),
         },

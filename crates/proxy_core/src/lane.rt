@@ -2,9 +2,8 @@
 
 ghost use Rattle.std.specs.Prelude.{ℕ, ◌≡◌, ◌≤◌, List, length, IfOk, OnOk, IsTrue};
 ghost use Rattle.of10_ctl.specs.Frames.{IsFrame};
-ghost use Rattle.of10_ctl.specs.Kinds.{IsOf};
+ghost use Rattle.of10_ctl.specs.Kinds.{IsOf, is_of};
 ghost use Rattle.outbox.specs.Queues.{Queue, push_all, QueueStands};
-ghost use Rattle.desk_words.specs.Openings.{is_of};
 ghost use Rattle.desk_words.specs.Sent.{greeting, whole_packets, clearing, preparation, echo_for};
 
 use of10_action::Actions;
@@ -81,15 +80,6 @@ pub(crate) fn preparation(alloc: Global) -> Result<Vec<Frame>, AllocError>
     Ok(messages)
 }
 
-/// Whether a message is of version 1 and of the type, and its length counts its bytes.
-pub(crate) fn is_of(frame: &Frame, kind: u8) -> bool
-    ensures value { result ≡ is_of kind frame.now }
-    ensures kind { IsTrue result → IsOf kind frame.now }
-{
-    let _bytes = frame.as_slice();
-    frame.is_of(kind)
-}
-
 fn reply(alloc: Global, frame: &Frame) -> Result<Vec<Frame>, AllocError>
     requires { IsOf 2 frame.now }
     ensures { IfOk result (λ v. v.items ≡ echo_for frame.now) }
@@ -103,7 +93,7 @@ fn reply(alloc: Global, frame: &Frame) -> Result<Vec<Frame>, AllocError>
 pub(crate) fn echo(alloc: Global, frame: &Frame) -> Result<Vec<Frame>, AllocError>
     ensures { IfOk result (λ v. v.items ≡ echo_for frame.now) }
 {
-    if !is_of(frame, ECHO_REQUEST) {
+    if !frame.is_of(ECHO_REQUEST) {
         return Ok(Vec::new(alloc));
     }
     reply(alloc, frame)

@@ -9,7 +9,7 @@ ghost use Rattle.desk_words.specs.Verdicts.{is_down, is_ended};
 ghost use Rattle.desk_words.specs.declared.answer.Verdict.TheVariants.{Go, Close};
 ghost use Rattle.proxy_core.specs.Desks.{Acts, ActsIn, Stays, Ends, PassesOn, is_begun_with, DeskStands, Steps};
 
-use crate::lane::{echo, greeting, is_of, make_room, preparation, push_all};
+use crate::lane::{echo, greeting, make_room, preparation, push_all};
 use crate::parts::{Desk, Session};
 use desk_words::{Event, Phase, Timed, Verdict};
 use flowspace::Policy;
@@ -41,7 +41,7 @@ fn features_told(alloc: Global, frame: &Frame) -> Result<Option<Features>, Alloc
     ensures value { IfOk result (λ told. told ≡ features_told frame.now) }
     ensures few { IfOk result (λ told. IfSome told (λ f. length f.ports ≤ 1364)) }
 {
-    if !is_of(frame, FEATURES_REPLY) {
+    if !frame.is_of(FEATURES_REPLY) {
         return Ok(None);
     }
     match Features::decode(alloc, frame) {

@@ -14,7 +14,8 @@ use Rattle.slice_words.specs.Items.{Settings, is_own_port, Share, Item, Sight, S
 use Rattle.slice_words.specs.Answers.{no_buffer}
 use Rattle.slice_words.specs.Alone.{with_items}
 use Rattle.slice_words.specs.Standing.{SliceStands}
-use Rattle.desk_words.specs.Openings.{is_of, well_formed, status_told, rules_of, Switch}
+use Rattle.of10_ctl.specs.Kinds.{is_of}
+use Rattle.desk_words.specs.Openings.{well_formed, status_told, rules_of, Switch}
 use Rattle.desk_words.specs.Histories.{is_slot, settings_at, Side, handed, shares_of, is_kept, packet_items, status_items, message_items, phase_items}
 use Rattle.switch_side.specs.Dispatches.{told_at}
 use Rattle.switch_side.specs.Laws.{StandsStill}

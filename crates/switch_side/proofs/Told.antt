@@ -15,7 +15,8 @@ use Rattle.flow_book.specs.declared.state.SliceState.{SliceState}
 use Rattle.slice_words.specs.Items.{is_own_port}
 use Rattle.desk_words.specs.declared.event.Timed.{Timed}
 use Rattle.desk_words.specs.declared.phase.Phase.TheVariants.{Opened}
-use Rattle.desk_words.specs.Openings.{is_of, well_formed, rules_of, Switch}
+use Rattle.of10_ctl.specs.Kinds.{is_of}
+use Rattle.desk_words.specs.Openings.{well_formed, rules_of, Switch}
 use Rattle.desk_words.specs.Histories.{settings_at, Side, header_in}
 use Rattle.desk_words.specs.Sent.{sent_with}
 use Rattle.switch_side.specs.Dispatches.{addressed, sent_from, status_kept, told_at, AllStand}

@@ -14,7 +14,8 @@ use Rattle.flowspace.specs.Order.{writer_of, readers_of}
 use Rattle.flowspace.specs.Owners.{has_port}
 use Rattle.flow_book.specs.declared.state.SliceState.{SliceState}
 use Rattle.slice_words.specs.Answers.{no_buffer}
-use Rattle.desk_words.specs.Openings.{is_of, well_formed}
+use Rattle.of10_ctl.specs.Kinds.{is_of}
+use Rattle.desk_words.specs.Openings.{well_formed}
 use Rattle.desk_words.specs.Histories.{header_in}
 use Rattle.desk_words.specs.Sent.{echo_for}
 use Rattle.switch_side.specs.declared.dispatch.Dispatch.{Dispatch}

@@ -1,10 +1,10 @@
 ghost use Rattle.std.specs.Prelude.{ℕ, ◌≡◌, ◌≤◌, ◌∷◌, [], true, length, IsTrue, IfOk, drop};
 ghost use Rattle.of10_ctl.specs.declared.kind.TheConstants.{ECHO_REPLY};
 ghost use Rattle.of10_ctl.specs.Frames.{IsFrame, message_of};
-ghost use Rattle.of10_ctl.specs.Kinds.{IsOf};
+ghost use Rattle.of10_ctl.specs.Kinds.{IsOf, is_of};
 ghost use Rattle.flowspace.specs.Policies.{PolicyView};
 ghost use Rattle.slice_words.specs.Messages.{xid_of};
-ghost use Rattle.desk_words.specs.Openings.{Switch, is_of};
+ghost use Rattle.desk_words.specs.Openings.{Switch};
 ghost use Rattle.desk_words.specs.Histories.{Side};
 ghost use Rattle.switch_side.specs.Dispatches.{Surrounds, AllStand, IsDispatch};
 ghost use Rattle.switch_side.specs.Carrying.{carried, telling, carried_for};
@@ -18,15 +18,6 @@ use of10_ctl::kind::{ECHO_REPLY, ECHO_REQUEST, PACKET_IN, PORT_STATUS};
 use of10_ctl::{Frame, message};
 use port_view::PortView;
 use std::alloc::{AllocError, Global};
-
-/// Whether it is a message of version 1 and of this type whose length counts its bytes.
-fn is_of(frame: &Frame, kind: u8) -> bool
-    requires { IsFrame frame.now }
-    ensures value { result ≡ is_of kind frame.now }
-    ensures kind { IsTrue result → IsOf kind frame.now }
-{
-    frame.is_of(kind)
-}
 
 /// The reply to an ECHO_REQUEST (OpenFlow 1.0.0, section 5.5).
 fn echo(alloc: Global, frame: &Frame) -> Result<Dispatch, AllocError>
@@ -52,11 +43,11 @@ fn dispatch(
 {
     if frame.bad_length() {
         Ok(Dispatch::closing(alloc))
-    } else if is_of(frame, ECHO_REQUEST) {
+    } else if frame.is_of(ECHO_REQUEST) {
         echo(alloc, frame)
-    } else if is_of(frame, PACKET_IN) {
+    } else if frame.is_of(PACKET_IN) {
         packet_in(alloc, policy, states, frame)
-    } else if is_of(frame, PORT_STATUS) {
+    } else if frame.is_of(PORT_STATUS) {
         port_status(alloc, policy, ports, states, frame)
     } else {
         Ok(Dispatch::nothing(alloc))

@@ -1,20 +1,19 @@
 //! Packets that the switch hands up (OpenFlow 1.0.0, section 5.4.1).
 
-ghost use Rattle.std.specs.Prelude.{◌≡◌, ◌+◌, ◌≤◌, ◌++◌, [], ◌∷◌, length, option_map, IfOk, OnOk, None};
+ghost use Rattle.std.specs.Prelude.{◌≡◌, ◌+◌, ◌≤◌, ◌++◌, [], ◌∷◌, length, IfOk, OnOk, None};
 ghost use Rattle.of10_model.specs.Normal.{is_value, bit};
 ghost use Rattle.of10_ctl.specs.Kinds.{IsOf};
-ghost use Rattle.of10_flow.specs.PacketIns.{spell_packet_in};
-ghost use Rattle.flowspace.specs.Order.{first_rule, writer_of, readers_of};
+ghost use Rattle.of10_flow.specs.PacketIns.{packet_of, spell_packet_in};
+ghost use Rattle.flowspace.specs.Order.{writer_of, readers_of};
 ghost use Rattle.switch_side.specs.Dispatches.{addressed};
 ghost use Rattle.switch_side.specs.Carrying.{carried, telling, once, is_plain, packet_for, said_from, packet_told, packet_in_told};
 
 use crate::dispatch::Dispatch;
 use flow_book::SliceState;
-use flowspace::{Rule, SwitchPolicy};
+use flowspace::SwitchPolicy;
 use frame_header::{header_of, probe_slot};
-use of10_action::DecodeFault;
 use of10_ctl::Frame;
-use of10_flow::PacketIn;
+use of10_flow::PacketInView;
 use of10_flow::protocol::NO_BUFFER;
 use of10_match::Header12;
 use std::alloc::{AllocError, Global};
@@ -24,14 +23,6 @@ fn is_among(readers: u32, slot: u8) -> bool
     ensures { result ≡ bit readers slot }
 {
     slot < 32 && (readers >> slot) & 1 == 1
-}
-
-/// The first rule that has the header.
-fn first_rule<'a>(policy: &'a SwitchPolicy, header: &Header12) -> Option<&'a Rule>
-    ensures { option_map (λ rule. rule.now) result ≡ first_rule policy.now.rules header.now }
-{
-    let place = policy.first(header)?;
-    policy.rules().get(usize::from(place))
 }
 
 /// Who is handed the packets of one header.
@@ -48,7 +39,7 @@ impl Audience {
         ensures writer { result.writer ≡ writer_of policy.now.rules header.now }
         ensures readers { result.readers ≡ readers_of policy.now.rules header.now }
     {
-        match first_rule(policy, header) {
+        match policy.first_rule(header) {
             None => Audience {
                 writer: None,
                 readers: 0,
@@ -79,10 +70,10 @@ fn put(
     alloc: Global,
     to_slices: &mut Vec<(u8, Frame)>,
     slot: u8,
-    packet: &PacketIn,
+    packet: &PacketInView<'_>,
 ) -> Result<(), AllocError>
-    requires { 18 + length packet.now.payload ≤ 65535 }
-    ensures { OnOk result (to_slices.new.items ≡ to_slices.old.items ++ (slot, spell_packet_in packet.now) ∷ []) }
+    requires { 18 + length packet.now.payload.now ≤ 65535 }
+    ensures { OnOk result (to_slices.new.items ≡ to_slices.old.items ++ (slot, spell_packet_in (packet_of packet.now)) ∷ []) }
 {
     let message = packet.encode(alloc)?;
     to_slices.push((slot, message))?;
@@ -95,11 +86,11 @@ fn put_for_slice(
     to_slices: &mut Vec<(u8, Frame)>,
     slot: u8,
     state: &SliceState,
-    packet: &PacketIn,
+    packet: &PacketInView<'_>,
     audience: &Audience,
 ) -> Result<(), AllocError>
-    requires { 18 + length packet.now.payload ≤ 65535 }
-    ensures { OnOk result (to_slices.new.items ≡ to_slices.old.items ++ addressed slot (packet_for audience.now.writer audience.now.readers (spell_packet_in packet.now) slot state.now.up)) }
+    requires { 18 + length packet.now.payload.now ≤ 65535 }
+    ensures { OnOk result (to_slices.new.items ≡ to_slices.old.items ++ addressed slot (packet_for audience.now.writer audience.now.readers (spell_packet_in (packet_of packet.now)) slot state.now.up)) }
 {
     if !state.up {
         return Ok(());
@@ -116,12 +107,12 @@ fn put_for_slice(
 fn put_for_all(
     alloc: Global,
     states: &[SliceState],
-    packet: &PacketIn,
+    packet: &PacketInView<'_>,
     audience: &Audience,
 ) -> Result<Vec<(u8, Frame)>, AllocError>
     requires few { length states.now ≤ 32 }
-    requires fits { 18 + length packet.now.payload ≤ 65535 }
-    ensures { IfOk result (λ v. v.items ≡ said_from (packet_for audience.now.writer audience.now.readers (spell_packet_in packet.now)) 0 states.now) }
+    requires fits { 18 + length packet.now.payload.now ≤ 65535 }
+    ensures { IfOk result (λ v. v.items ≡ said_from (packet_for audience.now.writer audience.now.readers (spell_packet_in (packet_of packet.now))) 0 states.now) }
 {
     let mut to_slices = Vec::new(alloc);
     for (place, state) in states.iter().enumerate() {
@@ -131,10 +122,10 @@ fn put_for_all(
 }
 
 /// The packet is neither buffered nor a probe.
-fn is_plain(packet: &PacketIn) -> bool
-    ensures { result ≡ is_plain packet.now }
+fn is_plain(packet: &PacketInView<'_>) -> bool
+    ensures { result ≡ is_plain (packet_of packet.now) }
 {
-    packet.buffer == NO_BUFFER && probe_slot(packet.payload.as_slice()).is_none()
+    packet.buffer == NO_BUFFER && probe_slot(packet.payload).is_none()
 }
 
 /// A packet for the slices that are up of those that the first rule of its header names. One that is
@@ -143,21 +134,21 @@ fn handed(
     alloc: Global,
     policy: &SwitchPolicy,
     states: &[SliceState],
-    packet: PacketIn,
+    packet: &PacketInView<'_>,
 ) -> Result<Vec<(u8, Frame)>, AllocError>
     requires few { length states.now ≤ 32 }
-    requires fits { 18 + length packet.payload ≤ 65535 }
-    ensures { IfOk result (λ v. v.items ≡ packet_told policy.now.rules states.now packet) }
+    requires fits { 18 + length packet.now.payload.now ≤ 65535 }
+    ensures { IfOk result (λ v. v.items ≡ packet_told policy.now.rules states.now (packet_of packet.now)) }
 {
-    if !is_plain(&packet) {
+    if !is_plain(packet) {
         return Ok(Vec::new(alloc));
     }
-    let header = header_of(packet.in_port, packet.payload.as_slice());
+    let header = header_of(packet.in_port, packet.payload);
     let audience = Audience::of(policy, &header);
-    let told = PacketIn {
+    let told = PacketInView {
         xid: 0,
         buffer: NO_BUFFER,
-        ..packet
+        ..*packet
     };
     put_for_all(alloc, states, &told, &audience)
 }
@@ -173,12 +164,11 @@ pub(crate) fn packet_in(
     requires few { length states.now ≤ 32 }
     ensures { IfOk result (λ d. carried d ≡ telling (packet_in_told policy.now.rules states.now frame.now) None) }
 {
-    match PacketIn::decode(alloc, frame) {
+    match PacketInView::decode(frame) {
         Ok(packet) => {
-            let to_slices = handed(alloc, policy, states, packet)?;
+            let to_slices = handed(alloc, policy, states, &packet)?;
             Ok(Dispatch::telling(alloc, to_slices, None))
         }
-        Err(DecodeFault::Wire(_)) => Ok(Dispatch::nothing(alloc)),
-        Err(DecodeFault::Memory) => Err(AllocError),
+        Err(_) => Ok(Dispatch::nothing(alloc)),
     }
 }

@@ -5,7 +5,7 @@ use Rattle.of10_model.specs.declared.pattern.Prefix.{Prefix}
 use Rattle.of10_model.specs.declared.pattern.Pattern.{Pattern}
 use Rattle.of10_model.proofs.Twelve.{each_true, true_of_each}
 use Rattle.of10_model.proofs.Applied.{same_fields}
-use Rattle.flowmod_expand.specs.Pieces.{same, same_prefix, is_same}
+use Rattle.of10_model.specs.Same.{same, same_prefix, is_same}
 
 one-same : (a b : Option ℕ) → same a b ≡ true → a ≡ b
 one-same None None e = refl
