@@ -18,9 +18,3 @@ permitted-Some rules slot origin actions flood all code e = ap (said (expanded f
 pub permitted-None : (rules : List Rule) (slot : ℕ) (origin : Origin) (actions : List Action) (flood all : List ℕ)
     → first_code rules slot origin actions ≡ None → permitted rules slot origin actions flood all ≡ Ok (expanded flood all actions)
 permitted-None rules slot origin actions flood all e = ap (said (expanded flood all actions)) e
-
-pub answer_of-short : (said : Result (List Action) ℕ) (list : List Action) → said ≡ Ok list → length (spelling list) ≤ 65463 → answer_of said ≡ Ok list
-answer_of-short said list e le = rw (e, le-leb (length (spelling list)) 65463 le) refl
-
-pub answer_of-long : (said : Result (List Action) ℕ) (list : List Action) → said ≡ Ok list → 65463 < length (spelling list) → answer_of said ≡ Err TooMany
-answer_of-long said list e lt = rw (e, lt-leb (length (spelling list)) 65463 lt) refl

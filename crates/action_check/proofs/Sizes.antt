@@ -23,11 +23,6 @@ length-outputs max_len (port ∷ others) =
     ap length (flat_map-cons spell (Output port max_len) (outputs max_len others)) ∙ length-append (spell (Output port max_len)) (spelling (outputs max_len others)) in
     omega arith
 
-pub length-expanded : (flood all : List ℕ) (action : Action) (others : List Action)
-    → length (spelling (expanded flood all (action ∷ others))) ≡ length (spelling (spread flood all action)) + length (spelling (expanded flood all others))
-length-expanded flood all action others =
-    rw (flat_map-cons (spread flood all) action others, flat_map-append spell (spread flood all action) (expanded flood all others), length-append (spelling (spread flood all action)) (spelling (expanded flood all others))) refl
-
 -- ---- what holds of each action
 
 -- FLOOD and ALL stand for ports of which the same holds

@@ -28,7 +28,7 @@ pub struct SliceState {
 
 impl SliceState {
     /// The state of the slice in the slot before anything came from it: not up, and 128 bytes of a packet,
-    /// as a switch has it at first (OpenFlow 1.0.0, section 5.3.2).
+    /// as a switch has it at first (OpenFlow 1.0.0, section 4.1.2).
     pub fn new(alloc: Global, slot: u8, of: &Slice) -> Result<SliceState, AllocError>
         requires { 1 ≤ of.now.burst }
         ensures { IfOk result (IsFreshState slot of.now) }

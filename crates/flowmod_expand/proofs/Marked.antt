@@ -26,8 +26,3 @@ still_marked marks i j lt marked =
       | inl same ↦ subst (λ n. get_or (slice_set marks i true) n false ≡ true) same (get_or-set_same marks i true false lt)
       | inr other ↦ get_or-set_other marks i j true false (λ e. other (sym e)) ∙ marked
     ]
-
-pub marked_more : (marks : List Bool) (found : List Pattern) (m : Pattern) → mark_of m < length marks → AreMarked marks found → AreMarked (slice_set marks (mark_of m) true) (found ++ m ∷ [])
-marked_more marks found m lt marked =
-    let after = slice_set marks (mark_of m) true in
-    All-push (λ p. get_or after (mark_of p) false ≡ true) found m (λ k d within. still_marked marks (mark_of m) (mark_of (get_or found k d)) lt (marked k d within)) (get_or-set_same marks (mark_of m) true false lt)

@@ -94,9 +94,6 @@ not_above a b e =
       | inr le ↦ le
     ]
 
-pub together_within : (messages : List (List ℕ)) → are_too_large messages ≡ false → sum_by length messages ≤ 262144
-together_within messages e = not_above 262144 (sum_by length messages) (or_none (nat_lt 262144 (sum_by length messages)) (list_any (λ bytes. nat_lt 65535 (length bytes)) messages) e).0
-
 each_within : (messages : List (List ℕ)) → list_any (λ bytes. nat_lt 65535 (length bytes)) messages ≡ false → (k : ℕ) (d : List ℕ) → k < length messages → (b : Bool) → nat_lt 65535 (length (get_or messages k d)) ≡ b → length (get_or messages k d) ≤ 65535
 each_within messages none k d lt true e = absurd (true≢false (sym (list_any_at (λ bytes. nat_lt 65535 (length bytes)) messages k d lt e) ∙ none))
 each_within messages none k d lt false e = not_above 65535 (length (get_or messages k d)) e

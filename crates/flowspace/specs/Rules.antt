@@ -49,10 +49,6 @@ pub record Share (a b : Rule) : Type 0 where
   pub in_first : Has a.pattern header
   pub in_second : Has b.pattern header
 
--- they have no header in common
-abbrev pub AreApart : Rule → Rule → Type 0
-AreApart a b = Share a b → ⊥
-
 -- where a header of the later rule is one of the earlier too, the later one is written by nobody or by the writer of the earlier
 abbrev pub Yields : Rule → Rule → Type 0
 Yields earlier later = Share earlier later → (slot : ℕ) → later.writer ≡ Some slot → earlier.writer ≡ Some slot

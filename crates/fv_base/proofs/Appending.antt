@@ -6,11 +6,6 @@ use Rattle.std.proofs.lemmas.Grind.{common_steps}
 use Rattle.std.proofs.Common.{arith}
 use Rattle.fv_base.specs.Told.{appended}
 
--- nothing was appended
-pub appended-nothing : (told : Option (List ℕ)) → told ≡ appended told []
-appended-nothing None = refl
-appended-nothing (Some before) = grind (arith, common_steps)
-
 -- the first bytes were appended, and then the next ones
 pub appended-more : (told : Option (List ℕ)) (bytes : List ℕ) (done n : ℕ) → appended (appended told (take done bytes)) (take n (drop done bytes)) ≡ appended told (take (done + n) bytes)
 appended-more None bytes done n = refl

@@ -71,10 +71,6 @@ pub drained_all : (IsLeft : List (List ℕ) → Type 0) (text : List ℕ → Lis
 drained_all IsLeft text messages before now d is =
     d.written ∙ ap (appended before) (sym (append-nil d.done) ∙ ap (λ left. d.done ++ flat_map text left) (sym (nothing_left d.left is)) ∙ d.whole)
 
-pub drained_none : (IsLeft : List (List ℕ) → Type 0) (text : List ℕ → List ℕ) (messages : List (List ℕ)) (before now : Option (List ℕ)) (d : Drained IsLeft text messages before now)
-    → None ≡ slice_get d.left 0 → IsLeft []
-drained_none IsLeft text messages before now d is = subst IsLeft (nothing_left d.left is) d.holds
-
 -- none is left after the last
 pub drained_end : (Then : List (List ℕ) → Type 0) (left : List (List ℕ)) → None ≡ slice_get left 0 → Then (drop 1 left) → Then []
 drained_end Then left is next = subst (λ (k : List (List ℕ)). Then (drop 1 k)) (nothing_left left is) next

@@ -138,28 +138,9 @@ ask_up p h slot old new taken takes quiet =
     ∙ up_when (phase_of evs) (is_slot p slot) (is_up (view_of p slot evs)) (not_up p slot evs)
     ∙ ap (is_slice_up p slot) quiet.events
 
--- whether the switch's connection has ended
-pub ask_end : (p : PolicyView) (h : List Timed) (old new : Desk) (taken : Taken) → Takes old Switch taken new → IsQuiet p h old → is_the_end taken ≡ is_ended (phase_of h)
-ask_end p h old new taken takes quiet =
-    let answered = takes p quiet.ops quiet.stands in
-    let evs = events_of quiet.ops in
-    ap is_the_end answered.right
-    ∙ ap (λ (q : Queue). is_the_end (elim q.pending [ [] ↦ empty_reply p evs Switch q.choked | message ∷ later ↦ Message message ])) quiet.lane_queue
-    ∙ end_when (phase_of evs)
-    ∙ ap (λ events. is_ended (phase_of events)) quiet.events
-
 quiet_again : (slot other : ℕ) (b : Bool) → (if b then [] else nothing other) ≡ nothing other
 quiet_again slot other true = refl
 quiet_again slot other false = refl
-
--- nothing waits after a question, either
-pub still_quiet : (p : PolicyView) (h : List Timed) (slot : ℕ) (old new : Desk) (taken : Taken) → Takes old (Slice slot) taken new → IsQuiet p h old → IsQuiet p h new
-still_quiet p h slot old new taken takes quiet =
-    holds_same p h (with_waiting slot [] nothing) nothing [] new (λ other. quiet_again slot other (slot == other))
-    (take_slice p h slot nothing [] [] old new taken takes (holds_same p h nothing (with_waiting slot [] nothing) [] old (λ other. sym (quiet_again slot other (slot == other))) quiet)).1
-
-pub still_quiet_lane : (p : PolicyView) (h : List Timed) (old new : Desk) (taken : Taken) → Takes old Switch taken new → IsQuiet p h old → IsQuiet p h new
-still_quiet_lane p h old new taken takes quiet = (take_lane p h nothing [] old new taken takes quiet).1
 
 -- ---- steps
 

@@ -134,9 +134,6 @@ each_more P [] new each own (suc at) x is = absurd (true≢false (sym (ap is_the
 each_more P (first ∷ others) new each own zero x is = each 0 x is
 each_more P (first ∷ others) new each own (suc at) x is = each_more P others new (λ k y g. each (suc k) y g) own at x is
 
-pub each_none : {X : Type 0} (P : X → Type 0) (at : ℕ) (x : X) → slice_get {X = X} [] at ≡ Some x → P x
-each_none P at x is = absurd (true≢false (sym (ap is_there is)))
-
 -- a record of one switch leaves the streams of another
 streams_other : (slices switch : ℕ) (r : Told) (before : List Told) (streams : Streams) → (r.switch == switch) ≡ false → StreamsStand slices switch before streams → StreamsStand slices switch (r ∷ before) streams
 streams_other slices switch r before streams is stands = record {

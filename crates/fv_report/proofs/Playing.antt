@@ -78,21 +78,6 @@ failed_one p timed h place result before after desk is err part =
 no_more : (n : ℕ) → n ≡ n + 0
 no_more n = omega arith
 
--- nothing happened
-pub passed_one : {E : Type 0} (p : PolicyView) (moment : ℕ) (h : List Timed) (event : Event) (place : Place) (before : Option (List ℕ)) (desk : Desk)
-    → happens p h event ≡ false → IsQuiet p h desk → AreFramed h → Plays {E = E} p moment h (event ∷ []) place (Ok place) before before desk
-passed_one p moment h event place before desk is quiet framed =
-    let own = no_event p moment h event is in
-    record {
-      writes = appended_none before ∙ ap (λ (events : List Timed). appended before (lines_of p (place_of place) h events)) (sym own);
-      played = record {
-        number = no_more place.number ∙ ap (λ (events : List Timed). place.number + length events) (sym own);
-        switch = refl;
-        quiet = subst (λ (events : List Timed). IsQuiet p (next_after h events) desk) (sym own) quiet;
-        framed = subst (λ (events : List Timed). AreFramed (next_after h events)) (sym own) framed;
-      };
-    }
-
 -- ---- events one after another
 
 -- the first and the others
@@ -134,24 +119,6 @@ pub record Hearing (p : PolicyView) (moment : ℕ) (from : Dest) (first_place pl
   pub number : place.number + length (happening p moment h (map (event_from from) rest)) ≡ first_place.number + length (happening p moment first (map (event_from from) all))
   pub switch : place.switch ≡ first_place.switch
   pub next : next_after h (happening p moment h (map (event_from from) rest)) ≡ next_after first (happening p moment first (map (event_from from) all))
-
-pub hearing_first : (p : PolicyView) (moment : ℕ) (from : Dest) (place : Place) (h : List Timed) (rest : List (List ℕ)) (fed : List ℕ) (given : List (List ℕ)) (before : Option (List ℕ)) (desk : Desk) (framer : Stream)
-    → IsQuiet p h desk → AreFramed h → Stands framer fed given → given ++ rest ≡ frames_of fed → Hearing p moment from place place h rest fed before before desk framer
-hearing_first p moment from place h rest fed given before desk framer quiet framed stands cut = record {
-  h = h;
-  given = given;
-  rest = rest;
-  quiet = quiet;
-  framed = framed;
-  stands = stands;
-  cut = cut;
-  done = [];
-  written = appended_none before;
-  lines = refl;
-  number = refl;
-  switch = refl;
-  next = refl;
-}
 
 -- the frame that is taken is the first of those that are left
 first_left : (given rest others : List (List ℕ)) (frame : List ℕ) (frames : List (List ℕ)) → given ++ rest ≡ frames → (given ++ frame ∷ []) ++ others ≡ frames → rest ≡ frame ∷ others

@@ -98,17 +98,6 @@ streams_heard slices switch moment bytes before old new stands same own =
       of_slices = λ at framer is. kept switch slice_bytes at r before framer (rw (same_number switch) refl) (stands.of_slices at framer (ap (λ v. slice_get v.items at) (sym same) ∙ is));
     }
 
--- nothing came on the connections with a record of this kind
-pub streams_kept : (slices kind switch slot moment : ℕ) (bytes : List ℕ) (before : List Told) (streams : Streams) → (kind == switch_up) ≡ false → (kind == switch_bytes) ≡ false → (kind == slice_up) ≡ false → (kind == slice_bytes) ≡ false
-    → StreamsStand slices switch before streams → StreamsStand slices switch (record { kind = kind; switch = switch; slot = slot; moment = moment; bytes = bytes } ∷ before) streams
-streams_kept slices kind switch slot moment bytes before streams a b d e stands =
-    let r : Told = record { kind = kind; switch = switch; slot = slot; moment = moment; bytes = bytes } in
-    record {
-      of_switch = kept switch switch_bytes 0 r before streams.switch (rw (same_number switch, a, b) refl) stands.of_switch;
-      number = stands.number;
-      of_slices = λ at framer is. kept switch slice_bytes at r before framer (rw (same_number switch, a, d, e) refl) (stands.of_slices at framer is);
-    }
-
 abbrev is_there : {X : Type 0} → Option X → Bool
 is_there None = false
 is_there (Some x) = true

@@ -79,9 +79,6 @@ part_played p r before number result told wrote AfterIt state err part = record 
   stands = no_ok (λ _. AfterIt state) result err;
 }
 
-pub at_some : {E : Type 0} (p : PolicyView) (r : Told) (number : ℕ) (result : Result ℕ E) (a b : Option (List ℕ)) (old new : Switch) → PlaysRecord p r number result a b old new → PlaysAt p r number result a b (Some old) (Some new)
-at_some p r number result a b old new plays before is = played_otherwise p r before number result a b (SwitchStands p r.switch (r ∷ before)) (IsAt p r.switch (r ∷ before)) new (Some new) (plays before is) (λ stands. stands)
-
 pub at_none : {E : Type 0} (p : PolicyView) (r : Told) (number : ℕ) (result : Result ℕ E) (a b : Option (List ℕ)) (fresh new : Switch) → IsFreshSwitch p fresh → PlaysRecord p r number result a b fresh new → PlaysAt p r number result a b None (Some new)
 at_none p r number result a b fresh new is_fresh plays before none =
     played_otherwise p r before number result a b (SwitchStands p r.switch (r ∷ before)) (IsAt p r.switch (r ∷ before)) new (Some new) (plays before (fresh_stands p r.switch before fresh none is_fresh)) (λ stands. stands)
@@ -124,16 +121,6 @@ no_bytes size kind bytes within a b =
     let none : byte_limit kind ≡ 0 = rw (a, b) refl in
     let is : size ≡ 0 = omega (arith, within, none) in
     ap (λ n. take n bytes) is
-
--- a record of a file is one of a recording
-pub record_of : (slices : ℕ) (file : List ℕ) (item : Item) → IsItem slices file item → IsRecord slices item (carried file item)
-record_of slices file item is = record {
-  known = is.known;
-  switch = is.switch;
-  of_switch = is.of_switch;
-  of_slice = is.of_slice;
-  silent = λ a b. no_bytes item.size item.kind (drop item.from file) is.size (unlike item.kind switch_bytes a) (unlike item.kind slice_bytes b);
-}
 
 -- the records that are left of a file, and what is written so far
 pub record Running (p : PolicyView) (file : List ℕ) (all left : List Item) (events : ℕ) (before now : Option (List ℕ)) (switches : List (Option Switch)) : Type 0 where

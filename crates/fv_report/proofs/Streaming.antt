@@ -18,22 +18,6 @@ took old new fed given (Frame frame) stands is then = ((frame_exact old fed give
 took old new fed given NeedMore stands is then = (((need_more_exact old fed given stands).0 (sym is)).0, subst (Stands new fed) (append-nil given) then)
 took old new fed given Ended stands is then = (ended_all old fed given stands ((ended_exact old fed given stands).0 (sym is)), subst (Stands new fed) (append-nil given) then)
 
-pub shorter_by : (next : Next) (before after : ℕ) → after + 8 * length (frame_in next) ≤ before → IfSome (frame_given next) (λ _. after < before)
-shorter_by (Frame frame) before after less = omega arith
-shorter_by NeedMore before after less = tt
-shorter_by Ended before after less = tt
-
 abbrev is_there : Option Stream → Bool
 is_there None = false
 is_there (Some stream) = true
-
--- one fresh framer more
-pub fresh_more : (framers : List Stream) (new : Stream) → ((slot : ℕ) (framer : Stream) → slice_get framers slot ≡ Some framer → Stands framer [] []) → Stands new [] []
-    → (slot : ℕ) (framer : Stream) → slice_get (framers ++ new ∷ []) slot ≡ Some framer → Stands framer [] []
-fresh_more [] new each own zero framer is = subst (λ f. Stands f [] []) (ap (λ (o : Option Stream). elim o [ None ↦ new | Some f ↦ f ]) is) own
-fresh_more [] new each own (suc slot) framer is = absurd (true≢false (sym (ap is_there is)))
-fresh_more (first ∷ others) new each own zero framer is = each 0 framer is
-fresh_more (first ∷ others) new each own (suc slot) framer is = fresh_more others new (λ at f g. each (suc at) f g) own slot framer is
-
-pub fresh_none : (slot : ℕ) (framer : Stream) → slice_get {X = Stream} [] slot ≡ Some framer → Stands framer [] []
-fresh_none slot framer is = absurd (true≢false (sym (ap is_there is)))

@@ -21,10 +21,6 @@ answer_unended s fed given stands unended frames is =
     let all : frames_of fed ≡ given ++ frames = frames_fed s fed given stands ∙ rw (unended, is) refl in
     rw (none_bad, all, drop-append_seam given frames) refl
 
--- what comes next once the stream has ended
-pub answer_ended : (s : Stream) (fed : List ℕ) (given : List (List ℕ)) → Stands s fed given → s.ended ≡ true → Ended ≡ answer fed given
-answer_ended s fed given stands ended = rw (sym stands.ended ∙ ended) refl
-
 -- bytes are put behind those that are left
 pub stands_fed : (read : ℕ) (items piece : List ℕ) (ended : Bool) (fed : List ℕ) (given : List (List ℕ)) → read ≤ length items → ended ≡ false
     → Stands (record { left = drop read items; ended = ended }) fed given → Stands (record { left = drop read (items ++ piece); ended = ended }) (fed ++ piece) given

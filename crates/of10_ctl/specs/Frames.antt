@@ -17,6 +17,6 @@ pub record IsFrame (bytes : List ℕ) : Type 0 where
 abbrev pub message_of : ℕ → ℕ → List ℕ → List ℕ
 message_of kind xid body = head_bytes kind (8 + length body) xid ++ body
 
--- an error message, which carries the first 64 bytes of the message at fault, or all of a shorter one (OpenFlow 1.0.0, section 5.4.4)
+-- an error message (OpenFlow 1.0.0, section 5.4.4), which carries the first 64 bytes of the message at fault, or all of a shorter one: the standard asks for at least 64, exactly 64 is this proxy's own rule
 abbrev pub error_of : ℕ → ℕ → ℕ → List ℕ → List ℕ
 error_of xid class code cause = message_of 1 xid (big_bytes 2 class ++ (big_bytes 2 code ++ take 64 cause))

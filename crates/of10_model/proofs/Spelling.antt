@@ -128,7 +128,3 @@ spelled-Spell m r =
 -- read to its normal form
 pub Norm-Spell : (m : Pattern) → IsNormal m → Norm (Spell m) ≡ m
 Norm-Spell m n = rw (spelled-Spell m n.0) n.1
-
-pub length-Spell : (m : Pattern) → length (Spell m) ≡ 40
-unfolding Spell
-length-Spell m = refl

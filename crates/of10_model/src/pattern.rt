@@ -1,7 +1,7 @@
 ghost use Rattle.std.specs.Prelude.{◌≡◌};
 ghost use Rattle.of10_model.specs.Normal.{is_exact, is_whole};
 
-/// The leading bits of a network address (OpenFlow 1.0.0, section 3.4: a prefix mask).
+/// The leading bits of a network address (OpenFlow 1.0.0, section 5.2.3: a count of ignored bits).
 #[derive(Clone, Copy, Debug, PartialEq, Eq)]
 pub struct Prefix {
     /// How many leading bits count, from 1 to 32.

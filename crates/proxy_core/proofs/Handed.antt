@@ -49,28 +49,6 @@ then_more later a b c one others = λ limit q h. others limit q (one limit q h)
 same_kept : (slot : ℕ) (xs : List Kept) (a b : Kept) → slice_get xs slot ≡ Some a → slice_get xs slot ≡ Some b → a ≡ b
 same_kept slot xs a b ga gb = some_is (sym ga ∙ gb)
 
-pub same_all : (xs : List Kept) → AreSame xs xs
-same_all xs = record {
-  count = refl;
-  each = λ slot a b ga gb. subst (λ (k : Kept). SameQueue a k) (same_kept slot xs a b ga gb) (λ limit q h. h);
-}
-
--- a queue that is as it was, in its place
-pub same_set : (old xs : List Kept) (at : ℕ) (x y : Kept) → AreSame old xs → slice_get xs at ≡ Some x → SameQueue x y → AreSame old (set xs at y)
-same_set old xs at x y same gx keeps = record {
-  count = length-set xs at y ∙ same.count;
-  each = λ slot a b ga gb. elim (cases_Bool (slot == at)) [
-    | inl is ↦
-        let e : slot ≡ at = eqb-true slot at is in
-        let gb2 : slice_get (set xs at y) at ≡ Some b = subst (λ (k : ℕ). slice_get (set xs at y) k ≡ Some b) e gb in
-        let is_y : y ≡ b = some_is (sym (get_set xs at x y gx) ∙ gb2) in
-        let first : SameQueue a x = same.each slot a x ga (subst (λ (k : ℕ). slice_get xs k ≡ Some x) (sym e) gx) in
-        subst (λ (k : Kept). SameQueue a k) is_y (λ limit q h. keeps limit q (first limit q h))
-    | inr isnt ↦
-        same.each slot a b ga (sym (get_other xs at slot y (λ e. true≢false (sym (eq-eqb slot at e) ∙ isnt))) ∙ gb)
-  ];
-}
-
 pub same_then : (xs ys zs : List Kept) → AreSame xs ys → AreSame ys zs → AreSame xs zs
 same_then xs ys zs one other = record {
   count = other.count ∙ one.count;
@@ -173,20 +151,6 @@ room_of_first xs slot message later room b gb =
     let was = room slot b gb in
     let first = ap length (slot_first slot slot message later true (eq-eqb slot slot refl)) in
     omega (arith, was, first)
-
--- a queue has more room, in its place
-pub more_room : (xs : List Kept) (at : ℕ) (x y : Kept) (slot n : ℕ) → slice_get xs at ≡ Some x → x.room ≤ y.room → HasRoomAt slot n xs → HasRoomAt slot n (set xs at y)
-more_room xs at x y slot n gx more room b gb = elim (cases_Bool (slot == at)) [
-  | inl is ↦
-      let e : slot ≡ at = eqb-true slot at is in
-      let is_y : y ≡ b = some_is (sym (get_set xs at x y gx) ∙ subst (λ (k : ℕ). slice_get (set xs at y) k ≡ Some b) e gb) in
-      let was = room x (subst (λ (k : ℕ). slice_get xs k ≡ Some x) (sym e) gx) in
-      subst (λ (k : Kept). n ≤ k.room) is_y (omega (arith, more, was))
-  | inr isnt ↦ room b (sym (get_other xs at slot y (λ e. true≢false (sym (eq-eqb slot at e) ∙ isnt))) ∙ gb)
-]
-
-pub room_at : (xs : List Kept) (at n : ℕ) (x y : Kept) → slice_get xs at ≡ Some x → n ≤ y.room → HasRoomAt at n (set xs at y)
-room_at xs at n x y gx room b gb = subst (λ (k : Kept). n ≤ k.room) (some_is (sym (get_set xs at x y gx) ∙ gb)) room
 
 nearer : (a b : ℕ) → a < b + 1 → a ≢ b → a < b
 nearer a b less far = elim (cases_lt a b) [ inl is ↦ is | inr more ↦ absurd (far (omega arith)) ]

@@ -24,13 +24,6 @@ use Rattle.proxy_core.proofs.Fitting.{coherent}
 over_is : (p : PolicyView) (ops : List Operation) (desk : Desk) (b : Bool) → DeskStands p ops desk → (is_ended desk.phase || leb (2 ^ 60) desk.events) ≡ b → is_over (events_of ops) ≡ b
 over_is p ops desk b s is = sym (ap₂ (λ (phase : Phase) (n : ℕ). is_ended phase || leb (2 ^ 60) n) s.body.phase s.events) ∙ is
 
--- nothing more comes
-pub over : (p : PolicyView) (ops : List Operation) (timed : Timed) (desk : Desk) → DeskStands p ops desk → (is_ended desk.phase || leb (2 ^ 60) desk.events) ≡ true → Replied p ops timed (Ok verdicts.Ended) desk
-over p ops timed desk s is = record {
-  right = sym (ap (λ (b : Bool). if b then verdicts.Ended else if closes p (events_of ops) timed then Close else Go) (over_is p ops desk true s is));
-  stands = record { body = s.body; events = s.events };
-}
-
 -- memory ran out
 pub refused : (p : PolicyView) (ops : List Operation) (timed : Timed) (fault : AllocError) (old new : Desk) → DeskStands p ops old → Stays old new → new.events ≡ old.events → is_down timed.event ≡ false
     → Replied p ops timed (Err fault) new

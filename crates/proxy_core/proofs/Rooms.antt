@@ -28,24 +28,6 @@ all_pushed limit now q left all messages none same is = sym (ap (push_all limit 
 
 -- ---- queues and states that are made
 
-pub empty_first : (xs : List Kept) → xs ≡ [] → AreEmpty (length xs) xs
-empty_first xs none = record {
-  total = refl;
-  each = λ slot queue g. none_some queue (sym (ap (λ (l : List Kept). slice_get l slot) none) ∙ g);
-}
-
-pub empty_more : (xs zs : List Kept) (y : Kept) → AreEmpty (length xs) xs → QueueStands slice_limit no_messages y → zs ≡ xs ++ y ∷ [] → AreEmpty (length zs) zs
-empty_more xs zs y empty stands is = record {
-  total = refl;
-  each = λ slot queue g. elim (get_more xs y slot queue (subst (λ (l : List Kept). slice_get l slot ≡ Some queue) is g)) [
-    | inl before ↦ empty.each slot queue before
-    | inr last ↦ subst (λ (k : Kept). QueueStands slice_limit no_messages k) last.1 stands
-  ];
-}
-
-pub empty_all : (n : ℕ) (xs : List Kept) → AreEmpty (length xs) xs → length xs ≡ n → AreEmpty n xs
-empty_all n xs empty is = record { total = is; each = empty.each }
-
 pub fresh_first : (slices : List Slice) (states : List SliceState) → states ≡ []
     → (slot : ℕ) (slice : Slice) (state : SliceState) → slice_get slices slot ≡ Some slice → slice_get states slot ≡ Some state → IsFreshState slot slice state
 fresh_first slices states none slot slice state gs g = none_some state (sym (ap (λ (l : List SliceState). slice_get l slot) none) ∙ g)
@@ -134,15 +116,3 @@ placed_queue slot at Becomes old new b y here policy features ports states queue
 -- how many messages wait at a place
 pub waits_at : (session : Session) (slot : ℕ) (queue : Kept) → slice_get session.queues.items slot ≡ Some queue → length queue.pending ≡ pending_at slot (Some session)
 waits_at session slot queue g = sym (ap (λ (o : Option Kept). elim o [ None ↦ 0 | Some q ↦ length q.pending ]) g)
-
--- nothing changed where there is no such slot
-pub nowhere : (slot : ℕ) (Becomes : SliceState → Kept → SliceState → Kept → Type 0) (session : Session) → has_slot session slot ≡ false → AtSlot slot Becomes session session
-nowhere slot Becomes session out = record {
-  policy = refl;
-  features = refl;
-  ports = refl;
-  states_count = refl;
-  queues_count = refl;
-  own = λ a b x y ga gb gx gy. absurd (true≢false (sym (is_there session slot a b ga gb) ∙ out));
-  others = λ i far. (refl, refl);
-}

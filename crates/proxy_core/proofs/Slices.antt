@@ -88,13 +88,6 @@ kept_slot slot old new at p switch sides qs s = record {
 
 -- ---- an event of a slice shows the others nothing
 
--- the slot of an event of a slice
-abbrev is_from : ℕ → Event → Bool
-is_from slot (SliceUp other) = other == slot
-is_from slot (SliceMsg other message) = other == slot
-is_from slot (SliceDown other) = other == slot
-is_from slot event = false
-
 pub others_up : (p : PolicyView) (switch : Switch) (sides : ℕ → Side) (slot moment i : ℕ) → i ≢ slot
     → (items_of p i switch (sides i) (record { event = SliceUp slot; moment = moment }) ≡ [])
     × (empties i (up_after p switch sides (record { event = SliceUp slot; moment = moment }) i) (SliceUp slot) ≡ false)

@@ -9,6 +9,7 @@ mod slots;
 mod step;
 mod take;
 
+pub use desk_words::laws;
 pub use desk_words::{Dest, Event, Taken, Timed, Verdict};
 pub use parts::Desk;
 

@@ -14,8 +14,8 @@ use of10_ctl::kind::{
     ECHO_REPLY, ECHO_REQUEST, ERROR, FEATURES_REQUEST, GET_CONFIG_REPLY, GET_CONFIG_REQUEST, HELLO,
     PORT_MOD, SET_CONFIG, VENDOR,
 };
-use of10_ctl::{Frame, error_frame, message};
-use of10_model::wire::u16_at;
+use of10_ctl::{Frame, begin, error_frame, message};
+use of10_model::wire::{put_u16, u16_at};
 use of10_port::Features;
 use port_view::PortView;
 use std::alloc::{AllocError, Global};
@@ -58,7 +58,7 @@ fn refused(alloc: Global, class: u16, code: u16, frame: &Frame) -> Result<Option
     Ok(Some(error_frame(alloc, xid, class, code, frame.as_slice())?))
 }
 
-/// A HELLO of version 0 is refused; any other means version 1 (OpenFlow 1.0.0, section 5.5).
+/// A HELLO of version 0 is refused; any other means version 1 (OpenFlow 1.0.0, section 4.2).
 fn hello(alloc: Global, frame: &Frame) -> Result<Option<Frame>, AllocError>
     ensures { IfOk result (λ reply. option_to_list reply ≡ (hello_answer frame.now).to_slice) }
 {
@@ -80,13 +80,10 @@ fn is_from_controller(kind: u8) -> bool
 fn config(alloc: Global, wanted: u16, frame: &Frame) -> Result<Frame, AllocError>
     ensures { IfOk result (λ reply. reply ≡ config_reply wanted frame.now) }
 {
-    let [high, low] = wanted.to_be_bytes();
-    message(
-        alloc,
-        GET_CONFIG_REPLY,
-        frame.head().xid,
-        &[0, 0, high, low],
-    )
+    let mut out = begin(alloc, GET_CONFIG_REPLY, frame.head().xid, 4)?;
+    put_u16(&mut out, 0)?;
+    put_u16(&mut out, wanted)?;
+    Ok(Frame::of(out))
 }
 
 /// SET_CONFIG is taken where it asks for fragments to be handled as usual (OpenFlow 1.0.0, section 5.3.2).
