@@ -5,6 +5,7 @@ use crate::{BuildFault, pieces};
 use draws::Draws;
 use flowspace::SwitchPolicy;
 use given::{built, bytes, policy, rule, spelled, strips, tcp};
+use match_meet::meet;
 use of10_action::{Action, Actions};
 use of10_ctl::Frame;
 use of10_flow::FlowMod;
@@ -44,14 +45,15 @@ fn output(alloc: Global, port: u16) -> Result<Actions, AllocError> {
     Actions::of(alloc, &[Action::Output { port, max_len: 0 }])
 }
 
+// The pieces stand by falling priority, which isn't the order of the file.
 #[test]
 fn the_third_meet_is_the_first(rt: HostRuntime) -> Result<(), Fail> {
     let alloc = rt.alloc();
     let net = 0x0a00_0000;
     let rules = [
-        rule(30, &Match::decode(&spelled(0x0036_20ef, 0, 0, net, 0)), 0),
         rule(20, &Match::decode(&spelled(0x0038_18ef, 0, net, 0, 0)), 0),
         rule(10, &Match::decode(&spelled(0x0036_20cf, 6, 0, net, 0)), 0),
+        rule(30, &Match::decode(&spelled(0x0036_20ef, 0, 0, net, 0)), 0),
     ];
     let policy = policy(alloc, &rules)?;
     let asked = spelled(0x0034_20cf, 6, 0, 0x0a01_0000, 0);
@@ -78,14 +80,73 @@ fn has_what_is_written(
     found.iter().any(|piece| piece.matches(h)) == (m.matches(h) && is_written)
 }
 
-fn are_distinct(found: &[Match]) -> bool {
-    let mut places = found.iter().enumerate();
-    places.all(|(place, piece)| found.iter().position(|other| other == piece) == Some(place))
+/// The meets of the match with the rules of the slice in rule order.
+fn meets(
+    alloc: Global,
+    policy: &SwitchPolicy,
+    slot: u8,
+    m: &Match,
+) -> Result<Vec<Match>, AllocError> {
+    let mut found = Vec::new(alloc);
+    for rule in policy.rules() {
+        if rule.writer == Some(slot) {
+            if let Some(shared) = meet(m, &rule.pattern) {
+                found.push(shared)?;
+            }
+        }
+    }
+    Ok(found)
+}
+
+/// Each of the matches once, at the place of its first.
+fn each_once(alloc: Global, given: &[Match]) -> Result<Vec<Match>, AllocError> {
+    let mut kept = Vec::new(alloc);
+    for m in given {
+        if !kept.contains(m) {
+            kept.push(*m)?;
+        }
+    }
+    Ok(kept)
+}
+
+/// What was met among drawn matches.
+#[derive(Clone, Copy, Debug, Default)]
+struct Tally {
+    without_pieces: u32,
+    of_several_pieces: u32,
+    with_repeats: u32,
+    headers_inside: u32,
+}
+
+fn count(counted: &mut u32, is_so: bool) {
+    *counted = counted.saturating_add(u32::from(is_so));
+}
+
+impl Tally {
+    fn count_list(&mut self, met: usize, pieces: usize) {
+        count(&mut self.without_pieces, pieces == 0);
+        count(&mut self.of_several_pieces, pieces > 1);
+        count(&mut self.with_repeats, pieces < met);
+    }
+
+    fn count_header(&mut self, found: &[Match], h: &Header12) {
+        let is_inside = found.iter().any(|piece| piece.matches(h));
+        count(&mut self.headers_inside, is_inside);
+    }
+
+    /// Each case came often enough that a fault in it would be seen.
+    fn is_rich(&self) -> bool {
+        self.without_pieces >= 500
+            && self.of_several_pieces >= 500
+            && self.with_repeats >= 200
+            && self.headers_inside >= 1500
+    }
 }
 
 #[test]
-fn pieces_agree_with_membership(rt: HostRuntime) -> Result<(), Fail> {
+fn pieces_stand_in_rule_order_and_agree_with_membership(rt: HostRuntime) -> Result<(), Fail> {
     let mut draws = Draws::new(1);
+    let mut tally = Tally::default();
     for number in 0..1000 {
         let mut rules = Vec::new(rt.alloc());
         for _ in 0..8 {
@@ -95,9 +156,13 @@ fn pieces_agree_with_membership(rt: HostRuntime) -> Result<(), Fail> {
         for slot in 0..2 {
             let m = draws.pattern();
             let found = pieces(rt.alloc(), &policy, slot, &m)?;
-            assert!(rt; are_distinct(&found), "case {number}: {found:?}");
+            let met = meets(rt.alloc(), &policy, slot, &m)?;
+            let expected = each_once(rt.alloc(), &met)?;
+            assert_eq!(rt; found.as_slice(), expected.as_slice(), "case {number}");
+            tally.count_list(met.len(), found.len());
             for _ in 0..16 {
                 let h = draws.header();
+                tally.count_header(&found, &h);
                 assert!(rt;
                     has_what_is_written(&policy, slot, &m, &found, &h),
                     "case {number}: {m:?} has {found:?} at {h:?}"
@@ -105,6 +170,7 @@ fn pieces_agree_with_membership(rt: HostRuntime) -> Result<(), Fail> {
             }
         }
     }
+    assert!(rt; tally.is_rich(), "{tally:?}");
     Ok(())
 }
 
