@@ -2,3 +2,4 @@ pub mod Loop
 pub mod Again
 pub mod Cut
 pub mod Lengths
+pub mod Refused

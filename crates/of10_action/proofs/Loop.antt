@@ -40,6 +40,20 @@ sizes bytes head e =
     let P : ℕ × ℕ → Type 0 = λ h. (8 ≤ h.1) × (h.1 ≤ length bytes) × (h.0 ≤ 11) × (h.1 ≡ size_of h.0) in
     subst P is (ltb-false _ _ first.1, ltb-false _ _ last.1, ltb-false _ _ d.0, known (eqb size (size_of kind)) (ActionLength size) size (size_of kind) (kind, size) head refl d.1)
 
+-- a head that is read is the two numbers that begin the bytes
+pub heads : (bytes : List ℕ) (head : ℕ × ℕ) → head_at bytes ≡ Ok head → (number_at bytes 0 2 ≡ head.0) × (number_at bytes 2 2 ≡ head.1)
+unfolding head_at
+heads bytes head e =
+    let kind = number_at bytes 0 2 in
+    let size = number_at bytes 2 2 in
+    let a = passed (ltb (length bytes) 4) (ActionLength 0) _ head e in
+    let b = passed (ltb (length bytes) 8 || ltb size 8 || not (eqb (size % 8) 0) || ltb (length bytes) size) (ActionLength size) _ head a.1 in
+    let c = passed (eqb kind 0xffff) ActionVendor _ head b.1 in
+    let d = passed (ltb 11 kind) (ActionKind kind) _ head c.1 in
+    let is : (kind, size) ≡ head = chosen (eqb size (size_of kind)) (ActionLength size) (kind, size) head d.1 in
+    let P : ℕ × ℕ → Type 0 = λ h. (kind ≡ h.0) × (size ≡ h.1) in
+    subst P is (refl, refl)
+
 pub bind_ok : {A B : Type 0} (r : Result A WireFault) (f : A → Result B WireFault) (y : B) → (r >>= f) ≡ Ok y → (x : A) × (r ≡ Ok x) × (f x ≡ Ok y)
 bind_ok (Ok x) f y e = (x, refl, e)
 bind_ok (Err d) f y e = absurd cc

@@ -1,5 +1,5 @@
 -- Reading a list of actions from front to back, with the first fault that is met (OpenFlow 1.0.0, sections 5.2.4 and 5.4.4).
-use Rattle.std.specs.Prelude.{◌≡◌, ℕ, zero, suc, ◌%◌, ◌==◌, ◌||◌, not, nat_lt, if◌then◌else◌, List, [], ◌∷◌, length, drop, slice_index, Result, Ok, Err}
+use Rattle.std.specs.Prelude.{◌≡◌, ℕ, zero, suc, ◌%◌, ◌==◌, ◌||◌, not, nat_lt, if◌then◌else◌, List, [], ◌∷◌, ◌++◌, ◌≤◌, length, drop, slice_index, Result, Ok, Err}
 use Rattle.of10_model.specs.Normal.{number_at}
 use Rattle.of10_action.specs.declared.action.Action.{Action}
 use Rattle.of10_action.specs.declared.action.Action.TheVariants.{Output, SetVlanVid, SetVlanPcp, StripVlan, SetDlSrc, SetDlDst, SetNwSrc, SetNwDst, SetNwTos, SetTpSrc, SetTpDst, Enqueue}
@@ -76,3 +76,13 @@ actions_at (suc n) (byte ∷ bytes) = do
 -- all actions in the bytes: there are no more than bytes, since none is empty
 abbrev pub read_all : List ℕ → Result (List Action) WireFault
 read_all bytes = actions_at (length bytes) bytes
+
+-- the fault of an action that is wrong, behind a list of actions that are right
+pub record IsFirstFault (bytes : List ℕ) (fault : WireFault) : Type 0 where
+  pub front : List ℕ
+  pub actions : List Action
+  pub rest : List ℕ
+  pub splits : bytes ≡ front ++ rest
+  pub right : read_all front ≡ Ok actions
+  pub more : 1 ≤ length rest
+  pub wrong : head_at rest ≡ Err fault

@@ -1,8 +1,9 @@
-ghost use Rattle.std.specs.Prelude.{◌≡◌, ◌<◌, ◌≤◌, ℕ, List, length, IfOk, Ok};
+ghost use Rattle.std.specs.Prelude.{◌≡◌, ◌<◌, ◌≤◌, ◌↔◌, ℕ, List, length, IfOk, Ok, Err};
 ghost use Rattle.std.specs.List.{All};
 ghost use Rattle.of10_action.specs.declared.action.Action.{Action};
+ghost use Rattle.of10_action.specs.declared.fault.WireFault.{WireFault};
 ghost use Rattle.of10_action.specs.Actions.{IsAction, HasAddress, size_of, spelling};
-ghost use Rattle.of10_action.specs.Reading.{Gives, Reads, head_at, action_of, action_at, actions_at, read_all};
+ghost use Rattle.of10_action.specs.Reading.{Gives, Reads, head_at, action_of, action_at, actions_at, read_all, IsFirstFault};
 
 use crate::action::{Action, Actions};
 use crate::encode::size;
@@ -127,4 +128,9 @@ pub fn reading_keeps_the_length()
 /// A count of no less than the bytes ends no reading early.
 pub fn count_ends_no_reading()
     ensures { (bytes : List ℕ) (n : ℕ) → length bytes ≤ n → actions_at n bytes ≡ read_all bytes }
+{}
+
+/// A list is refused exactly with the fault of the first action that is wrong.
+pub fn fault_is_of_the_first_wrong()
+    ensures { (bytes : List ℕ) (fault : WireFault) → (read_all bytes ≡ Err fault) ↔ IsFirstFault bytes fault }
 {}
