@@ -3,3 +3,5 @@ pub mod Walk
 pub mod Forms
 pub mod Told
 pub mod Untold
+pub mod Faulty
+pub mod Refused

@@ -20,7 +20,7 @@ pub number_first : (front more : List ℕ) (n : ℕ) → number_at (front ++ mor
 number_first front more n = ap (big_number n) (drop-append_seam front more)
 
 -- the numbers of a head, read from its start
-size_again : (t : Told) (rest : List ℕ) → length t.bytes < 2 ^ 32 → number_at (spell t ++ rest) 4 4 ≡ length t.bytes
+pub size_again : (t : Told) (rest : List ℕ) → length t.bytes < 2 ^ 32 → number_at (spell t ++ rest) 4 4 ≡ length t.bytes
 unfolding head_spelling
 size_again t rest h = big_number-reads_back 4 (length t.bytes) (big_bytes 8 t.moment ++ t.bytes ++ rest) h
 
@@ -28,19 +28,19 @@ moment_again : (t : Told) (rest : List ℕ) → t.moment < 2 ^ 64 → number_at 
 unfolding head_spelling
 moment_again t rest h = big_number-reads_back 8 t.moment (t.bytes ++ rest) h
 
-kind_again : (t : Told) (rest : List ℕ) → number_at (spell t ++ rest) 0 1 ≡ t.kind
+pub kind_again : (t : Told) (rest : List ℕ) → number_at (spell t ++ rest) 0 1 ≡ t.kind
 unfolding head_spelling
 kind_again t rest = omega arith
 
-switch_again : (t : Told) (rest : List ℕ) → number_at (spell t ++ rest) 1 1 ≡ t.switch
+pub switch_again : (t : Told) (rest : List ℕ) → number_at (spell t ++ rest) 1 1 ≡ t.switch
 unfolding head_spelling
 switch_again t rest = omega arith
 
-slot_again : (t : Told) (rest : List ℕ) → number_at (spell t ++ rest) 2 1 ≡ t.slot
+pub slot_again : (t : Told) (rest : List ℕ) → number_at (spell t ++ rest) 2 1 ≡ t.slot
 unfolding head_spelling
 slot_again t rest = omega arith
 
-head_again : (front rest : List ℕ) (t : Told) → length t.bytes < 2 ^ 32 → t.moment < 2 ^ 64 → item_at (front ++ (spell t ++ rest)) (length front) ≡ told_at (length front) t
+pub head_again : (front rest : List ℕ) (t : Told) → length t.bytes < 2 ^ 32 → t.moment < 2 ^ 64 → item_at (front ++ (spell t ++ rest)) (length front) ≡ told_at (length front) t
 unfolding item_at
 head_again front rest t small early =
     let more : List ℕ = spell t ++ rest in
@@ -57,7 +57,7 @@ head_again front rest t small early =
       moment_again t rest early,
     ) refl
 
-zero_again : (front rest : List ℕ) (t : Told) → number_at (front ++ (spell t ++ rest)) (length front + 3) 1 ≡ 0
+pub zero_again : (front rest : List ℕ) (t : Told) → number_at (front ++ (spell t ++ rest)) (length front + 3) 1 ≡ 0
 unfolding head_spelling
 zero_again front rest t = number_behind front (spell t ++ rest) 3 1
 
@@ -65,7 +65,7 @@ pub spell_length : (t : Told) → length (spell t) ≡ 16 + length t.bytes
 unfolding head_spelling
 spell_length t = omega arith
 
-with_rest : (front rest : List ℕ) (t : Told) → length (front ++ (spell t ++ rest)) ≡ length front + (16 + length t.bytes + length rest)
+pub with_rest : (front rest : List ℕ) (t : Told) → length (front ++ (spell t ++ rest)) ≡ length front + (16 + length t.bytes + length rest)
 with_rest front rest t =
     let a = length-append front (spell t ++ rest) in
     let b = length-append (spell t) rest in
@@ -76,13 +76,13 @@ limit_small : (b : Bool) → cond b 16777216 0 ≤ 16777216
 limit_small true = omega arith
 limit_small false = omega arith
 
-small : (slices reserved : ℕ) (r : Item) → is_formed slices reserved r ≡ true → r.size < 2 ^ 32
+pub small : (slices reserved : ℕ) (r : Item) → is_formed slices reserved r ≡ true → r.size < 2 ^ 32
 small slices reserved r e =
     let fits_limit = leb-true _ _ (and_parts _ (leb r.size (byte_limit r.kind)) e).1 in
     let limit : byte_limit r.kind ≤ 16777216 = limit_small _ in
     omega (arith, fits_limit, limit)
 
-record_again : (slices : ℕ) (front rest : List ℕ) (before : List Item) (t : Told) → t.moment < 2 ^ 64 → is_formed slices 0 (told_at (length front) t) ≡ true → fits before (told_at (length front) t) ≡ true
+pub record_again : (slices : ℕ) (front rest : List ℕ) (before : List Item) (t : Told) → t.moment < 2 ^ 64 → is_formed slices 0 (told_at (length front) t) ≡ true → fits before (told_at (length front) t) ≡ true
     → record_at slices (front ++ (spell t ++ rest)) before (length front) ≡ Ok (told_at (length front) t)
 unfolding record_at
 record_again slices front rest before t early formed fit =

@@ -17,21 +17,21 @@ use Rattle.recording.specs.Recordings.{◌>>=◌, Told, HasMoment, told_at, all_
 use Rattle.recording.proofs.Told.{number_first, number_behind, spell_length}
 
 -- each element is a byte, and so is the 0 that is read past the end
-abbrev AreBytes : List ℕ → Type 0
+abbrev pub AreBytes : List ℕ → Type 0
 AreBytes xs = (k : ℕ) → slice_index xs k < 256
 
 -- ---- bytes
 
-bytes_of : (xs : List ℕ) → All (λ b. b < 256) xs → AreBytes xs
+pub bytes_of : (xs : List ℕ) → All (λ b. b < 256) xs → AreBytes xs
 bytes_of xs all k = elim (cases_lt k (length xs)) [ inl lt ↦ all k 0 lt | inr le ↦ rw (get_or_past xs k 0 le) (omega arith) ]
 
-bytes-drop : (xs : List ℕ) (n : ℕ) → AreBytes xs → AreBytes (drop n xs)
+pub bytes-drop : (xs : List ℕ) (n : ℕ) → AreBytes xs → AreBytes (drop n xs)
 bytes-drop xs n bytes k = rw (get_or-drop n xs k 0) (bytes (n + k))
 
-bytes-behind : (xs front rest : List ℕ) → AreBytes xs → xs ≡ front ++ rest → AreBytes rest
+pub bytes-behind : (xs front rest : List ℕ) → AreBytes xs → xs ≡ front ++ rest → AreBytes rest
 bytes-behind xs front rest bytes is = let later = bytes-drop xs (length front) bytes in rw (is, drop-append_seam front rest) at later
 
-size_at : (front more : List ℕ) → (item_at (front ++ more) (length front)).size ≡ number_at more 4 4
+pub size_at : (front more : List ℕ) → (item_at (front ++ more) (length front)).size ≡ number_at more 4 4
 unfolding item_at
 size_at front more = number_behind front more 4 4
 
@@ -71,7 +71,7 @@ same_head : (a a' b b' c c' d d' : ℕ) (four four' eight eight' rest : List ℕ
 same_head a a' b b' c c' d d' four four' eight eight' rest ha hb hc hd hf he = rw (ha, hb, hc, hd, hf, he) refl
 
 -- a head that is all there, with a zero byte, is the spelling of what it says
-head_spelled : (xs : List ℕ) → AreBytes xs → 16 ≤ length xs → number_at xs 3 1 ≡ 0
+pub head_spelled : (xs : List ℕ) → AreBytes xs → 16 ≤ length xs → number_at xs 3 1 ≡ 0
     → head_spelling (number_at xs 0 1) (number_at xs 1 1) (number_at xs 2 1) (number_at xs 4 4) (number_at xs 8 8) ++ drop 16 xs ≡ xs
 unfolding head_spelling
 head_spelled [] bytes long none = absurd (omega arith)
@@ -105,14 +105,14 @@ head_spelled (x0 ∷ x1 ∷ x2 ∷ x3 ∷ x4 ∷ x5 ∷ x6 ∷ x7 ∷ x8 ∷ x9 
 -- ---- one record
 
 -- what the record that these bytes begin with tells
-abbrev told_of : List ℕ → ℕ → Told
+abbrev pub told_of : List ℕ → ℕ → Told
 told_of xs size = record { kind = number_at xs 0 1; switch = number_at xs 1 1; slot = number_at xs 2 1; moment = number_at xs 8 8; bytes = take size (drop 16 xs) }
 
 passed : {A : Type 0} (b : Bool) (fault : RecordingFault) (r : Result A RecordingFault) (x : A) → cond b (Err fault) r ≡ Ok x → (b ≡ false) × (r ≡ Ok x)
 passed true fault r x e = absurd cc
 passed false fault r x e = (refl, e)
 
-not-false : (b : Bool) → not b ≡ false → b ≡ true
+pub not-false : (b : Bool) → not b ≡ false → b ≡ true
 not-false true e = refl
 not-false false e = absurd cc
 
@@ -123,14 +123,14 @@ ok_is : (x y : Item) → IsOk y (Ok x) → x ≡ y
 ok_is x y e = cc
 
 -- the bytes spell the record, and what is left
-record Begins (slices : ℕ) (front more : List ℕ) (before : List Item) (r : Item) : Type 0 where
-  told : Told
-  rest : List ℕ
-  spelled : more ≡ spell told ++ rest
-  is_told : r ≡ told_at (length front) told
-  moment : HasMoment told
-  formed : is_formed slices 0 r ≡ true
-  fit : fits before r ≡ true
+pub record Begins (slices : ℕ) (front more : List ℕ) (before : List Item) (r : Item) : Type 0 where
+  pub told : Told
+  pub rest : List ℕ
+  pub spelled : more ≡ spell told ++ rest
+  pub is_told : r ≡ told_at (length front) told
+  pub moment : HasMoment told
+  pub formed : is_formed slices 0 r ≡ true
+  pub fit : fits before r ≡ true
 
 item_told : (front more : List ℕ) (size : ℕ) → number_at more 4 4 ≡ size → size + 16 ≤ length more → item_at (front ++ more) (length front) ≡ told_at (length front) (told_of more size)
 unfolding item_at
@@ -139,13 +139,13 @@ item_told front more size is long =
     let taken : length (take size (drop 16 more)) ≡ size = length-take-le size (drop 16 more) (omega arith) in
     rw (number_first front more 1, number_behind front more 1 1, number_behind front more 2 1, number_behind front more 8 8, number_behind front more 4 4, taken, is) refl
 
-zero_formed : (slices reserved : ℕ) (r : Item) → is_formed slices reserved r ≡ true → (reserved ≡ 0) × (is_formed slices 0 r ≡ true)
+pub zero_formed : (slices reserved : ℕ) (r : Item) → is_formed slices reserved r ≡ true → (reserved ≡ 0) × (is_formed slices 0 r ≡ true)
 zero_formed slices reserved r e =
     let whole = and_parts _ (leb r.size (byte_limit r.kind)) e in
     let none : reserved ≡ 0 = eqb-true reserved 0 (and_parts _ (reserved == 0) whole.0).1 in
     (none, rw none at e)
 
-told_spelled : (more : List ℕ) (size : ℕ) → AreBytes more → number_at more 4 4 ≡ size → size + 16 ≤ length more → number_at more 3 1 ≡ 0 → more ≡ spell (told_of more size) ++ drop size (drop 16 more)
+pub told_spelled : (more : List ℕ) (size : ℕ) → AreBytes more → number_at more 4 4 ≡ size → size + 16 ≤ length more → number_at more 3 1 ≡ 0 → more ≡ spell (told_of more size) ++ drop size (drop 16 more)
 told_spelled more size bytes is long none =
     let left : length (drop 16 more) ≡ length more - 16 = length-drop 16 more in
     let taken : length (take size (drop 16 more)) ≡ size = length-take-le size (drop 16 more) (omega arith) in
@@ -153,7 +153,7 @@ told_spelled more size bytes is long none =
     let begins : head ++ drop 16 more ≡ more = rw is at (head_spelled more bytes (omega arith) none) in
     sym (rw taken (append_assoc head (take size (drop 16 more)) (drop size (drop 16 more)) ∙ ap (λ l. head ++ l) (take-append-drop size (drop 16 more)) ∙ begins))
 
-begins : (slices : ℕ) (front more : List ℕ) (before : List Item) (r : Item) → AreBytes more → record_at slices (front ++ more) before (length front) ≡ Ok r → Begins slices front more before r
+pub begins : (slices : ℕ) (front more : List ℕ) (before : List Item) (r : Item) → AreBytes more → record_at slices (front ++ more) before (length front) ≡ Ok r → Begins slices front more before r
 unfolding record_at
 begins slices front more before r bytes e =
     let all : List ℕ = front ++ more in
@@ -182,7 +182,7 @@ begins slices front more before r bytes e =
       fit = rw is at (not-false _ d.0);
     }
 
-length-begins : (slices : ℕ) (front more : List ℕ) (before : List Item) (r : Item) (b : Begins slices front more before r) → length (front ++ spell b.told) ≡ r.from + r.size
+pub length-begins : (slices : ℕ) (front more : List ℕ) (before : List Item) (r : Item) (b : Begins slices front more before r) → length (front ++ spell b.told) ≡ r.from + r.size
 length-begins slices front more before r b =
     let from_is : r.from ≡ length front + 16 = ap (λ i. i.from) b.is_told in
     let size_is : r.size ≡ length b.told.bytes = ap (λ i. i.size) b.is_told in
