@@ -6,3 +6,4 @@ pub mod Completed
 pub mod Taking
 pub mod Phases
 pub mod Seen
+pub mod Telling

@@ -6,7 +6,7 @@ ghost use Rattle.flowspace.specs.Policies.{PolicyView};
 ghost use Rattle.recording.specs.Recordings.{Told};
 ghost use Rattle.desk_words.specs.declared.event.Timed.{Timed};
 ghost use Rattle.desk_words.specs.Operations.{Operation, IsLegal, queue_of, lane_of};
-ghost use Rattle.desk_words.specs.Laws.{IsPhaseByEvents, IsAlone, AreAlike, IsErasable, IsBlindBefore, IsSilentUntilUp, IsDownAfterDown, IsUpByEvents, sent_since, taken_since, lane_since, lane_taken_since, AreInOrder, AreCompletedOnce, SeesItsSwitch, AreKnownInOrder};
+ghost use Rattle.desk_words.specs.Laws.{IsPhaseByEvents, IsAlone, AreAlike, IsErasable, IsBlindBefore, IsSilentUntilUp, IsDownAfterDown, IsUpByEvents, sent_since, taken_since, lane_since, lane_taken_since, AreInOrder, AreCompletedOnce, SeesItsSwitch, AreKnownInOrder, AreKnownAsTold};
 
 /// The switch's connection has ended where, after it came, it went or a message of a bad length came; the
 /// opening is the first FEATURES_REPLY between.
@@ -65,4 +65,10 @@ pub fn frames_are_completed_once()
 pub fn slice_sees_its_switch()
     ensures seen { (policy : PolicyView) (slot : ℕ) (h : List Timed) (features : Features) → SeesItsSwitch policy slot h features }
     ensures order { (h : List Timed) → AreKnownInOrder h }
+{}
+
+/// No port is known before the switch tells what it is. Then the known ports are those of its features,
+/// changed by each status that it sent since.
+pub fn ports_are_known_as_told()
+    ensures { (h : List Timed) → AreKnownAsTold h }
 {}
