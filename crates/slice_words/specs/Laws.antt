@@ -52,7 +52,7 @@ IsSetByTheLast later message moment earlier =
     is_set (Msg message moment) ≡ true → list_any tells_length later ≡ false
     → miss_send_len (later ++ Msg message moment ∷ earlier) ≡ miss_send_len_of message
 
--- it is 128 where nothing was set since an item that forgets (section 4.1)
+-- it is 128 where nothing was set since an item that forgets (section 4.1.2)
 abbrev pub IsForgotten : List Item → Item → List Item → Type 0
 IsForgotten later item earlier = is_forgetting item ≡ true → list_any is_set later ≡ false → miss_send_len (later ++ item ∷ earlier) ≡ 128
 
