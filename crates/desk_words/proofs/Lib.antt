@@ -7,3 +7,4 @@ pub mod Taking
 pub mod Phases
 pub mod Seen
 pub mod Telling
+pub mod Making

@@ -1,5 +1,5 @@
 -- Statements about histories and operations. `src/laws.rt` has a function for each, which is proved.
-use Rattle.std.specs.Prelude.{ℕ, ◌≡◌, ◌==◌, ◌&&◌, ◌||◌, not, Bool, true, false, if◌then◌else◌, List, [], ◌∷◌, ◌++◌, filter, filter_map, length, is_some, IfSome, ◌≤◌, Option, Some, None}
+use Rattle.std.specs.Prelude.{ℕ, ◌≡◌, ◌==◌, ◌&&◌, ◌||◌, not, Bool, true, false, if◌then◌else◌, List, [], ◌∷◌, ◌++◌, filter, filter_map, length, map, take, reverse, is_some, IfSome, ◌<◌, ◌≤◌, Option, Some, None}
 use Rattle.std.specs.List.{list_any}
 use Rattle.std.specs.Option.{option_or}
 use Rattle.of10_ctl.specs.Frames.{is_bad}
@@ -8,7 +8,7 @@ use Rattle.of10_port.specs.declared.status.PortStatus.{PortStatus}
 use Rattle.of10_ctl.specs.Streams.{frames_of, AreFirst}
 use Rattle.flowspace.specs.Policies.{PolicyView}
 use Rattle.port_view.specs.KnownPorts.{IsAscending, known_of as known_by}
-use Rattle.recording.specs.Recordings.{Told}
+use Rattle.recording.specs.Recordings.{Told, switch_bytes, slice_bytes}
 use Rattle.outbox.specs.Queues.{Queue}
 use Rattle.slice_words.specs.Messages.{is_dismissing}
 use Rattle.slice_words.specs.Items.{features_in, known_ports}
@@ -21,9 +21,9 @@ use Rattle.desk_words.specs.declared.answer.Taken.TheVariants.{Message}
 use Rattle.desk_words.specs.Openings.{features_told, status_told, phase_of, opening_of, known_of, switch_of}
 use Rattle.desk_words.specs.Histories.{is_slot, settings_at, own_ports, own_features, side_start, side_of, view_of, is_open, is_slice_up}
 use Rattle.desk_words.specs.Sent.{sent_by, sent, lane_by}
-use Rattle.desk_words.specs.Verdicts.{is_fresh, is_ended, is_switch_up}
+use Rattle.desk_words.specs.Verdicts.{is_fresh, is_ended, is_over, is_switch_up}
 use Rattle.desk_words.specs.Operations.{Operation, Step, Take, takes_in, events_of, empties_slice, ends, is_slice, is_switch}
-use Rattle.desk_words.specs.Recorded.{stream_before}
+use Rattle.desk_words.specs.Recorded.{stream_before, timed_at, happenings, next_after, history_of, history_at, events_in}
 
 -- ---- the switch's connection
 
@@ -232,3 +232,34 @@ statuses_since h = filter_map (λ timed. status_with timed.event) (after_opening
 pub record AreKnownAsTold (h : List Timed) : Type 0 where
   pub before : opening_of h ≡ None → known_of h ≡ []
   pub since : (features : Features) → opening_of h ≡ Some features → known_of h ≡ known_by features (statuses_since h)
+
+-- ---- the events of a recording
+
+-- the connection that a record brings bytes of is there after a history: the switch's hasn't ended, or the slice is up. Other records need none
+abbrev pub is_there : PolicyView → Told → List Timed → Bool
+is_there policy r h = if r.kind == switch_bytes then not (is_ended (phase_of h)) else if r.kind == slice_bytes then is_slice_up policy r.slot h else true
+
+-- the history after the first of what a record can make happen
+abbrev pub after_first : PolicyView → Told → List Told → ℕ → List Timed
+after_first policy r before k = next_after (history_at policy r before) (map (timed_at r.moment) (take k (happenings r before)))
+
+-- a record's events are the first of what it can make happen: its connection is there before each of them, and isn't there after them where any is left
+pub record MakesTheFirst (policy : PolicyView) (r : Told) (before : List Told) : Type 0 where
+  pub count : ℕ
+  pub within : count ≤ length (happenings r before)
+  pub events : events_in policy r before ≡ map (timed_at r.moment) (take count (happenings r before))
+  pub there : (k : ℕ) → k < count → is_there policy r (after_first policy r before k) ≡ true
+  pub gone : count < length (happenings r before) → is_there policy r (after_first policy r before count) ≡ false
+
+-- a history gets the first of events that come one after another: it isn't over before each of them, and is over after them where any is left
+pub record GetsTheFirst (h events : List Timed) : Type 0 where
+  pub count : ℕ
+  pub within : count ≤ length events
+  pub history : next_after h events ≡ reverse (take count events) ++ h
+  pub going : (k : ℕ) → k < count → is_over (reverse (take k events) ++ h) ≡ false
+  pub over : count < length events → is_over (reverse (take count events) ++ h) ≡ true
+
+-- a record's events come in the history of its switch, and the history of every other switch stays
+pub record ComeAtTheirSwitch (policy : PolicyView) (r : Told) (before : List Told) : Type 0 where
+  pub own : history_of policy r.switch (r ∷ before) ≡ next_after (history_at policy r before) (events_in policy r before)
+  pub others : (switch : ℕ) → (r.switch == switch) ≡ false → history_of policy switch (r ∷ before) ≡ history_of policy switch before
