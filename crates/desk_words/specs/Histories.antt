@@ -145,7 +145,7 @@ abbrev pub side_of : PolicyView → ℕ → List Timed → Side
 side_of policy slot [] = side_start
 side_of policy slot (timed ∷ h) = with_shown timed (items_of policy slot (switch_of h) (side_of policy slot h) timed) (side_of policy slot h)
 
--- its view alone
+-- the view of the slice at a slot after a history
 abbrev pub view_of : PolicyView → ℕ → List Timed → List Item
 view_of policy slot h = (side_of policy slot h).sight.view
 
