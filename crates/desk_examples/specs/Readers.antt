@@ -1,15 +1,14 @@
 -- Worked examples of readers: alice writes TCP packets for port 80, and bob reads all others, which nobody writes.
 use Rattle.std.specs.Prelude.{[], ◌∷◌, codes, None}
-use Rattle.of10_model.specs.declared.pattern.Pattern.{Pattern}
+use Rattle.of10_model.specs.Exact.{all_free}
 use Rattle.flowspace.specs.Policies.{PolicyView}
 use Rattle.recording.specs.Recordings.{switch_bytes}
-use Rattle.desk_words.specs.Sent.{everything}
 use Rattle.desk_examples.specs.Examples.{named, tcp_to, written, told, Follows}
 
 abbrev pub reader_policy : PolicyView
 reader_policy = record {
   slices = named (codes "alice") ∷ named (codes "bob") ∷ [];
-  rules = written 100 0 (tcp_to 80) ∷ record { switch = None; priority = 10; pattern = everything; writer = None; readers = 2 } ∷ [];
+  rules = written 100 0 (tcp_to 80) ∷ record { switch = None; priority = 10; pattern = all_free; writer = None; readers = 2 } ∷ [];
 }
 
 -- a TCP packet for port 80 reaches alice alone

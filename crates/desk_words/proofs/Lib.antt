@@ -6,3 +6,5 @@ pub mod Completed
 pub mod Taking
 pub mod Phases
 pub mod Seen
+pub mod Telling
+pub mod Making

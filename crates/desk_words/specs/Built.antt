@@ -25,6 +25,7 @@ is_unbuilt_of_slice message = is_one_of (PACKET_OUT ∷ FLOW_MOD ∷ STATS_REQUE
 abbrev pub is_special : PacketIn → Bool
 is_special packet = not (packet.buffer == no_buffer) || is_some (probe_slot_of packet.payload)
 
+-- a PACKET_IN of such a packet (section 5.4.1)
 abbrev pub is_special_packet_in : List ℕ → Bool
 is_special_packet_in message = is_of PACKET_IN message && elim (well_formed (read_packet_in message)) [ None ↦ false | Some packet ↦ is_special packet ]
 
@@ -48,6 +49,7 @@ pub record Lack : Type 0 where
 abbrev pub head_place : Item → ℕ
 head_place item = item.from - 16
 
+-- the lack that a message of an item's bytes shows
 abbrev pub lack_of : Item → List ℕ → Lack
 lack_of item message = record { kind = kind_of message; at = head_place item }
 

@@ -56,6 +56,7 @@ pub record Side : Type 0 where
   pub sight : Sight
   pub numbered : List Numbered
 
+-- what a slice sees before anything came
 abbrev pub side_start : Side
 side_start = record { sight = record { view = []; came = [] }; numbered = [] }
 
@@ -74,6 +75,7 @@ abbrev pub handed : Share → PacketIn → Item
 handed share packet =
     Handed (record { share = share; total_len = packet.total_len; in_port = packet.in_port; reason = packet.reason; payload = packet.payload })
 
+-- the header of a packet that came in at a port
 abbrev pub header_in : PacketIn → Header
 header_in packet = header_of_packet packet.in_port packet.payload
 
@@ -143,9 +145,7 @@ abbrev pub side_of : PolicyView → ℕ → List Timed → Side
 side_of policy slot [] = side_start
 side_of policy slot (timed ∷ h) = with_shown timed (items_of policy slot (switch_of h) (side_of policy slot h) timed) (side_of policy slot h)
 
-abbrev pub sight_of : PolicyView → ℕ → List Timed → Sight
-sight_of policy slot h = (side_of policy slot h).sight
-
+-- the view of the slice at a slot after a history
 abbrev pub view_of : PolicyView → ℕ → List Timed → List Item
 view_of policy slot h = (side_of policy slot h).sight.view
 
@@ -165,6 +165,7 @@ abbrev pub header_numbered : ℕ → Option PacketIn → Option Header
 header_numbered number None = None
 header_numbered number (Some packet) = if packet.buffer == number && not (number == no_buffer) then Some (header_in packet) else None
 
+-- the same by an event, where that is such a packet-in (section 5.4.1)
 abbrev pub header_handed : ℕ → Event → Option Header
 header_handed number (SwitchMsg message) = if is_of PACKET_IN message then header_numbered number (well_formed (read_packet_in message)) else None
 header_handed number event = None

@@ -1,13 +1,14 @@
 -- Statements about histories and operations. `src/laws.rt` has a function for each, which is proved.
-use Rattle.std.specs.Prelude.{ℕ, ◌≡◌, ◌==◌, ◌&&◌, ◌||◌, not, Bool, true, false, if◌then◌else◌, List, [], ◌∷◌, ◌++◌, filter, length, is_some, IfSome, ◌≤◌, Option, Some, None}
+use Rattle.std.specs.Prelude.{ℕ, ◌≡◌, ◌==◌, ◌&&◌, ◌||◌, not, Bool, true, false, if◌then◌else◌, List, [], ◌∷◌, ◌++◌, filter, filter_map, length, map, take, reverse, is_some, IfSome, ◌<◌, ◌≤◌, Option, Some, None}
 use Rattle.std.specs.List.{list_any}
 use Rattle.std.specs.Option.{option_or}
 use Rattle.of10_ctl.specs.Frames.{is_bad}
 use Rattle.of10_port.specs.declared.features.Features.{Features}
+use Rattle.of10_port.specs.declared.status.PortStatus.{PortStatus}
 use Rattle.of10_ctl.specs.Streams.{frames_of, AreFirst}
 use Rattle.flowspace.specs.Policies.{PolicyView}
-use Rattle.port_view.specs.KnownPorts.{IsAscending}
-use Rattle.recording.specs.Recordings.{Told}
+use Rattle.port_view.specs.KnownPorts.{IsAscending, known_of as known_by}
+use Rattle.recording.specs.Recordings.{Told, switch_bytes, slice_bytes}
 use Rattle.outbox.specs.Queues.{Queue}
 use Rattle.slice_words.specs.Messages.{is_dismissing}
 use Rattle.slice_words.specs.Items.{features_in, known_ports}
@@ -17,12 +18,12 @@ use Rattle.desk_words.specs.declared.event.Event.TheVariants.{SwitchUp, SwitchMs
 use Rattle.desk_words.specs.declared.event.Timed.{Timed}
 use Rattle.desk_words.specs.declared.answer.Taken.{Taken}
 use Rattle.desk_words.specs.declared.answer.Taken.TheVariants.{Message}
-use Rattle.desk_words.specs.Openings.{features_told, phase_of, opening_of, known_of, switch_of}
+use Rattle.desk_words.specs.Openings.{features_told, status_told, phase_of, opening_of, known_of, switch_of}
 use Rattle.desk_words.specs.Histories.{is_slot, settings_at, own_ports, own_features, side_start, side_of, view_of, is_open, is_slice_up}
 use Rattle.desk_words.specs.Sent.{sent_by, sent, lane_by}
-use Rattle.desk_words.specs.Verdicts.{is_fresh, is_ended, is_switch_up}
+use Rattle.desk_words.specs.Verdicts.{is_fresh, is_ended, is_over, is_switch_up}
 use Rattle.desk_words.specs.Operations.{Operation, Step, Take, takes_in, events_of, empties_slice, ends, is_slice, is_switch}
-use Rattle.desk_words.specs.Recorded.{stream_before}
+use Rattle.desk_words.specs.Recorded.{stream_before, timed_at, happenings, next_after, history_of, history_at, events_in}
 
 -- ---- the switch's connection
 
@@ -152,11 +153,12 @@ IsUpByEvents policy slot h =
 
 -- ---- what is taken
 
+-- the message that a take was answered by, if it was
 abbrev pub message_in : Taken → List (List ℕ)
 message_in (Message message) = message ∷ []
 message_in taken = []
 
--- what a slice was sent since its queue was last emptied, and what was taken for it since
+-- what a slice was sent since its queue was last emptied
 abbrev pub sent_since : PolicyView → ℕ → List Operation → List (List ℕ)
 sent_since policy slot [] = []
 sent_since policy slot (Step timed reply ∷ before) =
@@ -164,6 +166,7 @@ sent_since policy slot (Step timed reply ∷ before) =
     else sent_since policy slot before
 sent_since policy slot (Take dest taken ∷ before) = sent_since policy slot before
 
+-- what was taken for it since then
 abbrev pub taken_since : PolicyView → ℕ → List Operation → List (List ℕ)
 taken_since policy slot [] = []
 taken_since policy slot (Step timed reply ∷ before) =
@@ -171,7 +174,7 @@ taken_since policy slot (Step timed reply ∷ before) =
     else taken_since policy slot before
 taken_since policy slot (Take dest taken ∷ before) = if is_slice slot dest then taken_since policy slot before ++ message_in taken else taken_since policy slot before
 
--- the same of the switch
+-- what the switch was sent since its queue was last emptied
 abbrev pub lane_since : PolicyView → List Operation → List (List ℕ)
 lane_since policy [] = []
 lane_since policy (Step timed reply ∷ before) =
@@ -179,6 +182,7 @@ lane_since policy (Step timed reply ∷ before) =
     else lane_since policy before
 lane_since policy (Take dest taken ∷ before) = lane_since policy before
 
+-- what was taken for the switch since then
 abbrev pub lane_taken_since : PolicyView → List Operation → List (List ℕ)
 lane_taken_since policy [] = []
 lane_taken_since policy (Step timed reply ∷ before) =
@@ -199,11 +203,12 @@ AreCompletedOnce r before = AreFirst (frames_of (stream_before r before)) (frame
 
 -- ---- what a slice has seen of its switch
 
--- once the switch has told what it is, a slice of the policy has seen its features, and of the known ports it knows its own
+-- a slice has seen the features of its switch, and of the known ports it knows its own
 pub record HasSeen (policy : PolicyView) (slot : ℕ) (h : List Timed) (features : Features) : Type 0 where
   pub features_seen : features_in (view_of policy slot h) ≡ Some (own_features (settings_at policy slot (Some features)) features)
   pub ports_known : known_ports (view_of policy slot h) ≡ own_ports (settings_at policy slot (Some features)) (known_of h)
 
+-- so it is for each slice of the policy once the switch has told what it is
 abbrev pub SeesItsSwitch : PolicyView → ℕ → List Timed → Features → Type 0
 SeesItsSwitch policy slot h features = opening_of h ≡ Some features → is_slot policy slot ≡ true → HasSeen policy slot h features
 
@@ -211,3 +216,50 @@ SeesItsSwitch policy slot h features = opening_of h ≡ Some features → is_slo
 pub record AreKnownInOrder (h : List Timed) : Type 0 where
   pub ascending : IsAscending (known_of h)
   pub few : IfSome (opening_of h) (λ features. length features.ports ≤ 1364) → length (known_of h) ≤ 1364
+
+-- ---- the known ports, by the events
+
+-- what an event tells of a port (section 5.4.3)
+abbrev pub status_with : Event → Option PortStatus
+status_with (SwitchMsg message) = status_told message
+status_with event = None
+
+-- the statuses that the switch sent since it told what it is, newest first
+abbrev pub statuses_since : List Timed → List PortStatus
+statuses_since h = filter_map (λ timed. status_with timed.event) (after_opening h)
+
+-- no port is known before the switch tells what it is; then those are known that follow from its features and its statuses since
+pub record AreKnownAsTold (h : List Timed) : Type 0 where
+  pub before : opening_of h ≡ None → known_of h ≡ []
+  pub since : (features : Features) → opening_of h ≡ Some features → known_of h ≡ known_by features (statuses_since h)
+
+-- ---- the events of a recording
+
+-- the connection that a record brings bytes of is there after a history: the switch's hasn't ended, or the slice is up. Other records need none
+abbrev pub is_there : PolicyView → Told → List Timed → Bool
+is_there policy r h = if r.kind == switch_bytes then not (is_ended (phase_of h)) else if r.kind == slice_bytes then is_slice_up policy r.slot h else true
+
+-- the history after the first of what a record can make happen
+abbrev pub after_first : PolicyView → Told → List Told → ℕ → List Timed
+after_first policy r before k = next_after (history_at policy r before) (map (timed_at r.moment) (take k (happenings r before)))
+
+-- a record's events are the first of what it can make happen: its connection is there before each of them, and isn't there after them where any is left
+pub record MakesTheFirst (policy : PolicyView) (r : Told) (before : List Told) : Type 0 where
+  pub count : ℕ
+  pub within : count ≤ length (happenings r before)
+  pub events : events_in policy r before ≡ map (timed_at r.moment) (take count (happenings r before))
+  pub there : (k : ℕ) → k < count → is_there policy r (after_first policy r before k) ≡ true
+  pub gone : count < length (happenings r before) → is_there policy r (after_first policy r before count) ≡ false
+
+-- a history gets the first of events that come one after another: it isn't over before each of them, and is over after them where any is left
+pub record GetsTheFirst (h events : List Timed) : Type 0 where
+  pub count : ℕ
+  pub within : count ≤ length events
+  pub history : next_after h events ≡ reverse (take count events) ++ h
+  pub going : (k : ℕ) → k < count → is_over (reverse (take k events) ++ h) ≡ false
+  pub over : count < length events → is_over (reverse (take count events) ++ h) ≡ true
+
+-- a record's events come in the history of its switch, and the history of every other switch stays
+pub record ComeAtTheirSwitch (policy : PolicyView) (r : Told) (before : List Told) : Type 0 where
+  pub own : history_of policy r.switch (r ∷ before) ≡ next_after (history_at policy r before) (events_in policy r before)
+  pub others : (switch : ℕ) → (r.switch == switch) ≡ false → history_of policy switch (r ∷ before) ≡ history_of policy switch before

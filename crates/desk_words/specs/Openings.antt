@@ -1,5 +1,5 @@
 -- How far a switch's connection is, and what the switch told, by a history: the events of a desk, newest first. Sections are those of OpenFlow 1.0.0.
-use Rattle.std.specs.Prelude.{ℕ, ◌==◌, ◌&&◌, not, Bool, if◌then◌else◌, List, [], ◌∷◌, Option, Some, None, Result, Ok, Err}
+use Rattle.std.specs.Prelude.{ℕ, if◌then◌else◌, List, [], ◌∷◌, Option, Some, None, Result, Ok, Err}
 use Rattle.of10_action.specs.declared.fault.WireFault.{WireFault}
 use Rattle.of10_ctl.specs.declared.kind.TheConstants.{FEATURES_REPLY, PORT_STATUS}
 use Rattle.of10_ctl.specs.Frames.{is_bad}
@@ -12,7 +12,6 @@ use Rattle.flowspace.specs.declared.rules.Rule.{Rule}
 use Rattle.flowspace.specs.Order.{rules_on}
 use Rattle.flowspace.specs.Policies.{PolicyView}
 use Rattle.port_view.specs.KnownPorts.{first_known, changed}
-use Rattle.slice_words.specs.Messages.{version_of, is_kind}
 use Rattle.desk_words.specs.declared.event.Event.{Event}
 use Rattle.desk_words.specs.declared.event.Event.TheVariants.{SwitchUp, SwitchMsg, SwitchDown}
 use Rattle.desk_words.specs.declared.event.Timed.{Timed}
@@ -40,6 +39,7 @@ status_told message = if is_of PORT_STATUS message then well_formed (read_port_s
 abbrev pub begun_after : List ℕ → Phase
 begun_after message = if is_bad message then Ended else elim (features_told message) [ None ↦ Begun | Some features ↦ Opened ]
 
+-- after the opening only a message of a bad length moves on
 abbrev pub opened_after : List ℕ → Phase
 opened_after message = if is_bad message then Ended else Opened
 
@@ -55,6 +55,7 @@ phase_after Opened SwitchDown = Ended
 phase_after Opened event = Opened
 phase_after Ended event = Ended
 
+-- how far the connection is after a history
 abbrev pub phase_of : List Timed → Phase
 phase_of [] = Fresh
 phase_of (timed ∷ h) = phase_after (phase_of h) timed.event
@@ -96,11 +97,13 @@ known_of (timed ∷ h) = known_after (phase_of h) (known_of h) timed.event
 
 -- ---- all that is known of a switch
 
+-- how far its connection is, what it told of itself first, and its ports
 pub record Switch : Type 0 where
   pub phase : Phase
   pub features : Option Features
   pub known : List (List ℕ)
 
+-- each of these after an event
 abbrev pub switch_after : Switch → Event → Switch
 switch_after switch event = record {
   phase = phase_after switch.phase event;

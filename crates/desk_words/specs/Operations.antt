@@ -38,10 +38,11 @@ events_of (Take dest taken ∷ before) = events_of before
 
 -- ---- what waits
 
--- how many bytes may wait for a slice, and for the switch
+-- how many bytes may wait for a slice
 abbrev pub slice_limit : ℕ
 slice_limit = 4194304
 
+-- how many may wait for the switch
 abbrev pub lane_limit : ℕ
 lane_limit = 1048576
 
@@ -51,6 +52,7 @@ empties slot up (SliceDown other) = other == slot
 empties slot up (SliceUp other) = other == slot && up
 empties slot up event = false
 
+-- the same of an event after a history
 abbrev pub empties_slice : PolicyView → ℕ → List Timed → Timed → Bool
 empties_slice policy slot h timed = empties slot (is_slice_up policy slot (timed ∷ h)) timed.event
 
@@ -66,10 +68,12 @@ queue_event policy slot h timed q = push_all slice_limit (if empties_slice polic
 abbrev pub lane_event : PolicyView → List Timed → Timed → Queue → Queue
 lane_event policy h timed q = push_all lane_limit (if ends h timed then no_messages else q) (lane_by policy h timed)
 
+-- a destination is the switch
 abbrev pub is_switch : Dest → Bool
 is_switch Switch = true
 is_switch (Slice slot) = false
 
+-- it is the slice at a slot
 abbrev pub is_slice : ℕ → Dest → Bool
 is_slice slot Switch = false
 is_slice slot (Slice other) = other == slot

@@ -34,6 +34,7 @@ completed r before = drop (length (frames_of (stream_before r before))) (frames_
 
 -- ---- events
 
+-- an event comes at the moment of its record, in milliseconds
 abbrev pub timed_at : ℕ → Event → Timed
 timed_at moment event = record { event = event; moment = moment }
 
@@ -57,6 +58,7 @@ happens policy h event = true
 abbrev pub next_of : List Timed → Timed → List Timed
 next_of h timed = if is_over h then h else timed ∷ h
 
+-- the history after events that come one after another
 abbrev pub next_after : List Timed → List Timed → List Timed
 next_after h [] = h
 next_after h (timed ∷ later) = next_after (next_of h timed) later

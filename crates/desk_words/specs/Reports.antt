@@ -19,16 +19,19 @@ pub record Place : Type 0 where
   pub number : ℕ
   pub switch : ℕ
 
+-- a line begins with both numbers in decimal, each with a space behind it
 abbrev pub place_text : Place → List ℕ
 place_text place = decimal place.number ++ codes " " ++ decimal place.switch ++ codes " "
 
+-- a line at its place
 abbrev pub line : Place → List ℕ → List ℕ
 line place text = place_text place ++ text ++ codes "\n"
 
--- a line for each message: for the switch, or for the slice of a name
+-- a line for each message for the switch
 abbrev pub lane_lines : Place → List (List ℕ) → List ℕ
 lane_lines place messages = flat_map (λ message. line place (codes "lane " ++ encode_lower message)) messages
 
+-- a line for each message for the slice of a name
 abbrev pub slice_lines : Place → List ℕ → List (List ℕ) → List ℕ
 slice_lines place name messages = flat_map (λ message. line place (codes "to " ++ name ++ codes " " ++ encode_lower message)) messages
 

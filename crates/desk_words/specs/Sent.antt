@@ -1,10 +1,12 @@
 -- What a desk sends at an event: to the slices the answers to what they see, and to the switch, in its lane, messages of the proxy's own or of a slice (this proxy's own rule).
 use Rattle.std.specs.Prelude.{ℕ, if◌then◌else◌, List, [], ◌∷◌, ◌++◌, map, drop, Some, None}
 use Rattle.byteorder.specs.Endian.{big_bytes}
-use Rattle.of10_model.specs.declared.pattern.Pattern.{Pattern}
+use Rattle.of10_model.specs.Exact.{all_free}
 use Rattle.of10_ctl.specs.declared.kind.TheConstants.{HELLO, ECHO_REQUEST, ECHO_REPLY, FEATURES_REQUEST, SET_CONFIG, BARRIER_REQUEST}
 use Rattle.of10_ctl.specs.Frames.{message_of}
+use Rattle.of10_flow.specs.declared.protocol.TheConstants.{DELETE}
 use Rattle.of10_flow.specs.FlowMods.{spell_flow_mod}
+use Rattle.of10_port.specs.declared.protocol.TheConstants.{NONE}
 use Rattle.flowspace.specs.Policies.{PolicyView}
 use Rattle.slice_words.specs.Messages.{xid_of}
 use Rattle.slice_words.specs.Answers.{no_buffer}
@@ -43,35 +45,18 @@ greeting = message_of HELLO 0xff000000 [] ∷ message_of FEATURES_REQUEST 0xff00
 abbrev pub whole_packets : List ℕ
 whole_packets = message_of SET_CONFIG 0xff000002 (big_bytes 2 0 ++ big_bytes 2 0xffff)
 
--- the match of all headers
-abbrev pub everything : Pattern
-everything = record {
-  in_port = None;
-  dl_src = None;
-  dl_dst = None;
-  dl_vlan = None;
-  dl_vlan_pcp = None;
-  dl_type = None;
-  nw_tos = None;
-  nw_proto = None;
-  nw_src = None;
-  nw_dst = None;
-  tp_src = None;
-  tp_dst = None;
-}
-
 -- every entry is to be deleted (section 5.3.3: OFPFC_DELETE of all headers, for no port and no buffer)
 abbrev pub clearing : List ℕ
 clearing = spell_flow_mod (record {
   xid = 0xff000003;
-  pattern = everything;
+  pattern = all_free;
   cookie = 0;
-  command = 3;
+  command = DELETE;
   idle = 0;
   hard = 0;
   priority = 0;
   buffer = no_buffer;
-  out_port = 0xffff;
+  out_port = NONE;
   flags = 0;
   actions = [];
 })
@@ -84,6 +69,7 @@ preparation = whole_packets ∷ clearing ∷ message_of BARRIER_REQUEST 0xff0000
 abbrev pub echo_for : List ℕ → List (List ℕ)
 echo_for message = if is_of ECHO_REQUEST message then message_of ECHO_REPLY (xid_of message) (drop 8 message) ∷ [] else []
 
+-- what a switch is sent for a message that came before it told what it is
 abbrev pub begun_lane : List ℕ → List (List ℕ)
 begun_lane message = elim (features_told message) [ None ↦ echo_for message | Some features ↦ preparation ]
 

@@ -11,10 +11,12 @@ use Rattle.desk_words.specs.declared.answer.Verdict.TheVariants as verdicts
 use Rattle.desk_words.specs.Openings.{phase_of}
 use Rattle.desk_words.specs.Histories.{is_slot, is_slice_up}
 
+-- the switch hasn't connected
 abbrev pub is_fresh : Phase → Bool
 is_fresh Fresh = true
 is_fresh phase = false
 
+-- the switch's connection has ended
 abbrev pub is_ended : Phase → Bool
 is_ended Ended = true
 is_ended phase = false
@@ -23,6 +25,7 @@ is_ended phase = false
 abbrev pub is_over : List Timed → Bool
 is_over h = is_ended (phase_of h) || leb (2 ^ 60) (length h)
 
+-- an event tells that the switch connected
 abbrev pub is_switch_up : Event → Bool
 is_switch_up SwitchUp = true
 is_switch_up event = false
@@ -52,6 +55,7 @@ abbrev pub is_closing : PolicyView → Phase → (ℕ → Bool) → Phase → Ev
 is_closing policy before slice_up after event =
     (is_fresh before && not (is_switch_up event)) || not (has_slot policy event) || (not (is_down event) && not (is_connected slice_up after event))
 
+-- the same of an event after a history
 abbrev pub closes : PolicyView → List Timed → Timed → Bool
 closes policy h timed = is_closing policy (phase_of h) (λ slot. is_slice_up policy slot (timed ∷ h)) (phase_of (timed ∷ h)) timed.event
 

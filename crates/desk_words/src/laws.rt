@@ -6,7 +6,7 @@ ghost use Rattle.flowspace.specs.Policies.{PolicyView};
 ghost use Rattle.recording.specs.Recordings.{Told};
 ghost use Rattle.desk_words.specs.declared.event.Timed.{Timed};
 ghost use Rattle.desk_words.specs.Operations.{Operation, IsLegal, queue_of, lane_of};
-ghost use Rattle.desk_words.specs.Laws.{IsPhaseByEvents, IsAlone, AreAlike, IsErasable, IsBlindBefore, IsSilentUntilUp, IsDownAfterDown, IsUpByEvents, sent_since, taken_since, lane_since, lane_taken_since, AreInOrder, AreCompletedOnce, SeesItsSwitch, AreKnownInOrder};
+ghost use Rattle.desk_words.specs.Laws.{IsPhaseByEvents, IsAlone, AreAlike, IsErasable, IsBlindBefore, IsSilentUntilUp, IsDownAfterDown, IsUpByEvents, sent_since, taken_since, lane_since, lane_taken_since, AreInOrder, AreCompletedOnce, SeesItsSwitch, AreKnownInOrder, AreKnownAsTold, MakesTheFirst, GetsTheFirst, ComeAtTheirSwitch};
 
 /// The switch's connection has ended where, after it came, it went or a message of a bad length came; the
 /// opening is the first FEATURES_REPLY between.
@@ -65,4 +65,23 @@ pub fn frames_are_completed_once()
 pub fn slice_sees_its_switch()
     ensures seen { (policy : PolicyView) (slot : ℕ) (h : List Timed) (features : Features) → SeesItsSwitch policy slot h features }
     ensures order { (h : List Timed) → AreKnownInOrder h }
+{}
+
+/// No port is known before the switch tells what it is. Then the known ports are those of its features,
+/// changed by each status that it sent since.
+pub fn ports_are_known_as_told()
+    ensures { (h : List Timed) → AreKnownAsTold h }
+{}
+
+/// The events of a record are the first of the messages that it completes: those that come while the
+/// switch's connection hasn't ended, or while the slice is up. A record of another kind has one event.
+pub fn record_makes_the_first()
+    ensures { (policy : PolicyView) (r : Told) (before : List Told) → MakesTheFirst policy r before }
+{}
+
+/// The events of a record come one after another in the history of its switch, until that is over; the
+/// histories of all other switches stay as they were.
+pub fn events_come_at_their_switch()
+    ensures order { (h events : List Timed) → GetsTheFirst h events }
+    ensures place { (policy : PolicyView) (r : Told) (before : List Told) → ComeAtTheirSwitch policy r before }
 {}

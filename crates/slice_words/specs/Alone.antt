@@ -43,6 +43,7 @@ put_for s view (item ∷ items) = (answer_to s view item).to_switch ++ put_for s
 abbrev pub number_of : List ℕ → ℕ → ℕ
 number_of came k = get_or came (length came - 1 - k) no_buffer
 
+-- the four bytes of that number, and none where no packet is named
 abbrev pub buffer_bytes : List ℕ → Option ℕ → List ℕ
 buffer_bytes came None = []
 buffer_bytes came (Some k) = big_bytes 4 (number_of came k)

@@ -1,4 +1,4 @@
--- What follows for a slice from each item of its view. A later item is answered by look-ups in the view before it and in the answers given there; nothing is kept.
+-- What follows for a slice from each item of its view. A later item is answered by look-ups in the view before it and in the answers given there; nothing is kept. Sections are those of OpenFlow 1.0.0; the order of refusals is this proxy's own rule.
 use Rattle.std.specs.Prelude.{ℕ, ◌-◌, ◌%◌, ◌^◌, ◌==◌, not, Bool, true, false, if◌then◌else◌, List, [], ◌∷◌, ◌++◌, length, take, drop, Option, Some, None}
 use Rattle.byteorder.specs.Endian.{big_bytes}
 use Rattle.of10_action.specs.Faults.{class_and_code}
@@ -48,19 +48,23 @@ dismissal messages = record { to_slice = messages; to_switch = []; dismissed = t
 abbrev pub no_common_version : ℕ × ℕ
 no_common_version = (0, 0)
 
--- BAD_REQUEST: BAD_VERSION, BAD_TYPE, BAD_VENDOR, EPERM, BAD_LEN
+-- BAD_REQUEST, BAD_VERSION
 abbrev pub bad_version : ℕ × ℕ
 bad_version = (1, 0)
 
+-- BAD_REQUEST, BAD_TYPE
 abbrev pub bad_type : ℕ × ℕ
 bad_type = (1, 1)
 
+-- BAD_REQUEST, BAD_VENDOR
 abbrev pub bad_vendor : ℕ × ℕ
 bad_vendor = (1, 3)
 
+-- BAD_REQUEST, EPERM
 abbrev pub not_permitted : ℕ × ℕ
 not_permitted = (1, 5)
 
+-- BAD_REQUEST, BAD_LEN
 abbrev pub bad_length : ℕ × ℕ
 bad_length = (1, 6)
 
@@ -68,12 +72,13 @@ bad_length = (1, 6)
 abbrev pub error_for : ℕ × ℕ → List ℕ → List ℕ
 error_for fault message = error_of (xid_of message) fault.0 fault.1 message
 
+-- that error and nothing else
 abbrev pub refused : ℕ × ℕ → List ℕ → Answer
 refused fault message = told (error_for fault message ∷ [])
 
 -- ---- messages of the controller
 
--- a HELLO of version 0 has no version in common with this proxy; any other means version 1 (section 5.5)
+-- a HELLO of version 0 has no version in common with this proxy; any other means version 1 (section 4.2)
 abbrev pub hello_answer : List ℕ → Answer
 hello_answer message = if version_of message == 0 then dismissal (error_of (xid_of message) no_common_version.0 no_common_version.1 [] ∷ []) else silence
 
@@ -106,7 +111,7 @@ local_answer s view past moment message =
 abbrev pub formed_answer : Settings → List Item → List Past → ℕ → List ℕ → Answer
 formed_answer s view past moment message = elim (form_fault message) [ None ↦ local_answer s view past moment message | Some fault ↦ refused (class_and_code fault) message ]
 
--- a message of a controller, by the first of these lines that applies
+-- a message of a controller, by the first of these lines that applies (this proxy's own rule)
 unfoldable pub message_answer : Settings → List Item → List Past → ℕ → List ℕ → Answer
 message_answer s view past moment message =
     if is_bad message then dismissal (error_for bad_length message ∷ [])

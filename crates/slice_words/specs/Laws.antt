@@ -1,7 +1,8 @@
 -- Statements about views and answers. `src/laws.rt` has a function for each, which is proved.
-use Rattle.std.specs.Prelude.{◌≡◌, ◌&&◌, Bool, true, false, List, [], ◌∷◌, ◌++◌, filter}
-use Rattle.slice_words.specs.Items.{Settings, Item, Up, Msg, is_up, is_forgetting}
-use Rattle.slice_words.specs.Messages.{is_dismissing}
+use Rattle.std.specs.Prelude.{ℕ, ◌≡◌, ◌&&◌, ◌||◌, not, Bool, true, false, List, [], ◌∷◌, ◌++◌, filter}
+use Rattle.std.specs.List.{list_any}
+use Rattle.slice_words.specs.Items.{Settings, Item, Up, Msg, is_up, miss_send_len, is_forgetting}
+use Rattle.slice_words.specs.Messages.{is_dismissing, is_setting, miss_send_len_of}
 use Rattle.slice_words.specs.Answers.{silence}
 use Rattle.slice_words.specs.Alone.{answer_to, alone, with_items, sent_for}
 
@@ -35,3 +36,26 @@ is_dismissal item = false
 -- the connection ends with an item exactly where the slice is up and the item is such a message
 abbrev pub EndsExactly : Settings → List Item → Item → Type 0
 EndsExactly s view item = (answer_to s view item).dismissed ≡ (is_up view && is_dismissal item)
+
+-- an item is a SET_CONFIG that is taken, and doesn't end its connection (section 5.3.2)
+abbrev pub is_set : Item → Bool
+is_set (Msg message moment) = is_setting message && not (is_dismissing message)
+is_set item = false
+
+-- an item says how much of a packet the controller wants: it sets that, or forgets what was set
+abbrev pub tells_length : Item → Bool
+tells_length item = is_forgetting item || is_set item
+
+-- how much of a packet the controller wants is what it set last, where it forgot nothing since
+abbrev pub IsSetByTheLast : List Item → List ℕ → ℕ → List Item → Type 0
+IsSetByTheLast later message moment earlier =
+    is_set (Msg message moment) ≡ true → list_any tells_length later ≡ false
+    → miss_send_len (later ++ Msg message moment ∷ earlier) ≡ miss_send_len_of message
+
+-- it is 128 where nothing was set since an item that forgets (section 4.1.2)
+abbrev pub IsForgotten : List Item → Item → List Item → Type 0
+IsForgotten later item earlier = is_forgetting item ≡ true → list_any is_set later ≡ false → miss_send_len (later ++ item ∷ earlier) ≡ 128
+
+-- and where nothing was ever set
+abbrev pub IsNeverSet : List Item → Type 0
+IsNeverSet view = list_any is_set view ≡ false → miss_send_len view ≡ 128

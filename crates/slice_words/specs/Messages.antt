@@ -11,12 +11,15 @@ use Rattle.of10_stats.specs.Requests.{read_request}
 
 -- ---- the header (section 5.1)
 
+-- the version of OpenFlow that the sender speaks
 abbrev pub version_of : List ℕ → ℕ
 version_of message = slice_index message 0
 
+-- the type of a message
 abbrev pub kind_of : List ℕ → ℕ
 kind_of message = slice_index message 1
 
+-- the transaction id, which an answer repeats
 abbrev pub xid_of : List ℕ → ℕ
 xid_of message = number_at message 4 4
 
@@ -57,9 +60,11 @@ form_fault message =
 
 -- ---- how a controller sets its slice (section 5.3.2)
 
+-- how a SET_CONFIG wants fragments to be handled
 abbrev pub flags_of : List ℕ → ℕ
 flags_of message = number_at message 8 2
 
+-- how many bytes it wants of a packet that no entry matched
 abbrev pub miss_send_len_of : List ℕ → ℕ
 miss_send_len_of message = number_at message 10 2
 

@@ -1,8 +1,8 @@
 //! Laws of the definitions. Each function's contract is the law; its body does nothing.
 
-ghost use Rattle.std.specs.Prelude.{List};
+ghost use Rattle.std.specs.Prelude.{ℕ, List};
 ghost use Rattle.slice_words.specs.Items.{Settings, Item};
-ghost use Rattle.slice_words.specs.Laws.{AreJoined, IsSilentWhileDown, IsUpByTheLast, EndsExactly};
+ghost use Rattle.slice_words.specs.Laws.{AreJoined, IsSilentWhileDown, IsUpByTheLast, EndsExactly, IsSetByTheLast, IsForgotten, IsNeverSet};
 
 /// What a slice is sent over a view with more items is what it was sent before them, and then what
 /// follows from each of them.
@@ -23,4 +23,12 @@ pub fn up_by_the_last()
 /// A connection ends exactly with a message that ends it, of a slice that is up.
 pub fn ends_exactly()
     ensures { (s : Settings) (view : List Item) (item : Item) → EndsExactly s view item }
+{}
+
+/// How much of a packet a slice's controller wants is what its last SET_CONFIG that was taken says, since
+/// the slice last came up, went down or sent a message that ends its connection; 128 where there is none.
+pub fn length_by_the_last()
+    ensures set { (later : List Item) (message : List ℕ) (moment : ℕ) (earlier : List Item) → IsSetByTheLast later message moment earlier }
+    ensures forgotten { (later : List Item) (item : Item) (earlier : List Item) → IsForgotten later item earlier }
+    ensures never { (view : List Item) → IsNeverSet view }
 {}

@@ -1,0 +1,109 @@
+-- How much of a packet a controller wants, by the items of its slice's view.
+use Rattle.std.proofs.Common.{◌≡◌, ℕ, ◌||◌, ◌&&◌, not, Bool, true, false, if◌then◌else◌, List, [], ◌∷◌, ◌++◌, refl, sym, ◌∙◌, true≢false}
+use Rattle.std.specs.List.{list_any}
+use Rattle.slice_words.specs.Messages.{is_dismissing, is_setting, miss_send_len_of}
+use Rattle.slice_words.specs.Items.{Item, Opened, Up, Down, Msg, Lost, Handed, Removed, Status, Fault, Barrier, Queues, Entry, Last, End, miss_send_len, is_forgetting}
+use Rattle.slice_words.specs.Laws.{is_set, tells_length, IsSetByTheLast, IsForgotten, IsNeverSet}
+
+first_false : (a b : Bool) → (a || b) ≡ false → a ≡ false
+first_false true b is = is
+first_false false b is = refl
+
+second_false : (a b : Bool) → (a || b) ≡ false → b ≡ false
+second_false true b is = absurd (true≢false is)
+second_false false b is = is
+
+-- a message that neither ends its connection nor is a SET_CONFIG that is taken changes nothing
+passes : (dismissing setting : Bool) (message : List ℕ) (length_before : ℕ) → (dismissing || (setting && not dismissing)) ≡ false
+    → (if dismissing then 128 else if setting then miss_send_len_of message else length_before) ≡ length_before
+passes true setting message length_before none = absurd (true≢false none)
+passes false true message length_before none = absurd (true≢false none)
+passes false false message length_before none = refl
+
+untelling : (item : Item) (view : List Item) → tells_length item ≡ false → miss_send_len (item ∷ view) ≡ miss_send_len view
+untelling Up view none = absurd (true≢false none)
+untelling Down view none = absurd (true≢false none)
+untelling (Msg message moment) view none = passes (is_dismissing message) (is_setting message) message (miss_send_len view) none
+untelling (Opened features) view none = refl
+untelling (Lost k) view none = refl
+untelling (Handed packet) view none = refl
+untelling (Removed entry) view none = refl
+untelling (Status status) view none = refl
+untelling (Fault x class code pair) view none = refl
+untelling (Barrier x) view none = refl
+untelling (Queues x body) view none = refl
+untelling (Entry x kind bytes) view none = refl
+untelling (Last x kind) view none = refl
+untelling End view none = refl
+
+-- a SET_CONFIG that is taken says it
+says : (dismissing setting : Bool) (message : List ℕ) (length_before : ℕ) → (setting && not dismissing) ≡ true
+    → (if dismissing then 128 else if setting then miss_send_len_of message else length_before) ≡ miss_send_len_of message
+says true true message length_before is = absurd (true≢false (sym is))
+says true false message length_before is = absurd (true≢false (sym is))
+says false true message length_before is = refl
+says false false message length_before is = absurd (true≢false (sym is))
+
+pub set_last : (later : List Item) (message : List ℕ) (moment : ℕ) (earlier : List Item) → IsSetByTheLast later message moment earlier
+set_last [] message moment earlier is none = says (is_dismissing message) (is_setting message) message (miss_send_len earlier) is
+set_last (item ∷ later) message moment earlier is none =
+    untelling item (later ++ Msg message moment ∷ earlier) (first_false (tells_length item) (list_any tells_length later) none)
+    ∙ set_last later message moment earlier is (second_false (tells_length item) (list_any tells_length later) none)
+
+-- what sets nothing leaves 128 as it is
+unset : (dismissing setting : Bool) (message : List ℕ) (length_before : ℕ) → (setting && not dismissing) ≡ false → length_before ≡ 128
+    → (if dismissing then 128 else if setting then miss_send_len_of message else length_before) ≡ 128
+unset true setting message length_before none before = refl
+unset false true message length_before none before = absurd (true≢false none)
+unset false false message length_before none before = before
+
+stays : (item : Item) (view : List Item) → is_set item ≡ false → miss_send_len view ≡ 128 → miss_send_len (item ∷ view) ≡ 128
+stays Up view none before = refl
+stays Down view none before = refl
+stays (Msg message moment) view none before = unset (is_dismissing message) (is_setting message) message (miss_send_len view) none before
+stays (Opened features) view none before = before
+stays (Lost k) view none before = before
+stays (Handed packet) view none before = before
+stays (Removed entry) view none before = before
+stays (Status status) view none before = before
+stays (Fault x class code pair) view none before = before
+stays (Barrier x) view none before = before
+stays (Queues x body) view none before = before
+stays (Entry x kind bytes) view none before = before
+stays (Last x kind) view none before = before
+stays End view none before = before
+
+stays_all : (later earlier : List Item) → list_any is_set later ≡ false → miss_send_len earlier ≡ 128 → miss_send_len (later ++ earlier) ≡ 128
+stays_all [] earlier none before = before
+stays_all (item ∷ later) earlier none before =
+    stays item (later ++ earlier) (first_false (is_set item) (list_any is_set later) none)
+    (stays_all later earlier (second_false (is_set item) (list_any is_set later) none) before)
+
+ended : (dismissing setting : Bool) (message : List ℕ) (length_before : ℕ) → dismissing ≡ true
+    → (if dismissing then 128 else if setting then miss_send_len_of message else length_before) ≡ 128
+ended true setting message length_before is = refl
+ended false setting message length_before is = absurd (true≢false (sym is))
+
+forgets : (item : Item) (view : List Item) → is_forgetting item ≡ true → miss_send_len (item ∷ view) ≡ 128
+forgets Up view is = refl
+forgets Down view is = refl
+forgets (Msg message moment) view is = ended (is_dismissing message) (is_setting message) message (miss_send_len view) is
+forgets (Opened features) view is = absurd (true≢false (sym is))
+forgets (Lost k) view is = absurd (true≢false (sym is))
+forgets (Handed packet) view is = absurd (true≢false (sym is))
+forgets (Removed entry) view is = absurd (true≢false (sym is))
+forgets (Status status) view is = absurd (true≢false (sym is))
+forgets (Fault x class code pair) view is = absurd (true≢false (sym is))
+forgets (Barrier x) view is = absurd (true≢false (sym is))
+forgets (Queues x body) view is = absurd (true≢false (sym is))
+forgets (Entry x kind bytes) view is = absurd (true≢false (sym is))
+forgets (Last x kind) view is = absurd (true≢false (sym is))
+forgets End view is = absurd (true≢false (sym is))
+
+pub forgotten : (later : List Item) (item : Item) (earlier : List Item) → IsForgotten later item earlier
+forgotten later item earlier is none = stays_all later (item ∷ earlier) none (forgets item earlier is)
+
+pub never_set : (view : List Item) → IsNeverSet view
+never_set [] none = refl
+never_set (item ∷ view) none =
+    stays item view (first_false (is_set item) (list_any is_set view) none) (never_set view (second_false (is_set item) (list_any is_set view) none))
