@@ -1,13 +1,13 @@
 -- A count of faults is raised at the place of a path.
-use Rattle.std.proofs.Common.{◌≡◌, ◌≤◌, ◌<◌, ℕ, zero, suc, ◌+◌, List, [], ◌∷◌, ◌++◌, length, get_or, set, refl, ◌∙◌, ap, add-one, arith, true, false}
-use Rattle.std.specs.Prelude.{Option, Some, None, if◌then◌else◌, Bool, ◌||◌}
+use Rattle.std.proofs.Common.{◌≡◌, ◌≤◌, ◌<◌, ℕ, zero, suc, ◌+◌, List, [], ◌∷◌, ◌++◌, length, get_or, set, refl, sym, ◌∙◌, ap, add-one, arith, true, false}
+use Rattle.std.specs.Prelude.{Option, Some, None, if◌then◌else◌, Bool, not, ◌||◌}
 use Rattle.std.specs.Option.{option_or}
 use Rattle.std.specs.Str.{bytes_eq}
 use Rattle.std.specs.String.{string_bytes}
 use Rattle.std.proofs.lemmas.Slice.Eq.{bytes_eq-Decides}
 use Rattle.std.proofs.lemmas.List.{length-set, get_or-set_same}
 use Rattle.fv_base.specs.declared.memory.Entry.{Entry}
-use Rattle.fv_base.specs.Memory.{file_at, entry_at, count_at, is_declared, place_of}
+use Rattle.fv_base.specs.Memory.{file_at, entry_at, count_at, is_declared, one_more, place_of, raised_at}
 
 -- an entry with another count
 abbrev pub counted : Entry → ℕ → Entry
@@ -86,6 +86,57 @@ pub is_declared-raised : (entries : List Entry) (i : ℕ) (other : Entry) (count
 is_declared-raised [] i other count at = refl
 is_declared-raised (entry ∷ others) zero other count at = refl
 is_declared-raised (entry ∷ others) (suc i) other count at = rw (is_declared-raised others i other count at) refl
+
+-- a path with an entry is declared, and no other
+pub is_declared-there : (entries : List Entry) (path : List ℕ) → place_of entries path < length entries → is_declared entries path ≡ true
+is_declared-there [] path h = absurd (omega arith)
+is_declared-there (entry ∷ others) path h =
+    elim (bytes_eq (string_bytes entry.path) path) as (λ b. (if b then 0 else place_of others path + 1) < length (entry ∷ others) → (b || is_declared others path) ≡ true) [
+      | true ↦ λ h. refl
+      | false ↦ λ h. is_declared-there others path (omega arith)
+    ] h
+
+pub is_declared-nowhere : (entries : List Entry) (path : List ℕ) → length entries ≤ place_of entries path → is_declared entries path ≡ false
+is_declared-nowhere [] path h = refl
+is_declared-nowhere (entry ∷ others) path h =
+    elim (bytes_eq (string_bytes entry.path) path) as (λ b. length (entry ∷ others) ≤ (if b then 0 else place_of others path + 1) → (b || is_declared others path) ≡ false) [
+      | true ↦ λ h. absurd (omega arith)
+      | false ↦ λ h. is_declared-nowhere others path (omega arith)
+    ] h
+
+pub count_at-undeclared : (k : ℕ) (entries : List Entry) (at : List ℕ) → is_declared entries at ≡ false → count_at k entries at ≡ k
+count_at-undeclared k [] at h = refl
+count_at-undeclared k (entry ∷ others) at h =
+    elim (bytes_eq (string_bytes entry.path) at) as (λ b. (b || is_declared others at) ≡ false → (if b then entry.faults else count_at k others at) ≡ k) [ true ↦ λ h. absurd cc | false ↦ λ h. count_at-undeclared k others at h ] h
+
+-- one fault more at the place of a path
+pub raised-there : (k : ℕ) (entries : List Entry) (other : Entry) (count : ℕ) (path at : List ℕ) → place_of entries path < length entries → count ≡ one_more (get_or entries (place_of entries path) other).faults → count_at k (set entries (place_of entries path) (counted (get_or entries (place_of entries path) other) count)) at ≡ raised_at k entries path at
+raised-there k entries other count path at h e =
+    let p = place_of entries path in
+    let next = set entries p (counted (get_or entries p other) count) in
+    let declared : is_declared entries path ≡ true = is_declared-there entries path h in
+    elim (bytes_eq path at) as (λ b. bytes_eq path at ≡ b → count_at k next at ≡ (if b || not (is_declared entries path || is_declared entries at) then one_more (count_at k entries at) else count_at k entries at)) [
+      | true ↦ λ same.
+          rw (← ((bytes_eq-Decides path at).0 same)) (count_at-set k entries other count path h ∙ e ∙ ap one_more (sym (count_at-place k entries other path h)))
+      | false ↦ λ apart. rw declared (count_at-others k entries other count path at apart)
+    ] refl
+
+-- one fault more of a path of which nothing was told
+pub raised-elsewhere : (k : ℕ) (entries : List Entry) (path at : List ℕ) → length entries ≤ place_of entries path → count_at (one_more k) entries at ≡ raised_at k entries path at
+raised-elsewhere k entries path at h =
+    let nowhere : is_declared entries path ≡ false = is_declared-nowhere entries path h in
+    elim (is_declared entries at) as (λ d. is_declared entries at ≡ d → count_at (one_more k) entries at ≡ (if bytes_eq path at || not (is_declared entries path || d) then one_more (count_at k entries at) else count_at k entries at)) [
+      | true ↦ λ declared.
+          rw nowhere (elim (bytes_eq path at) as (λ b. bytes_eq path at ≡ b → count_at (one_more k) entries at ≡ (if b || false then one_more (count_at k entries at) else count_at k entries at)) [
+            | true ↦ λ same.
+                let there : is_declared entries path ≡ true = rw ((bytes_eq-Decides path at).0 same) declared in
+                absurd cc
+            | false ↦ λ apart. count_at-own k (one_more k) entries at declared
+          ] refl)
+      | false ↦ λ unknown.
+          rw (nowhere, count_at-undeclared (one_more k) entries at unknown, count_at-undeclared k entries at unknown)
+          (elim (bytes_eq path at) as (λ b. one_more k ≡ (if b || true then one_more k else k)) [ true ↦ refl | false ↦ refl ])
+    ] refl
 
 -- a file behind the others
 pub count_at-added : (k : ℕ) (entries : List Entry) (entry : Entry) (at : List ℕ) → entry.faults ≡ k → count_at k (entries ++ entry ∷ []) at ≡ count_at k entries at

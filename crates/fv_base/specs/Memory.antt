@@ -1,5 +1,5 @@
 -- What the outside in memory tells.
-use Rattle.std.specs.Prelude.{ℕ, List, [], ◌∷◌, ◌+◌, ◌-◌, ◌^◌, length, Bool, false, Option, Some, None, option_map, if◌then◌else◌, ◌≡◌, ◌==◌, ◌||◌, min}
+use Rattle.std.specs.Prelude.{ℕ, List, [], ◌∷◌, ◌+◌, ◌-◌, ◌^◌, length, Bool, false, Option, Some, None, option_map, if◌then◌else◌, not, ◌≡◌, ◌==◌, ◌||◌, min}
 use Rattle.std.specs.Option.{option_or}
 use Rattle.std.specs.List.{list_any}
 use Rattle.std.specs.Str.{bytes_eq}
@@ -59,6 +59,19 @@ is_declared (entry ∷ others) path = bytes_eq (string_bytes entry.path) path ||
 abbrev pub count_at : ℕ → List Entry → List ℕ → ℕ
 count_at elsewhere [] path = elsewhere
 count_at elsewhere (entry ∷ others) path = if bytes_eq (string_bytes entry.path) path then entry.faults else count_at elsewhere others path
+
+-- a count after one fault more; it stays at the last value of a u64
+abbrev pub one_more : ℕ → ℕ
+one_more count = min (count + 1) (2 ^ 64 - 1)
+
+-- two paths have one count: they are the same, or nothing was told of either
+abbrev pub share_count : List Entry → List ℕ → List ℕ → Bool
+share_count entries path at = bytes_eq path at || not (is_declared entries path || is_declared entries at)
+
+-- the count of a path after one fault more of this path
+abbrev pub raised_at : ℕ → List Entry → List ℕ → List ℕ → ℕ
+raised_at elsewhere entries path at =
+    if share_count entries path at then one_more (count_at elsewhere entries at) else count_at elsewhere entries at
 
 -- where the first entry of a path stands, or how many entries there are
 abbrev pub place_of : List Entry → List ℕ → ℕ

@@ -3,7 +3,7 @@
 ghost use Rattle.std.specs.Prelude.{◌≡◌, ◌≤◌, ◌<◌, ◌+◌, ◌-◌, ◌^◌, min, ℕ, List, [], Some, None, length, drop, ◌||◌, ◌&&◌, is_ok, vec_len, vec_capacity, take, option_map, IsTrue, IsFalse, IfOk, IfSome, IsOkAnd, OnOk, OnErr};
 ghost use Rattle.std.specs.Result.{result_ok};
 ghost use Rattle.std.specs.Str.{bytes_eq};
-ghost use Rattle.fv_base.specs.Memory.{Starts, bytes_taken, called, files_plan, moved, read_count, sink_plan, file_at, count_at, is_declared, place_of, with_file};
+ghost use Rattle.fv_base.specs.Memory.{Starts, bytes_taken, called, files_plan, moved, read_count, sink_plan, file_at, count_at, is_declared, one_more, place_of, raised_at, with_file};
 ghost use Rattle.fv_base.specs.Told.{Gives, Rose, appended};
 
 use super::{Failed, Files, Sink};
@@ -38,6 +38,7 @@ impl Plan {
 
 // The count after one more fault.
 fn one_more(faults: u64) -> u64
+    ensures value { result ≡ one_more faults }
     ensures rose { Rose faults result }
     ensures later { faults ≤ result }
 {
@@ -112,6 +113,7 @@ impl Sink for MemorySink {
         ensures moves { IfOk result (λ n. Some n ≡ moved (sink_plan self.old) (length bytes.now)) }
         ensures full { OnErr result (IfSome (moved (sink_plan self.old) (length bytes.now)) (λ n. vec_capacity self.old.kept < vec_len self.old.kept + n)) }
         ensures same { OnOk result (self.new.faults ≡ self.old.faults) }
+        ensures counted { OnErr result (self.new.faults ≡ one_more self.old.faults) }
         ensures plan { sink_plan self.new ≡ called (sink_plan self.old) }
     {
         if let Some(count) = self.plan.next(bytes.len()) {
@@ -199,6 +201,7 @@ fn raise(entries: &mut [Entry], elsewhere: &mut u64, path: &str)
     ensures told { (at : List ℕ) → file_at entries.new at ≡ file_at entries.old at }
     ensures rose { Rose (count_at elsewhere.old entries.old path.now) (count_at elsewhere.new entries.new path.now) }
     ensures count { (at : List ℕ) → count_at elsewhere.old entries.old at ≤ count_at elsewhere.new entries.new at }
+    ensures exact { (at : List ℕ) → count_at elsewhere.new entries.new at ≡ raised_at elsewhere.old entries.old path.now at }
     ensures own { (at : List ℕ) → IsFalse (bytes_eq path.now at) → IsTrue (is_declared entries.old at) → count_at elsewhere.new entries.new at ≡ count_at elsewhere.old entries.old at }
     ensures declared { (at : List ℕ) → is_declared entries.new at ≡ is_declared entries.old at }
 {
@@ -335,6 +338,7 @@ impl Files for MemoryFiles {
         ensures exact { result_ok result ≡ read_count (files_plan self.old) (file_at self.old.entries.items path.now) from (length into.old) }
         ensures unread { OnErr result (into.new ≡ into.old) }
         ensures kept { OnOk result ((at : List ℕ) → count_at self.new.elsewhere self.new.entries.items at ≡ count_at self.old.elsewhere self.old.entries.items at) }
+        ensures counted { OnErr result ((at : List ℕ) → count_at self.new.elsewhere self.new.entries.items at ≡ raised_at self.old.elsewhere self.old.entries.items path.now at) }
         ensures own { (at : List ℕ) → IsFalse (bytes_eq path.now at) → IsTrue (is_declared self.old.entries.items at) → count_at self.new.elsewhere self.new.entries.items at ≡ count_at self.old.elsewhere self.old.entries.items at }
         ensures declared { (at : List ℕ) → is_declared self.new.entries.items at ≡ is_declared self.old.entries.items at }
         ensures plan { files_plan self.new ≡ called (files_plan self.old) }

@@ -146,6 +146,20 @@ fn a_declared_missing_path_has_a_count_of_its_own(rt: HostRuntime) -> Result<(),
     Ok(())
 }
 
+#[test]
+fn load_faults_say_what_is_wrong(rt: HostRuntime) -> Result<(), Fail> {
+    let alloc = rt.alloc();
+    let table = [
+        (LoadFault::ReadFault, "the file can't be read"),
+        (LoadFault::TooLarge, "the file is too large"),
+        (LoadFault::Memory, "out of memory"),
+    ];
+    for (fault, text) in &table {
+        assert_eq!(rt; format!(in alloc; "{fault}")?.as_str(), *text);
+    }
+    Ok(())
+}
+
 fn words_of(alloc: Global, texts: &[&str]) -> Result<Words, AllocError> {
     let mut words = Words::new(alloc);
     for text in texts {

@@ -1,6 +1,6 @@
 use Rattle.std.proofs.Common.{◌≤◌, ◌<◌, arith, length}
 use Rattle.fv_base.specs.Memory.{place_of}
-use Rattle.fv_base.proofs.Raised.{file_at-raised, count_at-raised, count_at-set, count_at-place, count_at-none, count_at-elsewhere, count_at-others, count_at-own, is_declared-raised}
+use Rattle.fv_base.proofs.Raised.{file_at-raised, count_at-raised, count_at-set, count_at-place, count_at-none, count_at-elsewhere, count_at-others, count_at-own, is_declared-raised, raised-there, raised-elsewhere}
 use Rattle.fv_base.proofs.memory.raise.Goals as goal
 
 pub returns-then-at-entries-clause-told : goal.returns-then-at-entries-clause-told
@@ -41,3 +41,15 @@ returns-then-at-entries-clause-declared c at =
 pub returns-else-at-entries-clause-own : goal.returns-else-at-entries-clause-own
 returns-else-at-entries-clause-own c at apart declared =
     count_at-own c.args.elsewhere.now c.one_more.result c.args.entries.now at declared
+
+pub returns-then-at-entries-clause-exact : goal.returns-then-at-entries-clause-exact
+returns-then-at-entries-clause-exact c at =
+    let entries = c.args.entries.now in
+    let path = c.args.path.now in
+    let there : place_of entries path < length entries = omega arith in
+    rw c.place-at.ensures (raised-there c.args.elsewhere.now entries c.index-entries-at.result c.one_more-entry.result path at there (rw (← c.place-at.ensures) c.one_more-entry.ensures.value))
+
+pub returns-else-at-entries-clause-exact : goal.returns-else-at-entries-clause-exact
+returns-else-at-entries-clause-exact c at =
+    let none : length c.args.entries.now ≤ place_of c.args.entries.now c.args.path.now = omega arith in
+    rw c.one_more.ensures.value (raised-elsewhere c.args.elsewhere.now c.args.entries.now c.args.path.now at none)
