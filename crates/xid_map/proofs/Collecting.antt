@@ -1,11 +1,11 @@
 -- Which requests collect, in words of the calls.
-use Rattle.std.proofs.Common.{◌≡◌, ◌≢◌, ℕ, ◌<◌, ◌≤◌, not, true, false, List, [], ◌∷◌, ◌++◌, zero, suc, length, take, AllPairs, refl, ap, sym, subst, ◌∙◌, inl, inr, arith}
+use Rattle.std.proofs.Common.{◌≡◌, ◌≢◌, ℕ, ◌+◌, ◌<◌, ◌≤◌, not, true, false, List, [], ◌∷◌, ◌++◌, zero, suc, length, take, AllPairs, Contains, add-one, refl, ap, sym, subst, ◌∙◌, inl, inr, arith}
 use Rattle.std.specs.Prelude.{◌==◌, ◌⊎◌, filter, slice_index_or}
 use Rattle.std.proofs.lemmas.Bool.{cases_Bool, both_ways, eq-eqb, ne_eqb, or_parts, or_left, or_right}
 use Rattle.std.proofs.lemmas.Bool.Decides.{eqb_tells}
 use Rattle.std.proofs.lemmas.List.{length-take}
 use Rattle.xid_map.specs.Collections.{CollectionCall, Start, Add, Sum, Finish, EndAll, is_among, collecting, begins, since}
-use Rattle.xid_map.specs.Laws.{Ends, NoneEnds, IsCollecting}
+use Rattle.xid_map.specs.Laws.{Ends, NoneEnds, IsCollecting, others_started, IsStarted}
 use Rattle.xid_map.proofs.Gathering.{since-goes_on}
 use Rattle.xid_map.proofs.Standing.{begins_not}
 
@@ -308,3 +308,80 @@ IsCollecting-collecting number (call ∷ earlier) within = elim (collected numbe
     not_ended = tt;
   }
 ]
+
+-- ---- at least until eight others start
+
+among_longer : (count number : ℕ) (ms : List ℕ) → is_among number (take count ms) ≡ true → is_among number (take (suc count) ms) ≡ true
+among_longer zero number ms h = cc
+among_longer (suc count) number [] h = cc
+among_longer (suc count) number (m ∷ ms) h = elim (among_cases number m (take count ms) h) [
+  | inl this ↦ subst (λ n. is_among n (m ∷ take (suc count) ms) ≡ true) this (among_here m (take (suc count) ms))
+  | inr later ↦ among_more number m (take (suc count) ms) (among_longer count number ms later)
+]
+
+among_twice : (count most number : ℕ) (ms : List ℕ) → count ≤ most → is_among number (take count ms) ≡ true → is_among number (take count (take most ms)) ≡ true
+among_twice zero most number ms le h = cc
+among_twice (suc count) most number [] le h = cc
+among_twice (suc count) zero number (m ∷ ms) le h = absurd (omega arith)
+among_twice (suc count) (suc most) number (m ∷ ms) le h = elim (among_cases number m (take count ms) h) [
+  | inl this ↦ subst (λ n. is_among n (m ∷ take count (take most ms)) ≡ true) this (among_here m (take count (take most ms)))
+  | inr later ↦ among_more number m (take count (take most ms)) (among_twice count most number ms (omega arith) later)
+]
+
+-- without others a request stands no further behind
+among_nearer : (count number other : ℕ) (ms : List ℕ) → other ≢ number → is_among number (take count ms) ≡ true
+    → is_among number (take count (filter (λ n. not (n == other)) ms)) ≡ true
+among_nearer zero number other ms apart h = cc
+among_nearer (suc count) number other [] apart h = cc
+among_nearer (suc count) number other (m ∷ ms) apart h = elim (among_cases number m (take count ms) h) [
+  | inl this ↦
+      let stays : (m == other) ≡ false = ne_eqb m other (λ e. apart (sym e ∙ this)) in
+      rw stays (subst (λ n. is_among n (m ∷ take count (filter (λ k. not (k == other)) ms)) ≡ true) this (among_here m (take count (filter (λ k. not (k == other)) ms))))
+  | inr later ↦
+      let rest = among_nearer count number other ms apart later in
+      elim (cases_Bool (m == other)) [
+        | inl out ↦ rw out (among_longer count number (filter (λ n. not (n == other)) ms) rest)
+        | inr stays ↦ rw stays (among_more number m (take count (filter (λ n. not (n == other)) ms)) rest)
+      ]
+]
+
+-- what wasn't called with one more call wasn't before
+earlier_too : (call : CollectionCall) (later : List CollectionCall) (sought : CollectionCall) → (Contains (call ∷ later) sought → ⊥) → Contains later sought → ⊥
+earlier_too call later sought none h = none (suc h.0, omega (arith, h.1), h.2)
+
+-- a request stands behind no more than so many others as were started since
+near : (number : ℕ) (later earlier : List CollectionCall) → is_among number (collecting earlier) ≡ false → (Contains later (Finish number) → ⊥) → (Contains later EndAll → ⊥)
+    → others_started number later < 8 → is_among number (take (suc (others_started number later)) (collecting (later ++ (Start number ∷ earlier)))) ≡ true
+unfolding collecting
+near number [] earlier began stays goes few = rw began (among_here number [])
+near number (Start other ∷ later) earlier began stays goes few =
+    let all = later ++ (Start number ∷ earlier) in
+    elim (eqb_tells other number) [
+      | inl this ↦
+          let rest = near number later earlier began (earlier_too (Start other) later (Finish number) stays) (earlier_too (Start other) later EndAll goes) (rw this.0 at few) in
+          let within : is_among other (collecting all) ≡ true = rw this.1 (among_taken (suc (others_started number later)) number (collecting all) rest) in
+          rw (this.0, within) rest
+      | inr apart ↦
+          let count = others_started number later in
+          let less : count + 1 < 8 = rw apart.0 at few in
+          let rest = near number later earlier began (earlier_too (Start other) later (Finish number) stays) (earlier_too (Start other) later EndAll goes) (omega arith) in
+          elim (cases_Bool (is_among other (collecting all))) [
+            | inl within ↦ rw (apart.0, within, add-one count) (among_longer (suc count) number (collecting all) rest)
+            | inr out ↦ rw (apart.0, out, add-one count) (among_more number other (take (suc count) (take 7 (collecting all))) (among_twice (suc count) 7 number (collecting all) (omega arith) rest))
+          ]
+    ]
+near number (Add other entry ∷ later) earlier began stays goes few =
+    near number later earlier began (earlier_too (Add other entry) later (Finish number) stays) (earlier_too (Add other entry) later EndAll goes) few
+near number (Sum other packets bytes ∷ later) earlier began stays goes few =
+    near number later earlier began (earlier_too (Sum other packets bytes) later (Finish number) stays) (earlier_too (Sum other packets bytes) later EndAll goes) few
+near number (Finish other ∷ later) earlier began stays goes few =
+    among_nearer (suc (others_started number later)) number other (collecting (later ++ (Start number ∷ earlier)))
+    (λ e. stays (zero, omega arith, ap (λ n. Finish n) e))
+    (near number later earlier began (earlier_too (Finish other) later (Finish number) stays) (earlier_too (Finish other) later EndAll goes) few)
+near number (EndAll ∷ later) earlier began stays goes few = absurd (goes (zero, omega arith, refl))
+
+pub collecting-IsStarted : (number : ℕ) (calls : List CollectionCall) → IsStarted number calls → is_among number (collecting calls) ≡ true
+collecting-IsStarted number calls h =
+    subst (λ l. is_among number (collecting l) ≡ true) (sym h.split)
+    (among_taken (suc (others_started number h.later)) number (collecting (h.later ++ (Start number ∷ h.earlier)))
+    (near number h.later h.earlier h.began h.not_finished h.not_all_ended (omega (arith, h.few))))

@@ -1,5 +1,5 @@
 -- What the definitions say, in words of the calls. Lists of calls have the newest first.
-use Rattle.std.specs.Prelude.{ℕ, ◌≡◌, ◌≢◌, ◌<◌, ◌↔◌, false, IsTrue, List, [], ◌∷◌, ◌++◌, length, Contains}
+use Rattle.std.specs.Prelude.{ℕ, ◌≡◌, ◌≢◌, ◌+◌, ◌<◌, ◌==◌, ◌↔◌, false, if◌then◌else◌, IsTrue, List, [], ◌∷◌, ◌++◌, length, Contains}
 use Rattle.xid_map.specs.declared.asked.Issued.{Issued}
 use Rattle.xid_map.specs.Requests.{RequestCall, Issue, MarkError, MarkDone, Forget, issued, physical_of}
 use Rattle.xid_map.specs.Collections.{CollectionCall, Start, Add, Sum, Finish, EndAll, is_among, collecting, since}
@@ -40,3 +40,22 @@ pub record IsCollecting (number : ℕ) (calls : List CollectionCall) : Type 0 wh
   pub split : calls ≡ later ++ (Start number ∷ earlier)
   pub began : is_among number (collecting earlier) ≡ false
   pub not_ended : NoneEnds number later (Start number ∷ earlier)
+
+-- how many of these calls start another request
+abbrev pub others_started : ℕ → List CollectionCall → ℕ
+others_started number [] = 0
+others_started number (Start other ∷ earlier) = if other == number then others_started number earlier else others_started number earlier + 1
+others_started number (Add other entry ∷ earlier) = others_started number earlier
+others_started number (Sum other packets bytes ∷ earlier) = others_started number earlier
+others_started number (Finish other ∷ earlier) = others_started number earlier
+others_started number (EndAll ∷ earlier) = others_started number earlier
+
+-- the request was started while it didn't collect, and since then it wasn't finished, not all were ended, and at most seven starts of others came
+pub record IsStarted (number : ℕ) (calls : List CollectionCall) : Type 0 where
+  pub later : List CollectionCall
+  pub earlier : List CollectionCall
+  pub split : calls ≡ later ++ (Start number ∷ earlier)
+  pub began : is_among number (collecting earlier) ≡ false
+  pub not_finished : Contains later (Finish number) → ⊥
+  pub not_all_ended : Contains later EndAll → ⊥
+  pub few : others_started number later < 8

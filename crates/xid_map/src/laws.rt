@@ -4,7 +4,7 @@ ghost use Rattle.std.specs.Prelude.{ℕ, List, ◌≡◌, ◌≢◌, ◌<◌, �
 ghost use Rattle.xid_map.specs.declared.asked.Issued.{Issued};
 ghost use Rattle.xid_map.specs.Requests.{RequestCall, physical_of, remembered, found};
 ghost use Rattle.xid_map.specs.Collections.{CollectionCall, is_among, collecting, since, kept, IsLongestRun};
-ghost use Rattle.xid_map.specs.Laws.{IsFound, IsCollecting};
+ghost use Rattle.xid_map.specs.Laws.{IsFound, IsCollecting, IsStarted};
 
 /// A request is found under a transaction id exactly where it was issued under that one and since then
 /// nothing was forgotten and fewer than 4,096 others were issued; and it has the marks that were set since.
@@ -21,6 +21,12 @@ pub fn transaction_ids_differ()
 /// all were ended, and no other began by which it, the oldest of eight, was given up.
 pub fn request_collects_until_a_call_ends_it()
     ensures { (number : ℕ) (calls : List CollectionCall) → IsTrue (is_among number (collecting calls)) ↔ IsCollecting number calls }
+{}
+
+/// A request that was started while it didn't collect does so at least until it is finished, all are ended,
+/// or eight others are started.
+pub fn request_collects_until_eight_others_start()
+    ensures { (number : ℕ) (calls : List CollectionCall) → IsStarted number calls → IsTrue (is_among number (collecting calls)) }
 {}
 
 /// At most eight requests collect. Of two of them the one that stands in front began later, so that none
