@@ -19,7 +19,7 @@ unfolding gathered since added summed joined kept
 gathered-begin number calls out = rw (eq-eqb number number refl, out) refl
 
 -- a call that begins no collection of the request comes to the others since it began
-since-goes_on : (number : ℕ) (call : CollectionCall) (calls : List CollectionCall) → begins number call calls ≡ false
+pub since-goes_on : (number : ℕ) (call : CollectionCall) (calls : List CollectionCall) → begins number call calls ≡ false
     → since number (call ∷ calls) ≡ call ∷ since number calls
 unfolding since
 since-goes_on number call calls on = rw on refl

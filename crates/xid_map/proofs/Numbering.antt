@@ -178,19 +178,26 @@ mark_later m slot calls mark number s at =
     ∙ rw s.same_remembered (sym (take-map (marked mark number) 4096 (requests calls)))
 
 -- what is found by a transaction id
+pub found-get : (slot physical : ℕ) (calls : List RequestCall) → physical / 16777216 ≡ slot
+    → found slot physical calls ≡ slice_get (remembered calls) (behind (issued calls) (physical % 16777216))
+unfolding found
+found-get slot physical calls here =
+    find_physical slot physical (remembered calls) here
+    ∙ find_low (physical % 16777216) (issued calls) (remembered calls) (omega arith) (Numbered-remembered calls)
+
+pub found-elsewhere : (slot physical : ℕ) (calls : List RequestCall) → physical / 16777216 ≢ slot → found slot physical calls ≡ None
+unfolding found
+found-elsewhere slot physical calls elsewhere = find_elsewhere slot physical (remembered calls) elsewhere
+
 pub RequestsStand-found : (m : Requests) (slot : ℕ) (calls : List RequestCall) (physical : ℕ) → RequestsStand slot calls m → physical / 16777216 ≡ m.slot
     → slice_get m.remembered (behind m.issued (physical % 16777216)) ≡ found slot physical calls
-unfolding found
 RequestsStand-found m slot calls physical s here =
-    rw (s.same_issued, s.same_remembered)
-    (sym (find_low (physical % 16777216) (issued calls) (remembered calls) (omega arith) (Numbered-remembered calls))
-    ∙ sym (find_physical slot physical (remembered calls) (here ∙ s.same_slot)))
+    rw (s.same_issued, s.same_remembered) (sym (found-get slot physical calls (here ∙ s.same_slot)))
 
 pub RequestsStand-elsewhere : (m : Requests) (slot : ℕ) (calls : List RequestCall) (physical : ℕ) → RequestsStand slot calls m → (physical / 16777216 ≡ m.slot → ⊥)
     → None ≡ found slot physical calls
-unfolding found
 RequestsStand-elsewhere m slot calls physical s elsewhere =
-    sym (find_elsewhere slot physical (remembered calls) (λ e. elsewhere (e ∙ sym s.same_slot)))
+    sym (found-elsewhere slot physical calls (λ e. elsewhere (e ∙ sym s.same_slot)))
 
 -- the k-th newest request has the k-th number before `next`
 number_before : (next k : ℕ) (xs : List Issued) (d : Issued) → Numbered next xs → k < length xs → (get_or xs k d).number + suc k ≡ next

@@ -256,7 +256,7 @@ CollectionsStand-finish_nowhere number xs calls s out = record {
 }
 
 -- a request that collects is not begun again
-begins_not : (number n : ℕ) (calls : List CollectionCall) → is_among number (collecting calls) ≡ true → begins n (Start number) calls ≡ false
+pub begins_not : (number n : ℕ) (calls : List CollectionCall) → is_among number (collecting calls) ≡ true → begins n (Start number) calls ≡ false
 begins_not number n calls within = elim (eqb_tells number n) [
   | inl own ↦ let there : is_among n (collecting calls) ≡ true = rw own.1 at within in rw (own.0, there) refl
   | inr other ↦ rw other.0 refl

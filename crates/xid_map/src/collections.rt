@@ -1,5 +1,5 @@
 ghost use Rattle.std.specs.Prelude.{ℕ, ◌≡◌, ◌≢◌, ◌+◌, ◌<◌, ◌==◌, List, [], ◌∷◌, length, take, vec_capacity, find, position, IfOk, IfSome, IsTrue, OnOk, option_map, option_copied};
-ghost use Rattle.xid_map.specs.Collections.{CollectionCall, Start, Add, Sum, Finish, EndAll, is_among, collecting, kept, IsLongestRun, entries_of, sums_of, room_of, HasRoom, CollectionsStand};
+ghost use Rattle.xid_map.specs.Collections.{CollectionCall, Start, Add, Sum, Finish, EndAll, is_among, collecting, entries_of, sums_of, room_of, HasRoom, CollectionsStand};
 
 use crate::collection::Collection;
 use of10_action::Bytes;
@@ -160,8 +160,3 @@ impl Collections {
         }
     }
 }
-
-/// What is kept of entries is the longest run from the oldest on that is within the limit.
-pub fn kept_is_the_longest_run()
-    ensures { (entries : List (List ℕ)) → IsLongestRun entries (kept entries) }
-{}

@@ -5,11 +5,12 @@
 mod asked;
 mod collection;
 mod collections;
+pub mod laws;
 mod map;
 
 pub use asked::{AskKind, Asked, Issued};
-pub use collections::{Collections, kept_is_the_longest_run};
-pub use map::{XidMap, transaction_ids_differ};
+pub use collections::Collections;
+pub use map::XidMap;
 
 #[cfg(test)]
 mod tests;

@@ -1,5 +1,5 @@
-ghost use Rattle.std.specs.Prelude.{ℕ, ◌≡◌, ◌≢◌, ◌+◌, ◌-◌, ◌^◌, ◌<◌, List, [], ◌∷◌, AllPairs, IfOk, nat_lt, if◌then◌else◌, Some, None};
-ghost use Rattle.xid_map.specs.Requests.{RequestCall, Issue, MarkError, MarkDone, Forget, issued, physical_of, remembered, found, RequestsStand};
+ghost use Rattle.std.specs.Prelude.{ℕ, ◌≡◌, ◌+◌, ◌-◌, ◌^◌, ◌<◌, List, [], ◌∷◌, IfOk, nat_lt, if◌then◌else◌, Some, None};
+ghost use Rattle.xid_map.specs.Requests.{RequestCall, Issue, MarkError, MarkDone, Forget, issued, physical_of, found, RequestsStand};
 
 use crate::asked::{Asked, Issued};
 use circular_buffer::HeapCircularBuffer;
@@ -130,8 +130,3 @@ impl XidMap {
         self.ring.clear();
     }
 }
-
-/// No two remembered requests have one transaction id.
-pub fn transaction_ids_differ()
-    ensures { (slot : ℕ) (calls : List RequestCall) → AllPairs (λ one other. physical_of slot one.number ≢ physical_of slot other.number) (remembered calls) }
-{}

@@ -1,5 +1,5 @@
 use Rattle.xid_map.proofs.Numbering.{remembered-differ}
-use Rattle.xid_map.proofs.map.transaction_ids_differ.Goals as goal
+use Rattle.xid_map.proofs.laws.transaction_ids_differ.Goals as goal
 
 pub returns : goal.returns
 returns c = remembered-differ
