@@ -3,6 +3,7 @@
 #![tactic(auto)]
 
 mod header;
+pub mod laws;
 mod link;
 mod network;
 mod probe;

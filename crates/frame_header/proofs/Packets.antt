@@ -1,0 +1,216 @@
+-- A packet that is spelled from its fields is given these.
+use Rattle.std.proofs.Common.{◌≡◌, ℕ, ◌==◌, ◌+◌, ◌*◌, ◌/◌, ◌%◌, ◌^◌, ◌<◌, leb, true, false, List, [], ◌++◌, length, slice_index, Option, Some, None, refl, ◌∙◌, arith}
+use Rattle.std.proofs.Math.Nat.{mod-eq_of_lt}
+use Rattle.std.proofs.lemmas.Bool.{le-leb, ne_eqb}
+use Rattle.byteorder.specs.Endian.{big_bytes}
+use Rattle.byteorder.specs.Numbers.{big_number-reads_back}
+use Rattle.frame_header.specs.declared.network.Transport.{Transport}
+use Rattle.frame_header.specs.declared.network.Network.{Network}
+use Rattle.frame_header.specs.Links.{field_at, typed, tagged_link, link_of}
+use Rattle.frame_header.specs.Networks.{no_transport, transport_at, transport_of, ipv4_of, arp_of, network_of}
+use Rattle.frame_header.specs.Headers.{header_of_packet}
+use Rattle.frame_header.specs.Packets.{Tag, IsTag, IsTagOrNone, Ethernet, IsEthernet, spell_ethernet, vlan_of, pcp_of, Segment, IsSegment, proto_of, first_of, second_of, spell_segment, Ipv4, IsIpv4, spell_ipv4, ipv4_header, Arp, IsArp, spell_arp, arp_header}
+
+-- ---- Ethernet
+
+record AreTagParts (word priority vlan : ℕ) : Type 0 where
+  id : word % 0x1000 ≡ vlan
+  pcp : word / 0x2000 ≡ priority
+  fits : word < 256 ^ 2
+
+tag_parts : (t : Tag) → IsTag t → AreTagParts (t.pcp * 0x2000 + t.mark * 0x1000 + t.id) t.pcp t.id
+tag_parts t h =
+    let a = h.pcp in
+    let b = h.mark in
+    let c = h.id in
+    record { id = omega arith; pcp = omega arith; fits = omega arith }
+
+record IsType (kind : ℕ) : Type 0 where
+  fits : kind < 256 ^ 2
+  least : leb 0x0600 kind ≡ true
+  no_tag : (kind == 0x8100) ≡ false
+
+tagged_again : (t : Tag) (kind : ℕ) (payload : List ℕ) → IsTag t → IsType kind
+    → tagged_link (big_bytes 2 (t.pcp * 0x2000 + t.mark * 0x1000 + t.id) ++ big_bytes 2 kind ++ payload) ≡ record { vlan = t.id; pcp = t.pcp; kind = kind; payload = payload }
+unfolding typed tagged_link
+tagged_again t kind payload h k =
+    let bytes = big_bytes 2 (t.pcp * 0x2000 + t.mark * 0x1000 + t.id) ++ big_bytes 2 kind ++ payload in
+    let parts = tag_parts t h in
+    rw (
+      le-leb 4 (length bytes) (omega arith),
+      big_number-reads_back 2 (t.pcp * 0x2000 + t.mark * 0x1000 + t.id) [] parts.fits,
+      big_number-reads_back 2 kind [] k.fits,
+      k.least,
+      parts.id,
+      parts.pcp,
+    ) refl
+
+link_with : (dst src : ℕ) (tag : Option Tag) (kind : ℕ) (payload : List ℕ) → IsTagOrNone tag → IsType kind
+    → link_of (spell_ethernet (record { dst = dst; src = src; tag = tag }) kind payload) ≡ record { vlan = vlan_of tag; pcp = pcp_of tag; kind = kind; payload = payload }
+unfolding spell_ethernet typed tagged_link link_of
+link_with dst src None kind payload h k =
+    let bytes = spell_ethernet (record { dst = dst; src = src; tag = None }) kind payload in
+    rw (
+      le-leb 14 (length bytes) (omega arith),
+      big_number-reads_back 2 kind [] k.fits,
+      k.no_tag,
+      k.least,
+    ) refl
+link_with dst src (Some t) kind payload h k =
+    let bytes = spell_ethernet (record { dst = dst; src = src; tag = Some t }) kind payload in
+    rw (le-leb 14 (length bytes) (omega arith)) (tagged_again t kind payload h k)
+
+link_again : (e : Ethernet) (kind : ℕ) (payload : List ℕ) → IsEthernet e → IsType kind → link_of (spell_ethernet e kind payload) ≡ record { vlan = vlan_of e.tag; pcp = pcp_of e.tag; kind = kind; payload = payload }
+link_again e kind payload h k = link_with e.dst e.src e.tag kind payload h.tag k
+
+dst_again : (e : Ethernet) (kind : ℕ) (payload : List ℕ) → IsEthernet e → field_at (spell_ethernet e kind payload) 0 6 ≡ e.dst
+unfolding spell_ethernet
+dst_again e kind payload h =
+    rw (le-leb 6 (length (spell_ethernet e kind payload)) (omega arith)) (big_number-reads_back 6 e.dst [] h.dst)
+
+src_again : (e : Ethernet) (kind : ℕ) (payload : List ℕ) → IsEthernet e → field_at (spell_ethernet e kind payload) 6 6 ≡ e.src
+unfolding spell_ethernet
+src_again e kind payload h =
+    rw (le-leb 12 (length (spell_ethernet e kind payload)) (omega arith)) (big_number-reads_back 6 e.src [] h.src)
+
+header_again : (in_port : ℕ) (e : Ethernet) (kind : ℕ) (payload : List ℕ) (network : Network)
+    → IsEthernet e → IsType kind → network_of kind payload ≡ network
+    → header_of_packet in_port (spell_ethernet e kind payload)
+    ≡ record {
+      in_port = in_port;
+      dl_src = e.src;
+      dl_dst = e.dst;
+      dl_vlan = vlan_of e.tag;
+      dl_vlan_pcp = pcp_of e.tag;
+      dl_type = kind;
+      nw_tos = network.nw_tos;
+      nw_proto = network.nw_proto;
+      nw_src = network.nw_src;
+      nw_dst = network.nw_dst;
+      tp_src = network.tp_src;
+      tp_dst = network.tp_dst;
+    }
+unfolding header_of_packet
+header_again in_port e kind payload network h k n =
+    rw (link_again e kind payload h k, n, dst_again e kind payload h, src_again e kind payload h) refl
+
+-- ---- IPv4
+
+whole_transport : (p : Ipv4) (s : Segment) (rest : List ℕ) → IsIpv4 p → IsSegment s → p.proto ≡ proto_of s
+    → transport_of (spell_ipv4 p 0 (spell_segment s ++ rest)) ≡ record { tp_src = first_of s; tp_dst = second_of s }
+unfolding spell_ipv4 transport_of transport_at
+whole_transport p (Segment.Tcp src dst) rest h fits e =
+    let packet = spell_ipv4 p 0 (spell_segment (Segment.Tcp src dst) ++ rest) in
+    let flags = h.flags in
+    let whole : (p.flags * 0x4000 + 0) % 0x4000 ≡ 0 = omega arith in
+    let proto : slice_index packet 9 ≡ 6 = mod-eq_of_lt h.proto ∙ e in
+    rw (
+      big_number-reads_back 2 (p.flags * 0x4000 + 0) [] (omega arith),
+      whole,
+      proto,
+      le-leb 24 (length packet) (omega arith),
+      big_number-reads_back 2 src [] fits.0,
+      big_number-reads_back 2 dst [] fits.1,
+    ) refl
+whole_transport p (Segment.Udp src dst) rest h fits e =
+    let packet = spell_ipv4 p 0 (spell_segment (Segment.Udp src dst) ++ rest) in
+    let flags = h.flags in
+    let whole : (p.flags * 0x4000 + 0) % 0x4000 ≡ 0 = omega arith in
+    let proto : slice_index packet 9 ≡ 17 = mod-eq_of_lt h.proto ∙ e in
+    rw (
+      big_number-reads_back 2 (p.flags * 0x4000 + 0) [] (omega arith),
+      whole,
+      proto,
+      le-leb 24 (length packet) (omega arith),
+      big_number-reads_back 2 src [] fits.0,
+      big_number-reads_back 2 dst [] fits.1,
+    ) refl
+whole_transport p (Segment.Icmp kind code) rest h fits e =
+    let packet = spell_ipv4 p 0 (spell_segment (Segment.Icmp kind code) ++ rest) in
+    let flags = h.flags in
+    let whole : (p.flags * 0x4000 + 0) % 0x4000 ≡ 0 = omega arith in
+    let proto : slice_index packet 9 ≡ 1 = mod-eq_of_lt h.proto ∙ e in
+    let first : slice_index packet 20 ≡ kind = mod-eq_of_lt fits.0 in
+    let second : slice_index packet 21 ≡ code = mod-eq_of_lt fits.1 in
+    rw (
+      big_number-reads_back 2 (p.flags * 0x4000 + 0) [] (omega arith),
+      whole,
+      proto,
+      le-leb 22 (length packet) (omega arith),
+      first,
+      second,
+    ) refl
+
+not_zero : (n : ℕ) → 0 < n → (n == 0) ≡ false
+not_zero n h = ne_eqb n 0 (λ e. omega (arith, h, e))
+
+fragment_transport : (p : Ipv4) (fragment : ℕ) (behind : List ℕ) → IsIpv4 p → 0 < fragment → fragment < 0x4000
+    → transport_of (spell_ipv4 p fragment behind) ≡ no_transport
+unfolding spell_ipv4 transport_of
+fragment_transport p fragment behind h some below =
+    let flags = h.flags in
+    let rest : (p.flags * 0x4000 + fragment) % 0x4000 ≡ fragment = omega arith in
+    rw (
+      big_number-reads_back 2 (p.flags * 0x4000 + fragment) [] (omega arith),
+      rest,
+      not_zero fragment some,
+    ) refl
+
+ipv4_again : (p : Ipv4) (fragment : ℕ) (behind : List ℕ) (t : Transport) → IsIpv4 p → transport_of (spell_ipv4 p fragment behind) ≡ t
+    → ipv4_of (spell_ipv4 p fragment behind)
+    ≡ record { nw_tos = p.service * 4; nw_proto = p.proto; nw_src = p.src; nw_dst = p.dst; tp_src = t.tp_src; tp_dst = t.tp_dst }
+unfolding spell_ipv4 ipv4_of
+ipv4_again p fragment behind t h e =
+    let packet = spell_ipv4 p fragment behind in
+    let a = h.service in
+    let b = h.congestion in
+    let byte : slice_index packet 1 ≡ p.service * 4 + p.congestion = mod-eq_of_lt (omega arith) in
+    let service : (p.service * 4 + p.congestion) / 4 * 4 ≡ p.service * 4 = omega arith in
+    let proto : slice_index packet 9 ≡ p.proto = mod-eq_of_lt h.proto in
+    rw (
+      e,
+      le-leb 20 (length packet) (omega arith),
+      byte,
+      service,
+      proto,
+      big_number-reads_back 4 p.src [] h.src,
+      big_number-reads_back 4 p.dst [] h.dst,
+    ) refl
+
+ipv4_network : (payload : List ℕ) → network_of 0x0800 payload ≡ ipv4_of payload
+unfolding network_of
+ipv4_network payload = refl
+
+ipv4_type : IsType 0x0800
+ipv4_type = record { fits = omega arith; least = refl; no_tag = refl }
+
+pub whole_ipv4 : (in_port : ℕ) (e : Ethernet) (p : Ipv4) (s : Segment) (rest : List ℕ) → IsEthernet e → IsIpv4 p → IsSegment s → p.proto ≡ proto_of s
+    → header_of_packet in_port (spell_ethernet e 0x0800 (spell_ipv4 p 0 (spell_segment s ++ rest))) ≡ ipv4_header in_port e p (first_of s) (second_of s)
+whole_ipv4 in_port e p s rest h ip fits proto =
+    let payload = spell_ipv4 p 0 (spell_segment s ++ rest) in
+    header_again in_port e 0x0800 payload _ h ipv4_type (ipv4_network payload ∙ ipv4_again p 0 (spell_segment s ++ rest) _ ip (whole_transport p s rest ip fits proto))
+
+pub fragment_ipv4 : (in_port : ℕ) (e : Ethernet) (p : Ipv4) (fragment : ℕ) (behind : List ℕ) → IsEthernet e → IsIpv4 p → 0 < fragment → fragment < 0x4000
+    → header_of_packet in_port (spell_ethernet e 0x0800 (spell_ipv4 p fragment behind)) ≡ ipv4_header in_port e p 0 0
+fragment_ipv4 in_port e p fragment behind h ip some below =
+    let payload = spell_ipv4 p fragment behind in
+    header_again in_port e 0x0800 payload _ h ipv4_type (ipv4_network payload ∙ ipv4_again p fragment behind no_transport ip (fragment_transport p fragment behind ip some below))
+
+-- ---- ARP
+
+arp_again : (a : Arp) (behind : List ℕ) → IsArp a
+    → network_of 0x0806 (spell_arp a behind) ≡ record { nw_tos = 0; nw_proto = a.operation % 256; nw_src = a.sender; nw_dst = a.target; tp_src = 0; tp_dst = 0 }
+unfolding spell_arp arp_of network_of
+arp_again a behind h =
+    rw (
+      le-leb 28 (length (spell_arp a behind)) (omega arith),
+      big_number-reads_back 4 a.sender [] h.sender,
+      big_number-reads_back 4 a.target [] h.target,
+    ) refl
+
+arp_type : IsType 0x0806
+arp_type = record { fits = omega arith; least = refl; no_tag = refl }
+
+pub arp_header_again : (in_port : ℕ) (e : Ethernet) (a : Arp) (behind : List ℕ) → IsEthernet e → IsArp a
+    → header_of_packet in_port (spell_ethernet e 0x0806 (spell_arp a behind)) ≡ arp_header in_port e a
+arp_header_again in_port e a behind h arp = header_again in_port e 0x0806 (spell_arp a behind) _ h arp_type (arp_again a behind arp)
