@@ -1,7 +1,13 @@
-# Builds the program and runs it on the shipped example.
+# Builds the program, runs it on the shipped example, and installs it.
 program := crates/flowvisor/out/flowvisor
 
-.PHONY: build demo check
+# Where `make install` puts files; DESTDIR stands before it where a package is made.
+PREFIX ?= /usr/local
+bin = $(DESTDIR)$(PREFIX)/bin
+manual = $(DESTDIR)$(PREFIX)/share/man/man1
+completions = $(DESTDIR)$(PREFIX)/share/bash-completion/completions
+
+.PHONY: build demo check install uninstall
 
 # Proves what isn't proved yet, and builds.
 build:
@@ -16,3 +22,15 @@ demo: build
 # The gate: every proof from nothing, the edits that must fail, the tests and the program's run.
 check:
 	@rt ci
+
+# Builds only where there is no program, or a source is newer than it.
+install:
+	@test -x $(program) && test -z "$$(find crates crates.txt \( -name out -o -name must-fail \) -prune \
+	  -o -type f -newer $(program) -print)" || $(MAKE) build
+	install -d "$(bin)" "$(manual)" "$(completions)"
+	install -m 755 $(program) "$(bin)/flowvisor"
+	install -m 644 man/flowvisor.1 "$(manual)/flowvisor.1"
+	install -m 644 completion/flowvisor.bash "$(completions)/flowvisor"
+
+uninstall:
+	rm -f "$(bin)/flowvisor" "$(manual)/flowvisor.1" "$(completions)/flowvisor"
