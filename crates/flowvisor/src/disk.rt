@@ -34,16 +34,32 @@ impl<'r> Disk<'r> {
         }
     }
 
-    fn open(&self, path: &str, from: u64) -> io::Result<Opened> {
+    fn open(&self, path: &str, from: u64) -> io::Result<File> {
         let mut file = File::open(self.rt, path)?;
         if from > 0 {
             file.seek(SeekFrom::Start(from))?;
         }
-        Ok(Opened {
-            path: String::from_str(self.rt.alloc(), path)?,
-            file,
-            at: from,
-        })
+        Ok(file)
+    }
+
+    // Where there is no memory for the path, the next read opens the file again.
+    fn keep(&mut self, path: &str, file: File, at: u64)
+        ensures { self.new.faults ≡ self.old.faults }
+    {
+        self.opened = match String::from_str(self.rt.alloc(), path) {
+            Ok(path) => Some(Opened { path, file, at }),
+            Err(_) => None,
+        };
+    }
+
+    fn open_and_read(&mut self, path: &str, from: u64, into: &mut [u8]) -> io::Result<usize>
+        ensures within { IfOk result (λ n. n ≤ length into.old) }
+        ensures count { self.new.faults ≡ self.old.faults }
+    {
+        let mut file = self.open(path, from)?;
+        let count = file.read(into)?;
+        self.keep(path, file, from.saturating_add(count as u64));
+        Ok(count)
     }
 
     fn read_from(&mut self, path: &str, from: u64, into: &mut [u8]) -> io::Result<usize>
@@ -52,7 +68,7 @@ impl<'r> Disk<'r> {
     {
         let mut opened = match self.opened.take() {
             Some(opened) if opened.path.as_str() == path && opened.at == from => opened,
-            _ => self.open(path, from)?,
+            _ => return self.open_and_read(path, from, into),
         };
         let count = opened.file.read(into)?;
         opened.at = from.saturating_add(count as u64);
