@@ -1,6 +1,8 @@
 pub mod Loop
 pub mod Powers
 pub mod LeastKey
+pub mod LeastUnknown
+pub mod Firsts
 pub mod Documents
 pub mod Steps
 pub mod AddressRanges

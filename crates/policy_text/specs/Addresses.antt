@@ -2,6 +2,7 @@
 use Rattle.std.specs.Prelude.{ℕ, ◌+◌, ◌-◌, ◌*◌, ◌/◌, ◌^◌, ◌==◌, ◌&&◌, nat_le, Bool, List, [], ◌∷◌, length, slice_index, Option, Some, None, option_map, if◌then◌else◌}
 use Rattle.of10_model.specs.declared.pattern.Prefix.{Prefix}
 
+-- a part that isn't of its form ends a reading
 infixl 10 ◌>>=◌
 abbrev pub ◌>>=◌ : {A B : Type 0} → Option A → (A → Option B) → Option B
 None >>= f = None
@@ -59,6 +60,7 @@ abbrev pub with_digit_in : ℕ × List ℕ → Option (ℕ × List ℕ) → ℕ 
 with_digit_in n None = n
 with_digit_in n (Some digit) = (n.0 * 10 + digit.0, digit.1)
 
+-- the number and the digit that follows it, where one does
 abbrev pub with_digit : ℕ × List ℕ → ℕ × List ℕ
 with_digit n = with_digit_in n (digit_at n.1)
 
@@ -66,10 +68,11 @@ with_digit n = with_digit_in n (digit_at n.1)
 abbrev pub digits_at : List ℕ → Option (ℕ × List ℕ)
 digits_at text = option_map (λ first. if first.0 == 0 then first else with_digit (with_digit first)) (digit_at text)
 
--- a number below 256 at the front, without a leading zero
+-- a number that was read, where it is below 256
 abbrev pub octet_of : ℕ × List ℕ → Option (ℕ × List ℕ)
 octet_of n = if nat_le n.0 255 then Some n else None
 
+-- a number of one to three digits at the front, below 256
 unfoldable pub octet_at : List ℕ → Option (ℕ × List ℕ)
 octet_at text = digits_at text >>= octet_of
 

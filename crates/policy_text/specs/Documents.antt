@@ -35,6 +35,7 @@ parts_in this = do
 abbrev pub document_of : List ℕ → Option Members
 document_of bytes = if is_utf8 bytes then parse_document bytes else None
 
+-- the slices and the rules of a text's table, where the text is one
 abbrev pub parts_of : Option Members → Result PolicyView ReadFault
 parts_of None = Err NotToml
 parts_of (Some ms) = parts_in (top ms)

@@ -6,3 +6,4 @@ pub mod Rules
 pub mod Documents
 pub mod Views
 pub mod Printing
+pub mod Firsts

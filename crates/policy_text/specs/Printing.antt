@@ -50,6 +50,7 @@ Entry = List ℕ × Option Data
 abbrev pub unless_default : ℕ → ℕ → Option Data
 unless_default default n = if n == default then None else Some (integer (pos n))
 
+-- the keys of a slice
 abbrev pub slice_entries : Slice → List Entry
 slice_entries s =
     (codes "name", Some (string s.name)) ∷ (codes "controller", Some (string s.controller)) ∷ (codes "rate", unless_default 1000 s.rate)
@@ -64,27 +65,33 @@ abbrev pub names_in : ℕ → List Slice → List (List ℕ)
 names_in bits [] = []
 names_in bits (s ∷ rest) = if bits % 2 == 1 then s.name ∷ names_in (bits / 2) rest else names_in (bits / 2) rest
 
+-- an array of names, where there are any
 abbrev pub names : List (List ℕ) → Option Data
 names [] = None
 names (name ∷ rest) = Some (array (items_of (map string (name ∷ rest))))
 
+-- a number, where there is one
 abbrev pub number_value : Option ℕ → Option Data
 number_value o = option_map (λ n. integer (pos n)) o
 
+-- a text, where there is one
 abbrev pub text_value : Option (List ℕ) → Option Data
 text_value o = option_map (λ s. string s) o
 
+-- a rule's keys beside those of its match; its slices stand there by name
 abbrev pub own_entries : List Slice → Rule → List Entry
 own_entries slices r =
     (codes "switch", text_value (option_map (hex_text 16) r.switch)) ∷ (codes "priority", Some (integer (pos r.priority)))
     ∷ (codes "write", text_value (option_and_then (name_at slices) r.writer)) ∷ (codes "read", names (names_in r.readers slices)) ∷ []
 
+-- the keys of a match's constraints on the link
 abbrev pub link_entries : Pattern → List Entry
 link_entries m =
     (codes "in_port", number_value m.in_port) ∷ (codes "dl_src", text_value (option_map hardware_text m.dl_src))
     ∷ (codes "dl_dst", text_value (option_map hardware_text m.dl_dst)) ∷ (codes "dl_vlan", number_value m.dl_vlan)
     ∷ (codes "dl_vlan_pcp", number_value m.dl_vlan_pcp) ∷ (codes "dl_type", number_value m.dl_type) ∷ []
 
+-- the keys of its constraints on the network and the transport
 abbrev pub network_entries : Pattern → List Entry
 network_entries m =
     (codes "nw_tos", number_value m.nw_tos) ∷ (codes "nw_proto", number_value m.nw_proto)
@@ -110,21 +117,25 @@ unfoldable pub entry_text : Entry → List ℕ
 entry_text (key, None) = []
 entry_text (key, Some d) = key ++ (codes " = " ++ (value_text d ++ codes "\n"))
 
+-- a line for each entry in turn
 abbrev pub entries_text : List Entry → List ℕ
 entries_text [] = []
 entries_text (entry ∷ rest) = entry_text entry ++ entries_text rest
 
--- a table of an array, under its header
+-- a slice's table, under its header
 unfoldable pub slice_text : Slice → List ℕ
 slice_text s = codes "\n[[slice]]\n" ++ entries_text (slice_entries s)
 
+-- a rule's table, under its header
 unfoldable pub rule_text : List Slice → Rule → List ℕ
 rule_text slices r = codes "\n[[rule]]\n" ++ (entries_text (own_entries slices r) ++ (entries_text (link_entries r.pattern) ++ entries_text (network_entries r.pattern)))
 
+-- the tables of the slices in turn
 abbrev pub slices_text : List Slice → List ℕ
 slices_text [] = []
 slices_text (s ∷ rest) = slice_text s ++ slices_text rest
 
+-- the tables of the rules in turn
 abbrev pub rules_text : List Slice → List Rule → List ℕ
 rules_text slices [] = []
 rules_text slices (r ∷ rest) = rule_text slices r ++ rules_text slices rest

@@ -53,30 +53,35 @@ pub record SectionView : Type 0 where
 abbrev pub place_of : SectionView → List ℕ → Place
 place_of this key = record { part = this.part; index = this.index; key = key }
 
--- the keys that each kind of table may have
+-- the keys of the whole text's table
 abbrev pub is_top_key : List ℕ → Bool
 is_top_key key = bytes_eq key (codes "version") || bytes_eq key (codes "slice") || bytes_eq key (codes "rule")
 
+-- the keys of a slice's table
 abbrev pub is_slice_key : List ℕ → Bool
 is_slice_key key =
     bytes_eq key (codes "name") || bytes_eq key (codes "controller") || bytes_eq key (codes "rate") || bytes_eq key (codes "burst")
     || bytes_eq key (codes "quota")
 
+-- the keys of a rule's constraints on the link
 abbrev pub is_link_key : List ℕ → Bool
 is_link_key key =
     bytes_eq key (codes "in_port") || bytes_eq key (codes "dl_src") || bytes_eq key (codes "dl_dst") || bytes_eq key (codes "dl_vlan")
     || bytes_eq key (codes "dl_vlan_pcp") || bytes_eq key (codes "dl_type")
 
+-- the keys of its constraints on the network and the transport
 abbrev pub is_network_key : List ℕ → Bool
 is_network_key key =
     bytes_eq key (codes "nw_tos") || bytes_eq key (codes "nw_proto") || bytes_eq key (codes "nw_src") || bytes_eq key (codes "nw_dst")
     || bytes_eq key (codes "tp_src") || bytes_eq key (codes "tp_dst")
 
+-- the keys of a rule's table
 abbrev pub is_rule_key : List ℕ → Bool
 is_rule_key key =
     bytes_eq key (codes "switch") || bytes_eq key (codes "priority") || bytes_eq key (codes "write") || bytes_eq key (codes "read")
     || is_link_key key || is_network_key key
 
+-- a key that such a table may have
 abbrev pub is_known : Part → List ℕ → Bool
 is_known Top key = is_top_key key
 is_known Slice key = is_slice_key key
@@ -97,11 +102,12 @@ abbrev pub least : List (List ℕ) → Option (List ℕ)
 least [] = None
 least (text ∷ rest) = Some (lesser text (least rest))
 
--- a table has no unknown key, or its least one is at fault
+-- there is no unknown key, or this one is at fault
 abbrev pub no_unknown : SectionView → Option (List ℕ) → Result (Unit {0}) ReadFault
 no_unknown this None = Ok tt
 no_unknown this (Some key) = Err (UnknownKey (place_of this key))
 
+-- the least unknown key of a table is at fault
 abbrev pub known_keys : SectionView → Result (Unit {0}) ReadFault
 known_keys this = no_unknown this (least (unknown_keys this.part this.members))
 
@@ -122,10 +128,11 @@ abbrev pub allowed : {A : Type 0} → (Data → Option A) → Place → Option D
 allowed read at None = Ok None
 allowed read at (Some d) = formed at (read d) >>= (λ x. Ok (Some x))
 
--- what stands under a key that must be there, and under one that may be missing
+-- what stands under a key that must be there
 abbrev pub required : {A : Type 0} → (Data → Option A) → SectionView → List ℕ → Result A ReadFault
 required read this key = demanded read (place_of this key) (get_member key this.members)
 
+-- what stands under a key that may be missing
 abbrev pub optional : {A : Type 0} → (Data → Option A) → SectionView → List ℕ → Result (Option A) ReadFault
 optional read this key = allowed read (place_of this key) (get_member key this.members)
 
@@ -175,25 +182,28 @@ abbrev pub text : Texts → Data → Option (List ℕ)
 text texts (string s) = when (is_text texts s) s
 text texts d = None
 
--- the texts of an array of texts
+-- a text in front of others, where there are others
 abbrev pub with_first : List ℕ → Option (List (List ℕ)) → Option (List (List ℕ))
 with_first s None = None
 with_first s (Some rest) = Some (s ∷ rest)
 
+-- the texts that items are, where each is one
 abbrev pub each_text : Items → Option (List (List ℕ))
 each_text no_items = Some []
 each_text (item (string s) rest) = with_first s (each_text rest)
 each_text (item d rest) = None
 
+-- the texts of an array of texts
 abbrev pub text_list : Data → Option (List (List ℕ))
 text_list (array items) = each_text items
 text_list d = None
 
--- a number that is written as a text
+-- the number that a text writes
 abbrev pub numeral_of : Numerals → List ℕ → Option ℕ
 numeral_of Datapath s = datapath_id s
 numeral_of Hardware s = hardware_address s
 
+-- a text that writes such a number
 abbrev pub numeral : Numerals → Data → Option ℕ
 numeral kind (string s) = numeral_of kind s
 numeral kind d = None

@@ -29,6 +29,7 @@ pub record LinkView : Type 0 where
   pub dl_vlan_pcp : Option ℕ
   pub dl_type : Option ℕ
 
+-- the constraints on the link that a table gives, each under its key
 unfoldable pub link_in : SectionView → Result LinkView ReadFault
 link_in this = do
   in_port ← optional (number InPort) this (codes "in_port")
@@ -56,6 +57,7 @@ joined link nw_tos nw_proto nw_src nw_dst tp_src tp_dst = record {
   tp_dst = tp_dst;
 }
 
+-- the constraints of a table, those on the link first
 unfoldable pub pattern_in : SectionView → Result Pattern ReadFault
 pattern_in this = do
   link ← link_in this
@@ -67,7 +69,8 @@ pattern_in this = do
   tp_dst ← optional (number (UpTo 0xffff)) this (codes "tp_dst")
   Ok (joined link nw_tos nw_proto nw_src nw_dst tp_src tp_dst)
 
--- the first field that is given without what it needs (OpenFlow 1.0.0, section 3.4: such a field isn't looked at)
+-- the first field that is given without what it needs. Which field needs which is this proxy's own rule, after OpenFlow 1.0.0,
+-- section 3.4.
 unfoldable pub first_improper : Pattern → Option Field
 first_improper m =
     if is_some m.dl_vlan_pcp && not (has_vlan m.dl_vlan) then Some DlVlanPcp
@@ -90,7 +93,8 @@ abbrev pub named : ℕ → Option ℕ → Result ℕ ReadFault
 named index None = Err (Refused (UnknownSlice index))
 named index (Some slot) = Ok slot
 
--- the slot of the writer, where one is named. A slot has eight bits; a policy of more slices than that is refused.
+-- the slot of the writer, where one is named, in eight bits. All rules are read before the slices are counted, and a slot
+-- that has more bits is among so many slices that the policy is refused.
 abbrev pub writer_of : List Slice → ℕ → Option (List ℕ) → Result (Option ℕ) ReadFault
 writer_of slices index None = Ok None
 writer_of slices index (Some name) = named index (slot_of slices name) >>= (λ slot. Ok (Some (slot % 256)))
@@ -140,6 +144,7 @@ pub record RuleText : Type 0 where
   pub read : List (List ℕ)
   pub pattern : Pattern
 
+-- what a table says, key by key
 unfoldable pub rule_text_in : SectionView → Result RuleText ReadFault
 rule_text_in this = do
   known ← known_keys this

@@ -9,14 +9,18 @@ use Rattle.policy_text.specs.declared.pattern.Link.{Link}
 use Rattle.policy_text.specs.declared.rules.RuleText.{RuleText}
 use Rattle.policy_text.specs.declared.section.Section.{Section}
 
+-- a table, and which one it is
 abbrev pub section : Section → SectionView
 section s = record { part = s.part; index = s.index; members = table_view s.table.now }
 
+-- the constraints on the link
 abbrev pub link_view : Link → LinkView
 link_view l = record { in_port = l.in_port; dl_src = l.dl_src; dl_dst = l.dl_dst; dl_vlan = l.dl_vlan; dl_vlan_pcp = l.dl_vlan_pcp; dl_type = l.dl_type }
 
+-- the slices and the rules
 abbrev pub parts_view : Parts → PolicyView
 parts_view p = record { slices = p.slices.items; rules = p.rules.items }
 
+-- a rule with its names as bytes
 abbrev pub rule_text_view : RuleText → RuleTextView
 rule_text_view t = record { switch = t.switch; priority = t.priority; write = option_map (λ s. s.now) t.write; read = map (λ s. s.now) t.read.items; pattern = t.pattern }

@@ -5,6 +5,7 @@
 mod addresses;
 mod document;
 mod fault;
+pub mod laws;
 mod names;
 mod pattern;
 mod printing;

@@ -1,0 +1,134 @@
+-- The first item that isn't read, and the least unknown key.
+use Rattle.std.proofs.Common.{◌≡◌, ◌↔◌, ◌⊎◌, inl, inr, ℕ, zero, suc, ◌<◌, List, [], ◌∷◌, Some, Result, Ok, Err, refl, sym, ap, ◌∙◌, arith}
+use Rattle.toml.specs.Data.{Data, Items, no_items, item, get_item}
+use Rattle.flowspace.specs.declared.rules.Rule.{Rule}
+use Rattle.flowspace.specs.declared.slices.Slice.{Slice}
+use Rattle.policy_text.specs.declared.fault.ReadFault.{ReadFault}
+use Rattle.policy_text.specs.Firsts.{AreReadAs, IsFirstRefused}
+use Rattle.policy_text.specs.Reading.{◌>>=◌}
+use Rattle.policy_text.specs.Rules.{rule_of, rules_from}
+use Rattle.policy_text.specs.Slices.{slice_of, slices_from}
+
+-- ---- items in order
+
+-- what items are read as from an index on, each by the same reading
+abbrev reads : {A : Type 0} → (ℕ → Data → Result A ReadFault) → ℕ → Items → Result (List A) ReadFault
+reads read k no_items = Ok []
+reads read k (item d rest) = read k d >>= (λ x. reads read (suc k) rest >>= (λ xs. Ok (x ∷ xs)))
+
+slices_reads : (k : ℕ) (items : Items) → slices_from k items ≡ reads slice_of k items
+slices_reads k no_items = refl
+slices_reads k (item d rest) = rw (slices_reads (suc k) rest) refl
+
+rules_reads : (slices : List Slice) (k : ℕ) (items : Items) → rules_from slices k items ≡ reads (rule_of slices) k items
+rules_reads slices k no_items = refl
+rules_reads slices k (item d rest) = rw (rules_reads slices (suc k) rest) refl
+
+abbrev next : {A : Type 0} → (ℕ → Data → Result A ReadFault) → ℕ → Data → Result A ReadFault
+next read i d = read (suc i) d
+
+reads_next : {A : Type 0} (read : ℕ → Data → Result A ReadFault) (k : ℕ) (items : Items) → reads read (suc k) items ≡ reads (next read) k items
+reads_next read k no_items = refl
+reads_next read k (item d rest) = rw (reads_next read (suc k) rest) refl
+
+abbrev answer : {A : Type 0} → Result A ReadFault → Result (List A) ReadFault → Result (List A) ReadFault
+answer first others = first >>= (λ x. others >>= (λ xs. Ok (x ∷ xs)))
+
+reads_step : {A : Type 0} (read : ℕ → Data → Result A ReadFault) (d : Data) (rest : Items) → reads read 0 (item d rest) ≡ answer (read 0 d) (reads (next read) 0 rest)
+reads_step read d rest = rw (← reads_next read 0 rest) refl
+
+-- ---- all are read
+
+split : {A : Type 0} (first : Result A ReadFault) (others : Result (List A) ReadFault) (xs : List A) → answer first others ≡ Ok xs → (x : A) × (rest : List A) × (first ≡ Ok x) × (others ≡ Ok rest) × (xs ≡ x ∷ rest)
+split (Ok x) (Ok rest) xs e = (x, rest, refl, refl, cc)
+split (Ok x) (Err fault) xs e = absurd cc
+split (Err fault) others xs e = absurd cc
+
+read_more : {A : Type 0} (read : ℕ → Data → Result A ReadFault) (d : Data) (rest : Items) (x : A) (xs : List A) → read 0 d ≡ Ok x → AreReadAs (next read) rest xs → AreReadAs read (item d rest) (x ∷ xs)
+read_more read d rest x xs e more zero = e
+read_more read d rest x xs e more (suc i) = more i
+
+read_each : {A : Type 0} (read : ℕ → Data → Result A ReadFault) (items : Items) (xs : List A) → reads read 0 items ≡ Ok xs → AreReadAs read items xs
+read_each read no_items [] e = λ i. tt
+read_each read no_items (x ∷ xs) e = absurd cc
+read_each read (item d rest) xs e =
+    let (x, others, first, more, same) = split (read 0 d) (reads (next read) 0 rest) xs (sym (reads_step read d rest) ∙ e) in
+    rw same (read_more read d rest x others first (read_each (next read) rest others more))
+
+each_read : {A : Type 0} (read : ℕ → Data → Result A ReadFault) (items : Items) (xs : List A) → AreReadAs read items xs → reads read 0 items ≡ Ok xs
+each_read read no_items [] h = refl
+each_read read no_items (x ∷ xs) h = absurd (h 0)
+each_read read (item d rest) [] h = absurd (h 0)
+each_read read (item d rest) (x ∷ xs) h =
+    let more = each_read (next read) rest xs (λ i. h (suc i)) in
+    reads_step read d rest ∙ rw (h 0, more) refl
+
+-- ---- one is refused
+
+abbrev AreReadBefore : {A : Type 0} → (ℕ → Data → Result A ReadFault) → Items → ℕ → Type 0
+AreReadBefore {A} read items index = (i : ℕ) (d : Data) → i < index → get_item i items ≡ Some d → (x : A) × (read i d ≡ Ok x)
+
+some_is : (a b : Data) → Some a ≡ Some b → a ≡ b
+some_is a b e = cc
+
+earlier_later : {A : Type 0} (read : ℕ → Data → Result A ReadFault) (d : Data) (rest : Items) (index : ℕ) (x : A) → read 0 d ≡ Ok x → AreReadBefore (next read) rest index → AreReadBefore read (item d rest) (suc index)
+earlier_later read d rest index x e h zero other lt there = (x, ap (read 0) (sym (some_is d other there)) ∙ e)
+earlier_later read d rest index x e h (suc i) other lt there = h i other (omega (arith, lt)) there
+
+refused_later : {A : Type 0} (read : ℕ → Data → Result A ReadFault) (d : Data) (rest : Items) (fault : ReadFault) (x : A) → read 0 d ≡ Ok x → IsFirstRefused (next read) rest fault → IsFirstRefused read (item d rest) fault
+refused_later read d rest fault x e h = record {
+  index = suc h.index;
+  refused = h.refused;
+  there = h.there;
+  fault_is = h.fault_is;
+  earlier = earlier_later read d rest h.index x e h.earlier;
+}
+
+refused_here : {A : Type 0} (read : ℕ → Data → Result A ReadFault) (d : Data) (rest : Items) (fault : ReadFault) → read 0 d ≡ Err fault → IsFirstRefused read (item d rest) fault
+refused_here read d rest fault e = record {
+  index = 0;
+  refused = d;
+  there = refl;
+  fault_is = e;
+  earlier = λ i other lt there. absurd (omega (arith, lt));
+}
+
+split_fault : {A : Type 0} (first : Result A ReadFault) (others : Result (List A) ReadFault) (fault : ReadFault) → answer first others ≡ Err fault → (first ≡ Err fault) ⊎ ((x : A) × (first ≡ Ok x) × (others ≡ Err fault))
+split_fault (Ok x) (Ok rest) fault e = absurd cc
+split_fault (Ok x) (Err other) fault e = inr (x, refl, cc)
+split_fault (Err other) others fault e = inl cc
+
+first_refused : {A : Type 0} (read : ℕ → Data → Result A ReadFault) (items : Items) (fault : ReadFault) → reads read 0 items ≡ Err fault → IsFirstRefused read items fault
+first_refused read no_items fault e = absurd cc
+first_refused read (item d rest) fault e =
+    elim (split_fault (read 0 d) (reads (next read) 0 rest) fault (sym (reads_step read d rest) ∙ e)) [
+      | inl here ↦ refused_here read d rest fault here
+      | inr later ↦ refused_later read d rest fault later.0 later.1 (first_refused (next read) rest fault later.2)
+    ]
+
+refused_at : {A : Type 0} (read : ℕ → Data → Result A ReadFault) (items : Items) (fault : ReadFault) (index : ℕ) (refused : Data)
+    → get_item index items ≡ Some refused → read index refused ≡ Err fault → AreReadBefore read items index → reads read 0 items ≡ Err fault
+refused_at read no_items fault index refused there e h = absurd cc
+refused_at read (item d rest) fault zero refused there e h =
+    let here : read 0 d ≡ Err fault = ap (read 0) (some_is d refused there) ∙ e in
+    reads_step read d rest ∙ rw here refl
+refused_at read (item d rest) fault (suc index) refused there e h =
+    let first = h 0 d (omega arith) refl in
+    let more = refused_at (next read) rest fault index refused there e (λ i other lt. h (suc i) other (omega (arith, lt))) in
+    reads_step read d rest ∙ rw (first.1, more) refl
+
+pub slices_read : (items : Items) (slices : List Slice) → (slices_from 0 items ≡ Ok slices) ↔ AreReadAs slice_of items slices
+slices_read items slices =
+    (λ e. read_each slice_of items slices (sym (slices_reads 0 items) ∙ e), λ h. slices_reads 0 items ∙ each_read slice_of items slices h)
+
+pub slices_refused : (items : Items) (fault : ReadFault) → (slices_from 0 items ≡ Err fault) ↔ IsFirstRefused slice_of items fault
+slices_refused items fault =
+    (λ e. first_refused slice_of items fault (sym (slices_reads 0 items) ∙ e), λ h. slices_reads 0 items ∙ refused_at slice_of items fault h.index h.refused h.there h.fault_is h.earlier)
+
+pub rules_read : (slices : List Slice) (items : Items) (rules : List Rule) → (rules_from slices 0 items ≡ Ok rules) ↔ AreReadAs (rule_of slices) items rules
+rules_read slices items rules =
+    (λ e. read_each (rule_of slices) items rules (sym (rules_reads slices 0 items) ∙ e), λ h. rules_reads slices 0 items ∙ each_read (rule_of slices) items rules h)
+
+pub rules_refused : (slices : List Slice) (items : Items) (fault : ReadFault) → (rules_from slices 0 items ≡ Err fault) ↔ IsFirstRefused (rule_of slices) items fault
+rules_refused slices items fault =
+    (λ e. first_refused (rule_of slices) items fault (sym (rules_reads slices 0 items) ∙ e), λ h. rules_reads slices 0 items ∙ refused_at (rule_of slices) items fault h.index h.refused h.there h.fault_is h.earlier)

@@ -1,0 +1,120 @@
+-- The key that is named is the least unknown one.
+use Rattle.std.proofs.Common.{◌≡◌, ◌↔◌, ◌⊎◌, inl, inr, Bool, true, false, true≢false, ℕ, List, Option, Some, None, Result, Ok, Err, Ordering, Less, Equal, Greater, nat_cmp, is_lt, refl, sym, ap, ◌∙◌, subst}
+use Rattle.std.specs.Cmp.{IsStrictWeakOrder}
+use Rattle.std.specs.Cmp.Lexicographic.{slice_cmp}
+use Rattle.std.specs.Ordering.{is_eq, ordering_reverse}
+use Rattle.std.proofs.lemmas.Bool.{cases_Bool}
+use Rattle.std.proofs.lemmas.Cmp.{nat_list_cmp_total, tied_itself}
+use Rattle.std.proofs.lemmas.List.MinMax.{ranks_by}
+use Rattle.std.proofs.lemmas.Map.Text.{is_eq-slice_cmp}
+use Rattle.std.proofs.lemmas.Slice.Eq.{bytes_eq-Decides}
+use Rattle.toml.specs.Data.{Data, Members, no_members, member}
+use Rattle.policy_text.specs.declared.fault.Part.{Part}
+use Rattle.policy_text.specs.declared.fault.Place.{Place}
+use Rattle.policy_text.specs.declared.fault.ReadFault.{ReadFault}
+use Rattle.policy_text.specs.declared.fault.ReadFault.TheVariants.{UnknownKey}
+use Rattle.policy_text.specs.Firsts.{IsKey, AreKnown, IsLeastUnknown}
+use Rattle.policy_text.specs.Reading.{SectionView, place_of, is_known, unknown_keys, lesser, least, no_unknown, known_keys}
+
+abbrev below : List ℕ → List ℕ → Bool
+below a b = is_lt (slice_cmp nat_cmp a b)
+
+ranks : IsStrictWeakOrder below
+ranks = ranks_by nat_list_cmp_total (λ key. key)
+
+not_itself : (key : List ℕ) → below key key ≡ false
+not_itself key = ap is_lt (tied_itself nat_list_cmp_total key)
+
+same_of : (a b : List ℕ) (ab ba : Ordering) → slice_cmp nat_cmp a b ≡ ab → ba ≡ ordering_reverse ab → is_lt ab ≡ false → is_lt ba ≡ false → a ≡ b
+same_of a b Less ba e r not_ab not_ba = absurd (true≢false not_ab)
+same_of a b Equal ba e r not_ab not_ba = (bytes_eq-Decides a b).0 (sym (is_eq-slice_cmp a b) ∙ ap is_eq e)
+same_of a b Greater ba e r not_ab not_ba = absurd (true≢false (sym (ap is_lt r) ∙ not_ba))
+
+same : (a b : List ℕ) → below a b ≡ false → below b a ≡ false → a ≡ b
+same a b h k = same_of a b (slice_cmp nat_cmp a b) (slice_cmp nat_cmp b a) refl (nat_list_cmp_total.antisymm b a) h k
+
+-- what is named where there is a key
+abbrev IsNamed : Part → Members → Option (List ℕ) → Type 0
+IsNamed part ms None = AreKnown part ms
+IsNamed part ms (Some key) = IsLeastUnknown part ms key
+
+known_in_front : (part : Part) (key : List ℕ) (rest : Members) → is_known part key ≡ true → AreKnown part rest → (other : List ℕ) → (key ≡ other) ⊎ IsKey rest other → is_known part other ≡ true
+known_in_front part key rest known more other (inl e) = ap (is_known part) (sym e) ∙ known
+known_in_front part key rest known more other (inr there) = more other there
+
+named_known : (part : Part) (key : List ℕ) (d : Data) (rest : Members) (o : Option (List ℕ)) → is_known part key ≡ true → IsNamed part rest o → IsNamed part (member key d rest) o
+named_known part key d rest None known n = λ other there. known_in_front part key rest known n other there
+named_known part key d rest (Some least_key) known n = record {
+  is_there = inr n.is_there;
+  unknown = n.unknown;
+  least = λ other there unknown. elim there [
+    | inl e ↦ absurd (true≢false (sym known ∙ ap (is_known part) e ∙ unknown))
+    | inr more ↦ n.least other more unknown
+  ];
+}
+
+in_front : (part : Part) (key : List ℕ) (d : Data) (rest : Members) → is_known part key ≡ false → ((other : List ℕ) → IsKey rest other → is_known part other ≡ false → below other key ≡ false) → IsLeastUnknown part (member key d rest) key
+in_front part key d rest unknown h = record {
+  is_there = inl refl;
+  unknown = unknown;
+  least = λ other there other_unknown. elim there [
+    | inl e ↦ ap (λ k. below k key) (sym e) ∙ not_itself key
+    | inr more ↦ h other more other_unknown
+  ];
+}
+
+further_on : (part : Part) (key : List ℕ) (d : Data) (rest : Members) (least_key : List ℕ) → IsLeastUnknown part rest least_key → below least_key key ≡ true → IsLeastUnknown part (member key d rest) least_key
+further_on part key d rest least_key n less = record {
+  is_there = inr n.is_there;
+  unknown = n.unknown;
+  least = λ other there unknown. elim there [
+    | inl e ↦ ap (λ k. below k least_key) (sym e) ∙ ranks.one_way least_key key less
+    | inr more ↦ n.least other more unknown
+  ];
+}
+
+named_unknown : (part : Part) (key : List ℕ) (d : Data) (rest : Members) (o : Option (List ℕ)) → is_known part key ≡ false → IsNamed part rest o → IsLeastUnknown part (member key d rest) (lesser key o)
+named_unknown part key d rest None unknown n =
+    in_front part key d rest unknown (λ other there other_unknown. absurd (true≢false (sym (n other there) ∙ other_unknown)))
+named_unknown part key d rest (Some least_key) unknown n =
+    elim (cases_Bool (below least_key key)) [
+      | inl less ↦ rw less (further_on part key d rest least_key n less)
+      | inr not_less ↦ rw not_less (in_front part key d rest unknown (λ other there other_unknown. ranks.chain other least_key key (n.least other there other_unknown) not_less))
+    ]
+
+named : (part : Part) (ms : Members) → IsNamed part ms (least (unknown_keys part ms))
+named part no_members = λ key there. absurd there
+named part (member key d rest) =
+    elim (cases_Bool (is_known part key)) [
+      | inl known ↦ rw known (named_known part key d rest (least (unknown_keys part rest)) known (named part rest))
+      | inr unknown ↦ rw unknown (named_unknown part key d rest (least (unknown_keys part rest)) unknown (named part rest))
+    ]
+
+abbrev at_fault : SectionView → List ℕ → Result (Unit {0}) ReadFault
+at_fault this key = Err (UnknownKey (place_of this key))
+
+abbrev unknown_key : Place → Result (Unit {0}) ReadFault
+unknown_key at = Err (UnknownKey at)
+
+same_place : (a b : Place) → unknown_key a ≡ unknown_key b → a ≡ b
+same_place a b e = cc
+
+same_key : (this : SectionView) (a b : List ℕ) → at_fault this a ≡ at_fault this b → a ≡ b
+same_key this a b e = ap (λ (at : Place). at.key) (same_place (place_of this a) (place_of this b) e)
+
+known_at : (this : SectionView) (o : Option (List ℕ)) → IsNamed this.part this.members o → (no_unknown this o ≡ Ok tt) ↔ AreKnown this.part this.members
+known_at this None n = (λ e. n, λ h. refl)
+known_at this (Some key) n = (λ e. absurd cc, λ h. absurd (true≢false (sym (h key n.is_there) ∙ n.unknown)))
+
+unknown_at : (this : SectionView) (o : Option (List ℕ)) (key : List ℕ) → IsNamed this.part this.members o → (no_unknown this o ≡ at_fault this key) ↔ IsLeastUnknown this.part this.members key
+unknown_at this None key n = (λ e. absurd cc, λ h. absurd (true≢false (sym (n key h.is_there) ∙ h.unknown)))
+unknown_at this (Some other) key n = (
+  λ e. subst (λ k. IsLeastUnknown this.part this.members k) (same_key this other key e) n,
+  λ h. ap (at_fault this) (same other key (h.least other n.is_there n.unknown) (n.least key h.is_there h.unknown)),
+)
+
+pub all_known : (this : SectionView) → (known_keys this ≡ Ok tt) ↔ AreKnown this.part this.members
+all_known this = known_at this (least (unknown_keys this.part this.members)) (named this.part this.members)
+
+pub least_is_named : (this : SectionView) (key : List ℕ) → (known_keys this ≡ Err (UnknownKey (place_of this key))) ↔ IsLeastUnknown this.part this.members key
+least_is_named this key = unknown_at this (least (unknown_keys this.part this.members)) key (named this.part this.members)

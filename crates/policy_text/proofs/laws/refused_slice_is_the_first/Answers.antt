@@ -1,0 +1,8 @@
+use Rattle.policy_text.proofs.Firsts.{slices_read, slices_refused}
+use Rattle.policy_text.proofs.laws.refused_slice_is_the_first.Goals as goal
+
+pub returns : goal.returns
+returns c = record {
+  read = λ items slices. slices_read items slices;
+  refused = λ items fault. slices_refused items fault;
+}

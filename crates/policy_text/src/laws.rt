@@ -1,0 +1,33 @@
+//! Laws of the definitions. Each function's contract is the law; its body does nothing.
+
+ghost use Rattle.std.specs.Prelude.{ℕ, List, ◌≡◌, ◌↔◌, Ok, Err};
+ghost use Rattle.toml.specs.Data.{Items};
+ghost use Rattle.flowspace.specs.declared.rules.Rule.{Rule};
+ghost use Rattle.flowspace.specs.declared.slices.Slice.{Slice};
+ghost use Rattle.policy_text.specs.declared.fault.ReadFault.{ReadFault};
+ghost use Rattle.policy_text.specs.declared.fault.ReadFault.TheVariants.{UnknownKey};
+ghost use Rattle.policy_text.specs.Firsts.{AreReadAs, IsFirstRefused, AreKnown, IsLeastUnknown};
+ghost use Rattle.policy_text.specs.Reading.{SectionView, place_of, known_keys};
+ghost use Rattle.policy_text.specs.Rules.{rule_of, rules_from};
+ghost use Rattle.policy_text.specs.Slices.{slice_of, slices_from};
+
+/// Slices are read exactly where each item is one, in order; else the fault is that of the first item
+/// that is none, read at its own index.
+pub fn refused_slice_is_the_first()
+    ensures read { (items : Items) (slices : List Slice) → (slices_from 0 items ≡ Ok slices) ↔ AreReadAs slice_of items slices }
+    ensures refused { (items : Items) (fault : ReadFault) → (slices_from 0 items ≡ Err fault) ↔ IsFirstRefused slice_of items fault }
+{}
+
+/// Rules are read exactly where each item is one that names these slices, in order; else the fault is
+/// that of the first item that is none, read at its own index.
+pub fn refused_rule_is_the_first()
+    ensures read { (slices : List Slice) (items : Items) (rules : List Rule) → (rules_from slices 0 items ≡ Ok rules) ↔ AreReadAs (rule_of slices) items rules }
+    ensures refused { (slices : List Slice) (items : Items) (fault : ReadFault) → (rules_from slices 0 items ≡ Err fault) ↔ IsFirstRefused (rule_of slices) items fault }
+{}
+
+/// A table whose keys are all known has no fault of a key; else the fault names the unknown key below
+/// which there is no other.
+pub fn named_key_is_the_least_unknown()
+    ensures known { (this : SectionView) → (known_keys this ≡ Ok tt) ↔ AreKnown this.part this.members }
+    ensures unknown { (this : SectionView) (key : List ℕ) → (known_keys this ≡ Err (UnknownKey (place_of this key))) ↔ IsLeastUnknown this.part this.members key }
+{}
