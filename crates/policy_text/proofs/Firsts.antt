@@ -1,13 +1,16 @@
 -- The first item that isn't read, and the least unknown key.
 use Rattle.std.proofs.Common.{◌≡◌, ◌↔◌, ◌⊎◌, inl, inr, ℕ, zero, suc, ◌<◌, List, [], ◌∷◌, Some, Result, Ok, Err, refl, sym, ap, ◌∙◌, arith}
-use Rattle.toml.specs.Data.{Data, Items, no_items, item, get_item}
+use Rattle.toml.specs.Data.{Data, table, Items, no_items, item, get_item, Members}
 use Rattle.flowspace.specs.declared.rules.Rule.{Rule}
 use Rattle.flowspace.specs.declared.slices.Slice.{Slice}
+use Rattle.policy_text.specs.declared.fault.Part.{Part}
+use Rattle.policy_text.specs.declared.fault.Part.TheVariants as part
 use Rattle.policy_text.specs.declared.fault.ReadFault.{ReadFault}
-use Rattle.policy_text.specs.Firsts.{AreReadAs, IsFirstRefused}
+use Rattle.policy_text.specs.Firsts.{AreReadAs, IsFirstRefused, StandsIn}
 use Rattle.policy_text.specs.Reading.{◌>>=◌}
-use Rattle.policy_text.specs.Rules.{rule_of, rules_from}
-use Rattle.policy_text.specs.Slices.{slice_of, slices_from}
+use Rattle.policy_text.specs.Rules.{rule_section, rule_of, rules_from}
+use Rattle.policy_text.specs.Slices.{slice_section, slice_of, slices_from}
+use Rattle.policy_text.proofs.Faults.{Has, OfKeys, slice_has, OfRule, rule_has}
 
 -- ---- items in order
 
@@ -132,3 +135,29 @@ rules_read slices items rules =
 pub rules_refused : (slices : List Slice) (items : Items) (fault : ReadFault) → (rules_from slices 0 items ≡ Err fault) ↔ IsFirstRefused (rule_of slices) items fault
 rules_refused slices items fault =
     (λ e. first_refused (rule_of slices) items fault (sym (rules_reads slices 0 items) ∙ e), λ h. rules_reads slices 0 items ∙ refused_at (rule_of slices) items fault h.index h.refused h.there h.fault_is h.earlier)
+
+-- ---- where a fault stands
+
+stands : (kind : Part) (index : ℕ) (ms : Members) → OfKeys (StandsIn kind index) (record { part = kind; index = index; members = ms })
+stands kind index ms = record {
+  missing = λ key. (refl, refl);
+  bad_value = λ key. (refl, refl);
+  unknown = λ key. (refl, refl);
+}
+
+stands_by_number : (index : ℕ) → OfRule (StandsIn part.Rule index) index
+stands_by_number index = record {
+  no_slice = (refl, refl);
+  improper = λ field. (refl, refl);
+}
+
+of_fault : (P : ReadFault → Type 0) {A : Type 0} (r : Result A ReadFault) (fault : ReadFault) → Has P r → r ≡ Err fault → P fault
+of_fault P r fault h e = rw e at h
+
+pub slice_stands : (index : ℕ) (ms : Members) (fault : ReadFault) → slice_of index (table ms) ≡ Err fault → StandsIn part.Slice index fault
+slice_stands index ms fault e =
+    of_fault (StandsIn part.Slice index) (slice_of index (table ms)) fault (slice_has (StandsIn part.Slice index) (slice_section index ms) (stands part.Slice index ms)) e
+
+pub rule_stands : (slices : List Slice) (index : ℕ) (ms : Members) (fault : ReadFault) → rule_of slices index (table ms) ≡ Err fault → StandsIn part.Rule index fault
+rule_stands slices index ms fault e =
+    of_fault (StandsIn part.Rule index) (rule_of slices index (table ms)) fault (rule_has (StandsIn part.Rule index) slices (rule_section index ms) (stands part.Rule index ms) (stands_by_number index)) e

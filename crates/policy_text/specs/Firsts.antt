@@ -3,8 +3,11 @@ use Rattle.std.specs.Prelude.{◌≡◌, ◌⊎◌, ℕ, ◌<◌, true, false, L
 use Rattle.std.specs.Ordering.{nat_cmp, is_lt}
 use Rattle.std.specs.Cmp.Lexicographic.{slice_cmp}
 use Rattle.toml.specs.Data.{Data, Items, get_item, Members, no_members, member}
+use Rattle.flowspace.specs.declared.fault.PolicyFault.TheVariants.{UnknownSlice}
 use Rattle.policy_text.specs.declared.fault.Part.{Part}
+use Rattle.policy_text.specs.declared.fault.Part.TheVariants.{Rule}
 use Rattle.policy_text.specs.declared.fault.ReadFault.{ReadFault}
+use Rattle.policy_text.specs.declared.fault.ReadFault.TheVariants.{NotToml, Missing, BadValue, UnknownKey, Improper, Refused, Memory}
 use Rattle.policy_text.specs.Reading.{is_known}
 
 -- ---- items in order
@@ -27,6 +30,16 @@ pub record IsFirstRefused {A : Type 0} (read : ℕ → Data → Result A ReadFau
   pub there : get_item index items ≡ Some refused
   pub fault_is : read index refused ≡ Err fault
   pub earlier : (i : ℕ) (d : Data) → i < index → get_item i items ≡ Some d → (x : A) × (read i d ≡ Ok x)
+
+-- a fault that stands in the table of this part and index: at one of its keys, or, of a rule, by its number
+abbrev pub StandsIn : Part → ℕ → ReadFault → Type 0
+StandsIn part index NotToml = ⊥
+StandsIn part index (Missing at) = (at.part ≡ part) × (at.index ≡ index)
+StandsIn part index (BadValue at) = (at.part ≡ part) × (at.index ≡ index)
+StandsIn part index (UnknownKey at) = (at.part ≡ part) × (at.index ≡ index)
+StandsIn part index (Improper rule field) = (part ≡ Rule) × (rule ≡ index)
+StandsIn part index (Refused fault) = (part ≡ Rule) × (fault ≡ UnknownSlice index)
+StandsIn part index Memory = ⊥
 
 -- ---- keys
 

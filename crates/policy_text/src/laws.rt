@@ -1,12 +1,13 @@
 //! Laws of the definitions. Each function's contract is the law; its body does nothing.
 
 ghost use Rattle.std.specs.Prelude.{ℕ, List, ◌≡◌, ◌↔◌, Ok, Err};
-ghost use Rattle.toml.specs.Data.{Items};
+ghost use Rattle.toml.specs.Data.{Items, Members, table};
 ghost use Rattle.flowspace.specs.declared.rules.Rule.{Rule};
 ghost use Rattle.flowspace.specs.declared.slices.Slice.{Slice};
+ghost use Rattle.policy_text.specs.declared.fault.Part.TheVariants as part;
 ghost use Rattle.policy_text.specs.declared.fault.ReadFault.{ReadFault};
 ghost use Rattle.policy_text.specs.declared.fault.ReadFault.TheVariants.{UnknownKey};
-ghost use Rattle.policy_text.specs.Firsts.{AreReadAs, IsFirstRefused, AreKnown, IsLeastUnknown};
+ghost use Rattle.policy_text.specs.Firsts.{AreReadAs, IsFirstRefused, StandsIn, AreKnown, IsLeastUnknown};
 ghost use Rattle.policy_text.specs.Reading.{SectionView, place_of, known_keys};
 ghost use Rattle.policy_text.specs.Rules.{rule_of, rules_from};
 ghost use Rattle.policy_text.specs.Slices.{slice_of, slices_from};
@@ -30,4 +31,11 @@ pub fn refused_rule_is_the_first()
 pub fn named_key_is_the_least_unknown()
     ensures known { (this : SectionView) → (known_keys this ≡ Ok tt) ↔ AreKnown this.part this.members }
     ensures unknown { (this : SectionView) (key : List ℕ) → (known_keys this ≡ Err (UnknownKey (place_of this key))) ↔ IsLeastUnknown this.part this.members key }
+{}
+
+/// A fault that the table of a slice or of a rule has stands at a key of this table, with its index; or,
+/// of a rule, at the rule's number.
+pub fn fault_stands_in_its_table()
+    ensures slice { (index : ℕ) (ms : Members) (fault : ReadFault) → slice_of index (table ms) ≡ Err fault → StandsIn part.Slice index fault }
+    ensures rule { (slices : List Slice) (index : ℕ) (ms : Members) (fault : ReadFault) → rule_of slices index (table ms) ≡ Err fault → StandsIn part.Rule index fault }
 {}

@@ -1,0 +1,8 @@
+use Rattle.policy_text.proofs.Firsts.{slice_stands, rule_stands}
+use Rattle.policy_text.proofs.laws.fault_stands_in_its_table.Goals as goal
+
+pub returns : goal.returns
+returns c = record {
+  slice = λ index ms fault e. slice_stands index ms fault e;
+  rule = λ slices index ms fault e. rule_stands slices index ms fault e;
+}
