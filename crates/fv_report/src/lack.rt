@@ -111,11 +111,7 @@ fn first_in_stream(from: Dest, framer: &mut Framer) -> Result<Option<u8>, AllocE
 }
 
 /// The type of the first frame that more bytes of a connection complete and that isn't built.
-fn first_in_bytes(
-    from: Dest,
-    framer: &mut Framer,
-    bytes: &[u8],
-) -> Result<Option<u8>, AllocError>
+fn first_in_bytes(from: Dest, framer: &mut Framer, bytes: &[u8]) -> Result<Option<u8>, AllocError>
     ensures { IfOk result (λ kind. FindsInBytes from bytes.now kind framer.old framer.new) }
 {
     framer.feed(bytes)?;

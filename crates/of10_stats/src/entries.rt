@@ -73,7 +73,11 @@ pub fn flow_entry(entry: &[u8]) -> (Match, u64, u64)
     requires { IsEntry 1 entry.now }
     ensures { result ≡ flow_of entry.now }
 {
-    (Match::decode_at(entry, 4), u64_at(entry, 72), u64_at(entry, 80))
+    (
+        Match::decode_at(entry, 4),
+        u64_at(entry, 72),
+        u64_at(entry, 80),
+    )
 }
 
 /// The port of an entry of a port or of a queue (OpenFlow 1.0.0, section 5.3.5).

@@ -9,8 +9,7 @@ mod slots;
 mod step;
 mod take;
 
-pub use desk_words::laws;
-pub use desk_words::{Dest, Event, Taken, Timed, Verdict};
+pub use desk_words::{Dest, Event, Taken, Timed, Verdict, laws};
 pub use parts::Desk;
 
 #[cfg(test)]
