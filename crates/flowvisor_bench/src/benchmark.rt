@@ -47,23 +47,17 @@ pub enum Benchmark {
     Report,
 }
 
-/// Those of single messages, in the order in which they are made.
-pub const ALL: [Benchmark; 6] = [
+/// Those that `all` runs, in the order in which they are made.
+pub const ALL: [Benchmark; 16] = [
     Benchmark::Asks(Question::Matches),
     Benchmark::Asks(Question::Meet),
     Benchmark::Asks(Question::Includes),
     Benchmark::Framing,
     Benchmark::SmallPackets,
     Benchmark::LargePackets,
-];
-
-/// The others: those with as many rules as there may be, those of the parts of a slice, and that of a
-/// whole recording.
-pub const OTHERS: [Benchmark; 11] = [
     Benchmark::Splitting,
     Benchmark::Sending,
     Benchmark::Checking,
-    Benchmark::Policies,
     Benchmark::Of(Part::Issue),
     Benchmark::Of(Part::Find),
     Benchmark::Of(Part::Ask),
@@ -95,10 +89,10 @@ impl Benchmark {
     /// Fewer calls than these are too few to measure.
     pub fn least_measured(self) -> u64 {
         match self {
-            Benchmark::Splitting | Benchmark::Sending | Benchmark::Checking => 1_000,
             Benchmark::Policies => 10,
             Benchmark::Of(part) => part.least_measured(),
-            Benchmark::Report => 10_000,
+            Benchmark::Splitting | Benchmark::Sending | Benchmark::Checking | Benchmark::Report =>
+                10_000,
             _ => 1_000_000,
         }
     }
