@@ -3,3 +3,4 @@ pub mod Slots
 pub mod Told
 pub mod Standing
 pub mod Answered
+pub mod Sharing

@@ -1,3 +1,4 @@
 pub mod Dispatches
 pub mod Carrying
+pub mod Sharing
 pub mod Laws

@@ -2,29 +2,73 @@
 
 ghost use Rattle.std.specs.Prelude.{◌≡◌, ◌≤◌, ◌++◌, length, IfOk, OnOk};
 ghost use Rattle.of10_ctl.specs.Kinds.{IsOf};
+ghost use Rattle.of10_port.specs.PortStatus.{spell_port_status};
+ghost use Rattle.flowspace.specs.Owners.{is_in_port};
 ghost use Rattle.switch_side.specs.Dispatches.{addressed, status_kept};
-ghost use Rattle.switch_side.specs.Carrying.{carried, telling, status_for, said_from, port_told};
+ghost use Rattle.switch_side.specs.Carrying.{carried, telling, once, status_for, said_from, port_told};
+ghost use Rattle.switch_side.specs.Sharing.{HasNoted, HaveNoted, AreSlotsWith};
 
 use crate::dispatch::Dispatch;
 use flow_book::SliceState;
-use flowspace::SwitchPolicy;
+use flowspace::{Rule, SwitchPolicy};
 use of10_ctl::Frame;
 use of10_port::PortStatus;
+use of10_port::protocol::{LOCAL, MAX};
 use port_view::{Kept, PortView};
 use std::alloc::{AllocError, Global};
 
-/// The change of a port for the slice at a slot, if it is up and has the port.
+/// The most slices that a policy has.
+const SLOTS: usize = 32;
+
+fn is_in_port(port: u16) -> bool
+    ensures { result ≡ is_in_port port }
+{
+    port <= MAX || port == LOCAL
+}
+
+/// Notes the slot of the rule's writer, where the rule takes packets from the port.
+fn note(slots: &mut [bool; SLOTS], rule: &Rule, port: u16)
+    ensures { HasNoted rule.now port slots.old slots.new }
+{
+    let Some(slot) = rule.writer else {
+        return;
+    };
+    let place = usize::from(slot);
+    if place < SLOTS && rule.pattern.pattern().in_port.is_none_or(|own| port == own) {
+        slots[place] = true;
+    }
+}
+
+fn note_all(slots: &mut [bool; SLOTS], rules: &[Rule], port: u16)
+    ensures { HaveNoted rules.now port slots.old slots.new }
+{
+    for rule in rules {
+        note(slots, rule, port);
+    }
+}
+
+/// The slots of the slices that have a port, found in one pass over the rules.
+fn slots_with(policy: &SwitchPolicy, port: u16) -> [bool; SLOTS]
+    ensures { AreSlotsWith policy.now.rules port result }
+{
+    let mut slots = [false; SLOTS];
+    if is_in_port(port) {
+        note_all(&mut slots, policy.rules(), port);
+    }
+    slots
+}
+
+/// The change of a port for the slice at a slot, where it is due.
 fn put_for_slice(
     alloc: Global,
     to_slices: &mut Vec<(u8, Frame)>,
-    policy: &SwitchPolicy,
     slot: u8,
-    state: &SliceState,
+    is_due: bool,
     status: &PortStatus,
 ) -> Result<(), AllocError>
-    ensures { OnOk result (to_slices.new.items ≡ to_slices.old.items ++ addressed slot (status_for policy.now.rules status.now slot state.now.up)) }
+    ensures { OnOk result (to_slices.new.items ≡ to_slices.old.items ++ addressed slot (once is_due (spell_port_status status.now 0))) }
 {
-    if !state.up || !policy.has_port(slot, status.port.number()) {
+    if !is_due {
         return Ok(());
     }
     let message = status.encode(alloc, 0)?;
@@ -32,6 +76,7 @@ fn put_for_slice(
     Ok(())
 }
 
+/// The change of a port for the slices that are up and have the port.
 fn put_for_all(
     alloc: Global,
     policy: &SwitchPolicy,
@@ -41,9 +86,11 @@ fn put_for_all(
     requires { length states.now ≤ 32 }
     ensures { IfOk result (λ v. v.items ≡ said_from (status_for policy.now.rules status.now) 0 states.now) }
 {
+    let slots = slots_with(policy, status.port.number());
     let mut to_slices = Vec::new(alloc);
     for (place, state) in states.iter().enumerate() {
-        put_for_slice(alloc, &mut to_slices, policy, place as u8, state, status)?;
+        let is_due = state.up && slots[place];
+        put_for_slice(alloc, &mut to_slices, place as u8, is_due, status)?;
     }
     Ok(to_slices)
 }
