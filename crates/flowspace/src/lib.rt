@@ -17,6 +17,7 @@ mod text;
 
 pub use fault::{Field, PolicyFault, What};
 pub use order::rules_stand_in_order;
+pub use owners::is_in_port;
 pub use policy::Policy;
 pub use rules::Rule;
 pub use slices::Slice;

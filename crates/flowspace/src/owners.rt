@@ -33,7 +33,9 @@ pub(crate) fn owner_of(rules: &[Rule], m: &Match) -> Option<u8>
     first_owning(rules, m)?.writer
 }
 
-fn is_in_port(port: u16) -> bool
+/// Whether a packet can come in by the port: a physical one, or the switch's own (OpenFlow 1.0.0,
+/// section 5.2.1).
+pub fn is_in_port(port: u16) -> bool
     ensures { result ≡ is_in_port port }
 {
     port <= MAX || port == LOCAL

@@ -75,82 +75,28 @@ ports kind proto t =
     and_from (is_value 0x0800 kind) (is_value 1 proto || is_value 6 proto || is_value 17 proto) parts.0
     (among (is_value 1 proto) (is_value 6 proto) (is_value 17 proto) parts.1)
 
-normal_dl_src : (m : Pattern) (address : ℕ) → NormalFields m → applied (record m { dl_src = Some address }) ≡ (record m { dl_src = Some address })
-normal_dl_src m address n =
-    normal_set m (record m { dl_src = Some address }) (λ x. search rules)
-    (as_before (is_exact m) (has_vlan m.dl_vlan) m.dl_vlan_pcp n.on_dl_vlan_pcp)
-    (as_before (is_exact m) (has_service m.dl_type) m.nw_tos n.on_nw_tos)
-    (as_before (is_exact m) (has_network m.dl_type) m.nw_proto n.on_nw_proto)
-    (as_before_prefix (is_exact m) (has_network m.dl_type) m.nw_src n.on_nw_src)
-    (as_before_prefix (is_exact m) (has_network m.dl_type) m.nw_dst n.on_nw_dst)
-    (as_before (is_exact m) (has_ports m.dl_type m.nw_proto) m.tp_src n.on_tp_src)
-    (as_before (is_exact m) (has_ports m.dl_type m.nw_proto) m.tp_dst n.on_tp_dst)
+-- a match's own seven fields that have a prerequisite
+record Own (m : Pattern) : Type 0 where
+  pcp : has_vlan m.dl_vlan ≡ false → m.dl_vlan_pcp ≡ meaningless (is_exact m)
+  tos : has_service m.dl_type ≡ false → m.nw_tos ≡ meaningless (is_exact m)
+  proto : has_network m.dl_type ≡ false → m.nw_proto ≡ meaningless (is_exact m)
+  source : has_network m.dl_type ≡ false → m.nw_src ≡ meaningless_prefix (is_exact m)
+  destination : has_network m.dl_type ≡ false → m.nw_dst ≡ meaningless_prefix (is_exact m)
+  tp_source : has_ports m.dl_type m.nw_proto ≡ false → m.tp_src ≡ meaningless (is_exact m)
+  tp_destination : has_ports m.dl_type m.nw_proto ≡ false → m.tp_dst ≡ meaningless (is_exact m)
 
-normal_dl_dst : (m : Pattern) (address : ℕ) → NormalFields m → applied (record m { dl_dst = Some address }) ≡ (record m { dl_dst = Some address })
-normal_dl_dst m address n =
-    normal_set m (record m { dl_dst = Some address }) (λ x. search rules)
-    (as_before (is_exact m) (has_vlan m.dl_vlan) m.dl_vlan_pcp n.on_dl_vlan_pcp)
-    (as_before (is_exact m) (has_service m.dl_type) m.nw_tos n.on_nw_tos)
-    (as_before (is_exact m) (has_network m.dl_type) m.nw_proto n.on_nw_proto)
-    (as_before_prefix (is_exact m) (has_network m.dl_type) m.nw_src n.on_nw_src)
-    (as_before_prefix (is_exact m) (has_network m.dl_type) m.nw_dst n.on_nw_dst)
-    (as_before (is_exact m) (has_ports m.dl_type m.nw_proto) m.tp_src n.on_tp_src)
-    (as_before (is_exact m) (has_ports m.dl_type m.nw_proto) m.tp_dst n.on_tp_dst)
-
-normal_nw_src : (m : Pattern) (address : ℕ) → NormalFields m → IsTrue (is_value 0x0800 m.dl_type) → applied (record m { nw_src = whole address }) ≡ (record m { nw_src = whole address })
-normal_nw_src m address n t =
-    normal_set m (record m { nw_src = whole address }) (λ x. search rules)
-    (as_before (is_exact m) (has_vlan m.dl_vlan) m.dl_vlan_pcp n.on_dl_vlan_pcp)
-    (as_before (is_exact m) (has_service m.dl_type) m.nw_tos n.on_nw_tos)
-    (as_before (is_exact m) (has_network m.dl_type) m.nw_proto n.on_nw_proto)
-    (needed (has_network m.dl_type) (network m.dl_type t))
-    (as_before_prefix (is_exact m) (has_network m.dl_type) m.nw_dst n.on_nw_dst)
-    (as_before (is_exact m) (has_ports m.dl_type m.nw_proto) m.tp_src n.on_tp_src)
-    (as_before (is_exact m) (has_ports m.dl_type m.nw_proto) m.tp_dst n.on_tp_dst)
-
-normal_nw_dst : (m : Pattern) (address : ℕ) → NormalFields m → IsTrue (is_value 0x0800 m.dl_type) → applied (record m { nw_dst = whole address }) ≡ (record m { nw_dst = whole address })
-normal_nw_dst m address n t =
-    normal_set m (record m { nw_dst = whole address }) (λ x. search rules)
-    (as_before (is_exact m) (has_vlan m.dl_vlan) m.dl_vlan_pcp n.on_dl_vlan_pcp)
-    (as_before (is_exact m) (has_service m.dl_type) m.nw_tos n.on_nw_tos)
-    (as_before (is_exact m) (has_network m.dl_type) m.nw_proto n.on_nw_proto)
-    (as_before_prefix (is_exact m) (has_network m.dl_type) m.nw_src n.on_nw_src)
-    (needed (has_network m.dl_type) (network m.dl_type t))
-    (as_before (is_exact m) (has_ports m.dl_type m.nw_proto) m.tp_src n.on_tp_src)
-    (as_before (is_exact m) (has_ports m.dl_type m.nw_proto) m.tp_dst n.on_tp_dst)
-
-normal_nw_tos : (m : Pattern) (service : ℕ) → NormalFields m → IsTrue (is_value 0x0800 m.dl_type) → applied (record m { nw_tos = Some service }) ≡ (record m { nw_tos = Some service })
-normal_nw_tos m service n t =
-    normal_set m (record m { nw_tos = Some service }) (λ x. search rules)
-    (as_before (is_exact m) (has_vlan m.dl_vlan) m.dl_vlan_pcp n.on_dl_vlan_pcp)
-    (needed (has_service m.dl_type) t)
-    (as_before (is_exact m) (has_network m.dl_type) m.nw_proto n.on_nw_proto)
-    (as_before_prefix (is_exact m) (has_network m.dl_type) m.nw_src n.on_nw_src)
-    (as_before_prefix (is_exact m) (has_network m.dl_type) m.nw_dst n.on_nw_dst)
-    (as_before (is_exact m) (has_ports m.dl_type m.nw_proto) m.tp_src n.on_tp_src)
-    (as_before (is_exact m) (has_ports m.dl_type m.nw_proto) m.tp_dst n.on_tp_dst)
-
-normal_tp_src : (m : Pattern) (port : ℕ) → NormalFields m → IsTrue (names_tcp_or_udp m) → applied (record m { tp_src = Some port }) ≡ (record m { tp_src = Some port })
-normal_tp_src m port n t =
-    normal_set m (record m { tp_src = Some port }) (λ x. search rules)
-    (as_before (is_exact m) (has_vlan m.dl_vlan) m.dl_vlan_pcp n.on_dl_vlan_pcp)
-    (as_before (is_exact m) (has_service m.dl_type) m.nw_tos n.on_nw_tos)
-    (as_before (is_exact m) (has_network m.dl_type) m.nw_proto n.on_nw_proto)
-    (as_before_prefix (is_exact m) (has_network m.dl_type) m.nw_src n.on_nw_src)
-    (as_before_prefix (is_exact m) (has_network m.dl_type) m.nw_dst n.on_nw_dst)
-    (needed (has_ports m.dl_type m.nw_proto) (ports m.dl_type m.nw_proto t))
-    (as_before (is_exact m) (has_ports m.dl_type m.nw_proto) m.tp_dst n.on_tp_dst)
-
-normal_tp_dst : (m : Pattern) (port : ℕ) → NormalFields m → IsTrue (names_tcp_or_udp m) → applied (record m { tp_dst = Some port }) ≡ (record m { tp_dst = Some port })
-normal_tp_dst m port n t =
-    normal_set m (record m { tp_dst = Some port }) (λ x. search rules)
-    (as_before (is_exact m) (has_vlan m.dl_vlan) m.dl_vlan_pcp n.on_dl_vlan_pcp)
-    (as_before (is_exact m) (has_service m.dl_type) m.nw_tos n.on_nw_tos)
-    (as_before (is_exact m) (has_network m.dl_type) m.nw_proto n.on_nw_proto)
-    (as_before_prefix (is_exact m) (has_network m.dl_type) m.nw_src n.on_nw_src)
-    (as_before_prefix (is_exact m) (has_network m.dl_type) m.nw_dst n.on_nw_dst)
-    (as_before (is_exact m) (has_ports m.dl_type m.nw_proto) m.tp_src n.on_tp_src)
-    (needed (has_ports m.dl_type m.nw_proto) (ports m.dl_type m.nw_proto t))
+own : (m : Pattern) → applied m ≡ m → Own m
+own m e =
+    let n = normal_fields m e in
+    record {
+      pcp = as_before (is_exact m) (has_vlan m.dl_vlan) m.dl_vlan_pcp n.on_dl_vlan_pcp;
+      tos = as_before (is_exact m) (has_service m.dl_type) m.nw_tos n.on_nw_tos;
+      proto = as_before (is_exact m) (has_network m.dl_type) m.nw_proto n.on_nw_proto;
+      source = as_before_prefix (is_exact m) (has_network m.dl_type) m.nw_src n.on_nw_src;
+      destination = as_before_prefix (is_exact m) (has_network m.dl_type) m.nw_dst n.on_nw_dst;
+      tp_source = as_before (is_exact m) (has_ports m.dl_type m.nw_proto) m.tp_src n.on_tp_src;
+      tp_destination = as_before (is_exact m) (has_ports m.dl_type m.nw_proto) m.tp_dst n.on_tp_dst;
+    }
 
 -- a VLAN number of twelve bits is not the number for untagged packets
 short_vlan : (vlan : ℕ) → IsTrue (has_vlan (Some (vlan % 4096)))
@@ -163,81 +109,96 @@ pcp_given : (t : Bool) (c : Option ℕ) → IsTrue (is_given c) → IsTrue (is_g
 pcp_given true c h = refl
 pcp_given false c h = h
 
-normal_vlan_vid : (m : Pattern) (vlan : ℕ) → NormalFields m → applied (record m { dl_vlan = Some (vlan % 4096); dl_vlan_pcp = if is_value 0xffff m.dl_vlan then Some 0 else m.dl_vlan_pcp }) ≡ (record m { dl_vlan = Some (vlan % 4096); dl_vlan_pcp = if is_value 0xffff m.dl_vlan then Some 0 else m.dl_vlan_pcp })
-normal_vlan_vid m vlan n =
-    normal_set m (record m { dl_vlan = Some (vlan % 4096); dl_vlan_pcp = if is_value 0xffff m.dl_vlan then Some 0 else m.dl_vlan_pcp }) (λ x. let each = each_true (is_given m.in_port) (is_given m.dl_src) (is_given m.dl_dst) (is_given m.dl_vlan) (is_given m.dl_vlan_pcp) (is_given m.dl_type) (is_given m.nw_tos) (is_given m.nw_proto) (is_whole m.nw_src) (is_whole m.nw_dst) (is_given m.tp_src) (is_given m.tp_dst) x in let given = pcp_given (is_value 0xffff m.dl_vlan) m.dl_vlan_pcp each.is_dl_vlan_pcp in search rules)
-    (needed (has_vlan (Some (vlan % 4096))) (short_vlan vlan))
-    (as_before (is_exact m) (has_service m.dl_type) m.nw_tos n.on_nw_tos)
-    (as_before (is_exact m) (has_network m.dl_type) m.nw_proto n.on_nw_proto)
-    (as_before_prefix (is_exact m) (has_network m.dl_type) m.nw_src n.on_nw_src)
-    (as_before_prefix (is_exact m) (has_network m.dl_type) m.nw_dst n.on_nw_dst)
-    (as_before (is_exact m) (has_ports m.dl_type m.nw_proto) m.tp_src n.on_tp_src)
-    (as_before (is_exact m) (has_ports m.dl_type m.nw_proto) m.tp_dst n.on_tp_dst)
-
-normal_tagged : (m : Pattern) (priority : ℕ) → NormalFields m → applied (record m { dl_vlan = Some 0; dl_vlan_pcp = Some priority }) ≡ (record m { dl_vlan = Some 0; dl_vlan_pcp = Some priority })
-normal_tagged m priority n =
-    normal_set m (record m { dl_vlan = Some 0; dl_vlan_pcp = Some priority }) (λ x. search rules)
-    (needed (has_vlan (Some 0)) refl)
-    (as_before (is_exact m) (has_service m.dl_type) m.nw_tos n.on_nw_tos)
-    (as_before (is_exact m) (has_network m.dl_type) m.nw_proto n.on_nw_proto)
-    (as_before_prefix (is_exact m) (has_network m.dl_type) m.nw_src n.on_nw_src)
-    (as_before_prefix (is_exact m) (has_network m.dl_type) m.nw_dst n.on_nw_dst)
-    (as_before (is_exact m) (has_ports m.dl_type m.nw_proto) m.tp_src n.on_tp_src)
-    (as_before (is_exact m) (has_ports m.dl_type m.nw_proto) m.tp_dst n.on_tp_dst)
-
-normal_priority : (m : Pattern) (priority : ℕ) → NormalFields m → IsTrue (has_vlan m.dl_vlan) → applied (record m { dl_vlan_pcp = Some priority }) ≡ (record m { dl_vlan_pcp = Some priority })
-normal_priority m priority n t =
-    normal_set m (record m { dl_vlan_pcp = Some priority }) (λ x. search rules)
-    (needed (has_vlan m.dl_vlan) t)
-    (as_before (is_exact m) (has_service m.dl_type) m.nw_tos n.on_nw_tos)
-    (as_before (is_exact m) (has_network m.dl_type) m.nw_proto n.on_nw_proto)
-    (as_before_prefix (is_exact m) (has_network m.dl_type) m.nw_src n.on_nw_src)
-    (as_before_prefix (is_exact m) (has_network m.dl_type) m.nw_dst n.on_nw_dst)
-    (as_before (is_exact m) (has_ports m.dl_type m.nw_proto) m.tp_src n.on_tp_src)
-    (as_before (is_exact m) (has_ports m.dl_type m.nw_proto) m.tp_dst n.on_tp_dst)
-
 meaningless_given : (e : Bool) → IsTrue e → IsTrue (is_given (meaningless e))
 meaningless_given true h = refl
 meaningless_given false h = absurd (true≢false (sym h))
 
-normal_strip : (m : Pattern) → NormalFields m → applied (record m { dl_vlan = Some 0xffff; dl_vlan_pcp = meaningless (is_exact m) }) ≡ (record m { dl_vlan = Some 0xffff; dl_vlan_pcp = meaningless (is_exact m) })
-normal_strip m n =
+-- ---- each change, by the fields that it sets
+
+-- a match in normal form
+abbrev IsFixed : Pattern → Type 0
+IsFixed m = applied m ≡ m
+
+normal_vlan : (m : Pattern) (vlan : ℕ) → Own m → IsFixed (record m { dl_vlan = Some (vlan % 4096); dl_vlan_pcp = if is_value 0xffff m.dl_vlan then Some 0 else m.dl_vlan_pcp })
+normal_vlan m vlan o =
+    normal_set m (record m { dl_vlan = Some (vlan % 4096); dl_vlan_pcp = if is_value 0xffff m.dl_vlan then Some 0 else m.dl_vlan_pcp }) (λ x. let each = each_true (is_given m.in_port) (is_given m.dl_src) (is_given m.dl_dst) (is_given m.dl_vlan) (is_given m.dl_vlan_pcp) (is_given m.dl_type) (is_given m.nw_tos) (is_given m.nw_proto) (is_whole m.nw_src) (is_whole m.nw_dst) (is_given m.tp_src) (is_given m.tp_dst) x in let given = pcp_given (is_value 0xffff m.dl_vlan) m.dl_vlan_pcp each.is_dl_vlan_pcp in search rules)
+    (needed (has_vlan (Some (vlan % 4096))) (short_vlan vlan)) o.tos o.proto o.source o.destination o.tp_source o.tp_destination
+
+normal_tagged : (m : Pattern) (priority : ℕ) → Own m → IsFixed (record m { dl_vlan = Some 0; dl_vlan_pcp = Some priority })
+normal_tagged m priority o =
+    normal_set m (record m { dl_vlan = Some 0; dl_vlan_pcp = Some priority }) (λ x. search rules)
+    (needed (has_vlan (Some 0)) refl) o.tos o.proto o.source o.destination o.tp_source o.tp_destination
+
+normal_priority : (m : Pattern) (priority : ℕ) → Own m → IsTrue (has_vlan m.dl_vlan) → IsFixed (record m { dl_vlan_pcp = Some priority })
+normal_priority m priority o t =
+    normal_set m (record m { dl_vlan_pcp = Some priority }) (λ x. search rules)
+    (needed (has_vlan m.dl_vlan) t) o.tos o.proto o.source o.destination o.tp_source o.tp_destination
+
+normal_strip : (m : Pattern) → Own m → IsFixed (record m { dl_vlan = Some 0xffff; dl_vlan_pcp = meaningless (is_exact m) })
+normal_strip m o =
     normal_set m (record m { dl_vlan = Some 0xffff; dl_vlan_pcp = meaningless (is_exact m) }) (λ x. let given = meaningless_given (is_exact m) x in search rules)
-    (λ f. refl)
-    (as_before (is_exact m) (has_service m.dl_type) m.nw_tos n.on_nw_tos)
-    (as_before (is_exact m) (has_network m.dl_type) m.nw_proto n.on_nw_proto)
-    (as_before_prefix (is_exact m) (has_network m.dl_type) m.nw_src n.on_nw_src)
-    (as_before_prefix (is_exact m) (has_network m.dl_type) m.nw_dst n.on_nw_dst)
-    (as_before (is_exact m) (has_ports m.dl_type m.nw_proto) m.tp_src n.on_tp_src)
-    (as_before (is_exact m) (has_ports m.dl_type m.nw_proto) m.tp_dst n.on_tp_dst)
+    (λ f. refl) o.tos o.proto o.source o.destination o.tp_source o.tp_destination
+
+normal_dl_src : (m : Pattern) (address : ℕ) → Own m → IsFixed (record m { dl_src = Some address })
+normal_dl_src m address o =
+    normal_set m (record m { dl_src = Some address }) (λ x. search rules)
+    o.pcp o.tos o.proto o.source o.destination o.tp_source o.tp_destination
+
+normal_dl_dst : (m : Pattern) (address : ℕ) → Own m → IsFixed (record m { dl_dst = Some address })
+normal_dl_dst m address o =
+    normal_set m (record m { dl_dst = Some address }) (λ x. search rules)
+    o.pcp o.tos o.proto o.source o.destination o.tp_source o.tp_destination
+
+normal_nw_src : (m : Pattern) (address : ℕ) → Own m → IsTrue (is_value 0x0800 m.dl_type) → IsFixed (record m { nw_src = whole address })
+normal_nw_src m address o t =
+    normal_set m (record m { nw_src = whole address }) (λ x. search rules)
+    o.pcp o.tos o.proto (needed (has_network m.dl_type) (network m.dl_type t)) o.destination o.tp_source o.tp_destination
+
+normal_nw_dst : (m : Pattern) (address : ℕ) → Own m → IsTrue (is_value 0x0800 m.dl_type) → IsFixed (record m { nw_dst = whole address })
+normal_nw_dst m address o t =
+    normal_set m (record m { nw_dst = whole address }) (λ x. search rules)
+    o.pcp o.tos o.proto o.source (needed (has_network m.dl_type) (network m.dl_type t)) o.tp_source o.tp_destination
+
+normal_nw_tos : (m : Pattern) (service : ℕ) → Own m → IsTrue (is_value 0x0800 m.dl_type) → IsFixed (record m { nw_tos = Some service })
+normal_nw_tos m service o t =
+    normal_set m (record m { nw_tos = Some service }) (λ x. search rules)
+    o.pcp (needed (has_service m.dl_type) t) o.proto o.source o.destination o.tp_source o.tp_destination
+
+normal_tp_src : (m : Pattern) (port : ℕ) → Own m → IsTrue (names_tcp_or_udp m) → IsFixed (record m { tp_src = Some port })
+normal_tp_src m port o t =
+    normal_set m (record m { tp_src = Some port }) (λ x. search rules)
+    o.pcp o.tos o.proto o.source o.destination (needed (has_ports m.dl_type m.nw_proto) (ports m.dl_type m.nw_proto t)) o.tp_destination
+
+normal_tp_dst : (m : Pattern) (port : ℕ) → Own m → IsTrue (names_tcp_or_udp m) → IsFixed (record m { tp_dst = Some port })
+normal_tp_dst m port o t =
+    normal_set m (record m { tp_dst = Some port }) (λ x. search rules)
+    o.pcp o.tos o.proto o.source o.destination o.tp_source (needed (has_ports m.dl_type m.nw_proto) (ports m.dl_type m.nw_proto t))
 
 -- ---- all actions
 
-either : (t : Bool) (r m : Pattern) → (IsTrue t → applied r ≡ r) → applied m ≡ m → applied (if t then r else m) ≡ (if t then r else m)
+either : (t : Bool) (r m : Pattern) → (IsTrue t → IsFixed r) → IsFixed m → IsFixed (if t then r else m)
 either true r m p q = p refl
 either false r m p q = q
 
 pub applied-cover_of : (m : Pattern) (action : Action) → applied m ≡ m → applied (cover_of m action) ≡ cover_of m action
 applied-cover_of m (Output port max_len) e = e
-applied-cover_of m (SetVlanVid vlan) e = normal_vlan_vid m vlan (normal_fields m e)
+applied-cover_of m (SetVlanVid vlan) e = normal_vlan m vlan (own m e)
 applied-cover_of m (SetVlanPcp priority) e =
-    let n = normal_fields m e in
-    let tagged : Pattern = record m { dl_vlan = Some 0; dl_vlan_pcp = Some (priority % 8) } in
     let changed : Pattern = record m { dl_vlan_pcp = Some (priority % 8) } in
-    either (is_value 0xffff m.dl_vlan) tagged (if has_vlan m.dl_vlan then changed else m)
-    (λ t. normal_tagged m (priority % 8) n)
-    (either (has_vlan m.dl_vlan) changed m (λ t. normal_priority m (priority % 8) n t) e)
-applied-cover_of m StripVlan e = normal_strip m (normal_fields m e)
-applied-cover_of m (SetDlSrc address) e = normal_dl_src m address (normal_fields m e)
-applied-cover_of m (SetDlDst address) e = normal_dl_dst m address (normal_fields m e)
+    either (is_value 0xffff m.dl_vlan) (record m { dl_vlan = Some 0; dl_vlan_pcp = Some (priority % 8) }) (if has_vlan m.dl_vlan then changed else m)
+    (λ t. normal_tagged m (priority % 8) (own m e))
+    (either (has_vlan m.dl_vlan) changed m (λ t. normal_priority m (priority % 8) (own m e) t) e)
+applied-cover_of m StripVlan e = normal_strip m (own m e)
+applied-cover_of m (SetDlSrc address) e = normal_dl_src m address (own m e)
+applied-cover_of m (SetDlDst address) e = normal_dl_dst m address (own m e)
 applied-cover_of m (SetNwSrc address) e =
-    either (is_value 0x0800 m.dl_type) (record m { nw_src = whole address }) m (λ t. normal_nw_src m address (normal_fields m e) t) e
+    either (is_value 0x0800 m.dl_type) (record m { nw_src = whole address }) m (λ t. normal_nw_src m address (own m e) t) e
 applied-cover_of m (SetNwDst address) e =
-    either (is_value 0x0800 m.dl_type) (record m { nw_dst = whole address }) m (λ t. normal_nw_dst m address (normal_fields m e) t) e
+    either (is_value 0x0800 m.dl_type) (record m { nw_dst = whole address }) m (λ t. normal_nw_dst m address (own m e) t) e
 applied-cover_of m (SetNwTos service) e =
-    either (is_value 0x0800 m.dl_type) (record m { nw_tos = Some (service / 4 * 4) }) m (λ t. normal_nw_tos m (service / 4 * 4) (normal_fields m e) t) e
+    either (is_value 0x0800 m.dl_type) (record m { nw_tos = Some (service / 4 * 4) }) m (λ t. normal_nw_tos m (service / 4 * 4) (own m e) t) e
 applied-cover_of m (SetTpSrc port) e =
-    either (names_tcp_or_udp m) (record m { tp_src = Some port }) m (λ t. normal_tp_src m port (normal_fields m e) t) e
+    either (names_tcp_or_udp m) (record m { tp_src = Some port }) m (λ t. normal_tp_src m port (own m e) t) e
 applied-cover_of m (SetTpDst port) e =
-    either (names_tcp_or_udp m) (record m { tp_dst = Some port }) m (λ t. normal_tp_dst m port (normal_fields m e) t) e
+    either (names_tcp_or_udp m) (record m { tp_dst = Some port }) m (λ t. normal_tp_dst m port (own m e) t) e
 applied-cover_of m (Enqueue port queue) e = e

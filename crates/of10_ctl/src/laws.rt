@@ -3,10 +3,19 @@
 ghost use Rattle.std.specs.Prelude.{ℕ, List, [], ◌∷◌, ◌++◌, ◌≡◌, ◌↔◌, ◌+◌, ◌<◌, ◌≤◌, ◌^◌, true, false, length, take, drop, slice_index};
 ghost use Rattle.std.specs.List.{All};
 ghost use Rattle.of10_ctl.specs.declared.framer.Next.TheVariants.{Frame, NeedMore, Ended};
+ghost use Rattle.of10_ctl.specs.declared.kind.TheConstants.{HELLO, ERROR, ECHO_REQUEST, ECHO_REPLY, VENDOR, FEATURES_REQUEST, FEATURES_REPLY, GET_CONFIG_REQUEST, GET_CONFIG_REPLY, SET_CONFIG, PACKET_IN, FLOW_REMOVED, PORT_STATUS, PACKET_OUT, FLOW_MOD, PORT_MOD, STATS_REQUEST, STATS_REPLY, BARRIER_REQUEST, BARRIER_REPLY, QUEUE_GET_CONFIG_REQUEST, QUEUE_GET_CONFIG_REPLY};
 ghost use Rattle.of10_ctl.specs.Heads.{head_of, length_field};
 ghost use Rattle.of10_ctl.specs.Frames.{IsFrame, message_of};
 ghost use Rattle.of10_ctl.specs.Kinds.{IsOf};
 ghost use Rattle.of10_ctl.specs.Streams.{frames_at, frames_of, has_bad, AreFirst, answer, Stream, Stands};
+
+/// The types of messages have the numbers 0 to 21 (OpenFlow 1.0.0, section 5.1, `ofp_type`).
+pub fn types_are_numbered()
+    ensures from_0 { HELLO ∷ ERROR ∷ ECHO_REQUEST ∷ ECHO_REPLY ∷ VENDOR ∷ [] ≡ 0 ∷ 1 ∷ 2 ∷ 3 ∷ 4 ∷ [] }
+    ensures from_5 { FEATURES_REQUEST ∷ FEATURES_REPLY ∷ GET_CONFIG_REQUEST ∷ GET_CONFIG_REPLY ∷ SET_CONFIG ∷ [] ≡ 5 ∷ 6 ∷ 7 ∷ 8 ∷ 9 ∷ [] }
+    ensures from_10 { PACKET_IN ∷ FLOW_REMOVED ∷ PORT_STATUS ∷ PACKET_OUT ∷ FLOW_MOD ∷ PORT_MOD ∷ [] ≡ 10 ∷ 11 ∷ 12 ∷ 13 ∷ 14 ∷ 15 ∷ [] }
+    ensures from_16 { STATS_REQUEST ∷ STATS_REPLY ∷ BARRIER_REQUEST ∷ BARRIER_REPLY ∷ QUEUE_GET_CONFIG_REQUEST ∷ QUEUE_GET_CONFIG_REPLY ∷ [] ≡ 16 ∷ 17 ∷ 18 ∷ 19 ∷ 20 ∷ 21 ∷ [] }
+{}
 
 /// A message is a frame of its type, as long as header and body.
 pub fn message_is_frame()

@@ -1,9 +1,9 @@
 ghost use Rattle.std.specs.Prelude.{◌≡◌, List, ℕ, length};
 ghost use Rattle.of10_port.specs.Ports.{port_number};
-ghost use Rattle.port_view.specs.KnownPorts.{is_known_number, is_known, kept_of};
+ghost use Rattle.port_view.specs.KnownPorts.{is_known, kept_of};
 
+use flowspace::is_in_port;
 use of10_port::PortStatus;
-use of10_port::protocol::{LOCAL, MAX};
 
 /// The most ports that are known: as many as fit a FEATURES_REPLY.
 pub(crate) const MOST: usize = 1364;
@@ -25,23 +25,13 @@ pub enum Kept {
     TooManyPorts,
 }
 
-/// Whether a port can have the number: a physical one, or the switch's own (OpenFlow 1.0.0, section 5.2.1).
-pub(crate) fn is_known_number(number: u16) -> bool
-    ensures { result ≡ is_known_number number }
-{
-    number <= MAX || number == LOCAL
-}
-
 /// What becomes of a status, where so many ports are known, with or without the port that it tells of.
 #[tactic(auto, unfolding(crate::specs::KnownPorts::kept_of))]
 pub(crate) fn answer_to(status: &PortStatus, is_there: bool, count: usize) -> Kept
     ensures { (known : List (List ℕ)) → is_there ≡ is_known (port_number status.now.port) known → count ≡ length known → result ≡ kept_of status.now known }
 {
     let number = status.port.number();
-    if !is_known_number(number)
-        || status.reason > MODIFY
-        || (status.reason == DELETE && !is_there)
-    {
+    if !is_in_port(number) || status.reason > MODIFY || (status.reason == DELETE && !is_there) {
         return Kept::Ignored;
     }
     if !is_there && count >= MOST {

@@ -7,10 +7,10 @@ ghost use Rattle.port_view.specs.KnownPorts.{IsAscending, with_told, first_known
 ghost use Rattle.port_view.specs.Places.{PortsStand};
 ghost use Rattle.port_view.specs.SlicePorts.{ports_of_slice, features_with, flooded};
 
-use crate::answer::{Kept, is_known_number};
+use crate::answer::Kept;
 use crate::places::{change, judged, place_of, put};
 use crate::shown::{buffers_for, flood_ports, ports_of};
-use flowspace::SwitchPolicy;
+use flowspace::{SwitchPolicy, is_in_port};
 use of10_ctl::Frame;
 use of10_port::{Features, Port, PortStatus, Ports};
 use std::alloc::{AllocError, Global};
@@ -39,7 +39,7 @@ fn tell(known: &mut Vec<Port>, port: Port) -> Result<(), AllocError>
     ensures { OnOk result (known.new.items ≡ with_told known.old.items port) }
 {
     let number = port.number();
-    if !is_known_number(number) {
+    if !is_in_port(number) {
         return Ok(());
     }
     let place = place_of(known, number);

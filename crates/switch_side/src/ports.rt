@@ -3,28 +3,20 @@
 ghost use Rattle.std.specs.Prelude.{◌≡◌, ◌≤◌, ◌++◌, length, IfOk, OnOk};
 ghost use Rattle.of10_ctl.specs.Kinds.{IsOf};
 ghost use Rattle.of10_port.specs.PortStatus.{spell_port_status};
-ghost use Rattle.flowspace.specs.Owners.{is_in_port};
 ghost use Rattle.switch_side.specs.Dispatches.{addressed, status_kept};
 ghost use Rattle.switch_side.specs.Carrying.{carried, telling, once, status_for, said_from, port_told};
 ghost use Rattle.switch_side.specs.Sharing.{HasNoted, HaveNoted, AreSlotsWith};
 
 use crate::dispatch::Dispatch;
 use flow_book::SliceState;
-use flowspace::{Rule, SwitchPolicy};
+use flowspace::{Rule, SwitchPolicy, is_in_port};
 use of10_ctl::Frame;
 use of10_port::PortStatus;
-use of10_port::protocol::{LOCAL, MAX};
 use port_view::{Kept, PortView};
 use std::alloc::{AllocError, Global};
 
 /// The most slices that a policy has.
 const SLOTS: usize = 32;
-
-fn is_in_port(port: u16) -> bool
-    ensures { result ≡ is_in_port port }
-{
-    port <= MAX || port == LOCAL
-}
 
 /// Notes the slot of the rule's writer, where the rule takes packets from the port.
 fn note(slots: &mut [bool; SLOTS], rule: &Rule, port: u16)
