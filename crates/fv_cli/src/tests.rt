@@ -14,8 +14,8 @@ use std::alloc::Global;
 use std::process::Abort;
 use std::test::Fail;
 
-/// Two slices: alice has TCP port 80, bob port 22.
-const POLICY: &str = "\
+/// The two slices of each policy.
+const SLICES: &str = "\
 version = 1
 [[slice]]
 name = \"alice\"
@@ -23,19 +23,16 @@ controller = \"127.0.0.1:6633\"
 [[slice]]
 name = \"bob\"
 controller = \"127.0.0.1:6634\"
-[[rule]]
-priority = 100
-write = \"alice\"
-dl_type = 2048
-nw_proto = 6
-tp_dst = 80
-[[rule]]
-priority = 50
-write = \"bob\"
-dl_type = 2048
-nw_proto = 6
-tp_dst = 22
 ";
+
+const WEB_RULE: &str =
+    "[[rule]]\npriority = 100\nwrite = \"alice\"\ndl_type = 2048\nnw_proto = 6\ntp_dst = 80\n";
+
+const SHELL_RULE: &str =
+    "[[rule]]\npriority = 50\nwrite = \"bob\"\ndl_type = 2048\nnw_proto = 6\ntp_dst = 22\n";
+
+/// Alice has TCP port 80, bob port 22.
+const RULES: &[&str] = &[WEB_RULE, SHELL_RULE];
 
 const MAGIC: &str = "4656524543000001";
 
@@ -113,12 +110,27 @@ fn bytes_of(alloc: Global, pieces: &[&str]) -> Result<Vec<u8>, Fail> {
     Ok(bytes)
 }
 
-/// A replay of these records under this policy.
-fn replay(alloc: Global, policy: &str, pieces: &[&str], out: MemorySink) -> Result<Answer, Fail> {
+/// The policy of the two slices with these rules.
+fn policy_of(alloc: Global, rules: &[&str]) -> Result<String, Fail> {
+    let mut text = String::new(alloc);
+    text.push_str(SLICES)?;
+    for rule in rules {
+        text.push_str(rule)?;
+    }
+    Ok(text)
+}
+
+/// A replay of a recording under these rules.
+fn play(alloc: Global, rules: &[&str], recording: &[u8], out: MemorySink) -> Result<Answer, Fail> {
     let mut files = MemoryFiles::new(alloc);
-    files.add("policy", policy.as_bytes())?;
-    files.add("recording", &bytes_of(alloc, pieces)?)?;
+    files.add("policy", policy_of(alloc, rules)?.as_bytes())?;
+    files.add("recording", recording)?;
     call(alloc, &["replay", "policy", "recording"], &mut files, out)
+}
+
+/// A replay of these records.
+fn replay(alloc: Global, rules: &[&str], pieces: &[&str], out: MemorySink) -> Result<Answer, Fail> {
+    play(alloc, rules, &bytes_of(alloc, pieces)?, out)
 }
 
 fn expect_answer(rt: &impl Abort, answer: &Answer, status: u8, out: &[&str], err: &str) {
@@ -136,10 +148,10 @@ fn expect_answer(rt: &impl Abort, answer: &Answer, status: u8, out: &[&str], err
 fn a_packet_reaches_the_slice_that_owns_its_port(rt: HostRuntime) -> Result<(), Fail> {
     let alloc = rt.alloc();
     let pieces = [MAGIC, SWITCH_UP, FEATURES, ALICE_UP, BOB_UP, WEB_PACKET];
-    let answer = replay(alloc, POLICY, &pieces, MemorySink::new(alloc))?;
+    let answer = replay(alloc, RULES, &pieces, MemorySink::new(alloc))?;
     expect_answer(&rt, &answer, 0, &[OPENING, WEB_REPORT], "");
     let slow = MemorySink::with_plan(alloc, 7, Vec::new(alloc));
-    let answer = replay(alloc, POLICY, &pieces, slow)?;
+    let answer = replay(alloc, RULES, &pieces, slow)?;
     expect_answer(&rt, &answer, 0, &[OPENING, WEB_REPORT], "");
     Ok(())
 }
@@ -147,7 +159,7 @@ fn a_packet_reaches_the_slice_that_owns_its_port(rt: HostRuntime) -> Result<(), 
 #[test]
 fn the_report_of_a_recording_in_memory_is_written(rt: HostRuntime) -> Result<(), Fail> {
     let alloc = rt.alloc();
-    let policy = policy_text::read(alloc, POLICY.as_bytes())?;
+    let policy = policy_text::read(alloc, policy_of(alloc, RULES)?.as_bytes())?;
     let pieces = [MAGIC, SWITCH_UP, FEATURES, ALICE_UP, BOB_UP, WEB_PACKET];
     let bytes = bytes_of(alloc, &pieces)?;
     let mut out = MemorySink::new(alloc);
@@ -183,7 +195,7 @@ fn recordings_of_the_form_are_reported(rt: HostRuntime) -> Result<(), Fail> {
         ),
     ];
     for (pieces, report) in &cases {
-        let answer = replay(alloc, POLICY, pieces, MemorySink::new(alloc))?;
+        let answer = replay(alloc, RULES, pieces, MemorySink::new(alloc))?;
         expect_answer(&rt, &answer, 0, report, "");
     }
     Ok(())
@@ -194,7 +206,7 @@ fn a_sink_that_fails_ends_the_report_at_a_line(rt: HostRuntime) -> Result<(), Fa
     let alloc = rt.alloc();
     let pieces = [MAGIC, SWITCH_UP, FEATURES, ALICE_UP, BOB_UP, WEB_PACKET];
     let failing = MemorySink::with_plan(alloc, usize::MAX, vec![in alloc; 1]?);
-    let answer = replay(alloc, POLICY, &pieces, failing)?;
+    let answer = replay(alloc, RULES, &pieces, failing)?;
     expect_answer(
         &rt,
         &answer,
@@ -236,7 +248,7 @@ fn a_missing_file_is_a_read_fault(rt: HostRuntime) -> Result<(), Fail> {
     expect_answer(&rt, &answer, 4, &[], "read fault\n");
     assert_eq!(rt; files.faults("policy"), 1);
     let mut files = MemoryFiles::new(alloc);
-    files.add("policy", POLICY.as_bytes())?;
+    files.add("policy", policy_of(alloc, RULES)?.as_bytes())?;
     let answer = call(alloc, &words, &mut files, MemorySink::new(alloc))?;
     expect_answer(&rt, &answer, 4, &[], "read fault\n");
     Ok(())

@@ -1,6 +1,6 @@
 //! Numbers in messages, which are big endian (OpenFlow 1.0.0, section 5).
 
-ghost use Rattle.std.specs.Prelude.{◌≡◌, ◌+◌, ◌<◌, ◌≤◌, ◌^◌, length, drop, ◌++◌, OnOk, OnErr, take};
+ghost use Rattle.std.specs.Prelude.{◌≡◌, ◌+◌, ◌<◌, ◌≤◌, ◌^◌, length, drop, ◌++◌, OnOk, OnErr, take, vec_len, vec_capacity};
 ghost use Rattle.byteorder.specs.Endian.{big_number, big_bytes};
 
 use byteorder::{BigEndian, ByteOrder};
@@ -51,6 +51,8 @@ pub fn u64_at(bytes: &[u8], at: usize) -> u64
 pub fn put_u8(out: &mut Vec<u8>, n: u8) -> Result<(), AllocError>
     ensures written { OnOk result (out.new.items ≡ out.old.items ++ big_bytes 1 n) }
     ensures unchanged { OnErr result (out.new.items ≡ out.old.items) }
+    ensures full { OnErr result (vec_capacity out.old < vec_len out.old + 1) }
+    ensures capacity { vec_capacity out.old ≤ vec_capacity out.new }
 {
     out.extend_from_slice(&[n])
 }
@@ -59,6 +61,8 @@ pub fn put_u8(out: &mut Vec<u8>, n: u8) -> Result<(), AllocError>
 pub fn put_u16(out: &mut Vec<u8>, n: u16) -> Result<(), AllocError>
     ensures written { OnOk result (out.new.items ≡ out.old.items ++ big_bytes 2 n) }
     ensures unchanged { OnErr result (out.new.items ≡ out.old.items) }
+    ensures full { OnErr result (vec_capacity out.old < vec_len out.old + 2) }
+    ensures capacity { vec_capacity out.old ≤ vec_capacity out.new }
 {
     let mut bytes = [0; 2];
     BigEndian::write_u16(&mut bytes, n);
@@ -69,6 +73,8 @@ pub fn put_u16(out: &mut Vec<u8>, n: u16) -> Result<(), AllocError>
 pub fn put_u32(out: &mut Vec<u8>, n: u32) -> Result<(), AllocError>
     ensures written { OnOk result (out.new.items ≡ out.old.items ++ big_bytes 4 n) }
     ensures unchanged { OnErr result (out.new.items ≡ out.old.items) }
+    ensures full { OnErr result (vec_capacity out.old < vec_len out.old + 4) }
+    ensures capacity { vec_capacity out.old ≤ vec_capacity out.new }
 {
     let mut bytes = [0; 4];
     BigEndian::write_u32(&mut bytes, n);
@@ -80,6 +86,8 @@ pub fn put_u48(out: &mut Vec<u8>, n: u64) -> Result<(), AllocError>
     requires { n < 2 ^ 48 }
     ensures written { OnOk result (out.new.items ≡ out.old.items ++ big_bytes 6 n) }
     ensures unchanged { OnErr result (out.new.items ≡ out.old.items) }
+    ensures full { OnErr result (vec_capacity out.old < vec_len out.old + 6) }
+    ensures capacity { vec_capacity out.old ≤ vec_capacity out.new }
 {
     let mut bytes = [0; 6];
     BigEndian::write_u48(&mut bytes, n);
@@ -90,6 +98,8 @@ pub fn put_u48(out: &mut Vec<u8>, n: u64) -> Result<(), AllocError>
 pub fn put_u64(out: &mut Vec<u8>, n: u64) -> Result<(), AllocError>
     ensures written { OnOk result (out.new.items ≡ out.old.items ++ big_bytes 8 n) }
     ensures unchanged { OnErr result (out.new.items ≡ out.old.items) }
+    ensures full { OnErr result (vec_capacity out.old < vec_len out.old + 8) }
+    ensures capacity { vec_capacity out.old ≤ vec_capacity out.new }
 {
     let mut bytes = [0; 8];
     BigEndian::write_u64(&mut bytes, n);

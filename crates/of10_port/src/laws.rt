@@ -1,11 +1,20 @@
 //! Laws of the definitions. Each function's contract is the law; its body does nothing.
 
-ghost use Rattle.std.specs.Prelude.{ℕ, ◌≡◌, Ok};
+ghost use Rattle.std.specs.Prelude.{ℕ, [], ◌∷◌, ◌≡◌, Ok};
 ghost use Rattle.of10_ctl.specs.Kinds.{IsOf};
 ghost use Rattle.of10_port.specs.declared.features.Features.{Features};
 ghost use Rattle.of10_port.specs.declared.status.PortStatus.{PortStatus};
+ghost use Rattle.of10_port.specs.declared.protocol.TheConstants.{MAX, IN_PORT, TABLE, NORMAL, FLOOD, ALL, CONTROLLER, LOCAL, NONE, NO_FLOOD};
 ghost use Rattle.of10_port.specs.Features.{IsFeatures, spell_features, read_features};
 ghost use Rattle.of10_port.specs.PortStatus.{IsPortStatus, spell_port_status, read_port_status};
+
+/// Physical ports end at 0xff00, the others have the numbers 0xfff8 to 0xffff, and the bit that keeps a port
+/// out of a flood is the fifth (OpenFlow 1.0.0, section 5.2.1).
+pub fn ports_are_numbered()
+    ensures physical { MAX ≡ 0xff00 }
+    ensures others { IN_PORT ∷ TABLE ∷ NORMAL ∷ FLOOD ∷ ALL ∷ CONTROLLER ∷ LOCAL ∷ NONE ∷ [] ≡ 0xfff8 ∷ 0xfff9 ∷ 0xfffa ∷ 0xfffb ∷ 0xfffc ∷ 0xfffd ∷ 0xfffe ∷ 0xffff ∷ [] }
+    ensures no_flood { NO_FLOOD ≡ 16 }
+{}
 
 /// What is spelled of a switch's features is a FEATURES_REPLY, and is read as the same features.
 pub fn features_are_read_again()

@@ -1,47 +1,35 @@
 //! Policies that are accepted, and what is said of those that aren't.
 
-use super::{POLICY, call, expect_answer};
+use super::{RULES, WEB_RULE, call, expect_answer, policy_of};
 use crate::base::{MemoryFiles, MemorySink};
 use std::alloc::Global;
 use std::process::Abort;
 use std::test::Fail;
 
-const SLICES: &str = "\
-version = 1
-[[slice]]
-name = \"alice\"
-controller = \"127.0.0.1:6633\"
-[[slice]]
-name = \"bob\"
-controller = \"127.0.0.1:6634\"
-";
-
-const WEB: &str =
-    "[[rule]]\npriority = 100\nwrite = \"alice\"\ndl_type = 2048\nnw_proto = 6\ntp_dst = 80\n";
-
 /// Rules behind the slices, and what is said of the policy: its status, its output and its error line.
-const CASES: [(&[&str], u8, &str, &str); 12] = [
+const CASES: [(&[&str], u8, &str, &str); 13] = [
+    (RULES, 0, "ok 2 2\n", ""),
     (&[], 0, "ok 2 0\n", ""),
     (
-        &[WEB, "[[rule]]\npriority = 10\nread = [\"bob\"]\n"],
+        &[WEB_RULE, "[[rule]]\npriority = 10\nread = [\"bob\"]\n"],
         0,
         "ok 2 2\n",
         "",
     ),
     (
-        &[WEB, "[[rule]]\npriority = 200\nread = [\"bob\"]\n"],
+        &[WEB_RULE, "[[rule]]\npriority = 200\nread = [\"bob\"]\n"],
         2,
         "",
         "policy: rules 1 and 0 overlap\n",
     ),
     (
-        &[WEB, "[[rule]]\npriority = 50\nwrite = \"bob\"\n"],
+        &[WEB_RULE, "[[rule]]\npriority = 50\nwrite = \"bob\"\n"],
         2,
         "",
         "policy: rules 0 and 1 overlap\n",
     ),
     (
-        &[WEB, "[[rule]]\npriority = 50\nwrite = \"carol\"\n"],
+        &[WEB_RULE, "[[rule]]\npriority = 50\nwrite = \"carol\"\n"],
         2,
         "",
         "policy: rule 1 names no slice\n",
@@ -53,7 +41,7 @@ const CASES: [(&[&str], u8, &str, &str); 12] = [
         "policy: rule 0 improper tp_dst\n",
     ),
     (
-        &[WEB, "priorty = 5\n"],
+        &[WEB_RULE, "priorty = 5\n"],
         2,
         "",
         "policy: unknown key rule.0.priorty\n",
@@ -95,23 +83,13 @@ fn expect_check(
     Ok(())
 }
 
-fn joined(alloc: Global, rules: &[&str]) -> Result<String, Fail> {
-    let mut text = String::new(alloc);
-    text.push_str(SLICES)?;
-    for rule in rules {
-        text.push_str(rule)?;
-    }
-    Ok(text)
-}
-
 #[test]
 fn policies_are_accepted_or_refused_with_the_place(rt: HostRuntime) -> Result<(), Fail> {
     let alloc = rt.alloc();
-    expect_check(&rt, alloc, POLICY, (0, "ok 2 2\n", ""))?;
     let other = "policy: bad value version\n";
     expect_check(&rt, alloc, "version = 2", (2, "", other))?;
     for (rules, status, out, err) in &CASES {
-        let text = joined(alloc, rules)?;
+        let text = policy_of(alloc, rules)?;
         expect_check(&rt, alloc, text.as_str(), (*status, out, err))?;
     }
     Ok(())
@@ -119,8 +97,7 @@ fn policies_are_accepted_or_refused_with_the_place(rt: HostRuntime) -> Result<()
 
 /// Two slices and so many rules.
 fn with_rules(alloc: Global, rule: &str, count: u32) -> Result<String, Fail> {
-    let mut text = String::new(alloc);
-    text.push_str(SLICES)?;
+    let mut text = policy_of(alloc, &[])?;
     for _ in 0..count {
         text.push_str(rule)?;
     }

@@ -1,9 +1,9 @@
 //! Recordings that are refused or that need what isn't built, and packets that are read by others too.
 
-use super::records::{ALICE, BOB, Cut, Step, play, recording_of};
+use super::records::{ALICE, BOB, Cut, Step, recording_of};
 use super::{
-    ALICE_UP, BOB_UP, FEATURES, MAGIC, OPENING, POLICY, SHELL_PACKET, SWITCH_UP, WEB_PACKET,
-    expect_answer, replay,
+    ALICE_UP, BOB_UP, FEATURES, MAGIC, OPENING, RULES, SHELL_PACKET, SWITCH_UP, WEB_PACKET,
+    WEB_RULE, expect_answer, play, replay,
 };
 use crate::base::MemorySink;
 use Step::{At, Opened, Slice, SliceDown, SliceUp, Switch, SwitchUp};
@@ -161,7 +161,7 @@ const FIRST_UNBUILT: [(&[Step], &str); 7] = [
 fn recordings_are_refused_with_the_place(rt: HostRuntime) -> Result<(), Fail> {
     let alloc = rt.alloc();
     for (pieces, err) in &REFUSED {
-        let answer = replay(alloc, POLICY, pieces, MemorySink::new(alloc))?;
+        let answer = replay(alloc, RULES, pieces, MemorySink::new(alloc))?;
         expect_answer(&rt, &answer, 3, &[], err);
     }
     Ok(())
@@ -169,7 +169,7 @@ fn recordings_are_refused_with_the_place(rt: HostRuntime) -> Result<(), Fail> {
 
 fn expect_unbuilt(rt: &impl Abort, alloc: Global, steps: &[Step], err: &str) -> Result<(), Fail> {
     let recording = recording_of(alloc, Cut::Whole, steps)?;
-    let answer = play(alloc, POLICY, &recording)?;
+    let answer = play(alloc, RULES, &recording, MemorySink::new(alloc))?;
     expect_answer(rt, &answer, 8, &[], err);
     Ok(())
 }
@@ -187,14 +187,9 @@ fn what_is_not_built_is_named_with_the_place(rt: HostRuntime) -> Result<(), Fail
     Ok(())
 }
 
-const SHARED: &str = "\
-version = 1
-[[slice]]
-name = \"alice\"
-controller = \"127.0.0.1:6633\"
-[[slice]]
-name = \"bob\"
-controller = \"127.0.0.1:6634\"
+/// Bob writes what alice reads.
+const SHARED: &[&str] = &[
+    "\
 [[rule]]
 priority = 100
 write = \"bob\"
@@ -202,7 +197,8 @@ read = [\"alice\"]
 dl_type = 2048
 nw_proto = 6
 tp_dst = 80
-";
+",
+];
 
 const BOTH: &str = "\
 2 0 to alice 0100000800000000
@@ -224,24 +220,7 @@ fn a_packet_reaches_its_readers_too(rt: HostRuntime) -> Result<(), Fail> {
 }
 
 /// Bob reads what nobody writes.
-const WATCHED: &str = "\
-version = 1
-[[slice]]
-name = \"alice\"
-controller = \"127.0.0.1:6633\"
-[[slice]]
-name = \"bob\"
-controller = \"127.0.0.1:6634\"
-[[rule]]
-priority = 100
-write = \"alice\"
-dl_type = 2048
-nw_proto = 6
-tp_dst = 80
-[[rule]]
-priority = 10
-read = [\"bob\"]
-";
+const WATCHED: &[&str] = &[WEB_RULE, "[[rule]]\npriority = 10\nread = [\"bob\"]\n"];
 
 const APART: &str = "\
 2 0 to alice 0100000800000000

@@ -1,7 +1,6 @@
 //! Recordings made of records that stand in a test by what they tell.
 
-use super::{Answer, MAGIC, bytes_of, call};
-use crate::base::{MemoryFiles, MemorySink};
+use super::{MAGIC, bytes_of};
 use std::alloc::Global;
 use std::test::Fail;
 
@@ -122,13 +121,4 @@ pub(super) fn recording_of(alloc: Global, cut: Cut, steps: &[Step]) -> Result<Ve
         maker.put_step(alloc, cut, *step)?;
     }
     Ok(maker.bytes)
-}
-
-/// A replay of a recording under a policy.
-pub(super) fn play(alloc: Global, policy: &str, recording: &[u8]) -> Result<Answer, Fail> {
-    let mut files = MemoryFiles::new(alloc);
-    files.add("policy", policy.as_bytes())?;
-    files.add("recording", recording)?;
-    let words = ["replay", "policy", "recording"];
-    call(alloc, &words, &mut files, MemorySink::new(alloc))
 }

@@ -2,9 +2,10 @@
 //! the same where every byte is a record of its own.
 
 use super::records::{
-    ALICE, BOB, Cut, FEATURES, LOCAL_PORT, PORT_1, PORT_2, PORT_3, Step, TO_WEB, play, recording_of,
+    ALICE, BOB, Cut, FEATURES, LOCAL_PORT, PORT_1, PORT_2, PORT_3, Step, TO_WEB, recording_of,
 };
-use super::{POLICY, expect_answer};
+use super::{RULES, SHELL_RULE, expect_answer, play};
+use crate::base::MemorySink;
 use Step::{At, Opened, Slice, SliceDown, SliceUp, Switch, SwitchDown, SwitchUp};
 use std::alloc::Global;
 use std::process::Abort;
@@ -525,15 +526,9 @@ const SWITCHES: [Session; 8] = [
     ),
 ];
 
-/// The policy of the others, but that alice has port 1 alone.
-const PORT_POLICY: &str = "\
-version = 1
-[[slice]]
-name = \"alice\"
-controller = \"127.0.0.1:6633\"
-[[slice]]
-name = \"bob\"
-controller = \"127.0.0.1:6634\"
+/// The rules of the others, but that alice has port 1 alone.
+const PORT_RULES: &[&str] = &[
+    "\
 [[rule]]
 priority = 100
 write = \"alice\"
@@ -541,13 +536,9 @@ in_port = 1
 dl_type = 2048
 nw_proto = 6
 tp_dst = 80
-[[rule]]
-priority = 50
-write = \"bob\"
-dl_type = 2048
-nw_proto = 6
-tp_dst = 22
-";
+",
+    SHELL_RULE,
+];
 
 /// What a switch says of its ports where alice has one of them alone (OpenFlow 1.0.0, section 5.4.3).
 const PORTS: [Session; 3] = [
@@ -629,14 +620,8 @@ const PORTS: [Session; 3] = [
 ];
 
 /// Each slice has packets of one switch alone, which its features tell.
-const SWITCH_POLICY: &str = "\
-version = 1
-[[slice]]
-name = \"alice\"
-controller = \"127.0.0.1:6633\"
-[[slice]]
-name = \"bob\"
-controller = \"127.0.0.1:6634\"
+const SWITCH_RULES: &[&str] = &[
+    "\
 [[rule]]
 priority = 100
 switch = \"00000000000000a1\"
@@ -647,7 +632,8 @@ priority = 50
 switch = \"00000000000000b2\"
 write = \"bob\"
 dl_type = 2048
-";
+",
+];
 
 /// The same packet comes to two switches.
 const ELSEWHERE: [Session; 1] = [(
@@ -686,12 +672,13 @@ const ELSEWHERE: [Session; 1] = [(
 fn expect_report(
     rt: &impl Abort,
     alloc: Global,
-    policy: &str,
+    rules: &[&str],
     cut: Cut,
     session: &Session,
 ) -> Result<(), Fail> {
     let (steps, report) = session;
-    let answer = play(alloc, policy, &recording_of(alloc, cut, steps)?)?;
+    let recording = recording_of(alloc, cut, steps)?;
+    let answer = play(alloc, rules, &recording, MemorySink::new(alloc))?;
     expect_answer(rt, &answer, 0, report, "");
     Ok(())
 }
@@ -700,12 +687,12 @@ fn expect_report(
 fn expect_reports(
     rt: &impl Abort,
     alloc: Global,
-    policy: &str,
+    rules: &[&str],
     sessions: &[Session],
 ) -> Result<(), Fail> {
     for session in sessions {
-        expect_report(rt, alloc, policy, Cut::Whole, session)?;
-        expect_report(rt, alloc, policy, Cut::Bytes, session)?;
+        expect_report(rt, alloc, rules, Cut::Whole, session)?;
+        expect_report(rt, alloc, rules, Cut::Bytes, session)?;
     }
     Ok(())
 }
@@ -713,9 +700,9 @@ fn expect_reports(
 #[test]
 fn sessions_are_reported_line_by_line(rt: HostRuntime) -> Result<(), Fail> {
     let alloc = rt.alloc();
-    expect_reports(&rt, alloc, POLICY, &REQUESTS)?;
-    expect_reports(&rt, alloc, POLICY, &CONNECTIONS)?;
-    expect_reports(&rt, alloc, POLICY, &SWITCHES)?;
-    expect_reports(&rt, alloc, PORT_POLICY, &PORTS)?;
-    expect_reports(&rt, alloc, SWITCH_POLICY, &ELSEWHERE)
+    expect_reports(&rt, alloc, RULES, &REQUESTS)?;
+    expect_reports(&rt, alloc, RULES, &CONNECTIONS)?;
+    expect_reports(&rt, alloc, RULES, &SWITCHES)?;
+    expect_reports(&rt, alloc, PORT_RULES, &PORTS)?;
+    expect_reports(&rt, alloc, SWITCH_RULES, &ELSEWHERE)
 }

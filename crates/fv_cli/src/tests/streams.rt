@@ -1,10 +1,11 @@
 //! Streams that come byte by byte: through a framer of the test's own, and in records of one byte.
 
-use super::records::{Cut, Step, TO_WEB, play, recording_of};
+use super::records::{Cut, Step, TO_WEB, recording_of};
 use super::{
-    ALICE_UP, BOB_UP, FEATURES, MAGIC, OPENING, POLICY, SWITCH_UP, WEB_PACKET, WEB_REPORT,
-    bytes_of, expect_answer,
+    ALICE_UP, BOB_UP, FEATURES, MAGIC, OPENING, RULES, SWITCH_UP, WEB_PACKET, WEB_REPORT, bytes_of,
+    expect_answer, play,
 };
+use crate::base::MemorySink;
 use of10_ctl::{Framer, Next};
 use std::alloc::Global;
 use std::test::Fail;
@@ -53,10 +54,11 @@ fn a_stream_cut_into_bytes_makes_the_same_report(rt: HostRuntime) -> Result<(), 
         matches!(framer.next()?, Next::NeedMore),
         "no byte is left over"
     );
-    let answer = play(alloc, POLICY, &recording)?;
+    let answer = play(alloc, RULES, &recording, MemorySink::new(alloc))?;
     expect_answer(&rt, &answer, 0, &[OPENING, WEB_REPORT], "");
     let steps = [Step::Opened, Step::Switch(&[TO_WEB])];
-    let answer = play(alloc, POLICY, &recording_of(alloc, Cut::Bytes, &steps)?)?;
+    let recording = recording_of(alloc, Cut::Bytes, &steps)?;
+    let answer = play(alloc, RULES, &recording, MemorySink::new(alloc))?;
     expect_answer(&rt, &answer, 0, &[OPENING, WEB_REPORT], "");
     Ok(())
 }
