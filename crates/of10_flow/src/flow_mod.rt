@@ -1,7 +1,8 @@
-ghost use Rattle.std.specs.Prelude.{◌≡◌, ◌+◌, ◌≤◌, ◌++◌, length, drop, OnOk, IfOk};
+ghost use Rattle.std.specs.Prelude.{◌≡◌, ◌+◌, ◌≤◌, ◌++◌, length, drop, Err, OnOk, IfOk};
 ghost use Rattle.std.specs.List.{All};
 ghost use Rattle.byteorder.specs.Endian.{big_bytes};
 ghost use Rattle.of10_model.specs.Spelling.{Spell};
+ghost use Rattle.of10_action.specs.declared.fault.DecodeFault.TheVariants.{Memory};
 ghost use Rattle.of10_action.specs.Actions.{IsAction, spelling};
 ghost use Rattle.of10_action.specs.Reading.{Gives};
 ghost use Rattle.of10_ctl.specs.Kinds.{IsOf};
@@ -77,6 +78,7 @@ fn read(alloc: Global, bytes: &[u8]) -> Result<FlowMod, DecodeFault>
     requires { length bytes.now ≤ 65535 }
     ensures exact { Gives (λ m. m) result (read_flow_mod bytes.now) }
     ensures range { IfOk result IsFlowMod }
+    ensures memory { result ≡ Err Memory → 72 ≤ length bytes.now }
 {
     if bytes.len() < 72 {
         return Err(DecodeFault::Wire(WireFault::Length(bytes.len() as u16)));
@@ -122,6 +124,7 @@ impl FlowMod {
         requires { IsOf 14 frame.now }
         ensures exact { Gives (λ m. m) result (read_flow_mod frame.now) }
         ensures range { IfOk result IsFlowMod }
+        ensures memory { result ≡ Err Memory → 72 ≤ length frame.now }
     {
         read(alloc, frame.as_slice())
     }

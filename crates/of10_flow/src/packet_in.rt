@@ -1,5 +1,6 @@
-ghost use Rattle.std.specs.Prelude.{◌≡◌, ◌+◌, ◌≤◌, ◌++◌, length, OnOk, IfOk};
+ghost use Rattle.std.specs.Prelude.{◌≡◌, ◌+◌, ◌≤◌, ◌++◌, length, Err, OnOk, IfOk};
 ghost use Rattle.byteorder.specs.Endian.{big_bytes};
+ghost use Rattle.of10_action.specs.declared.fault.DecodeFault.TheVariants.{Memory};
 ghost use Rattle.of10_action.specs.Actions.{padding};
 ghost use Rattle.of10_action.specs.Reading.{Gives, Reads};
 ghost use Rattle.of10_ctl.specs.Kinds.{IsOf};
@@ -47,6 +48,7 @@ fn read(bytes: &[u8]) -> Result<PacketInView<'_>, WireFault>
     requires { length bytes.now ≤ 65535 }
     ensures exact { Reads packet_of result (read_packet_in bytes.now) }
     ensures range { IfOk result (λ view. IsPacketIn (packet_of view)) }
+    ensures size { IfOk result (λ view. length bytes.now ≡ 18 + length view.payload.now) }
 {
     if bytes.len() < 18 {
         return Err(WireFault::Length(bytes.len() as u16));
@@ -82,6 +84,7 @@ impl<'a> PacketInView<'a> {
         requires { IsOf 10 frame.now }
         ensures exact { Reads packet_of result (read_packet_in frame.now) }
         ensures range { IfOk result (λ view. IsPacketIn (packet_of view)) }
+        ensures size { IfOk result (λ view. length frame.now ≡ 18 + length view.payload.now) }
     {
         read(frame.as_slice())
     }
@@ -122,6 +125,7 @@ impl PacketIn {
         requires { IsOf 10 frame.now }
         ensures exact { Gives (λ m. m) result (read_packet_in frame.now) }
         ensures range { IfOk result IsPacketIn }
+        ensures memory { result ≡ Err Memory → 18 ≤ length frame.now }
     {
         match PacketInView::decode(frame) {
             Ok(view) => Ok(view.copied(alloc)?),

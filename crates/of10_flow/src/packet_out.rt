@@ -1,5 +1,7 @@
-ghost use Rattle.std.specs.Prelude.{◌≡◌, ◌+◌, ◌≤◌, ◌++◌, length, OnOk, IfOk};
+ghost use Rattle.std.specs.Prelude.{◌≡◌, ◌+◌, ◌≤◌, ◌++◌, length, Err, OnOk, IfOk};
 ghost use Rattle.byteorder.specs.Endian.{big_bytes};
+ghost use Rattle.of10_model.specs.Normal.{number_at};
+ghost use Rattle.of10_action.specs.declared.fault.DecodeFault.TheVariants.{Memory};
 ghost use Rattle.of10_action.specs.Actions.{spelling};
 ghost use Rattle.of10_action.specs.Reading.{Gives};
 ghost use Rattle.of10_ctl.specs.Kinds.{IsOf};
@@ -30,6 +32,7 @@ fn read(alloc: Global, bytes: &[u8]) -> Result<PacketOut, DecodeFault>
     requires { length bytes.now ≤ 65535 }
     ensures exact { Gives (λ m. m) result (read_packet_out bytes.now) }
     ensures range { IfOk result IsPacketOut }
+    ensures memory { result ≡ Err Memory → 16 + number_at bytes.now 14 2 ≤ length bytes.now }
 {
     if bytes.len() < 16 {
         return Err(DecodeFault::Wire(WireFault::Length(bytes.len() as u16)));
@@ -64,6 +67,7 @@ impl PacketOut {
         requires { IsOf 13 frame.now }
         ensures exact { Gives (λ m. m) result (read_packet_out frame.now) }
         ensures range { IfOk result IsPacketOut }
+        ensures memory { result ≡ Err Memory → 16 + number_at frame.now 14 2 ≤ length frame.now }
     {
         read(alloc, frame.as_slice())
     }
