@@ -112,7 +112,7 @@ impl Sink for MemorySink {
         ensures count { self.old.faults ≤ self.new.faults }
         ensures moves { IfOk result (λ n. Some n ≡ moved (sink_plan self.old) (length bytes.now)) }
         ensures full { OnErr result (IfSome (moved (sink_plan self.old) (length bytes.now)) (λ n. vec_capacity self.old.kept < vec_len self.old.kept + n)) }
-        ensures same { OnOk result (self.new.faults ≡ self.old.faults) }
+        ensures calm { OnOk result (self.new.faults ≡ self.old.faults) }
         ensures counted { OnErr result (self.new.faults ≡ one_more self.old.faults) }
         ensures plan { sink_plan self.new ≡ called (sink_plan self.old) }
     {
@@ -337,7 +337,7 @@ impl Files for MemoryFiles {
         ensures count { (at : List ℕ) → count_at self.old.elsewhere self.old.entries.items at ≤ count_at self.new.elsewhere self.new.entries.items at }
         ensures exact { result_ok result ≡ read_count (files_plan self.old) (file_at self.old.entries.items path.now) from (length into.old) }
         ensures unread { OnErr result (into.new ≡ into.old) }
-        ensures kept { OnOk result ((at : List ℕ) → count_at self.new.elsewhere self.new.entries.items at ≡ count_at self.old.elsewhere self.old.entries.items at) }
+        ensures calm { OnOk result ((at : List ℕ) → count_at self.new.elsewhere self.new.entries.items at ≡ count_at self.old.elsewhere self.old.entries.items at) }
         ensures counted { OnErr result ((at : List ℕ) → count_at self.new.elsewhere self.new.entries.items at ≡ raised_at self.old.elsewhere self.old.entries.items path.now at) }
         ensures own { (at : List ℕ) → IsFalse (bytes_eq path.now at) → IsTrue (is_declared self.old.entries.items at) → count_at self.new.elsewhere self.new.entries.items at ≡ count_at self.old.elsewhere self.old.entries.items at }
         ensures declared { (at : List ℕ) → is_declared self.new.entries.items at ≡ is_declared self.old.entries.items at }

@@ -1,10 +1,10 @@
 //! The traits of the outside.
 //!
-//! Each has a count of faults that never falls, and a call answers `Failed` only where that count rose in
-//! the call. What is told of the outside is for proofs: objects in memory tell their contents, files and
-//! sockets don't, and a caller can't see which it has.
+//! Each has a count of faults that never falls. A call answers `Failed` only where that count rose in the
+//! call, and a call that goes well leaves it as it was. What is told of the outside is for proofs: objects
+//! in memory tell their contents, files and sockets don't, and a caller can't see which it has.
 
-ghost use Rattle.std.specs.Prelude.{◌≡◌, ◌≤◌, ◌<◌, ℕ, List, Option, length, drop, take, IfOk, OnErr, IfSome};
+ghost use Rattle.std.specs.Prelude.{◌≡◌, ◌≤◌, ◌<◌, ℕ, List, Option, length, drop, take, IfOk, OnOk, OnErr, IfSome};
 ghost use Rattle.fv_base.specs.Told.{appended, Gives, Rose};
 
 /// A call on the outside failed. Its cause is that the object's count of faults rose.
@@ -28,6 +28,7 @@ pub trait Sink: Drop {
         ensures taken { IfOk result (λ n. contents self.new ≡ appended (contents self.old) (take n bytes.now)) }
         ensures refused { OnErr result (contents self.new ≡ contents self.old) }
         ensures cause { OnErr result (Rose (faults self.old) (faults self.new)) }
+        ensures calm { OnOk result (faults self.new ≡ faults self.old) }
         ensures count { faults self.old ≤ faults self.new };
 }
 
@@ -46,6 +47,7 @@ pub trait Files: Drop {
         ensures within { IfOk result (λ n. n ≤ length into.old) }
         ensures given { IfOk result (λ n. IfSome (contents self.old path.now) (λ file. Gives (drop from file) into.old n into.new)) }
         ensures cause { OnErr result (Rose (faults self.old path.now) (faults self.new path.now)) }
+        ensures calm { OnOk result ((at : List ℕ) → faults self.new at ≡ faults self.old at) }
         ensures same { (at : List ℕ) → contents self.new at ≡ contents self.old at }
         ensures count { (at : List ℕ) → faults self.old at ≤ faults self.new at };
 }

@@ -1,7 +1,7 @@
 //! Whole transfers over the traits of the outside: all bytes put, a whole file loaded.
 
 ghost use Rattle.std.specs.Prelude.{◌≡◌, ◌≤◌, ◌<◌, ℕ, List, length, IfOk, IfErr, IfSome, OnOk, OnErr};
-ghost use Rattle.fv_base.specs.Told.{appended, IsPrefix, Rose};
+ghost use Rattle.fv_base.specs.Told.{appended, IsPrefix, Rose, CountedAt};
 
 use super::{Failed, Files, Sink};
 use std::alloc::Global;
@@ -29,6 +29,7 @@ pub fn put_all<K: Sink>(sink: &mut K, bytes: &[u8]) -> Result<(), Failed>
     ensures all { OnOk result (K.contents sink.new ≡ appended (K.contents sink.old) bytes.now) }
     ensures part { OnErr result ((piece : List ℕ) × IsPrefix piece bytes.now × (K.contents sink.new ≡ appended (K.contents sink.old) piece)) }
     ensures cause { OnErr result (Rose (K.faults sink.old) (K.faults sink.new)) }
+    ensures calm { OnOk result (K.faults sink.new ≡ K.faults sink.old) }
     ensures count { K.faults sink.old ≤ K.faults sink.new }
 {
     let mut done = 0;
@@ -47,7 +48,7 @@ pub fn load_file<F: Files>(
 ) -> Result<Vec<u8>, LoadFault>
     ensures within { IfOk result (λ file. length file.items ≤ limit) }
     ensures whole { IfOk result (λ file. IfSome (F.contents files.old path.now) (λ bytes. file.items ≡ bytes)) }
-    ensures cause { IfErr result (λ fault. fault ≡ LoadFault.ReadFault → Rose (F.faults files.old path.now) (F.faults files.new path.now)) }
+    ensures cause { CountedAt path.now result (F.faults files.old) (F.faults files.new) }
     ensures large { IfErr result (λ fault. fault ≡ LoadFault.TooLarge → IfSome (F.contents files.old path.now) (λ bytes. limit < length bytes)) }
     ensures same { (at : List ℕ) → F.contents files.new at ≡ F.contents files.old at }
     ensures count { (at : List ℕ) → F.faults files.old at ≤ F.faults files.new at }
@@ -69,7 +70,7 @@ fn gather<F: Files>(
     requires { 0 < length buffer.old }
     ensures within { IfOk result (λ file. length file.items ≤ limit) }
     ensures whole { IfOk result (λ file. IfSome (F.contents files.old path.now) (λ bytes. file.items ≡ bytes)) }
-    ensures cause { IfErr result (λ fault. fault ≡ LoadFault.ReadFault → Rose (F.faults files.old path.now) (F.faults files.new path.now)) }
+    ensures cause { CountedAt path.now result (F.faults files.old) (F.faults files.new) }
     ensures large { IfErr result (λ fault. fault ≡ LoadFault.TooLarge → IfSome (F.contents files.old path.now) (λ bytes. limit < length bytes)) }
     ensures same { (at : List ℕ) → F.contents files.new at ≡ F.contents files.old at }
     ensures count { (at : List ℕ) → F.faults files.old at ≤ F.faults files.new at }

@@ -10,7 +10,7 @@ loop-count-init g c = record {
   within = omega arith;
   begun = begins (g.F.Files.contents c.args.files.now c.args.path.now) c.new-file.result.items c.new-file.ensures.items;
   same = search rules;
-  count = search rules;
+  calm = search rules;
 }
 
 pub returns-then-count-eq0-clause-whole : goal.returns-then-count-eq0-clause-whole
@@ -35,5 +35,5 @@ loop-count-preserved g c =
       within = grind (arith, common_steps);
       begun = subst Begun (sym (c.in-Ok.ensures.same path)) (rw more (goes_on before file.items c.loop-count.buffer c.read.new.into c.len.result n place c.loop-count.invariant.begun c.in-Ok.ensures.given));
       same = λ at. c.in-Ok.ensures.same at ∙ c.loop-count.invariant.same at;
-      count = λ at. omega (arith, c.in-Ok.ensures.count at, c.loop-count.invariant.count at);
+      calm = λ at. c.in-Ok.ensures.calm at ∙ c.loop-count.invariant.calm at;
     }

@@ -7,7 +7,7 @@ invariant-loop-count g l = record {
   within : vec_len l.file ≤ l.limit;
   begun : IfSome (g.F.Files.contents l.files l.path) (λ bytes. IsPrefix l.file.items bytes);
   same : (at : List ℕ) → g.F.Files.contents l.files at ≡ g.F.Files.contents l.fn.files at;
-  count : (at : List ℕ) → g.F.Files.faults l.fn.files at ≤ g.F.Files.faults l.files at;
+  calm : (at : List ℕ) → g.F.Files.faults l.files at ≡ g.F.Files.faults l.fn.files at;
 }
 
 abbrev pub decreases-loop-count : goal.decreases-loop-count

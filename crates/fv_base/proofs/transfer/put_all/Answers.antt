@@ -20,5 +20,5 @@ loop-done-preserved g c =
     record {
       within = omega (arith, c.in_ok-done.ensures.within);
       put = taken ∙ ap (λ told. appended told (take n (drop done bytes))) c.loop-done.invariant.put ∙ appended-more (g.K.Sink.contents c.args.sink.now) bytes done n;
-      count = omega (arith, c.in_ok-done.ensures.count);
+      calm = c.in_ok-done.ensures.calm ∙ c.loop-done.invariant.calm;
     }

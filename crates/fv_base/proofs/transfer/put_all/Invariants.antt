@@ -6,7 +6,7 @@ abbrev pub invariant-loop-done : goal.invariant-loop-done
 invariant-loop-done g l = record {
   within : l.done ≤ length l.bytes;
   put : g.K.Sink.contents l.sink ≡ appended (g.K.Sink.contents l.fn.sink) (take l.done l.bytes);
-  count : g.K.Sink.faults l.fn.sink ≤ g.K.Sink.faults l.sink;
+  calm : g.K.Sink.faults l.sink ≡ g.K.Sink.faults l.fn.sink;
 }
 
 abbrev pub decreases-loop-done : goal.decreases-loop-done
