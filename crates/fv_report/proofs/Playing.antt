@@ -23,7 +23,7 @@ use Rattle.fv_report.specs.Writing.{WrotePart}
 use Rattle.fv_report.specs.Holding.{IsQuiet}
 use Rattle.fv_report.specs.Streams.{TookFrame}
 use Rattle.fv_report.specs.Plays.{event_from, Played, Plays, Hears}
-use Rattle.fv_report.proofs.Writing.{both, part_of_first, part_of_second, part_of_all, appended_none, at_fault, no_ok, not_ok}
+use Rattle.fv_report.proofs.Writing.{both, part_of_first, part_of_second, part_of_all, at_fault, no_ok, not_ok}
 
 -- ---- one event
 

@@ -8,7 +8,7 @@ use Rattle.fv_base.specs.Told.{appended}
 use Rattle.of10_ctl.specs.Streams.{Stream, Stands, frames_of}
 use Rattle.flowspace.specs.Policies.{PolicyView}
 use Rattle.recording.specs.declared.item.Item.{Item}
-use Rattle.recording.specs.Recordings.{Told, IsItem, byte_limit, switch_bytes, slice_bytes}
+use Rattle.recording.specs.Recordings.{Told, byte_limit, switch_bytes, slice_bytes}
 use Rattle.answer_bounds.specs.Bounds.{IsFramed, AreFramed}
 use Rattle.desk_words.specs.declared.event.Timed.{Timed}
 use Rattle.desk_words.specs.Recorded.{stream_before, history_of, history_at, events_in, carried, told_in}
@@ -19,7 +19,7 @@ use Rattle.fv_report.specs.declared.streams.Streams.{Streams}
 use Rattle.fv_report.specs.Writing.{WrotePart, Wrote}
 use Rattle.fv_report.specs.Holding.{IsQuiet}
 use Rattle.fv_report.specs.Streams.{connection, StreamStands, StreamsStand}
-use Rattle.fv_report.specs.Switches.{told_by, IsRecord, IsFreshSwitch, SwitchStands, RecordPlayed, PlaysRecord, IsUntouched, IsAt, PlaysAt, AreUnknown, AllStand, PlaysAmong}
+use Rattle.fv_report.specs.Switches.{told_by, IsFreshSwitch, SwitchStands, RecordPlayed, PlaysRecord, IsUntouched, IsAt, PlaysAt, AreUnknown, AllStand, PlaysAmong}
 use Rattle.fv_report.proofs.Writing.{both, part_of_first, part_of_second, at_fault, no_ok, none_of, wrote_second}
 use Rattle.fv_report.proofs.Recorded.{no_frames, history_other, stream_other, set_get, set_length}
 

@@ -1,9 +1,10 @@
 -- Texts that are written one after another.
-use Rattle.std.proofs.Common.{◌≡◌, ℕ, List, [], ◌++◌, refl, sym, ap, ◌∙◌, append_assoc, Option, Some, None, Result, Ok, Err, IfOk, OnOk}
+use Rattle.std.proofs.Common.{◌≡◌, ℕ, List, [], ◌++◌, refl, sym, ap, ◌∙◌, append_assoc, subst, Option, Some, None, Result, Ok, Err, IfOk, OnOk}
 use Rattle.std.specs.Result.{IsErr}
 use Rattle.std.proofs.lemmas.List.{append-nil}
 use Rattle.fv_base.specs.Told.{appended}
-use Rattle.fv_report.specs.Writing.{WrotePart, Wrote}
+use Rattle.fv_report.specs.declared.fault.ReportFault.{ReportFault}
+use Rattle.fv_report.specs.Writing.{WrotePart, Wrote, CountedFault, Counted}
 
 pub appended_twice : (told : Option (List ℕ)) (first second : List ℕ) → appended (appended told first) second ≡ appended told (first ++ second)
 appended_twice None first second = refl
@@ -57,3 +58,10 @@ not_ok P (Ok value) is = absurd cc
 pub on_ok : {A E P : Type 0} (result : Result A E) → P → OnOk result P
 on_ok (Ok value) holds = holds
 on_ok (Err fault) holds = tt
+
+-- the count after calls that went well is the one before them
+pub counted_after : {A : Type 0} (result : Result A ReportFault) (old now later : ℕ) → now ≡ old → Counted result now later → Counted result old later
+counted_after result old now later same counted = subst (λ (n : ℕ). Counted result n later) same counted
+
+pub fault_after : (fault : ReportFault) (old now later : ℕ) → now ≡ old → CountedFault fault now later → CountedFault fault old later
+fault_after fault old now later same counted = subst (λ (n : ℕ). CountedFault fault n later) same counted

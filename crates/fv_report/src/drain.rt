@@ -1,13 +1,12 @@
 //! Messages that wait at a desk are taken and written.
 
-ghost use Rattle.std.specs.Prelude.{ℕ, ◌≡◌, ◌≤◌, ◌<◌, ◌++◌, List, [], OnOk, IfErr, IfSome, drop, slice_get};
-ghost use Rattle.fv_base.specs.Told.{Rose};
+ghost use Rattle.std.specs.Prelude.{ℕ, ◌≡◌, ◌<◌, List, [], OnOk, IfSome};
 ghost use Rattle.desk_words.specs.declared.event.Timed.{Timed};
 ghost use Rattle.desk_words.specs.declared.answer.Dest.TheVariants.{Switch, Slice};
 ghost use Rattle.desk_words.specs.Reports.{lane_lines, slice_lines};
 ghost use Rattle.proxy_core.specs.Desks.{left};
 ghost use Rattle.fv_report.specs.Lines.{place_of};
-ghost use Rattle.fv_report.specs.Writing.{Wrote};
+ghost use Rattle.fv_report.specs.Writing.{Wrote, Counted};
 ghost use Rattle.fv_report.specs.Holding.{Holds, nothing, with_waiting};
 ghost use Rattle.flowspace.specs.Policies.{PolicyView};
 ghost use Rattle.fv_report.specs.Taking.{message_taken, TakesFromLane, TakesFromSlice};
@@ -54,8 +53,7 @@ pub(crate) fn drain_lane<K: Sink>(
 ) -> Result<(), ReportFault>
     ensures writes { (policy : PolicyView) (h : List Timed) (slices : ℕ → List (List ℕ)) (lane : List (List ℕ)) → Holds policy h slices lane desk.old → Wrote result (lane_lines (place_of place) lane) (K.contents out.old) (K.contents out.new) }
     ensures empties { OnOk result ((policy : PolicyView) (h : List Timed) (slices : ℕ → List (List ℕ)) (lane : List (List ℕ)) → Holds policy h slices lane desk.old → Holds policy h slices [] desk.new) }
-    ensures cause { IfErr result (λ f. f ≡ ReportFault.WriteFault → Rose (K.faults out.old) (K.faults out.new)) }
-    ensures count { K.faults out.old ≤ K.faults out.new }
+    ensures counted { Counted result (K.faults out.old) (K.faults out.new) }
 {
     while let Some(message) = next_of_lane(desk) {
         put_line(out, line, place, Said::Lane(message.as_slice()))?;
@@ -74,8 +72,7 @@ fn drain_slice<K: Sink>(
 ) -> Result<(), ReportFault>
     ensures writes { (policy : PolicyView) (h : List Timed) (slices : ℕ → List (List ℕ)) (lane : List (List ℕ)) → Holds policy h slices lane desk.old → Wrote result (slice_lines (place_of place) name.now (slices slot)) (K.contents out.old) (K.contents out.new) }
     ensures empties { OnOk result ((policy : PolicyView) (h : List Timed) (slices : ℕ → List (List ℕ)) (lane : List (List ℕ)) → Holds policy h slices lane desk.old → Holds policy h (with_waiting slot [] slices) lane desk.new) }
-    ensures cause { IfErr result (λ f. f ≡ ReportFault.WriteFault → Rose (K.faults out.old) (K.faults out.new)) }
-    ensures count { K.faults out.old ≤ K.faults out.new }
+    ensures counted { Counted result (K.faults out.old) (K.faults out.new) }
 {
     while let Some(message) = next_of_slice(desk, slot) {
         put_line(out, line, place, Said::To(name, message.as_slice()))?;
@@ -93,8 +90,7 @@ pub(crate) fn drain_slices<K: Sink>(
 ) -> Result<(), ReportFault>
     ensures writes { (h : List Timed) (slices : ℕ → List (List ℕ)) (lane : List (List ℕ)) → Holds policy.now h slices lane desk.old → Wrote result (lines_by_slot (place_of place) slices 0 policy.now.slices) (K.contents out.old) (K.contents out.new) }
     ensures empties { OnOk result ((h : List Timed) (slices : ℕ → List (List ℕ)) (lane : List (List ℕ)) → Holds policy.now h slices lane desk.old → Holds policy.now h nothing lane desk.new) }
-    ensures cause { IfErr result (λ f. f ≡ ReportFault.WriteFault → Rose (K.faults out.old) (K.faults out.new)) }
-    ensures count { K.faults out.old ≤ K.faults out.new }
+    ensures counted { Counted result (K.faults out.old) (K.faults out.new) }
 {
     for (slot, slice) in policy.slices().iter().enumerate() {
         drain_slice(out, line, desk, place, slot as u8, slice.name.as_str())?;

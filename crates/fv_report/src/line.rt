@@ -1,11 +1,10 @@
 //! The lines of a report.
 
-ghost use Rattle.std.specs.Prelude.{◌≡◌, ◌≤◌, ◌++◌, OnOk, IfErr};
+ghost use Rattle.std.specs.Prelude.{◌≡◌, ◌++◌, OnOk};
 ghost use Rattle.hex.specs.Hex.{encode_lower};
-ghost use Rattle.fv_base.specs.Told.{Rose};
 ghost use Rattle.desk_words.specs.Reports.{place_text, last_line};
 ghost use Rattle.fv_report.specs.Lines.{place_of, said_text, line_of};
-ghost use Rattle.fv_report.specs.Writing.{Wrote};
+ghost use Rattle.fv_report.specs.Writing.{Wrote, Counted};
 
 use crate::fault::ReportFault;
 use fv_base::{Sink, put_all};
@@ -119,8 +118,7 @@ impl LineBuffer {
 /// Puts the bytes of a line, all at once.
 fn put<K: Sink>(out: &mut K, bytes: &[u8]) -> Result<(), ReportFault>
     ensures writes { Wrote result bytes.now (K.contents out.old) (K.contents out.new) }
-    ensures cause { IfErr result (λ f. f ≡ ReportFault.WriteFault → Rose (K.faults out.old) (K.faults out.new)) }
-    ensures count { K.faults out.old ≤ K.faults out.new }
+    ensures counted { Counted result (K.faults out.old) (K.faults out.new) }
 {
     match put_all(out, bytes) {
         Ok(()) => Ok(()),
@@ -136,8 +134,7 @@ pub(crate) fn put_line<K: Sink>(
     said: Said<'_>,
 ) -> Result<(), ReportFault>
     ensures writes { Wrote result (line_of place said.entry) (K.contents out.old) (K.contents out.new) }
-    ensures cause { IfErr result (λ f. f ≡ ReportFault.WriteFault → Rose (K.faults out.old) (K.faults out.new)) }
-    ensures count { K.faults out.old ≤ K.faults out.new }
+    ensures counted { Counted result (K.faults out.old) (K.faults out.new) }
 {
     if line.make(place, said).is_err() {
         return Err(ReportFault::Memory);
@@ -152,8 +149,7 @@ pub(crate) fn put_last<K: Sink>(
     events: u64,
 ) -> Result<(), ReportFault>
     ensures writes { Wrote result (last_line events) (K.contents out.old) (K.contents out.new) }
-    ensures cause { IfErr result (λ f. f ≡ ReportFault.WriteFault → Rose (K.faults out.old) (K.faults out.new)) }
-    ensures count { K.faults out.old ≤ K.faults out.new }
+    ensures counted { Counted result (K.faults out.old) (K.faults out.new) }
 {
     if line.make_last(events).is_err() {
         return Err(ReportFault::Memory);

@@ -1,13 +1,13 @@
 //! What comes on one connection is played at the desk.
 
-ghost use Rattle.std.specs.Prelude.{ℕ, ◌≡◌, ◌≤◌, ◌+◌, ◌++◌, true, List, [], ◌∷◌, map, length, drop, IfOk, IfErr, OnOk};
-ghost use Rattle.fv_base.specs.Told.{Rose};
+ghost use Rattle.std.specs.Prelude.{ℕ, ◌≡◌, ◌+◌, ◌++◌, true, List, [], ◌∷◌, length, drop, IfOk, IfErr};
 ghost use Rattle.flowspace.specs.Policies.{PolicyView};
 ghost use Rattle.of10_ctl.specs.Frames.{IsFrame};
 ghost use Rattle.of10_ctl.specs.Streams.{Stands, frames_of};
 ghost use Rattle.answer_bounds.specs.Bounds.{IsFramed, AreFramed};
 ghost use Rattle.desk_words.specs.declared.event.Timed.{Timed};
 ghost use Rattle.desk_words.specs.Recorded.{happens};
+ghost use Rattle.fv_report.specs.Writing.{Counted};
 ghost use Rattle.fv_report.specs.Holding.{IsQuiet};
 ghost use Rattle.fv_report.specs.Plays.{event_from, Plays, Hears};
 
@@ -73,8 +73,7 @@ pub(crate) fn play<K: Sink>(
     timed: Timed,
 ) -> Result<Place, ReportFault>
     ensures plays { (h : List Timed) → IsQuiet policy.now h desk.old → AreFramed h → IsFramed timed.event → happens policy.now h timed.event ≡ true → Plays policy.now timed.moment h (timed.event ∷ []) place result (K.contents out.old) (K.contents out.new) desk.new }
-    ensures cause { IfErr result (λ f. f ≡ ReportFault.WriteFault → Rose (K.faults out.old) (K.faults out.new)) }
-    ensures count { K.faults out.old ≤ K.faults out.new }
+    ensures counted { Counted result (K.faults out.old) (K.faults out.new) }
 {
     turn(alloc, out, line, desk, policy, place, timed)?;
     next_place(place)
@@ -93,8 +92,7 @@ fn hear_one<K: Sink>(
 ) -> Result<Place, ReportFault>
     requires { IsFrame frame }
     ensures plays { (h : List Timed) → IsQuiet policy.now h desk.old → AreFramed h → Plays policy.now came.moment h (event_from came.from frame ∷ []) place result (K.contents out.old) (K.contents out.new) desk.new }
-    ensures cause { IfErr result (λ f. f ≡ ReportFault.WriteFault → Rose (K.faults out.old) (K.faults out.new)) }
-    ensures count { K.faults out.old ≤ K.faults out.new }
+    ensures counted { Counted result (K.faults out.old) (K.faults out.new) }
 {
     if !happens(desk, came.from) {
         return Ok(place);
@@ -119,8 +117,7 @@ pub(crate) fn hear<K: Sink>(
 ) -> Result<Place, ReportFault>
     ensures hears { (h : List Timed) (fed : List ℕ) (given rest : List (List ℕ)) → IsQuiet policy.now h desk.old → AreFramed h → Stands framer.old fed given → given ++ rest ≡ frames_of fed
         → Hears policy.now came.moment came.from h fed rest place result (K.contents out.old) (K.contents out.new) desk.new framer.new }
-    ensures cause { IfErr result (λ f. f ≡ ReportFault.WriteFault → Rose (K.faults out.old) (K.faults out.new)) }
-    ensures count { K.faults out.old ≤ K.faults out.new }
+    ensures counted { Counted result (K.faults out.old) (K.faults out.new) }
 {
     while let Some(frame) = next_frame(framer)? {
         place = hear_one(alloc, out, line, desk, policy, place, came, frame)?;
@@ -142,8 +139,7 @@ pub(crate) fn hear_bytes<K: Sink>(
 ) -> Result<Place, ReportFault>
     ensures hears { (h : List Timed) (fed : List ℕ) → IsQuiet policy.now h desk.old → AreFramed h → Stands framer.old fed (frames_of fed)
         → Hears policy.now came.moment came.from h (fed ++ bytes.now) (drop (length (frames_of fed)) (frames_of (fed ++ bytes.now))) place result (K.contents out.old) (K.contents out.new) desk.new framer.new }
-    ensures cause { IfErr result (λ f. f ≡ ReportFault.WriteFault → Rose (K.faults out.old) (K.faults out.new)) }
-    ensures count { K.faults out.old ≤ K.faults out.new }
+    ensures counted { Counted result (K.faults out.old) (K.faults out.new) }
 {
     framer.feed(bytes)?;
     hear(alloc, out, line, desk, policy, place, came, framer)

@@ -1,13 +1,12 @@
 //! A whole recording.
 
-ghost use Rattle.std.specs.Prelude.{ℕ, ◌≡◌, ◌≤◌, List, length, Ok, IfOk, IfErr};
+ghost use Rattle.std.specs.Prelude.{◌≡◌, List, length, Ok, IfOk};
 ghost use Rattle.std.specs.List.{All};
-ghost use Rattle.fv_base.specs.Told.{Rose};
 ghost use Rattle.recording.specs.declared.item.Item.{Item};
 ghost use Rattle.recording.specs.Recordings.{IsItem, read_items};
 ghost use Rattle.desk_words.specs.Recorded.{carried, told_in};
 ghost use Rattle.desk_words.specs.Reports.{report};
-ghost use Rattle.fv_report.specs.Writing.{Wrote};
+ghost use Rattle.fv_report.specs.Writing.{Wrote, Counted};
 ghost use Rattle.fv_report.specs.Switches.{told_by, IsRecord, PlaysAt, PlaysAmong, AreUnknown};
 
 use crate::fault::ReportFault;
@@ -50,8 +49,7 @@ fn play_at<K: Sink>(
 ) -> Result<u64, ReportFault>
     requires item { IsRecord (length policy.now.slices) item.now bytes.now }
     ensures plays { PlaysAt policy.now (told_by item.now bytes.now) events result (K.contents out.old) (K.contents out.new) known.old known.new }
-    ensures cause { IfErr result (λ f. f ≡ ReportFault.WriteFault → Rose (K.faults out.old) (K.faults out.new)) }
-    ensures count { K.faults out.old ≤ K.faults out.new }
+    ensures counted { Counted result (K.faults out.old) (K.faults out.new) }
 {
     match known {
         Some(switch) => play_record(alloc, out, line, policy, events, switch, item, bytes),
@@ -79,8 +77,7 @@ fn play_among<K: Sink>(
     requires count { length switches.old.items ≡ 16 }
     ensures plays { PlaysAmong policy.now (told_by item.now bytes.now) events result (K.contents out.old) (K.contents out.new) switches.old.items switches.new.items }
     ensures length { length switches.new.items ≡ 16 }
-    ensures cause { IfErr result (λ f. f ≡ ReportFault.WriteFault → Rose (K.faults out.old) (K.faults out.new)) }
-    ensures count { K.faults out.old ≤ K.faults out.new }
+    ensures counted { Counted result (K.faults out.old) (K.faults out.new) }
 {
     let known = &mut switches[usize::from(item.switch)];
     play_at(alloc, out, line, policy, events, known, item, bytes)
@@ -101,8 +98,7 @@ fn play_item<K: Sink>(
     requires count { length switches.old.items ≡ 16 }
     ensures plays { PlaysAmong policy.now (told_by item.now (carried file.now item.now)) events result (K.contents out.old) (K.contents out.new) switches.old.items switches.new.items }
     ensures length { length switches.new.items ≡ 16 }
-    ensures cause { IfErr result (λ f. f ≡ ReportFault.WriteFault → Rose (K.faults out.old) (K.faults out.new)) }
-    ensures count { K.faults out.old ≤ K.faults out.new }
+    ensures counted { Counted result (K.faults out.old) (K.faults out.new) }
 {
     let bytes = carried(file, item);
     play_among(alloc, out, line, policy, events, switches, item, bytes)
@@ -118,8 +114,7 @@ pub fn report_items<K: Sink>(
 ) -> Result<(), ReportFault>
     requires { All (IsItem (length policy.now.slices) bytes.now) items.now }
     ensures writes { Wrote result (report policy.now (told_in bytes.now items.now)) (K.contents out.old) (K.contents out.new) }
-    ensures cause { IfErr result (λ f. f ≡ ReportFault.WriteFault → Rose (K.faults out.old) (K.faults out.new)) }
-    ensures count { K.faults out.old ≤ K.faults out.new }
+    ensures counted { Counted result (K.faults out.old) (K.faults out.new) }
 {
     let mut switches = no_switches(alloc)?;
     let mut line = LineBuffer::new(alloc);
@@ -150,8 +145,7 @@ pub fn report<K: Sink>(
 ) -> Result<(), ReportFault>
     requires { (items : List Item) × (read_items (length policy.now.slices) bytes.now ≡ Ok items) }
     ensures writes { (items : List Item) → read_items (length policy.now.slices) bytes.now ≡ Ok items → Wrote result (report policy.now (told_in bytes.now items)) (K.contents out.old) (K.contents out.new) }
-    ensures cause { IfErr result (λ f. f ≡ ReportFault.WriteFault → Rose (K.faults out.old) (K.faults out.new)) }
-    ensures count { K.faults out.old ≤ K.faults out.new }
+    ensures counted { Counted result (K.faults out.old) (K.faults out.new) }
 {
     match items(alloc, bytes, policy.slice_count()) {
         Ok(items) => report_items(alloc, policy, bytes, &items, out),

@@ -1,8 +1,8 @@
 //! One switch of a recording: its desk, and what came on its connections.
 
-ghost use Rattle.std.specs.Prelude.{ℕ, ◌≡◌, ◌≤◌, ◌<◌, ◌+◌, List, [], length, IfOk, IfErr};
-ghost use Rattle.fv_base.specs.Told.{Rose};
+ghost use Rattle.std.specs.Prelude.{◌≡◌, ◌<◌, [], length, IfOk};
 ghost use Rattle.recording.specs.Recordings.{switch_up, switch_bytes, switch_down, slice_up, slice_bytes, slice_down};
+ghost use Rattle.fv_report.specs.Writing.{Counted};
 ghost use Rattle.fv_report.specs.Switches.{told_by, IsFreshSwitch, IsRecord, PlaysRecord};
 
 use crate::fault::ReportFault;
@@ -57,8 +57,7 @@ fn switch_comes<K: Sink>(
 ) -> Result<u64, ReportFault>
     requires kind { item.now.kind ≡ switch_up }
     ensures plays { PlaysRecord policy.now (told_by item.now []) events result (K.contents out.old) (K.contents out.new) switch.old switch.new }
-    ensures cause { IfErr result (λ f. f ≡ ReportFault.WriteFault → Rose (K.faults out.old) (K.faults out.new)) }
-    ensures count { K.faults out.old ≤ K.faults out.new }
+    ensures counted { Counted result (K.faults out.old) (K.faults out.new) }
 {
     *switch = Switch::new(alloc, policy)?;
     let timed = Timed {
@@ -84,8 +83,7 @@ fn switch_speaks<K: Sink>(
     requires kind { item.now.kind ≡ switch_bytes }
     requires slot { item.now.slot ≡ 0 }
     ensures plays { PlaysRecord policy.now (told_by item.now bytes.now) events result (K.contents out.old) (K.contents out.new) switch.old switch.new }
-    ensures cause { IfErr result (λ f. f ≡ ReportFault.WriteFault → Rose (K.faults out.old) (K.faults out.new)) }
-    ensures count { K.faults out.old ≤ K.faults out.new }
+    ensures counted { Counted result (K.faults out.old) (K.faults out.new) }
 {
     let place = place_of(events, item);
     let came = Came {
@@ -110,8 +108,7 @@ fn switch_goes<K: Sink>(
 ) -> Result<u64, ReportFault>
     requires kind { item.now.kind ≡ switch_down }
     ensures plays { PlaysRecord policy.now (told_by item.now []) events result (K.contents out.old) (K.contents out.new) switch.old switch.new }
-    ensures cause { IfErr result (λ f. f ≡ ReportFault.WriteFault → Rose (K.faults out.old) (K.faults out.new)) }
-    ensures count { K.faults out.old ≤ K.faults out.new }
+    ensures counted { Counted result (K.faults out.old) (K.faults out.new) }
 {
     let timed = Timed {
         event: Event::SwitchDown,
@@ -134,8 +131,7 @@ fn slice_comes<K: Sink>(
 ) -> Result<u64, ReportFault>
     requires kind { item.now.kind ≡ slice_up }
     ensures plays { PlaysRecord policy.now (told_by item.now []) events result (K.contents out.old) (K.contents out.new) switch.old switch.new }
-    ensures cause { IfErr result (λ f. f ≡ ReportFault.WriteFault → Rose (K.faults out.old) (K.faults out.new)) }
-    ensures count { K.faults out.old ≤ K.faults out.new }
+    ensures counted { Counted result (K.faults out.old) (K.faults out.new) }
 {
     restart(alloc, &mut switch.streams.slices, item.slot);
     let timed = Timed {
@@ -161,8 +157,7 @@ fn slice_speaks<K: Sink>(
     requires kind { item.now.kind ≡ slice_bytes }
     requires slot { item.now.slot < length policy.now.slices }
     ensures plays { PlaysRecord policy.now (told_by item.now bytes.now) events result (K.contents out.old) (K.contents out.new) switch.old switch.new }
-    ensures cause { IfErr result (λ f. f ≡ ReportFault.WriteFault → Rose (K.faults out.old) (K.faults out.new)) }
-    ensures count { K.faults out.old ≤ K.faults out.new }
+    ensures counted { Counted result (K.faults out.old) (K.faults out.new) }
 {
     let place = place_of(events, item);
     let came = Came {
@@ -191,8 +186,7 @@ fn slice_goes<K: Sink>(
     requires kind { item.now.kind ≡ slice_down }
     requires slot { item.now.slot < length policy.now.slices }
     ensures plays { PlaysRecord policy.now (told_by item.now []) events result (K.contents out.old) (K.contents out.new) switch.old switch.new }
-    ensures cause { IfErr result (λ f. f ≡ ReportFault.WriteFault → Rose (K.faults out.old) (K.faults out.new)) }
-    ensures count { K.faults out.old ≤ K.faults out.new }
+    ensures counted { Counted result (K.faults out.old) (K.faults out.new) }
 {
     let timed = Timed {
         event: Event::SliceDown(item.slot),
@@ -216,8 +210,7 @@ pub(crate) fn play_record<K: Sink>(
 ) -> Result<u64, ReportFault>
     requires item { IsRecord (length policy.now.slices) item.now bytes.now }
     ensures plays { PlaysRecord policy.now (told_by item.now bytes.now) events result (K.contents out.old) (K.contents out.new) switch.old switch.new }
-    ensures cause { IfErr result (λ f. f ≡ ReportFault.WriteFault → Rose (K.faults out.old) (K.faults out.new)) }
-    ensures count { K.faults out.old ≤ K.faults out.new }
+    ensures counted { Counted result (K.faults out.old) (K.faults out.new) }
 {
     match item.kind {
         SWITCH_UP => switch_comes(alloc, out, line, policy, events, switch, item),

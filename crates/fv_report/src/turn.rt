@@ -1,7 +1,6 @@
 //! One event at a desk, and its lines.
 
-ghost use Rattle.std.specs.Prelude.{ℕ, ◌≡◌, ◌≤◌, ◌++◌, true, false, if◌then◌else◌, List, [], ◌∷◌, Ok, OnOk, IfOk, IfErr};
-ghost use Rattle.fv_base.specs.Told.{Rose};
+ghost use Rattle.std.specs.Prelude.{ℕ, ◌≡◌, true, false, if◌then◌else◌, List, Ok, OnOk, IfOk, IfErr};
 ghost use Rattle.flowspace.specs.Policies.{PolicyView};
 ghost use Rattle.desk_words.specs.declared.event.Timed.{Timed};
 ghost use Rattle.answer_bounds.specs.Bounds.{IsFramed, AreFramed};
@@ -12,7 +11,7 @@ ghost use Rattle.desk_words.specs.Operations.{takes_in};
 ghost use Rattle.desk_words.specs.Recorded.{next_of};
 ghost use Rattle.desk_words.specs.Reports.{name_at, event_lines};
 ghost use Rattle.fv_report.specs.Lines.{place_of};
-ghost use Rattle.fv_report.specs.Writing.{Wrote};
+ghost use Rattle.fv_report.specs.Writing.{Wrote, Counted};
 ghost use Rattle.fv_report.specs.Holding.{Holds, IsQuiet, After};
 ghost use Rattle.fv_report.specs.Taking.{is_nothing, is_the_end};
 ghost use Rattle.fv_report.specs.Turns.{speaker, closing_lines, end_lines, told_lines};
@@ -105,8 +104,7 @@ fn put_close<K: Sink>(
 ) -> Result<(), ReportFault>
     ensures writes { (h : List Timed) → IsQuiet policy.now h desk.old → Wrote result (closing_lines policy.now (place_of place) h speaker) (K.contents out.old) (K.contents out.new) }
     ensures same { (h : List Timed) → IsQuiet policy.now h desk.old → IsQuiet policy.now h desk.new }
-    ensures cause { IfErr result (λ f. f ≡ ReportFault.WriteFault → Rose (K.faults out.old) (K.faults out.new)) }
-    ensures count { K.faults out.old ≤ K.faults out.new }
+    ensures counted { Counted result (K.faults out.old) (K.faults out.new) }
 {
     let Some(slot) = speaker else {
         return Ok(());
@@ -126,8 +124,7 @@ fn put_end<K: Sink>(
 ) -> Result<(), ReportFault>
     ensures writes { (policy : PolicyView) (h : List Timed) → IsQuiet policy h desk.old → Wrote result (end_lines (place_of place) h) (K.contents out.old) (K.contents out.new) }
     ensures same { (policy : PolicyView) (h : List Timed) → IsQuiet policy h desk.old → IsQuiet policy h desk.new }
-    ensures cause { IfErr result (λ f. f ≡ ReportFault.WriteFault → Rose (K.faults out.old) (K.faults out.new)) }
-    ensures count { K.faults out.old ≤ K.faults out.new }
+    ensures counted { Counted result (K.faults out.old) (K.faults out.new) }
 {
     if !has_ended(desk) {
         return Ok(());
@@ -147,8 +144,7 @@ fn tell<K: Sink>(
 ) -> Result<(), ReportFault>
     ensures writes { (h : List Timed) (slices : ℕ → List (List ℕ)) (lane : List (List ℕ)) → Holds policy.now h slices lane desk.old → Wrote result (told_lines policy.now (place_of place) h slices lane speaker) (K.contents out.old) (K.contents out.new) }
     ensures quiet { OnOk result ((h : List Timed) (slices : ℕ → List (List ℕ)) (lane : List (List ℕ)) → Holds policy.now h slices lane desk.old → IsQuiet policy.now h desk.new) }
-    ensures cause { IfErr result (λ f. f ≡ ReportFault.WriteFault → Rose (K.faults out.old) (K.faults out.new)) }
-    ensures count { K.faults out.old ≤ K.faults out.new }
+    ensures counted { Counted result (K.faults out.old) (K.faults out.new) }
 {
     drain_lane(out, line, desk, place)?;
     drain_slices(out, line, desk, place, policy)?;
@@ -168,8 +164,7 @@ pub(crate) fn turn<K: Sink>(
 ) -> Result<(), ReportFault>
     ensures writes { (h : List Timed) → IsQuiet policy.now h desk.old → AreFramed h → IsFramed timed.event → Wrote result (event_lines policy.now (place_of place) h timed) (K.contents out.old) (K.contents out.new) }
     ensures quiet { OnOk result ((h : List Timed) → IsQuiet policy.now h desk.old → AreFramed h → IsFramed timed.event → IsQuiet policy.now (next_of h timed) desk.new) }
-    ensures cause { IfErr result (λ f. f ≡ ReportFault.WriteFault → Rose (K.faults out.old) (K.faults out.new)) }
-    ensures count { K.faults out.old ≤ K.faults out.new }
+    ensures counted { Counted result (K.faults out.old) (K.faults out.new) }
 {
     let speaker = speaker(&timed.event);
     if step(alloc, desk, timed)? {

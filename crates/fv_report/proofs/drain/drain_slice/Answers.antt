@@ -1,11 +1,12 @@
-use Rattle.std.proofs.Common.{◌≡◌, ℕ, List, subst, arith}
+use Rattle.std.proofs.Common.{◌≡◌, ℕ, List, subst, ◌∙◌, refl}
+use Rattle.std.proofs.lemmas.Result.{err_from_is_err_and}
 use Rattle.fv_base.specs.Told.{appended}
 use Rattle.desk_words.specs.Reports.{slice_lines}
 use Rattle.fv_report.specs.Lines.{place_of}
 use Rattle.fv_report.specs.Writing.{WrotePart}
 use Rattle.fv_report.specs.Holding.{Holds, with_waiting}
 use Rattle.fv_report.proofs.Holding.{holds_own}
-use Rattle.fv_report.proofs.Writing.{at_fault}
+use Rattle.fv_report.proofs.Writing.{at_fault, fault_after}
 use Rattle.fv_report.proofs.Draining.{slice_text, drained_first, drained_more, drained_part, drained_all, drained_end}
 use Rattle.fv_report.proofs.drain.drain_slice.Goals as goal
 
@@ -14,7 +15,7 @@ loop-message-init g c = record {
   drained = λ policy h slices lane holds.
       drained_first (λ messages. Holds policy h (with_waiting c.args.slot messages slices) lane c.args.desk.now) (slice_text (place_of c.args.place) c.args.name.now) (slices c.args.slot) (g.K.Sink.contents c.args.out.now)
       (holds_own policy h c.args.slot slices lane c.args.desk.now holds);
-  count = omega arith;
+  calm = refl;
 }
 
 pub returns-in_err-put_line-clause-writes : goal.returns-in_err-put_line-clause-writes
@@ -37,7 +38,7 @@ loop-message-preserved g c = record {
       let next = c.in-Some.ensures.takes policy h slices d.left lane d.holds in
       drained_more (λ messages. Holds policy h (with_waiting c.args.slot messages slices) lane c.loop-message.desk) (λ messages. Holds policy h (with_waiting c.args.slot messages slices) lane c.next_of_slice.new.desk) (slice_text place c.args.name.now) (slices c.args.slot) (g.K.Sink.contents c.args.out.now) now later c.in-Some.message d
       next.0 next.1 (subst (λ (m : List ℕ). later ≡ appended now (slice_text place c.args.name.now m)) c.as_slice.ensures.value c.in_ok-put_line.ensures.writes);
-  count = let before = c.loop-message.invariant.count in let after = c.put_line.ensures.count in omega arith;
+  calm = c.in_ok-put_line.ensures.counted ∙ c.loop-message.invariant.calm;
 }
 
 pub returns-clause-writes : goal.returns-clause-writes
@@ -51,3 +52,8 @@ returns-clause-empties g c = λ policy h slices lane holds.
     let d = c.loop-message.invariant.drained policy h slices lane holds in
     let next = c.in_default.ensures.takes policy h slices d.left lane d.holds in
     drained_end (λ messages. Holds policy h (with_waiting c.args.slot messages slices) lane c.next_of_slice.new.desk) d.left next.0 next.1
+
+pub returns-in_err-put_line-clause-counted : goal.returns-in_err-put_line-clause-counted
+returns-in_err-put_line-clause-counted g c =
+    let p = err_from_is_err_and c.from_residual.result c.from_residual.ensures.1 in
+    rw (p.1, p.2) (fault_after _ (g.K.Sink.faults c.args.out.now) (g.K.Sink.faults c.loop-message.out) (g.K.Sink.faults c.put_line.new.out) (c.loop-message.invariant.calm) c.in_err-put_line.ensures.counted)

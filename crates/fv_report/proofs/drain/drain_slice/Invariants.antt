@@ -1,4 +1,4 @@
-use Rattle.std.proofs.Common.{◌≤◌, ℕ, List}
+use Rattle.std.proofs.Common.{ℕ, List, ◌≡◌}
 use Rattle.flowspace.specs.Policies.{PolicyView}
 use Rattle.desk_words.specs.declared.event.Timed.{Timed}
 use Rattle.desk_words.specs.declared.answer.Dest.TheVariants.{Slice}
@@ -13,7 +13,7 @@ invariant-loop-message g l = record {
   drained : (policy : PolicyView) (h : List Timed) (slices : ℕ → List (List ℕ)) (lane : List (List ℕ)) → Holds policy h slices lane l.fn.desk
       → Drained (λ messages. Holds policy h (with_waiting l.slot messages slices) lane l.desk) (slice_text (place_of l.place) l.name) (slices l.slot)
       (g.K.Sink.contents l.fn.out) (g.K.Sink.contents l.out);
-  count : g.K.Sink.faults l.fn.out ≤ g.K.Sink.faults l.out;
+  calm : g.K.Sink.faults l.out ≡ g.K.Sink.faults l.fn.out;
 }
 
 abbrev pub decreases-loop-message : goal.decreases-loop-message

@@ -1,11 +1,12 @@
-use Rattle.std.proofs.Common.{◌≡◌, ℕ, List, length, refl, ap, subst, Some, slice_get, arith}
+use Rattle.std.proofs.Common.{◌≡◌, ℕ, List, length, refl, ap, subst, Some, slice_get, arith, ◌∙◌}
+use Rattle.std.proofs.lemmas.Result.{err_from_is_err_and}
 use Rattle.std.proofs.lemmas.Option.{slice_get_read}
 use Rattle.flowspace.specs.declared.slices.Slice.{Slice}
 use Rattle.fv_report.specs.Lines.{place_of}
 use Rattle.fv_report.specs.Holding.{Holds, from_slot}
 use Rattle.fv_report.specs.Slices.{lines_by_slot}
 use Rattle.fv_report.proofs.Holding.{holds_next, holds_none}
-use Rattle.fv_report.proofs.Writing.{at_fault}
+use Rattle.fv_report.proofs.Writing.{at_fault, fault_after}
 use Rattle.fv_report.proofs.Slices.{slot_more, slot_part, slots_done}
 use Rattle.fv_report.proofs.drain.drain_slices.Goals as goal
 
@@ -33,7 +34,7 @@ loop-slot-preserved g c = record {
       let more = slot_more place slices all at c.slice-item.result c.as_str.result.now d.0 (lines_by_slot place slices 0 all) (g.K.Sink.contents c.args.out.now) (g.K.Sink.contents c.loop-slot.out) (g.K.Sink.contents c.drain_slice.new.out)
       (subst (λ (xs : List Slice). slice_get xs at ≡ Some c.slice-item.result) c.slices-slice-items.ensures.value (slice_get_read c.slices-slice-items.result.now (length c.slices-slice-items.result.now) at c.slice-item.result refl c.loop-slot-test.true c.slice-item.is)) c.as_str.ensures d.1 d.2 (c.in_ok-drain_slice.ensures.writes c.args.policy.now h (from_slot at slices) lane d.3) in
       (more.0, more.1, more.2, holds_next c.args.policy.now h at slices lane c.drain_slice.new.desk (c.in_ok-drain_slice.ensures.empties c.args.policy.now h (from_slot at slices) lane d.3));
-  count = let before = c.loop-slot.invariant.count in let after = c.drain_slice.ensures.count in omega arith;
+  calm = c.in_ok-drain_slice.ensures.counted ∙ c.loop-slot.invariant.calm;
 }
 
 pub returns-clause-writes : goal.returns-clause-writes
@@ -52,3 +53,8 @@ returns-clause-empties g c = λ h slices lane holds.
     let same = ap length c.slices-slice-items.ensures.value in
     let end : c.loop-slot.slot ≡ length c.args.policy.now.slices = omega arith in
     holds_none c.args.policy.now h slices lane c.loop-slot.desk (subst (λ (n : ℕ). Holds c.args.policy.now h (from_slot n slices) lane c.loop-slot.desk) end d.3)
+
+pub returns-in_err-drain_slice-clause-counted : goal.returns-in_err-drain_slice-clause-counted
+returns-in_err-drain_slice-clause-counted g c =
+    let p = err_from_is_err_and c.from_residual.result c.from_residual.ensures.1 in
+    rw (p.1, p.2) (fault_after _ (g.K.Sink.faults c.args.out.now) (g.K.Sink.faults c.loop-slot.out) (g.K.Sink.faults c.drain_slice.new.out) (c.loop-slot.invariant.calm) c.in_err-drain_slice.ensures.counted)

@@ -1,4 +1,4 @@
-use Rattle.std.proofs.Common.{◌≡◌, ◌≤◌, ◌++◌, ℕ, List, drop}
+use Rattle.std.proofs.Common.{◌≡◌, ◌++◌, ℕ, List, drop}
 use Rattle.fv_base.specs.Told.{appended}
 use Rattle.desk_words.specs.declared.event.Timed.{Timed}
 use Rattle.fv_report.specs.Lines.{place_of}
@@ -11,5 +11,5 @@ invariant-loop-slot g l = record {
   drained : (h : List Timed) (slices : ℕ → List (List ℕ)) (lane : List (List ℕ)) → Holds l.policy h slices lane l.fn.desk
       → (done : List ℕ) × (g.K.Sink.contents l.out ≡ appended (g.K.Sink.contents l.fn.out) done) × (done ++ lines_by_slot (place_of l.place) slices l.slot (drop l.slot l.policy.slices) ≡ lines_by_slot (place_of l.place) slices 0 l.policy.slices)
       × Holds l.policy h (from_slot l.slot slices) lane l.desk;
-  count : g.K.Sink.faults l.fn.out ≤ g.K.Sink.faults l.out;
+  calm : g.K.Sink.faults l.out ≡ g.K.Sink.faults l.fn.out;
 }

@@ -1,5 +1,7 @@
-use Rattle.std.proofs.Common.{List, ℕ, Option, subst, arith}
+use Rattle.std.proofs.Common.{List, ℕ, Option, subst, ◌∙◌}
+use Rattle.std.proofs.lemmas.Result.{err_from_is_err_and}
 use Rattle.fv_report.specs.Streams.{TookFrame}
+use Rattle.fv_report.proofs.Writing.{fault_after}
 use Rattle.fv_report.proofs.Playing.{hearing_more, hearing_part, hearing_stopped, hearing_failed, hearing_all}
 use Rattle.fv_report.proofs.play.hear.Goals as goal
 
@@ -40,7 +42,7 @@ loop-frame-preserved g c = record {
       let took = subst (λ (next : Option (List ℕ)). TookFrame next fed s.given c.next_frame.new.framer) c.in-Some.is (c.in_ok-frame.ensures.takes fed s.given s.stands) in
       let plays = c.in_ok-place.ensures.plays s.h s.quiet s.framed in
       hearing_more p moment from c.args.place c.loop-frame.place c.in_ok-place.place h rest fed before now later c.loop-frame.desk c.hear_one.new.desk c.loop-frame.framer c.next_frame.new.framer c.in-Some.frame s took plays.writes plays.played;
-  count = let was = c.loop-frame.invariant.count in let is = c.hear_one.ensures.count in omega arith;
+  calm = c.in_ok-place.ensures.counted ∙ c.loop-frame.invariant.calm;
 }
 
 pub returns-clause-hears : goal.returns-clause-hears
@@ -49,3 +51,8 @@ returns-clause-hears g c = λ h fed given rest quiet framed stands cut.
     let s = c.loop-frame.invariant.hearing h fed given rest quiet framed stands cut in
     let took = subst (λ (next : Option (List ℕ)). TookFrame next fed s.given c.next_frame.new.framer) c.in_default.is (c.in_ok-frame.ensures.takes fed s.given s.stands) in
     hearing_all p c.args.came.moment c.args.came.from c.args.place c.loop-frame.place h rest fed (g.K.Sink.contents c.args.out.now) (g.K.Sink.contents c.loop-frame.out) c.loop-frame.desk c.loop-frame.framer c.next_frame.new.framer s took
+
+pub returns-in_err-place-clause-counted : goal.returns-in_err-place-clause-counted
+returns-in_err-place-clause-counted g c =
+    let p = err_from_is_err_and c.from_residual-in_err-place.result c.from_residual-in_err-place.ensures.1 in
+    rw (p.1, p.2) (fault_after _ (g.K.Sink.faults c.args.out.now) (g.K.Sink.faults c.loop-frame.out) (g.K.Sink.faults c.hear_one.new.out) (c.loop-frame.invariant.calm) c.in_err-place.ensures.counted)

@@ -1,4 +1,4 @@
-use Rattle.std.proofs.Common.{◌≡◌, ◌≤◌, ◌++◌, ℕ, List, length}
+use Rattle.std.proofs.Common.{◌≡◌, ◌++◌, ℕ, List, length}
 use Rattle.of10_ctl.specs.Streams.{Stands, frames_of}
 use Rattle.answer_bounds.specs.Bounds.{AreFramed}
 use Rattle.desk_words.specs.declared.event.Timed.{Timed}
@@ -10,7 +10,7 @@ abbrev pub invariant-loop-frame : goal.invariant-loop-frame
 invariant-loop-frame g l = record {
   hearing : (h : List Timed) (fed : List ℕ) (given rest : List (List ℕ)) → IsQuiet l.policy h l.fn.desk → AreFramed h → Stands l.fn.framer fed given → given ++ rest ≡ frames_of fed
       → Hearing l.policy l.came.moment l.came.from l.fn.place l.place h rest fed (g.K.Sink.contents l.fn.out) (g.K.Sink.contents l.out) l.desk l.framer;
-  count : g.K.Sink.faults l.fn.out ≤ g.K.Sink.faults l.out;
+  calm : g.K.Sink.faults l.out ≡ g.K.Sink.faults l.fn.out;
 }
 
 abbrev pub decreases-loop-frame : goal.decreases-loop-frame

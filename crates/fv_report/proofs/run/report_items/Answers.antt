@@ -1,8 +1,9 @@
-use Rattle.std.proofs.Common.{List, drop, ◌+◌, subst, arith}
+use Rattle.std.proofs.Common.{List, drop, ◌+◌, subst, arith, ◌∙◌, refl}
+use Rattle.std.proofs.lemmas.Result.{err_from_is_err_and}
 use Rattle.recording.specs.declared.item.Item.{Item}
 use Rattle.desk_words.specs.Recorded.{told_in}
 use Rattle.desk_words.specs.Reports.{report}
-use Rattle.fv_report.proofs.Writing.{at_fault, appended_none}
+use Rattle.fv_report.proofs.Writing.{at_fault, appended_none, counted_after, fault_after}
 use Rattle.fv_report.proofs.Running.{Running, running_first, running_more, running_part, running_last, left_more, none_left}
 use Rattle.fv_report.proofs.run.report_items.Goals as goal
 
@@ -10,7 +11,7 @@ pub loop-item-init : goal.loop-item-init
 loop-item-init g c = record {
   running = running_first c.args.policy.now c.args.bytes.now c.args.items.now (g.K.Sink.contents c.args.out.now) c.in_ok-switches.switches.items c.in_ok-switches.ensures (appended_none (g.K.Sink.contents c.args.out.now));
   sixteen = c.in_ok-switches.ensures.0;
-  count = omega arith;
+  calm = refl;
 }
 
 pub returns-in_err-events-clause-writes : goal.returns-in_err-events-clause-writes
@@ -39,7 +40,7 @@ loop-item-preserved g c =
     record {
       running = running_more p file all (drop i all) (drop (i + 1) all) _ c.loop-item.events c.in_ok-events.events before now after c.loop-item.switches.items c.play_item.new.switches.items (left_more all i _ c.loop-item-test.true) s (c.in_ok-events.ensures.plays s.past s.stands);
       sixteen = c.play_item.ensures.length;
-      count = let was = c.loop-item.invariant.count in let is = c.play_item.ensures.count in omega arith;
+      calm = c.in_ok-events.ensures.counted ∙ c.loop-item.invariant.calm;
     }
 
 pub returns-clause-writes : goal.returns-clause-writes
@@ -51,3 +52,12 @@ returns-clause-writes g c =
     let end = c.loop-item.auto.item-index-end in
     let s = subst (λ (left : List Item). Running p file all left c.loop-item.events (g.K.Sink.contents c.args.out.now) (g.K.Sink.contents c.loop-item.out) c.loop-item.switches.items) (none_left all c.loop-item.item-index (omega arith)) c.loop-item.invariant.running in
     running_last p file all c.loop-item.events (g.K.Sink.contents c.args.out.now) (g.K.Sink.contents c.loop-item.out) (g.K.Sink.contents c.put_last.new.out) c.loop-item.switches.items c.put_last.result s c.put_last.ensures.writes
+
+pub returns-in_err-events-clause-counted : goal.returns-in_err-events-clause-counted
+returns-in_err-events-clause-counted g c =
+    let p = err_from_is_err_and c.from_residual-in_err-events.result c.from_residual-in_err-events.ensures.1 in
+    rw (p.1, p.2) (fault_after _ (g.K.Sink.faults c.args.out.now) (g.K.Sink.faults c.loop-item.out) (g.K.Sink.faults c.play_item.new.out) (c.loop-item.invariant.calm) c.in_err-events.ensures.counted)
+
+pub returns-clause-counted : goal.returns-clause-counted
+returns-clause-counted g c =
+    counted_after c.put_last.result (g.K.Sink.faults c.args.out.now) (g.K.Sink.faults c.loop-item.out) (g.K.Sink.faults c.put_last.new.out) (c.loop-item.invariant.calm) c.put_last.ensures.counted

@@ -1,9 +1,10 @@
-use Rattle.std.proofs.Common.{◌++◌, []}
+use Rattle.std.proofs.Common.{◌++◌, [], ◌∙◌}
+use Rattle.std.proofs.lemmas.Result.{err_from_is_err_and}
 use Rattle.desk_words.specs.Reports.{lane_lines}
 use Rattle.fv_report.specs.Lines.{place_of}
 use Rattle.fv_report.specs.Slices.{lines_by_slot}
 use Rattle.fv_report.specs.Turns.{closing_lines, end_lines}
-use Rattle.fv_report.proofs.Writing.{at_fault, part_of_first, part_of_second, wrote_second}
+use Rattle.fv_report.proofs.Writing.{at_fault, part_of_first, part_of_second, wrote_second, counted_after, fault_after}
 use Rattle.fv_report.proofs.turn.tell.Goals as goal
 
 pub returns-in_err-drain_lane-clause-writes : goal.returns-in_err-drain_lane-clause-writes
@@ -66,3 +67,17 @@ returns-clause-writes g c = λ h slices lane holds.
     wrote_second c.put_end.result first (second ++ (third ++ rest)) before now last (c.in_ok-drain_lane.ensures.writes p h slices lane holds)
     (wrote_second c.put_end.result second (third ++ rest) now later last (c.in_ok-drain_slices.ensures.writes h slices [] drained)
     (wrote_second c.put_end.result third rest later closed last (c.in_ok-put_close.ensures.writes h quiet) (c.put_end.ensures.writes p h (c.in_ok-put_close.ensures.same h quiet))))
+
+pub returns-in_err-drain_slices-clause-counted : goal.returns-in_err-drain_slices-clause-counted
+returns-in_err-drain_slices-clause-counted g c =
+    let p = err_from_is_err_and c.from_residual-in_err-drain_slices.result c.from_residual-in_err-drain_slices.ensures.1 in
+    rw (p.1, p.2) (fault_after _ (g.K.Sink.faults c.args.out.now) (g.K.Sink.faults c.drain_lane.new.out) (g.K.Sink.faults c.drain_slices.new.out) (c.in_ok-drain_lane.ensures.counted) c.in_err-drain_slices.ensures.counted)
+
+pub returns-in_err-put_close-clause-counted : goal.returns-in_err-put_close-clause-counted
+returns-in_err-put_close-clause-counted g c =
+    let p = err_from_is_err_and c.from_residual-in_err-put_close.result c.from_residual-in_err-put_close.ensures.1 in
+    rw (p.1, p.2) (fault_after _ (g.K.Sink.faults c.args.out.now) (g.K.Sink.faults c.drain_slices.new.out) (g.K.Sink.faults c.put_close.new.out) (c.in_ok-drain_slices.ensures.counted ∙ c.in_ok-drain_lane.ensures.counted) c.in_err-put_close.ensures.counted)
+
+pub returns-clause-counted : goal.returns-clause-counted
+returns-clause-counted g c =
+    counted_after c.put_end.result (g.K.Sink.faults c.args.out.now) (g.K.Sink.faults c.put_close.new.out) (g.K.Sink.faults c.put_end.new.out) (c.in_ok-put_close.ensures.counted ∙ c.in_ok-drain_slices.ensures.counted ∙ c.in_ok-drain_lane.ensures.counted) c.put_end.ensures.counted
