@@ -167,15 +167,27 @@ is_early WriteFault = false
 is_early NoMemoryToRun = false
 is_early _ = true
 
--- the line was put, or a prefix of it where the count rose
+-- what a call leaves of the counts of all paths: they stay, but at a read fault, where none falls
+abbrev pub CountsReads : Ending → (List ℕ → ℕ) → (List ℕ → ℕ) → Type 0
+CountsReads ReadFault before after = (at : List ℕ) → before at ≤ after at
+CountsReads ending before after = (at : List ℕ) → after at ≡ before at
+
+-- what it leaves of the output's count: it stays, but at a write fault, where it doesn't fall
+abbrev pub CountsPuts : Ending → ℕ → ℕ → Type 0
+CountsPuts WriteFault before after = before ≤ after
+CountsPuts ending before after = after ≡ before
+
+-- the line was put and the count stayed, or a prefix of it where the count rose
 abbrev pub IsPut : List ℕ → Option (List ℕ) → Option (List ℕ) → ℕ → ℕ → Type 0
 IsPut line before after count_before count_after =
-    (after ≡ appended before line) ⊎ ((piece : List ℕ) × IsPrefix piece line × (after ≡ appended before piece) × Rose count_before count_after)
+    ((after ≡ appended before line) × (count_after ≡ count_before)) ⊎ ((piece : List ℕ) × IsPrefix piece line × (after ≡ appended before piece) × Rose count_before count_after)
 
--- A call that ended with a status: one ending gives the status, has its cause, left the output alone before the run, and put its line.
+-- A call that ended with a status: one ending gives the status, has its cause, left the output alone before the run, left the counts that aren't its cause, and put its line.
 pub record Ended (w : Outside) (words : List (List ℕ)) (err_before err_after : Option (List ℕ)) (err_faults err_faults_after status : ℕ) : Type 0 where
   pub ending : Ending
   pub answer : status ≡ status_of ending
   pub cause : Causes w (form_of words) ending
   pub nothing_early : is_early ending ≡ true → w.out_after ≡ w.out_before
+  pub reads : CountsReads ending w.read_before w.read_after
+  pub puts : CountsPuts ending w.put_before w.put_after
   pub line : IsPut (line_of ending) err_before err_after err_faults err_faults_after

@@ -29,6 +29,7 @@ fn put_piece<K: Sink>(sink: &mut K, piece: Piece<'_>) -> Result<(), Failed>
     ensures all { OnOk result (K.contents sink.new ≡ appended (K.contents sink.old) (piece_text piece.entry)) }
     ensures part { OnErr result ((put : List ℕ) × IsPrefix put (piece_text piece.entry) × (K.contents sink.new ≡ appended (K.contents sink.old) put)) }
     ensures cause { OnErr result (Rose (K.faults sink.old) (K.faults sink.new)) }
+    ensures calm { OnOk result (K.faults sink.new ≡ K.faults sink.old) }
     ensures count { K.faults sink.old ≤ K.faults sink.new }
 {
     match piece {
@@ -42,6 +43,7 @@ pub(crate) fn put_pieces<K: Sink>(sink: &mut K, pieces: &[Piece<'_>]) -> Result<
     ensures all { OnOk result (K.contents sink.new ≡ appended (K.contents sink.old) (whole_text pieces.now)) }
     ensures part { OnErr result ((put : List ℕ) × IsPrefix put (whole_text pieces.now) × (K.contents sink.new ≡ appended (K.contents sink.old) put)) }
     ensures cause { OnErr result (Rose (K.faults sink.old) (K.faults sink.new)) }
+    ensures calm { OnOk result (K.faults sink.new ≡ K.faults sink.old) }
     ensures count { K.faults sink.old ≤ K.faults sink.new }
 {
     for piece in pieces {

@@ -1,12 +1,12 @@
 //! The program's call without the system: the words in, files and output by their traits, the status out.
 
-ghost use Rattle.std.specs.Prelude.{◌≡◌, ◌≤◌, ◌<◌, ◌^◌, ℕ, List, length, true, Ok, None, IfOk, IfErr, IfSome};
+ghost use Rattle.std.specs.Prelude.{◌≡◌, ◌≤◌, ◌<◌, ◌^◌, ℕ, List, length, true, Ok, None, IfOk, IfErr, IfSome, OnOk};
 ghost use Rattle.std.specs.List.{All};
 ghost use Rattle.fv_base.specs.Words.{form_of};
 ghost use Rattle.recording.specs.Recordings.{IsItem};
 ghost use Rattle.desk_words.specs.Recorded.{told_in};
 ghost use Rattle.desk_words.specs.Reports.{report};
-ghost use Rattle.fv_cli.specs.Endings.{PolicySays, IsTaken, IsLoadCause, IsPolicyCause, IsRecordingCause, IsRunEnding, IsCheckCause, IsReplayCause, Causes, is_early, Ended};
+ghost use Rattle.fv_cli.specs.Endings.{PolicySays, IsTaken, IsLoadCause, IsPolicyCause, IsRecordingCause, IsRunEnding, IsCheckCause, IsReplayCause, Causes, is_early, CountsReads, CountsPuts, Ended};
 
 use crate::base::{Failed, Files, Form, LoadFault, Sink, Words, WordsFault, load_file, read_words};
 use crate::ending::Ending;
@@ -37,7 +37,8 @@ fn load<F: Files>(alloc: Global, files: &mut F, path: &str, limit: u64) -> Resul
     ensures whole { IfOk result (λ file. IfSome (F.contents files.old path.now) (λ bytes. file.items ≡ bytes)) }
     ensures cause { IfErr result (IsLoadCause limit (F.contents files.old path.now) (F.faults files.old path.now) (F.faults files.new path.now)) }
     ensures same { (at : List ℕ) → F.contents files.new at ≡ F.contents files.old at }
-    ensures count { (at : List ℕ) → F.faults files.old at ≤ F.faults files.new at }
+    ensures calm { OnOk result ((at : List ℕ) → F.faults files.new at ≡ F.faults files.old at) }
+    ensures reads { IfErr result (λ ending. CountsReads ending (F.faults files.old) (F.faults files.new)) }
 {
     match load_file(alloc, files, path, limit) {
         Ok(bytes) => Ok(bytes),
@@ -52,7 +53,8 @@ fn load_policy<F: Files>(alloc: Global, files: &mut F, path: &str) -> Result<Pol
     ensures says { IfOk result (λ p. PolicySays (Ok p) (F.contents files.old path.now)) }
     ensures cause { IfErr result (IsPolicyCause (F.contents files.old path.now) (F.faults files.old path.now) (F.faults files.new path.now)) }
     ensures same { (at : List ℕ) → F.contents files.new at ≡ F.contents files.old at }
-    ensures count { (at : List ℕ) → F.faults files.old at ≤ F.faults files.new at }
+    ensures calm { OnOk result ((at : List ℕ) → F.faults files.new at ≡ F.faults files.old at) }
+    ensures reads { IfErr result (λ ending. CountsReads ending (F.faults files.old) (F.faults files.new)) }
 {
     let bytes = match load(alloc, files, path, POLICY_LIMIT) {
         Ok(bytes) => bytes,
@@ -75,7 +77,8 @@ fn load_recording<F: Files>(
     ensures taken { IfOk result (λ recording. IsTaken slices recording.bytes.items recording.items.items (F.contents files.old path.now)) }
     ensures cause { IfErr result (IsRecordingCause slices (F.contents files.old path.now) (F.faults files.old path.now) (F.faults files.new path.now)) }
     ensures same { (at : List ℕ) → F.contents files.new at ≡ F.contents files.old at }
-    ensures count { (at : List ℕ) → F.faults files.old at ≤ F.faults files.new at }
+    ensures calm { OnOk result ((at : List ℕ) → F.faults files.new at ≡ F.faults files.old at) }
+    ensures reads { IfErr result (λ ending. CountsReads ending (F.faults files.old) (F.faults files.new)) }
 {
     let bytes = match load(alloc, files, path, RECORDING_LIMIT) {
         Ok(bytes) => bytes,
@@ -97,6 +100,8 @@ fn load_recording<F: Files>(
 fn check<F: Files, O: Sink>(alloc: Global, policy: &str, files: &mut F, out: &mut O) -> Ending
     ensures cause { IsCheckCause (record { files = F.contents files.old; read_before = F.faults files.old; read_after = F.faults files.new; out_before = O.contents out.old; out_after = O.contents out.new; put_before = O.faults out.old; put_after = O.faults out.new }) policy.now result }
     ensures early { is_early result ≡ true → O.contents out.new ≡ O.contents out.old }
+    ensures reads { CountsReads result (F.faults files.old) (F.faults files.new) }
+    ensures puts { CountsPuts result (O.faults out.old) (O.faults out.new) }
 {
     let policy = match load_policy(alloc, files, policy) {
         Ok(policy) => policy,
@@ -118,6 +123,8 @@ fn replay<F: Files, O: Sink>(
 ) -> Ending
     ensures cause { IsReplayCause (record { files = F.contents files.old; read_before = F.faults files.old; read_after = F.faults files.new; out_before = O.contents out.old; out_after = O.contents out.new; put_before = O.faults out.old; put_after = O.faults out.new }) policy.now recording.now result }
     ensures early { is_early result ≡ true → O.contents out.new ≡ O.contents out.old }
+    ensures reads { CountsReads result (F.faults files.old) (F.faults files.new) }
+    ensures puts { CountsPuts result (O.faults out.old) (O.faults out.new) }
 {
     let policy = match load_policy(alloc, files, policy) {
         Ok(policy) => policy,
@@ -133,7 +140,8 @@ fn replay<F: Files, O: Sink>(
 /// Runs the recording under the policy.
 fn run<O: Sink>(alloc: Global, policy: &Policy, recording: &Recording, out: &mut O) -> Ending
     requires { All (IsItem (length policy.now.slices) recording.now.bytes.items) recording.now.items.items }
-    ensures { IsRunEnding (report policy.now (told_in recording.now.bytes.items recording.now.items.items)) (O.contents out.old) (O.contents out.new) (O.faults out.old) (O.faults out.new) result }
+    ensures cause { IsRunEnding (report policy.now (told_in recording.now.bytes.items recording.now.items.items)) (O.contents out.old) (O.contents out.new) (O.faults out.old) (O.faults out.new) result }
+    ensures puts { CountsPuts result (O.faults out.old) (O.faults out.new) }
 {
     match report_items(alloc, policy, &recording.bytes, &recording.items, out) {
         Ok(()) => Ending::Done,
@@ -146,6 +154,8 @@ fn run<O: Sink>(alloc: Global, policy: &Policy, recording: &Recording, out: &mut
 fn decide<F: Files, O: Sink>(alloc: Global, words: &Words, files: &mut F, out: &mut O) -> Ending
     ensures cause { Causes (record { files = F.contents files.old; read_before = F.faults files.old; read_after = F.faults files.new; out_before = O.contents out.old; out_after = O.contents out.new; put_before = O.faults out.old; put_after = O.faults out.new }) (form_of words.now) result }
     ensures early { is_early result ≡ true → O.contents out.new ≡ O.contents out.old }
+    ensures reads { CountsReads result (F.faults files.old) (F.faults files.new) }
+    ensures puts { CountsPuts result (O.faults out.old) (O.faults out.new) }
 {
     match read_words(words) {
         Ok(Form::Check { policy }) => check(alloc, policy, files, out),
