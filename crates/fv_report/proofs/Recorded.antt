@@ -11,6 +11,7 @@ use Rattle.of10_ctl.specs.Streams.{Stream, Stands, frames_at, frames_of}
 use Rattle.flowspace.specs.Policies.{PolicyView}
 use Rattle.recording.specs.declared.item.Item.{Item}
 use Rattle.recording.specs.Recordings.{Told, switch_up, switch_bytes, slice_up, slice_bytes}
+use Rattle.desk_words.specs.declared.event.Event.{Event}
 use Rattle.desk_words.specs.declared.event.Timed.{Timed}
 use Rattle.desk_words.specs.declared.answer.Dest.{Dest}
 use Rattle.desk_words.specs.Recorded.{happening, begins_stream, is_same_stream, stream_before, completed, history_of, history_at, events_in, next_after}
@@ -27,11 +28,11 @@ use Rattle.fv_report.specs.Lines.{place_of}
 use Rattle.fv_report.specs.Writing.{WrotePart}
 use Rattle.fv_report.specs.Holding.{IsQuiet}
 use Rattle.fv_report.specs.Plays.{event_from, Played, Plays}
-use Rattle.fv_report.specs.Switches.{told_by, SwitchStands, RecordPlayed, PlaysRecord}
+use Rattle.fv_report.specs.Switches.{told_by, IsReady, SwitchStands, RecordPlayed, PlaysRecord}
 use Rattle.fv_report.proofs.Writing.{at_fault, no_ok, none_of}
 use Rattle.fv_report.specs.Streams.{Restarts, AreFresh, connection, StreamStands, StreamsStand}
 
-same_number : (n : ℕ) → (n == n) ≡ true
+pub same_number : (n : ℕ) → (n == n) ≡ true
 same_number n = eq-eqb n n refl
 
 -- ---- histories
@@ -238,3 +239,18 @@ less_or_more n m unlike = elim (cases_Bool (ltb n m)) [ inl is ↦ absurd (unlik
 
 pub found : {X : Type 0} (xs : List X) (at : ℕ) (x : X) → ltb at (length xs) ≡ true → x ≡ get_or xs at x → slice_get xs at ≡ Some x
 found xs at x within is = slice_get_read xs (length xs) at x refl (ltb-true at (length xs) within) is
+
+-- a record of a known kind finds its switch ready
+pub ready_by : (p : PolicyView) (item : Item) (kind : ℕ) (before : List Told) (event : Event) (switch : Switch) → item.kind ≡ kind
+    → IsReady p (record { kind = kind; switch = item.switch; slot = item.slot; moment = item.moment; bytes = [] }) before event switch → IsReady p (told_by item []) before event switch
+ready_by p item kind before event switch is ready =
+    subst (λ (k : ℕ). IsReady p (record { kind = k; switch = item.switch; slot = item.slot; moment = item.moment; bytes = [] }) before event switch) (sym is) ready
+
+-- the end of a connection leaves all streams
+pub streams_stay : (slices : ℕ) (r : Told) (before : List Told) (streams : Streams) → stream_before (connection r.switch switch_bytes 0) (r ∷ before) ≡ stream_before (connection r.switch switch_bytes 0) before
+    → ((slot : ℕ) → stream_before (connection r.switch slice_bytes slot) (r ∷ before) ≡ stream_before (connection r.switch slice_bytes slot) before) → StreamsStand slices r.switch before streams → StreamsStand slices r.switch (r ∷ before) streams
+streams_stay slices r before streams of_switch of_slices stands = record {
+  of_switch = kept r.switch switch_bytes 0 r before streams.switch of_switch stands.of_switch;
+  number = stands.number;
+  of_slices = λ at framer is. kept r.switch slice_bytes at r before framer (of_slices at) (stands.of_slices at framer is);
+}

@@ -1,9 +1,12 @@
 //! One switch of a recording: its desk, and what came on its connections.
 
-ghost use Rattle.std.specs.Prelude.{◌≡◌, ◌<◌, [], length, IfOk};
+ghost use Rattle.std.specs.Prelude.{◌≡◌, ◌<◌, true, List, [], length, IfOk};
 ghost use Rattle.recording.specs.Recordings.{switch_up, switch_bytes, switch_down, slice_up, slice_bytes, slice_down};
+ghost use Rattle.answer_bounds.specs.Bounds.{IsFramed};
+ghost use Rattle.desk_words.specs.declared.event.Timed.{Timed};
+ghost use Rattle.desk_words.specs.Recorded.{happens};
 ghost use Rattle.fv_report.specs.Writing.{Counted};
-ghost use Rattle.fv_report.specs.Switches.{told_by, IsFreshSwitch, IsRecord, PlaysRecord};
+ghost use Rattle.fv_report.specs.Switches.{told_by, IsFreshSwitch, IsRecord, PlaysRecord, PlaysEvent};
 
 use crate::fault::ReportFault;
 use crate::line::{LineBuffer, Place};
@@ -45,6 +48,31 @@ fn place_of(events: u64, item: &Item) -> Place
     }
 }
 
+/// Plays the one event of a record, at a switch whose streams are already those with the record.
+fn play_event<K: Sink>(
+    alloc: Global,
+    out: &mut K,
+    line: &mut LineBuffer,
+    policy: &Policy,
+    events: u64,
+    switch: &mut Switch,
+    item: &Item,
+    event: Event,
+) -> Result<u64, ReportFault>
+    requires framed { IsFramed event }
+    requires happens { (h : List Timed) → happens policy.now h event ≡ true }
+    ensures plays { PlaysEvent policy.now (told_by item.now []) event events result (K.contents out.old) (K.contents out.new) switch.old switch.new }
+    ensures counted { Counted result (K.faults out.old) (K.faults out.new) }
+{
+    let timed = Timed {
+        event,
+        moment: item.moment,
+    };
+    let place = place_of(events, item);
+    let later = play(alloc, out, line, &mut switch.desk, policy, place, timed)?;
+    Ok(later.number)
+}
+
 /// The switch connected: all begins anew.
 fn switch_comes<K: Sink>(
     alloc: Global,
@@ -60,13 +88,8 @@ fn switch_comes<K: Sink>(
     ensures counted { Counted result (K.faults out.old) (K.faults out.new) }
 {
     *switch = Switch::new(alloc, policy)?;
-    let timed = Timed {
-        event: Event::SwitchUp,
-        moment: item.moment,
-    };
-    let place = place_of(events, item);
-    let later = play(alloc, out, line, &mut switch.desk, policy, place, timed)?;
-    Ok(later.number)
+    let event = Event::SwitchUp;
+    play_event(alloc, out, line, policy, events, switch, item, event)
 }
 
 /// Bytes of the switch.
@@ -110,13 +133,8 @@ fn switch_goes<K: Sink>(
     ensures plays { PlaysRecord policy.now (told_by item.now []) events result (K.contents out.old) (K.contents out.new) switch.old switch.new }
     ensures counted { Counted result (K.faults out.old) (K.faults out.new) }
 {
-    let timed = Timed {
-        event: Event::SwitchDown,
-        moment: item.moment,
-    };
-    let place = place_of(events, item);
-    let later = play(alloc, out, line, &mut switch.desk, policy, place, timed)?;
-    Ok(later.number)
+    let event = Event::SwitchDown;
+    play_event(alloc, out, line, policy, events, switch, item, event)
 }
 
 /// A slice's controller connected.
@@ -134,13 +152,8 @@ fn slice_comes<K: Sink>(
     ensures counted { Counted result (K.faults out.old) (K.faults out.new) }
 {
     restart(alloc, &mut switch.streams.slices, item.slot);
-    let timed = Timed {
-        event: Event::SliceUp(item.slot),
-        moment: item.moment,
-    };
-    let place = place_of(events, item);
-    let later = play(alloc, out, line, &mut switch.desk, policy, place, timed)?;
-    Ok(later.number)
+    let event = Event::SliceUp(item.slot);
+    play_event(alloc, out, line, policy, events, switch, item, event)
 }
 
 /// Bytes of a slice's controller.
@@ -188,13 +201,8 @@ fn slice_goes<K: Sink>(
     ensures plays { PlaysRecord policy.now (told_by item.now []) events result (K.contents out.old) (K.contents out.new) switch.old switch.new }
     ensures counted { Counted result (K.faults out.old) (K.faults out.new) }
 {
-    let timed = Timed {
-        event: Event::SliceDown(item.slot),
-        moment: item.moment,
-    };
-    let place = place_of(events, item);
-    let later = play(alloc, out, line, &mut switch.desk, policy, place, timed)?;
-    Ok(later.number)
+    let event = Event::SliceDown(item.slot);
+    play_event(alloc, out, line, policy, events, switch, item, event)
 }
 
 /// Plays a record.

@@ -1,0 +1,38 @@
+use Rattle.std.proofs.Common.{[], ◌∷◌, List, Result, Ok, subst, sym}
+use Rattle.desk_words.specs.declared.event.Event.{Event}
+use Rattle.desk_words.specs.Recorded.{happening, history_at}
+use Rattle.desk_words.specs.Reports.{lines_of}
+use Rattle.fv_report.specs.declared.fault.ReportFault.{ReportFault}
+use Rattle.fv_report.specs.declared.line.Place.{Place}
+use Rattle.fv_report.specs.Lines.{place_of}
+use Rattle.fv_report.specs.Writing.{WrotePart}
+use Rattle.fv_report.specs.Plays.{Plays}
+use Rattle.fv_report.specs.Switches.{told_by, SwitchStands}
+use Rattle.fv_report.proofs.Recorded.{record_played, record_failed, switch_after}
+use Rattle.fv_report.proofs.switch.play_event.Goals as goal
+
+pub returns-in_err-later-clause-plays : goal.returns-in_err-later-clause-plays
+returns-in_err-later-clause-plays g c = λ before ready.
+    let p = c.args.policy.now in
+    let r = told_by c.args.item.now [] in
+    let h = history_at p r before in
+    let place = c.place_of-place.result in
+    let told = g.K.Sink.contents c.args.out.now in
+    let wrote = g.K.Sink.contents c.play.new.out in
+    let plays = c.in_err-later.ensures.plays h ready.quiet ready.framed c.requires.framed (c.requires.happens h) in
+    record_failed p r before c.args.events place c.from_residual.result told wrote (SwitchStands p r.switch (r ∷ before)) _ c.place_of-place.ensures.number c.place_of-place.ensures.switch c.from_residual.ensures.0
+    (subst (λ (events : List Event). WrotePart (lines_of p (place_of place) h (happening p r.moment h events)) told wrote) (sym ready.one) plays.writes)
+
+pub returns-clause-plays : goal.returns-clause-plays
+returns-clause-plays g c = λ before ready.
+    let p = c.args.policy.now in
+    let r = told_by c.args.item.now [] in
+    let h = history_at p r before in
+    let place = c.place_of-place.result in
+    let told = g.K.Sink.contents c.args.out.now in
+    let wrote = g.K.Sink.contents c.play.new.out in
+    let result : Result Place ReportFault = Ok c.in_ok-later.later in
+    let plays = subst (λ (events : List Event). Plays p r.moment h events place result told wrote c.play.new.desk) (sym ready.one)
+    (c.in_ok-later.ensures.plays h ready.quiet ready.framed c.requires.framed (c.requires.happens h)) in
+    record_played p r before c.args.events place c.in_ok-later.later told wrote c.play.new.desk (SwitchStands p r.switch (r ∷ before)) _ c.place_of-place.ensures.number c.place_of-place.ensures.switch plays.writes plays.played
+    (switch_after p r before place c.in_ok-later.later _ plays.played ready.streams)
