@@ -9,6 +9,7 @@ mod writing;
 
 pub use header::Header12;
 pub use matching::Match;
+pub use normal::{has_network, has_ports, has_service, has_vlan};
 
 #[cfg(test)]
 mod tests;

@@ -49,6 +49,7 @@ impl Features {
         requires { IsOf 6 frame.now }
         ensures exact { Gives (λ x. x) result (read_features frame.now) }
         ensures range { IfOk result (λ f. IsFeatures f) }
+        ensures memory { result ≡ Err Memory → IsTrue (has_whole_ports frame.now) }
     {
         let bytes = frame.as_slice();
         if !has_whole_ports(bytes) {

@@ -1,7 +1,6 @@
 //! The match of a rule.
 
 ghost use Rattle.std.specs.Prelude.{◌≡◌};
-ghost use Rattle.of10_model.specs.Normal.{has_network, has_ports, has_service, has_vlan};
 ghost use Rattle.policy_text.specs.Reading.{Gives};
 ghost use Rattle.policy_text.specs.Rules.{first_improper, link_in, pattern_in};
 ghost use Rattle.policy_text.specs.Views.{link_view, section};
@@ -10,8 +9,8 @@ use crate::fault::ReadFault;
 use crate::section::Section;
 use crate::values::{Numbers, Numerals};
 use flowspace::Field;
+use of10_match::{has_network, has_ports, has_service, has_vlan};
 use of10_model::Pattern;
-use of10_model::protocol::{ARP, ICMP, IPV4, TCP, UDP, UNTAGGED};
 
 /// The constraints on the link: where a packet came in, and its Ethernet header.
 #[derive(Clone, Copy)]
@@ -58,30 +57,6 @@ pub fn pattern_in(table: &Section<'_>) -> Result<Pattern, ReadFault>
         tp_src: table.number16(Numbers::UpTo(0xffff), "tp_src")?,
         tp_dst: table.number16(Numbers::UpTo(0xffff), "tp_dst")?,
     })
-}
-
-fn has_vlan(vlan: Option<u16>) -> bool
-    ensures { result ≡ has_vlan vlan }
-{
-    vlan.is_some_and(|vlan| vlan != UNTAGGED)
-}
-
-fn has_network(kind: Option<u16>) -> bool
-    ensures { result ≡ has_network kind }
-{
-    kind == Some(IPV4) || kind == Some(ARP)
-}
-
-fn has_service(kind: Option<u16>) -> bool
-    ensures { result ≡ has_service kind }
-{
-    kind == Some(IPV4)
-}
-
-fn has_ports(kind: Option<u16>, proto: Option<u8>) -> bool
-    ensures { result ≡ has_ports kind proto }
-{
-    kind == Some(IPV4) && (proto == Some(ICMP) || proto == Some(TCP) || proto == Some(UDP))
 }
 
 /// The first field that is given without what it needs.
