@@ -15,9 +15,9 @@ use Rattle.of10_port.specs.Features.{has_whole_ports, read_features}
 use Rattle.of10_port.specs.PortStatus.{read_port_status}
 use Rattle.of10_port.proofs.Pieces.{IsPort-ports_in}
 use Rattle.flowspace.specs.declared.rules.Rule.{Rule}
-use Rattle.flowspace.specs.Owners.{has_port}
+use Rattle.flowspace.specs.Owners.{is_in_port, has_port}
 use Rattle.flowspace.specs.Policies.{PolicyView}
-use Rattle.port_view.specs.KnownPorts.{is_known_number, is_of_number, ports_below, ports_above, with_port, without_port, with_told, first_known, kept_of, changed_plainly, changed}
+use Rattle.port_view.specs.KnownPorts.{is_of_number, ports_below, ports_above, with_port, without_port, with_told, first_known, kept_of, changed_plainly, changed}
 use Rattle.port_view.specs.SlicePorts.{ports_of_slice}
 use Rattle.port_view.proofs.Knowing.{cases_kept, changed-kept, changed-not_kept}
 use Rattle.slice_words.specs.Items.{Item, known_ports}
@@ -115,7 +115,7 @@ unfolding without_port
 whole_without number known all = All-filter (λ port. not (is_of_number number port)) IsPort known all
 
 whole_told : (known : List (List ℕ)) (port : List ℕ) → All IsPort known → IsPort port → All IsPort (with_told known port)
-whole_told known port all one = whole_either (is_known_number (port_number port)) (with_port port known) known (whole_with port known one all) all
+whole_told known port all one = whole_either (is_in_port (port_number port)) (with_port port known) known (whole_with port known one all) all
 
 whole_fold : (ports known : List (List ℕ)) → All IsPort ports → All IsPort known → All IsPort (fold with_told known ports)
 whole_fold [] known ports all = all

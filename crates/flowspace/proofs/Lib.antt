@@ -9,3 +9,4 @@ pub mod Accepting
 pub mod Overlapping
 pub mod Owning
 pub mod Faulty
+pub mod Naming

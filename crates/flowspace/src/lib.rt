@@ -20,7 +20,7 @@ pub use order::rules_stand_in_order;
 pub use owners::is_in_port;
 pub use policy::Policy;
 pub use rules::Rule;
-pub use slices::Slice;
+pub use slices::{Slice, has_name_bytes};
 pub use switch::SwitchPolicy;
 pub use text::Text;
 

@@ -1,5 +1,8 @@
-ghost use Rattle.std.specs.Prelude.{◌≡◌, IfOk};
+ghost use Rattle.std.specs.Prelude.{◌≡◌, ◌≤◌, All, IfOk, IsTrue, length};
+ghost use Rattle.std.specs.List.{list_all};
+ghost use Rattle.flowspace.specs.Slices.{is_name_byte, IsPlainSlice};
 
+use crate::limits::{CONTROLLER_BYTES, NAME_BYTES, QUOTA, RATE};
 use crate::text::Text;
 use std::alloc::{AllocError, Global};
 
@@ -16,6 +19,70 @@ pub struct Slice {
     pub burst: u32,
     /// How many flow entries it may have on a switch, at most 4,096.
     pub quota: u32,
+}
+
+fn is_name_byte(byte: u8) -> bool
+    ensures { result ≡ is_name_byte byte }
+{
+    matches!(byte, b'a'..=b'z' | b'0'..=b'9' | b'_' | b'-')
+}
+
+/// Whether a text is made of letters a to z, digits, `_` and `-`.
+pub fn has_name_bytes(text: &str) -> bool
+    ensures { result ≡ list_all is_name_byte text.now }
+{
+    text.as_bytes().iter().all(|byte| is_name_byte(*byte))
+}
+
+/// Whether a text has at least one byte and at most so many.
+fn is_within(text: &str, most: usize) -> bool
+    ensures some { IsTrue result → 1 ≤ length text.now }
+    ensures short { IsTrue result → length text.now ≤ most }
+    ensures only { 1 ≤ length text.now → length text.now ≤ most → IsTrue result }
+{
+    !text.is_empty() && text.len() <= most
+}
+
+/// Whether so many messages may come in a second, or at once.
+fn is_rate(count: u32) -> bool
+    ensures some { IsTrue result → 1 ≤ count }
+    ensures limit { IsTrue result → count ≤ 1000000 }
+    ensures only { 1 ≤ count → count ≤ 1000000 → IsTrue result }
+{
+    1 <= count && count <= RATE
+}
+
+/// Whether a slice may have this name.
+#[tactic(auto, using(crate::proofs::Naming::name_bytes_pass))]
+fn is_name(text: &str) -> bool
+    ensures some { IsTrue result → 1 ≤ length text.now }
+    ensures short { IsTrue result → length text.now ≤ 32 }
+    ensures bytes { IsTrue result → All (λ b. IsTrue (is_name_byte b)) text.now }
+    ensures only { 1 ≤ length text.now → length text.now ≤ 32 → All (λ b. IsTrue (is_name_byte b)) text.now → IsTrue result }
+{
+    is_within(text, NAME_BYTES) && has_name_bytes(text)
+}
+
+impl Slice {
+    /// Whether rate, burst and quota are within their limits.
+    fn has_numbers(&self) -> bool
+        ensures rate { IsTrue result → (1 ≤ self.now.rate) × (self.now.rate ≤ 1000000) }
+        ensures burst { IsTrue result → (1 ≤ self.now.burst) × (self.now.burst ≤ 1000000) }
+        ensures quota { IsTrue result → self.now.quota ≤ 4096 }
+        ensures only { 1 ≤ self.now.rate → self.now.rate ≤ 1000000 → 1 ≤ self.now.burst → self.now.burst ≤ 1000000 → self.now.quota ≤ 4096 → IsTrue result }
+    {
+        is_rate(self.rate) && is_rate(self.burst) && self.quota <= QUOTA
+    }
+
+    /// Whether each field is within its limits. `Policy::load` takes such slices alone.
+    pub fn is_plain(&self) -> bool
+        ensures plain { IsTrue result → IsPlainSlice self.now }
+        ensures only { IsPlainSlice self.now → IsTrue result }
+    {
+        is_name(self.name.as_str())
+            && is_within(self.controller.as_str(), CONTROLLER_BYTES)
+            && self.has_numbers()
+    }
 }
 
 fn copy_of(alloc: Global, slice: &Slice) -> Result<Slice, AllocError>

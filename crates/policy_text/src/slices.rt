@@ -8,7 +8,7 @@ ghost use Rattle.policy_text.specs.Views.{section};
 use crate::fault::{Part, Place, ReadFault};
 use crate::section::Section;
 use crate::values::{Numbers, Texts};
-use flowspace::{Slice, Text};
+use flowspace::{Slice, Text, limits};
 use std::alloc::{AllocError, Global};
 use toml::Value;
 
@@ -26,9 +26,9 @@ fn slice_in(table: &Section<'_>) -> Result<Slice, ReadFault>
     table.known_keys()?;
     let name = table.required_text(Texts::Name, "name")?;
     let controller = table.required_text(Texts::Controller, "controller")?;
-    let rate = table.number(Numbers::Between(1, 1_000_000), "rate")?;
-    let burst = table.number(Numbers::Between(1, 1_000_000), "burst")?;
-    let quota = table.number(Numbers::UpTo(4096), "quota")?;
+    let rate = table.number(Numbers::Between(1, limits::RATE), "rate")?;
+    let burst = table.number(Numbers::Between(1, limits::RATE), "burst")?;
+    let quota = table.number(Numbers::UpTo(limits::QUOTA), "quota")?;
     Ok(Slice {
         name: Text::of(table.alloc, name)?,
         controller: Text::of(table.alloc, controller)?,

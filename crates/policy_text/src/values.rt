@@ -1,13 +1,13 @@
 //! The forms of the values under keys.
 
 ghost use Rattle.std.specs.Prelude.{◌≡◌, ◌≤◌, Some, true, IfOk, IfSome, map, option_map};
-ghost use Rattle.std.specs.List.{list_all};
 ghost use Rattle.toml.specs.Text.{are_tables, has_items};
 ghost use Rattle.toml.specs.View.{items_view, view};
-ghost use Rattle.flowspace.specs.Slices.{is_name_byte};
 ghost use Rattle.policy_text.specs.Reading.{addresses, each_text, greatest, is_name, is_number, is_text, number, numeral, numeral_of, some_tables, tables, text, text_list};
 
 use crate::addresses::{datapath_id, hardware_address, prefix};
+use flowspace::has_name_bytes;
+use flowspace::limits::{CONTROLLER_BYTES, NAME_BYTES};
 use of10_model::Prefix;
 use std::alloc::{AllocError, Global};
 use toml::Value;
@@ -69,22 +69,10 @@ pub fn number(numbers: Numbers, value: &Value) -> Option<u32>
     }
 }
 
-fn is_name_byte(byte: u8) -> bool
-    ensures { result ≡ is_name_byte byte }
-{
-    matches!(byte, b'a'..=b'z' | b'0'..=b'9' | b'_' | b'-')
-}
-
-fn has_name_bytes(text: &str) -> bool
-    ensures { result ≡ list_all is_name_byte text.now }
-{
-    text.as_bytes().iter().all(|byte| is_name_byte(*byte))
-}
-
 fn is_name(text: &str) -> bool
     ensures { result ≡ is_name text.now }
 {
-    1 <= text.len() && text.len() <= 32 && has_name_bytes(text)
+    1 <= text.len() && text.len() <= NAME_BYTES && has_name_bytes(text)
 }
 
 fn is_text(texts: Texts, text: &str) -> bool
@@ -92,7 +80,7 @@ fn is_text(texts: Texts, text: &str) -> bool
 {
     match texts {
         Texts::Name => is_name(text),
-        Texts::Controller => 1 <= text.len() && text.len() <= 255,
+        Texts::Controller => 1 <= text.len() && text.len() <= CONTROLLER_BYTES,
         Texts::Any => true,
     }
 }

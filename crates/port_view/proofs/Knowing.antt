@@ -10,7 +10,8 @@ use Rattle.of10_port.specs.declared.features.Features.{Features}
 use Rattle.of10_port.specs.declared.status.PortStatus.{PortStatus}
 use Rattle.port_view.specs.declared.answer.Kept.{Kept as Answer}
 use Rattle.port_view.specs.declared.answer.Kept.TheVariants.{Kept, Ignored, TooManyPorts}
-use Rattle.port_view.specs.KnownPorts.{IsAscending, is_known_number, is_known, is_ignored, is_too_many, with_port, without_port, with_told, first_known, kept_of, changed_plainly, changed, known_of}
+use Rattle.flowspace.specs.Owners.{is_in_port}
+use Rattle.port_view.specs.KnownPorts.{IsAscending, is_known, is_ignored, is_too_many, with_port, without_port, with_told, first_known, kept_of, changed_plainly, changed, known_of}
 use Rattle.port_view.specs.Places.{PortsStand}
 use Rattle.port_view.proofs.Order.{Rises-from_pairs, pairs_from_Rises, Rises-filter, Rises-put, length-parts, length-parts_known}
 use Rattle.port_view.proofs.Cutting.{changed_plainly-delete, changed_plainly-other}
@@ -73,7 +74,7 @@ unfolding IsAscending
 IsAscending-none i j d lt within = absurd (omega arith)
 
 pub IsAscending-with_told : (known : List (List ℕ)) (port : List ℕ) → IsAscending known → IsAscending (with_told known port)
-IsAscending-with_told known port h = elim (cases_Bool (is_known_number (port_number port))) [
+IsAscending-with_told known port h = elim (cases_Bool (is_in_port (port_number port))) [
   | inl is ↦ rw is (IsAscending-with_port port known h)
   | inr isnt ↦ rw isnt h
 ]
@@ -129,7 +130,7 @@ few-changed status known few = elim (cases_kept (kept_of status known)) [
 
 length-fold : (ports known : List (List ℕ)) → length (fold with_told known ports) ≤ length known + length ports
 length-fold [] known = omega arith
-length-fold (port ∷ later) known = elim (cases_Bool (is_known_number (port_number port))) [
+length-fold (port ∷ later) known = elim (cases_Bool (is_in_port (port_number port))) [
   | inl is ↦ rw is (let more = length-with_port port known in let rest = length-fold later (with_port port known) in omega arith)
   | inr isnt ↦ rw isnt (let rest = length-fold later known in omega arith)
 ]

@@ -10,7 +10,8 @@ use Rattle.of10_port.specs.declared.features.Features.{Features}
 use Rattle.of10_port.specs.declared.status.PortStatus.{PortStatus}
 use Rattle.port_view.specs.declared.answer.Kept.{Kept as Answer}
 use Rattle.port_view.specs.declared.answer.Kept.TheVariants.{Kept, Ignored, TooManyPorts}
-use Rattle.port_view.specs.KnownPorts.{is_known_number, is_of_number, port_of, with_port, without_port, with_told, first_known, kept_of, changed_plainly, known_of}
+use Rattle.flowspace.specs.Owners.{is_in_port}
+use Rattle.port_view.specs.KnownPorts.{is_of_number, port_of, with_port, without_port, with_told, first_known, kept_of, changed_plainly, known_of}
 use Rattle.port_view.specs.Told.{is_kept, kept_statuses, told_first, told_by, told_last}
 use Rattle.port_view.proofs.Cutting.{changed_plainly-delete, changed_plainly-other}
 use Rattle.port_view.proofs.Knowing.{changed-kept, changed-not_kept, cases_kept}
@@ -42,13 +43,13 @@ told_later earlier port None true = refl
 told_later earlier port None false = refl
 told_later earlier port (Some other) same = refl
 
-port_of-told : (number : ℕ) (port : List ℕ) (known : List (List ℕ)) → is_known_number number ≡ true
+port_of-told : (number : ℕ) (port : List ℕ) (known : List (List ℕ)) → is_in_port number ≡ true
     → port_of number (with_told known port) ≡ (if is_of_number number port then Some port else port_of number known)
 port_of-told number port known can = elim (cases_eq (port_number port) number) [
   | inl same ↦
-      let this : is_known_number (port_number port) ≡ true = ap is_known_number same ∙ can in
+      let this : is_in_port (port_number port) ≡ true = ap is_in_port same ∙ can in
       rw (this, eq-eqb (port_number port) number same) (ap (λ (n : ℕ). port_of n (with_port port known)) (sym same) ∙ port_of-with_same port known)
-  | inr apart ↦ rw (ne_eqb (port_number port) number apart) (elim (cases_Bool (is_known_number (port_number port))) [
+  | inr apart ↦ rw (ne_eqb (port_number port) number apart) (elim (cases_Bool (is_in_port (port_number port))) [
     | inl is ↦ rw is (port_of-with_other number port known (λ e. apart (sym e)))
     | inr isnt ↦ rw isnt refl
   ])
@@ -59,7 +60,7 @@ find_last : (number : ℕ) (port : List ℕ) (later : List (List ℕ))
 find_last number port later =
     ap (find (is_of_number number)) (reverse-append (port ∷ []) later) ∙ find-append (is_of_number number) (reverse later) (port ∷ [])
 
-port_of-fold : (number : ℕ) (ports known : List (List ℕ)) → is_known_number number ≡ true
+port_of-fold : (number : ℕ) (ports known : List (List ℕ)) → is_in_port number ≡ true
     → port_of number (fold with_told known ports) ≡ option_or (find (is_of_number number) (reverse ports)) (port_of number known)
 port_of-fold number [] known can = refl
 port_of-fold number (port ∷ later) known can =
@@ -68,12 +69,12 @@ port_of-fold number (port ∷ later) known can =
     ∙ told_later (port_of number known) port (find (is_of_number number) (reverse later)) (is_of_number number port)
     ∙ ap (λ (o : Option (List ℕ)). option_or o (port_of number known)) (sym (find_last number port later))
 
-port_of-never : (number : ℕ) (ports known : List (List ℕ)) → is_known_number number ≡ false → port_of number known ≡ None
+port_of-never : (number : ℕ) (ports known : List (List ℕ)) → is_in_port number ≡ false → port_of number known ≡ None
     → port_of number (fold with_told known ports) ≡ None
 port_of-never number [] known cannot none = none
-port_of-never number (port ∷ later) known cannot none = elim (cases_Bool (is_known_number (port_number port))) [
+port_of-never number (port ∷ later) known cannot none = elim (cases_Bool (is_in_port (port_number port))) [
   | inl is ↦
-      let apart : number ≢ port_number port = λ e. let this : true ≡ false = sym is ∙ ap is_known_number (sym e) ∙ cannot in cc in
+      let apart : number ≢ port_number port = λ e. let this : true ≡ false = sym is ∙ ap is_in_port (sym e) ∙ cannot in cc in
       rw is (port_of-never number later (with_port port known) cannot (port_of-with_other number port known apart ∙ none))
   | inr isnt ↦ rw isnt (port_of-never number later known cannot none)
 ]
@@ -84,7 +85,7 @@ or_nothing (Some port) = refl
 
 port_of-first : (number : ℕ) (ports : List (List ℕ)) → port_of number (first_known ports) ≡ told_first number ports
 unfolding first_known
-port_of-first number ports = elim (cases_Bool (is_known_number number)) [
+port_of-first number ports = elim (cases_Bool (is_in_port number)) [
   | inl can ↦ rw can (port_of-fold number ports [] can ∙ or_nothing (find (is_of_number number) (reverse ports)))
   | inr cannot ↦ rw cannot (port_of-never number ports [] cannot refl)
 ]

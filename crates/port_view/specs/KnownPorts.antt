@@ -9,10 +9,6 @@ use Rattle.flowspace.specs.Owners.{is_in_port}
 use Rattle.port_view.specs.declared.answer.Kept.{Kept as Answer}
 use Rattle.port_view.specs.declared.answer.Kept.TheVariants.{Kept, Ignored, TooManyPorts}
 
--- a physical port or the switch's own: the numbers of all others stand for something else (section 5.2.1)
-abbrev pub is_known_number : ℕ → Bool
-is_known_number number = is_in_port number
-
 -- a port has a number
 abbrev pub is_of_number : ℕ → List ℕ → Bool
 is_of_number number port = port_number port == number
@@ -47,7 +43,7 @@ without_port number known = filter (λ port. not (is_of_number number port)) kno
 
 -- a port that is told; one whose number can't be known is passed over
 abbrev pub with_told : List (List ℕ) → List ℕ → List (List ℕ)
-with_told known port = if is_known_number (port_number port) then with_port port known else known
+with_told known port = if is_in_port (port_number port) then with_port port known else known
 
 -- what is known by these ports of a FEATURES_REPLY: a later one takes the place of an earlier one of its number
 unfoldable pub first_known : List (List ℕ) → List (List ℕ)
@@ -56,7 +52,7 @@ first_known ports = fold with_told [] ports
 -- a status says nothing of the known ports: its number can't be known, its reason isn't one of the three, or it deletes a port that isn't known (section 5.4.3)
 abbrev pub is_ignored : PortStatus → List (List ℕ) → Bool
 is_ignored status known =
-    not (is_known_number (port_number status.port)) || nat_lt 2 status.reason || (status.reason == 1 && not (is_known (port_number status.port) known))
+    not (is_in_port (port_number status.port)) || nat_lt 2 status.reason || (status.reason == 1 && not (is_known (port_number status.port) known))
 
 -- a port more than the 1,364 that fit a FEATURES_REPLY
 abbrev pub is_too_many : PortStatus → List (List ℕ) → Bool

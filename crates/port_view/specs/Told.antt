@@ -4,7 +4,8 @@ use Rattle.std.specs.Option.{option_map_or}
 use Rattle.of10_port.specs.declared.features.Features.{Features}
 use Rattle.of10_port.specs.declared.status.PortStatus.{PortStatus}
 use Rattle.port_view.specs.declared.answer.Kept.TheVariants.{Kept, Ignored, TooManyPorts}
-use Rattle.port_view.specs.KnownPorts.{is_known_number, is_of_number, kept_of, known_of}
+use Rattle.flowspace.specs.Owners.{is_in_port}
+use Rattle.port_view.specs.KnownPorts.{is_of_number, kept_of, known_of}
 
 -- a status is kept after those before it
 abbrev pub is_kept : Features → PortStatus → List PortStatus → Bool
@@ -17,7 +18,7 @@ kept_statuses features (status ∷ earlier) = if is_kept features status earlier
 
 -- the port of a number that a FEATURES_REPLY tells of last
 abbrev pub told_first : ℕ → List (List ℕ) → Option (List ℕ)
-told_first number ports = if is_known_number number then find (is_of_number number) (reverse ports) else None
+told_first number ports = if is_in_port number then find (is_of_number number) (reverse ports) else None
 
 -- the port that a kept status tells of, none where it deletes it
 abbrev pub told_by : PortStatus → Option (List ℕ)
