@@ -1,4 +1,4 @@
-ghost use Rattle.std.specs.Prelude.{◌≡◌, ◌≢◌, ◌+◌, ◌^◌, ◌<◌, ◌≤◌, List, [], ◌∷◌, length, find, AllPairs, OnOk, if◌then◌else◌};
+ghost use Rattle.std.specs.Prelude.{◌≡◌, ◌≢◌, ◌+◌, ◌^◌, ◌<◌, ◌≤◌, List, [], ◌∷◌, length, find, AllPairs, OnOk, OnErr, if◌then◌else◌};
 ghost use Rattle.flow_book.specs.Order.{IsInOrder};
 ghost use Rattle.flow_book.specs.Books.{BookCall, Added, Removed, Failed, is_pair, is_first, without, newcomers_in, fits_in, overlaps_in, book, booking, BookStands};
 
@@ -91,6 +91,7 @@ impl FlowBook {
         ensures kept { self.old.room ≤ self.new.room }
         ensures booked { self.new.booked ≡ self.old.booked }
         ensures stands { (calls : List BookCall) → BookStands calls self.old → BookStands calls self.new }
+        ensures full { OnErr result (self.old.room < n) }
     {
         match self.fresh.reserve(n as usize) {
             Ok(()) => self.entries.reserve(n as usize),

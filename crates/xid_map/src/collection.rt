@@ -1,4 +1,4 @@
-ghost use Rattle.std.specs.Prelude.{◌≡◌, ◌+◌, ◌-◌, ◌%◌, ◌^◌, ◌≤◌, ◌==◌, ◌++◌, [], length, nat_le, if◌then◌else◌, OnOk};
+ghost use Rattle.std.specs.Prelude.{◌≡◌, ◌+◌, ◌-◌, ◌%◌, ◌^◌, ◌≤◌, ◌==◌, ◌++◌, [], length, nat_le, ◌<◌, if◌then◌else◌, OnOk, OnErr};
 ghost use Rattle.xid_map.specs.Collections.{Gathered};
 
 use of10_action::Bytes;
@@ -77,6 +77,7 @@ impl Collection {
         ensures gathered { self.new.gathered ≡ self.old.gathered }
         ensures ok { OnOk result (bytes ≤ self.new.spare) }
         ensures kept { self.old.spare ≤ self.new.spare }
+        ensures full { OnErr result (self.old.spare < bytes) }
     {
         self.entries.reserve(bytes as usize)
     }

@@ -1,4 +1,4 @@
-ghost use Rattle.std.specs.Prelude.{ℕ, ◌≡◌, ◌≢◌, ◌+◌, ◌<◌, ◌==◌, List, [], ◌∷◌, length, take, vec_capacity, find, position, IfOk, IfSome, IsTrue, OnOk, option_map, option_copied};
+ghost use Rattle.std.specs.Prelude.{ℕ, ◌≡◌, ◌≢◌, ◌+◌, ◌<◌, ◌==◌, List, [], ◌∷◌, length, take, vec_capacity, find, position, IfOk, IfSome, IsTrue, OnOk, OnErr, option_map, option_copied};
 ghost use Rattle.xid_map.specs.Collections.{CollectionCall, Start, Add, Sum, Finish, EndAll, is_among, collecting, entries_of, sums_of, room_of, HasRoom, CollectionsStand};
 
 use crate::collection::Collection;
@@ -67,6 +67,7 @@ impl Collections {
         ensures room { OnOk result (HasRoom number bytes self.new) }
         ensures stands { (calls : List CollectionCall) → CollectionsStand calls self.old → CollectionsStand calls self.new }
         ensures kept { (other more : ℕ) → HasRoom other more self.old → HasRoom other more self.new }
+        ensures full { OnErr result (¬ HasRoom number bytes self.old) }
     {
         match place_of(&self.all, number) {
             Some(place) => self.all[place].reserve(bytes),

@@ -1,6 +1,6 @@
-use Rattle.std.proofs.lemmas.Result.{on_ok_weaker}
-use Rattle.std.proofs.Common.{ap, ◌∙◌}
-use Rattle.xid_map.proofs.Places.{StandsAt, StandsAt-position, Nowhere-position, number_at, HasRoom-changed, HasRoom-grown, HasRoom-nowhere}
+use Rattle.std.proofs.lemmas.Result.{on_ok_weaker, on_err_weaker}
+use Rattle.std.proofs.Common.{ap, arith, ◌∙◌, ◌≤◌}
+use Rattle.xid_map.proofs.Places.{StandsAt, StandsAt-position, Nowhere-position, number_at, HasRoom-changed, HasRoom-grown, HasRoom-nowhere, HasRoom-here}
 use Rattle.xid_map.proofs.Standing.{CollectionsStand-reserve}
 use Rattle.xid_map.proofs.collections.Collections.reserve.Goals as goal
 
@@ -27,3 +27,12 @@ returns-in-Some-clause-kept c other more room =
 pub returns-in-None-clause-room : goal.returns-in-None-clause-room
 returns-in-None-clause-room c =
     rw (← c.self.view_is) (HasRoom-nowhere c.args.number c.args.bytes c.self.inside.all.items (Nowhere-position c.args.number c.self.inside.all.items (rw c.deref.ensures.value at c.in-None.ensures.value)))
+
+pub returns-in-Some-clause-full : goal.returns-in-Some-clause-full
+returns-in-Some-clause-full c =
+    on_err_weaker c.reserve.result
+    (λ less room.
+    let at : StandsAt c.args.number c.in-Some.place c.self.inside.all.items = StandsAt-position c.args.number c.in-Some.place c.self.inside.all.items (rw c.deref.ensures.value at c.in-Some.ensures.value) in
+    let much : c.args.bytes ≤ c.index_mut.result.now.spare = HasRoom-here c.args.number c.args.bytes c.in-Some.place c.self.inside.all.items c.index_mut.result.now at c.index_mut.ensures.value (rw (← c.self.view_is) at room) in
+    omega arith)
+    c.reserve.ensures.full
