@@ -1,8 +1,7 @@
 -- What is spelled is a message of its type, and is read again.
-use Rattle.std.proofs.Common.{◌≡◌, ℕ, ◌-◌, ◌+◌, ◌*◌, ◌%◌, ◌≤◌, ltb, true, false, List, [], ◌∷◌, ◌++◌, length, drop, slice_index, Result, Ok, refl, arith}
+use Rattle.std.proofs.Common.{◌≡◌, ℕ, ◌-◌, ◌+◌, ◌*◌, ◌%◌, ◌≤◌, ltb, true, false, List, [], ◌∷◌, ◌++◌, length, drop, slice_index, Ok, refl, arith}
 use Rattle.std.proofs.lemmas.Bool.{le-ltb}
 use Rattle.std.proofs.lemmas.List.{length-append}
-use Rattle.byteorder.specs.Endian.{big_bytes}
 use Rattle.byteorder.specs.Numbers.{big_number-reads_back}
 use Rattle.of10_model.specs.Normal.{number_at}
 use Rattle.of10_action.specs.Actions.{padding}

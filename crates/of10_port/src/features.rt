@@ -1,5 +1,6 @@
 ghost use Rattle.std.specs.Prelude.{◌≡◌, ◌++◌, ◌*◌, ◌≤◌, IsTrue, IfOk, OnOk, length};
 ghost use Rattle.of10_action.specs.Reading.{Gives};
+ghost use Rattle.of10_action.specs.declared.fault.DecodeFault.TheVariants.{Memory};
 ghost use Rattle.of10_ctl.specs.Kinds.{IsOf};
 ghost use Rattle.of10_port.specs.Ports.{port_bytes};
 ghost use Rattle.of10_port.specs.Features.{IsFeatures, features_front, has_whole_ports, spell_features, read_features};
