@@ -73,7 +73,7 @@ none_in policy slot switch view timed Begun shut none = none_begun policy slot (
 none_in policy slot switch view timed Opened shut none = absurd (true≢false shut)
 none_in policy slot switch view timed Ended shut none = refl
 
-either_none : (b : Bool) (items : List Item) → items ≡ [] → cond b items [] ≡ []
+pub either_none : (b : Bool) (items : List Item) → items ≡ [] → cond b items [] ≡ []
 either_none true items none = none
 either_none false items none = refl
 

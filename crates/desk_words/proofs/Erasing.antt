@@ -1,5 +1,6 @@
 -- Events of other slices: nothing known of the switch changes, and a slice sees nothing of them.
 use Rattle.std.proofs.Common.{◌≡◌, ℕ, ◌==◌, Bool, true, false, not, cond, if◌then◌else◌, List, [], ◌∷◌, ◌++◌, refl, ap, ap₂, sym, ◌∙◌, append-nil, true≢false, Option, Some, None}
+use Rattle.std.proofs.lemmas.Bool.{not-true}
 use Rattle.of10_port.specs.declared.features.Features.{Features}
 use Rattle.flowspace.specs.Policies.{PolicyView}
 use Rattle.slice_words.specs.Items.{Item}
@@ -13,6 +14,7 @@ use Rattle.desk_words.specs.Openings.{phase_after, opening_after, known_after, S
 use Rattle.desk_words.specs.Histories.{is_slot, settings_at, Side, items_of, phase_items, event_items, with_shown, side_of, view_of}
 use Rattle.desk_words.specs.Sent.{sent_with, sent_by, sent}
 use Rattle.desk_words.specs.Laws.{is_others, erased, AreSame, IsErasable}
+use Rattle.desk_words.proofs.Alone.{either_none}
 
 -- an event of a slice's connection
 abbrev is_slices : Event → Bool
@@ -77,16 +79,12 @@ others_slices slot SwitchUp is = absurd (true≢false (sym is))
 others_slices slot (SwitchMsg message) is = absurd (true≢false (sym is))
 others_slices slot SwitchDown is = absurd (true≢false (sym is))
 
-not_true : (b : Bool) → not b ≡ true → b ≡ false
-not_true true h = sym h
-not_true false h = refl
-
 -- after the opening it shows nothing
 others_shown : (policy : PolicyView) (slot : ℕ) (switch : Switch) (view : List Item) (moment : ℕ) (event : Event)
     → is_others slot event ≡ true → event_items policy slot switch view moment event ≡ []
-others_shown policy slot switch view moment (SliceUp other) is = rw (not_true (other == slot) is) refl
-others_shown policy slot switch view moment (SliceMsg other message) is = rw (not_true (other == slot) is) refl
-others_shown policy slot switch view moment (SliceDown other) is = rw (not_true (other == slot) is) refl
+others_shown policy slot switch view moment (SliceUp other) is = rw (not-true (other == slot) is) refl
+others_shown policy slot switch view moment (SliceMsg other message) is = rw (not-true (other == slot) is) refl
+others_shown policy slot switch view moment (SliceDown other) is = rw (not-true (other == slot) is) refl
 others_shown policy slot switch view moment SwitchUp is = refl
 others_shown policy slot switch view moment (SwitchMsg message) is = absurd (true≢false (sym is))
 others_shown policy slot switch view moment SwitchDown is = absurd (true≢false (sym is))
@@ -107,14 +105,10 @@ others_in policy slot switch view timed Begun is = others_begun policy slot swit
 others_in policy slot switch view timed Opened is = others_shown policy slot switch view timed.moment timed.event is
 others_in policy slot switch view timed Ended is = refl
 
-nothing_either_way : (b : Bool) (items : List Item) → items ≡ [] → cond b items [] ≡ []
-nothing_either_way true items none = none
-nothing_either_way false items none = refl
-
 pub others_items : (policy : PolicyView) (slot : ℕ) (switch : Switch) (side : Side) (timed : Timed)
     → is_others slot timed.event ≡ true → items_of policy slot switch side timed ≡ []
 others_items policy slot switch side timed is =
-    nothing_either_way (is_slot policy slot) (phase_items policy slot switch side.sight.view timed switch.phase) (others_in policy slot switch side.sight.view timed switch.phase is)
+    either_none (is_slot policy slot) (phase_items policy slot switch side.sight.view timed switch.phase) (others_in policy slot switch side.sight.view timed switch.phase is)
 
 -- ---- histories
 

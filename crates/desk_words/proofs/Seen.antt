@@ -1,6 +1,7 @@
 -- What a slice has seen of its switch: its features, and the slice's own of the known ports.
 use Rattle.std.proofs.Common.{◌≡◌, ℕ, ◌==◌, ◌&&◌, ◌||◌, ◌≤◌, not, is_none, Bool, true, false, if◌then◌else◌, List, [], ◌∷◌, map, length, refl, ap, sym, ◌∙◌, true≢false, eqb-true, Option, Some, None, IfSome, unwrap_or, subst, arith}
 use Rattle.std.specs.List.{list_any}
+use Rattle.std.proofs.lemmas.Bool.{or_parts}
 use Rattle.of10_ctl.specs.declared.kind.TheConstants.{PACKET_IN, PORT_STATUS}
 use Rattle.of10_ctl.specs.Frames.{is_bad}
 use Rattle.of10_flow.specs.declared.packet_in.PacketIn.{PacketIn}
@@ -42,14 +43,6 @@ tells_switch (Told features) = true
 tells_switch (Status status) = true
 tells_switch item = false
 
-first_false : (a b : Bool) → (a || b) ≡ false → a ≡ false
-first_false true b is = is
-first_false false b is = refl
-
-second_false : (a b : Bool) → (a || b) ≡ false → b ≡ false
-second_false true b is = absurd (true≢false is)
-second_false false b is = is
-
 untelling : (item : Item) (view : List Item) → tells_switch item ≡ false → (features_in (item ∷ view) ≡ features_in view) × (known_ports (item ∷ view) ≡ known_ports view)
 untelling (Told features) view none = absurd (true≢false none)
 untelling (Status status) view none = absurd (true≢false none)
@@ -69,8 +62,8 @@ untelling End view none = (refl, refl)
 untelling_all : (items view : List Item) → list_any tells_switch items ≡ false → (features_in (with_items items view) ≡ features_in view) × (known_ports (with_items items view) ≡ known_ports view)
 untelling_all [] view none = (refl, refl)
 untelling_all (item ∷ items) view none =
-    let rest = untelling_all items (item ∷ view) (second_false (tells_switch item) (list_any tells_switch items) none) in
-    let one = untelling item view (first_false (tells_switch item) (list_any tells_switch items) none) in
+    let rest = untelling_all items (item ∷ view) ((or_parts (tells_switch item) (list_any tells_switch items) none).1) in
+    let one = untelling item view ((or_parts (tells_switch item) (list_any tells_switch items) none).0) in
     (rest.0 ∙ one.0, rest.1 ∙ one.1)
 
 untelling_handed : (packet : PacketIn) (shares : List Share) → list_any tells_switch (map (λ share. handed share packet) shares) ≡ false
@@ -143,7 +136,7 @@ by_untelling s view items known now none stay same =
     let both = untelling_all items view none in
     record { features_stay = both.0; ports_follow = both.1 ∙ same ∙ ap (own_ports s) (sym stay) }
 
-no_kind : (right kind bad : Bool) → bad ≡ true → (right && kind && not bad) ≡ false
+pub no_kind : (right kind bad : Bool) → bad ≡ true → (right && kind && not bad) ≡ false
 no_kind true true true is = refl
 no_kind true false true is = refl
 no_kind false true true is = refl
@@ -167,7 +160,7 @@ other_kind : (right : Bool) (kind : ℕ) (bad : Bool) → (right && (kind == 10)
 other_kind right kind bad is = no_second right (kind == 12) (not bad) (twelve_not kind (and_first right (kind == 10) (not bad) is))
 
 -- a message of a bad length, or of another type, tells no status
-bad_untold : (message : List ℕ) → is_bad message ≡ true → status_told message ≡ None
+pub bad_untold : (message : List ℕ) → is_bad message ≡ true → status_told message ≡ None
 bad_untold message bad = rw (no_kind (version_of message == 1) (is_kind PORT_STATUS message) (is_bad message) bad) refl
 
 packet_untold : (message : List ℕ) → is_of PACKET_IN message ≡ true → status_told message ≡ None

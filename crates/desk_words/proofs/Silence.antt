@@ -1,6 +1,6 @@
 -- A slice that is down is sent nothing until it comes up.
 use Rattle.std.proofs.Common.{◌≡◌, ℕ, ◌==◌, ◌&&◌, ◌||◌, Bool, true, false, cond, if◌then◌else◌, List, [], ◌∷◌, ◌++◌, map, refl, ap, ap₂, sym, ◌∙◌, append-nil, true≢false, Option, Some, None, is_none, inl, inr, ◌⊎◌}
-use Rattle.std.proofs.lemmas.Bool.{eq-eqb}
+use Rattle.std.proofs.lemmas.Bool.{eq-eqb, or_parts}
 use Rattle.std.specs.List.{list_any}
 use Rattle.of10_ctl.specs.declared.kind.TheConstants.{PACKET_IN}
 use Rattle.of10_ctl.specs.Frames.{is_bad}
@@ -28,7 +28,7 @@ use Rattle.desk_words.specs.Openings.{well_formed, status_told, features_told, p
 use Rattle.desk_words.specs.Histories.{is_slot, settings_at, Side, side_of, view_of, handed, shares_of, is_kept, packet_items, status_items, message_items, opening_items, event_items, phase_items, items_of, is_open, is_slice_up}
 use Rattle.desk_words.specs.Sent.{sent, sent_by}
 use Rattle.desk_words.specs.Laws.{is_up_of, IsSilentUntilUp, IsDownAfterDown}
-use Rattle.desk_words.proofs.Alone.{blind}
+use Rattle.desk_words.proofs.Alone.{blind, either_none}
 
 -- ---- items that say nothing of the connection
 
@@ -89,30 +89,18 @@ stays (Entry x kind bytes) view plain = refl
 stays (Last x kind) view plain = refl
 stays End view plain = refl
 
-first_false : (a b : Bool) → (a || b) ≡ false → a ≡ false
-first_false true b is = is
-first_false false b is = refl
-
-second_false : (a b : Bool) → (a || b) ≡ false → b ≡ false
-second_false true b is = absurd (true≢false is)
-second_false false b is = is
-
 -- such items leave the slice up or down
 pub stays_all : (items view : List Item) → are_plain items ≡ false → is_up (with_items items view) ≡ is_up view
 stays_all [] view plain = refl
 stays_all (item ∷ items) view plain =
-    stays_all items (item ∷ view) (second_false (is_forgetting item) (are_plain items) plain)
-    ∙ stays item view (first_false (is_forgetting item) (are_plain items) plain)
+    stays_all items (item ∷ view) ((or_parts (is_forgetting item) (are_plain items) plain).1)
+    ∙ stays item view ((or_parts (is_forgetting item) (are_plain items) plain).0)
 
 -- ---- items without an up
 
 kept_down : (dismissing up : Bool) → up ≡ false → (if dismissing then false else up) ≡ false
 kept_down true up down = refl
 kept_down false up down = down
-
-no_items : (b : Bool) (items : List Item) → items ≡ [] → cond b items [] ≡ []
-no_items true items none = none
-no_items false items none = refl
 
 down_still : (item : Item) (view : List Item) → is_coming item ≡ false → is_up view ≡ false → is_up (item ∷ view) ≡ false
 down_still Up view going down = absurd (true≢false going)
@@ -135,8 +123,8 @@ silent_items : (s : Settings) (view items : List Item) → is_up view ≡ false 
     → (sent_for s view items ≡ []) × (is_up (with_items items view) ≡ false)
 silent_items s view [] down going = (refl, down)
 silent_items s view (item ∷ items) down going =
-    let first = first_false (is_coming item) (list_any is_coming items) going in
-    let rest = silent_items s (item ∷ view) items (down_still item view first down) (second_false (is_coming item) (list_any is_coming items) going) in
+    let first = (or_parts (is_coming item) (list_any is_coming items) going).0 in
+    let rest = silent_items s (item ∷ view) items (down_still item view first down) ((or_parts (is_coming item) (list_any is_coming items) going).1) in
     (ap₂ (λ (a b : List (List ℕ)). a ++ b) (ap (λ answer. answer.to_slice) (silent s view item down first)) rest.0, rest.1)
 
 plain_no_up : (item : Item) → is_forgetting item ≡ false → is_coming item ≡ false
@@ -158,7 +146,7 @@ plain_no_up End plain = refl
 plain_none : (items : List Item) → are_plain items ≡ false → list_any is_coming items ≡ false
 plain_none [] plain = refl
 plain_none (item ∷ items) plain =
-    rw (plain_no_up item (first_false (is_forgetting item) (are_plain items) plain)) (plain_none items (second_false (is_forgetting item) (are_plain items) plain))
+    rw (plain_no_up item ((or_parts (is_forgetting item) (are_plain items) plain).0)) (plain_none items ((or_parts (is_forgetting item) (are_plain items) plain).1))
 
 one_none : (b : Bool) (item : Item) → is_coming item ≡ false → list_any is_coming (if b then item ∷ [] else []) ≡ false
 one_none true item going = rw going refl
@@ -250,7 +238,7 @@ one_silent policy slot h timed still (inl down) =
     (both.0, and_false (is_open (phase_after (phase_of h) timed.event)) (is_up (with_items items view)) both.1)
 one_silent policy slot h timed still (inr ended) =
     let items = items_of policy slot (switch_of h) (side_of policy slot h) timed in
-    let none : items ≡ [] = ap (λ (phase : Phase). cond (is_slot policy slot) (phase_items policy slot (switch_of h) (view_of policy slot h) timed phase) []) ended ∙ no_items (is_slot policy slot) [] refl in (
+    let none : items ≡ [] = ap (λ (phase : Phase). cond (is_slot policy slot) (phase_items policy slot (switch_of h) (view_of policy slot h) timed phase) []) ended ∙ either_none (is_slot policy slot) [] refl in (
       ap (λ (shown : List Item). sent_for (settings_at policy slot (opening_of h)) (view_of policy slot h) shown) none,
       ap (λ (phase : Phase). is_open (phase_after phase timed.event) && is_up (view_of policy slot (timed ∷ h))) ended,
     )
@@ -258,8 +246,8 @@ one_silent policy slot h timed still (inr ended) =
 pub until_up : (policy : PolicyView) (slot : ℕ) (later h : List Timed) → IsSilentUntilUp policy slot later h
 until_up policy slot [] h down none = record { silent = refl; still_down = down }
 until_up policy slot (timed ∷ later) h down none =
-    let before = until_up policy slot later h down (second_false (is_up_of slot timed) (list_any (is_up_of slot) later) none) in
-    let now = one_silent policy slot (later ++ h) timed (first_false (is_up_of slot timed) (list_any (is_up_of slot) later) none)
+    let before = until_up policy slot later h down ((or_parts (is_up_of slot timed) (list_any (is_up_of slot) later) none).1) in
+    let now = one_silent policy slot (later ++ h) timed ((or_parts (is_up_of slot timed) (list_any (is_up_of slot) later) none).0)
     (down_in policy slot (later ++ h) (phase_of (later ++ h)) refl before.still_down) in
     record {
       silent = ap₂ (λ (a b : List (List ℕ)). a ++ b) before.silent now.0 ∙ append-nil (sent policy slot h);
@@ -268,9 +256,6 @@ until_up policy slot (timed ∷ later) h down none =
 
 -- ---- a connection that ended
 
-same_slot : (slot : ℕ) → (slot == slot) ≡ true
-same_slot slot = eq-eqb slot slot refl
-
 -- a slot that no slice has sees nothing
 nowhere : (policy : PolicyView) (slot : ℕ) (h : List Timed) → is_slot policy slot ≡ false → view_of policy slot h ≡ []
 nowhere policy slot [] out = refl
@@ -278,7 +263,7 @@ nowhere policy slot (timed ∷ h) out = rw out (nowhere policy slot h out)
 
 down_in_view : (policy : PolicyView) (slot moment : ℕ) (switch : Switch) (view : List Item) (here : Bool) → (here ≡ false → view ≡ [])
     → is_up (with_items (cond here (event_items policy slot switch view moment (SliceDown slot)) []) view) ≡ false
-down_in_view policy slot moment switch view true out = rw (same_slot slot) refl
+down_in_view policy slot moment switch view true out = rw (eq-eqb slot slot refl) refl
 down_in_view policy slot moment switch view false out = ap is_up (out refl)
 
 down_at : (policy : PolicyView) (slot moment : ℕ) (h : List Timed) (phase : Phase) → phase_of h ≡ phase → IsDownAfterDown policy slot moment h

@@ -1,7 +1,7 @@
 -- The messages of the pieces one after the other, and their sizes.
 use Rattle.std.proofs.Common.{◌≡◌, ℕ, zero, suc, ◌+◌, ◌-◌, ◌<◌, ◌≤◌, ◌⊎◌, inl, inr, Bool, true, false, ◌||◌, nat_lt, if◌then◌else◌, List, [], ◌∷◌, ◌++◌, length, take, get_or, sum_by, All, Option, refl, sym, ◌∙◌, ap, arith}
 use Rattle.std.specs.List.{list_any}
-use Rattle.std.proofs.lemmas.Bool.{lt-ltb, le-ltb, or_left, or_right, cases_lt, true≢false}
+use Rattle.std.proofs.lemmas.Bool.{lt-ltb, le-ltb, or_left, or_right, cases_lt, true≢false, or_parts}
 use Rattle.std.proofs.lemmas.List.{get_or-map, length-map, take_more}
 use Rattle.std.proofs.lemmas.List.Elements.{All-push}
 use Rattle.std.proofs.lemmas.List.Folds.{list_any_at, list_any_none}
@@ -82,11 +82,6 @@ fits frames room left small =
     let none = list_any_none (λ bytes. nat_lt 65535 (length bytes)) frames (λ k d lt. le-ltb 65535 (length (get_or frames k d)) (small k d lt)) in
     rw (le-ltb 262144 (sum_by length frames) (omega arith), none) refl
 
--- the sizes of messages that aren't too large
-or_none : (a b : Bool) → (a || b) ≡ false → (a ≡ false) × (b ≡ false)
-or_none true b e = absurd (true≢false e)
-or_none false b e = (refl, e)
-
 not_above : (a b : ℕ) → nat_lt a b ≡ false → b ≤ a
 not_above a b e =
     elim (cases_lt a b) [
@@ -100,7 +95,7 @@ each_within messages none k d lt false e = not_above 65535 (length (get_or messa
 
 pub sizes_within : (messages : List (List ℕ)) → are_too_large messages ≡ false → All (λ bytes. length bytes ≤ 65535) messages
 sizes_within messages e k d lt =
-    each_within messages (or_none (nat_lt 262144 (sum_by length messages)) (list_any (λ bytes. nat_lt 65535 (length bytes)) messages) e).1 k d lt (nat_lt 65535 (length (get_or messages k d))) refl
+    each_within messages (or_parts (nat_lt 262144 (sum_by length messages)) (list_any (λ bytes. nat_lt 65535 (length bytes)) messages) e).1 k d lt (nat_lt 65535 (length (get_or messages k d))) refl
 
 -- ---- what the walk over the pieces makes at a place
 

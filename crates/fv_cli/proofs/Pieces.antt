@@ -4,10 +4,7 @@ use Rattle.std.proofs.lemmas.Grind.{common_steps}
 use Rattle.fv_base.specs.Told.{appended, IsPrefix}
 use Rattle.fv_cli.specs.declared.lines.Piece.{Piece}
 use Rattle.fv_cli.specs.Lines.{piece_text, whole_text}
-
-pub appended-twice : (told : Option (List ℕ)) (first second : List ℕ) → appended (appended told first) second ≡ appended told (first ++ second)
-appended-twice None first second = refl
-appended-twice (Some before) first second = ap Some (append_assoc before first second)
+use Rattle.fv_report.proofs.Writing.{appended_twice}
 
 -- the whole is what stands before a piece, the piece, and what stands behind it
 pub whole-split : (pieces : List Piece) (i : ℕ) (other : Piece) → i < length pieces → whole_text pieces ≡ whole_text (take i pieces) ++ (piece_text (get_or pieces i other) ++ whole_text (drop (suc i) pieces))
@@ -43,7 +40,7 @@ pub piece-put : (pieces : List Piece) (i : ℕ) (other : Piece) (old before afte
 piece-put pieces i other old before after h so-far now =
     now
     ∙ ap (λ told. appended told (piece_text (get_or pieces i other))) so-far
-    ∙ appended-twice old (whole_text (take i pieces)) (piece_text (get_or pieces i other))
+    ∙ appended_twice old (whole_text (take i pieces)) (piece_text (get_or pieces i other))
     ∙ ap (λ text. appended old text) (sym (whole-more pieces i other h))
     ∙ ap (λ n. appended old (whole_text (take n pieces))) (sym (add-one i))
 
@@ -56,4 +53,4 @@ part-put pieces i other old before after put h so-far (rest, is) now =
     let behind = whole_text (drop (suc i) pieces) in
     let split : whole_text pieces ≡ front ++ ((put ++ rest) ++ behind) = whole-split pieces i other h ∙ ap (λ text. front ++ (text ++ behind)) (sym is) in
     let grouped : (front ++ put) ++ (rest ++ behind) ≡ front ++ ((put ++ rest) ++ behind) = grind (arith, common_steps) in
-    (front ++ put, (rest ++ behind, grouped ∙ sym split), now ∙ ap (λ told. appended told put) so-far ∙ appended-twice old front put)
+    (front ++ put, (rest ++ behind, grouped ∙ sym split), now ∙ ap (λ told. appended told put) so-far ∙ appended_twice old front put)

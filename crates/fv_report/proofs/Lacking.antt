@@ -17,6 +17,7 @@ use Rattle.fv_report.specs.Streams.{AreFresh, Restarts, TookFrame, connection, S
 use Rattle.fv_report.specs.Switches.{told_by}
 use Rattle.fv_report.specs.Lacks.{is_unbuilt, FoundIn, FindsIn, FindsInBytes, FindsAtSlot, FindsAt, AllFresh, AllStream, lack_at, lack_seen}
 use Rattle.fv_report.proofs.Recorded.{streams_up, streams_heard, streams_slice_up, streams_slice_heard, stream_by, stream_other, set_get, set_length}
+use Rattle.fv_report.proofs.Running.{streams_other}
 
 abbrev is_there : {X : Type 0} → Option X → Bool
 is_there None = false
@@ -134,9 +135,6 @@ each_more P [] new each own (suc at) x is = absurd (true≢false (sym (ap is_the
 each_more P (first ∷ others) new each own zero x is = each 0 x is
 each_more P (first ∷ others) new each own (suc at) x is = each_more P others new (λ k y g. each (suc k) y g) own at x is
 
--- a record of one switch leaves the streams of another
-streams_other : (slices switch : ℕ) (r : Told) (before : List Told) (streams : Streams) → (r.switch == switch) ≡ false → StreamsStand slices switch before streams → StreamsStand slices switch (r ∷ before) streams
-streams_other slices switch r before streams is stands = record {
   of_switch = subst (λ (bytes : List ℕ). Stands streams.switch bytes (frames_of bytes)) (sym (stream_other switch switch_bytes 0 r before is)) stands.of_switch;
   number = stands.number;
   of_slices = λ at framer g. subst (λ (bytes : List ℕ). Stands framer bytes (frames_of bytes)) (sym (stream_other switch slice_bytes at r before is)) (stands.of_slices at framer g);

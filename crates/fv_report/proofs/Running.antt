@@ -2,7 +2,7 @@
 use Rattle.std.proofs.Common.{◌≡◌, ◌+◌, ◌<◌, ◌≤◌, ◌==◌, ◌||◌, ℕ, zero, suc, Bool, true, false, List, [], ◌∷◌, ◌++◌, drop, take, set, length, refl, sym, ap, ◌∙◌, append_assoc, subst, eqb-true, Option, Some, None, Result, Ok, Err, slice_get, get_or, add-one, arith}
 use Rattle.std.specs.Result.{IsErr}
 use Rattle.std.proofs.lemmas.List.Elements.{All-nil}
-use Rattle.std.proofs.lemmas.Bool.{cases_Bool}
+use Rattle.std.proofs.lemmas.Bool.{cases_Bool, or_parts}
 use Rattle.std.proofs.Common.{inl, inr}
 use Rattle.fv_base.specs.Told.{appended}
 use Rattle.of10_ctl.specs.Streams.{Stream, Stands, frames_of}
@@ -23,19 +23,15 @@ use Rattle.fv_report.specs.Switches.{told_by, IsFreshSwitch, SwitchStands, Recor
 use Rattle.fv_report.proofs.Writing.{both, part_of_first, part_of_second, at_fault, no_ok, none_of, wrote_second}
 use Rattle.fv_report.proofs.Recorded.{no_frames, history_other, stream_other, set_get, set_length}
 
-neither : (a b : Bool) → (a || b) ≡ false → (a ≡ false) × (b ≡ false)
-neither true b is = absurd cc
-neither false b is = (refl, is)
-
 -- ---- a switch of which nothing came
 
 no_stream : (switch kind slot : ℕ) (before : List Told) → IsUntouched switch before → stream_before (connection switch kind slot) before ≡ []
 no_stream switch kind slot [] none = refl
-no_stream switch kind slot (r ∷ before) none = let parts = neither (r.switch == switch) _ none in stream_other switch kind slot r before parts.0 ∙ no_stream switch kind slot before parts.1
+no_stream switch kind slot (r ∷ before) none = let parts = or_parts (r.switch == switch) _ none in stream_other switch kind slot r before parts.0 ∙ no_stream switch kind slot before parts.1
 
 no_history : (p : PolicyView) (switch : ℕ) (before : List Told) → IsUntouched switch before → history_of p switch before ≡ []
 no_history p switch [] none = refl
-no_history p switch (r ∷ before) none = let parts = neither (r.switch == switch) _ none in history_other p switch r before parts.0 ∙ no_history p switch before parts.1
+no_history p switch (r ∷ before) none = let parts = or_parts (r.switch == switch) _ none in history_other p switch r before parts.0 ∙ no_history p switch before parts.1
 
 unfed : (switch kind slot : ℕ) (before : List Told) (framer : Stream) → IsUntouched switch before → Stands framer [] [] → StreamStands (connection switch kind slot) before framer
 unfed switch kind slot before framer none stands = subst (λ (bytes : List ℕ). Stands framer bytes (frames_of bytes)) (sym (no_stream switch kind slot before none)) (subst (Stands framer []) no_frames stands)

@@ -23,7 +23,7 @@ use Rattle.proxy_core.proofs.Standing.{passes, ends_slot, session_goes}
 
 -- ---- slots that no slice has, and slots before the opening
 
-either_empty : (b : Bool) (q : Queue) → q ≡ no_messages → (if b then no_messages else q) ≡ no_messages
+pub either_empty : (b : Bool) (q : Queue) → q ≡ no_messages → (if b then no_messages else q) ≡ no_messages
 either_empty true q is = refl
 either_empty false q is = is
 

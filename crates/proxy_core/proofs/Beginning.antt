@@ -28,15 +28,9 @@ use Rattle.proxy_core.specs.Desks.{SlotStands, SessionStands, Opens, Coherent, s
 use Rattle.proxy_core.specs.Opening.{Begins}
 use Rattle.proxy_core.proofs.Lists.{none_some, there, within}
 use Rattle.proxy_core.proofs.Fitting.{settings_known}
+use Rattle.desk_words.proofs.Seen.{no_kind}
 
 -- ---- messages of a bad length
-
-no_kind : (right kind bad : Bool) → bad ≡ true → (right && kind && not bad) ≡ false
-no_kind true true true is = refl
-no_kind true false true is = refl
-no_kind false true true is = refl
-no_kind false false true is = refl
-no_kind right kind false is = absurd (true≢false (sym is))
 
 pub bad_features : (message : List ℕ) → is_bad message ≡ true → features_told message ≡ None
 bad_features message bad = rw (no_kind (version_of message == 1) (is_kind FEATURES_REPLY message) (is_bad message) bad) refl

@@ -1,6 +1,7 @@
 -- Operations: what a desk stands for with one step or one take more.
 use Rattle.std.proofs.Common.{◌≡◌, ℕ, suc, arith, ◌+◌, ◌^◌, ◌||◌, ◌==◌, leb, not, Bool, true, false, if◌then◌else◌, List, [], ◌∷◌, length, slice_get, refl, ap, ap₂, sym, ◌∙◌, true≢false, Option, Some, None, Ok, Err}
 use Rattle.std.specs.declared.alloc.AllocError.{AllocError}
+use Rattle.std.proofs.lemmas.Bool.{or_parts}
 use Rattle.flowspace.specs.Policies.{PolicyView}
 use Rattle.outbox.specs.Queues.{Queue, without_first}
 use Rattle.desk_words.specs.declared.event.Timed.{Timed}
@@ -40,10 +41,6 @@ counted p ops n desk b is = record {
   events = is;
 }
 
-not_ended : (a b : Bool) → (a || b) ≡ false → a ≡ false
-not_ended true b is = is
-not_ended false b is = refl
-
 closing_of : (b c : Bool) → b ≡ not c → c ≡ not b
 closing_of b true is = sym (ap not is)
 closing_of b false is = sym (ap not is)
@@ -62,14 +59,14 @@ pub stepped : (p : PolicyView) (ops : List Operation) (timed : Timed) (go : Bool
     → Acts old timed go new → n ≡ old.events + 1 → Replied p ops timed (Ok (if go then Go else Close)) (record new { events = n })
 stepped p ops timed true old new n s is acts count =
     let on = over_is p ops old false s is in
-    let acted = acts p _ _ _ _ (coherent p (events_of ops)) s.body (not_ended (is_ended (phase_of (events_of ops))) (leb (2 ^ 60) (length (events_of ops))) on) in
+    let acted = acts p _ _ _ _ (coherent p (events_of ops)) s.body ((or_parts (is_ended (phase_of (events_of ops))) (leb (2 ^ 60) (length (events_of ops))) on).0) in
     record {
       right = go_on (is_over (events_of ops)) (closes p (events_of ops) timed) on (closing_of true (closes p (events_of ops) timed) acted.goes_on);
       stands = counted p (Step timed (Ok Go) ∷ ops) n new acted.body (one_longer n old.events (length (events_of ops)) count s.events);
     }
 stepped p ops timed false old new n s is acts count =
     let on = over_is p ops old false s is in
-    let acted = acts p _ _ _ _ (coherent p (events_of ops)) s.body (not_ended (is_ended (phase_of (events_of ops))) (leb (2 ^ 60) (length (events_of ops))) on) in
+    let acted = acts p _ _ _ _ (coherent p (events_of ops)) s.body ((or_parts (is_ended (phase_of (events_of ops))) (leb (2 ^ 60) (length (events_of ops))) on).0) in
     record {
       right = close_it (is_over (events_of ops)) (closes p (events_of ops) timed) on (closing_of false (closes p (events_of ops) timed) acted.goes_on);
       stands = counted p (Step timed (Ok Close) ∷ ops) n new acted.body (one_longer n old.events (length (events_of ops)) count s.events);

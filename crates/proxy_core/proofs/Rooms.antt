@@ -1,7 +1,7 @@
 -- Queues and states, as they are made; the places of a session; and loops over messages.
 use Rattle.std.proofs.Common.{◌≡◌, ℕ, ◌+◌, ◌<◌, ◌&&◌, Bool, true, false, List, [], ◌∷◌, ◌++◌, length, set, slice_get, refl, ap, ap₂, sym, ◌∙◌, subst, true≢false, inl, inr, Option, Some, None, arith}
 use Rattle.std.specs.Prelude.{ltb}
-use Rattle.std.proofs.lemmas.Bool.{ltb-true}
+use Rattle.std.proofs.lemmas.Bool.{ltb-true, and_parts}
 use Rattle.std.proofs.lemmas.List.{length-append, length-set}
 use Rattle.flowspace.specs.declared.slices.Slice.{Slice}
 use Rattle.flow_book.specs.declared.state.SliceState.{SliceState}
@@ -49,19 +49,15 @@ one_longer xs zs x n is count = ap length is ∙ length-append xs (x ∷ []) ∙
 
 -- ---- one slot of a session
 
-and_first : (a b : Bool) → (a && b) ≡ true → a ≡ true
-and_first true b is = refl
-and_first false b is = is
-
 and_second : (a b : Bool) → (a && b) ≡ true → b ≡ true
 and_second true b is = is
 and_second false b is = absurd (true≢false (sym is))
 
 pub in_states : (session : Session) (slot : ℕ) → has_slot session slot ≡ true → slot < length session.states.items
-in_states session slot is = ltb-true slot (length session.states.items) (and_first (ltb slot (length session.states.items)) (ltb slot (length session.queues.items)) is)
+in_states session slot is = ltb-true slot (length session.states.items) ((and_parts (ltb slot (length session.states.items)) (ltb slot (length session.queues.items)) is).0)
 
 pub there_up : (session : Session) (slot : ℕ) → is_up_at session slot ≡ true → has_slot session slot ≡ true
-there_up session slot is = and_first (has_slot session slot) (elim (slice_get session.states.items slot) as (λ o. Bool) [ None ↦ false | Some state ↦ state.up ]) is
+there_up session slot is = (and_parts (has_slot session slot) (elim (slice_get session.states.items slot) as (λ o. Bool) [ None ↦ false | Some state ↦ state.up ]) is).0
 
 pub in_queues : (session : Session) (slot : ℕ) → has_slot session slot ≡ true → slot < length session.queues.items
 in_queues session slot is = ltb-true slot (length session.queues.items) (and_second (ltb slot (length session.states.items)) (ltb slot (length session.queues.items)) is)

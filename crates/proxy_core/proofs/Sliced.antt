@@ -1,7 +1,7 @@
 -- A desk with a session after an event of a slice's connection.
 use Rattle.std.proofs.Common.{◌≡◌, ℕ, ◌==◌, ◌&&◌, ◌||◌, not, Bool, true, false, if◌then◌else◌, List, [], ◌∷◌, map, slice_get, refl, ap, ap₂, subst, sym, ◌∙◌, true≢false, eqb-true, append-nil, inl, inr, Option, Some, None}
 use Rattle.std.specs.Prelude.{ltb}
-use Rattle.std.proofs.lemmas.Bool.{cases_Bool, eq-eqb}
+use Rattle.std.proofs.lemmas.Bool.{cases_Bool, eq-eqb, and_parts}
 use Rattle.std.specs.List.{filter}
 use Rattle.flowspace.specs.Rules.{is_written_by}
 use Rattle.flowspace.specs.Policies.{PolicyView}
@@ -190,10 +190,6 @@ up_state p switch sides qs a slot s here =
     let y = there a.queues.items slot (subst (λ (n : ℕ). ltb slot n ≡ true) (sym s.queues_count) here) in
     up_there a slot x.0 true (slots_are p switch sides qs a slot s ∙ here) x.1 ∙ (s.each slot x.0 y.0 x.1 y.1).state_stands.up
 
-first_true : (a b : Bool) → (a && b) ≡ true → a ≡ true
-first_true true b is = refl
-first_true false b is = is
-
 pub heard_up : (old new : Desk) (a b : Session) (slot moment : ℕ) (message : List ℕ) (on : Bool) → old.session ≡ Some a → new.policy ≡ old.policy → new.phase ≡ old.phase → new.session ≡ Some b
     → is_up_at a slot ≡ true → AtSlot slot (λ x y z w. Hears a.policy a.ports a.features slot message moment on x y old.lane z w new.lane) a b
     → Acts old (record { event = SliceMsg slot message; moment = moment }) on new
@@ -202,7 +198,7 @@ heard_up old new a b slot moment message on was policy phase now is at p switch 
     let stands = stands_in p switch sides qs a old.session was body.opens in
     let opened = is_opened p switch sides qs a fit stands alive in
     let still = slices_switch switch (SliceMsg slot message) refl in
-    let here : is_slot p slot ≡ true = sym (slots_are p switch sides qs a slot stands) ∙ first_true (has_slot a slot) (elim (slice_get a.states.items slot) as (λ o. Bool) [ None ↦ false | Some k ↦ k.up ]) is in
+    let here : is_slot p slot ≡ true = sym (slots_are p switch sides qs a slot stands) ∙ (and_parts (has_slot a slot) (elim (slice_get a.states.items slot) as (λ o. Bool) [ None ↦ false | Some k ↦ k.up ]) is).0 in
     let up : is_up (sides slot).sight.view ≡ true = sym (up_state p switch sides qs a slot stands here) ∙ is in
     let x = there a.states.items slot (subst (λ (n : ℕ). ltb slot n ≡ true) (sym stands.states_count) here) in
     let y = there a.queues.items slot (subst (λ (n : ℕ). ltb slot n ≡ true) (sym stands.queues_count) here) in

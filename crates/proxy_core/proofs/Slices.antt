@@ -110,27 +110,24 @@ others_msg p switch sides slot moment message i far =
 
 -- ---- the slice itself
 
-same_slot : (slot : ℕ) → (slot == slot) ≡ true
-same_slot slot = eq-eqb slot slot refl
-
 both : (here own : Bool) (items : List Item) → here ≡ true → own ≡ true → (if here then (if own then items else []) else []) ≡ items
 both here own items is too = rw (is, too) refl
 
 pub shown_up : (p : PolicyView) (switch : Switch) (side : Side) (slot moment : ℕ) → switch.phase ≡ Opened → is_slot p slot ≡ true
     → items_of p slot switch side (record { event = SliceUp slot; moment = moment }) ≡ Up ∷ []
 shown_up p switch side slot moment opened here =
-    items_opened p slot switch side (record { event = SliceUp slot; moment = moment }) opened ∙ both (is_slot p slot) (slot == slot) (Up ∷ []) here (same_slot slot)
+    items_opened p slot switch side (record { event = SliceUp slot; moment = moment }) opened ∙ both (is_slot p slot) (slot == slot) (Up ∷ []) here (eq-eqb slot slot refl)
 
 pub shown_down : (p : PolicyView) (switch : Switch) (side : Side) (slot moment : ℕ) → switch.phase ≡ Opened → is_slot p slot ≡ true
     → items_of p slot switch side (record { event = SliceDown slot; moment = moment }) ≡ Down ∷ []
 shown_down p switch side slot moment opened here =
-    items_opened p slot switch side (record { event = SliceDown slot; moment = moment }) opened ∙ both (is_slot p slot) (slot == slot) (Down ∷ []) here (same_slot slot)
+    items_opened p slot switch side (record { event = SliceDown slot; moment = moment }) opened ∙ both (is_slot p slot) (slot == slot) (Down ∷ []) here (eq-eqb slot slot refl)
 
 pub shown_msg : (p : PolicyView) (switch : Switch) (side : Side) (slot moment : ℕ) (message : List ℕ) → switch.phase ≡ Opened → is_slot p slot ≡ true → is_up side.sight.view ≡ true
     → items_of p slot switch side (record { event = SliceMsg slot message; moment = moment }) ≡ Msg message moment ∷ []
 shown_msg p switch side slot moment message opened here up =
     items_opened p slot switch side (record { event = SliceMsg slot message; moment = moment }) opened
-    ∙ both (is_slot p slot) (slot == slot && is_up side.sight.view) (Msg message moment ∷ []) here (ap₂ (λ (a b : Bool). a && b) (same_slot slot) up)
+    ∙ both (is_slot p slot) (slot == slot && is_up side.sight.view) (Msg message moment ∷ []) here (ap₂ (λ (a b : Bool). a && b) (eq-eqb slot slot refl) up)
 
 -- who is up after an event of a slice, by what it shows
 up_by : (p : PolicyView) (switch : Switch) (sides : ℕ → Side) (timed : Timed) (slot : ℕ) (items : List Item) → switch.phase ≡ Opened → items_of p slot switch (sides slot) timed ≡ items
@@ -150,7 +147,7 @@ comes_slot p switch sides qs slot moment a b x y opened here stands comes =
     let timed : Timed = record { event = SliceUp slot; moment = moment } in
     slot_after p switch sides qs timed slot (Up ∷ []) true x y
     (shown_up p switch (sides slot) slot moment opened here)
-    (ap₂ (λ (a b : Bool). a && b) (same_slot slot) (up_comes p switch sides slot moment opened here))
+    (ap₂ (λ (a b : Bool). a && b) (eq-eqb slot slot refl) (up_comes p switch sides slot moment opened here))
     (comes.0 (settings_at p slot switch.features) (sides slot).sight stands.state_stands, comes.1 _ (qs slot) stands.queue_stands)
 
 down_sent : (up : Bool) (view : List Item) (s : Settings) → is_up view ≡ up → sent_for s view (Down ∷ []) ≡ []
@@ -163,7 +160,7 @@ pub goes_slot : (p : PolicyView) (switch : Switch) (sides : ℕ → Side) (qs : 
 goes_slot p switch sides qs slot moment a b x y opened here stands goes =
     let timed : Timed = record { event = SliceDown slot; moment = moment } in
     slot_after p switch sides qs timed slot (Down ∷ []) true x y
-    (shown_down p switch (sides slot) slot moment opened here) (same_slot slot) (
+    (shown_down p switch (sides slot) slot moment opened here) (eq-eqb slot slot refl) (
       goes.0 (settings_at p slot switch.features) (sides slot).sight stands.state_stands,
       subst (λ (m : List (List ℕ)). QueueStands slice_limit (push_all slice_limit no_messages m) y) (sym (down_sent (is_up (sides slot).sight.view) (sides slot).sight.view (settings_at p slot switch.features) refl))
           (goes.1 _ (qs slot) stands.queue_stands),

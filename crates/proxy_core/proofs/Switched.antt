@@ -38,6 +38,7 @@ use Rattle.proxy_core.proofs.Standing.{items_opened, session_goes}
 use Rattle.proxy_core.proofs.Handed.{slot_sent}
 use Rattle.proxy_core.proofs.Acting.{body_after, still_none, session_ends, lane_more, lane_ends}
 use Rattle.proxy_core.proofs.Beginning.{bad_features, bad_echo, told_good, session_begins}
+use Rattle.desk_words.proofs.Seen.{bad_untold}
 
 -- ---- a message of a switch that hasn't told what it is
 
@@ -80,13 +81,6 @@ begun_still p switch sides qs moment message session fit begun none opens =
     subst (λ (o : Option Session). Opens p (switch_after switch (SwitchMsg message)) (sides_after p switch sides (told_at moment message)) (queues_after p switch sides qs (told_at moment message)) o) (sym empty)
     (still_none p switch sides qs (told_at moment message) fit (subst (λ (o : Option Session). Opens p switch sides qs o) empty opens)
     (ap (λ (k : Phase). opening_after k None (SwitchMsg message)) begun ∙ none))
-
-no_kind : (right kind bad : Bool) → bad ≡ true → (right && kind && not bad) ≡ false
-no_kind true true true is = refl
-no_kind true false true is = refl
-no_kind false true true is = refl
-no_kind false false true is = refl
-no_kind right kind false is = absurd (true≢false (sym is))
 
 abbrev is_kept_answer : Answer → Bool
 is_kept_answer IsKept = true
@@ -150,15 +144,12 @@ bad_shown : (p : PolicyView) (slot : ℕ) (switch : Switch) (view : List Item) (
 unfolding message_items
 bad_shown p slot switch view message bad = rw bad refl
 
-bad_status : (message : List ℕ) → is_bad message ≡ true → status_told message ≡ None
-bad_status message bad = rw (no_kind (version_of message == 1) (is_kind PORT_STATUS message) (is_bad message) bad) refl
-
 -- the session of a switch that ends
 pub bad_ends : (p : PolicyView) (switch : Switch) (sides : ℕ → Side) (qs : ℕ → Queue) (moment : ℕ) (message : List ℕ) (session : Session) → SessionStands p switch sides qs session → switch.phase ≡ Opened → is_bad message ≡ true
     → SessionStands p (switch_after switch (SwitchMsg message)) (sides_after p switch sides (told_at moment message)) (queues_after p switch sides qs (told_at moment message)) session
 bad_ends p switch sides qs moment message session stands open_ bad =
     session_ends p switch sides qs (told_at moment message) session stands
-    (ap (λ (k : Phase). known_after k switch.known (SwitchMsg message)) open_ ∙ ap (λ (t : Option PortStatus). elim t [ None ↦ switch.known | Some status ↦ changed status switch.known ]) (bad_status message bad))
+    (ap (λ (k : Phase). known_after k switch.known (SwitchMsg message)) open_ ∙ ap (λ (t : Option PortStatus). elim t [ None ↦ switch.known | Some status ↦ changed status switch.known ]) (bad_untold message bad))
     (λ slot here. items_opened p slot switch (sides slot) (told_at moment message) open_
     ∙ ap₂ (λ (b : Bool) (items : List Item). if b then items else []) here (bad_shown p slot switch (sides slot).sight.view message bad))
     (λ slot. refl)

@@ -1,6 +1,6 @@
 -- The fault that is answered at a place is what is wrong there.
 use Rattle.std.proofs.Common.{◌≡◌, ℕ, ◌+◌, ◌-◌, ◌≤◌, ◌<◌, ◌^◌, Bool, true, false, cond, not, ltb, List, [], ◌++◌, length, take, drop, replicate, inl, inr, Result, Err, refl, sym, ap, subst, ◌∙◌, append_assoc, arith}
-use Rattle.std.proofs.lemmas.Bool.{cases_lt, ltb-true, ltb-false, lt-ltb, le-ltb, false_from_ne_true}
+use Rattle.std.proofs.lemmas.Bool.{cases_lt, ltb-true, ltb-false, lt-ltb, le-ltb, false_from_ne_true, not-true, not-false}
 use Rattle.std.proofs.lemmas.List.{append-nil, length-append, length-drop, length-take-le, take-append-le, length-replicate, drop-take}
 use Rattle.byteorder.specs.Endian.{big_number}
 use Rattle.byteorder.specs.Numbers.{big_from-lt, big_from-take}
@@ -11,7 +11,7 @@ use Rattle.recording.specs.declared.fault.RecordingFault.TheVariants.{Torn, Bad,
 use Rattle.recording.specs.Recordings.{Told, told_at, spell, head_spelling, item_at, is_formed, fits, record_at}
 use Rattle.recording.specs.Faults.{HasForm, HasNoForm, IsCutOff, IsUnfit, IsFaultAt}
 use Rattle.recording.proofs.Told.{number_first, number_behind, spell_length, kind_again, switch_again, slot_again, zero_again, size_again, small, head_again, with_rest}
-use Rattle.recording.proofs.Untold.{AreBytes, bytes-drop, head_spelled, zero_formed, not-false, size_at, told_spelled}
+use Rattle.recording.proofs.Untold.{AreBytes, bytes-drop, head_spelled, zero_formed, size_at, told_spelled}
 
 -- ---- heads
 
@@ -66,10 +66,6 @@ form_with slices front rest body bytes is formed =
     (none, (head, big_from-lt 0 8 (drop 8 rest) (λ k. bytes-drop rest 8 bytes k)))
 
 -- ---- what is wrong
-
-not-true : (b : Bool) → not b ≡ true → b ≡ false
-not-true true e = absurd cc
-not-true false e = refl
 
 no_form : (slices : ℕ) (front rest : List ℕ) → 16 ≤ length rest → is_formed slices (number_at (front ++ rest) (length front + 3) 1) (item_at (front ++ rest) (length front)) ≡ false → HasNoForm slices (length front) rest
 no_form slices front rest long bad = (long, λ t form e. absurd (let h = (head_told slices front rest t form.0 e).0 in cc))

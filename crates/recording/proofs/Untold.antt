@@ -3,7 +3,7 @@ use Rattle.std.proofs.Common.{◌≡◌, ℕ, zero, suc, ◌+◌, ◌-◌, ◌*�
 use Rattle.std.specs.List.{All, flat_map}
 use Rattle.std.proofs.Math.Seq.{drop-append_seam}
 use Rattle.std.proofs.lemmas.Slice.Eq.{bytes_eq-Decides}
-use Rattle.std.proofs.lemmas.Bool.{cases_lt, and_parts, ltb-false, le-leb, lt-leb}
+use Rattle.std.proofs.lemmas.Bool.{cases_lt, and_parts, ltb-false, le-leb, lt-leb, not-false}
 use Rattle.std.proofs.lemmas.List.{length-append, length-drop, get_or-drop, get_or_past, take-append-drop, length-take-le}
 use Rattle.std.proofs.lemmas.List.Elements.{All-cons}
 use Rattle.std.proofs.lemmas.List.Concat.{flat_map-cons}
@@ -15,6 +15,7 @@ use Rattle.recording.specs.declared.fault.RecordingFault.{RecordingFault}
 use Rattle.recording.specs.declared.fault.RecordingFault.TheVariants.{Torn, Bad, NotOpen}
 use Rattle.recording.specs.Recordings.{◌>>=◌, Told, HasMoment, told_at, all_told, may_be_told, recording, spell, magic, head_spelling, item_at, byte_limit, is_formed, fits, record_at, items_from, read_items}
 use Rattle.recording.proofs.Told.{number_first, number_behind, spell_length}
+use Rattle.recording.proofs.Walk.{passed, ok_is}
 
 -- each element is a byte, and so is the 0 that is read past the end
 abbrev pub AreBytes : List ℕ → Type 0
@@ -108,19 +109,8 @@ head_spelled (x0 ∷ x1 ∷ x2 ∷ x3 ∷ x4 ∷ x5 ∷ x6 ∷ x7 ∷ x8 ∷ x9 
 abbrev pub told_of : List ℕ → ℕ → Told
 told_of xs size = record { kind = number_at xs 0 1; switch = number_at xs 1 1; slot = number_at xs 2 1; moment = number_at xs 8 8; bytes = take size (drop 16 xs) }
 
-passed : {A : Type 0} (b : Bool) (fault : RecordingFault) (r : Result A RecordingFault) (x : A) → cond b (Err fault) r ≡ Ok x → (b ≡ false) × (r ≡ Ok x)
-passed true fault r x e = absurd cc
-passed false fault r x e = (refl, e)
-
-pub not-false : (b : Bool) → not b ≡ false → b ≡ true
-not-false true e = refl
-not-false false e = absurd cc
-
 abbrev IsOk : Item → Result Item RecordingFault → Type 0
 IsOk y read = read ≡ Ok y
-
-ok_is : (x y : Item) → IsOk y (Ok x) → x ≡ y
-ok_is x y e = cc
 
 -- the bytes spell the record, and what is left
 pub record Begins (slices : ℕ) (front more : List ℕ) (before : List Item) (r : Item) : Type 0 where

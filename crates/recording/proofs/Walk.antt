@@ -9,14 +9,14 @@ use Rattle.recording.specs.declared.fault.RecordingFault.TheVariants.{Torn, Bad,
 use Rattle.recording.specs.Recordings.{◌>>=◌, Fails, item_at, is_formed, fits, record_at, items_from}
 
 -- a test that found no fault
-passed : {A : Type 0} (b : Bool) (fault : RecordingFault) (r : Result A RecordingFault) (x : A) → cond b (Err fault) r ≡ Ok x → (b ≡ false) × (r ≡ Ok x)
+pub passed : {A : Type 0} (b : Bool) (fault : RecordingFault) (r : Result A RecordingFault) (x : A) → cond b (Err fault) r ≡ Ok x → (b ≡ false) × (r ≡ Ok x)
 passed true fault r x e = absurd cc
 passed false fault r x e = (refl, e)
 
 abbrev IsOk : Item → Result Item RecordingFault → Type 0
 IsOk y read = read ≡ Ok y
 
-ok_is : (x y : Item) → IsOk y (Ok x) → x ≡ y
+pub ok_is : (x y : Item) → IsOk y (Ok x) → x ≡ y
 ok_is x y e = cc
 
 -- what a record that is read has: its bytes begin behind its head and lie in the file

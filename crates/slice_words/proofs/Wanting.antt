@@ -1,17 +1,10 @@
 -- How much of a packet a controller wants, by the items of its slice's view.
 use Rattle.std.proofs.Common.{◌≡◌, ℕ, ◌||◌, ◌&&◌, not, Bool, true, false, if◌then◌else◌, List, [], ◌∷◌, ◌++◌, refl, sym, ◌∙◌, true≢false}
 use Rattle.std.specs.List.{list_any}
+use Rattle.std.proofs.lemmas.Bool.{or_parts}
 use Rattle.slice_words.specs.Messages.{is_dismissing, is_setting, miss_send_len_of}
 use Rattle.slice_words.specs.Items.{Item, Opened, Up, Down, Msg, Lost, Handed, Removed, Status, Fault, Barrier, Queues, Entry, Last, End, miss_send_len, is_forgetting}
 use Rattle.slice_words.specs.Laws.{is_set, tells_length, IsSetByTheLast, IsForgotten, IsNeverSet}
-
-first_false : (a b : Bool) → (a || b) ≡ false → a ≡ false
-first_false true b is = is
-first_false false b is = refl
-
-second_false : (a b : Bool) → (a || b) ≡ false → b ≡ false
-second_false true b is = absurd (true≢false is)
-second_false false b is = is
 
 -- a message that neither ends its connection nor is a SET_CONFIG that is taken changes nothing
 passes : (dismissing setting : Bool) (message : List ℕ) (length_before : ℕ) → (dismissing || (setting && not dismissing)) ≡ false
@@ -47,8 +40,8 @@ says false false message length_before is = absurd (true≢false (sym is))
 pub set_last : (later : List Item) (message : List ℕ) (moment : ℕ) (earlier : List Item) → IsSetByTheLast later message moment earlier
 set_last [] message moment earlier is none = says (is_dismissing message) (is_setting message) message (miss_send_len earlier) is
 set_last (item ∷ later) message moment earlier is none =
-    untelling item (later ++ Msg message moment ∷ earlier) (first_false (tells_length item) (list_any tells_length later) none)
-    ∙ set_last later message moment earlier is (second_false (tells_length item) (list_any tells_length later) none)
+    untelling item (later ++ Msg message moment ∷ earlier) ((or_parts (tells_length item) (list_any tells_length later) none).0)
+    ∙ set_last later message moment earlier is ((or_parts (tells_length item) (list_any tells_length later) none).1)
 
 -- what sets nothing leaves 128 as it is
 unset : (dismissing setting : Bool) (message : List ℕ) (length_before : ℕ) → (setting && not dismissing) ≡ false → length_before ≡ 128
@@ -76,8 +69,8 @@ stays End view none before = before
 stays_all : (later earlier : List Item) → list_any is_set later ≡ false → miss_send_len earlier ≡ 128 → miss_send_len (later ++ earlier) ≡ 128
 stays_all [] earlier none before = before
 stays_all (item ∷ later) earlier none before =
-    stays item (later ++ earlier) (first_false (is_set item) (list_any is_set later) none)
-    (stays_all later earlier (second_false (is_set item) (list_any is_set later) none) before)
+    stays item (later ++ earlier) ((or_parts (is_set item) (list_any is_set later) none).0)
+    (stays_all later earlier ((or_parts (is_set item) (list_any is_set later) none).1) before)
 
 ended : (dismissing setting : Bool) (message : List ℕ) (length_before : ℕ) → dismissing ≡ true
     → (if dismissing then 128 else if setting then miss_send_len_of message else length_before) ≡ 128
@@ -106,4 +99,4 @@ forgotten later item earlier is none = stays_all later (item ∷ earlier) none (
 pub never_set : (view : List Item) → IsNeverSet view
 never_set [] none = refl
 never_set (item ∷ view) none =
-    stays item view (first_false (is_set item) (list_any is_set view) none) (never_set view (second_false (is_set item) (list_any is_set view) none))
+    stays item view ((or_parts (is_set item) (list_any is_set view) none).0) (never_set view ((or_parts (is_set item) (list_any is_set view) none).1))
