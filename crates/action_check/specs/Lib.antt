@@ -3,3 +3,4 @@ pub mod ActionRules
 pub mod Permitted
 pub mod Soundness
 pub mod Refusals
+pub mod Laws

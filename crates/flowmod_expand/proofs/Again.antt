@@ -1,6 +1,7 @@
 -- The messages of the pieces are read again.
-use Rattle.std.proofs.Common.{◌≡◌, ℕ, ◌<◌, ◌≤◌, ◌^◌, ◌==◌, Bool, true, false, if◌then◌else◌, List, [], length, get_or, All, Option, Some, None, IfSome, Ok, sym, ◌∙◌, ap, subst, arith}
+use Rattle.std.proofs.Common.{◌≡◌, ℕ, ◌<◌, ◌≤◌, ◌^◌, ◌==◌, Bool, true, false, if◌then◌else◌, List, [], length, get_or, All, Option, Some, None, IfSome, Ok, sym, ◌∙◌, ap, ap₂, subst, arith}
 use Rattle.std.proofs.lemmas.List.Elements.{All-nil}
+use Rattle.std.proofs.lemmas.Option.{slice_get_within, get_or_from_slice_get}
 use Rattle.of10_model.specs.declared.pattern.Pattern.{Pattern}
 use Rattle.of10_model.specs.Normal.{IsNormal}
 use Rattle.of10_action.specs.declared.action.Action.{Action}
@@ -10,6 +11,7 @@ use Rattle.of10_flow.specs.declared.flow_mod.FlowMod.{FlowMod}
 use Rattle.of10_flow.specs.FlowMods.{IsFlowMod, spell_flow_mod, read_flow_mod}
 use Rattle.of10_flow.proofs.Again.{flow_mod_of, flow_mod_again}
 use Rattle.flowmod_expand.specs.Messages.{is_delete, buffer_at, sent_for, flow_messages, are_too_large}
+use Rattle.flowmod_expand.specs.Laws.{Order, IsPaired, IsInRange, messages_of, Place, flow_mod_at}
 use Rattle.flowmod_expand.proofs.Walks.{spell_size, flow_messages_length, flow_messages_at, sizes_within}
 
 either_fits : (b : Bool) (number : ℕ) → number < 2 ^ 32 → (if b then number else 0xffffffff) < 2 ^ 32
@@ -52,16 +54,27 @@ is_sent m xid piece actions buffer is xid_fits normal all number small =
       fits = let size = spell_size (sent_for m xid piece actions buffer) in omega arith;
     }
 
-pub sent_again : (m : FlowMod) (xid : ℕ) (pieces : List Pattern) (lists : List (List Action)) (buffer : Option (ℕ × ℕ)) → IsFlowMod m → xid < 2 ^ 32 → All IsNormal pieces → All (All IsAction) lists
-    → IfSome buffer (λ own. own.1 < 2 ^ 32) → length lists ≡ length pieces → are_too_large (flow_messages m xid pieces lists buffer) ≡ false
-    → (place : ℕ) (bytes : List ℕ) (p : Pattern) (l : List Action) → place < length pieces
-    → IsOf 14 (get_or (flow_messages m xid pieces lists buffer) place bytes)
-    × (read_flow_mod (get_or (flow_messages m xid pieces lists buffer) place bytes) ≡ Ok (sent_for m xid (get_or pieces place p) (get_or lists place l) (buffer_at buffer place)))
-sent_again m xid pieces lists buffer is xid_fits normal all number long small place bytes p l lt =
-    let messages = flow_messages m xid pieces lists buffer in
-    let count = flow_messages_length m xid pieces lists buffer long in
-    let at = flow_messages_at m xid pieces lists buffer place bytes p l lt long in
-    let sent = sent_for m xid (get_or pieces place p) (get_or lists place l) (buffer_at buffer place) in
-    let size : length (spell_flow_mod sent) ≤ 65535 = subst (λ b. length b ≤ 65535) at (sizes_within messages small place bytes (omega arith)) in
-    let ranges = is_sent m xid (get_or pieces place p) (get_or lists place l) (buffer_at buffer place) is xid_fits (normal place p lt) (all place l (omega arith)) (number_fits buffer place number) size in
-    (subst (IsOf 14) (sym at) (flow_mod_of sent ranges), ap read_flow_mod at ∙ flow_mod_again sent ranges)
+-- the message at a place is that of the piece, the list and the buffer there
+pub message_there : (o : Order) → IsPaired o → (at : Place o) → at.message ≡ spell_flow_mod (flow_mod_at o at)
+message_there o paired at =
+    let within : at.number < length o.pieces = slice_get_within o.pieces at.number at.piece at.has_piece in
+    let made = flow_messages_at o.flow_mod o.xid o.pieces o.lists o.buffer at.number at.message at.piece at.actions within paired in
+    let piece = get_or_from_slice_get o.pieces at.number at.piece at.piece at.has_piece in
+    let actions = get_or_from_slice_get o.lists at.number at.actions at.actions at.has_actions in
+    sym (get_or_from_slice_get (messages_of o) at.number at.message at.message at.has_message) ∙ made
+    ∙ ap₂ (λ (p : Pattern) (l : List Action). spell_flow_mod (sent_for o.flow_mod o.xid p l (buffer_at o.buffer at.number))) piece actions
+
+-- and it is read as that
+pub read_there : (o : Order) → IsPaired o → IsInRange o → are_too_large (messages_of o) ≡ false → (at : Place o)
+    → IsOf 14 at.message × (read_flow_mod at.message ≡ Ok (flow_mod_at o at))
+read_there o paired range small at =
+    let there = message_there o paired at in
+    let sent = flow_mod_at o at in
+    let count = flow_messages_length o.flow_mod o.xid o.pieces o.lists o.buffer paired in
+    let within : at.number < length (messages_of o) = slice_get_within (messages_of o) at.number at.message at.has_message in
+    let own = get_or_from_slice_get (messages_of o) at.number at.message at.message at.has_message in
+    let size : length (spell_flow_mod sent) ≤ 65535 = subst (λ b. length b ≤ 65535) (own ∙ there) (sizes_within (messages_of o) small at.number at.message within) in
+    let normal : IsNormal at.piece = subst IsNormal (get_or_from_slice_get o.pieces at.number at.piece at.piece at.has_piece) (range.pieces at.number at.piece (slice_get_within o.pieces at.number at.piece at.has_piece)) in
+    let all : All IsAction at.actions = subst (All IsAction) (get_or_from_slice_get o.lists at.number at.actions at.actions at.has_actions) (range.lists at.number at.actions (slice_get_within o.lists at.number at.actions at.has_actions)) in
+    let ranges = is_sent o.flow_mod o.xid at.piece at.actions (buffer_at o.buffer at.number) range.flow_mod range.xid normal all (number_fits o.buffer at.number range.buffer) size in
+    (subst (IsOf 14) (sym there) (flow_mod_of sent ranges), ap read_flow_mod there ∙ flow_mod_again sent ranges)

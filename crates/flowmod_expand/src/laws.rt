@@ -1,6 +1,6 @@
 //! Laws of the definitions. Each function's contract is the law; its body does nothing.
 
-ghost use Rattle.std.specs.Prelude.{ℕ, List, ◌≡◌, ◌≢◌, ◌<◌, ◌≤◌, ◌^◌, ◌↔◌, false, length, count_by, slice_index_or, All, Any, AllPairs, Option, IfSome, Ok};
+ghost use Rattle.std.specs.Prelude.{ℕ, List, ◌≡◌, ◌≢◌, ◌≤◌, ◌↔◌, false, length, count_by, All, Any, AllPairs, Ok};
 ghost use Rattle.of10_model.specs.declared.pattern.Pattern.{Pattern};
 ghost use Rattle.of10_model.specs.Header.{Header, IsHeader};
 ghost use Rattle.of10_model.specs.Pattern.{Has};
@@ -11,13 +11,11 @@ ghost use Rattle.flowspace.specs.declared.rules.Rule.{Rule};
 ghost use Rattle.flowspace.specs.Rules.{is_written_by};
 ghost use Rattle.flowspace.specs.Policies.{IsSwitchPolicy, AreNormal};
 ghost use Rattle.flowspace.specs.Owners.{Writes, HasWriteRule, Owns};
-ghost use Rattle.of10_action.specs.declared.action.Action.{Action};
-ghost use Rattle.of10_action.specs.Actions.{IsAction};
 ghost use Rattle.of10_ctl.specs.Kinds.{IsOf};
-ghost use Rattle.of10_flow.specs.declared.flow_mod.FlowMod.{FlowMod};
-ghost use Rattle.of10_flow.specs.FlowMods.{IsFlowMod, spell_flow_mod, read_flow_mod};
+ghost use Rattle.of10_flow.specs.FlowMods.{spell_flow_mod, read_flow_mod};
 ghost use Rattle.flowmod_expand.specs.Pieces.{pieces_of};
-ghost use Rattle.flowmod_expand.specs.Messages.{buffer_at, sent_for, flow_messages, are_too_large};
+ghost use Rattle.flowmod_expand.specs.Messages.{are_too_large};
+ghost use Rattle.flowmod_expand.specs.Laws.{Order, IsPaired, IsInRange, messages_of, Place, flow_mod_at};
 
 /// The pieces of a match have together the headers of the match that the slice's rules let it write; so
 /// under a policy of the switch they have those that the slice writes.
@@ -47,11 +45,12 @@ pub fn piece_is_normal()
 /// There is one message for each piece, and it is that of the piece, the actions and the buffer at its
 /// place.
 pub fn each_piece_has_its_message()
-    ensures count { (m : FlowMod) (xid : ℕ) (pieces : List Pattern) (lists : List (List Action)) (buffer : Option (ℕ × ℕ)) → length lists ≡ length pieces → length (flow_messages m xid pieces lists buffer) ≡ length pieces }
-    ensures message { (m : FlowMod) (xid : ℕ) (pieces : List Pattern) (lists : List (List Action)) (buffer : Option (ℕ × ℕ)) → length lists ≡ length pieces → (place : ℕ) (bytes : List ℕ) (p : Pattern) (l : List Action) → place < length pieces → slice_index_or (flow_messages m xid pieces lists buffer) place bytes ≡ spell_flow_mod (sent_for m xid (slice_index_or pieces place p) (slice_index_or lists place l) (buffer_at buffer place)) }
+    ensures count { (o : Order) → IsPaired o → length (messages_of o) ≡ length o.pieces }
+    ensures message { (o : Order) → IsPaired o → (at : Place o) → at.message ≡ spell_flow_mod (flow_mod_at o at) }
 {}
 
 /// The message of a piece, where they aren't too large, is a flow-mod and is read as that of the piece.
 pub fn message_is_read_again()
-    ensures { (m : FlowMod) (xid : ℕ) (pieces : List Pattern) (lists : List (List Action)) (buffer : Option (ℕ × ℕ)) → IsFlowMod m → xid < 2 ^ 32 → All IsNormal pieces → All (All IsAction) lists → IfSome buffer (λ own. own.1 < 2 ^ 32) → length lists ≡ length pieces → are_too_large (flow_messages m xid pieces lists buffer) ≡ false → (place : ℕ) (bytes : List ℕ) (p : Pattern) (l : List Action) → place < length pieces → IsOf 14 (slice_index_or (flow_messages m xid pieces lists buffer) place bytes) × (read_flow_mod (slice_index_or (flow_messages m xid pieces lists buffer) place bytes) ≡ Ok (sent_for m xid (slice_index_or pieces place p) (slice_index_or lists place l) (buffer_at buffer place))) }
+    ensures kind { (o : Order) → IsPaired o → IsInRange o → are_too_large (messages_of o) ≡ false → (at : Place o) → IsOf 14 at.message }
+    ensures again { (o : Order) → IsPaired o → IsInRange o → are_too_large (messages_of o) ≡ false → (at : Place o) → read_flow_mod at.message ≡ Ok (flow_mod_at o at) }
 {}

@@ -1,8 +1,10 @@
-use Rattle.flowmod_expand.proofs.Walks.{flow_messages_length, flow_messages_at}
+use Rattle.flowmod_expand.specs.Laws.{Order, IsPaired, Place}
+use Rattle.flowmod_expand.proofs.Walks.{flow_messages_length}
+use Rattle.flowmod_expand.proofs.Again.{message_there}
 use Rattle.flowmod_expand.proofs.laws.each_piece_has_its_message.Goals as goal
 
 pub returns : goal.returns
 returns c = record {
-  count = λ m xid pieces lists buffer long. flow_messages_length m xid pieces lists buffer long;
-  message = λ m xid pieces lists buffer long place bytes p l lt. flow_messages_at m xid pieces lists buffer place bytes p l lt long;
+  count = λ o paired. flow_messages_length o.flow_mod o.xid o.pieces o.lists o.buffer paired;
+  message = λ o paired at. message_there o paired at;
 }

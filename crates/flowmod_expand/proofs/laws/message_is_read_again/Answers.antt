@@ -1,5 +1,8 @@
-use Rattle.flowmod_expand.proofs.Again.{sent_again}
+use Rattle.flowmod_expand.proofs.Again.{read_there}
 use Rattle.flowmod_expand.proofs.laws.message_is_read_again.Goals as goal
 
 pub returns : goal.returns
-returns c = λ m xid pieces lists buffer is xid_fits normal actions number long small place bytes p l lt. sent_again m xid pieces lists buffer is xid_fits normal actions number long small place bytes p l lt
+returns c = record {
+  kind = λ o paired range small at. (read_there o paired range small at).0;
+  again = λ o paired range small at. (read_there o paired range small at).1;
+}
