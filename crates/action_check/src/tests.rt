@@ -6,12 +6,11 @@ mod soundness;
 use crate::CheckFault::{Refused, TooMany};
 use crate::Origin;
 use flowspace::SwitchPolicy;
-use given::{
-    ALICE, BOB, FIRST_NET, Packets, SECOND_NET, answer, answer_with, code, load, match_of, packet,
-    rule, to_net, to_tcp,
-};
+use given::{ALICE, BOB, FIRST_NET, SECOND_NET, answer, answer_with, code};
 use of10_action::Action;
+use of10_match::Match;
 use of10_port::protocol::{ALL, CONTROLLER, FLOOD, IN_PORT, LOCAL, NONE, NORMAL, TABLE};
+use samples::{ANY, Packets, match_of, packet, rule, switch_policy, tcp};
 use std::alloc::{AllocError, Global};
 use std::test::Fail;
 
@@ -31,47 +30,58 @@ fn enqueue(port: u16) -> Action {
     Action::Enqueue { port, queue: 7 }
 }
 
-fn piece(packets: &Packets) -> Origin {
-    Origin::Piece(match_of(packets))
+/// The packets to a network of 16 bits, all or those that came in by one port.
+fn to_net(in_port: Option<u16>, net: u32) -> Match {
+    match_of(&Packets {
+        in_port,
+        net,
+        bits: 16,
+        ..ANY
+    })
+}
+
+/// The piece of all packets to the first network.
+fn to_first_net() -> Origin {
+    Origin::Piece(to_net(None, FIRST_NET))
 }
 
 /// The packets to one network are alice's, those to another bob's.
 fn nets(alloc: Global) -> Result<SwitchPolicy, Fail> {
     let rules = [
-        rule(100, &to_net(FIRST_NET), ALICE),
-        rule(50, &to_net(SECOND_NET), BOB),
+        rule(100, &to_net(None, FIRST_NET), ALICE, 0),
+        rule(50, &to_net(None, SECOND_NET), BOB, 0),
     ];
-    Ok(load(alloc, &rules)??)
+    Ok(switch_policy(alloc, &rules)?)
 }
 
 /// Web packets are alice's, those of shells bob's.
 fn services(alloc: Global) -> Result<SwitchPolicy, Fail> {
-    let rules = [rule(100, &to_tcp(80), ALICE), rule(50, &to_tcp(22), BOB)];
-    Ok(load(alloc, &rules)??)
+    let rules = [
+        rule(100, &tcp(None, 80), ALICE, 0),
+        rule(50, &tcp(None, 22), BOB, 0),
+    ];
+    Ok(switch_policy(alloc, &rules)?)
 }
 
 /// Those packets to the first network that come in at port 1.
-fn from_first_port() -> Packets {
-    Packets {
-        in_port: Some(1),
-        ..to_net(FIRST_NET)
-    }
+fn from_first_port() -> Match {
+    to_net(Some(1), FIRST_NET)
 }
 
 /// From port 1 alice also has a network of her own, and from each port another one.
 fn entries(alloc: Global) -> Result<SwitchPolicy, Fail> {
     let rules = [
-        rule(100, &from_first_port(), ALICE),
-        rule(90, &to_net(SECOND_NET), BOB),
-        rule(80, &to_net(THIRD_NET), ALICE),
+        rule(100, &from_first_port(), ALICE, 0),
+        rule(90, &to_net(None, SECOND_NET), BOB, 0),
+        rule(80, &to_net(None, THIRD_NET), ALICE, 0),
     ];
-    Ok(load(alloc, &rules)??)
+    Ok(switch_policy(alloc, &rules)?)
 }
 
 #[test]
 fn flood_and_all_become_ports(rt: HostRuntime) -> Result<(), Fail> {
     let policy = nets(rt.alloc())?;
-    let own = piece(&to_net(FIRST_NET));
+    let own = to_first_net();
     let table = [(FLOOD, &[1, 3][..]), (ALL, &[1, 2, 3][..])];
     for (port, ports) in table {
         let sent = [
@@ -96,7 +106,7 @@ fn flood_and_all_become_ports(rt: HostRuntime) -> Result<(), Fail> {
 #[test]
 fn a_network_is_left_by_no_rewriting(rt: HostRuntime) -> Result<(), Fail> {
     let policy = nets(rt.alloc())?;
-    let own = piece(&to_net(FIRST_NET));
+    let own = to_first_net();
     let into_other = Action::SetNwDst(SECOND_NET + 1);
     let within = Action::SetNwDst(FIRST_NET + 0x0909);
     let table = [
@@ -169,7 +179,7 @@ fn probes_are_only_sent(rt: HostRuntime) -> Result<(), Fail> {
 #[test]
 fn arguments_and_ports_have_their_codes(rt: HostRuntime) -> Result<(), Fail> {
     let policy = services(rt.alloc())?;
-    let own = piece(&to_tcp(80));
+    let own = Origin::Piece(tcp(None, 80));
     let table = [
         (&[Action::SetVlanVid(4095), output(2)][..], None),
         (&[Action::SetVlanVid(4096), output(2)][..], BAD_ARGUMENT),
@@ -196,10 +206,6 @@ fn arguments_and_ports_have_their_codes(rt: HostRuntime) -> Result<(), Fail> {
     Ok(())
 }
 
-fn to_first_net() -> Origin {
-    piece(&to_net(FIRST_NET))
-}
-
 /// A packet to the first network that came in at a port.
 fn sent_from(in_port: u16) -> Origin {
     Origin::Packet(packet(in_port, FIRST_NET, 80))
@@ -211,7 +217,7 @@ fn only_the_controller_and_the_table_see_in_port(rt: HostRuntime) -> Result<(), 
     let table = [
         (to_first_net(), output(2), None),
         (to_first_net(), output(CONTROLLER), NOT_PERMITTED),
-        (piece(&from_first_port()), output(CONTROLLER), None),
+        (Origin::Piece(from_first_port()), output(CONTROLLER), None),
         (sent_from(1), output(CONTROLLER), None),
         (sent_from(1), output(TABLE), None),
         (sent_from(2), output(3), None),
@@ -230,9 +236,9 @@ fn only_the_controller_and_the_table_see_in_port(rt: HostRuntime) -> Result<(), 
 
 #[test]
 fn a_slice_of_one_port_sends_to_it_alone(rt: HostRuntime) -> Result<(), Fail> {
-    let rules = [rule(100, &from_first_port(), ALICE)];
-    let policy = load(rt.alloc(), &rules)??;
-    let own = piece(&from_first_port());
+    let rules = [rule(100, &from_first_port(), ALICE, 0)];
+    let policy = switch_policy(rt.alloc(), &rules)?;
+    let own = Origin::Piece(from_first_port());
     for (port, expected) in [(1, None), (2, Some(Refused(4))), (LOCAL, Some(Refused(4)))] {
         let sent = [output(port)];
         let answer = answer_with(rt.alloc(), &policy, ALICE, &own, &sent, (&[], &[1]))?;
@@ -261,7 +267,7 @@ fn repeated(alloc: Global, action: Action, count: u16) -> Result<Vec<Action>, Al
 #[test]
 fn lists_have_65463_bytes_at_most(rt: HostRuntime) -> Result<(), Fail> {
     let policy = services(rt.alloc())?;
-    let own = piece(&to_tcp(80));
+    let own = Origin::Piece(tcp(None, 80));
     let table = [
         (output(2), 8182, None),
         (output(2), 8183, Some(TooMany)),

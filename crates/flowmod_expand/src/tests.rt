@@ -4,7 +4,7 @@ mod given;
 use crate::{BuildFault, pieces};
 use draws::Draws;
 use flowspace::SwitchPolicy;
-use given::{built, bytes, policy, rule, spelled, strips, tcp};
+use given::{built, spelled, strips};
 use match_meet::meet;
 use of10_action::{Action, Actions};
 use of10_ctl::Frame;
@@ -13,6 +13,7 @@ use of10_flow::protocol::{
     ADD, CHECK_OVERLAP, DELETE, DELETE_STRICT, MODIFY, MODIFY_STRICT, NO_BUFFER,
 };
 use of10_match::{Header12, Match};
+use samples::{bytes, rule, switch_policy, tcp};
 use std::alloc::{AllocError, Global};
 use std::test::Fail;
 
@@ -50,12 +51,15 @@ fn output(alloc: Global, port: u16) -> Result<Actions, AllocError> {
 fn the_third_meet_is_the_first(rt: HostRuntime) -> Result<(), Fail> {
     let alloc = rt.alloc();
     let net = 0x0a00_0000;
+    let source = Match::decode(&spelled(0x0038_18ef, 0, net, 0, 0));
+    let tcp_destination = Match::decode(&spelled(0x0036_20cf, 6, 0, net, 0));
+    let destination = Match::decode(&spelled(0x0036_20ef, 0, 0, net, 0));
     let rules = [
-        rule(20, &Match::decode(&spelled(0x0038_18ef, 0, net, 0, 0)), 0),
-        rule(10, &Match::decode(&spelled(0x0036_20cf, 6, 0, net, 0)), 0),
-        rule(30, &Match::decode(&spelled(0x0036_20ef, 0, 0, net, 0)), 0),
+        rule(20, &source, 0, 0),
+        rule(10, &tcp_destination, 0, 0),
+        rule(30, &destination, 0, 0),
     ];
-    let policy = policy(alloc, &rules)?;
+    let policy = switch_policy(alloc, &rules)?;
     let asked = spelled(0x0034_20cf, 6, 0, 0x0a01_0000, 0);
     let found = pieces(alloc, &policy, 0, &Match::decode(&asked))?;
     let expected = [asked, spelled(0x0034_18cf, 6, net, 0x0a01_0000, 0)];
@@ -152,7 +156,7 @@ fn pieces_stand_in_rule_order_and_agree_with_membership(rt: HostRuntime) -> Resu
         for _ in 0..8 {
             rules.push(draws.rule())?;
         }
-        let policy = policy(rt.alloc(), &rules)?;
+        let policy = switch_policy(rt.alloc(), &rules)?;
         for slot in 0..2 {
             let m = draws.pattern();
             let found = pieces(rt.alloc(), &policy, slot, &m)?;
@@ -181,7 +185,11 @@ fn is_alone(frames: &[Frame], bytes: &[u8]) -> bool {
 #[test]
 fn a_flow_mod_is_sent_for_what_the_slice_writes(rt: HostRuntime) -> Result<(), Fail> {
     let alloc = rt.alloc();
-    let policy = policy(alloc, &[rule(100, &tcp(80), 0), rule(50, &tcp(22), 1)])?;
+    let rules = [
+        rule(100, &tcp(None, 80), 0, 0),
+        rule(50, &tcp(None, 22), 1, 0),
+    ];
+    let policy = switch_policy(alloc, &rules)?;
     let found = pieces(alloc, &policy, 0, &Match::all())?;
     let add = FlowMod {
         idle: 60,
@@ -277,7 +285,7 @@ fn each_piece_has_its_actions_and_one_the_buffer(rt: HostRuntime) -> Result<(), 
             sent(alloc, head, M80, first)?,
             sent(alloc, "010e0048", M22, second)?,
         ];
-        let found = [tcp(80), tcp(22)];
+        let found = [tcp(None, 80), tcp(None, 22)];
         let frames = built(alloc, &asked, 0x0100_0007, &found, &lists, buffer)?;
         assert_eq!(rt; frames.len(), 2);
         for (frame, bytes) in frames.iter().zip(&expected) {
@@ -293,7 +301,7 @@ fn made(alloc: Global, command: u16, counts: &[usize]) -> Result<Result<usize, B
     let mut found = Vec::new(alloc);
     let mut lists = Vec::new(alloc);
     for count in counts {
-        found.push(tcp(80))?;
+        found.push(tcp(None, 80))?;
         lists.push(strips(alloc, *count)?)?;
     }
     let frames = built(alloc, &asked, 0, &found, &lists, None);

@@ -1,8 +1,10 @@
 mod given;
 
 use super::*;
-use given::{features, policy, port, status};
+use given::{port, status, written};
+use of10_port::Features;
 use of10_port::protocol::NO_FLOOD;
+use samples::{features, switch_policy};
 use std::alloc::{AllocError, Global};
 use std::test::Fail;
 
@@ -19,9 +21,19 @@ fn a_slice_is_shown_its_own_ports(rt: HostRuntime) -> Result<(), Fail> {
         port(3, 0, 0),
         port(0xfffe, 0, 0),
     ];
-    let switch = features(alloc, &ports)?;
+    let switch = Features {
+        buffers: 1000,
+        tables: 3,
+        capabilities: 5,
+        ..features(alloc, &ports)?
+    };
     let view = PortView::new(alloc, &switch)?;
-    let policy = policy(alloc, &[(0, Some(1)), (1, Some(2)), (1, Some(0xfffe))])?;
+    let rules = [
+        written(0, Some(1)),
+        written(1, Some(2)),
+        written(1, Some(0xfffe)),
+    ];
+    let policy = switch_policy(alloc, &rules)?;
     let front = b"\x01\x06\x00\x50\xff\x00\x00\x01\x00\x00\x00\x00\x00\x00\x00\xa1\
 \x00\x00\x01\x00\x01\x00\x00\x00\x00\x00\x00\x05\x00\x00\x0f\xff\x00\x01";
     let shown = view.features_for(alloc, &policy, 0, &switch, 0xff00_0001)?;
@@ -43,8 +55,13 @@ fn a_flood_leaves_ports_out(rt: HostRuntime) -> Result<(), Fail> {
         port(1, 0, 0),
     ];
     let view = PortView::new(alloc, &features(alloc, &ports)?)?;
-    let whole = policy(alloc, &[(0, None)])?;
-    let parts = policy(alloc, &[(0, Some(2)), (0, Some(7)), (1, Some(1))])?;
+    let whole = switch_policy(alloc, &[written(0, None)])?;
+    let rules = [
+        written(0, Some(2)),
+        written(0, Some(7)),
+        written(1, Some(1)),
+    ];
+    let parts = switch_policy(alloc, &rules)?;
     let flood = view.flood_ports(alloc, &whole, 0, false)?;
     assert_eq!(rt; flood.as_slice(), [1, 3].as_slice());
     let all = view.flood_ports(alloc, &whole, 0, true)?;

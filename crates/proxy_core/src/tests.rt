@@ -1,8 +1,6 @@
-mod given;
-
 use crate::{Desk, Dest, Event, Taken, Timed, Verdict};
-use given::{frame, policy, rule, tcp};
 use of10_ctl::{Frame, message};
+use samples::{frame, policy, rule, tcp};
 use std::alloc::{AllocError, Global};
 use std::process::Abort;
 use std::test::Fail;
@@ -24,7 +22,7 @@ const BEHIND_PORT: &str = "00000000000000005002000000000000";
 fn desk(alloc: Global) -> Result<Desk, Fail> {
     let alice = rule(100, &tcp(None, 80), 0, 0);
     let bob = rule(50, &tcp(None, 22), 1, 0);
-    Ok(Desk::new(alloc, policy(alloc, &alice, &bob)?))
+    Ok(Desk::new(alloc, policy(alloc, &[alice, bob])?))
 }
 
 fn step(alloc: Global, desk: &mut Desk, event: Event) -> Result<Verdict, AllocError> {
@@ -32,7 +30,7 @@ fn step(alloc: Global, desk: &mut Desk, event: Event) -> Result<Verdict, AllocEr
 }
 
 /// What the switch tells of itself.
-fn features(alloc: Global) -> Result<Frame, Fail> {
+fn features(alloc: Global) -> Result<Frame, AllocError> {
     frame(
         alloc,
         &[

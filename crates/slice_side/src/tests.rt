@@ -3,10 +3,11 @@ mod given;
 use crate::{Change, Reaction, apply, go_down, react};
 use flow_book::SliceState;
 use flowspace::SwitchPolicy;
-use given::{features, frame, policy, rule, state_up, tcp};
+use given::state_up;
 use of10_ctl::Frame;
 use of10_port::Features;
 use port_view::PortView;
+use samples::{frame, rule, switch_policy, tcp, three_ports};
 use std::alloc::{AllocError, Global};
 use std::process::Abort;
 use std::test::Fail;
@@ -22,12 +23,12 @@ struct Bench {
 
 /// The slice at slot 0 takes packets from port 1 alone.
 fn set_up(alloc: Global) -> Result<Bench, Fail> {
-    let policy = policy(
-        alloc,
-        &rule(100, &tcp(Some(1), 80), 0, 0),
-        &rule(50, &tcp(None, 22), 1, 0),
-    )?;
-    let features = features(alloc)?;
+    let rules = [
+        rule(100, &tcp(Some(1), 80), 0, 0),
+        rule(50, &tcp(None, 22), 1, 0),
+    ];
+    let policy = switch_policy(alloc, &rules)?;
+    let features = three_ports(alloc)?;
     let ports = PortView::new(alloc, &features)?;
     let state = state_up(alloc, &policy, 0)?;
     Ok(Bench {

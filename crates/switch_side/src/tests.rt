@@ -3,8 +3,9 @@ mod given;
 use crate::{Dispatch, react};
 use flow_book::SliceState;
 use flowspace::SwitchPolicy;
-use given::{frame, policy, ports, rule, states, tcp};
+use given::{ports, states};
 use of10_ctl::Frame;
+use samples::{frame, rule, switch_policy, tcp};
 use std::alloc::{AllocError, Global};
 use std::process::Abort;
 use std::test::Fail;
@@ -52,11 +53,11 @@ fn expect_slots(rt: &impl Abort, dispatch: &Dispatch, slots: &[u8], message: &Fr
 #[test]
 fn each_message_goes_where_it_concerns_somebody(rt: HostRuntime) -> Result<(), Fail> {
     let alloc = rt.alloc();
-    let policy = policy(
-        alloc,
-        &rule(100, &tcp(Some(1), 80), 0, 0),
-        &rule(50, &tcp(None, 22), 1, 0),
-    )?;
+    let rules = [
+        rule(100, &tcp(Some(1), 80), 0, 0),
+        rule(50, &tcp(None, 22), 1, 0),
+    ];
+    let policy = switch_policy(alloc, &rules)?;
     let states = states(alloc, &policy, [true, true])?;
     // what the switch sends, the slots that are told and what, and the number of a port that changes
     let table: [(&[&str], &[u8], &[&str], Option<u16>); 7] = [
@@ -144,11 +145,11 @@ fn each_message_goes_where_it_concerns_somebody(rt: HostRuntime) -> Result<(), F
 #[test]
 fn the_switch_is_answered_itself(rt: HostRuntime) -> Result<(), Fail> {
     let alloc = rt.alloc();
-    let policy = policy(
-        alloc,
-        &rule(100, &tcp(None, 80), 0, 0),
-        &rule(50, &tcp(None, 22), 1, 0),
-    )?;
+    let rules = [
+        rule(100, &tcp(None, 80), 0, 0),
+        rule(50, &tcp(None, 22), 1, 0),
+    ];
+    let policy = switch_policy(alloc, &rules)?;
     let states = states(alloc, &policy, [true, true])?;
     // what the switch sends, what it is sent, and whether its connection ends
     let table: [(&str, &str, bool); 7] = [
@@ -183,11 +184,11 @@ fn the_switch_is_answered_itself(rt: HostRuntime) -> Result<(), Fail> {
 #[test]
 fn readers_are_told_where_they_are_up(rt: HostRuntime) -> Result<(), Fail> {
     let alloc = rt.alloc();
-    let policy = policy(
-        alloc,
-        &rule(100, &tcp(None, 80), 1, 0b01),
-        &rule(100, &tcp(None, 80), 1, 0),
-    )?;
+    let rules = [
+        rule(100, &tcp(None, 80), 1, 0b01),
+        rule(100, &tcp(None, 80), 1, 0),
+    ];
+    let policy = switch_policy(alloc, &rules)?;
     let pieces: [&str; 4] = [
         "010a004800000000ffffffff003600010000",
         BEFORE_PORT,

@@ -1,44 +1,34 @@
-//! Rules, packets and actions of few values, drawn by a linear congruential generator.
+//! Rules, packets and actions of few values, drawn.
 
-ghost use Rattle.std.specs.Prelude.{◌<◌};
-
-use super::given::{ALICE, BOB, FIRST_NET, Packets, SECOND_NET, packet};
+use super::given::{ALICE, BOB, FIRST_NET, SECOND_NET};
 use super::plain::Grant;
 use super::{enqueue, output};
 use of10_action::Action;
 use of10_match::Header12;
 use of10_port::protocol::{ALL, CONTROLLER, FLOOD, IN_PORT, NONE};
+use samples::{Packets, packet};
 
 #[derive(Drop)]
 pub struct Draws {
-    state: u64,
+    numbers: samples::Draws,
 }
 
 impl Draws {
     pub fn new(seed: u64) -> Draws {
-        Draws { state: seed }
-    }
-
-    fn below(&mut self, limit: u8) -> u8
-        requires { 0 < limit }
-        ensures { result < limit }
-    {
-        self.state = self
-            .state
-            .wrapping_mul(6364136223846793005)
-            .wrapping_add(1442695040888963407);
-        ((self.state >> 33) % u64::from(limit)) as u8
+        Draws {
+            numbers: samples::Draws::new(seed),
+        }
     }
 
     fn net(&mut self) -> u32 {
-        match self.below(2) {
+        match self.numbers.below(2) {
             0 => FIRST_NET,
             _ => SECOND_NET,
         }
     }
 
     fn service(&mut self) -> u16 {
-        match self.below(3) {
+        match self.numbers.below(3) {
             0 => 22,
             1 => 443,
             _ => 80,
@@ -46,7 +36,7 @@ impl Draws {
     }
 
     fn bits(&mut self) -> u8 {
-        match self.below(4) {
+        match self.numbers.below(4) {
             0 => 0,
             1 => 32,
             _ => 16,
@@ -54,21 +44,21 @@ impl Draws {
     }
 
     fn host_bits(&mut self) -> u8 {
-        match self.below(3) {
+        match self.numbers.below(3) {
             0 => 32,
             _ => 16,
         }
     }
 
     fn any_entry(&mut self) -> u16 {
-        match self.below(4) {
+        match self.numbers.below(4) {
             0 => NONE,
             port => u16::from(port),
         }
     }
 
     fn entry(&mut self) -> Option<u16> {
-        match self.below(6) {
+        match self.numbers.below(6) {
             0 => Some(1),
             1 => Some(2),
             _ => None,
@@ -76,7 +66,7 @@ impl Draws {
     }
 
     fn tcp(&mut self) -> Option<u16> {
-        match self.below(2) {
+        match self.numbers.below(2) {
             0 => None,
             _ => Some(self.service()),
         }
@@ -94,7 +84,7 @@ impl Draws {
 
     /// A rule, more of them alice's.
     pub fn grant(&mut self) -> Grant {
-        let writer = match self.below(4) {
+        let writer = match self.numbers.below(4) {
             0 => BOB,
             _ => ALICE,
         };
@@ -121,7 +111,7 @@ impl Draws {
 
     /// Packets of one rule, or any.
     pub fn packets_near(&mut self, grants: &[Grant; 3]) -> Packets {
-        match self.below(4) {
+        match self.numbers.below(4) {
             0 => self.packets(),
             1 => self.packets_within(&grants[0].packets),
             2 => self.packets_within(&grants[1].packets),
@@ -138,7 +128,7 @@ impl Draws {
         let host = match packets.bits {
             0 => self.net(),
             32 => packets.net,
-            _ => packets.net | u32::from(self.below(3)),
+            _ => packets.net | u32::from(self.numbers.below(3)),
         };
         let service = match packets.tcp {
             Some(port) => port,
@@ -149,23 +139,23 @@ impl Draws {
 
     /// How many actions come before the last.
     pub fn before(&mut self) -> u8 {
-        self.below(3)
+        self.numbers.below(3)
     }
 
     /// An action that sends, or one that rewrites.
     pub fn action(&mut self) -> Action {
-        match self.below(10) {
-            0 | 1 => Action::SetNwDst(self.net() | u32::from(self.below(3))),
+        match self.numbers.below(10) {
+            0 | 1 => Action::SetNwDst(self.net() | u32::from(self.numbers.below(3))),
             2 | 3 => Action::SetTpDst(self.service()),
-            4 => Action::SetVlanVid(4088 + u16::from(self.below(9))),
+            4 => Action::SetVlanVid(4088 + u16::from(self.numbers.below(9))),
             5 => Action::StripVlan,
-            6 => Action::SetNwTos(self.below(64)),
+            6 => Action::SetNwTos(self.numbers.below(64)),
             _ => self.sending(),
         }
     }
 
     fn sending(&mut self) -> Action {
-        match self.below(6) {
+        match self.numbers.below(6) {
             0 => enqueue(1),
             1 => output(CONTROLLER),
             2 => output(FLOOD),

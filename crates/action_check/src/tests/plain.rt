@@ -1,9 +1,10 @@
 //! Which packets the first slice may send where, by a plain program over single packets.
 
-use super::given::{ALICE, Packets};
+use super::given::ALICE;
 use of10_action::Action;
 use of10_match::Header12;
 use of10_port::protocol::{ALL, CONTROLLER, FLOOD, IN_PORT, LOCAL, TABLE};
+use samples::Packets;
 
 /// What a list of actions is for.
 #[derive(Clone, Copy, Debug, PartialEq, Eq)]

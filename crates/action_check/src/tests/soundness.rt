@@ -1,15 +1,16 @@
 //! Drawn lists for drawn policies: what is given is judged packet by packet.
 
 use super::draws::Draws;
-use super::given::{Packets, answer_with, load, match_of, rule};
+use super::given::answer_with;
 use super::plain::{Grant, Kind, is_own_port, may_have, names_its_ports, rewrites};
 use super::{enqueue, output};
 use crate::CheckFault::Refused;
 use crate::{CheckFault, Origin};
-use flowspace::SwitchPolicy;
+use flowspace::{PolicyFault, Rule, SwitchPolicy};
 use of10_action::{Action, Actions};
 use of10_match::Header12;
 use of10_port::protocol::{ALL, CONTROLLER, FLOOD, IN_PORT, NORMAL, TABLE};
+use samples::{Packets, match_of, rule, switch_policy};
 use std::alloc::{AllocError, Global};
 use std::test::Fail;
 
@@ -161,22 +162,29 @@ fn answered(
     answer_with(alloc, policy, 0, &origin, case.list(), (&flood, &all))
 }
 
+fn rule_of(priority: u32, grant: &Grant) -> Rule {
+    rule(priority, &match_of(&grant.packets), grant.writer, 0)
+}
+
 /// What becomes of drawn lists of one kind that end with an output.
 fn tallied(alloc: Global, draws: &mut Draws, kind: Kind, last: Action) -> Result<Tally, Fail> {
     let mut tally = Tally::new();
     for _ in 0..ROUNDS {
         let grants = [draws.grant(), draws.grant(), draws.grant()];
         let rules = [
-            rule(3, &grants[0].packets, grants[0].writer),
-            rule(2, &grants[1].packets, grants[1].writer),
-            rule(1, &grants[2].packets, grants[2].writer),
+            rule_of(3, &grants[0]),
+            rule_of(2, &grants[1]),
+            rule_of(1, &grants[2]),
         ];
-        if let Ok(policy) = load(alloc, &rules)? {
-            let case = Case::draw(draws, kind, &grants, last);
-            let answer = answered(alloc, &policy, &grants, &case)?;
-            let is_right = case.has_right_answer(&grants, &answer, draws);
-            tally = tally.add(&case, &answer, is_right);
-        }
+        let policy = match switch_policy(alloc, &rules) {
+            Ok(policy) => policy,
+            Err(PolicyFault::Overlap(_, _)) => continue,
+            Err(fault) => return Err(fault.into()),
+        };
+        let case = Case::draw(draws, kind, &grants, last);
+        let answer = answered(alloc, &policy, &grants, &case)?;
+        let is_right = case.has_right_answer(&grants, &answer, draws);
+        tally = tally.add(&case, &answer, is_right);
     }
     Ok(tally)
 }

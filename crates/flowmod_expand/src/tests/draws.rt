@@ -1,40 +1,30 @@
-//! Rules, matches and headers of few values, drawn by a linear congruential generator.
+//! Rules, matches and headers of few values, drawn.
 
-ghost use Rattle.std.specs.Prelude.{◌<◌};
-
-use super::given::{rule, spelled};
+use super::given::spelled;
 use flowspace::Rule;
 use of10_match::{Header12, Match};
 use of10_model::wire::set_u16;
+use samples::rule;
 
 #[derive(Drop)]
 pub struct Draws {
-    state: u64,
+    numbers: samples::Draws,
 }
 
 impl Draws {
     pub fn new(seed: u64) -> Draws {
-        Draws { state: seed }
-    }
-
-    fn below(&mut self, limit: u8) -> u8
-        requires { 0 < limit }
-        ensures { result < limit }
-    {
-        self.state = self
-            .state
-            .wrapping_mul(6364136223846793005)
-            .wrapping_add(1442695040888963407);
-        ((self.state >> 33) % u64::from(limit)) as u8
+        Draws {
+            numbers: samples::Draws::new(seed),
+        }
     }
 
     fn address(&mut self) -> u32 {
-        0x0a00_0000 + 0x1_0000 * u32::from(self.below(3)) + u32::from(self.below(2))
+        0x0a00_0000 + 0x1_0000 * u32::from(self.numbers.below(3)) + u32::from(self.numbers.below(2))
     }
 
     /// The low bits of an address that a match ignores: 0, 16, 24, or 32 of them.
     fn ignored(&mut self) -> u32 {
-        match self.below(6) {
+        match self.numbers.below(6) {
             0 => 0,
             1 | 2 => 16,
             3 => 24,
@@ -46,17 +36,17 @@ impl Draws {
     fn at(&mut self, port: u8) -> Match {
         let mut word = 0x0030_006f | self.ignored() << 8 | self.ignored() << 14;
         let mut protocol = 0;
-        if self.below(2) == 0 {
+        if self.numbers.below(2) == 0 {
             word ^= 0x20;
             protocol = 6;
         }
-        if protocol == 0 || self.below(2) == 0 {
+        if protocol == 0 || self.numbers.below(2) == 0 {
             word |= 0x80;
         }
         if port > 0 {
             word ^= 1;
         }
-        let service = 80 + u16::from(self.below(2));
+        let service = 80 + u16::from(self.numbers.below(2));
         let mut bytes = spelled(word, protocol, self.address(), self.address(), service);
         set_u16(&mut bytes, 4, u16::from(port));
         Match::decode(&bytes)
@@ -64,32 +54,32 @@ impl Draws {
 
     /// A rule of the first slice for packets from port 1, or one of the second for those from port 2.
     pub fn rule(&mut self) -> Rule {
-        let writer = self.below(4) / 3;
+        let writer = self.numbers.below(4) / 3;
         let pattern = self.at(writer + 1);
-        rule(u32::from(self.below(3)), &pattern, writer)
+        rule(u32::from(self.numbers.below(3)), &pattern, writer, 0)
     }
 
     /// A match, in one of three cases of packets from any port.
     pub fn pattern(&mut self) -> Match {
-        let port = self.below(3);
+        let port = self.numbers.below(3);
         self.at(port)
     }
 
     /// A TCP packet.
     pub fn header(&mut self) -> Header12 {
         Header12 {
-            in_port: 1 + u16::from(self.below(2)),
+            in_port: 1 + u16::from(self.numbers.below(2)),
             dl_src: 1,
             dl_dst: 2,
             dl_vlan: 0xffff,
             dl_vlan_pcp: 0,
             dl_type: 0x0800,
             nw_tos: 0,
-            nw_proto: 6 + 11 * self.below(2),
+            nw_proto: 6 + 11 * self.numbers.below(2),
             nw_src: self.address(),
             nw_dst: self.address(),
             tp_src: 1024,
-            tp_dst: 80 + u16::from(self.below(2)),
+            tp_dst: 80 + u16::from(self.numbers.below(2)),
         }
     }
 }

@@ -1,8 +1,7 @@
 //! Slices, rules and policies for the tests.
 
-ghost use Rattle.std.specs.Prelude.{◌≡◌, ◌≤◌, All, IfOk, IsTrue, length};
-ghost use Rattle.std.specs.List.{list_all};
-ghost use Rattle.flowspace.specs.Slices.{is_name_byte, IsPlainSlice};
+ghost use Rattle.std.specs.Prelude.{All, IfOk, IsTrue};
+ghost use Rattle.flowspace.specs.Slices.{IsPlainSlice};
 ghost use Rattle.flowspace.specs.Rules.{IsPlainRule};
 
 use crate::{Policy, PolicyFault, Rule, Slice, Text};
@@ -66,43 +65,22 @@ pub fn rule_on(switch: Option<u64>, priority: u32, pattern: &Match, writer: u8) 
     }
 }
 
-fn is_name_byte(byte: u8) -> bool
-    ensures { result ≡ is_name_byte byte }
-{
-    matches!(byte, b'a'..=b'z' | b'0'..=b'9' | b'_' | b'-')
-}
-
-fn has_name_bytes(text: &str) -> bool
-    ensures { result ≡ list_all is_name_byte text.now }
-{
-    text.as_bytes().iter().all(|byte| is_name_byte(*byte))
-}
-
+// A slice or a rule that no policy may have is a mistake in a test, which fails by it.
 fn plain_slice(alloc: Global, name: &str) -> Result<Slice, AllocError>
-    requires some { 1 ≤ length name.now }
-    requires short { length name.now ≤ 32 }
-    requires bytes { IsTrue (list_all is_name_byte name.now) }
     ensures { IfOk result IsPlainSlice }
 {
-    Ok(Slice {
+    let slice = Slice {
         name: Text::of(alloc, name)?,
         controller: Text::of(alloc, "192.0.2.1:6633")?,
         rate: 1000,
         burst: 2000,
         quota: 0,
-    })
-}
-
-// A name that no slice may have is a mistake in a test, which fails by it.
-fn add_slice(alloc: Global, slices: &mut Vec<Slice>, name: &str) -> Result<(), AllocError>
-    requires { All IsPlainSlice slices.old.items }
-    ensures { All IsPlainSlice slices.new.items }
-{
-    if !name.is_empty() && name.len() <= 32 && has_name_bytes(name) {
-        slices.push(plain_slice(alloc, name)?)?;
-        return Ok(());
+    };
+    if slice.is_plain() {
+        Ok(slice)
+    } else {
+        Err(AllocError)
     }
-    Err(AllocError)
 }
 
 /// Slices of these names.
@@ -111,7 +89,7 @@ pub fn named(alloc: Global, names: &[&str]) -> Result<Vec<Slice>, AllocError>
 {
     let mut slices = Vec::new(alloc);
     for name in names {
-        add_slice(alloc, &mut slices, name)?;
+        slices.push(plain_slice(alloc, name)?)?;
     }
     Ok(slices)
 }
@@ -123,47 +101,25 @@ pub fn numbered(alloc: Global, count: u32) -> Result<Vec<Slice>, AllocError>
     let mut slices = Vec::new(alloc);
     for number in 0..count {
         let name = format!(in alloc; "slice-{number}")?;
-        add_slice(alloc, &mut slices, name.as_str())?;
+        slices.push(plain_slice(alloc, name.as_str())?)?;
     }
     Ok(slices)
 }
 
-// Whether the rule is one of those that the tests make.
-fn is_plain(rule: &Rule) -> bool
-    ensures { IsTrue result → IsPlainRule rule.now }
+fn are_plain(rules: &[Rule]) -> bool
+    ensures { IsTrue result → All IsPlainRule rules.now }
 {
-    let m = rule.pattern.pattern();
-    let no_link = m.dl_vlan.is_none() && m.dl_vlan_pcp.is_none();
-    let no_more = m.nw_tos.is_none() && m.nw_src.is_none() && m.tp_src.is_none();
-    let over_tcp = m.dl_type == Some(0x0800) && m.nw_proto == Some(6);
-    let no_net = m.nw_proto.is_none() && m.nw_dst.is_none();
-    m.in_port
-        .is_none_or(|port| port <= 0xff00 || port == 0xfffe)
-        && no_link
-        && no_more
-        && (over_tcp || m.tp_dst.is_none() && (m.dl_type == Some(0x0800) || no_net))
-}
-
-// A rule of another kind is a mistake in a test, which fails by it.
-fn add_rule(rules: &mut Vec<Rule>, rule: &Rule) -> Result<(), AllocError>
-    requires { All IsPlainRule rules.old.items }
-    ensures { All IsPlainRule rules.new.items }
-{
-    if is_plain(rule) {
-        rules.push(*rule)?;
-        return Ok(());
-    }
-    Err(AllocError)
+    rules.iter().all(|rule| rule.is_plain())
 }
 
 fn plain_rules(alloc: Global, rules: &[Rule]) -> Result<Vec<Rule>, AllocError>
     ensures { IfOk result (λ v. All IsPlainRule v.items) }
 {
-    let mut plain = Vec::new(alloc);
-    for rule in rules {
-        add_rule(&mut plain, rule)?;
+    if are_plain(rules) {
+        Vec::from_slice(alloc, rules)
+    } else {
+        Err(AllocError)
     }
-    Ok(plain)
 }
 
 /// What loading slices and rules answers.

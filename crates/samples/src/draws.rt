@@ -1,0 +1,32 @@
+//! Numbers that a linear congruential generator draws.
+
+ghost use Rattle.std.specs.Prelude.{◌≡◌, ◌<◌, ◌+◌, ◌*◌, ◌/◌, ◌%◌, ◌^◌};
+
+/// A generator; those of one seed draw the same numbers.
+#[derive(Drop)]
+pub struct Draws {
+    state: u64,
+}
+
+impl Draws {
+    /// The generator of a seed.
+    pub fn new(seed: u64) -> Draws
+        ensures { result.state ≡ seed }
+    {
+        Draws { state: seed }
+    }
+
+    /// The next number, below a limit.
+    pub fn below(&mut self, limit: u8) -> u8
+        requires { 0 < limit }
+        ensures state { self.new.state ≡ (self.old.state * 6364136223846793005 + 1442695040888963407) % 2 ^ 64 }
+        ensures value { result ≡ self.new.state / 2 ^ 33 % limit }
+        ensures below { result < limit }
+    {
+        self.state = self
+            .state
+            .wrapping_mul(6364136223846793005)
+            .wrapping_add(1442695040888963407);
+        ((self.state >> 33) % u64::from(limit)) as u8
+    }
+}

@@ -1,0 +1,17 @@
+//! Slices, rules, switches and messages for the tests of other crates.
+//!
+//! What no policy or message may have, as a name of no bytes, is a mistake in a test. It is answered as
+//! want of memory, so that the test fails.
+#![tactic(auto)]
+
+mod draws;
+mod matches;
+mod messages;
+mod policies;
+mod switches;
+
+pub use draws::Draws;
+pub use matches::{ANY, Packets, match_of, packet, tcp};
+pub use messages::{bytes, frame};
+pub use policies::{plain_rules, policy, rule, slice, switch_policy, two_slices};
+pub use switches::{features, port, three_ports};
