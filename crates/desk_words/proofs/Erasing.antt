@@ -1,5 +1,5 @@
 -- Events of other slices: nothing known of the switch changes, and a slice sees nothing of them.
-use Rattle.std.proofs.Common.{◌≡◌, ℕ, ◌==◌, Bool, true, false, not, cond, if◌then◌else◌, List, [], ◌∷◌, ◌++◌, refl, ap, ap₂, sym, ◌∙◌, append-nil, true≢false, Option, Some, None}
+use Rattle.std.proofs.Common.{◌≡◌, ℕ, ◌==◌, Bool, true, false, not, if◌then◌else◌, List, [], ◌∷◌, ◌++◌, refl, ap, ap₂, sym, ◌∙◌, append-nil, true≢false, Option, Some, None}
 use Rattle.std.proofs.lemmas.Bool.{not-true}
 use Rattle.of10_port.specs.declared.features.Features.{Features}
 use Rattle.flowspace.specs.Policies.{PolicyView}

@@ -1,5 +1,5 @@
 -- What a slice has seen of its switch: its features, and the slice's own of the known ports.
-use Rattle.std.proofs.Common.{◌≡◌, ℕ, ◌==◌, ◌&&◌, ◌||◌, ◌≤◌, not, is_none, Bool, true, false, if◌then◌else◌, List, [], ◌∷◌, map, length, refl, ap, sym, ◌∙◌, true≢false, eqb-true, Option, Some, None, IfSome, unwrap_or, subst, arith}
+use Rattle.std.proofs.Common.{◌≡◌, ℕ, ◌==◌, ◌&&◌, ◌≤◌, not, is_none, Bool, true, false, if◌then◌else◌, List, [], ◌∷◌, map, length, refl, ap, sym, ◌∙◌, true≢false, eqb-true, Option, Some, None, IfSome, unwrap_or, subst, arith}
 use Rattle.std.specs.List.{list_any}
 use Rattle.std.proofs.lemmas.Bool.{or_parts}
 use Rattle.of10_ctl.specs.declared.kind.TheConstants.{PACKET_IN, PORT_STATUS}

@@ -1,5 +1,5 @@
 -- The messages of the pieces are read again.
-use Rattle.std.proofs.Common.{◌≡◌, ℕ, ◌<◌, ◌≤◌, ◌^◌, ◌==◌, Bool, true, false, if◌then◌else◌, List, [], length, get_or, All, Option, Some, None, IfSome, Ok, sym, ◌∙◌, ap, ap₂, subst, arith}
+use Rattle.std.proofs.Common.{◌≡◌, ℕ, ◌<◌, ◌≤◌, ◌^◌, ◌==◌, Bool, true, false, if◌then◌else◌, List, [], length, All, Option, Some, None, IfSome, Ok, sym, ◌∙◌, ap, ap₂, subst, arith}
 use Rattle.std.proofs.lemmas.List.Elements.{All-nil}
 use Rattle.std.proofs.lemmas.Option.{slice_get_within, get_or_from_slice_get}
 use Rattle.of10_model.specs.declared.pattern.Pattern.{Pattern}
@@ -10,7 +10,7 @@ use Rattle.of10_ctl.specs.Kinds.{IsOf}
 use Rattle.of10_flow.specs.declared.flow_mod.FlowMod.{FlowMod}
 use Rattle.of10_flow.specs.FlowMods.{IsFlowMod, spell_flow_mod, read_flow_mod}
 use Rattle.of10_flow.proofs.Again.{flow_mod_of, flow_mod_again}
-use Rattle.flowmod_expand.specs.Messages.{is_delete, buffer_at, sent_for, flow_messages, are_too_large}
+use Rattle.flowmod_expand.specs.Messages.{is_delete, buffer_at, sent_for, are_too_large}
 use Rattle.flowmod_expand.specs.Laws.{Order, IsPaired, IsInRange, messages_of, Place, flow_mod_at}
 use Rattle.flowmod_expand.proofs.Walks.{spell_size, flow_messages_length, flow_messages_at, sizes_within}
 

@@ -1,5 +1,5 @@
 -- What of a recording isn't built, as it is looked for.
-use Rattle.std.proofs.Common.{◌≡◌, ◌<◌, ◌==◌, ℕ, zero, suc, Bool, true, false, List, [], ◌∷◌, ◌++◌, drop, set, length, zip, find, refl, sym, ap, ◌∙◌, append_assoc, subst, true≢false, Option, Some, None, option_map, Result, Ok, Err, IfOk, slice_get, get_or, arith}
+use Rattle.std.proofs.Common.{◌≡◌, ◌<◌, ℕ, zero, suc, Bool, true, false, List, [], ◌∷◌, ◌++◌, drop, set, length, zip, find, refl, sym, ap, ◌∙◌, append_assoc, subst, true≢false, Option, Some, None, option_map, Result, Ok, Err, IfOk, slice_get, get_or, arith}
 use Rattle.std.proofs.lemmas.List.{append-nil, append_cancel_left}
 use Rattle.std.proofs.lemmas.Option.{slice_get-get_or}
 use Rattle.std.proofs.Math.Seq.{drop-append_seam}

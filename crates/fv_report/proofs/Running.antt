@@ -1,5 +1,5 @@
 -- All switches of a recording, and all its records.
-use Rattle.std.proofs.Common.{◌≡◌, ◌+◌, ◌<◌, ◌≤◌, ◌==◌, ◌||◌, ℕ, zero, suc, Bool, true, false, List, [], ◌∷◌, ◌++◌, drop, take, set, length, refl, sym, ap, ◌∙◌, append_assoc, subst, eqb-true, Option, Some, None, Result, Ok, Err, slice_get, get_or, add-one, arith}
+use Rattle.std.proofs.Common.{◌≡◌, ◌+◌, ◌<◌, ◌≤◌, ◌==◌, ℕ, zero, suc, false, List, [], ◌∷◌, ◌++◌, drop, take, set, length, refl, sym, ap, ◌∙◌, append_assoc, subst, eqb-true, Option, Some, None, Result, Ok, Err, slice_get, get_or, add-one, arith}
 use Rattle.std.specs.Result.{IsErr}
 use Rattle.std.proofs.lemmas.List.Elements.{All-nil}
 use Rattle.std.proofs.lemmas.Bool.{cases_Bool, or_parts}

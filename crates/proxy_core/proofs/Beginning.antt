@@ -1,5 +1,5 @@
 -- The opening: a session as the switch's features begin it.
-use Rattle.std.proofs.Common.{◌≡◌, ℕ, ◌==◌, ◌&&◌, not, Bool, true, false, if◌then◌else◌, List, [], ◌∷◌, slice_get, refl, ap, ap₂, subst, sym, ◌∙◌, true≢false, Option, Some, None}
+use Rattle.std.proofs.Common.{◌≡◌, ℕ, ◌==◌, Bool, true, false, if◌then◌else◌, List, [], ◌∷◌, slice_get, refl, ap, ap₂, subst, sym, ◌∙◌, Option, Some, None}
 use Rattle.std.specs.Prelude.{ltb}
 use Rattle.of10_ctl.specs.declared.kind.TheConstants.{FEATURES_REPLY, ECHO_REQUEST}
 use Rattle.of10_ctl.specs.Frames.{is_bad}

@@ -6,11 +6,10 @@ use Rattle.std.proofs.lemmas.List.{length-append, length-set}
 use Rattle.flowspace.specs.declared.slices.Slice.{Slice}
 use Rattle.flow_book.specs.declared.state.SliceState.{SliceState}
 use Rattle.flow_book.specs.States.{IsFreshState}
-use Rattle.outbox.specs.Queues.{Queue, no_messages, push, push_all, Kept, QueueStands}
-use Rattle.desk_words.specs.Operations.{slice_limit}
+use Rattle.outbox.specs.Queues.{Queue, push, push_all, Kept}
 use Rattle.proxy_core.specs.declared.parts.Session.{Session}
 use Rattle.proxy_core.specs.Desks.{pending_at}
-use Rattle.proxy_core.specs.Opening.{has_slot, is_up_at, AtSlot, AreEmpty}
+use Rattle.proxy_core.specs.Opening.{has_slot, is_up_at, AtSlot}
 use Rattle.proxy_core.proofs.Lists.{none_some, within}
 use Rattle.proxy_core.proofs.Places.{some_is, get_set, get_other, get_more}
 

@@ -8,7 +8,6 @@ use Rattle.outbox.specs.Queues.{Queue, no_messages, push_all, Kept, QueueStands}
 use Rattle.slice_words.specs.Items.{Settings, Item, Up, Down, Msg, is_up}
 use Rattle.slice_words.specs.Alone.{sent_for, with_items}
 use Rattle.slice_words.specs.Standing.{SliceStands}
-use Rattle.desk_words.specs.declared.event.Event.{Event}
 use Rattle.desk_words.specs.declared.event.Event.TheVariants.{SliceUp, SliceMsg, SliceDown}
 use Rattle.desk_words.specs.declared.event.Timed.{Timed}
 use Rattle.desk_words.specs.declared.phase.Phase.{Phase}

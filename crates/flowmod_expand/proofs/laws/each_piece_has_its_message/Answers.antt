@@ -1,4 +1,3 @@
-use Rattle.flowmod_expand.specs.Laws.{Order, IsPaired, Place}
 use Rattle.flowmod_expand.proofs.Walks.{flow_messages_length}
 use Rattle.flowmod_expand.proofs.Again.{message_there}
 use Rattle.flowmod_expand.proofs.laws.each_piece_has_its_message.Goals as goal
