@@ -16,7 +16,7 @@ use Rattle.fv_report.specs.declared.streams.Streams.{Streams}
 use Rattle.fv_report.specs.Streams.{AreFresh, Restarts, TookFrame, connection, StreamsStand}
 use Rattle.fv_report.specs.Switches.{told_by}
 use Rattle.fv_report.specs.Lacks.{is_unbuilt, FoundIn, FindsIn, FindsInBytes, FindsAtSlot, FindsAt, AllFresh, AllStream, lack_at, lack_seen}
-use Rattle.fv_report.proofs.Recorded.{streams_up, streams_heard, streams_slice_up, streams_slice_heard, stream_by, stream_other, set_get, set_length}
+use Rattle.fv_report.proofs.Recorded.{streams_up, streams_heard, streams_slice_up, streams_slice_heard, stream_by, set_get, set_length}
 use Rattle.fv_report.proofs.Running.{streams_other}
 
 abbrev is_there : {X : Type 0} → Option X → Bool
@@ -134,11 +134,6 @@ each_more P [] new each own zero x is = subst P (ap (λ (o : Option _). elim o [
 each_more P [] new each own (suc at) x is = absurd (true≢false (sym (ap is_there is)))
 each_more P (first ∷ others) new each own zero x is = each 0 x is
 each_more P (first ∷ others) new each own (suc at) x is = each_more P others new (λ k y g. each (suc k) y g) own at x is
-
-  of_switch = subst (λ (bytes : List ℕ). Stands streams.switch bytes (frames_of bytes)) (sym (stream_other switch switch_bytes 0 r before is)) stands.of_switch;
-  number = stands.number;
-  of_slices = λ at framer g. subst (λ (bytes : List ℕ). Stands framer bytes (frames_of bytes)) (sym (stream_other switch slice_bytes at r before is)) (stands.of_slices at framer g);
-}
 
 -- the streams after a record of a switch
 streams_among : (slices : ℕ) (r : Told) (before : List Told) (switches : List Streams) (new : Streams) → StreamsStand slices r.switch (r ∷ before) new → AllStream slices before switches → AllStream slices (r ∷ before) (set switches r.switch new)
