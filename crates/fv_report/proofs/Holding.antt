@@ -25,7 +25,6 @@ use Rattle.proxy_core.specs.declared.parts.Desk.{Desk}
 use Rattle.proxy_core.specs.Desks.{DeskStands, Takes, Steps}
 use Rattle.fv_report.specs.Holding.{waiting, Holds, nothing, IsQuiet, with_waiting, from_slot, After}
 use Rattle.fv_report.specs.Taking.{message_taken, is_nothing, is_the_end}
-use Rattle.proxy_core.proofs.Acting.{either_empty}
 
 -- ---- what waits, said otherwise
 
@@ -145,9 +144,13 @@ quiet_again slot other false = refl
 
 -- ---- steps
 
+emptied : (b : Bool) (q : Queue) → q ≡ no_messages → (if b then no_messages else q) ≡ no_messages
+emptied true q is = refl
+emptied false q is = is
+
 -- what waits for one destination after an event, where nothing waited
 all_wait : (limit : ℕ) (b : Bool) (q : Queue) (messages : List (List ℕ)) → q ≡ waiting [] → size messages ≤ limit → push_all limit (if b then no_messages else q) messages ≡ waiting messages
-all_wait limit b q messages is fits = ap (λ k. push_all limit k messages) (either_empty b q is) ∙ push_all-kept limit [] messages (omega arith)
+all_wait limit b q messages is fits = ap (λ k. push_all limit k messages) (emptied b q is) ∙ push_all-kept limit [] messages (omega arith)
 
 verdict_over : (a b : Bool) → verdicts.Ended ≡ (if a then verdicts.Ended else if b then Close else Go) → a ≡ true
 verdict_over true b is = refl
