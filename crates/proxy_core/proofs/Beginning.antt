@@ -1,8 +1,10 @@
 -- The opening: a session as the switch's features begin it.
 use Rattle.std.proofs.Common.{◌≡◌, ℕ, ◌==◌, Bool, true, false, if◌then◌else◌, List, [], ◌∷◌, slice_get, refl, ap, ap₂, subst, sym, ◌∙◌, Option, Some, None}
-use Rattle.std.specs.Prelude.{ltb}
+use Rattle.std.specs.Prelude.{ltb, is_some}
 use Rattle.of10_ctl.specs.declared.kind.TheConstants.{FEATURES_REPLY, ECHO_REQUEST}
 use Rattle.of10_ctl.specs.Frames.{is_bad}
+use Rattle.of10_ctl.specs.Kinds.{is_of}
+use Rattle.of10_port.specs.Features.{has_whole_ports, read_features}
 use Rattle.of10_port.specs.declared.features.Features.{Features}
 use Rattle.flowspace.specs.declared.slices.Slice.{Slice}
 use Rattle.flowspace.specs.Policies.{PolicyView}
@@ -37,6 +39,11 @@ bad_features message bad = rw (no_kind (version_of message == 1) (is_kind FEATUR
 
 pub bad_echo : (message : List ℕ) → is_bad message ≡ true → echo_for message ≡ []
 bad_echo message bad = rw (no_kind (version_of message == 1) (is_kind ECHO_REQUEST message) (is_bad message) bad) refl
+
+-- a FEATURES_REPLY with whole ports tells what the switch is
+pub told_whole : (message : List ℕ) → is_of FEATURES_REPLY message ≡ true → has_whole_ports message ≡ true → is_some (features_told message) ≡ true
+unfolding read_features
+told_whole message own whole = rw (own, whole) refl
 
 good_by : (bad : Bool) (message : List ℕ) (features : Features) → is_bad message ≡ bad → features_told message ≡ Some features → bad ≡ false
 good_by true message features is told = none_some features (sym (bad_features message is) ∙ told)

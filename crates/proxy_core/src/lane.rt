@@ -1,6 +1,6 @@
 //! The proxy's own messages to a switch, and how messages are put into what waits.
 
-ghost use Rattle.std.specs.Prelude.{ℕ, ◌≡◌, ◌≤◌, List, length, IfOk, OnOk, IsTrue};
+ghost use Rattle.std.specs.Prelude.{ℕ, ◌≡◌, ◌≤◌, List, length, IfOk, OnOk, OnErr, IsTrue};
 ghost use Rattle.of10_ctl.specs.Frames.{IsFrame};
 ghost use Rattle.of10_ctl.specs.Kinds.{IsOf, is_of};
 ghost use Rattle.outbox.specs.Queues.{Queue, push_all, QueueStands};
@@ -91,7 +91,8 @@ fn reply(alloc: Global, frame: &Frame) -> Result<Vec<Frame>, AllocError>
 
 /// The reply to an ECHO_REQUEST (OpenFlow 1.0.0, section 5.5); to any other message none.
 pub(crate) fn echo(alloc: Global, frame: &Frame) -> Result<Vec<Frame>, AllocError>
-    ensures { IfOk result (λ v. v.items ≡ echo_for frame.now) }
+    ensures value { IfOk result (λ v. v.items ≡ echo_for frame.now) }
+    ensures memory { OnErr result (IsOf 2 frame.now) }
 {
     if !frame.is_of(ECHO_REQUEST) {
         return Ok(Vec::new(alloc));

@@ -1,6 +1,6 @@
 //! What a desk makes of an event.
 
-ghost use Rattle.std.specs.Prelude.{ℕ, ◌≡◌, ◌≤◌, ◌^◌, ◌||◌, leb, if◌then◌else◌, false, None, Some, length, IfOk, OnErr, IfSome, List, []};
+ghost use Rattle.std.specs.Prelude.{ℕ, ◌≡◌, ◌≤◌, ◌^◌, ◌||◌, leb, if◌then◌else◌, false, None, Some, length, IfOk, OnErr, IfSome, IsTrue, is_some, List, []};
 ghost use Rattle.of10_ctl.specs.Frames.{is_bad};
 ghost use Rattle.desk_words.specs.declared.event.Event.TheVariants.{SwitchUp, SwitchMsg, SwitchDown, SliceUp, SliceMsg, SliceDown};
 ghost use Rattle.desk_words.specs.declared.phase.Phase.TheVariants.{Begun, Opened};
@@ -40,6 +40,7 @@ fn connected(phase: Phase) -> Phase
 fn features_told(alloc: Global, frame: &Frame) -> Result<Option<Features>, AllocError>
     ensures value { IfOk result (λ told. told ≡ features_told frame.now) }
     ensures few { IfOk result (λ told. IfSome told (λ f. length f.ports ≤ 1364)) }
+    ensures memory { OnErr result (IsTrue (is_some (features_told frame.now))) }
 {
     if !frame.is_of(FEATURES_REPLY) {
         return Ok(None);

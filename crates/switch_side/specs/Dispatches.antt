@@ -1,6 +1,9 @@
 -- What follows from one message of a switch that has told what it is, for all slices at once (this proxy's own rule).
-use Rattle.std.specs.Prelude.{ℕ, ◌≡◌, ◌+◌, if◌then◌else◌, List, [], ◌∷◌, ◌++◌, map, slice_get, Option, Some, None}
+use Rattle.std.specs.Prelude.{ℕ, ◌≡◌, ◌+◌, ◌&&◌, ◌||◌, not, is_some, Bool, if◌then◌else◌, List, [], ◌∷◌, ◌++◌, map, slice_get, Option, Some, None}
+use Rattle.of10_ctl.specs.declared.kind.TheConstants.{ECHO_REQUEST, PACKET_IN}
 use Rattle.of10_ctl.specs.Frames.{is_bad}
+use Rattle.of10_ctl.specs.Kinds.{is_of}
+use Rattle.of10_flow.specs.PacketIns.{read_packet_in}
 use Rattle.of10_port.specs.declared.status.PortStatus.{PortStatus}
 use Rattle.flowspace.specs.declared.slices.Slice.{Slice}
 use Rattle.flowspace.specs.Policies.{PolicyView, SwitchView}
@@ -9,7 +12,7 @@ use Rattle.slice_words.specs.Standing.{SliceStands}
 use Rattle.desk_words.specs.declared.event.Event.TheVariants.{SwitchMsg}
 use Rattle.desk_words.specs.declared.event.Timed.{Timed}
 use Rattle.desk_words.specs.declared.phase.Phase.TheVariants.{Opened}
-use Rattle.desk_words.specs.Openings.{status_told, rules_of, Switch}
+use Rattle.desk_words.specs.Openings.{status_told, well_formed, rules_of, Switch}
 use Rattle.desk_words.specs.Histories.{settings_at, Side, is_kept}
 use Rattle.desk_words.specs.Sent.{sent_with, echo_for}
 use Rattle.switch_side.specs.declared.dispatch.Dispatch.{Dispatch}
@@ -48,6 +51,12 @@ kept_beside known (Some status) = if is_kept status known then Some status else 
 -- what a message tells of a port and is kept
 abbrev pub status_kept : List (List ℕ) → List ℕ → Option PortStatus
 status_kept known message = kept_beside known (status_told message)
+
+-- something may follow from a message: its length counts its header, and it is an ECHO_REQUEST, a PACKET_IN that is well formed, or tells of a port what is kept
+abbrev pub is_told : List (List ℕ) → List ℕ → Bool
+is_told known message =
+    not (is_bad message)
+    && (is_of ECHO_REQUEST message || (is_of PACKET_IN message && is_some (well_formed (read_packet_in message))) || is_some (status_kept known message))
 
 -- a message came from the switch
 abbrev pub told_at : ℕ → List ℕ → Timed

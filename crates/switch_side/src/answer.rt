@@ -1,4 +1,4 @@
-ghost use Rattle.std.specs.Prelude.{ℕ, ◌≡◌, ◌≤◌, ◌∷◌, [], true, length, IsTrue, IfOk, drop};
+ghost use Rattle.std.specs.Prelude.{ℕ, ◌≡◌, ◌≤◌, ◌∷◌, [], true, length, IsTrue, IfOk, OnErr, drop};
 ghost use Rattle.of10_ctl.specs.declared.kind.TheConstants.{ECHO_REPLY};
 ghost use Rattle.of10_ctl.specs.Frames.{IsFrame, message_of};
 ghost use Rattle.of10_ctl.specs.Kinds.{IsOf, is_of};
@@ -6,7 +6,7 @@ ghost use Rattle.flowspace.specs.Policies.{PolicyView};
 ghost use Rattle.slice_words.specs.Messages.{xid_of};
 ghost use Rattle.desk_words.specs.Openings.{Switch};
 ghost use Rattle.desk_words.specs.Histories.{Side};
-ghost use Rattle.switch_side.specs.Dispatches.{Surrounds, AllStand, IsDispatch};
+ghost use Rattle.switch_side.specs.Dispatches.{Surrounds, AllStand, IsDispatch, is_told};
 ghost use Rattle.switch_side.specs.Carrying.{carried, telling, carried_for};
 
 use crate::dispatch::Dispatch;
@@ -39,7 +39,8 @@ fn dispatch(
 ) -> Result<Dispatch, AllocError>
     requires few { length states.now ≤ 32 }
     requires frame { IsFrame frame.now }
-    ensures { IfOk result (λ d. carried d ≡ carried_for policy.now.rules ports.now states.now frame.now) }
+    ensures value { IfOk result (λ d. carried d ≡ carried_for policy.now.rules ports.now states.now frame.now) }
+    ensures memory { OnErr result (IsTrue (is_told ports.now frame.now)) }
 {
     if frame.bad_length() {
         Ok(Dispatch::closing(alloc))
@@ -57,7 +58,7 @@ fn dispatch(
 /// What follows from one message of a switch that has told what it is, with one state for each slice of the
 /// policy. Nothing is changed: `port` is still to be taken in by the known ports, and no state changes. A
 /// message whose length doesn't count its header ends the connection; one that isn't of version 1, isn't
-/// well formed, or says nothing to anybody is dropped.
+/// well formed, or says nothing to anybody is dropped, for which no memory is taken.
 pub fn react(
     alloc: Global,
     policy: &SwitchPolicy,
@@ -66,7 +67,8 @@ pub fn react(
     frame: &Frame,
 ) -> Result<Dispatch, AllocError>
     requires { length states.now ≡ length policy.now.slices }
-    ensures { (p : PolicyView) (switch : Switch) (sides : ℕ → Side) (moment : ℕ) → Surrounds p switch policy.now ports.now → AllStand p switch sides states.now → IfOk result (IsDispatch p switch sides moment frame.now) }
+    ensures dispatch { (p : PolicyView) (switch : Switch) (sides : ℕ → Side) (moment : ℕ) → Surrounds p switch policy.now ports.now → AllStand p switch sides states.now → IfOk result (IsDispatch p switch sides moment frame.now) }
+    ensures memory { OnErr result (IsTrue (is_told ports.now frame.now)) }
 {
     // A policy has at most 32 slices, and a frame at most 65,535 bytes.
     let (_slices, _bytes) = (policy.slices(), frame.as_slice());

@@ -1,10 +1,11 @@
 //! Packets that the switch hands up (OpenFlow 1.0.0, section 5.4.1).
 
-ghost use Rattle.std.specs.Prelude.{◌≡◌, ◌+◌, ◌≤◌, ◌++◌, [], ◌∷◌, length, IfOk, OnOk, None};
+ghost use Rattle.std.specs.Prelude.{◌≡◌, ◌+◌, ◌≤◌, ◌++◌, [], ◌∷◌, length, is_some, IfOk, IsTrue, OnOk, OnErr, None};
 ghost use Rattle.of10_model.specs.Normal.{is_value, bit};
 ghost use Rattle.of10_ctl.specs.Kinds.{IsOf};
-ghost use Rattle.of10_flow.specs.PacketIns.{packet_of, spell_packet_in};
+ghost use Rattle.of10_flow.specs.PacketIns.{packet_of, read_packet_in, spell_packet_in};
 ghost use Rattle.flowspace.specs.Order.{writer_of, readers_of};
+ghost use Rattle.desk_words.specs.Openings.{well_formed};
 ghost use Rattle.switch_side.specs.Dispatches.{addressed};
 ghost use Rattle.switch_side.specs.Carrying.{carried, telling, once, is_plain, packet_for, said_from, packet_told, packet_in_told};
 
@@ -162,7 +163,8 @@ pub(crate) fn packet_in(
 ) -> Result<Dispatch, AllocError>
     requires kind { IsOf 10 frame.now }
     requires few { length states.now ≤ 32 }
-    ensures { IfOk result (λ d. carried d ≡ telling (packet_in_told policy.now.rules states.now frame.now) None) }
+    ensures value { IfOk result (λ d. carried d ≡ telling (packet_in_told policy.now.rules states.now frame.now) None) }
+    ensures memory { OnErr result (IsTrue (is_some (well_formed (read_packet_in frame.now)))) }
 {
     match PacketInView::decode(frame) {
         Ok(packet) => {

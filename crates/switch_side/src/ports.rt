@@ -1,6 +1,6 @@
 //! Ports that come, go or change (OpenFlow 1.0.0, section 5.4.3).
 
-ghost use Rattle.std.specs.Prelude.{◌≡◌, ◌≤◌, ◌++◌, length, IfOk, OnOk};
+ghost use Rattle.std.specs.Prelude.{◌≡◌, ◌≤◌, ◌++◌, length, is_some, IfOk, IsTrue, OnOk, OnErr};
 ghost use Rattle.of10_ctl.specs.Kinds.{IsOf};
 ghost use Rattle.of10_port.specs.PortStatus.{spell_port_status};
 ghost use Rattle.switch_side.specs.Dispatches.{addressed, status_kept};
@@ -108,7 +108,8 @@ pub(crate) fn port_status(
 ) -> Result<Dispatch, AllocError>
     requires kind { IsOf 12 frame.now }
     requires few { length states.now ≤ 32 }
-    ensures { IfOk result (λ d. carried d ≡ telling (port_told policy.now.rules states.now (status_kept ports.now frame.now)) (status_kept ports.now frame.now)) }
+    ensures value { IfOk result (λ d. carried d ≡ telling (port_told policy.now.rules states.now (status_kept ports.now frame.now)) (status_kept ports.now frame.now)) }
+    ensures memory { OnErr result (IsTrue (is_some (status_kept ports.now frame.now))) }
 {
     match kept(ports, frame) {
         None => Ok(Dispatch::nothing(alloc)),

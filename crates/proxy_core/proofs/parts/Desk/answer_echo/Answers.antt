@@ -13,4 +13,4 @@ returns-in_err-make_room-clause-err c =
 pub returns-clause-ok : goal.returns-clause-ok
 returns-clause-ok c moment =
     begun_answers c.args.self.now _ moment c.args.frame.now refl refl
-    (subst (λ (m : List (List ℕ)). HasMore m c.args.self.now.lane c.push_all.new.waiting) c.in_ok-messages.ensures (λ limit q h. c.push_all.ensures limit q (c.make_room.ensures.stands limit q h))) refl c.requires.0 c.requires.1
+    (subst (λ (m : List (List ℕ)). HasMore m c.args.self.now.lane c.push_all.new.waiting) c.in_ok-messages.ensures.value (λ limit q h. c.push_all.ensures limit q (c.make_room.ensures.stands limit q h))) refl c.requires.0 c.requires.1
