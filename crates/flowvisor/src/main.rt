@@ -1,6 +1,9 @@
 //! The program: its words, the real files and streams, and the exit status.
 #![tactic(auto)]
 
+ghost use Rattle.std.specs.Prelude.{◌≡◌, ◌≢◌};
+ghost use Rattle.std.specs.IoError.{error_kind};
+
 mod counts;
 mod disk;
 mod stream;
@@ -48,7 +51,10 @@ enum WordsRefused {
 }
 
 impl From<io::Error> for WordsRefused {
-    fn from(error: io::Error) -> WordsRefused {
+    fn from(error: io::Error) -> WordsRefused
+        ensures memory { error_kind error ≡ ErrorKind.OutOfMemory → result ≡ WordsRefused.Memory }
+        ensures other { error_kind error ≢ ErrorKind.OutOfMemory → result ≡ WordsRefused.NotText }
+    {
         match error.kind() {
             ErrorKind::OutOfMemory => WordsRefused::Memory,
             _ => WordsRefused::NotText,
@@ -57,7 +63,9 @@ impl From<io::Error> for WordsRefused {
 }
 
 impl From<AllocError> for WordsRefused {
-    fn from(_error: AllocError) -> WordsRefused {
+    fn from(_error: AllocError) -> WordsRefused
+        ensures { result ≡ WordsRefused.Memory }
+    {
         WordsRefused::Memory
     }
 }

@@ -1,7 +1,5 @@
 //! The calls that are measured.
 
-ghost use Rattle.std.specs.Prelude.{◌≤◌};
-
 use crate::checking::give;
 use crate::expanding::{send, split};
 use crate::messages::Messages;
@@ -126,16 +124,10 @@ fn holds(samples: &Samples, question: Question, number: u64) -> bool {
 }
 
 /// Asks so often, and counts the answers that are yes.
-fn ask(samples: &Samples, question: Question, count: u64) -> u64
-    ensures { result ≤ count }
-{
-    let mut found = 0;
-    for number in 0..count {
-        if holds(samples, question, number) {
-            found += 1;
-        }
-    }
-    found
+fn ask(samples: &Samples, question: Question, count: u64) -> u64 {
+    (0..count)
+        .filter(|number| holds(samples, question, *number))
+        .count() as u64
 }
 
 /// Makes so many calls, and counts what they find: answers that are yes, frames, packets, pieces,
