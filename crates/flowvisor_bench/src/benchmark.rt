@@ -6,7 +6,7 @@ use crate::messages::Messages;
 use crate::parts::Part;
 use crate::policies::{check, largest};
 use crate::reporting::report;
-use crate::samples::Samples;
+use crate::sampling::Samples;
 use match_meet::{includes, meet};
 use std::alloc::{AllocError, Global};
 

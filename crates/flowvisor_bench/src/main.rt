@@ -14,11 +14,11 @@ mod messages;
 mod parts;
 mod policies;
 mod reporting;
-mod samples;
+mod sampling;
 
 use benchmark::{ALL, Benchmark, run};
 use messages::Messages;
-use samples::Samples;
+use sampling::Samples;
 use std::process::ExitCode;
 use std::time::Instant;
 use std::{env, io};
