@@ -1,8 +1,7 @@
 -- The match of one header alone is normal, where the fields that don't apply are zero in it.
-use Rattle.std.proofs.Common.{ℕ, ◌≡◌, ◌-◌, ◌/◌, ◌%◌, ◌^◌, Bool, true, false, Option, Some, refl, ap, sym, ◌∙◌, lit≤, arith}
-use Rattle.of10_model.specs.declared.pattern.Pattern.{Pattern}
+use Rattle.std.proofs.Common.{ℕ, ◌≡◌, ◌-◌, ◌/◌, ◌%◌, ◌^◌, Bool, true, false, Option, Some, refl, ap, sym, lit≤, arith}
 use Rattle.of10_model.specs.Header.{Header, IsHeader}
-use Rattle.of10_model.specs.Normal.{applied, kept, kept_prefix, has_vlan, has_network, has_service, has_ports, IsPrefix, IsInRange, IsNormal}
+use Rattle.of10_model.specs.Normal.{applied, kept, kept_prefix, has_vlan, has_network, has_service, has_ports, IsInRange, IsNormal}
 use Rattle.of10_model.specs.Pattern.{Has}
 use Rattle.of10_model.specs.Exact.{exact_of, IsTidy}
 use Rattle.of10_model.proofs.Applied.{same_fields}

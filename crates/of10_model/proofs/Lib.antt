@@ -11,3 +11,4 @@ pub mod MeetNormal
 pub mod Inhabited
 pub mod Including
 pub mod Disjointness
+pub mod Results

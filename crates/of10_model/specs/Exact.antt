@@ -1,5 +1,5 @@
 -- The match of one header alone.
-use Rattle.std.specs.Prelude.{ℕ, ◌≡◌, false, Option, Some, None}
+use Rattle.std.specs.Prelude.{◌≡◌, false, Some, None}
 use Rattle.of10_model.specs.declared.pattern.Pattern.{Pattern}
 use Rattle.of10_model.specs.Header.{Header}
 use Rattle.of10_model.specs.Normal.{has_vlan, has_network, has_service, has_ports}
