@@ -1,4 +1,4 @@
-mod draws;
+mod drawn;
 mod given;
 mod plain;
 mod soundness;

@@ -1,6 +1,7 @@
 ghost use Rattle.std.specs.Prelude.{◌≡◌, ◌≢◌, ◌+◌, ◌<◌, ◌≤◌, All, AllPairs, length, IsTrue};
 
 use super::*;
+use draws::Draws;
 use flowspace::{Slice, Text};
 use match_meet::{disjoint, includes};
 use of10_flow::protocol::{ADD, DELETE, MODIFY, MODIFY_STRICT};
@@ -8,23 +9,6 @@ use of10_match::Match;
 use of10_model::wire::{set_u16, set_u32};
 use std::alloc::{AllocError, Global};
 use std::test::Fail;
-
-// Numbers that are the same at every run.
-#[derive(Drop)]
-struct Draws {
-    state: u64,
-}
-
-impl Draws {
-    fn below(&mut self, limit: u64) -> u64
-        requires { 1 ≤ limit }
-        ensures { result < limit }
-    {
-        self.state = self.state.wrapping_mul(6_364_136_223_846_793_005);
-        self.state = self.state.wrapping_add(1_442_695_040_888_963_407);
-        (self.state >> 33) % limit
-    }
-}
 
 // IPv4 packets with these wildcards, to 10.1.2.3 and a TCP port, where they aren't free.
 fn matching(wildcards: u32, port: u16) -> Match {
@@ -362,20 +346,20 @@ impl Both {
         draws: &mut Draws,
         number: u64,
     ) -> Result<bool, AllocError> {
-        let command = match draws.below(6) {
+        let command = match draws.number_below(6) {
             5 => MODIFY,
             command => command as u16,
         };
-        let priority = draws.below(2) as u16;
-        let asked = draws.below(2) == 0;
+        let priority = draws.number_below(2) as u16;
+        let asked = draws.number_below(2) == 0;
         let sent = FlowMod {
             command,
             priority,
             asked,
             number,
         };
-        let quota = draws.below(12) as u32;
-        let (one, other) = (sample(draws.below(8)), sample(draws.below(8)));
+        let quota = draws.number_below(12) as u32;
+        let (one, other) = (sample(draws.number_below(8)), sample(draws.number_below(8)));
         if differ(&one, &other) {
             self.send_both(alloc, &sent, &one, &other, quota)
         } else {
@@ -385,13 +369,13 @@ impl Both {
 
     // One that is booked, or any.
     fn draw(&self, draws: &mut Draws) -> (Match, u16, u64) {
-        let place = draws.below(16) as usize;
+        let place = draws.number_below(16) as usize;
         match self.list.get(place) {
             Some(booked) => (booked.pattern, booked.priority, booked.number),
             None => (
-                sample(draws.below(8)),
-                draws.below(2) as u16,
-                draws.below(8),
+                sample(draws.number_below(8)),
+                draws.number_below(2) as u16,
+                draws.number_below(8),
             ),
         }
     }
@@ -408,7 +392,7 @@ impl Both {
     fn failure(&mut self, draws: &mut Draws) -> Result<(), AllocError> {
         let (pattern, priority, of_first) = self.draw(draws);
         let (_, _, of_another) = self.draw(draws);
-        let number = if draws.below(2) == 0 {
+        let number = if draws.number_below(2) == 0 {
             of_first
         } else {
             of_another
@@ -445,10 +429,10 @@ impl Both {
 
 #[test]
 fn answers_as_a_plain_list(rt: HostRuntime) -> Result<(), Fail> {
-    let mut draws = Draws { state: 5 };
+    let mut draws = Draws::new(5);
     let mut both = Both::new(rt.alloc());
     for step in 0..8_000u64 {
-        let answered_alike = match draws.below(8) {
+        let answered_alike = match draws.number_below(8) {
             0..3 => both.removal(&mut draws)?,
             3 | 4 => {
                 both.failure(&mut draws)?;

@@ -1,8 +1,8 @@
-mod draws;
+mod drawn;
 mod given;
 
 use crate::{BuildFault, pieces};
-use draws::Draws;
+use drawn::Draws;
 use flowspace::SwitchPolicy;
 use given::{built, spelled, strips};
 use match_meet::meet;

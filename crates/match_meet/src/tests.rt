@@ -1,5 +1,5 @@
 mod covers;
-mod draws;
+mod drawn;
 mod membership;
 mod spelling;
 
@@ -7,7 +7,7 @@ ghost use Rattle.of10_action.specs.Actions.{HasAddress};
 
 use crate::{disjoint, includes, includes_aside, meet, rewrite, rewrite_header};
 use covers::expected;
-use draws::{Draws, FIRST_HEADER};
+use drawn::{Draws, FIRST_HEADER};
 use membership::{header_aside, is_in, shared_header};
 use of10_action::Action;
 use of10_match::{Header12, Match};

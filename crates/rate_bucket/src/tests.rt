@@ -1,24 +1,8 @@
 ghost use Rattle.std.specs.Prelude.{◌<◌, ◌≤◌};
 
 use super::*;
+use draws::Draws;
 use std::test::Fail;
-
-// Numbers that are the same at every run.
-#[derive(Drop)]
-struct Draws {
-    state: u64,
-}
-
-impl Draws {
-    fn below(&mut self, limit: u64) -> u64
-        requires { 1 ≤ limit }
-        ensures { result < limit }
-    {
-        self.state = self.state.wrapping_mul(6_364_136_223_846_793_005);
-        self.state = self.state.wrapping_add(1_442_695_040_888_963_407);
-        (self.state >> 33) % limit
-    }
-}
 
 // The rule itself, over the accepted moments, the oldest first.
 fn keeps_the_rate(rate: u32, burst: u32, accepted: &[u64], t: u64) -> bool {
@@ -44,7 +28,7 @@ fn one_a_second_and_two_at_once(rt: HostRuntime) {
 
 #[test]
 fn answers_as_the_list_of_accepted_moments(rt: HostRuntime) -> Result<(), Fail> {
-    let mut draws = Draws { state: 1 };
+    let mut draws = Draws::new(1);
     let table = [
         (1, 1, 0, 1_200),
         (3, 2, 0, 400),
@@ -61,9 +45,9 @@ fn answers_as_the_list_of_accepted_moments(rt: HostRuntime) -> Result<(), Fail> 
         let mut now: u64 = start;
         let mut t = 0;
         for _ in 0..600u32 {
-            now = now.saturating_add(draws.below(step));
-            let back = if draws.below(4) == 0 {
-                draws.below(3 * step)
+            now = now.saturating_add(draws.number_below(step));
+            let back = if draws.number_below(4) == 0 {
+                draws.number_below(3 * step)
             } else {
                 0
             };

@@ -4,13 +4,11 @@
 //! want of memory, so that the test fails.
 #![tactic(auto)]
 
-mod draws;
 mod matches;
 mod messages;
 mod policies;
 mod switches;
 
-pub use draws::Draws;
 pub use matches::{ANY, Packets, match_of, packet, tcp};
 pub use messages::{bytes, frame};
 pub use policies::{plain_rules, policy, rule, slice, switch_policy, two_slices};

@@ -1,25 +1,9 @@
 ghost use Rattle.std.specs.Prelude.{◌≡◌, ◌^◌, ◌<◌, ◌≤◌, length, IfOk, vec_len};
 
 use super::*;
+use draws::Draws;
 use std::alloc::{AllocError, Global};
 use std::test::Fail;
-
-// Numbers that are the same at every run.
-#[derive(Drop)]
-struct Draws {
-    state: u64,
-}
-
-impl Draws {
-    fn below(&mut self, limit: u64) -> u64
-        requires { 1 ≤ limit }
-        ensures { result < limit }
-    {
-        self.state = self.state.wrapping_mul(6_364_136_223_846_793_005);
-        self.state = self.state.wrapping_add(1_442_695_040_888_963_407);
-        (self.state >> 33) % limit
-    }
-}
 
 fn asked(xid: u32, kind: AskKind) -> Asked {
     Asked {
@@ -90,21 +74,21 @@ fn push(requests: &mut Vec<Issued>, number: u64, asked: Asked) -> Result<(), All
 
 #[test]
 fn finds_as_the_list_of_all_requests(rt: HostRuntime) -> Result<(), Fail> {
-    let mut draws = Draws { state: 2 };
+    let mut draws = Draws::new(2);
     let mut map = XidMap::new(rt.alloc(), 5)?;
     let mut requests: Vec<Issued> = Vec::new(rt.alloc());
     let (mut hits, mut forgets, mut wraps) = (0u32, 0u32, 0u32);
     for step in 0..12_000u32 {
         let (number, physical) = map.next();
-        let other = number.saturating_add(2).saturating_sub(draws.below(4_200));
-        match draws.below(4_000) {
+        let other = number.saturating_add(2).saturating_sub(draws.number_below(4_200));
+        match draws.number_below(4_000) {
             0 => {
                 map.forget_all();
                 requests.clear();
                 forgets = forgets.saturating_add(1);
             }
             1..400 => {
-                let failed = draws.below(2) == 0;
+                let failed = draws.number_below(2) == 0;
                 mark_both(&mut map, &mut requests, other, failed);
             }
             _ => {
@@ -371,12 +355,12 @@ impl Both {
 
 #[test]
 fn collects_as_the_list_of_collections(rt: HostRuntime) -> Result<(), Fail> {
-    let mut draws = Draws { state: 3 };
+    let mut draws = Draws::new(3);
     let pattern = pattern(rt.alloc())?;
     let mut both = Both::new(rt.alloc())?;
     for step in 0..5_000u32 {
-        let number = draws.below(10);
-        match draws.below(200) {
+        let number = draws.number_below(10);
+        match draws.number_below(200) {
             0 => both.forget_all()?,
             1..30 => both.start(rt.alloc(), number)?,
             30..36 => {
@@ -384,16 +368,16 @@ fn collects_as_the_list_of_collections(rt: HostRuntime) -> Result<(), Fail> {
                 assert!(rt; alike, "at {step}");
             }
             36..140 => {
-                let from = draws.below(200_000) as usize;
-                let large = number < 3 && draws.below(2) == 0;
+                let from = draws.number_below(200_000) as usize;
+                let large = number < 3 && draws.number_below(2) == 0;
                 let most = if large { 200_000 } else { 200 };
-                let length = draws.below(most) as usize;
+                let length = draws.number_below(most) as usize;
                 both.add(number, &pattern[from..from + length])?;
             }
             _ => both.sum(
                 number,
-                draws.below(1 << 31) << 33,
-                draws.below(1 << 31) << 33,
+                draws.number_below(1 << 31) << 33,
+                draws.number_below(1 << 31) << 33,
             )?,
         }
         for request in 0..10u64 {

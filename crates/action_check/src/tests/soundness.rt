@@ -1,6 +1,6 @@
 //! Drawn lists for drawn policies: what is given is judged packet by packet.
 
-use super::draws::Draws;
+use super::drawn::Draws;
 use super::given::answer_with;
 use super::plain::{Grant, Kind, is_own_port, may_have, names_its_ports, rewrites};
 use super::{enqueue, output};

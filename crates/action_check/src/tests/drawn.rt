@@ -10,13 +10,13 @@ use samples::{Packets, packet};
 
 #[derive(Drop)]
 pub struct Draws {
-    numbers: samples::Draws,
+    numbers: draws::Draws,
 }
 
 impl Draws {
     pub fn new(seed: u64) -> Draws {
         Draws {
-            numbers: samples::Draws::new(seed),
+            numbers: draws::Draws::new(seed),
         }
     }
 

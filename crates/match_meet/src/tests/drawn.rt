@@ -1,4 +1,4 @@
-//! Headers, constraints and actions of few values, drawn by a linear congruential generator.
+//! Headers, constraints and actions of few values, drawn.
 
 ghost use Rattle.std.specs.Prelude.{◌≡◌, ◌<◌, ◌%◌};
 ghost use Rattle.of10_action.specs.Actions.{HasAddress};
@@ -24,40 +24,31 @@ pub const FIRST_HEADER: Header12 = Header12 {
 
 #[derive(Drop)]
 pub struct Draws {
-    state: u64,
+    numbers: draws::Draws,
 }
 
 impl Draws {
     pub fn new(seed: u64) -> Draws {
-        Draws { state: seed }
-    }
-
-    fn below(&mut self, limit: u8) -> u8
-        requires { 0 < limit }
-        ensures { result < limit }
-    {
-        self.state = self
-            .state
-            .wrapping_mul(6364136223846793005)
-            .wrapping_add(1442695040888963407);
-        ((self.state >> 33) % u64::from(limit)) as u8
+        Draws {
+            numbers: draws::Draws::new(seed),
+        }
     }
 
     fn chance(&mut self, of: u8) -> bool
         requires { 0 < of }
     {
-        self.below(of) == 0
+        self.numbers.below(of) == 0
     }
 
     fn vlan(&mut self) -> u16 {
-        match self.below(3) {
+        match self.numbers.below(3) {
             0 => 0xffff,
             n => u16::from(n),
         }
     }
 
     fn kind(&mut self) -> u16 {
-        match self.below(4) {
+        match self.numbers.below(4) {
             0 => 0x0806,
             1 => 0x88cc,
             _ => 0x0800,
@@ -65,7 +56,7 @@ impl Draws {
     }
 
     fn protocol(&mut self) -> u8 {
-        match self.below(4) {
+        match self.numbers.below(4) {
             0 => 1,
             1 => 17,
             _ => 6,
@@ -73,28 +64,28 @@ impl Draws {
     }
 
     fn address(&mut self) -> u32 {
-        0x0a000000 + 0x10000 * u32::from(self.below(3)) + u32::from(self.below(3))
+        0x0a000000 + 0x10000 * u32::from(self.numbers.below(3)) + u32::from(self.numbers.below(3))
     }
 
     fn service(&mut self) -> u8
         ensures { result % 4 ≡ 0 }
     {
-        4 * self.below(3)
+        4 * self.numbers.below(3)
     }
 
     /// The header with one field drawn anew.
     pub fn changed(&mut self, h: &Header12) -> Header12 {
-        match self.below(12) {
+        match self.numbers.below(12) {
             0 => Header12 {
-                in_port: u16::from(self.below(3)),
+                in_port: u16::from(self.numbers.below(3)),
                 ..*h
             },
             1 => Header12 {
-                dl_src: u64::from(self.below(3)),
+                dl_src: u64::from(self.numbers.below(3)),
                 ..*h
             },
             2 => Header12 {
-                dl_dst: u64::from(self.below(3)),
+                dl_dst: u64::from(self.numbers.below(3)),
                 ..*h
             },
             3 => Header12 {
@@ -102,7 +93,7 @@ impl Draws {
                 ..*h
             },
             4 => Header12 {
-                dl_vlan_pcp: self.below(3),
+                dl_vlan_pcp: self.numbers.below(3),
                 ..*h
             },
             5 => Header12 {
@@ -114,7 +105,7 @@ impl Draws {
     }
 
     fn changed_payload(&mut self, h: &Header12) -> Header12 {
-        match self.below(6) {
+        match self.numbers.below(6) {
             0 => Header12 {
                 nw_tos: self.service(),
                 ..*h
@@ -132,18 +123,18 @@ impl Draws {
                 ..*h
             },
             4 => Header12 {
-                tp_src: u16::from(self.below(3)),
+                tp_src: u16::from(self.numbers.below(3)),
                 ..*h
             },
             _ => Header12 {
-                tp_dst: u16::from(self.below(3)),
+                tp_dst: u16::from(self.numbers.below(3)),
                 ..*h
             },
         }
     }
 
     fn prefix(&mut self, value: u32) -> Option<Prefix> {
-        match self.below(4) {
+        match self.numbers.below(4) {
             0 => Some(Prefix { bits: 32, value }),
             1 => Some(Prefix { bits: 16, value }),
             2 => Some(Prefix { bits: 8, value }),
@@ -180,17 +171,17 @@ impl Draws {
     pub fn action(&mut self) -> Action
         ensures { HasAddress result }
     {
-        match self.below(12) {
-            0 => Action::SetVlanVid(0x0fff + u16::from(self.below(3))),
-            1 => Action::SetVlanPcp(self.below(16)),
+        match self.numbers.below(12) {
+            0 => Action::SetVlanVid(0x0fff + u16::from(self.numbers.below(3))),
+            1 => Action::SetVlanPcp(self.numbers.below(16)),
             2 => Action::StripVlan,
-            3 => Action::SetDlSrc(u64::from(self.below(3))),
-            4 => Action::SetDlDst(u64::from(self.below(3))),
+            3 => Action::SetDlSrc(u64::from(self.numbers.below(3))),
+            4 => Action::SetDlDst(u64::from(self.numbers.below(3))),
             5 => Action::SetNwSrc(self.address()),
             6 => Action::SetNwDst(self.address()),
-            7 => Action::SetNwTos(self.below(16)),
-            8 => Action::SetTpSrc(u16::from(self.below(3))),
-            9 => Action::SetTpDst(u16::from(self.below(3))),
+            7 => Action::SetNwTos(self.numbers.below(16)),
+            8 => Action::SetTpSrc(u16::from(self.numbers.below(3))),
+            9 => Action::SetTpDst(u16::from(self.numbers.below(3))),
             10 => Action::Enqueue { port: 1, queue: 2 },
             _ => Action::Output {
                 port: 1,

@@ -8,13 +8,13 @@ use samples::rule;
 
 #[derive(Drop)]
 pub struct Draws {
-    numbers: samples::Draws,
+    numbers: draws::Draws,
 }
 
 impl Draws {
     pub fn new(seed: u64) -> Draws {
         Draws {
-            numbers: samples::Draws::new(seed),
+            numbers: draws::Draws::new(seed),
         }
     }
 

@@ -1,4 +1,5 @@
-//! Numbers that a linear congruential generator draws.
+//! Numbers that tests draw, the same at every run, by a linear congruential generator.
+#![tactic(auto)]
 
 ghost use Rattle.std.specs.Prelude.{◌≡◌, ◌<◌, ◌+◌, ◌*◌, ◌/◌, ◌%◌, ◌^◌};
 
@@ -17,7 +18,7 @@ impl Draws {
     }
 
     /// The next number, below a limit.
-    pub fn below(&mut self, limit: u8) -> u8
+    pub fn number_below(&mut self, limit: u64) -> u64
         requires { 0 < limit }
         ensures state { self.new.state ≡ (self.old.state * 6364136223846793005 + 1442695040888963407) % 2 ^ 64 }
         ensures value { result ≡ self.new.state / 2 ^ 33 % limit }
@@ -27,6 +28,16 @@ impl Draws {
             .state
             .wrapping_mul(6364136223846793005)
             .wrapping_add(1442695040888963407);
-        ((self.state >> 33) % u64::from(limit)) as u8
+        (self.state >> 33) % limit
+    }
+
+    /// The next number, below a limit of one byte.
+    pub fn below(&mut self, limit: u8) -> u8
+        requires { 0 < limit }
+        ensures state { self.new.state ≡ (self.old.state * 6364136223846793005 + 1442695040888963407) % 2 ^ 64 }
+        ensures value { result ≡ self.new.state / 2 ^ 33 % limit }
+        ensures below { result < limit }
+    {
+        self.number_below(u64::from(limit)) as u8
     }
 }
