@@ -11,7 +11,7 @@ use Rattle.of10_model.specs.Normal.{IsBelow, IsService, IsPrefix, IsInRange, IsN
 use Rattle.of10_model.specs.Meet.{begins_as}
 use Rattle.of10_model.specs.Inclusion.{Includes, covers, covers_prefix, includes_of, any_in_port}
 use Rattle.of10_model.proofs.Twelve.{each_true, true_of_each}
-use Rattle.of10_model.proofs.Applied.{same_fields}
+use Rattle.of10_model.proofs.Applied.{same_parts, same_fields}
 use Rattle.of10_model.proofs.Meeting.{coarser}
 use Rattle.of10_model.proofs.Inhabited.{IsTos, Values, header_of, IsHeader-header_of, Has-header_of, own_values}
 
@@ -178,9 +178,6 @@ covers_both_ways None (Some w) e f = absurd (true≢false (sym f))
 covers_both_ways (Some v) None e f = absurd (true≢false (sym e))
 covers_both_ways (Some v) (Some w) e f = ap Some (eqb-true v w f)
 
-same_prefix : (p q : Prefix) → p.bits ≡ q.bits → p.value ≡ q.value → p ≡ q
-same_prefix p q e f = rw (e, f) refl
-
 covers_prefix_both_ways : (c d : Option Prefix) → IsPrefix c → IsPrefix d → IsTrue (covers_prefix c d) → IsTrue (covers_prefix d c) → c ≡ d
 covers_prefix_both_ways None None i j e f = refl
 covers_prefix_both_ways None (Some q) i j e f = absurd (true≢false (sym f))
@@ -197,7 +194,7 @@ covers_prefix_both_ways (Some p) (Some q) i j e f =
     let parts = div-add-mod' p.value (2 ^ (32 - p.bits)) in
     let parts' = div-add-mod' q.value (2 ^ (32 - p.bits)) in
     let value : p.value ≡ q.value = sym parts ∙ rw (low, ← high, ← low', parts') refl in
-    ap Some (same_prefix p q bits value)
+    ap Some (same_parts p q bits value)
 
 -- two matches of which each has the headers of the other are one
 pub Includes_both_ways : (a b : Pattern) → IsInRange a → IsInRange b → Includes a b → Includes b a → a ≡ b

@@ -1,8 +1,9 @@
 -- What it is for a match to be normal, field by field.
-use Rattle.std.proofs.Common.{ℕ, ◌≡◌, Bool, Option, refl, sym, ap}
+use Rattle.std.proofs.Common.{ℕ, ◌≡◌, Bool, true, false, IsTrue, if◌then◌else◌, Option, Some, None, refl, sym, ◌∙◌, ap}
+use Rattle.std.proofs.lemmas.Bool.{true≢false}
 use Rattle.of10_model.specs.declared.pattern.Pattern.{Pattern}
 use Rattle.of10_model.specs.Normal.{is_exact, has_vlan, has_network, has_service, has_ports, kept, kept_prefix, applied}
-use Rattle.of10_model.proofs.Applied.{same_fields}
+use Rattle.of10_model.proofs.Applied.{kept_or, same_fields}
 
 -- each field without its prerequisite is meaningless already
 pub record NormalFields (m : Pattern) : Type 0 where
@@ -50,3 +51,18 @@ applied_same m n =
       tp_src = kept_as (is_exact m) m.dl_type proto' m.nw_proto m.tp_src (sym n.on_nw_proto) n.on_tp_src;
       tp_dst = kept_as (is_exact m) m.dl_type proto' m.nw_proto m.tp_dst (sym n.on_nw_proto) n.on_tp_dst;
     })
+
+-- ---- a field without its prerequisite
+
+-- is meaningless where it is kept as it is
+pub as_before : {C : Type 0} (zero : C) (exact needed : Bool) (c : Option C) → kept_or zero exact needed c ≡ c → needed ≡ false → c ≡ (if exact then Some zero else None)
+as_before zero exact needed c k f = sym (rw f at k)
+
+-- is kept as it is where it is meaningless in another match, which is all-exact at most where this one is
+pub kept_set : {C : Type 0} (given : Option C → Bool) (zero : C) (other exact needed : Bool) (c : Option C) → given None ≡ false
+    → (needed ≡ false → c ≡ (if other then Some zero else None)) → (IsTrue other → IsTrue exact) → (IsTrue exact → IsTrue (given c)) → kept_or zero exact needed c ≡ c
+kept_set given zero other exact true c n s x g = refl
+kept_set given zero true true false c n s x g = sym (s refl)
+kept_set given zero true false false c n s x g = absurd (true≢false (sym (x refl)))
+kept_set given zero false true false c n s x g = absurd (true≢false (sym (rw (s refl) at (g refl)) ∙ n))
+kept_set given zero false false false c n s x g = sym (s refl)

@@ -4,7 +4,7 @@ use Rattle.std.proofs.lemmas.Bool.{true≢false, and_parts, and_from}
 use Rattle.of10_model.specs.declared.pattern.Prefix.{Prefix}
 use Rattle.of10_model.specs.declared.pattern.Pattern.{Pattern}
 use Rattle.of10_model.proofs.Twelve.{each_true, true_of_each}
-use Rattle.of10_model.proofs.Applied.{same_fields}
+use Rattle.of10_model.proofs.Applied.{same_parts, same_fields}
 use Rattle.of10_model.specs.Same.{same, same_prefix, is_same}
 
 one-same : (a b : Option ℕ) → same a b ≡ true → a ≡ b
@@ -17,16 +17,13 @@ same-one : (a : Option ℕ) → same a a ≡ true
 same-one None = refl
 same-one (Some v) = eq-eqb v v refl
 
-prefix_of : (p q : Prefix) → p.bits ≡ q.bits → p.value ≡ q.value → p ≡ q
-prefix_of p q bits value = rw (bits, value) refl
-
 one-same_prefix : (a b : Option Prefix) → same_prefix a b ≡ true → a ≡ b
 one-same_prefix None None e = refl
 one-same_prefix None (Some w) e = absurd (true≢false (sym e))
 one-same_prefix (Some v) None e = absurd (true≢false (sym e))
 one-same_prefix (Some p) (Some q) e =
     let parts = and_parts (p.bits == q.bits) (p.value == q.value) e in
-    let is : p ≡ q = prefix_of p q (eqb-true p.bits q.bits parts.0) (eqb-true p.value q.value parts.1) in
+    let is : p ≡ q = same_parts p q (eqb-true p.bits q.bits parts.0) (eqb-true p.value q.value parts.1) in
     rw is refl
 
 same_prefix-one : (a : Option Prefix) → same_prefix a a ≡ true
