@@ -1,12 +1,13 @@
 -- The cover of a normal match has each of its headers, rewritten.
 use Rattle.std.proofs.Common.{IsTrue, ℕ, ◌≡◌, ◌==◌, ◌&&◌, ◌||◌, ◌*◌, ◌/◌, ◌%◌, ◌⊎◌, inl, inr, Bool, true, false, if◌then◌else◌, Option, Some, None, refl, sym, ◌∙◌, rules}
-use Rattle.std.proofs.lemmas.Bool.{true≢false, and_parts, and_from, cases_Bool}
+use Rattle.std.proofs.lemmas.Bool.{true≢false, and_parts, and_from, cases_Bool, false_from_ne_true}
 use Rattle.of10_model.specs.declared.pattern.Prefix.{Prefix}
 use Rattle.of10_model.specs.declared.pattern.Pattern.{Pattern}
 use Rattle.of10_model.specs.Header.{Header}
 use Rattle.of10_model.specs.Pattern.{Meets, MeetsPrefix, Has}
-use Rattle.of10_model.specs.Normal.{is_value, is_given, is_whole, is_exact, has_vlan, has_network, has_service, has_ports, meaningless, kept, kept_prefix, applied}
+use Rattle.of10_model.specs.Normal.{is_value, is_given, is_whole, is_exact, has_vlan, has_network, has_service, has_ports, meaningless, applied}
 use Rattle.of10_model.proofs.Twelve.{each_true}
+use Rattle.of10_model.proofs.Applied.{kept_or, zero_address}
 use Rattle.of10_model.proofs.NormalFields.{NormalFields, normal_fields}
 use Rattle.of10_action.specs.declared.action.Action.{Action}
 use Rattle.of10_action.specs.declared.action.Action.TheVariants.{Output, SetVlanVid, SetVlanPcp, StripVlan, SetDlSrc, SetDlDst, SetNwSrc, SetNwDst, SetNwTos, SetTpSrc, SetTpDst, Enqueue}
@@ -53,14 +54,8 @@ no_vlan (Some v) f g = absurd (true≢false (rw f at g))
 
 -- ---- a match that leaves a field free leaves those free that need it
 
-free_without : (e n : Bool) (c : Option ℕ) → e ≡ false → n ≡ false → kept e n c ≡ c → c ≡ None
-free_without e n c f g k = sym (rw (f, g) at k)
-
-free_prefix_without : (e n : Bool) (c : Option Prefix) → e ≡ false → n ≡ false → kept_prefix e n c ≡ c → c ≡ None
-free_prefix_without e n c f g k = sym (rw (f, g) at k)
-
-not_exact : (m : Pattern) → (IsTrue (is_exact m) → ⊥) → is_exact m ≡ false
-not_exact m h = elim (cases_Bool (is_exact m)) [ inl e ↦ absurd (h e) | inr e ↦ e ]
+free_without : {C : Type 0} (zero : C) (e n : Bool) (c : Option C) → e ≡ false → n ≡ false → kept_or zero e n c ≡ c → c ≡ None
+free_without zero e n c f g k = sym (rw (f, g) at k)
 
 given_not_free : (c : Option ℕ) → c ≡ None → IsTrue (is_given c) → ⊥
 given_not_free c e h = true≢false (sym (rw e at h))
@@ -72,38 +67,34 @@ exact_given m h =
 
 free_pcp : (m : Pattern) → NormalFields m → m.dl_vlan ≡ None → m.dl_vlan_pcp ≡ None
 free_pcp m n e =
-    free_without (is_exact m) (has_vlan m.dl_vlan) m.dl_vlan_pcp
-    (not_exact m (λ x. given_not_free m.dl_vlan e (exact_given m x).0)) (rw e refl) n.on_dl_vlan_pcp
+    free_without 0 (is_exact m) (has_vlan m.dl_vlan) m.dl_vlan_pcp
+    (false_from_ne_true (is_exact m) (λ x. given_not_free m.dl_vlan e (exact_given m x).0)) (rw e refl) n.on_dl_vlan_pcp
 
 without_type : (m : Pattern) → m.dl_type ≡ None → is_exact m ≡ false
-without_type m e = not_exact m (λ x. given_not_free m.dl_type e (exact_given m x).1)
+without_type m e = false_from_ne_true (is_exact m) (λ x. given_not_free m.dl_type e (exact_given m x).1)
 
 free_nw_src : (m : Pattern) → NormalFields m → m.dl_type ≡ None → m.nw_src ≡ None
-free_nw_src m n e = free_prefix_without (is_exact m) (has_network m.dl_type) m.nw_src (without_type m e) (rw e refl) n.on_nw_src
+free_nw_src m n e = free_without zero_address (is_exact m) (has_network m.dl_type) m.nw_src (without_type m e) (rw e refl) n.on_nw_src
 
 free_nw_dst : (m : Pattern) → NormalFields m → m.dl_type ≡ None → m.nw_dst ≡ None
-free_nw_dst m n e = free_prefix_without (is_exact m) (has_network m.dl_type) m.nw_dst (without_type m e) (rw e refl) n.on_nw_dst
+free_nw_dst m n e = free_without zero_address (is_exact m) (has_network m.dl_type) m.nw_dst (without_type m e) (rw e refl) n.on_nw_dst
 
 free_nw_tos : (m : Pattern) → NormalFields m → m.dl_type ≡ None → m.nw_tos ≡ None
-free_nw_tos m n e = free_without (is_exact m) (has_service m.dl_type) m.nw_tos (without_type m e) (rw e refl) n.on_nw_tos
-
-and_false : (b : Bool) → (b && false) ≡ false
-and_false true = refl
-and_false false = refl
+free_nw_tos m n e = free_without 0 (is_exact m) (has_service m.dl_type) m.nw_tos (without_type m e) (rw e refl) n.on_nw_tos
 
 without_ports : (m : Pattern) → (m.dl_type ≡ None) ⊎ (m.nw_proto ≡ None) → (is_exact m ≡ false) × (has_ports m.dl_type m.nw_proto ≡ false)
 without_ports m (inl e) = (without_type m e, rw e refl)
-without_ports m (inr e) = (not_exact m (λ x. given_not_free m.nw_proto e (exact_given m x).2), rw e (and_false (is_value 0x0800 m.dl_type)))
+without_ports m (inr e) = (false_from_ne_true (is_exact m) (λ x. given_not_free m.nw_proto e (exact_given m x).2), rw e (false_from_ne_true (is_value 0x0800 m.dl_type && false) (λ t. true≢false (sym (and_parts (is_value 0x0800 m.dl_type) false t).1))))
 
 free_tp_src : (m : Pattern) → NormalFields m → (m.dl_type ≡ None) ⊎ (m.nw_proto ≡ None) → m.tp_src ≡ None
 free_tp_src m n e =
     let none = without_ports m e in
-    free_without (is_exact m) (has_ports m.dl_type m.nw_proto) m.tp_src none.0 none.1 n.on_tp_src
+    free_without 0 (is_exact m) (has_ports m.dl_type m.nw_proto) m.tp_src none.0 none.1 n.on_tp_src
 
 free_tp_dst : (m : Pattern) → NormalFields m → (m.dl_type ≡ None) ⊎ (m.nw_proto ≡ None) → m.tp_dst ≡ None
 free_tp_dst m n e =
     let none = without_ports m e in
-    free_without (is_exact m) (has_ports m.dl_type m.nw_proto) m.tp_dst none.0 none.1 n.on_tp_dst
+    free_without 0 (is_exact m) (has_ports m.dl_type m.nw_proto) m.tp_dst none.0 none.1 n.on_tp_dst
 
 any_value : (c : Option ℕ) (x : ℕ) → c ≡ None → Meets c x
 any_value c x e = rw e tt

@@ -1,38 +1,14 @@
 -- The cover of a normal match is normal.
 use Rattle.std.proofs.Common.{IsTrue, ℕ, ◌≡◌, ◌==◌, ◌&&◌, ◌||◌, ◌*◌, ◌/◌, ◌%◌, inl, inr, eqb-true, Bool, true, false, if◌then◌else◌, Option, Some, refl, sym, ◌∙◌, arith, rules}
 use Rattle.std.proofs.lemmas.Bool.{true≢false, and_parts, and_from, cases_Bool}
-use Rattle.of10_model.specs.declared.pattern.Prefix.{Prefix}
 use Rattle.of10_model.specs.declared.pattern.Pattern.{Pattern}
-use Rattle.of10_model.specs.Normal.{is_value, is_given, is_whole, is_exact, has_vlan, has_network, has_service, has_ports, meaningless, meaningless_prefix, kept, kept_prefix, applied}
+use Rattle.of10_model.specs.Normal.{is_value, is_given, is_whole, is_exact, has_vlan, has_network, has_service, has_ports, meaningless, meaningless_prefix, applied}
 use Rattle.of10_model.proofs.Twelve.{AllTrue, each_true}
-use Rattle.of10_model.proofs.NormalFields.{NormalFields, normal_fields, applied_same}
+use Rattle.of10_model.proofs.Applied.{zero_address}
+use Rattle.of10_model.proofs.NormalFields.{normal_fields, applied_same, as_before, kept_set}
 use Rattle.of10_action.specs.declared.action.Action.{Action}
 use Rattle.of10_action.specs.declared.action.Action.TheVariants.{Output, SetVlanVid, SetVlanPcp, StripVlan, SetDlSrc, SetDlDst, SetNwSrc, SetNwDst, SetNwTos, SetTpSrc, SetTpDst, Enqueue}
 use Rattle.match_meet.specs.Rewriting.{whole, names_tcp_or_udp, cover_of}
-
--- ---- one field
-
--- a field without its prerequisite that is meaningless as before
-
-kept_set : (em er n : Bool) (c : Option ℕ) → (n ≡ false → c ≡ meaningless em) → (IsTrue em → IsTrue er) → (IsTrue er → IsTrue (is_given c)) → kept er n c ≡ c
-kept_set em er true c s x g = refl
-kept_set true true false c s x g = sym (s refl)
-kept_set true false false c s x g = absurd (true≢false (sym (x refl)))
-kept_set false true false c s x g = absurd (true≢false (sym (rw (s refl) at (g refl))))
-kept_set false false false c s x g = sym (s refl)
-
-as_before : (e n : Bool) (c : Option ℕ) → kept e n c ≡ c → n ≡ false → c ≡ meaningless e
-as_before e n c k f = sym (rw f at k)
-
-kept_prefix_set : (em er n : Bool) (c : Option Prefix) → (n ≡ false → c ≡ meaningless_prefix em) → (IsTrue em → IsTrue er) → (IsTrue er → IsTrue (is_whole c)) → kept_prefix er n c ≡ c
-kept_prefix_set em er true c s x g = refl
-kept_prefix_set true true false c s x g = sym (s refl)
-kept_prefix_set true false false c s x g = absurd (true≢false (sym (x refl)))
-kept_prefix_set false true false c s x g = absurd (true≢false (sym (rw (s refl) at (g refl))))
-kept_prefix_set false false false c s x g = sym (s refl)
-
-as_before_prefix : (e n : Bool) (c : Option Prefix) → kept_prefix e n c ≡ c → n ≡ false → c ≡ meaningless_prefix e
-as_before_prefix e n c k f = sym (rw f at k)
 
 needed : {A : Type 0} (n : Bool) → IsTrue n → n ≡ false → A
 needed n t f = absurd (true≢false (sym t ∙ f))
@@ -53,13 +29,13 @@ normal_set m r x pcp tos proto source destination tp_source tp_destination =
     let each : IsTrue (is_exact r) → AllTrue (is_given r.in_port) (is_given r.dl_src) (is_given r.dl_dst) (is_given r.dl_vlan) (is_given r.dl_vlan_pcp) (is_given r.dl_type) (is_given r.nw_tos) (is_given r.nw_proto) (is_whole r.nw_src) (is_whole r.nw_dst) (is_given r.tp_src) (is_given r.tp_dst) =
     each_true (is_given r.in_port) (is_given r.dl_src) (is_given r.dl_dst) (is_given r.dl_vlan) (is_given r.dl_vlan_pcp) (is_given r.dl_type) (is_given r.nw_tos) (is_given r.nw_proto) (is_whole r.nw_src) (is_whole r.nw_dst) (is_given r.tp_src) (is_given r.tp_dst) in
     applied_same r (record {
-      on_dl_vlan_pcp = kept_set (is_exact m) (is_exact r) (has_vlan r.dl_vlan) r.dl_vlan_pcp pcp x (λ e. (each e).is_dl_vlan_pcp);
-      on_nw_tos = kept_set (is_exact m) (is_exact r) (has_service r.dl_type) r.nw_tos tos x (λ e. (each e).is_nw_tos);
-      on_nw_proto = kept_set (is_exact m) (is_exact r) (has_network r.dl_type) r.nw_proto proto x (λ e. (each e).is_nw_proto);
-      on_nw_src = kept_prefix_set (is_exact m) (is_exact r) (has_network r.dl_type) r.nw_src source x (λ e. (each e).is_nw_src);
-      on_nw_dst = kept_prefix_set (is_exact m) (is_exact r) (has_network r.dl_type) r.nw_dst destination x (λ e. (each e).is_nw_dst);
-      on_tp_src = kept_set (is_exact m) (is_exact r) (has_ports r.dl_type r.nw_proto) r.tp_src tp_source x (λ e. (each e).is_tp_src);
-      on_tp_dst = kept_set (is_exact m) (is_exact r) (has_ports r.dl_type r.nw_proto) r.tp_dst tp_destination x (λ e. (each e).is_tp_dst);
+      on_dl_vlan_pcp = kept_set is_given 0 (is_exact m) (is_exact r) (has_vlan r.dl_vlan) r.dl_vlan_pcp refl pcp x (λ e. (each e).is_dl_vlan_pcp);
+      on_nw_tos = kept_set is_given 0 (is_exact m) (is_exact r) (has_service r.dl_type) r.nw_tos refl tos x (λ e. (each e).is_nw_tos);
+      on_nw_proto = kept_set is_given 0 (is_exact m) (is_exact r) (has_network r.dl_type) r.nw_proto refl proto x (λ e. (each e).is_nw_proto);
+      on_nw_src = kept_set is_whole zero_address (is_exact m) (is_exact r) (has_network r.dl_type) r.nw_src refl source x (λ e. (each e).is_nw_src);
+      on_nw_dst = kept_set is_whole zero_address (is_exact m) (is_exact r) (has_network r.dl_type) r.nw_dst refl destination x (λ e. (each e).is_nw_dst);
+      on_tp_src = kept_set is_given 0 (is_exact m) (is_exact r) (has_ports r.dl_type r.nw_proto) r.tp_src refl tp_source x (λ e. (each e).is_tp_src);
+      on_tp_dst = kept_set is_given 0 (is_exact m) (is_exact r) (has_ports r.dl_type r.nw_proto) r.tp_dst refl tp_destination x (λ e. (each e).is_tp_dst);
     })
 
 network : (kind : Option ℕ) → IsTrue (is_value 0x0800 kind) → IsTrue (has_network kind)
@@ -89,13 +65,13 @@ own : (m : Pattern) → applied m ≡ m → Own m
 own m e =
     let n = normal_fields m e in
     record {
-      pcp = as_before (is_exact m) (has_vlan m.dl_vlan) m.dl_vlan_pcp n.on_dl_vlan_pcp;
-      tos = as_before (is_exact m) (has_service m.dl_type) m.nw_tos n.on_nw_tos;
-      proto = as_before (is_exact m) (has_network m.dl_type) m.nw_proto n.on_nw_proto;
-      source = as_before_prefix (is_exact m) (has_network m.dl_type) m.nw_src n.on_nw_src;
-      destination = as_before_prefix (is_exact m) (has_network m.dl_type) m.nw_dst n.on_nw_dst;
-      tp_source = as_before (is_exact m) (has_ports m.dl_type m.nw_proto) m.tp_src n.on_tp_src;
-      tp_destination = as_before (is_exact m) (has_ports m.dl_type m.nw_proto) m.tp_dst n.on_tp_dst;
+      pcp = as_before 0 (is_exact m) (has_vlan m.dl_vlan) m.dl_vlan_pcp n.on_dl_vlan_pcp;
+      tos = as_before 0 (is_exact m) (has_service m.dl_type) m.nw_tos n.on_nw_tos;
+      proto = as_before 0 (is_exact m) (has_network m.dl_type) m.nw_proto n.on_nw_proto;
+      source = as_before zero_address (is_exact m) (has_network m.dl_type) m.nw_src n.on_nw_src;
+      destination = as_before zero_address (is_exact m) (has_network m.dl_type) m.nw_dst n.on_nw_dst;
+      tp_source = as_before 0 (is_exact m) (has_ports m.dl_type m.nw_proto) m.tp_src n.on_tp_src;
+      tp_destination = as_before 0 (is_exact m) (has_ports m.dl_type m.nw_proto) m.tp_dst n.on_tp_dst;
     }
 
 -- a VLAN number of twelve bits is not the number for untagged packets
