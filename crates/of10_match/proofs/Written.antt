@@ -1,5 +1,5 @@
 -- Fields that are written one behind the other make up the whole.
-use Rattle.std.proofs.Common.{◌≡◌, ℕ, List, [], ◌++◌, length, take, refl, sym, ap, ◌∙◌}
+use Rattle.std.proofs.Common.{◌≡◌, ℕ, List, ◌++◌, take, refl, sym, ◌∙◌}
 
 pub written : (o1 o2 o3 o4 o5 o6 o7 o8 o9 o10 o11 o12 o13 o14 out b0 b1 b2 b3 b4 b5 b6 b7 b8 b9 b10 b11 b12 b13 b14 : List ℕ)
     → take 4 o1 ≡ b0 → take 6 o2 ≡ take 4 o1 ++ b1 → take 12 o3 ≡ take 6 o2 ++ b2 → take 18 o4 ≡ take 12 o3 ++ b3 → take 20 o5 ≡ take 18 o4 ++ b4

@@ -8,7 +8,7 @@ mod reading;
 mod writing;
 
 pub use header::Header12;
-pub use matching::Match;
+pub use matching::{Match, exact_pattern};
 pub use normal::{has_network, has_ports, has_service, has_vlan};
 
 #[cfg(test)]

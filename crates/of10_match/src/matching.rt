@@ -92,7 +92,8 @@ fn whole(address: u32) -> Option<Prefix>
     })
 }
 
-fn exact_pattern(h: &Header12) -> Pattern
+/// The constraints that allow this header alone.
+pub fn exact_pattern(h: &Header12) -> Pattern
     ensures value { result ≡ exact_of h.now }
     ensures range { IsHeader h.now }
 {
@@ -168,20 +169,7 @@ impl Match {
         ensures everything { (h : Header) → Has result h }
     {
         Match {
-            pattern: Pattern {
-                in_port: None,
-                dl_src: None,
-                dl_dst: None,
-                dl_vlan: None,
-                dl_vlan_pcp: None,
-                dl_type: None,
-                nw_tos: None,
-                nw_proto: None,
-                nw_src: None,
-                nw_dst: None,
-                tp_src: None,
-                tp_dst: None,
-            },
+            pattern: Pattern::ANY,
         }
     }
 

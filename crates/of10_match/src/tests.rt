@@ -1,24 +1,13 @@
+ghost use Rattle.std.specs.Prelude.{◌≡◌};
+
 use crate::{Header12, Match};
 use of10_model::wire::{set_u16, set_u32};
 use of10_model::{Pattern, Prefix};
 
-const FREE: Pattern = Pattern {
-    in_port: None,
-    dl_src: None,
-    dl_dst: None,
-    dl_vlan: None,
-    dl_vlan_pcp: None,
-    dl_type: None,
-    nw_tos: None,
-    nw_proto: None,
-    nw_src: None,
-    nw_dst: None,
-    tp_src: None,
-    tp_dst: None,
-};
-
 /// The header of a TCP packet to a port, which came in on port 1.
-fn to_port(port: u16) -> Header12 {
+fn to_port(port: u16) -> Header12
+    ensures { result ≡ record { in_port = 1; dl_src = 1; dl_dst = 2; dl_vlan = 0xffff; dl_vlan_pcp = 0; dl_type = 0x0800; nw_tos = 0; nw_proto = 6; nw_src = 0x0a000001; nw_dst = 0x0a000002; tp_src = 1024; tp_dst = port } }
+{
     Header12 {
         in_port: 1,
         dl_src: 1,
@@ -79,19 +68,19 @@ fn web() -> [u8; 40] {
 fn free_matches_have_many_spellings(rt: HostRuntime) {
     assert_eq!(rt;
         *Match::decode(&with_word(0x003fffff, 0xab)).pattern(),
-        FREE,
+        Pattern::ANY,
         "fields under wildcard bits"
     );
     assert_eq!(rt;
         *Match::decode(&with_word(0xffffffff, 0)).pattern(),
-        FREE,
+        Pattern::ANY,
         "bits past the last"
     );
     let mut port_alone = with_word(0x0038207f, 0);
     port_alone[39] = 80;
     assert_eq!(rt;
         *Match::decode(&port_alone).pattern(),
-        FREE,
+        Pattern::ANY,
         "a port without a protocol"
     );
 }
@@ -110,7 +99,7 @@ fn counts_of_ignored_bits_make_prefixes(rt: HostRuntime) {
         let expected = Pattern {
             dl_type: Some(0x0800),
             nw_src: (bits > 0).then_some(Prefix { bits, value }),
-            ..FREE
+            ..Pattern::ANY
         };
         let found = Match::decode(&from_source(word, address));
         assert_eq!(rt; *found.pattern(), expected, "at {word:x}");
@@ -128,14 +117,14 @@ fn fields_with_their_prerequisites_are_kept(rt: HostRuntime) {
         dl_type: Some(0x0800),
         nw_proto: Some(6),
         tp_dst: Some(80),
-        ..FREE
+        ..Pattern::ANY
     };
     assert_eq!(rt; *Match::decode(&web()).pattern(), expected);
 
     let tagged = Pattern {
         dl_vlan: Some(0x0505),
         dl_vlan_pcp: Some(5),
-        ..FREE
+        ..Pattern::ANY
     };
     assert_eq!(rt;
         *Match::decode(&with_word(0x002ffffd, 0x05)).pattern(),
@@ -146,7 +135,7 @@ fn fields_with_their_prerequisites_are_kept(rt: HostRuntime) {
         *Match::decode(&with_word(0x002ffffd, 0xff)).pattern(),
         Pattern {
             dl_vlan: Some(0xffff),
-            ..FREE
+            ..Pattern::ANY
         },
         "untagged"
     );
@@ -155,7 +144,7 @@ fn fields_with_their_prerequisites_are_kept(rt: HostRuntime) {
         Pattern {
             dl_type: Some(0x0800),
             nw_tos: Some(0xfc),
-            ..FREE
+            ..Pattern::ANY
         },
         "a type of service"
     );
@@ -222,20 +211,7 @@ fn matches_are_written_in_their_one_spelling(rt: HostRuntime) {
 
 #[test]
 fn an_exact_match_has_its_header_alone(rt: HostRuntime) {
-    let header = Header12 {
-        in_port: 1,
-        dl_src: 0x0000_0000_0001,
-        dl_dst: 0x0000_0000_0002,
-        dl_vlan: 0xffff,
-        dl_vlan_pcp: 0,
-        dl_type: 0x0800,
-        nw_tos: 0,
-        nw_proto: 6,
-        nw_src: 0x0a00_0001,
-        nw_dst: 0x0a00_0002,
-        tp_src: 1024,
-        tp_dst: 80,
-    };
+    let header = to_port(80);
     let exact = Match::exact(&header);
     assert!(rt; exact.is_exact());
     assert!(rt; exact.matches(&header));

@@ -38,6 +38,22 @@ impl Prefix {
 }
 
 impl Pattern {
+    /// No field is constrained.
+    pub const ANY: Pattern = Pattern {
+        in_port: None,
+        dl_src: None,
+        dl_dst: None,
+        dl_vlan: None,
+        dl_vlan_pcp: None,
+        dl_type: None,
+        nw_tos: None,
+        nw_proto: None,
+        nw_src: None,
+        nw_dst: None,
+        tp_src: None,
+        tp_dst: None,
+    };
+
     /// Whether no field is free, and both addresses are given whole.
     pub fn is_exact(&self) -> bool
         ensures { result ≡ is_exact self.now }
