@@ -14,21 +14,6 @@ use of10_match::{Header12, Match};
 use of10_model::{Pattern, Prefix};
 use spelling::match_of;
 
-const FREE: Pattern = Pattern {
-    in_port: None,
-    dl_src: None,
-    dl_dst: None,
-    dl_vlan: None,
-    dl_vlan_pcp: None,
-    dl_type: None,
-    nw_tos: None,
-    nw_proto: None,
-    nw_src: None,
-    nw_dst: None,
-    tp_src: None,
-    tp_dst: None,
-};
-
 fn prefix(value: u32, bits: u8) -> Option<Prefix> {
     Some(Prefix { bits, value })
 }
@@ -61,12 +46,12 @@ fn the_longer_prefix_is_the_meet(rt: HostRuntime) {
 fn in_port_can_be_disregarded(rt: HostRuntime) {
     let at_one = match_of(&Pattern {
         in_port: Some(1),
-        ..FREE
+        ..Pattern::ANY
     });
     let at_two = match_of(&Pattern {
         in_port: Some(2),
         dl_type: Some(0x0800),
-        ..FREE
+        ..Pattern::ANY
     });
     assert!(rt; !includes(&at_one, &at_two));
     assert!(rt; includes_aside(&at_one, &at_two));
@@ -80,14 +65,14 @@ fn tagged(kind: u16, protocol: u8) -> Pattern {
         dl_vlan_pcp: Some(3),
         dl_type: Some(kind),
         nw_proto: Some(protocol),
-        ..FREE
+        ..Pattern::ANY
     }
 }
 
 fn untagged() -> Pattern {
     Pattern {
         dl_vlan: Some(0xffff),
-        ..FREE
+        ..Pattern::ANY
     }
 }
 
@@ -123,13 +108,22 @@ fn with_vlan(m: &Pattern, dl_vlan: u16, dl_vlan_pcp: Option<u8>) -> Pattern {
 #[test]
 fn vlan_actions_change_the_cover(rt: HostRuntime) {
     let vid = Action::SetVlanVid(0x1005);
-    assert_eq!(rt; cover(&untagged(), vid), with_vlan(&FREE, 5, Some(0)));
+    assert_eq!(rt;
+        cover(&untagged(), vid),
+        with_vlan(&Pattern::ANY, 5, Some(0))
+    );
     assert_eq!(rt; cover(&one(), vid), with_vlan(&one(), 5, Some(3)));
-    assert_eq!(rt; cover(&FREE, vid), with_vlan(&FREE, 5, None));
+    assert_eq!(rt;
+        cover(&Pattern::ANY, vid),
+        with_vlan(&Pattern::ANY, 5, None)
+    );
 
     let pcp = Action::SetVlanPcp(0x0d);
-    assert_eq!(rt; cover(&FREE, pcp), FREE);
-    assert_eq!(rt; cover(&untagged(), pcp), with_vlan(&FREE, 0, Some(5)));
+    assert_eq!(rt; cover(&Pattern::ANY, pcp), Pattern::ANY);
+    assert_eq!(rt;
+        cover(&untagged(), pcp),
+        with_vlan(&Pattern::ANY, 0, Some(5))
+    );
     assert_eq!(rt; cover(&one(), pcp), with_vlan(&one(), 7, Some(5)));
 
     let strip = Action::StripVlan;
@@ -142,14 +136,14 @@ fn vlan_actions_change_the_cover(rt: HostRuntime) {
 fn address_actions_change_the_cover(rt: HostRuntime) {
     let from = Pattern {
         dl_src: Some(9),
-        ..FREE
+        ..Pattern::ANY
     };
     let to = Pattern {
         dl_dst: Some(9),
-        ..FREE
+        ..Pattern::ANY
     };
-    assert_eq!(rt; cover(&FREE, Action::SetDlSrc(9)), from);
-    assert_eq!(rt; cover(&FREE, Action::SetDlDst(9)), to);
+    assert_eq!(rt; cover(&Pattern::ANY, Action::SetDlSrc(9)), from);
+    assert_eq!(rt; cover(&Pattern::ANY, Action::SetDlDst(9)), to);
 
     let address = 0x0a000009;
     let icmp = tagged(0x0800, 1);

@@ -4,7 +4,7 @@ ghost use Rattle.std.specs.Prelude.{◌≡◌, ◌<◌, ◌%◌};
 ghost use Rattle.of10_action.specs.Actions.{HasAddress};
 
 use of10_action::Action;
-use of10_match::Header12;
+use of10_match::{Header12, exact_pattern};
 use of10_model::{Pattern, Prefix};
 
 pub const FIRST_HEADER: Header12 = Header12 {
@@ -145,7 +145,7 @@ impl Draws {
     /// Constraints, each free or of the header's value; all of them in one of eight.
     pub fn pattern_near(&mut self, h: &Header12) -> Pattern {
         if self.chance(8) {
-            all_of(h)
+            exact_pattern(h)
         } else {
             self.some_of(h)
         }
@@ -188,29 +188,5 @@ impl Draws {
                 max_len: 0,
             },
         }
-    }
-}
-
-/// The constraints that allow this header alone.
-fn all_of(h: &Header12) -> Pattern {
-    Pattern {
-        in_port: Some(h.in_port),
-        dl_src: Some(h.dl_src),
-        dl_dst: Some(h.dl_dst),
-        dl_vlan: Some(h.dl_vlan),
-        dl_vlan_pcp: Some(h.dl_vlan_pcp),
-        dl_type: Some(h.dl_type),
-        nw_tos: Some(h.nw_tos),
-        nw_proto: Some(h.nw_proto),
-        nw_src: Some(Prefix {
-            bits: 32,
-            value: h.nw_src,
-        }),
-        nw_dst: Some(Prefix {
-            bits: 32,
-            value: h.nw_dst,
-        }),
-        tp_src: Some(h.tp_src),
-        tp_dst: Some(h.tp_dst),
     }
 }
