@@ -102,18 +102,10 @@ fn flow_removed(alloc: Global, bytes: &[u8]) -> Result<FlowRemoved, DecodeFault>
 #[tactic(auto, unfolding(of10_model::specs::Normal::applied))]
 fn to_tcp_80() -> Match {
     Match::of(Pattern {
-        in_port: None,
-        dl_src: None,
-        dl_dst: None,
-        dl_vlan: None,
-        dl_vlan_pcp: None,
         dl_type: Some(0x0800),
-        nw_tos: None,
         nw_proto: Some(6),
-        nw_src: None,
-        nw_dst: None,
-        tp_src: None,
         tp_dst: Some(80),
+        ..Pattern::ANY
     })
 }
 
