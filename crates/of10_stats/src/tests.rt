@@ -10,18 +10,10 @@ use std::test::Fail;
 
 /// IPv4, TCP, to port 80.
 const WEB: Pattern = Pattern {
-    in_port: None,
-    dl_src: None,
-    dl_dst: None,
-    dl_vlan: None,
-    dl_vlan_pcp: None,
     dl_type: Some(0x0800),
-    nw_tos: None,
     nw_proto: Some(6),
-    nw_src: None,
-    nw_dst: None,
-    tp_src: None,
     tp_dst: Some(80),
+    ..Pattern::ANY
 };
 
 /// The bytes of that match.
