@@ -294,18 +294,10 @@ fn rules_by_their_fields(rt: HostRuntime) -> Result<(), Fail> {
 // TCP over IPv4 to a port.
 fn tcp_to(port: u16) -> Pattern {
     Pattern {
-        in_port: None,
-        dl_src: None,
-        dl_dst: None,
-        dl_vlan: None,
-        dl_vlan_pcp: None,
         dl_type: Some(0x0800),
-        nw_tos: None,
         nw_proto: Some(6),
-        nw_src: None,
-        nw_dst: None,
-        tp_src: None,
         tp_dst: Some(port),
+        ..Pattern::ANY
     }
 }
 
