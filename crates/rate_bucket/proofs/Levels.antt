@@ -33,25 +33,15 @@ product_along rate a t u at tu = grind arith
 product_now : (rate t : ℕ) → rate * (t - t) ≡ 0
 product_now rate t = let e : t - t ≡ 0 = omega arith in rw e (omega arith)
 
--- what there is room for at t there is room for later, and more
-pub has_room-later : (rate burst t u x y : ℕ) (moments : List ℕ) → t ≤ u → Until t moments → y ≤ x + rate * (u - t)
+-- what there is room for at one moment there is room for at another, more or less by what the time between gives
+has_room-moves : (rate burst last t u x y : ℕ) (moments : List ℕ) → Until last moments → ((a : ℕ) → a ≤ last → y + rate * (t - a) ≤ x + rate * (u - a))
     → has_room rate burst t x moments ≡ true → has_room rate burst u y moments ≡ true
 unfolding has_room
-has_room-later rate burst t u x y [] tu before le room = refl
-has_room-later rate burst t u x y (a ∷ earlier) tu before le room =
+has_room-moves rate burst last t u x y [] before gives room = refl
+has_room-moves rate burst last t u x y (a ∷ earlier) before gives room =
     let p = and_parts (nat_le (x + 1000) (1000 * burst + rate * (t - a))) (has_room rate burst t (x + 1000) earlier) room in
-    and_from _ _ (le-leb (y + 1000) (1000 * burst + rate * (u - a)) (omega (arith, leb-true _ _ p.0, product_along rate a t u before.0 tu)))
-    (has_room-later rate burst t u (x + 1000) (y + 1000) earlier tu before.1 (omega arith) p.1)
-
--- what there is room for later, less what the time gave, there is room for at t
-pub has_room-before : (rate burst t u x y : ℕ) (moments : List ℕ) → t ≤ u → Until t moments → x + rate * (u - t) ≤ y
-    → has_room rate burst u y moments ≡ true → has_room rate burst t x moments ≡ true
-unfolding has_room
-has_room-before rate burst t u x y [] tu before le room = refl
-has_room-before rate burst t u x y (a ∷ earlier) tu before le room =
-    let p = and_parts (nat_le (y + 1000) (1000 * burst + rate * (u - a))) (has_room rate burst u (y + 1000) earlier) room in
-    and_from _ _ (le-leb (x + 1000) (1000 * burst + rate * (t - a)) (omega (arith, leb-true _ _ p.0, product_along rate a t u before.0 tu)))
-    (has_room-before rate burst t u (x + 1000) (y + 1000) earlier tu before.1 (omega arith) p.1)
+    and_from _ _ (le-leb (y + 1000) (1000 * burst + rate * (u - a)) (omega (arith, leb-true _ _ p.0, gives a before.0)))
+    (has_room-moves rate burst last t u (x + 1000) (y + 1000) earlier before.1 (λ c le. omega (arith, gives c le)) p.1)
 
 -- a level is the most for which there is room at t
 abbrev pub IsLevel : (rate burst t level : ℕ) → List ℕ → Type 0
@@ -64,13 +54,13 @@ pub level_later : (rate burst t u level : ℕ) (moments : List ℕ) → t ≤ u 
 level_later rate burst t u level moments tu before is needed = (
   λ le. (
     omega arith,
-    has_room-later rate burst t u (needed - rate * (u - t)) needed moments tu before (omega arith)
+    has_room-moves rate burst t t u (needed - rate * (u - t)) needed moments before (λ a at. omega (arith, product_along rate a t u at tu))
         ((is (needed - rate * (u - t))).0 (omega arith)).1,
   ),
   λ room. elim (cases_Bool (nat_le (rate * (u - t)) needed)) [
     | inl covered ↦ let le = leb-true (rate * (u - t)) needed covered in
         let kept : needed - rate * (u - t) ≤ level = (is (needed - rate * (u - t))).1
-        (omega arith, has_room-before rate burst t u (needed - rate * (u - t)) needed moments tu before (omega arith) room.1) in
+        (omega arith, has_room-moves rate burst t u t needed (needed - rate * (u - t)) moments before (λ a at. omega (arith, product_along rate a t u at tu)) room.1) in
         omega arith
     | inr short ↦ let lt = leb-false (rate * (u - t)) needed short in omega arith
   ],
@@ -136,16 +126,11 @@ unfolding is_accepted
 answer_conforms answer rate burst questions moment is =
     rw is (conforms rate burst (accepted rate burst questions) (latest (moment ∷ questions)))
 
--- what an accepted question adds to the accepted moments, and a refused one
-pub accepted-accept : (rate burst moment : ℕ) (earlier : List ℕ) → is_accepted rate burst earlier moment ≡ true
-    → accepted rate burst (moment ∷ earlier) ≡ latest (moment ∷ earlier) ∷ accepted rate burst earlier
+-- what a question adds to the accepted moments, by its answer
+accepted-by : (answer : Bool) (rate burst moment : ℕ) (earlier : List ℕ) → is_accepted rate burst earlier moment ≡ answer
+    → accepted rate burst (moment ∷ earlier) ≡ (if answer then latest (moment ∷ earlier) ∷ accepted rate burst earlier else accepted rate burst earlier)
 unfolding accepted is_accepted
-accepted-accept rate burst moment earlier accepts = rw accepts refl
-
-pub accepted-refuse : (rate burst moment : ℕ) (earlier : List ℕ) → is_accepted rate burst earlier moment ≡ false
-    → accepted rate burst (moment ∷ earlier) ≡ accepted rate burst earlier
-unfolding accepted is_accepted
-accepted-refuse rate burst moment earlier refuses = rw refuses refl
+accepted-by answer rate burst moment earlier is = rw is refl
 
 accepted-newest : (rate burst moment : ℕ) (questions later between earlier : List ℕ) (a b : ℕ)
     → is_accepted rate burst questions moment ≡ true
@@ -171,8 +156,8 @@ accepted-window rate burst [] (c ∷ later) between earlier a b e = cc
 accepted-window rate burst (moment ∷ questions) later between earlier a b e =
     elim (cases_Bool (is_accepted rate burst questions moment)) [
       | inl accepts ↦ accepted-newest rate burst moment questions later between earlier a b accepts
-          (sym (accepted-accept rate burst moment questions accepts) ∙ e) (accepted-window rate burst questions)
-      | inr refuses ↦ accepted-window rate burst questions later between earlier a b (sym (accepted-refuse rate burst moment questions refuses) ∙ e)
+          (sym (accepted-by true rate burst moment questions accepts) ∙ e) (accepted-window rate burst questions)
+      | inr refuses ↦ accepted-window rate burst questions later between earlier a b (sym (accepted-by false rate burst moment questions refuses) ∙ e)
     ]
 
 -- a bucket to which no question was put has the room of one burst
@@ -216,7 +201,7 @@ BucketStands-refuse b questions moment level next s is now less =
     record {
       some_burst = s.some_burst;
       moment = let e = s.moment in omega arith;
-      level = rw (accepted-refuse b.rate b.burst moment questions refuses) (BucketStands-level b questions moment level s is);
+      level = rw (accepted-by false b.rate b.burst moment questions refuses) (BucketStands-level b questions moment level s is);
     }
 
 -- an accepted question takes its share
@@ -229,7 +214,7 @@ BucketStands-accept b questions moment level next s is now enough =
     record {
       some_burst = s.some_burst;
       moment = let e = s.moment in omega arith;
-      level = rw (accepted-accept b.rate b.burst moment questions accepts)
+      level = rw (accepted-by true b.rate b.burst moment questions accepts)
           (level_spent b.rate b.burst (latest (moment ∷ questions)) level (accepted b.rate b.burst questions) enough
           (BucketStands-level b questions moment level s is));
     }
