@@ -193,51 +193,53 @@ pub CollectionsStand-end_all : (calls : List CollectionCall) → CollectionsStan
 unfolding collecting
 CollectionsStand-end_all calls = record { same = refl }
 
+-- calls that change one request alone: its collection is changed where it stands, and nothing where it doesn't
+changed_there : (number k : ℕ) (xs : List Collected) (z y : Collected) (before after : List CollectionCall) → collecting after ≡ collecting before
+    → ((n : ℕ) → n ≢ number → gathered n after ≡ gathered n before) → CollectionsStand before xs
+    → StandsAt number k xs → z ≡ get_or xs k z → (z.gathered ≡ gathered number before → y.gathered ≡ gathered number after) → CollectionsStand after (slice_set xs k y)
+changed_there number k xs z y before after alike others s at is new = record {
+  same = rw alike (changed number k xs y before after (collecting before) others (Distinct-collecting before) s.same at
+      (new (gathered-at number k xs z before (collecting before) s.same at is)));
+}
+
+changed_nowhere : (number : ℕ) (xs : List Collected) (before after : List CollectionCall) → collecting after ≡ collecting before
+    → ((n : ℕ) → n ≢ number → gathered n after ≡ gathered n before) → CollectionsStand before xs → Nowhere number xs → CollectionsStand after xs
+changed_nowhere number xs before after alike others s out = record {
+  same = rw alike (s.same ∙ unchanged number before after (collecting before) others (is_among-nowhere number xs before (collecting before) s.same out));
+}
+
 -- memory for more changes nothing that is collected
 pub CollectionsStand-reserve : (number k : ℕ) (xs : List Collected) (z y : Collected) (calls : List CollectionCall) → CollectionsStand calls xs
     → StandsAt number k xs → z ≡ get_or xs k z → y.gathered ≡ z.gathered → CollectionsStand calls (slice_set xs k y)
 CollectionsStand-reserve number k xs z y calls s at is same =
-    record {
-      same = changed number k xs y calls calls (collecting calls) (λ n apart. refl) (Distinct-collecting calls) s.same at
-          (same ∙ gathered-at number k xs z calls (collecting calls) s.same at is);
-    }
+    changed_there number k xs z y calls calls refl (λ n apart. refl) s at is (λ own. same ∙ own)
 
 pub CollectionsStand-add : (number : ℕ) (entry : List ℕ) (k : ℕ) (xs : List Collected) (z y : Collected) (calls : List CollectionCall) → CollectionsStand calls xs
     → StandsAt number k xs → z ≡ get_or xs k z → y.gathered ≡ with_entry entry z.gathered → CollectionsStand (Add number entry ∷ calls) (slice_set xs k y)
 unfolding collecting
 CollectionsStand-add number entry k xs z y calls s at is new =
-    let own : z.gathered ≡ gathered number calls = gathered-at number k xs z calls (collecting calls) s.same at is in
-    record {
-      same = changed number k xs y calls (Add number entry ∷ calls) (collecting calls) (λ n apart. gathered-add_other number n entry calls apart)
-          (Distinct-collecting calls) s.same at (new ∙ rw own (sym (gathered-add number entry calls)));
-    }
+    changed_there number k xs z y calls (Add number entry ∷ calls) refl (λ n apart. gathered-add_other number n entry calls apart) s at is
+    (λ own. new ∙ rw own (sym (gathered-add number entry calls)))
 
 pub CollectionsStand-add_nowhere : (number : ℕ) (entry : List ℕ) (xs : List Collected) (calls : List CollectionCall) → CollectionsStand calls xs
     → Nowhere number xs → CollectionsStand (Add number entry ∷ calls) xs
 unfolding collecting
-CollectionsStand-add_nowhere number entry xs calls s out = record {
-  same = s.same ∙ unchanged number calls (Add number entry ∷ calls) (collecting calls) (λ n apart. gathered-add_other number n entry calls apart)
-      (is_among-nowhere number xs calls (collecting calls) s.same out);
-}
+CollectionsStand-add_nowhere number entry xs calls s out =
+    changed_nowhere number xs calls (Add number entry ∷ calls) refl (λ n apart. gathered-add_other number n entry calls apart) s out
 
 pub CollectionsStand-sum : (number packets bytes k : ℕ) (xs : List Collected) (z y : Collected) (calls : List CollectionCall) → CollectionsStand calls xs
     → StandsAt number k xs → z ≡ get_or xs k z → y.gathered ≡ with_sums packets bytes z.gathered
     → CollectionsStand (Sum number packets bytes ∷ calls) (slice_set xs k y)
 unfolding collecting
 CollectionsStand-sum number packets bytes k xs z y calls s at is new =
-    let own : z.gathered ≡ gathered number calls = gathered-at number k xs z calls (collecting calls) s.same at is in
-    record {
-      same = changed number k xs y calls (Sum number packets bytes ∷ calls) (collecting calls) (λ n apart. gathered-sum_other number n packets bytes calls apart)
-          (Distinct-collecting calls) s.same at (new ∙ rw own (sym (gathered-sum number packets bytes calls)));
-    }
+    changed_there number k xs z y calls (Sum number packets bytes ∷ calls) refl (λ n apart. gathered-sum_other number n packets bytes calls apart) s at is
+    (λ own. new ∙ rw own (sym (gathered-sum number packets bytes calls)))
 
 pub CollectionsStand-sum_nowhere : (number packets bytes : ℕ) (xs : List Collected) (calls : List CollectionCall) → CollectionsStand calls xs
     → Nowhere number xs → CollectionsStand (Sum number packets bytes ∷ calls) xs
 unfolding collecting
-CollectionsStand-sum_nowhere number packets bytes xs calls s out = record {
-  same = s.same ∙ unchanged number calls (Sum number packets bytes ∷ calls) (collecting calls) (λ n apart. gathered-sum_other number n packets bytes calls apart)
-      (is_among-nowhere number xs calls (collecting calls) s.same out);
-}
+CollectionsStand-sum_nowhere number packets bytes xs calls s out =
+    changed_nowhere number xs calls (Sum number packets bytes ∷ calls) refl (λ n apart. gathered-sum_other number n packets bytes calls apart) s out
 
 pub CollectionsStand-finish : (number k : ℕ) (xs : List Collected) (calls : List CollectionCall) → CollectionsStand calls xs
     → StandsAt number k xs → CollectionsStand (Finish number ∷ calls) (take k xs ++ drop (suc k) xs)

@@ -80,7 +80,9 @@ fn finds_as_the_list_of_all_requests(rt: HostRuntime) -> Result<(), Fail> {
     let (mut hits, mut forgets, mut wraps) = (0u32, 0u32, 0u32);
     for step in 0..12_000u32 {
         let (number, physical) = map.next();
-        let other = number.saturating_add(2).saturating_sub(draws.number_below(4_200));
+        let other = number
+            .saturating_add(2)
+            .saturating_sub(draws.number_below(4_200));
         match draws.number_below(4_000) {
             0 => {
                 map.forget_all();
