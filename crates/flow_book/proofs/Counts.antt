@@ -71,7 +71,7 @@ module _ {X : Type 0} where
   any-map test f e [] = refl
   any-map test f e (x ∷ xs) = rw (e x, any-map test f e xs) refl
 
-  find_no : (test : X → Bool) (xs : List X) → list_any test xs ≡ false → find test xs ≡ None
+  pub find_no : (test : X → Bool) (xs : List X) → list_any test xs ≡ false → find test xs ≡ None
   find_no test [] h = refl
   find_no test (x ∷ xs) h =
       let p = or_parts (test x) (list_any test xs) h in rw p.0 (find_no test xs p.1)

@@ -14,7 +14,9 @@ use Rattle.flow_book.specs.Books.{BookCall, Added, Removed, Failed, is_pair, is_
 use Rattle.flow_book.specs.Pairs.{BooksPiece, Books, Releases, NoneOf, IsLastBooked, IsFirstBooked}
 use Rattle.of10_model.specs.Same.{is_same}
 use Rattle.of10_model.proofs.Same.{one-is_same, is_same-one}
+use Rattle.xid_map.proofs.Finding.{find_passes}
 use Rattle.flow_book.proofs.SamePairs.{pair_parts, pair_from}
+use Rattle.flow_book.proofs.Counts.{find_no}
 use Rattle.flow_book.proofs.Standing.{again_pair, booked_again-booked, newcomer-unbooked, booked-included}
 
 -- ---- which pieces a flow-mod books
@@ -74,18 +76,10 @@ find_map test f e (x ∷ xs) = elim (cases_Bool (test x)) [
   | inr fails ↦ rw (e x, fails) (find_map test f e xs)
 ]
 
-find_passes : (test : Booked → Bool) (xs : List Booked) (b : Booked) → find test xs ≡ Some b → test b ≡ true
-find_passes test [] b e = cc
-find_passes test (x ∷ xs) b e = elim (cases_Bool (test x)) [
-  | inl passes ↦ (let h : Some x ≡ Some b = rw passes at e in let same : x ≡ b = cc in subst (λ y. test y ≡ true) same passes)
-  | inr fails ↦ find_passes test xs b (rw fails at e)
-]
-
 any_found : (test : Booked → Bool) (xs : List Booked) (b : Booked) → find test xs ≡ Some b → list_any test xs ≡ true
-any_found test [] b e = cc
-any_found test (x ∷ xs) b e = elim (cases_Bool (test x)) [
-  | inl passes ↦ rw passes refl
-  | inr fails ↦ rw fails (any_found test xs b (rw fails at e))
+any_found test xs b e = elim (cases_Bool (list_any test xs)) [
+  | inl some ↦ some
+  | inr none ↦ let missed : None ≡ Some b = sym (find_no test xs none) ∙ e in cc
 ]
 
 find_filter : (test keep : Booked → Bool) → ((b : Booked) → test b ≡ true → keep b ≡ true) → (xs : List Booked) → find test (filter keep xs) ≡ find test xs

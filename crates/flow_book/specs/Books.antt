@@ -1,6 +1,6 @@
 -- What is booked for a slice: the flow entries that it asked of a switch. A pair is a match and a priority, by which the standard knows an entry (OpenFlow 1.0.0, section 4.6). All of this is this proxy's own rule.
 -- Lists of calls have the newest first.
-use Rattle.std.specs.Prelude.{ℕ, ◌≡◌, ◌+◌, ◌==◌, ◌&&◌, ◌||◌, nat_le, not, Bool, true, false, if◌then◌else◌, List, [], ◌∷◌, ◌++◌, length, filter, map, find, count_by, Option, Some, None}
+use Rattle.std.specs.Prelude.{ℕ, ◌≡◌, ◌+◌, ◌==◌, ◌&&◌, ◌||◌, nat_le, not, Bool, false, if◌then◌else◌, List, [], ◌∷◌, ◌++◌, length, filter, map, find, count_by, Option}
 use Rattle.std.specs.List.{list_any}
 use Rattle.std.specs.Option.{option_map_or}
 use Rattle.of10_model.specs.declared.pattern.Pattern.{Pattern}

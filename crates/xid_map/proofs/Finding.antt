@@ -180,7 +180,8 @@ take_get (suc n) [] place x within e = e
 take_get (suc n) (y ∷ ys) zero x within e = e
 take_get (suc n) (y ∷ ys) (suc place) x within e = take_get n ys place x (omega arith) e
 
-find_passes : (test : Issued → Bool) (xs : List Issued) (x : Issued) → find test xs ≡ Some x → test x ≡ true
+-- what is found passes the test
+pub find_passes : {X : Type 0} (test : X → Bool) (xs : List X) (x : X) → find test xs ≡ Some x → test x ≡ true
 find_passes test [] x e = cc
 find_passes test (y ∷ ys) x e = elim (cases_Bool (test y)) [
   | inl passes ↦ let is : Some y ≡ Some x = rw passes at e in let same : y ≡ x = cc in subst (λ z. test z ≡ true) same passes
