@@ -6,32 +6,31 @@ use flowspace::{Slice, Text};
 use match_meet::{disjoint, includes};
 use of10_flow::protocol::{ADD, DELETE, MODIFY, MODIFY_STRICT};
 use of10_match::Match;
-use of10_model::wire::{set_u16, set_u32};
+use samples::{ANY, Packets, match_of};
 use std::alloc::{AllocError, Global};
 use std::test::Fail;
 
-// IPv4 packets with these wildcards, to 10.1.2.3 and a TCP port, where they aren't free.
-fn matching(wildcards: u32, port: u16) -> Match {
-    let mut bytes = [0; 40];
-    set_u32(&mut bytes, 0, wildcards);
-    set_u16(&mut bytes, 22, 0x0800);
-    bytes[25] = 6;
-    set_u32(&mut bytes, 32, 0x0a01_0203);
-    set_u16(&mut bytes, 38, port);
-    Match::decode(&bytes)
+// Packets to 10.1.2.3 and a TCP port, where they are given.
+fn to(bits: u8, tcp: Option<u16>) -> Match {
+    match_of(&Packets {
+        net: 0x0a01_0203,
+        bits,
+        tcp,
+        ..ANY
+    })
 }
 
 // Matches of which some include others: by a port, by an address or a part of it.
 fn sample(which: u64) -> Match {
     match which {
-        0 => matching(0x003f_ffcf, 0),
-        1 => matching(0x003f_ff4f, 80),
-        2 => matching(0x003f_ff4f, 22),
-        3 => matching(0x0036_3fcf, 0),
-        4 => matching(0x0034_3f4f, 80),
-        5 => matching(0x0030_3f4f, 80),
-        6 => matching(0x0030_3f4f, 22),
-        _ => matching(0x0030_3fcf, 0),
+        0 => to(0, None),
+        1 => to(0, Some(80)),
+        2 => to(0, Some(22)),
+        3 => to(8, None),
+        4 => to(16, Some(80)),
+        5 => to(32, Some(80)),
+        6 => to(32, Some(22)),
+        _ => to(32, None),
     }
 }
 
@@ -64,8 +63,8 @@ fn differ(one: &Match, other: &Match) -> bool
 
 #[test]
 fn a_modify_looks_at_every_priority(rt: HostRuntime) -> Result<(), Fail> {
-    let match_80 = matching(0x0038_204f, 80);
-    let tcp_80 = [matching(0x0038_204f, 80)];
+    let match_80 = to(0, Some(80));
+    let tcp_80 = [to(0, Some(80))];
     let mut book = FlowBook::new(rt.alloc());
     assert_eq!(rt; book.newcomers(ADD, &tcp_80, 10), 1);
     assert!(rt; !book.fits(ADD, &tcp_80, 10, 0));
@@ -479,16 +478,16 @@ fn push_apart(pieces: &mut Vec<Match>, piece: Match) -> Result<(), AllocError>
 fn many_come_to_the_book_at_once(rt: HostRuntime) -> Result<(), Fail> {
     let mut pieces = Vec::new(rt.alloc());
     for step in 0..96u16 {
-        push_apart(&mut pieces, matching(0x0030_3f4f, step * 37 % 97))?;
+        push_apart(&mut pieces, to(32, Some(step * 37 % 97)))?;
     }
     let mut book = FlowBook::new(rt.alloc());
     for port in [0u16, 48, 96] {
-        add(&mut book, ADD, &[matching(0x0030_3f4f, port)], 5, true, 7)?;
+        add(&mut book, ADD, &[to(32, Some(port))], 5, true, 7)?;
     }
     add(&mut book, ADD, &pieces, 5, false, 8)?;
     assert_eq!(rt; book.count(), 96);
     for port in 0..97u16 {
-        let pattern = matching(0x0030_3f4f, port);
+        let pattern = to(32, Some(port));
         let number = match port {
             0 | 48 | 96 => Some(7),
             // 96 times 37 is 60 modulo 97
