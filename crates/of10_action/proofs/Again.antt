@@ -6,11 +6,12 @@ use Rattle.std.proofs.lemmas.List.Elements.{All-head, All-tail}
 use Rattle.std.proofs.lemmas.List.Concat.{flat_map-cons}
 use Rattle.byteorder.specs.Endian.{big_bytes}
 use Rattle.byteorder.specs.Numbers.{big_number-reads_back}
+use Rattle.of10_model.specs.Results.{◌>>=◌}
 use Rattle.of10_action.specs.declared.action.Action.{Action}
 use Rattle.of10_action.specs.declared.action.Action.TheVariants.{Output, SetVlanVid, SetVlanPcp, StripVlan, SetDlSrc, SetDlDst, SetNwSrc, SetNwDst, SetNwTos, SetTpSrc, SetTpDst, Enqueue}
 use Rattle.of10_action.specs.declared.fault.WireFault.{WireFault}
 use Rattle.of10_action.specs.Actions.{IsAction, padding, spell, spelling}
-use Rattle.of10_action.specs.Reading.{◌>>=◌, head_at, action_of, action_at, actions_at, read_all}
+use Rattle.of10_action.specs.Reading.{head_at, action_of, action_at, actions_at, read_all}
 use Rattle.of10_action.proofs.Loop.{reads_on}
 
 pub action_again : (a : Action) (rest : List ℕ) → IsAction a → action_at (spell a ++ rest) ≡ Ok (a, rest)

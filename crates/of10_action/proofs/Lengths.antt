@@ -1,12 +1,14 @@
 -- What is read has the length of its spelling.
-use Rattle.std.proofs.Common.{◌≡◌, ℕ, zero, suc, ◌+◌, ◌≤◌, List, [], ◌∷◌, length, drop, Ok, refl, sym, ap, subst, ◌∙◌, arith}
+use Rattle.std.proofs.Common.{◌≡◌, ℕ, zero, suc, ◌+◌, ◌≤◌, List, [], ◌∷◌, length, Ok, refl, sym, ap, subst, ◌∙◌, arith}
 use Rattle.std.proofs.lemmas.List.{length-append, length-drop}
 use Rattle.std.proofs.lemmas.List.Concat.{flat_map-cons}
+use Rattle.of10_model.specs.Results.{◌>>=◌}
+use Rattle.of10_model.proofs.Results.{bind_ok}
 use Rattle.of10_action.specs.declared.action.Action.{Action}
 use Rattle.of10_action.specs.declared.action.Action.TheVariants.{Output, SetVlanVid, SetVlanPcp, StripVlan, SetDlSrc, SetDlDst, SetNwSrc, SetNwDst, SetNwTos, SetTpSrc, SetTpDst, Enqueue}
 use Rattle.of10_action.specs.Actions.{kind_of, size_of, spell, spelling}
-use Rattle.of10_action.specs.Reading.{◌>>=◌, head_at, action_of, action_at, actions_at, read_all}
-use Rattle.of10_action.proofs.Loop.{sizes, shorter, bind_ok, same_count}
+use Rattle.of10_action.specs.Reading.{action_of, action_at, actions_at, read_all}
+use Rattle.of10_action.proofs.Loop.{first_is, shorter, same_count}
 
 length-spell : (a : Action) → length (spell a) ≡ size_of (kind_of a)
 length-spell (Output port max_len) = refl
@@ -40,15 +42,11 @@ kind_of-action_of (suc (suc (suc (suc (suc (suc (suc (suc (suc (suc (suc (suc n)
 
 -- the first action takes the length of its spelling
 first_length : (bytes : List ℕ) (x : Action × List ℕ) → action_at bytes ≡ Ok x → length (spell x.0) + length x.1 ≡ length bytes
-unfolding action_at
 first_length bytes x e =
-    let head = bind_ok (head_at bytes) (λ h. Ok (action_of h.0 bytes, drop h.1 bytes)) x e in
-    let s = sizes bytes head.0 head.1 in
-    let made : Action × List ℕ = (action_of head.0.0 bytes, drop head.0.1 bytes) in
-    let is : made ≡ x = let h = head.2 in cc in
+    let (head, is, made) = first_is bytes x e in
     let P : Action × List ℕ → Type 0 = λ y. length (spell y.0) + length y.1 ≡ length bytes in
-    let front : length (spell (action_of head.0.0 bytes)) ≡ head.0.1 = length-spell (action_of head.0.0 bytes) ∙ ap size_of (kind_of-action_of head.0.0 bytes s.2) ∙ sym s.3 in
-    subst P is (rw front (omega (arith, length-drop head.0.1 bytes, s.1)))
+    let front : length (spell (action_of head.0 bytes)) ≡ head.1 = length-spell (action_of head.0 bytes) ∙ ap size_of (kind_of-action_of head.0 bytes is.known) ∙ sym is.of_kind in
+    subst P made (rw front (omega (arith, length-drop head.1 bytes, is.whole)))
 
 all_lengths : (n : ℕ) (bytes : List ℕ) (actions : List Action) → length bytes ≤ n → actions_at n bytes ≡ Ok actions → length (spelling actions) ≡ length bytes
 unfolding actions_at

@@ -1,76 +1,52 @@
 -- Reading actions one after the other, as a loop does.
-use Rattle.std.proofs.Common.{◌≡◌, ℕ, zero, suc, ◌≤◌, ◌<◌, ◌%◌, Bool, true, false, cond, not, ltb, eqb, ◌||◌, List, [], ◌∷◌, ◌++◌, length, drop, Result, Ok, Err, refl, sym, ap, subst, ◌∙◌, append_assoc, arith}
+use Rattle.std.proofs.Common.{◌≡◌, ℕ, zero, suc, ◌≤◌, ◌<◌, ◌%◌, not, ltb, eqb, ◌||◌, List, [], ◌∷◌, ◌++◌, length, drop, Result, Ok, Err, refl, sym, ap, subst, ◌∙◌, arith}
 use Rattle.std.proofs.lemmas.Bool.{ltb-false, eqb-true, or_parts}
 use Rattle.std.proofs.lemmas.List.{append-nil, length-drop}
 use Rattle.of10_model.specs.Normal.{number_at}
+use Rattle.of10_model.specs.Results.{◌>>=◌}
+use Rattle.of10_model.proofs.Results.{ok_is, passed, met, bind_ok, same_bind, with_front, regroup}
 use Rattle.of10_action.specs.declared.action.Action.{Action}
 use Rattle.of10_action.specs.declared.fault.WireFault.{WireFault}
 use Rattle.of10_action.specs.declared.fault.WireFault.TheVariants.{ActionKind, ActionLength, ActionVendor}
 use Rattle.of10_action.specs.Actions.{size_of}
-use Rattle.of10_action.specs.Reading.{◌>>=◌, head_at, action_of, action_at, actions_at, read_all}
+use Rattle.of10_action.specs.Reading.{head_at, action_of, action_at, actions_at, read_all}
 
--- a test that found no fault
-passed : {A : Type 0} (b : Bool) (fault : WireFault) (r : Result A WireFault) (x : A) → cond b (Err fault) r ≡ Ok x → (b ≡ false) × (r ≡ Ok x)
-passed true fault r x e = absurd cc
-passed false fault r x e = (refl, e)
+-- a head that is read is the two numbers that begin the bytes: a known kind and its length, which is 8 and more and no more than the bytes
+pub record IsHead (bytes : List ℕ) (head : ℕ × ℕ) : Type 0 where
+  pub kind : number_at bytes 0 2 ≡ head.0
+  pub size : number_at bytes 2 2 ≡ head.1
+  pub eight : 8 ≤ head.1
+  pub whole : head.1 ≤ length bytes
+  pub known : head.0 ≤ 11
+  pub of_kind : head.1 ≡ size_of head.0
 
-chosen : {A : Type 0} (b : Bool) (fault : WireFault) (y x : A) → cond b (Ok y) (Err fault) ≡ Ok x → y ≡ x
-chosen true fault y x e = cc
-chosen false fault y x e = absurd cc
-
--- the test of a length was passed
-known : {A : Type 0} (b : Bool) (fault : WireFault) (size wanted : ℕ) (y x : A) → eqb size wanted ≡ b → cond b (Ok y) (Err fault) ≡ Ok x → size ≡ wanted
-known true fault size wanted y x is e = eqb-true size wanted is
-known false fault size wanted y x is e = absurd cc
-
--- the length of an action that is read is 8 and more, no more than the bytes, and that of its kind
-pub sizes : (bytes : List ℕ) (head : ℕ × ℕ) → head_at bytes ≡ Ok head → (8 ≤ head.1) × (head.1 ≤ length bytes) × (head.0 ≤ 11) × (head.1 ≡ size_of head.0)
+head_is : (bytes : List ℕ) (head : ℕ × ℕ) → head_at bytes ≡ Ok head → IsHead bytes head
 unfolding head_at
-sizes bytes head e =
+head_is bytes head e =
     let kind = number_at bytes 0 2 in
     let size = number_at bytes 2 2 in
     let a = passed (ltb (length bytes) 4) (ActionLength 0) _ head e in
     let b = passed (ltb (length bytes) 8 || ltb size 8 || not (eqb (size % 8) 0) || ltb (length bytes) size) (ActionLength size) _ head a.1 in
     let c = passed (eqb kind 0xffff) ActionVendor _ head b.1 in
     let d = passed (ltb 11 kind) (ActionKind kind) _ head c.1 in
-    let is : (kind, size) ≡ head = chosen (eqb size (size_of kind)) (ActionLength size) (kind, size) head d.1 in
+    let f = met (eqb size (size_of kind)) (ActionLength size) (Ok (kind, size)) head d.1 in
     let last = or_parts (ltb (length bytes) 8 || ltb size 8 || not (eqb (size % 8) 0)) (ltb (length bytes) size) b.0 in
     let before = or_parts (ltb (length bytes) 8 || ltb size 8) (not (eqb (size % 8) 0)) last.0 in
     let first = or_parts (ltb (length bytes) 8) (ltb size 8) before.0 in
-    let P : ℕ × ℕ → Type 0 = λ h. (8 ≤ h.1) × (h.1 ≤ length bytes) × (h.0 ≤ 11) × (h.1 ≡ size_of h.0) in
-    subst P is (ltb-false _ _ first.1, ltb-false _ _ last.1, ltb-false _ _ d.0, known (eqb size (size_of kind)) (ActionLength size) size (size_of kind) (kind, size) head refl d.1)
+    subst (IsHead bytes) (ok_is (kind, size) head f.1) (record { kind = refl; size = refl; eight = ltb-false _ _ first.1; whole = ltb-false _ _ last.1; known = ltb-false _ _ d.0; of_kind = eqb-true size (size_of kind) f.0 })
 
--- a head that is read is the two numbers that begin the bytes
-pub heads : (bytes : List ℕ) (head : ℕ × ℕ) → head_at bytes ≡ Ok head → (number_at bytes 0 2 ≡ head.0) × (number_at bytes 2 2 ≡ head.1)
-unfolding head_at
-heads bytes head e =
-    let kind = number_at bytes 0 2 in
-    let size = number_at bytes 2 2 in
-    let a = passed (ltb (length bytes) 4) (ActionLength 0) _ head e in
-    let b = passed (ltb (length bytes) 8 || ltb size 8 || not (eqb (size % 8) 0) || ltb (length bytes) size) (ActionLength size) _ head a.1 in
-    let c = passed (eqb kind 0xffff) ActionVendor _ head b.1 in
-    let d = passed (ltb 11 kind) (ActionKind kind) _ head c.1 in
-    let is : (kind, size) ≡ head = chosen (eqb size (size_of kind)) (ActionLength size) (kind, size) head d.1 in
-    let P : ℕ × ℕ → Type 0 = λ h. (kind ≡ h.0) × (size ≡ h.1) in
-    subst P is (refl, refl)
-
-pub bind_ok : {A B : Type 0} (r : Result A WireFault) (f : A → Result B WireFault) (y : B) → (r >>= f) ≡ Ok y → (x : A) × (r ≡ Ok x) × (f x ≡ Ok y)
-bind_ok (Ok x) f y e = (x, refl, e)
-bind_ok (Err d) f y e = absurd cc
+-- an action that is read follows its head, and what is left stands behind the length that the head tells
+pub first_is : (bytes : List ℕ) (x : Action × List ℕ) → action_at bytes ≡ Ok x → (head : ℕ × ℕ) × IsHead bytes head × ((action_of head.0 bytes, drop head.1 bytes) ≡ x)
+unfolding action_at
+first_is bytes x e =
+    let head = bind_ok (head_at bytes) (λ h. Ok (action_of h.0 bytes, drop h.1 bytes)) x e in
+    (head.0, head_is bytes head.0 head.1, ok_is (action_of head.0.0 bytes, drop head.0.1 bytes) x head.2)
 
 pub shorter : (bytes : List ℕ) (x : Action × List ℕ) → action_at bytes ≡ Ok x → length x.1 < length bytes
-unfolding action_at
 shorter bytes x e =
-    let head = bind_ok (head_at bytes) (λ h. Ok (action_of h.0 bytes, drop h.1 bytes)) x e in
-    let s = sizes bytes head.0 head.1 in
-    let made : Action × List ℕ = (action_of head.0.0 bytes, drop head.0.1 bytes) in
-    let is : made ≡ x = let h = head.2 in cc in
+    let (head, is, made) = first_is bytes x e in
     let P : Action × List ℕ → Type 0 = λ y. length y.1 < length bytes in
-    subst P is (omega (arith, length-drop head.0.1 bytes, s.0, s.1))
-
-same_bind : {A B : Type 0} (r : Result A WireFault) (f g : A → Result B WireFault) → ((x : A) → r ≡ Ok x → f x ≡ g x) → (r >>= f) ≡ (r >>= g)
-same_bind (Ok x) f g h = h x refl
-same_bind (Err fault) f g h = refl
+    subst P made (omega (arith, length-drop head.1 bytes, is.eight, is.whole))
 
 -- the count doesn't matter once it reaches the number of bytes
 pub same_count : (n m : ℕ) (bytes : List ℕ) → length bytes ≤ n → length bytes ≤ m → actions_at n bytes ≡ actions_at m bytes
@@ -94,14 +70,6 @@ reads_on (b ∷ bytes) x e =
     let s = shorter (b ∷ bytes) x e in
     let same = same_count (length bytes) (length x.1) x.1 (omega arith) (omega arith) in
     rw e (ap (λ (r : Result (List Action) WireFault). r >>= λ others. Ok (x.0 ∷ others)) same)
-
--- what was read before, and what is still read
-abbrev pub with_front : List Action → Result (List Action) WireFault → Result (List Action) WireFault
-with_front front read = read >>= λ others. Ok (front ++ others)
-
-regroup : (front : List Action) (a : Action) (read : Result (List Action) WireFault) → with_front front (read >>= λ others. Ok (a ∷ others)) ≡ with_front (front ++ a ∷ []) read
-regroup front a (Ok others) = ap (λ (whole : List Action). Ok whole) (simp append_assoc)
-regroup front a (Err fault) = refl
 
 pub goes_on : (front : List Action) (bytes : List ℕ) (a : Action) (after : List ℕ) (total : Result (List Action) WireFault) → action_at bytes ≡ Ok (a, after)
     → with_front front (read_all bytes) ≡ total → with_front (front ++ a ∷ []) (read_all after) ≡ total

@@ -1,15 +1,17 @@
 -- The fault of a list is that of its first action that is wrong.
-use Rattle.std.proofs.Common.{◌≡◌, ℕ, zero, suc, ◌+◌, ◌≤◌, ◌<◌, ◌%◌, ◌↔◌, ◌⊎◌, inl, inr, List, [], ◌∷◌, ◌++◌, length, take, drop, slice_index, Result, Ok, Err, refl, sym, ap, subst, ◌∙◌, append_assoc, arith}
+use Rattle.std.proofs.Common.{◌≡◌, ℕ, zero, suc, ◌+◌, ◌≤◌, ◌<◌, ◌%◌, ◌↔◌, inl, inr, List, [], ◌∷◌, ◌++◌, length, take, drop, slice_index, Result, Ok, Err, refl, sym, ap, subst, ◌∙◌, append_assoc, arith}
 use Rattle.std.proofs.Math.Seq.{drop-append_seam}
 use Rattle.std.proofs.lemmas.Bool.{le-ltb, eq-eqb, ne_eqb}
 use Rattle.std.proofs.lemmas.List.{length-append, length-take-le, take-append-drop}
 use Rattle.byteorder.specs.Numbers.{big_from-append}
 use Rattle.of10_model.specs.Normal.{number_at}
+use Rattle.of10_model.specs.Results.{◌>>=◌}
+use Rattle.of10_model.proofs.Results.{bind_ok, bind_err, others_wrong}
 use Rattle.of10_action.specs.declared.action.Action.{Action}
 use Rattle.of10_action.specs.declared.fault.WireFault.{WireFault}
 use Rattle.of10_action.specs.Actions.{size_of}
-use Rattle.of10_action.specs.Reading.{◌>>=◌, head_at, action_of, action_at, actions_at, read_all, IsFirstFault}
-use Rattle.of10_action.proofs.Loop.{sizes, heads, bind_ok, shorter, reads_on}
+use Rattle.of10_action.specs.Reading.{head_at, action_of, action_at, actions_at, read_all, IsFirstFault}
+use Rattle.of10_action.proofs.Loop.{first_is, shorter, reads_on}
 
 number_front : (own more : List ℕ) (place n : ℕ) → place + n ≤ length own → number_at (own ++ more) place n ≡ number_at own place n
 number_front own more zero n le = big_from-append n own more (omega arith)
@@ -64,35 +66,24 @@ head_from bytes kind size is_kind is_size eight fits le of_kind =
 own_bytes : (bytes : List ℕ) (x : Action × List ℕ) → action_at bytes ≡ Ok x → (own : List ℕ) × (bytes ≡ own ++ x.1) × ((other : List ℕ) → action_at (own ++ other) ≡ Ok (x.0, other))
 unfolding action_at
 own_bytes bytes x e =
-    let head = bind_ok (head_at bytes) (λ h. Ok (action_of h.0 bytes, drop h.1 bytes)) x e in
-    let kind = head.0.0 in
-    let size = head.0.1 in
-    let s = sizes bytes head.0 head.1 in
-    let is = heads bytes head.0 head.1 in
+    let (head, s, made) = first_is bytes x e in
+    let kind = head.0 in
+    let size = head.1 in
     let own = take size bytes in
     let more = drop size bytes in
     let whole : own ++ more ≡ bytes = take-append-drop size bytes in
-    let long : length own ≡ size = length-take-le size bytes s.1 in
+    let long : length own ≡ size = length-take-le size bytes s.whole in
     let P : Action × List ℕ → Type 0 = λ y. (bytes ≡ own ++ y.1) × ((other : List ℕ) → action_at (own ++ other) ≡ Ok (y.0, other)) in
-    let made : (action_of kind bytes, more) ≡ x = let h = head.2 in cc in
-    let within : size_of kind ≤ length own = rw (← s.3) (omega (arith, long)) in
+    let within : size_of kind ≤ length own = rw (← s.of_kind) (omega (arith, long)) in
     let again : (other : List ℕ) → action_at (own ++ other) ≡ Ok (action_of kind bytes, other) = λ other.
-    let is_kind : number_at (own ++ other) 0 2 ≡ kind = number_front own other 0 2 (omega (arith, long, s.0)) ∙ sym (number_front own more 0 2 (omega (arith, long, s.0))) ∙ ap (λ l. number_at l 0 2) whole ∙ is.0 in
-    let is_size : number_at (own ++ other) 2 2 ≡ size = number_front own other 2 2 (omega (arith, long, s.0)) ∙ sym (number_front own more 2 2 (omega (arith, long, s.0))) ∙ ap (λ l. number_at l 2 2) whole ∙ is.1 in
-    let read : head_at (own ++ other) ≡ Ok (kind, size) = head_from (own ++ other) kind size is_kind is_size s.0 (omega (arith, long, length-append own other)) s.2 s.3 in
-    let action : action_of kind (own ++ other) ≡ action_of kind bytes = action_front kind own other s.2 within ∙ sym (action_front kind own more s.2 within) ∙ ap (action_of kind) whole in
+    let is_kind : number_at (own ++ other) 0 2 ≡ kind = number_front own other 0 2 (omega (arith, long, s.eight)) ∙ sym (number_front own more 0 2 (omega (arith, long, s.eight))) ∙ ap (λ l. number_at l 0 2) whole ∙ s.kind in
+    let is_size : number_at (own ++ other) 2 2 ≡ size = number_front own other 2 2 (omega (arith, long, s.eight)) ∙ sym (number_front own more 2 2 (omega (arith, long, s.eight))) ∙ ap (λ l. number_at l 2 2) whole ∙ s.size in
+    let read : head_at (own ++ other) ≡ Ok (kind, size) = head_from (own ++ other) kind size is_kind is_size s.eight (omega (arith, long, length-append own other)) s.known s.of_kind in
+    let action : action_of kind (own ++ other) ≡ action_of kind bytes = action_front kind own other s.known within ∙ sym (action_front kind own more s.known within) ∙ ap (action_of kind) whole in
     let behind : drop size (own ++ other) ≡ other = ap (λ n. drop n (own ++ other)) (sym long) ∙ drop-append_seam own other in
     rw (read, action, behind) refl in
     let both : P x = subst P made (sym whole, again) in
     (own, both.0, both.1)
-
-bind_err : {A B : Type 0} (r : Result A WireFault) (f : A → Result B WireFault) (fault : WireFault) → (r >>= f) ≡ Err fault → (r ≡ Err fault) ⊎ ((x : A) × (r ≡ Ok x) × (f x ≡ Err fault))
-bind_err (Ok x) f fault e = inr (x, refl, e)
-bind_err (Err other) f fault e = inl (let h = e in cc)
-
-others_wrong : (r : Result (List Action) WireFault) (a : Action) (fault : WireFault) → (r >>= λ others. Ok (a ∷ others)) ≡ Err fault → r ≡ Err fault
-others_wrong (Ok others) a fault e = absurd cc
-others_wrong (Err other) a fault e = cc
 
 head_wrong : (bytes : List ℕ) (fault : WireFault) → action_at bytes ≡ Err fault → head_at bytes ≡ Err fault
 unfolding action_at

@@ -1,6 +1,7 @@
 -- Reading a list of actions from front to back, with the first fault that is met (OpenFlow 1.0.0, sections 5.2.4 and 5.4.4).
 use Rattle.std.specs.Prelude.{◌≡◌, ℕ, zero, suc, ◌%◌, ◌==◌, ◌||◌, not, nat_lt, if◌then◌else◌, List, [], ◌∷◌, ◌++◌, ◌≤◌, length, drop, slice_index, Result, Ok, Err}
 use Rattle.of10_model.specs.Normal.{number_at}
+use Rattle.of10_model.specs.Results.{◌>>=◌}
 use Rattle.of10_action.specs.declared.action.Action.{Action}
 use Rattle.of10_action.specs.declared.action.Action.TheVariants.{Output, SetVlanVid, SetVlanPcp, StripVlan, SetDlSrc, SetDlDst, SetNwSrc, SetNwDst, SetNwTos, SetTpSrc, SetTpDst, Enqueue}
 use Rattle.of10_action.specs.declared.fault.WireFault.{WireFault}
@@ -8,12 +9,6 @@ use Rattle.of10_action.specs.declared.fault.WireFault.TheVariants.{ActionKind, A
 use Rattle.of10_action.specs.declared.fault.DecodeFault.{DecodeFault}
 use Rattle.of10_action.specs.declared.fault.DecodeFault.TheVariants as faults
 use Rattle.of10_action.specs.Actions.{size_of}
-
--- the first fault ends a reading
-infixl 10 ◌>>=◌
-abbrev pub ◌>>=◌ : {A B : Type 0} → Result A WireFault → (A → Result B WireFault) → Result B WireFault
-(Ok x) >>= f = f x
-(Err fault) >>= f = Err fault
 
 -- a call fails as a reading does, or for want of memory
 abbrev pub Fails : {X : Type 0} → DecodeFault → Result X WireFault → Type 0

@@ -8,7 +8,8 @@ use Rattle.of10_action.specs.declared.action.Action.{Action}
 use Rattle.of10_action.specs.declared.fault.WireFault.{WireFault}
 use Rattle.of10_action.specs.declared.fault.WireFault.TheVariants.{Length}
 use Rattle.of10_action.specs.Actions.{IsAction, spelling}
-use Rattle.of10_action.specs.Reading.{◌>>=◌, read_all}
+use Rattle.of10_model.specs.Results.{◌>>=◌}
+use Rattle.of10_action.specs.Reading.{read_all}
 use Rattle.of10_ctl.specs.Frames.{message_of}
 use Rattle.of10_flow.specs.declared.flow_mod.FlowMod.{FlowMod}
 

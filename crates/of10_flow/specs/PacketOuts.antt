@@ -6,7 +6,8 @@ use Rattle.of10_model.specs.Normal.{number_at}
 use Rattle.of10_action.specs.declared.fault.WireFault.{WireFault}
 use Rattle.of10_action.specs.declared.fault.WireFault.TheVariants.{Length}
 use Rattle.of10_action.specs.Actions.{IsAction, spelling}
-use Rattle.of10_action.specs.Reading.{◌>>=◌, read_all}
+use Rattle.of10_model.specs.Results.{◌>>=◌}
+use Rattle.of10_action.specs.Reading.{read_all}
 use Rattle.of10_ctl.specs.Frames.{message_of}
 use Rattle.of10_flow.specs.declared.packet_out.PacketOut.{PacketOut}
 

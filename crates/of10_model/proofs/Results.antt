@@ -10,6 +10,11 @@ pub passed : {A E : Type 0} (b : Bool) (fault : E) (r : Result A E) (x : A) → 
 passed true fault r x e = absurd cc
 passed false fault r x e = (refl, e)
 
+-- a test that found what it wants
+pub met : {A E : Type 0} (b : Bool) (fault : E) (r : Result A E) (x : A) → cond b r (Err fault) ≡ Ok x → (b ≡ true) × (r ≡ Ok x)
+met true fault r x e = (refl, e)
+met false fault r x e = absurd cc
+
 pub bind_ok : {A B E : Type 0} (r : Result A E) (f : A → Result B E) (y : B) → (r >>= f) ≡ Ok y → (x : A) × (r ≡ Ok x) × (f x ≡ Ok y)
 bind_ok (Ok x) f y e = (x, refl, e)
 bind_ok (Err fault) f y e = absurd cc

@@ -1,8 +1,8 @@
 use Rattle.std.proofs.Common.{◌≡◌, length}
 use Rattle.std.specs.List.{All}
+use Rattle.of10_model.proofs.Results.{with_front}
 use Rattle.of10_action.specs.Actions.{IsAction, HasAddress}
 use Rattle.of10_action.specs.Reading.{read_all}
-use Rattle.of10_action.proofs.Loop.{with_front}
 use Rattle.of10_action.proofs.decode.list.Given as goal
 
 abbrev pub invariant-loop-rest : goal.invariant-loop-rest
