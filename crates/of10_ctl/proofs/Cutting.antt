@@ -1,17 +1,13 @@
 -- How a stream is cut into frames, and what comes behind does not change the frames in front.
-use Rattle.std.proofs.Common.{◌≡◌, ℕ, zero, suc, ◌+◌, ◌-◌, ◌<◌, ◌≤◌, Bool, true, false, cond, ltb, List, [], ◌∷◌, ◌++◌, length, take, drop, refl, ap, ◌∙◌, arith}
+use Rattle.std.proofs.Common.{◌≡◌, ℕ, zero, suc, ◌+◌, ◌-◌, ◌<◌, ◌≤◌, cond, ltb, List, [], ◌∷◌, ◌++◌, length, take, drop, refl, ap, ◌∙◌, arith}
 use Rattle.std.proofs.lemmas.Bool.{lt-ltb, le-ltb, ltb-false}
 use Rattle.std.proofs.lemmas.List.{length-drop, length-append, take-append-le, drop-append-le, drop-take}
 use Rattle.byteorder.specs.Endian.{big_from}
 use Rattle.byteorder.specs.Numbers.{big_from-append, big_from-take}
+use Rattle.of10_model.proofs.Results.{unless, either_none}
 use Rattle.of10_ctl.specs.Heads.{length_field}
 use Rattle.of10_ctl.specs.Frames.{is_bad}
 use Rattle.of10_ctl.specs.Streams.{frames_at, frames_of}
-
--- a case that matters only where a test fails
-unless : {A : Type 0} (test : Bool) (x y z : A) → (test ≡ false → y ≡ z) → cond test x y ≡ cond test x z
-unless true x y z h = refl
-unless false x y z h = h refl
 
 -- the count doesn't matter once it reaches the number of bytes
 pub same_count : (n m : ℕ) (bytes : List ℕ) → length bytes ≤ n → length bytes ≤ m → frames_at n bytes ≡ frames_at m bytes
@@ -48,14 +44,10 @@ frames-short bytes short = frames_cut bytes ∙ rw (lt-ltb (length bytes) 8 shor
 pub frames-bad : (bytes : List ℕ) → 8 ≤ length bytes → length_field bytes < 8 → frames_of bytes ≡ take 8 bytes ∷ []
 frames-bad bytes header bad = frames_cut bytes ∙ rw (le-ltb (length bytes) 8 header, lt-ltb (length_field bytes) 8 bad) refl
 
-none_either_way : (short : Bool) (frames : List (List ℕ)) → frames ≡ [] → cond short [] frames ≡ []
-none_either_way true frames none = refl
-none_either_way false frames none = none
-
 -- fewer bytes than the length field says hold no frame
 pub frames-cut_off : (bytes : List ℕ) → 8 ≤ length_field bytes → length bytes < length_field bytes → frames_of bytes ≡ []
 frames-cut_off bytes good few =
-    frames_cut bytes ∙ rw (le-ltb (length_field bytes) 8 good, lt-ltb (length bytes) (length_field bytes) few) (none_either_way (ltb (length bytes) 8) [] refl)
+    frames_cut bytes ∙ rw (le-ltb (length_field bytes) 8 good, lt-ltb (length bytes) (length_field bytes) few) (either_none (ltb (length bytes) 8) [] refl)
 
 -- a whole frame, and the frames of the rest
 pub frames-whole : (bytes : List ℕ) → 8 ≤ length_field bytes → length_field bytes ≤ length bytes → frames_of bytes ≡ take (length_field bytes) bytes ∷ frames_of (drop (length_field bytes) bytes)

@@ -1,5 +1,5 @@
 -- Messages that change a flow table (OpenFlow 1.0.0, section 5.3.3).
-use Rattle.std.specs.Prelude.{ℕ, ◌+◌, ◌<◌, ◌≤◌, ◌^◌, nat_lt, if◌then◌else◌, List, ◌++◌, length, take, drop, Result, Ok, Err}
+use Rattle.std.specs.Prelude.{ℕ, ◌+◌, ◌<◌, ◌≤◌, ◌^◌, nat_lt, if◌then◌else◌, List, ◌++◌, length, drop, Result, Ok, Err}
 use Rattle.std.specs.List.{All}
 use Rattle.byteorder.specs.Endian.{big_bytes}
 use Rattle.of10_model.specs.Normal.{number_at, match_at, IsNormal}
