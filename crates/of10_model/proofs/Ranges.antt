@@ -10,9 +10,12 @@ use Rattle.of10_model.specs.Normal.{bit, number_at, spelled, kept, kept_prefix, 
 
 -- ---- what bytes spell
 
-number_at-lt : (bytes : List ℕ) (at n : ℕ) → ((k : ℕ) → slice_index bytes k < 256) → number_at bytes at n < 256 ^ n
-number_at-lt bytes at n h =
-    big_from-lt 0 n (drop at bytes) (λ k. rw get_or-drop (h (at + k)))
+-- what is left of bytes are bytes
+pub bytes-drop : (bytes : List ℕ) (n : ℕ) → ((k : ℕ) → slice_index bytes k < 256) → (k : ℕ) → slice_index (drop n bytes) k < 256
+bytes-drop bytes n h k = rw (get_or-drop n bytes k 0) (h (n + k))
+
+pub number_at-lt : (bytes : List ℕ) (at n : ℕ) → ((k : ℕ) → slice_index bytes k < 256) → number_at bytes at n < 256 ^ n
+number_at-lt bytes at n h = big_from-lt 0 n (drop at bytes) (bytes-drop bytes at h)
 
 IsBelow-freed : (limit value : ℕ) (b : Bool) → value < limit → IsBelow limit (if b then None else Some value)
 IsBelow-freed limit value true h = tt

@@ -3,15 +3,16 @@ use Rattle.std.proofs.Common.{◌≡◌, ℕ, ◌+◌, ◌-◌, ◌≤◌, ◌<�
 use Rattle.std.proofs.lemmas.Bool.{cases_lt, ltb-true, ltb-false, lt-ltb, le-ltb, false_from_ne_true, not-true, not-false}
 use Rattle.std.proofs.lemmas.List.{append-nil, length-append, length-drop, length-take-le, take-append-le, length-replicate, drop-take}
 use Rattle.byteorder.specs.Endian.{big_number}
-use Rattle.byteorder.specs.Numbers.{big_from-lt, big_from-take}
+use Rattle.byteorder.specs.Numbers.{big_from-take}
 use Rattle.of10_model.specs.Normal.{number_at}
+use Rattle.of10_model.proofs.Ranges.{number_at-lt}
 use Rattle.recording.specs.declared.item.Item.{Item}
 use Rattle.recording.specs.declared.fault.RecordingFault.{RecordingFault}
 use Rattle.recording.specs.declared.fault.RecordingFault.TheVariants.{Torn, Bad, NotOpen, Memory}
 use Rattle.recording.specs.Recordings.{Told, told_at, spell, head_spelling, item_at, is_formed, fits, record_at}
 use Rattle.recording.specs.Faults.{HasForm, HasNoForm, IsCutOff, IsUnfit, IsFaultAt}
 use Rattle.recording.proofs.Told.{number_first, number_behind, spell_length, kind_again, switch_again, slot_again, zero_again, size_again, small, head_again, with_rest}
-use Rattle.recording.proofs.Untold.{AreBytes, bytes-drop, head_spelled, zero_formed, size_at, told_spelled}
+use Rattle.recording.proofs.Untold.{AreBytes, head_spelled, zero_formed, size_at, told_spelled}
 
 -- ---- heads
 
@@ -63,7 +64,7 @@ form_with slices front rest body bytes is formed =
     let zero_and = zero_formed slices (number_at (front ++ rest) (length front + 3) 1) (item_at (front ++ rest) (length front)) formed in
     let none : number_at rest 3 1 ≡ 0 = rw (number_behind front rest 3 1) at zero_and.0 in
     let head : is_formed slices 0 (told_at (length front) (told_with rest body)) ≡ true = rw (item_with front rest body is) at zero_and.1 in
-    (none, (head, big_from-lt 0 8 (drop 8 rest) (λ k. bytes-drop rest 8 bytes k)))
+    (none, (head, number_at-lt rest 8 8 bytes))
 
 -- ---- what is wrong
 

@@ -4,13 +4,14 @@ use Rattle.std.proofs.lemmas.Bool.{and_parts, leb-true, ltb-true, eqb-true, lt-l
 use Rattle.recording.specs.declared.item.Item.{Item}
 use Rattle.recording.specs.Recordings.{IsItem, byte_limit, is_formed}
 
-first_branch : (b x y : Bool) → cond b x y ≡ true → b ≡ true → x ≡ true
-first_branch true x y e f = e
-first_branch false x y e f = absurd cc
+-- a choice whose test is known
+pub ended : {A : Type 0} (b : Bool) (x y z : A) → b ≡ true → cond b x y ≡ z → x ≡ z
+ended true x y z h e = e
+ended false x y z h e = absurd cc
 
-second_branch : (b x y : Bool) → cond b x y ≡ true → b ≡ false → y ≡ true
-second_branch true x y e f = absurd cc
-second_branch false x y e f = e
+pub past : {A : Type 0} (b : Bool) (x y z : A) → b ≡ false → cond b x y ≡ z → y ≡ z
+past true x y z h e = absurd cc
+past false x y z h e = e
 
 -- a record of the form whose bytes lie in the file
 pub formed_item : (slices reserved : ℕ) (bytes : List ℕ) (r : Item) → is_formed slices reserved r ≡ true → r.from + r.size ≤ length bytes → IsItem slices bytes r
@@ -23,8 +24,8 @@ formed_item slices reserved bytes r e whole =
     record {
       known = leb-true _ _ d.0;
       switch = ltb-true _ _ d.1;
-      of_switch = λ h. eqb-true _ _ (first_branch (ltb r.kind 3) (r.slot == 0) (ltb r.slot slices) c.1 (lt-ltb _ _ h));
-      of_slice = λ h. ltb-true _ _ (second_branch (ltb r.kind 3) (r.slot == 0) (ltb r.slot slices) c.1 (le-ltb _ _ h));
+      of_switch = λ h. eqb-true _ _ (ended (ltb r.kind 3) (r.slot == 0) (ltb r.slot slices) true (lt-ltb _ _ h) c.1);
+      of_slice = λ h. ltb-true _ _ (past (ltb r.kind 3) (r.slot == 0) (ltb r.slot slices) true (le-ltb _ _ h) c.1);
       size = leb-true _ _ a.1;
       within = whole;
     }

@@ -1,18 +1,21 @@
 -- A file is refused exactly for its magic or for its first fault.
-use Rattle.std.proofs.Common.{◌≡◌, ◌↔◌, ◌⊎◌, ℕ, zero, suc, ◌+◌, ◌≤◌, ◌<◌, ◌&&◌, Bool, true, false, cond, ltb, List, [], ◌∷◌, ◌++◌, length, take, drop, reverse, bytes_eq, inl, inr, Result, Ok, Err, refl, sym, ap, subst, ◌∙◌, append_assoc, arith}
+use Rattle.std.proofs.Common.{◌≡◌, ◌↔◌, ℕ, zero, suc, ◌+◌, ◌≤◌, ◌<◌, ◌&&◌, Bool, true, false, cond, ltb, List, [], ◌∷◌, ◌++◌, length, take, drop, reverse, bytes_eq, inl, inr, Result, Ok, Err, refl, sym, ap, subst, ◌∙◌, append_assoc, arith}
 use Rattle.std.specs.List.{All, flat_map}
 use Rattle.std.proofs.lemmas.Slice.Eq.{bytes_eq-Decides}
 use Rattle.std.proofs.lemmas.Bool.{and_parts, ltb-true, ltb-false, lt-ltb, le-ltb, lt-leb, le-leb, false_from_ne_true}
 use Rattle.std.proofs.lemmas.List.{append-nil, length-append, length-drop, reverse-append, take-append-drop}
 use Rattle.std.proofs.lemmas.List.Elements.{All-head, All-tail, All-cons}
 use Rattle.std.proofs.lemmas.List.Concat.{flat_map-cons}
+use Rattle.of10_model.specs.Results.{◌>>=◌}
+use Rattle.of10_model.proofs.Ranges.{bytes-drop}
+use Rattle.of10_model.proofs.Results.{bind_err, others_wrong}
 use Rattle.recording.specs.declared.item.Item.{Item}
 use Rattle.recording.specs.declared.fault.RecordingFault.{RecordingFault}
 use Rattle.recording.specs.declared.fault.RecordingFault.TheVariants.{Torn, Bad}
-use Rattle.recording.specs.Recordings.{◌>>=◌, Told, HasMoment, told_at, all_told, may_be_told, recording, spell, magic, is_formed, fits, record_at, items_from, read_items}
+use Rattle.recording.specs.Recordings.{Told, HasMoment, told_at, all_told, may_be_told, recording, spell, magic, is_formed, fits, record_at, items_from, read_items}
 use Rattle.recording.specs.Faults.{IsFaultAt, IsFirstFault, IsRefused}
 use Rattle.recording.proofs.Told.{spell_length, record_again, with_rest}
-use Rattle.recording.proofs.Untold.{AreBytes, bytes_of, bytes-drop, bytes-behind, Begins, begins, length-begins}
+use Rattle.recording.proofs.Untold.{AreBytes, bytes_of, bytes-behind, Begins, begins, length-begins}
 use Rattle.recording.proofs.Faulty.{or_else, fault_found, fault_answered}
 
 -- a reading that isn't at the end
@@ -53,14 +56,6 @@ record Stops (slices : ℕ) (front more : List ℕ) (before : List Item) (fault 
   wrong : IsFaultAt slices (reverse (all_told (length front) told) ++ before) (length (front ++ flat_map spell told)) rest fault
 
 -- ---- what stops a reading
-
-bind_err : {A B : Type 0} (r : Result A RecordingFault) (f : A → Result B RecordingFault) (fault : RecordingFault) → (r >>= f) ≡ Err fault → (r ≡ Err fault) ⊎ ((x : A) × (r ≡ Ok x) × (f x ≡ Err fault))
-bind_err (Ok x) f fault e = inr (x, refl, e)
-bind_err (Err other) f fault e = inl (let h = e in cc)
-
-others_wrong : (read : Result (List Item) RecordingFault) (r : Item) (fault : RecordingFault) → (read >>= λ others. Ok (r ∷ others)) ≡ Err fault → read ≡ Err fault
-others_wrong (Ok others) r fault e = absurd cc
-others_wrong (Err other) r fault e = cc
 
 stops_here : (slices : ℕ) (front more : List ℕ) (before : List Item) (fault : RecordingFault) → 1 ≤ length more → IsFaultAt slices before (length front) more fault → Stops slices front more before fault
 unfolding all_told may_be_told
@@ -168,7 +163,7 @@ read_fault slices bytes fault range e =
     let all_bytes : AreBytes bytes = bytes_of bytes range in
     let behind_magic : take 8 bytes ≡ magic → items_from (length bytes) slices bytes [] 8 ≡ Err fault → IsFirstFault slices bytes fault = λ front on.
     let whole : magic ++ more ≡ bytes = rw front at (take-append-drop 8 bytes) in
-    let s = walk_stops (length bytes) slices magic more [] fault (λ k. bytes-drop bytes 8 all_bytes k) (omega (arith, length-drop 8 bytes)) (rw whole on) in
+    let s = walk_stops (length bytes) slices magic more [] fault (bytes-drop bytes 8 all_bytes) (omega (arith, length-drop 8 bytes)) (rw whole on) in
     record {
       told = s.told;
       moments = s.moments;

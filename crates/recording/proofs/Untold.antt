@@ -1,21 +1,22 @@
 -- What is read is what the file tells.
-use Rattle.std.proofs.Common.{◌≡◌, ℕ, zero, suc, ◌+◌, ◌-◌, ◌*◌, ◌/◌, ◌%◌, ◌<◌, ◌≤◌, ◌==◌, Bool, true, false, cond, not, ltb, leb, eqb-true, List, [], ◌∷◌, ◌++◌, length, take, drop, bytes_eq, inl, inr, slice_index, Result, Ok, Err, refl, sym, ap, ◌∙◌, append_assoc, arith}
+use Rattle.std.proofs.Common.{◌≡◌, ℕ, zero, suc, ◌+◌, ◌-◌, ◌*◌, ◌/◌, ◌%◌, ◌<◌, ◌≤◌, ◌==◌, true, not, ltb, leb, eqb-true, List, [], ◌∷◌, ◌++◌, length, take, drop, bytes_eq, inl, inr, slice_index, Ok, refl, sym, ap, ◌∙◌, append_assoc, arith}
 use Rattle.std.specs.List.{All, flat_map}
 use Rattle.std.proofs.Math.Seq.{drop-append_seam}
 use Rattle.std.proofs.lemmas.Slice.Eq.{bytes_eq-Decides}
 use Rattle.std.proofs.lemmas.Bool.{cases_lt, and_parts, ltb-false, le-leb, lt-leb, not-false}
-use Rattle.std.proofs.lemmas.List.{length-append, length-drop, get_or-drop, get_or_past, take-append-drop, length-take-le}
+use Rattle.std.proofs.lemmas.List.{length-append, length-drop, get_or_past, take-append-drop, length-take-le}
 use Rattle.std.proofs.lemmas.List.Elements.{All-cons}
 use Rattle.std.proofs.lemmas.List.Concat.{flat_map-cons}
 use Rattle.byteorder.specs.Endian.{big_number, big_bytes}
-use Rattle.byteorder.specs.Numbers.{big_from-lt}
 use Rattle.of10_model.specs.Normal.{number_at}
+use Rattle.of10_model.specs.Results.{◌>>=◌}
+use Rattle.of10_model.proofs.Ranges.{bytes-drop, number_at-lt}
+use Rattle.of10_model.proofs.Results.{ok_is, passed, met, bind_ok}
 use Rattle.recording.specs.declared.item.Item.{Item}
-use Rattle.recording.specs.declared.fault.RecordingFault.{RecordingFault}
 use Rattle.recording.specs.declared.fault.RecordingFault.TheVariants.{Torn, Bad, NotOpen}
-use Rattle.recording.specs.Recordings.{◌>>=◌, Told, HasMoment, told_at, all_told, may_be_told, recording, spell, magic, head_spelling, item_at, byte_limit, is_formed, fits, record_at, items_from, read_items}
+use Rattle.recording.specs.Recordings.{Told, HasMoment, told_at, all_told, may_be_told, recording, spell, magic, head_spelling, item_at, byte_limit, is_formed, fits, record_at, items_from, read_items}
+use Rattle.recording.proofs.Forms.{ended, past}
 use Rattle.recording.proofs.Told.{number_first, number_behind, spell_length}
-use Rattle.recording.proofs.Walk.{passed, ok_is}
 
 -- each element is a byte, and so is the 0 that is read past the end
 abbrev pub AreBytes : List ℕ → Type 0
@@ -26,19 +27,12 @@ AreBytes xs = (k : ℕ) → slice_index xs k < 256
 pub bytes_of : (xs : List ℕ) → All (λ b. b < 256) xs → AreBytes xs
 bytes_of xs all k = elim (cases_lt k (length xs)) [ inl lt ↦ all k 0 lt | inr le ↦ rw (get_or_past xs k 0 le) (omega arith) ]
 
-pub bytes-drop : (xs : List ℕ) (n : ℕ) → AreBytes xs → AreBytes (drop n xs)
-bytes-drop xs n bytes k = rw (get_or-drop n xs k 0) (bytes (n + k))
-
 pub bytes-behind : (xs front rest : List ℕ) → AreBytes xs → xs ≡ front ++ rest → AreBytes rest
 bytes-behind xs front rest bytes is = let later = bytes-drop xs (length front) bytes in rw (is, drop-append_seam front rest) at later
 
 pub size_at : (front more : List ℕ) → (item_at (front ++ more) (length front)).size ≡ number_at more 4 4
 unfolding item_at
 size_at front more = number_behind front more 4 4
-
-begun_by : (b : Bool) (r : Result (List Item) RecordingFault) (fault : RecordingFault) (items : List Item) → cond b r (Err fault) ≡ Ok items → (b ≡ true) × (r ≡ Ok items)
-begun_by true r fault items e = (refl, e)
-begun_by false r fault items e = absurd cc
 
 -- ---- the head
 
@@ -109,9 +103,6 @@ head_spelled (x0 ∷ x1 ∷ x2 ∷ x3 ∷ x4 ∷ x5 ∷ x6 ∷ x7 ∷ x8 ∷ x9 
 abbrev pub told_of : List ℕ → ℕ → Told
 told_of xs size = record { kind = number_at xs 0 1; switch = number_at xs 1 1; slot = number_at xs 2 1; moment = number_at xs 8 8; bytes = take size (drop 16 xs) }
 
-abbrev IsOk : Item → Result Item RecordingFault → Type 0
-IsOk y read = read ≡ Ok y
-
 -- the bytes spell the record, and what is left
 pub record Begins (slices : ℕ) (front more : List ℕ) (before : List Item) (r : Item) : Type 0 where
   pub told : Told
@@ -167,7 +158,7 @@ begins slices front more before r bytes e =
       rest = drop size (drop 16 more);
       spelled = told_spelled more size bytes refl fits_in none;
       is_told = sym is ∙ item_told front more size refl fits_in;
-      moment = big_from-lt 0 8 (drop 8 more) (λ k. bytes-drop more 8 bytes k);
+      moment = number_at-lt more 8 8 bytes;
       formed = rw is at formed.1;
       fit = rw is at (not-false _ d.0);
     }
@@ -210,39 +201,21 @@ one_more slices front more before r others b a =
       fit = rw (b.formed, b.fit) a.fit;
     }
 
-bind_ok : {A B : Type 0} (r : Result A RecordingFault) (f : A → Result B RecordingFault) (y : B) → (r >>= f) ≡ Ok y → (x : A) × (r ≡ Ok x) × (f x ≡ Ok y)
-bind_ok (Ok x) f y e = (x, refl, e)
-bind_ok (Err fault) f y e = absurd cc
-
-abbrev all_ok : List Item → Result (List Item) RecordingFault
-all_ok items = Ok items
-
-all_is : (xs ys : List Item) → all_ok xs ≡ all_ok ys → xs ≡ ys
-all_is xs ys e = cc
-
-past : {A : Type 0} (b : Bool) (x y z : A) → b ≡ false → cond b x y ≡ z → y ≡ z
-past true x y z h e = absurd cc
-past false x y z h e = e
-
-ended : {A : Type 0} (b : Bool) (x y z : A) → b ≡ true → cond b x y ≡ z → x ≡ z
-ended true x y z h e = e
-ended false x y z h e = absurd cc
-
 step_back : (n slices : ℕ) (bytes : List ℕ) (before : List Item) (at : ℕ) (items : List Item) → at < length bytes → items_from (suc n) slices bytes before at ≡ Ok items
     → (r : Item) × (others : List Item) × (record_at slices bytes before at ≡ Ok r) × (items_from n slices bytes (r ∷ before) (r.from + r.size) ≡ Ok others) × (r ∷ others ≡ items)
 unfolding items_from
 step_back n slices bytes before at items lt e =
-    let go = past (leb (length bytes) at) (all_ok []) _ (all_ok items) (lt-leb _ _ lt) e in
+    let go = past (leb (length bytes) at) (Ok []) _ (Ok items) (lt-leb _ _ lt) e in
     let one = bind_ok (record_at slices bytes before at) (λ r. items_from n slices bytes (r ∷ before) (r.from + r.size) >>= λ others. Ok (r ∷ others)) items go in
     let two = bind_ok (items_from n slices bytes (one.0 ∷ before) (one.0.from + one.0.size)) (λ others. Ok (one.0 ∷ others)) items one.2 in
-    (one.0, two.0, one.1, two.1, all_is (one.0 ∷ two.0) items two.2)
+    (one.0, two.0, one.1, two.1, ok_is (one.0 ∷ two.0) items two.2)
 
 walk_back : (n slices : ℕ) (front more : List ℕ) (before items : List Item) → AreBytes more → length more ≤ n → items_from n slices (front ++ more) before (length front) ≡ Ok items → AreTold slices front more before items
 unfolding items_from
-walk_back zero slices front [] before items bytes h e = none_told slices front before items (sym (all_is [] items e))
+walk_back zero slices front [] before items bytes h e = none_told slices front before items (sym (ok_is [] items e))
 walk_back (suc n) slices front [] before items bytes h e =
     let long = length-append front [] in
-    none_told slices front before items (sym (all_is [] items (ended (leb (length (front ++ [])) (length front)) (all_ok []) _ (all_ok items) (le-leb _ _ (omega (arith, long))) e)))
+    none_told slices front before items (sym (ok_is [] items (ended (leb (length (front ++ [])) (length front)) (Ok []) _ (Ok items) (le-leb _ _ (omega (arith, long))) e)))
 walk_back zero slices front (m ∷ ms) before items bytes h e = absurd (omega arith)
 walk_back (suc n) slices front (m ∷ ms) before items bytes h e =
     let more : List ℕ = m ∷ ms in
@@ -264,10 +237,10 @@ pub read_is_told : (slices : ℕ) (bytes : List ℕ) (items : List Item) → All
 unfolding read_items
 read_is_told slices bytes items range e =
     let long = passed (ltb (length bytes) 8) (Torn 0) _ items e in
-    let begun = begun_by (bytes_eq (take 8 bytes) magic) (items_from (length bytes) slices bytes [] 8) (Bad 0) items long.1 in
+    let begun = met (bytes_eq (take 8 bytes) magic) (Bad 0) (items_from (length bytes) slices bytes [] 8) items long.1 in
     let front : take 8 bytes ≡ magic = (bytes_eq-Decides (take 8 bytes) magic).0 begun.0 in
     let more : List ℕ = drop 8 bytes in
     let whole : magic ++ more ≡ bytes = rw front at (take-append-drop 8 bytes) in
     let all_bytes : AreBytes bytes = bytes_of bytes range in
-    let told = walk_back (length bytes) slices magic more [] items (λ k. bytes-drop bytes 8 all_bytes k) (omega (arith, length-drop 8 bytes)) (rw whole begun.1) in
+    let told = walk_back (length bytes) slices magic more [] items (bytes-drop bytes 8 all_bytes) (omega (arith, length-drop 8 bytes)) (rw whole begun.1) in
     (told.told, sym whole ∙ ap (λ l. magic ++ l) told.spelled, told.are_told, told.moments, told.fit)

@@ -1,23 +1,15 @@
 -- Reading records one after the other, as a loop does.
-use Rattle.std.proofs.Common.{◌≡◌, ℕ, zero, suc, ◌+◌, ◌-◌, ◌≤◌, ◌<◌, Bool, true, false, cond, not, ltb, leb, List, [], ◌∷◌, ◌++◌, length, reverse, Result, Ok, Err, refl, sym, ap, subst, ◌∙◌, append_assoc, arith}
+use Rattle.std.proofs.Common.{◌≡◌, ℕ, zero, suc, ◌+◌, ◌-◌, ◌≤◌, ◌<◌, not, ltb, leb, List, [], ◌∷◌, ◌++◌, length, reverse, Result, Ok, Err, refl, sym, ap, subst, ◌∙◌, arith}
 use Rattle.std.proofs.lemmas.Bool.{ltb-false, le-leb, lt-leb}
 use Rattle.std.proofs.lemmas.List.{append-nil, reverse-append}
 use Rattle.of10_model.specs.Normal.{number_at}
+use Rattle.of10_model.specs.Results.{◌>>=◌}
+use Rattle.of10_model.proofs.Results.{ok_is, passed, same_bind, unless, with_front, regroup}
 use Rattle.recording.specs.declared.item.Item.{Item}
 use Rattle.recording.specs.declared.fault.RecordingFault.{RecordingFault}
 use Rattle.recording.specs.declared.fault.RecordingFault.TheVariants.{Torn, Bad, NotOpen, Memory}
-use Rattle.recording.specs.Recordings.{◌>>=◌, Fails, item_at, is_formed, fits, record_at, items_from}
-
--- a test that found no fault
-pub passed : {A : Type 0} (b : Bool) (fault : RecordingFault) (r : Result A RecordingFault) (x : A) → cond b (Err fault) r ≡ Ok x → (b ≡ false) × (r ≡ Ok x)
-passed true fault r x e = absurd cc
-passed false fault r x e = (refl, e)
-
-abbrev IsOk : Item → Result Item RecordingFault → Type 0
-IsOk y read = read ≡ Ok y
-
-pub ok_is : (x y : Item) → IsOk y (Ok x) → x ≡ y
-ok_is x y e = cc
+use Rattle.recording.specs.Recordings.{Fails, item_at, is_formed, fits, record_at, items_from}
+use Rattle.recording.proofs.Forms.{ended}
 
 -- what a record that is read has: its bytes begin behind its head and lie in the file
 pub behind : (slices : ℕ) (bytes : List ℕ) (before : List Item) (at : ℕ) (r : Item) → record_at slices bytes before at ≡ Ok r → (r.from ≡ at + 16) × (r.from + r.size ≤ length bytes)
@@ -35,37 +27,17 @@ behind slices bytes before at r e =
     let whole : q.size ≤ left - 16 = ltb-false _ _ c.0 in
     subst P is (refl, omega arith)
 
-same_bind : {A B : Type 0} (r : Result A RecordingFault) (f g : A → Result B RecordingFault) → ((x : A) → r ≡ Ok x → f x ≡ g x) → (r >>= f) ≡ (r >>= g)
-same_bind (Ok x) f g h = h x refl
-same_bind (Err fault) f g h = refl
-
-stops : {A : Type 0} (b : Bool) (x y : A) → b ≡ true → x ≡ cond b x y
-stops true x y e = refl
-stops false x y e = absurd cc
-
-unless_end : {A : Type 0} (b : Bool) (x y z : A) → (b ≡ false → y ≡ z) → cond b x y ≡ cond b x z
-unless_end true x y z h = refl
-unless_end false x y z h = h refl
-
 -- the count doesn't matter once it reaches the number of bytes that are left
 pub same_count : (n m slices : ℕ) (bytes : List ℕ) (before : List Item) (at : ℕ) → length bytes ≤ at + n → length bytes ≤ at + m → items_from n slices bytes before at ≡ items_from m slices bytes before at
 unfolding items_from
 same_count zero zero slices bytes before at hn hm = refl
-same_count zero (suc m) slices bytes before at hn hm = stops (leb (length bytes) at) _ _ (le-leb _ _ (omega arith))
-same_count (suc n) zero slices bytes before at hn hm = sym (stops (leb (length bytes) at) _ _ (le-leb _ _ (omega arith)))
+same_count zero (suc m) slices bytes before at hn hm = ended (leb (length bytes) at) (Ok []) _ _ (le-leb _ _ (omega arith)) refl
+same_count (suc n) zero slices bytes before at hn hm = sym (ended (leb (length bytes) at) (Ok []) _ _ (le-leb _ _ (omega arith)) refl)
 same_count (suc n) (suc m) slices bytes before at hn hm =
-    unless_end (leb (length bytes) at) (Ok []) _ _ (λ more.
+    unless (leb (length bytes) at) (Ok []) _ _ (λ more.
     same_bind (record_at slices bytes before at) (λ r. items_from n slices bytes (r ∷ before) (r.from + r.size) >>= λ others. Ok (r ∷ others)) (λ r. items_from m slices bytes (r ∷ before) (r.from + r.size) >>= λ others. Ok (r ∷ others))
     (λ r e. let b = behind slices bytes before at r e in
     ap (λ (x : Result (List Item) RecordingFault). x >>= λ others. Ok (r ∷ others)) (same_count n m slices bytes (r ∷ before) (r.from + r.size) (omega (arith, b.0)) (omega (arith, b.0)))))
-
--- what was read before, and what is still read
-abbrev pub with_front : List Item → Result (List Item) RecordingFault → Result (List Item) RecordingFault
-with_front front read = read >>= λ others. Ok (front ++ others)
-
-regroup : (front : List Item) (r : Item) (read : Result (List Item) RecordingFault) → with_front front (read >>= λ others. Ok (r ∷ others)) ≡ with_front (front ++ r ∷ []) read
-regroup front r (Ok others) = ap (λ (whole : List Item). Ok whole) (simp append_assoc)
-regroup front r (Err fault) = refl
 
 -- the step of a reading that isn't at the end
 reads_on : (slices : ℕ) (bytes : List ℕ) (before : List Item) (at : ℕ) → at < length bytes → items_from (length bytes) slices bytes before at

@@ -3,15 +3,10 @@ use Rattle.std.specs.Prelude.{◌≡◌, ℕ, zero, suc, ◌+◌, ◌-◌, ◌<�
 use Rattle.std.specs.List.{flat_map}
 use Rattle.byteorder.specs.Endian.{big_bytes}
 use Rattle.of10_model.specs.Normal.{number_at}
+use Rattle.of10_model.specs.Results.{◌>>=◌}
 use Rattle.recording.specs.declared.item.Item.{Item}
 use Rattle.recording.specs.declared.fault.RecordingFault.{RecordingFault}
 use Rattle.recording.specs.declared.fault.RecordingFault.TheVariants.{Torn, Bad, NotOpen, Memory}
-
--- the first fault ends a reading
-infixl 10 ◌>>=◌
-abbrev pub ◌>>=◌ : {A B : Type 0} → Result A RecordingFault → (A → Result B RecordingFault) → Result B RecordingFault
-(Ok x) >>= f = f x
-(Err fault) >>= f = Err fault
 
 -- a call fails as a reading does, or for want of memory
 abbrev pub Fails : {X : Type 0} → RecordingFault → Result X RecordingFault → Type 0

@@ -1,8 +1,8 @@
 use Rattle.std.proofs.Common.{length, ◌-◌, ◌≡◌, ◌≤◌, reverse, []}
 use Rattle.std.specs.List.{All}
+use Rattle.of10_model.proofs.Results.{with_front}
 use Rattle.recording.specs.Recordings.{IsItem, items_from}
 use Rattle.recording.specs.Standing.{Stands}
-use Rattle.recording.proofs.Walk.{with_front}
 use Rattle.recording.proofs.reading.records.Given as goal
 
 abbrev pub invariant-loop-at : goal.invariant-loop-at
