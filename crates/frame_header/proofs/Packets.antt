@@ -1,5 +1,5 @@
 -- A packet that is spelled from its fields is given these.
-use Rattle.std.proofs.Common.{◌≡◌, ℕ, ◌==◌, ◌+◌, ◌*◌, ◌/◌, ◌%◌, ◌^◌, ◌<◌, leb, true, false, List, [], ◌++◌, length, slice_index, Option, Some, None, refl, ◌∙◌, arith}
+use Rattle.std.proofs.Common.{◌≡◌, ℕ, ◌==◌, ◌||◌, ◌+◌, ◌*◌, ◌/◌, ◌%◌, ◌^◌, ◌<◌, leb, true, false, List, [], ◌++◌, length, slice_index, Option, Some, None, refl, ◌∙◌, arith}
 use Rattle.std.proofs.Math.Nat.{mod-eq_of_lt}
 use Rattle.std.proofs.lemmas.Bool.{le-leb, ne_eqb}
 use Rattle.byteorder.specs.Endian.{big_bytes}
@@ -96,35 +96,30 @@ header_again in_port e kind payload network h k n =
 
 -- ---- IPv4
 
+-- two ports of TCP or of UDP
+ports_transport : (p : Ipv4) (proto src dst : ℕ) (rest : List ℕ) → IsIpv4 p → (src < 2 ^ 16) × (dst < 2 ^ 16) → p.proto ≡ proto → (proto == 6 || proto == 17) ≡ true
+    → transport_of (spell_ipv4 p 0 ((big_bytes 2 src ++ big_bytes 2 dst) ++ rest)) ≡ record { tp_src = src; tp_dst = dst }
+unfolding spell_ipv4 transport_of transport_at
+ports_transport p proto src dst rest h fits e test =
+    let packet = spell_ipv4 p 0 ((big_bytes 2 src ++ big_bytes 2 dst) ++ rest) in
+    let flags = h.flags in
+    let whole : (p.flags * 0x4000 + 0) % 0x4000 ≡ 0 = omega arith in
+    let is : slice_index packet 9 ≡ proto = mod-eq_of_lt h.proto ∙ e in
+    rw (
+      big_number-reads_back 2 (p.flags * 0x4000 + 0) [] (omega arith),
+      whole,
+      is,
+      test,
+      le-leb 24 (length packet) (omega arith),
+      big_number-reads_back 2 src [] fits.0,
+      big_number-reads_back 2 dst [] fits.1,
+    ) refl
+
 whole_transport : (p : Ipv4) (s : Segment) (rest : List ℕ) → IsIpv4 p → IsSegment s → p.proto ≡ proto_of s
     → transport_of (spell_ipv4 p 0 (spell_segment s ++ rest)) ≡ record { tp_src = first_of s; tp_dst = second_of s }
 unfolding spell_ipv4 transport_of transport_at
-whole_transport p (Segment.Tcp src dst) rest h fits e =
-    let packet = spell_ipv4 p 0 (spell_segment (Segment.Tcp src dst) ++ rest) in
-    let flags = h.flags in
-    let whole : (p.flags * 0x4000 + 0) % 0x4000 ≡ 0 = omega arith in
-    let proto : slice_index packet 9 ≡ 6 = mod-eq_of_lt h.proto ∙ e in
-    rw (
-      big_number-reads_back 2 (p.flags * 0x4000 + 0) [] (omega arith),
-      whole,
-      proto,
-      le-leb 24 (length packet) (omega arith),
-      big_number-reads_back 2 src [] fits.0,
-      big_number-reads_back 2 dst [] fits.1,
-    ) refl
-whole_transport p (Segment.Udp src dst) rest h fits e =
-    let packet = spell_ipv4 p 0 (spell_segment (Segment.Udp src dst) ++ rest) in
-    let flags = h.flags in
-    let whole : (p.flags * 0x4000 + 0) % 0x4000 ≡ 0 = omega arith in
-    let proto : slice_index packet 9 ≡ 17 = mod-eq_of_lt h.proto ∙ e in
-    rw (
-      big_number-reads_back 2 (p.flags * 0x4000 + 0) [] (omega arith),
-      whole,
-      proto,
-      le-leb 24 (length packet) (omega arith),
-      big_number-reads_back 2 src [] fits.0,
-      big_number-reads_back 2 dst [] fits.1,
-    ) refl
+whole_transport p (Segment.Tcp src dst) rest h fits e = ports_transport p 6 src dst rest h fits e refl
+whole_transport p (Segment.Udp src dst) rest h fits e = ports_transport p 17 src dst rest h fits e refl
 whole_transport p (Segment.Icmp kind code) rest h fits e =
     let packet = spell_ipv4 p 0 (spell_segment (Segment.Icmp kind code) ++ rest) in
     let flags = h.flags in

@@ -2,6 +2,7 @@
 use Rattle.std.proofs.Common.{◌≡◌, ◌↔◌, ℕ, ◌-◌, ◌==◌, Bool, true, false, cond, List, ◌++◌, length, take, slice_index, Option, Some, None, refl, sym, ap, ◌∙◌, arith}
 use Rattle.std.specs.Str.{bytes_eq}
 use Rattle.std.proofs.lemmas.List.{length-append, drop_at, take-append-drop}
+use Rattle.std.proofs.lemmas.Option.{same_Some}
 use Rattle.std.proofs.lemmas.Bool.{eqb-true}
 use Rattle.std.proofs.lemmas.Slice.Eq.{bytes_eq-Decides}
 use Rattle.frame_header.specs.Headers.{dl_type_of, header_of_packet}
@@ -15,9 +16,6 @@ last_eight-trailer front slot =
 abbrev EndsIn : List ℕ → ℕ → Type 0
 EndsIn bytes slot = (front : List ℕ) × (bytes ≡ front ++ trailer slot)
 
-some_is : (a b : ℕ) → Some a ≡ Some b → a ≡ b
-some_is a b e = cc
-
 -- a test that was passed
 passed : (b : Bool) (o : Option ℕ) (slot : ℕ) → cond b o None ≡ Some slot → (b ≡ true) × (o ≡ Some slot)
 passed true o slot e = (refl, e)
@@ -30,7 +28,7 @@ trailer_slot-EndsIn bytes slot e =
     let a : ℕ = slice_index last 4 in
     let found = passed (bytes_eq last (trailer a)) (Some a) slot e in
     let n : ℕ = length bytes - 8 in
-    let here : last ≡ trailer slot = (bytes_eq-Decides last (trailer a)).0 found.0 ∙ ap trailer (some_is a slot found.1) in
+    let here : last ≡ trailer slot = (bytes_eq-Decides last (trailer a)).0 found.0 ∙ ap trailer (same_Some a slot found.1) in
     (take n bytes, sym (take-append-drop n bytes) ∙ ap (λ (t : List ℕ). take n bytes ++ t) here)
 
 EndsIn-trailer_slot : (bytes : List ℕ) (slot : ℕ) → EndsIn bytes slot → trailer_slot bytes ≡ Some slot
