@@ -27,24 +27,19 @@ kept_by p x xs h = cond-true _ _ _ h
 left_by : {A : Type 0} (p : A → Bool) (x : A) (xs : List A) → p x ≡ false → filter p (x ∷ xs) ≡ filter p xs
 left_by p x xs h = cond-false _ _ _ h
 
-filter-filter : {A : Type 0} (p q : A → Bool) (xs : List A) → filter p (filter q xs) ≡ filter q (filter p xs)
+-- in which order two tests are made does not matter
+pub filter-filter : {A : Type 0} (p q : A → Bool) (xs : List A) → filter p (filter q xs) ≡ filter q (filter p xs)
 filter-filter p q [] = refl
-filter-filter p q (x ∷ xs) =
-    let rest = filter-filter p q xs in
-    elim (cases_Bool (p x)) [
-      | inl first ↦
-          elim (cases_Bool (q x)) [
-            | inl second ↦
-                ap (filter p) (kept_by q x xs second) ∙ kept_by p x (filter q xs) first ∙ ap (λ l. x ∷ l) rest
-                ∙ sym (ap (filter q) (kept_by p x xs first) ∙ kept_by q x (filter p xs) second)
-            | inr second ↦ ap (filter p) (left_by q x xs second) ∙ rest ∙ sym (ap (filter q) (kept_by p x xs first) ∙ left_by q x (filter p xs) second)
-          ]
-      | inr first ↦
-          elim (cases_Bool (q x)) [
-            | inl second ↦ ap (filter p) (kept_by q x xs second) ∙ left_by p x (filter q xs) first ∙ rest ∙ sym (ap (filter q) (left_by p x xs first))
-            | inr second ↦ ap (filter p) (left_by q x xs second) ∙ rest ∙ sym (ap (filter q) (left_by p x xs first))
-          ]
-    ]
+filter-filter {A} p q (x ∷ xs) = elim (cases_Bool (p x)) [
+  | inl first ↦ elim (cases_Bool (q x)) [
+    | inl second ↦ rw (second, first) (rw second (ap (λ (r : List A). x ∷ r) (filter-filter p q xs)))
+    | inr stops ↦ rw (stops, first) (rw stops (filter-filter p q xs))
+  ]
+  | inr first ↦ elim (cases_Bool (q x)) [
+    | inl second ↦ rw (second, first) (filter-filter p q xs)
+    | inr stops ↦ rw (stops, first) (filter-filter p q xs)
+  ]
+]
 
 swapped : {A : Type 0} (x y : A) (ys : List A) → IsPermutation (x ∷ (y ∷ ys)) (y ∷ (x ∷ ys))
 swapped x y ys = IsPermutation-sym _ _ (IsPermutation-middle (y ∷ []) x ys)

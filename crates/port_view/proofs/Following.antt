@@ -2,6 +2,7 @@
 use Rattle.std.proofs.Common.{◌≡◌, ◌≢◌, ℕ, ◌≤◌, ◌==◌, ltb, not, Bool, true, false, List, [], ◌∷◌, ◌++◌, filter, refl, sym, ap, ap₂, ◌∙◌, inl, inr, arith}
 use Rattle.std.proofs.lemmas.Bool.{cases_Bool, lt-ltb, le-ltb, ltb-true, ltb-false, eq-eqb, ne_eqb, cases_eq}
 use Rattle.std.proofs.lemmas.List.Elements.{filter-append}
+use Rattle.flowspace.proofs.Ranking.{filter-filter}
 use Rattle.of10_port.specs.Ports.{port_number}
 use Rattle.of10_port.specs.declared.status.PortStatus.{PortStatus}
 use Rattle.port_view.specs.declared.answer.Kept.TheVariants.{Kept}
@@ -11,19 +12,6 @@ use Rattle.port_view.proofs.Cutting.{changed_plainly-delete, changed_plainly-oth
 use Rattle.port_view.proofs.Knowing.{changed-kept, changed-not_kept, cases_kept}
 
 -- ---- two tests on one list
-
-filter-filter : {X : Type 0} (p q : X → Bool) (xs : List X) → filter p (filter q xs) ≡ filter q (filter p xs)
-filter-filter p q [] = refl
-filter-filter {X} p q (x ∷ xs) = elim (cases_Bool (p x)) [
-  | inl first ↦ elim (cases_Bool (q x)) [
-    | inl second ↦ rw (second, first) (rw second (ap (λ (r : List X). x ∷ r) (filter-filter p q xs)))
-    | inr stops ↦ rw (stops, first) (rw stops (filter-filter p q xs))
-  ]
-  | inr first ↦ elim (cases_Bool (q x)) [
-    | inl second ↦ rw (second, first) (filter-filter p q xs)
-    | inr stops ↦ rw (stops, first) (filter-filter p q xs)
-  ]
-]
 
 -- one test lets pass what the other does
 filter-through : {X : Type 0} (p q : X → Bool) → ((x : X) → p x ≡ true → q x ≡ true) → (xs : List X) → filter p (filter q xs) ≡ filter p xs
