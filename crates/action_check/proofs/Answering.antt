@@ -1,12 +1,9 @@
 -- Which answer a list of actions has.
-use Rattle.std.proofs.Common.{◌≡◌, ℕ, ◌<◌, ◌≤◌, List, length, Option, Some, None, Result, Ok, Err, refl, ap}
-use Rattle.std.proofs.lemmas.Bool.{le-leb, lt-leb}
+use Rattle.std.proofs.Common.{◌≡◌, ℕ, List, Option, Some, None, Result, Ok, Err, ap}
 use Rattle.of10_action.specs.declared.action.Action.{Action}
-use Rattle.of10_action.specs.Actions.{spelling}
 use Rattle.flowspace.specs.declared.rules.Rule.{Rule}
-use Rattle.action_check.specs.declared.fault.CheckFault.TheVariants.{TooMany}
 use Rattle.action_check.specs.declared.origin.Origin.{Origin}
-use Rattle.action_check.specs.Permitted.{first_code, expanded, permitted, answer_of}
+use Rattle.action_check.specs.Permitted.{first_code, expanded, permitted}
 
 abbrev pub said : List Action → Option ℕ → Result (List Action) ℕ
 said list o = elim o [ None ↦ Ok list | Some code ↦ Err code ]

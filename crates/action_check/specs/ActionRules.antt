@@ -6,9 +6,11 @@ use Rattle.of10_model.specs.Pattern.{has}
 use Rattle.of10_model.specs.Inclusion.{includes_of, any_in_port}
 use Rattle.of10_action.specs.declared.action.Action.{Action}
 use Rattle.of10_action.specs.declared.action.Action.TheVariants.{Output, SetVlanVid, SetVlanPcp, Enqueue}
+use Rattle.of10_port.specs.declared.protocol.TheConstants.{IN_PORT, TABLE, FLOOD, ALL, CONTROLLER}
 use Rattle.flowspace.specs.declared.rules.Rule.{Rule}
 use Rattle.flowspace.specs.Rules.{is_written_by}
 use Rattle.flowspace.specs.Owners.{has_port}
+use Rattle.action_check.specs.declared.fault.TheConstants.{BAD_OUT_PORT, BAD_ARGUMENT, NOT_PERMITTED}
 use Rattle.action_check.specs.declared.origin.Origin.{Origin}
 use Rattle.action_check.specs.declared.origin.Origin.TheVariants.{Piece, Packet, Probe}
 use Rattle.action_check.specs.Origins.{is_packet_out}
@@ -37,11 +39,11 @@ has_way_back rules slot (Probe in_port) = has_port rules slot in_port
 
 -- OUTPUT and ENQUEUE go to a port of the slice, and to IN_PORT
 abbrev pub is_own_way : List Rule → ℕ → Origin → ℕ → Bool
-is_own_way rules slot image port = has_port rules slot port || (port == 0xfff8 && has_way_back rules slot image)
+is_own_way rules slot image port = has_port rules slot port || (port == IN_PORT && has_way_back rules slot image)
 
 -- OUTPUT also goes to CONTROLLER, FLOOD and ALL, and in a packet-out to TABLE
 abbrev pub is_other_way : Origin → ℕ → Bool
-is_other_way image port = port == 0xfffd || port == 0xfffb || port == 0xfffc || (port == 0xfff9 && is_packet_out image)
+is_other_way image port = port == CONTROLLER || port == FLOOD || port == ALL || (port == TABLE && is_packet_out image)
 
 -- an action sends nowhere else
 abbrev pub has_way : List Rule → ℕ → Origin → Action → Bool
@@ -53,7 +55,7 @@ has_way rules slot image _ = true
 
 -- CONTROLLER and TABLE see where a packet came in
 abbrev pub sees_in_port : ℕ → Bool
-sees_in_port port = port == 0xfffd || port == 0xfff9
+sees_in_port port = port == CONTROLLER || port == TABLE
 
 -- what a match says of packets to a port: in_port is disregarded but for CONTROLLER and TABLE
 abbrev pub counted : ℕ → Pattern → Pattern
@@ -71,16 +73,16 @@ is_covered rules slot image action = elim (port_of action) [ None ↦ true | Som
 
 -- ---- probes, and all rules in their order
 
--- a probe is only sent, which is EPERM otherwise, and neither to CONTROLLER nor to TABLE, which is BAD_OUT_PORT
+-- a probe is only sent, which is NOT_PERMITTED otherwise, and neither to CONTROLLER nor to TABLE, which is BAD_OUT_PORT
 abbrev pub probe_code : Origin → Action → Option ℕ
 probe_code (Piece m) action = None
 probe_code (Packet h) action = None
-probe_code (Probe in_port) action = elim (port_of action) [ None ↦ Some 6 | Some port ↦ if sees_in_port port then Some 4 else None ]
+probe_code (Probe in_port) action = elim (port_of action) [ None ↦ Some NOT_PERMITTED | Some port ↦ if sees_in_port port then Some BAD_OUT_PORT else None ]
 
--- the code of the first rule that an action breaks: BAD_ARGUMENT, BAD_OUT_PORT, EPERM, and those of probes
+-- the code of the first rule that an action breaks, of those in this order: its argument, its way, its cover, and those of probes
 unfoldable pub code_of : List Rule → ℕ → Origin → Action → Option ℕ
 code_of rules slot image action =
-    if not (argument_fits action) then Some 5
-    else if not (has_way rules slot image action) then Some 4
-    else if not (is_covered rules slot image action) then Some 6
+    if not (argument_fits action) then Some BAD_ARGUMENT
+    else if not (has_way rules slot image action) then Some BAD_OUT_PORT
+    else if not (is_covered rules slot image action) then Some NOT_PERMITTED
     else probe_code image action

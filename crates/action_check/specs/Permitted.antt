@@ -5,6 +5,7 @@ use Rattle.std.specs.Option.{option_or}
 use Rattle.of10_action.specs.declared.action.Action.{Action}
 use Rattle.of10_action.specs.declared.action.Action.TheVariants.{Output}
 use Rattle.of10_action.specs.Actions.{spelling}
+use Rattle.of10_port.specs.declared.protocol.TheConstants.{FLOOD, ALL}
 use Rattle.flowspace.specs.declared.rules.Rule.{Rule}
 use Rattle.action_check.specs.declared.fault.CheckFault.{CheckFault}
 use Rattle.action_check.specs.declared.fault.CheckFault.TheVariants.{Refused, TooMany, Memory}
@@ -23,7 +24,7 @@ outputs max_len ports = map (λ port. Output port max_len) ports
 
 -- the ports for which FLOOD and ALL stand
 abbrev pub ports_for : ℕ → List ℕ → List ℕ → Option (List ℕ)
-ports_for port flood all = if port == 0xfffb then Some flood else (if port == 0xfffc then Some all else None)
+ports_for port flood all = if port == FLOOD then Some flood else (if port == ALL then Some all else None)
 
 -- an output to FLOOD or ALL is outputs to the ports for which it stands; each other action is itself
 abbrev pub spread : List ℕ → List ℕ → Action → List Action

@@ -6,6 +6,7 @@ use Rattle.of10_model.specs.Pattern.{Has}
 use Rattle.of10_model.specs.Normal.{IsNormal}
 use Rattle.of10_action.specs.declared.action.Action.{Action}
 use Rattle.of10_action.specs.declared.action.Action.TheVariants.{Output, Enqueue}
+use Rattle.of10_port.specs.declared.protocol.TheConstants.{IN_PORT, TABLE, CONTROLLER}
 use Rattle.match_meet.specs.Rewriting.{Rewrite}
 use Rattle.flowspace.specs.declared.rules.Rule.{Rule}
 use Rattle.flowspace.specs.Owners.{Writes, HasPort}
@@ -35,12 +36,12 @@ HasWayBack rules slot (Probe in_port) = HasPort rules slot in_port
 
 -- a port of the slice, or IN_PORT
 abbrev pub IsOwnWay : List Rule → ℕ → Origin → ℕ → Type 0
-IsOwnWay rules slot origin port = HasPort rules slot port ⊎ ((port ≡ 0xfff8) × HasWayBack rules slot origin)
+IsOwnWay rules slot origin port = HasPort rules slot port ⊎ ((port ≡ IN_PORT) × HasWayBack rules slot origin)
 
 -- CONTROLLER, in a packet-out also TABLE, and for a probe neither
 abbrev pub IsOtherWay : Origin → ℕ → Type 0
-IsOtherWay (Piece m) port = port ≡ 0xfffd
-IsOtherWay (Packet h) port = (port ≡ 0xfffd) ⊎ (port ≡ 0xfff9)
+IsOtherWay (Piece m) port = port ≡ CONTROLLER
+IsOtherWay (Packet h) port = (port ≡ CONTROLLER) ⊎ (port ≡ TABLE)
 IsOtherWay (Probe in_port) port = ⊥
 
 -- an OUTPUT goes by either, an ENQUEUE by the first; so no action goes to FLOOD, ALL or NORMAL
@@ -56,7 +57,7 @@ pub record MaySend (rules : List Rule) (slot port : ℕ) (h : Header) : Type 0 w
   pub entry : ℕ
   pub in_range : entry < 2 ^ 16
   pub from_some : Writes rules slot (record h { in_port = entry })
-  pub from_own : (port ≡ 0xfffd) ⊎ (port ≡ 0xfff9) → Writes rules slot h
+  pub from_own : (port ≡ CONTROLLER) ⊎ (port ≡ TABLE) → Writes rules slot h
 
 -- a list sends only where it may, and at each OUTPUT and ENQUEUE any packet of the origin, as the actions before it rewrite it, may be sent
 pub record IsSound (rules : List Rule) (slot : ℕ) (origin : Origin) (given : List Action) : Type 0 where

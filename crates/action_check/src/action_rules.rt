@@ -7,20 +7,13 @@ ghost use Rattle.of10_model.specs.Inclusion.{includes_of, any_in_port};
 ghost use Rattle.flowspace.specs.Rules.{is_written_by};
 ghost use Rattle.action_check.specs.ActionRules.{argument_fits, port_of, has_way_back, is_own_way, is_other_way, has_way, sees_in_port, counted, may_go, is_covered, probe_code, code_of};
 
+use crate::fault::{BAD_ARGUMENT, BAD_OUT_PORT, NOT_PERMITTED};
 use crate::origin::Origin;
 use flowspace::{Rule, SwitchPolicy};
 use match_meet::{includes, includes_aside};
 use of10_action::Action;
 use of10_match::{Header12, Match};
 use of10_port::protocol::{ALL, CONTROLLER, FLOOD, IN_PORT, TABLE};
-
-/// Codes of errors of type 2 (OpenFlow 1.0.0, section 5.4.4: OFPBAC_BAD_OUT_PORT, OFPBAC_BAD_ARGUMENT
-/// and OFPBAC_EPERM).
-const BAD_OUT_PORT: u16 = 4;
-
-const BAD_ARGUMENT: u16 = 5;
-
-const NOT_PERMITTED: u16 = 6;
 
 /// The greatest VLAN number and priority of a tag.
 const MAX_VLAN: u16 = 4095;

@@ -1,3 +1,12 @@
+/// The code of an action that sends where it may not (OpenFlow 1.0.0, section 5.4.4: OFPBAC_BAD_OUT_PORT).
+pub const BAD_OUT_PORT: u16 = 4;
+
+/// The code of an action whose argument has no such value (section 5.4.4: OFPBAC_BAD_ARGUMENT).
+pub const BAD_ARGUMENT: u16 = 5;
+
+/// The code of an action that the slice may not use (section 5.4.4: OFPBAC_EPERM).
+pub const NOT_PERMITTED: u16 = 6;
+
 /// Why no list of actions is given.
 #[derive(Clone, Copy, Debug, PartialEq, Eq)]
 pub enum CheckFault {

@@ -1,9 +1,10 @@
 //! Laws of the definitions. Each function's contract is the law; its body does nothing.
 
-ghost use Rattle.std.specs.Prelude.{ℕ, ◌≡◌, ◌↔◌, List, Ok, Err};
+ghost use Rattle.std.specs.Prelude.{ℕ, ◌≡◌, ◌↔◌, List, [], ◌∷◌, Ok, Err};
 ghost use Rattle.of10_action.specs.declared.action.Action.{Action};
 ghost use Rattle.flowspace.specs.declared.slices.Slice.{Slice};
 ghost use Rattle.flowspace.specs.Policies.{IsSwitchPolicy};
+ghost use Rattle.action_check.specs.declared.fault.TheConstants.{BAD_OUT_PORT, BAD_ARGUMENT, NOT_PERMITTED};
 ghost use Rattle.action_check.specs.Permitted.{expanded};
 ghost use Rattle.action_check.specs.Refusals.{AreAllowed, IsFirstForbidden};
 ghost use Rattle.action_check.specs.Soundness.{IsSound};
@@ -20,6 +21,11 @@ pub fn permitted_lists_are_sound()
 /// applied to.
 pub fn list_is_given_where_all_are_allowed()
     ensures { (q : Question) → (answer_to q ≡ Ok (expanded q.flood q.all q.actions)) ↔ AreAllowed q.rules q.slot q.origin q.actions }
+{}
+
+/// The codes by which actions are refused have their numbers (OpenFlow 1.0.0, section 5.4.4).
+pub fn codes_are_numbered()
+    ensures { BAD_OUT_PORT ∷ BAD_ARGUMENT ∷ NOT_PERMITTED ∷ [] ≡ 4 ∷ 5 ∷ 6 ∷ [] }
 {}
 
 /// A list is refused exactly with the code of the first action that is forbidden.

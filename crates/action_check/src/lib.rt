@@ -10,7 +10,7 @@ pub mod laws;
 mod origin;
 
 pub use checking::check;
-pub use fault::CheckFault;
+pub use fault::{BAD_ARGUMENT, BAD_OUT_PORT, CheckFault, NOT_PERMITTED};
 pub use origin::Origin;
 
 #[cfg(test)]

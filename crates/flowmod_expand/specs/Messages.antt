@@ -4,18 +4,19 @@ use Rattle.std.specs.List.{list_any}
 use Rattle.of10_model.specs.declared.pattern.Pattern.{Pattern}
 use Rattle.of10_action.specs.declared.action.Action.{Action}
 use Rattle.of10_flow.specs.declared.flow_mod.FlowMod.{FlowMod}
+use Rattle.of10_flow.specs.declared.protocol.TheConstants.{NO_BUFFER, DELETE, SEND_FLOW_REM}
 use Rattle.of10_flow.specs.FlowMods.{spell_flow_mod}
 use Rattle.flowmod_expand.specs.declared.fault.BuildFault.{BuildFault}
 use Rattle.flowmod_expand.specs.declared.fault.BuildFault.TheVariants.{TooLarge, Memory}
 
--- a delete, strict or not: the commands from 3 on (OpenFlow 1.0.0, section 5.3.3)
+-- a delete, strict or not: the commands from DELETE on (OpenFlow 1.0.0, section 5.3.3)
 abbrev pub is_delete : FlowMod → Bool
-is_delete m = leb 3 m.command
+is_delete m = leb DELETE m.command
 
--- the buffer number of the piece at a place: the one that is given for its place, and else none, 0xffffffff (OpenFlow 1.0.0, section 5.3.3)
+-- the buffer number of the piece at a place: the one that is given for its place, and else none (OpenFlow 1.0.0, section 5.3.3)
 abbrev pub buffer_at : Option (ℕ × ℕ) → ℕ → ℕ
-buffer_at None place = 0xffffffff
-buffer_at (Some own) place = if own.0 == place then own.1 else 0xffffffff
+buffer_at None place = NO_BUFFER
+buffer_at (Some own) place = if own.0 == place then own.1 else NO_BUFFER
 
 -- the flow-mod that is sent for a piece: a delete has no buffer, no flags and no actions; another has the buffer of its place, of the flags SEND_FLOW_REM alone, and the piece's own actions
 unfoldable pub sent_for : FlowMod → ℕ → Pattern → List Action → ℕ → FlowMod
@@ -23,8 +24,8 @@ sent_for m xid piece actions buffer =
     record m {
       xid = xid;
       pattern = piece;
-      buffer = if is_delete m then 0xffffffff else buffer;
-      flags = if is_delete m then 0 else 1;
+      buffer = if is_delete m then NO_BUFFER else buffer;
+      flags = if is_delete m then 0 else SEND_FLOW_REM;
       actions = if is_delete m then [] else actions;
     }
 
