@@ -1,20 +1,18 @@
 -- What is answered to an item is at most one message, and no more is put for the switch. A new kind of answer is a case more of `answer_size`.
-use Rattle.std.proofs.Common.{ℕ, ◌+◌, ◌-◌, ◌^◌, ◌%◌, ◌==◌, ◌≤◌, not, Bool, true, false, if◌then◌else◌, List, [], ◌∷◌, map, length, take, drop, Option, Some, None, arith}
+use Rattle.std.proofs.Common.{ℕ, ◌+◌, ◌-◌, ◌^◌, ◌%◌, ◌==◌, ◌≤◌, Bool, true, false, if◌then◌else◌, List, [], ◌∷◌, map, length, take, drop, arith}
 use Rattle.std.specs.List.{All}
 use Rattle.std.proofs.lemmas.List.{map-append, length-take}
-use Rattle.of10_action.specs.declared.fault.WireFault.{WireFault}
-use Rattle.of10_action.specs.Faults.{class_and_code}
-use Rattle.of10_ctl.specs.declared.kind.TheConstants.{HELLO, ERROR, ECHO_REQUEST, ECHO_REPLY, VENDOR, FEATURES_REQUEST, GET_CONFIG_REQUEST, SET_CONFIG, PORT_MOD}
-use Rattle.of10_ctl.specs.Frames.{is_bad, message_of, error_of}
-use Rattle.of10_port.specs.declared.features.Features.{Features}
+use Rattle.of10_ctl.specs.declared.kind.TheConstants.{HELLO, ECHO_REPLY}
+use Rattle.of10_ctl.specs.Frames.{message_of, error_of}
 use Rattle.of10_port.specs.Ports.{IsPort}
 use Rattle.of10_port.specs.Features.{spell_features}
 use Rattle.of10_port.specs.PortStatus.{spell_port_status}
 use Rattle.port_view.specs.SlicePorts.{features_with}
-use Rattle.slice_words.specs.Messages.{version_of, kind_of, xid_of, is_kind, is_from_controller, form_fault, flags_of}
-use Rattle.slice_words.specs.Items.{Settings, Share, Writer, Reader, Probe, Packet, Item, Opened, Up, Down, Msg, Lost, Handed, Removed, Status, Fault, Barrier, Queues, Entry, Last, End, is_up, miss_send_len, buffered_count, features_in, known_ports}
-use Rattle.slice_words.specs.Answers.{Answer, Past, silence, told, dismissal, error_for, refused, no_common_version, bad_length, bad_version, bad_type, bad_vendor, not_permitted, config_reply, no_buffer, packet_message, packet_told, local_answer, message_answer, answer}
+use Rattle.slice_words.specs.Messages.{xid_of}
+use Rattle.slice_words.specs.Items.{Settings, Share, Writer, Reader, Probe, Packet, Item, Opened, Up, Down, Msg, Lost, Handed, Removed, Status, Fault, Barrier, Queues, Entry, Last, End, is_up, miss_send_len, buffered_count, known_ports}
+use Rattle.slice_words.specs.Answers.{Answer, Past, silence, told, dismissal, error_for, refused, no_common_version, bad_length, config_reply, no_buffer, packet_message, packet_told, message_answer, answer}
 use Rattle.slice_words.specs.Alone.{rendered, played, answer_to, sent_for, put_for}
+use Rattle.slice_words.proofs.AnswerKinds.{either, message_holds}
 use Rattle.answer_bounds.specs.Bounds.{AreFew}
 use Rattle.answer_bounds.proofs.Messages.{IsShort, few-none, few-one, few-next, short-message, short-echo, short-config, short-error, short-features, short-status, short-packet}
 
@@ -49,58 +47,24 @@ small_dismissal message short = record { to_slice = few-one message short; to_sw
 small_refused : (fault : ℕ × ℕ) (message : List ℕ) → IsSmall (refused fault message)
 small_refused fault message = small_told (error_for fault message) (short-error (xid_of message) fault.0 fault.1 message)
 
-either : (b : Bool) (some others : Answer) → IsSmall some → IsSmall others → IsSmall (if b then some else others)
-either true some others a b = a
-either false some others a b = b
-
 -- ---- messages of the controller
 
-abbrev features_for : Option Features → List Item → List ℕ → Answer
-features_for opened view message = elim opened [ None ↦ silence | Some features ↦ told (spell_features (features_with features (known_ports view)) (xid_of message) ∷ []) ]
-
-features_size : (opened : Option Features) (view : List Item) (message : List ℕ) → HasFewPorts view → IsSmall (features_for opened view message)
-features_size None view message ports = small_silence
-features_size (Some features) view message ports =
-    small_told (spell_features (features_with features (known_ports view)) (xid_of message)) (short-features (features_with features (known_ports view)) (xid_of message) ports.whole ports.few)
-
-local_size : (s : Settings) (view : List Item) (past : List Past) (moment : ℕ) (message : List ℕ) → IsShort message → HasFewPorts view → IsSmall (local_answer s view past moment message)
-unfolding local_answer
-local_size s view past moment message short ports =
-    either (is_kind ECHO_REQUEST message) _ _ (small_told (message_of ECHO_REPLY (xid_of message) (drop 8 message)) (short-echo (xid_of message) message short))
-    (either (is_kind FEATURES_REQUEST message) _ _ (features_size (features_in view) view message ports)
-    (either (is_kind GET_CONFIG_REQUEST message) _ _ (small_told (config_reply (miss_send_len view) message) (short-config (xid_of message) (miss_send_len view)))
-    (either (is_kind SET_CONFIG message) _ _ (either (flags_of message == 0) _ _ small_silence (small_refused not_permitted message)) small_silence)))
-
-abbrev formed_for : Option WireFault → Settings → List Item → List Past → ℕ → List ℕ → Answer
-formed_for fault s view past moment message = elim fault [ None ↦ local_answer s view past moment message | Some found ↦ refused (class_and_code found) message ]
-
-formed_size : (fault : Option WireFault) (s : Settings) (view : List Item) (past : List Past) (moment : ℕ) (message : List ℕ) → IsShort message → HasFewPorts view
-    → IsSmall (formed_for fault s view past moment message)
-formed_size None s view past moment message short ports = local_size s view past moment message short ports
-formed_size (Some found) s view past moment message short ports = small_refused (class_and_code found) message
-
 message_size : (s : Settings) (view : List Item) (past : List Past) (moment : ℕ) (message : List ℕ) → IsShort message → HasFewPorts view → IsSmall (message_answer s view past moment message)
-unfolding message_answer
-message_size s view past moment message short ports =
-    either (is_bad message) _ _ (small_dismissal (error_for bad_length message) (short-error (xid_of message) bad_length.0 bad_length.1 message))
-    (either (is_kind HELLO message) _ _
-    (either (version_of message == 0) _ _ (small_dismissal (error_of (xid_of message) no_common_version.0 no_common_version.1 []) (short-error (xid_of message) no_common_version.0 no_common_version.1 [])) small_silence)
-    (either (not (version_of message == 1)) _ _ (small_refused bad_version message)
-    (either (not (is_from_controller (kind_of message))) _ _ (small_refused bad_type message)
-    (either (is_kind ERROR message) _ _ small_silence
-    (either (is_kind ECHO_REPLY message) _ _ small_silence
-    (either (is_kind VENDOR message) _ _ (small_refused bad_vendor message)
-    (either (is_kind PORT_MOD message) _ _ (small_refused not_permitted message) (formed_size (form_fault message) s view past moment message short ports))))))))
+message_size s view past moment message short ports = message_holds (λ (ends : Bool) (a : Answer). IsSmall a) s view past moment message (record {
+  bad = small_dismissal (error_for bad_length message) (short-error (xid_of message) bad_length.0 bad_length.1 message);
+  old = small_dismissal (error_of (xid_of message) no_common_version.0 no_common_version.1 []) (short-error (xid_of message) no_common_version.0 no_common_version.1 []);
+  nothing = small_silence;
+  refuses = λ fault. small_refused fault message;
+  echoes = small_told (message_of ECHO_REPLY (xid_of message) (drop 8 message)) (short-echo (xid_of message) message short);
+  tells_features = λ features. small_told (spell_features (features_with features (known_ports view)) (xid_of message)) (short-features (features_with features (known_ports view)) (xid_of message) ports.whole ports.few);
+  tells_configuration = small_told (config_reply (miss_send_len view) message) (short-config (xid_of message) (miss_send_len view));
+})
 
 -- ---- packets
 
 short-packet_message : (buffer total_len : ℕ) (payload : List ℕ) (packet : Packet) → 18 + length payload ≤ 65535 → IsShort (packet_message buffer total_len payload packet)
 short-packet_message buffer total_len payload packet fits =
     short-packet (record { xid = 0; buffer = buffer; total_len = total_len; in_port = packet.in_port; reason = packet.reason; payload = payload }) fits
-
-either_short : (b : Bool) (some others : List ℕ) → IsShort some → IsShort others → IsShort (if b then some else others)
-either_short true some others a b = a
-either_short false some others a b = b
 
 -- what is cut or whole fits where the whole does
 cut_fits : (b : Bool) (n : ℕ) (payload : List ℕ) → 18 + length payload ≤ 65535 → 18 + length (if b then take n payload else payload) ≤ 65535
@@ -112,7 +76,7 @@ cut_fits false n payload fits = fits
 packet_size : (view : List Item) (packet : Packet) (share : Share) → 18 + length packet.payload ≤ 65535 → IsShort (packet_told view packet share)
 unfolding packet_told
 packet_size view packet (Writer buffered) fits =
-    either_short buffered _ _
+    either IsShort buffered _ _
     (short-packet_message (buffered_count view % 2 ^ 24) packet.total_len (if packet.reason == 0 then take (miss_send_len view) packet.payload else packet.payload) packet (cut_fits (packet.reason == 0) (miss_send_len view) packet.payload fits))
     (short-packet_message no_buffer packet.total_len packet.payload packet fits)
 packet_size view packet Reader fits = short-packet_message no_buffer packet.total_len packet.payload packet fits
@@ -123,19 +87,19 @@ packet_size view packet Probe fits =
 
 pub answer_size : (s : Settings) (view : List Item) (past : List Past) (item : Item) → IsBounded view item → IsSmall (answer s view past item)
 answer_size s view past Up h = small_told (message_of HELLO 0 []) (short-message HELLO 0 [] (omega arith))
-answer_size s view past (Msg message moment) h = either (is_up view) _ _ (message_size s view past moment message h.0 h.1) small_silence
-answer_size s view past (Handed packet) h = either (is_up view) _ _ (small_told (packet_told view packet packet.share) (packet_size view packet packet.share h)) small_silence
-answer_size s view past (Status status) h = either (is_up view) _ _ (small_told (spell_port_status status 0) (short-status status 0 h)) small_silence
-answer_size s view past (Opened features) h = either (is_up view) _ _ small_silence small_silence
-answer_size s view past Down h = either (is_up view) _ _ small_silence small_silence
-answer_size s view past (Lost k) h = either (is_up view) _ _ small_silence small_silence
-answer_size s view past (Removed entry) h = either (is_up view) _ _ small_silence small_silence
-answer_size s view past (Fault x class code pair) h = either (is_up view) _ _ small_silence small_silence
-answer_size s view past (Barrier x) h = either (is_up view) _ _ small_silence small_silence
-answer_size s view past (Queues x body) h = either (is_up view) _ _ small_silence small_silence
-answer_size s view past (Entry x kind bytes) h = either (is_up view) _ _ small_silence small_silence
-answer_size s view past (Last x kind) h = either (is_up view) _ _ small_silence small_silence
-answer_size s view past End h = either (is_up view) _ _ small_silence small_silence
+answer_size s view past (Msg message moment) h = either IsSmall (is_up view) _ _ (message_size s view past moment message h.0 h.1) small_silence
+answer_size s view past (Handed packet) h = either IsSmall (is_up view) _ _ (small_told (packet_told view packet packet.share) (packet_size view packet packet.share h)) small_silence
+answer_size s view past (Status status) h = either IsSmall (is_up view) _ _ (small_told (spell_port_status status 0) (short-status status 0 h)) small_silence
+answer_size s view past (Opened features) h = either IsSmall (is_up view) _ _ small_silence small_silence
+answer_size s view past Down h = either IsSmall (is_up view) _ _ small_silence small_silence
+answer_size s view past (Lost k) h = either IsSmall (is_up view) _ _ small_silence small_silence
+answer_size s view past (Removed entry) h = either IsSmall (is_up view) _ _ small_silence small_silence
+answer_size s view past (Fault x class code pair) h = either IsSmall (is_up view) _ _ small_silence small_silence
+answer_size s view past (Barrier x) h = either IsSmall (is_up view) _ _ small_silence small_silence
+answer_size s view past (Queues x body) h = either IsSmall (is_up view) _ _ small_silence small_silence
+answer_size s view past (Entry x kind bytes) h = either IsSmall (is_up view) _ _ small_silence small_silence
+answer_size s view past (Last x kind) h = either IsSmall (is_up view) _ _ small_silence small_silence
+answer_size s view past End h = either IsSmall (is_up view) _ _ small_silence small_silence
 
 -- ---- items one after another
 
