@@ -8,3 +8,4 @@ pub mod Phases
 pub mod Seen
 pub mod Telling
 pub mod Making
+pub mod Lacking

@@ -106,8 +106,8 @@ makes_the_first policy r before =
 
 -- ---- what history they make
 
-reverse_more : (timed : Timed) (events h : List Timed) → reverse (timed ∷ events) ++ h ≡ reverse events ++ (timed ∷ h)
-reverse_more timed events h = ap (λ (l : List Timed). l ++ h) (reverse-cons timed events) ∙ append_assoc (reverse events) (timed ∷ []) h
+pub reverse_more : {A : Type 0} (x : A) (xs ys : List A) → reverse (x ∷ xs) ++ ys ≡ reverse xs ++ (x ∷ ys)
+reverse_more x xs ys = ap (λ front. front ++ ys) (reverse-cons x xs) ∙ append_assoc (reverse xs) (x ∷ []) ys
 
 stays_over : (h events : List Timed) → is_over h ≡ true → next_after h events ≡ h
 stays_over h [] over = refl

@@ -1,5 +1,5 @@
 -- Statements about histories and operations. `src/laws.rt` has a function for each, which is proved.
-use Rattle.std.specs.Prelude.{ℕ, ◌≡◌, ◌==◌, ◌&&◌, ◌||◌, not, Bool, true, false, if◌then◌else◌, List, [], ◌∷◌, ◌++◌, filter, filter_map, length, map, take, reverse, is_some, IfSome, ◌<◌, ◌≤◌, Option, Some, None}
+use Rattle.std.specs.Prelude.{ℕ, ◌≡◌, ◌==◌, ◌&&◌, ◌||◌, not, Bool, true, false, if◌then◌else◌, List, [], ◌∷◌, ◌++◌, filter, filter_map, length, map, take, reverse, is_some, IfSome, ◌-◌, ◌<◌, ◌≤◌, Option, Some, None}
 use Rattle.std.specs.List.{list_any}
 use Rattle.std.specs.Option.{option_or}
 use Rattle.of10_ctl.specs.Frames.{is_bad}
@@ -8,9 +8,10 @@ use Rattle.of10_port.specs.declared.status.PortStatus.{PortStatus}
 use Rattle.of10_ctl.specs.Streams.{frames_of, AreFirst}
 use Rattle.flowspace.specs.Policies.{PolicyView}
 use Rattle.port_view.specs.KnownPorts.{IsAscending, known_of as known_by}
+use Rattle.recording.specs.declared.item.Item.{Item}
 use Rattle.recording.specs.Recordings.{Told, switch_bytes, slice_bytes}
 use Rattle.outbox.specs.Queues.{Queue}
-use Rattle.slice_words.specs.Messages.{is_dismissing}
+use Rattle.slice_words.specs.Messages.{is_dismissing, kind_of}
 use Rattle.slice_words.specs.Items.{features_in, known_ports}
 use Rattle.slice_words.specs.Alone.{alone}
 use Rattle.desk_words.specs.declared.event.Event.{Event}
@@ -23,7 +24,8 @@ use Rattle.desk_words.specs.Histories.{is_slot, settings_at, own_ports, own_feat
 use Rattle.desk_words.specs.Sent.{sent_by, sent, lane_by}
 use Rattle.desk_words.specs.Verdicts.{is_fresh, is_ended, is_over, is_switch_up}
 use Rattle.desk_words.specs.Operations.{Operation, Step, Take, takes_in, events_of, empties_slice, ends, is_slice, is_switch}
-use Rattle.desk_words.specs.Recorded.{stream_before, timed_at, happenings, next_after, history_of, history_at, events_in}
+use Rattle.desk_words.specs.Recorded.{stream_before, timed_at, happenings, next_after, history_of, history_at, events_in, completed}
+use Rattle.desk_words.specs.Built.{is_unbuilt_of_switch, is_unbuilt_of_slice, Lack}
 
 -- ---- the switch's connection
 
@@ -263,3 +265,36 @@ pub record GetsTheFirst (h events : List Timed) : Type 0 where
 pub record ComeAtTheirSwitch (policy : PolicyView) (r : Told) (before : List Told) : Type 0 where
   pub own : history_of policy r.switch (r ∷ before) ≡ next_after (history_at policy r before) (events_in policy r before)
   pub others : (switch : ℕ) → (r.switch == switch) ≡ false → history_of policy switch (r ∷ before) ≡ history_of policy switch before
+
+-- ---- what isn't built
+
+-- a message that came in a record isn't built
+abbrev pub is_unbuilt : Told → List ℕ → Bool
+is_unbuilt r message = if r.kind == switch_bytes then is_unbuilt_of_switch message else r.kind == slice_bytes && is_unbuilt_of_slice message
+
+-- the records of a file's items, newest first, with those before them
+abbrev pub told_after : List Told → List (Item × Told) → List Told
+told_after before pairs = reverse (map (λ pair. pair.1) pairs) ++ before
+
+-- wherever a record stands among those of a file, it completes no message that isn't built
+abbrev pub AreBuilt : List Told → List (Item × Told) → Type 0
+AreBuilt before pairs =
+    (earlier later : List (Item × Told)) (item : Item) (r : Told) → pairs ≡ earlier ++ (item, r) ∷ later
+    → list_any (is_unbuilt r) (completed r (told_after before earlier)) ≡ false
+
+-- a lack is that of the first message that isn't built: all that were completed before it are built, in the records before its own and in that. It tells the message's type, and where the record's head begins
+pub record IsFirstLack (before : List Told) (pairs : List (Item × Told)) (lack : Lack) : Type 0 where
+  pub earlier : List (Item × Told)
+  pub item : Item
+  pub own : Told
+  pub later : List (Item × Told)
+  pub stands : pairs ≡ earlier ++ (item, own) ∷ later
+  pub built : AreBuilt before earlier
+  pub front : List (List ℕ)
+  pub message : List ℕ
+  pub rest : List (List ℕ)
+  pub completes : completed own (told_after before earlier) ≡ front ++ message ∷ rest
+  pub front_built : list_any (is_unbuilt own) front ≡ false
+  pub unbuilt : is_unbuilt own message ≡ true
+  pub kind : lack.kind ≡ kind_of message
+  pub place : lack.at ≡ item.from - 16

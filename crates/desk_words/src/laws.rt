@@ -1,12 +1,14 @@
 //! Laws of the definitions. Each function's contract is the law; its body does nothing.
 
-ghost use Rattle.std.specs.Prelude.{ℕ, List};
+ghost use Rattle.std.specs.Prelude.{ℕ, ◌≡◌, ◌↔◌, List, Some, None};
 ghost use Rattle.of10_port.specs.declared.features.Features.{Features};
 ghost use Rattle.flowspace.specs.Policies.{PolicyView};
+ghost use Rattle.recording.specs.declared.item.Item.{Item};
 ghost use Rattle.recording.specs.Recordings.{Told};
 ghost use Rattle.desk_words.specs.declared.event.Timed.{Timed};
 ghost use Rattle.desk_words.specs.Operations.{Operation, IsLegal, queue_of, lane_of};
-ghost use Rattle.desk_words.specs.Laws.{IsPhaseByEvents, IsAlone, AreAlike, IsErasable, IsBlindBefore, IsSilentUntilUp, IsDownAfterDown, IsUpByEvents, sent_since, taken_since, lane_since, lane_taken_since, AreInOrder, AreCompletedOnce, SeesItsSwitch, AreKnownInOrder, AreKnownAsTold, MakesTheFirst, GetsTheFirst, ComeAtTheirSwitch};
+ghost use Rattle.desk_words.specs.Built.{Lack, first_lack};
+ghost use Rattle.desk_words.specs.Laws.{IsPhaseByEvents, IsAlone, AreAlike, IsErasable, IsBlindBefore, IsSilentUntilUp, IsDownAfterDown, IsUpByEvents, sent_since, taken_since, lane_since, lane_taken_since, AreInOrder, AreCompletedOnce, SeesItsSwitch, AreKnownInOrder, AreKnownAsTold, MakesTheFirst, GetsTheFirst, ComeAtTheirSwitch, AreBuilt, IsFirstLack};
 
 /// The switch's connection has ended where, after it came, it went or a message of a bad length came; the
 /// opening is the first FEATURES_REPLY between.
@@ -84,4 +86,11 @@ pub fn record_makes_the_first()
 pub fn events_come_at_their_switch()
     ensures order { (h events : List Timed) → GetsTheFirst h events }
     ensures place { (policy : PolicyView) (r : Told) (before : List Told) → ComeAtTheirSwitch policy r before }
+{}
+
+/// A recording lacks nothing exactly where each record completes only messages that are built; and its
+/// first lack is exactly that of the first message that isn't, in the first record that completes one.
+pub fn lack_is_the_first()
+    ensures nothing { (before : List Told) (pairs : List (Item × Told)) → (first_lack before pairs ≡ None) ↔ AreBuilt before pairs }
+    ensures first { (before : List Told) (pairs : List (Item × Told)) (lack : Lack) → (first_lack before pairs ≡ Some lack) ↔ IsFirstLack before pairs lack }
 {}
