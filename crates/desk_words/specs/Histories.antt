@@ -1,6 +1,5 @@
 -- What a slice sees of a history: its view, which is a filter of the history (this proxy's own rule). An event of another slice shows it nothing.
-use Rattle.std.specs.Prelude.{ℕ, ◌==◌, ◌&&◌, not, ltb, Bool, true, false, if◌then◌else◌, List, [], ◌∷◌, ◌++◌, length, map, slice_get, Option, Some, None, is_none}
-use Rattle.std.specs.Option.{option_or}
+use Rattle.std.specs.Prelude.{ℕ, ◌==◌, ◌&&◌, ltb, Bool, true, false, if◌then◌else◌, List, [], ◌∷◌, ◌++◌, length, map, slice_get, Option, Some, None, is_none}
 use Rattle.of10_model.specs.Header.{Header}
 use Rattle.of10_model.specs.Normal.{is_value, bit}
 use Rattle.of10_ctl.specs.declared.kind.TheConstants.{PACKET_IN}
@@ -157,20 +156,3 @@ is_open phase = false
 -- the slice at a slot is up after a history: the switch has told what it is and hasn't ended, and the slice's connection came and hasn't gone
 abbrev pub is_slice_up : PolicyView → ℕ → List Timed → Bool
 is_slice_up policy slot h = is_open (phase_of h) && is_up (view_of policy slot h)
-
--- ---- buffered packets
-
--- the header of a packet that the switch handed up under a number
-abbrev pub header_numbered : ℕ → Option PacketIn → Option Header
-header_numbered number None = None
-header_numbered number (Some packet) = if packet.buffer == number && not (number == no_buffer) then Some (header_in packet) else None
-
--- the same by an event, where that is such a packet-in (section 5.4.1)
-abbrev pub header_handed : ℕ → Event → Option Header
-header_handed number (SwitchMsg message) = if is_of PACKET_IN message then header_numbered number (well_formed (read_packet_in message)) else None
-header_handed number event = None
-
--- the header of the last packet since the opening that the switch handed up under a number
-abbrev pub buffer_header : List Timed → ℕ → Option Header
-buffer_header [] number = None
-buffer_header (timed ∷ h) number = if is_open (phase_of h) then option_or (header_handed number timed.event) (buffer_header h number) else buffer_header h number
