@@ -1,5 +1,6 @@
 -- Before the switch tells what it is a slice sees nothing; and what a slice is sent over a history is what it is sent alone over its view.
 use Rattle.std.proofs.Common.{◌≡◌, ℕ, Bool, true, false, cond, if◌then◌else◌, List, [], ◌∷◌, ◌++◌, refl, ap, ap₂, sym, ◌∙◌, true≢false, Option, Some, None}
+use Rattle.of10_model.proofs.Results.{either_none}
 use Rattle.of10_ctl.specs.Frames.{is_bad}
 use Rattle.of10_port.specs.declared.features.Features.{Features}
 use Rattle.flowspace.specs.Policies.{PolicyView}
@@ -72,10 +73,6 @@ none_in policy slot switch view timed Fresh shut none = refl
 none_in policy slot switch view timed Begun shut none = none_begun policy slot (opening_with Begun timed.event) none
 none_in policy slot switch view timed Opened shut none = absurd (true≢false shut)
 none_in policy slot switch view timed Ended shut none = refl
-
-pub either_none : (b : Bool) (items : List Item) → items ≡ [] → cond b items [] ≡ []
-either_none true items none = none
-either_none false items none = refl
 
 shut_of : (opened : Bool) (told : Option Features) → (opened ≡ true → has_told told ≡ true) → told ≡ None → opened ≡ false
 shut_of true None tells none = sym (tells refl)

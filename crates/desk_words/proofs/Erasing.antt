@@ -1,6 +1,7 @@
 -- Events of other slices: nothing known of the switch changes, and a slice sees nothing of them.
 use Rattle.std.proofs.Common.{◌≡◌, ℕ, ◌==◌, Bool, true, false, not, if◌then◌else◌, List, [], ◌∷◌, ◌++◌, refl, ap, ap₂, sym, ◌∙◌, append-nil, true≢false, Option, Some, None}
 use Rattle.std.proofs.lemmas.Bool.{not-true}
+use Rattle.of10_model.proofs.Results.{either_none}
 use Rattle.of10_port.specs.declared.features.Features.{Features}
 use Rattle.flowspace.specs.Policies.{PolicyView}
 use Rattle.slice_words.specs.Items.{Item}
@@ -14,7 +15,6 @@ use Rattle.desk_words.specs.Openings.{phase_after, opening_after, known_after, S
 use Rattle.desk_words.specs.Histories.{is_slot, settings_at, Side, items_of, phase_items, event_items, with_shown, side_of, view_of}
 use Rattle.desk_words.specs.Sent.{sent_with, sent_by, sent}
 use Rattle.desk_words.specs.Laws.{is_others, erased, AreSame, IsErasable}
-use Rattle.desk_words.proofs.Alone.{either_none}
 
 -- an event of a slice's connection
 abbrev is_slices : Event → Bool

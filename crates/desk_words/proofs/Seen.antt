@@ -1,15 +1,14 @@
 -- What a slice has seen of its switch: its features, and the slice's own of the known ports.
-use Rattle.std.proofs.Common.{◌≡◌, ℕ, ◌==◌, ◌&&◌, ◌≤◌, not, is_none, Bool, true, false, if◌then◌else◌, List, [], ◌∷◌, map, length, refl, ap, sym, ◌∙◌, true≢false, eqb-true, Option, Some, None, IfSome, unwrap_or, subst, arith}
+use Rattle.std.proofs.Common.{◌≡◌, ℕ, ◌==◌, ◌&&◌, ◌≤◌, not, Bool, true, false, if◌then◌else◌, List, [], ◌∷◌, length, refl, ap, sym, ◌∙◌, true≢false, eqb-true, Option, Some, None, IfSome, subst, arith}
 use Rattle.std.specs.List.{list_any}
 use Rattle.std.proofs.lemmas.Bool.{or_parts}
+use Rattle.std.proofs.lemmas.Option.{none-some}
 use Rattle.of10_ctl.specs.declared.kind.TheConstants.{PACKET_IN, PORT_STATUS}
 use Rattle.of10_ctl.specs.Frames.{is_bad}
-use Rattle.of10_flow.specs.declared.packet_in.PacketIn.{PacketIn}
 use Rattle.of10_flow.specs.PacketIns.{read_packet_in}
 use Rattle.of10_port.specs.declared.features.Features.{Features}
 use Rattle.of10_port.specs.declared.status.PortStatus.{PortStatus}
 use Rattle.of10_port.specs.Ports.{port_number}
-use Rattle.frame_header.specs.Probes.{probe_slot_of}
 use Rattle.flowspace.specs.declared.rules.Rule.{Rule}
 use Rattle.flowspace.specs.Owners.{has_port}
 use Rattle.flowspace.specs.Policies.{PolicyView}
@@ -20,8 +19,7 @@ use Rattle.port_view.specs.SlicePorts.{ports_of_slice}
 use Rattle.port_view.proofs.Knowing.{changed-not_kept, IsAscending-changed, IsAscending-none, IsAscending-known_of, few-changed, few-known_of}
 use Rattle.port_view.proofs.Following.{own-changed, own-changed_other}
 use Rattle.slice_words.specs.Messages.{is_kind, version_of, kind_of}
-use Rattle.slice_words.specs.Items.{Settings, Share, Item, Opened as Told, Up, Down, Msg, Lost, Handed, Removed, Status, Fault, Barrier, Queues, Entry, Last, End, is_up, features_in, known_ports, is_own_port}
-use Rattle.slice_words.specs.Answers.{no_buffer}
+use Rattle.slice_words.specs.Items.{Settings, Item, Opened as Told, Up, Down, Msg, Lost, Handed, Removed, Status, Fault, Barrier, Queues, Entry, Last, End, is_up, features_in, known_ports, is_own_port}
 use Rattle.slice_words.specs.Alone.{with_items}
 use Rattle.desk_words.specs.declared.event.Event.{Event}
 use Rattle.desk_words.specs.declared.event.Event.TheVariants.{SwitchUp, SwitchMsg, SwitchDown, SliceUp, SliceMsg, SliceDown}
@@ -30,10 +28,10 @@ use Rattle.desk_words.specs.declared.phase.Phase.{Phase}
 use Rattle.desk_words.specs.declared.phase.Phase.TheVariants.{Fresh, Begun, Opened, Ended}
 use Rattle.of10_ctl.specs.Kinds.{is_of}
 use Rattle.desk_words.specs.Openings.{well_formed, features_told, status_told, phase_of, opening_after, opening_of, rules_of, known_after, known_of, Switch, switch_of}
-use Rattle.desk_words.specs.Histories.{is_slot, settings_at, own_ports, own_features, handed, shares_of, packet_items, status_items, is_kept, message_items, event_items, phase_items, Side, view_of}
+use Rattle.desk_words.specs.Histories.{is_slot, settings_at, own_ports, own_features, packet_items, status_items, is_kept, message_items, event_items, phase_items, Side, view_of}
 use Rattle.desk_words.specs.Laws.{HasSeen, SeesItsSwitch, AreKnownInOrder}
-use Rattle.desk_words.proofs.Alone.{has_told, blind}
-use Rattle.desk_words.proofs.Silence.{is_early, untold}
+use Rattle.desk_words.proofs.Alone.{blind}
+use Rattle.desk_words.proofs.Silence.{none_or, none_of_packet, is_early, untold}
 
 -- ---- items that tell nothing of the switch
 
@@ -65,21 +63,6 @@ untelling_all (item ∷ items) view none =
     let rest = untelling_all items (item ∷ view) ((or_parts (tells_switch item) (list_any tells_switch items) none).1) in
     let one = untelling item view ((or_parts (tells_switch item) (list_any tells_switch items) none).0) in
     (rest.0 ∙ one.0, rest.1 ∙ one.1)
-
-untelling_handed : (packet : PacketIn) (shares : List Share) → list_any tells_switch (map (λ share. handed share packet) shares) ≡ false
-untelling_handed packet [] = refl
-untelling_handed packet (share ∷ others) = untelling_handed packet others
-
-untelling_or : (b : Bool) (items : List Item) → list_any tells_switch items ≡ false → list_any tells_switch (if b then items else []) ≡ false
-untelling_or true items none = none
-untelling_or false items none = refl
-
-untelling_packet : (rules : List Rule) (slot : ℕ) (view : List Item) (packet : Option PacketIn)
-    → list_any tells_switch (elim packet [ None ↦ [] | Some p ↦ packet_items rules slot view p ]) ≡ false
-untelling_packet rules slot view None = refl
-untelling_packet rules slot view (Some packet) =
-    untelling_or (packet.buffer == no_buffer && is_none (probe_slot_of packet.payload) && is_up view) (map (λ share. handed share packet) (shares_of rules slot packet))
-    (untelling_handed packet (shares_of rules slot packet))
 
 -- ---- the known ports after a status
 
@@ -182,7 +165,7 @@ by_message_test policy slot switch view message true packet is_it is_packet orde
     by_untelling (settings_at policy slot switch.features) view (End ∷ []) switch.known (known_after Opened switch.known (SwitchMsg message)) refl (known_told message switch.known (bad_untold message is_it)) same
 by_message_test policy slot switch view message false true is_it is_packet order same =
     by_untelling (settings_at policy slot switch.features) view (elim (well_formed (read_packet_in message)) as (λ x. List Item) [ None ↦ [] | Some p ↦ packet_items (rules_of policy switch.features) slot view p ]) switch.known (known_after Opened switch.known (SwitchMsg message))
-    (untelling_packet (rules_of policy switch.features) slot view (well_formed (read_packet_in message))) (known_told message switch.known (packet_untold message is_packet)) same
+    (none_of_packet tells_switch (rules_of policy switch.features) slot view (well_formed (read_packet_in message)) (λ p share. refl)) (known_told message switch.known (packet_untold message is_packet)) same
 by_message_test policy slot switch view message false false is_it is_packet order same =
     by_told (settings_at policy slot switch.features) view switch.known (status_told message) order same
 
@@ -199,11 +182,11 @@ by_event policy slot moment switch view SwitchUp order same = record { features_
 by_event policy slot moment switch view (SwitchMsg message) order same = by_message policy slot switch view message order same
 by_event policy slot moment switch view SwitchDown order same = record { features_stay = refl; ports_follow = same }
 by_event policy slot moment switch view (SliceUp other) order same =
-    by_untelling (settings_at policy slot switch.features) view (if other == slot then Up ∷ [] else []) switch.known switch.known (untelling_or (other == slot) (Up ∷ []) refl) refl same
+    by_untelling (settings_at policy slot switch.features) view (if other == slot then Up ∷ [] else []) switch.known switch.known (none_or tells_switch (other == slot) (Up ∷ []) refl) refl same
 by_event policy slot moment switch view (SliceMsg other message) order same =
-    by_untelling (settings_at policy slot switch.features) view (if other == slot && is_up view then Msg message moment ∷ [] else []) switch.known switch.known (untelling_or (other == slot && is_up view) (Msg message moment ∷ []) refl) refl same
+    by_untelling (settings_at policy slot switch.features) view (if other == slot && is_up view then Msg message moment ∷ [] else []) switch.known switch.known (none_or tells_switch (other == slot && is_up view) (Msg message moment ∷ []) refl) refl same
 by_event policy slot moment switch view (SliceDown other) order same =
-    by_untelling (settings_at policy slot switch.features) view (if other == slot then Down ∷ [] else []) switch.known switch.known (untelling_or (other == slot) (Down ∷ []) refl) refl same
+    by_untelling (settings_at policy slot switch.features) view (if other == slot then Down ∷ [] else []) switch.known switch.known (none_or tells_switch (other == slot) (Down ∷ []) refl) refl same
 
 -- ---- histories
 
@@ -258,27 +241,21 @@ late_of false never = refl
 
 -- ---- what is seen at the opening, and after it
 
-none_some : {A : Type 0} {features : Features} → None ≡ Some features → A
-none_some is = absurd (true≢false (sym (ap has_told is)))
-
 -- the opening shows the features with the slice's own ports
 seen_first : (policy : PolicyView) (slot : ℕ) (switch : Switch) (timed : Timed) (event : Event) (phase : Phase) (features : Features)
     → timed.event ≡ event → opening_after phase None event ≡ Some features
     → (features_in (with_items (phase_items policy slot switch [] timed phase) []) ≡ Some (own_features (settings_at policy slot (Some features)) features))
     × (known_ports (with_items (phase_items policy slot switch [] timed phase) []) ≡ own_ports (settings_at policy slot (Some features)) (known_after phase switch.known event))
-seen_first policy slot switch timed event Fresh features e told = none_some told
-seen_first policy slot switch timed event Opened features e told = none_some told
-seen_first policy slot switch timed event Ended features e told = none_some told
-seen_first policy slot switch timed SwitchUp Begun features e told = none_some told
-seen_first policy slot switch timed SwitchDown Begun features e told = none_some told
-seen_first policy slot switch timed (SliceUp other) Begun features e told = none_some told
-seen_first policy slot switch timed (SliceMsg other message) Begun features e told = none_some told
-seen_first policy slot switch timed (SliceDown other) Begun features e told = none_some told
+seen_first policy slot switch timed event Fresh features e told = absurd (none-some features told)
+seen_first policy slot switch timed event Opened features e told = absurd (none-some features told)
+seen_first policy slot switch timed event Ended features e told = absurd (none-some features told)
+seen_first policy slot switch timed SwitchUp Begun features e told = absurd (none-some features told)
+seen_first policy slot switch timed SwitchDown Begun features e told = absurd (none-some features told)
+seen_first policy slot switch timed (SliceUp other) Begun features e told = absurd (none-some features told)
+seen_first policy slot switch timed (SliceMsg other message) Begun features e told = absurd (none-some features told)
+seen_first policy slot switch timed (SliceDown other) Begun features e told = absurd (none-some features told)
 seen_first policy slot switch timed (SwitchMsg message) Begun features e told =
     rw (e, told) (refl, ap (own_ports (settings_at policy slot (Some features))) (sym (ap (known_begun switch.known) told)))
-
-some_is : {one other : Features} → Some one ≡ Some other → one ≡ other
-some_is {one} is = ap (λ told. unwrap_or told one) is
 
 -- an event more, once the switch has told what it is
 seen_more : (policy : PolicyView) (slot : ℕ) (h : List Timed) (timed : Timed) (features : Features) → opening_of h ≡ Some features → is_slot policy slot ≡ true
@@ -286,7 +263,7 @@ seen_more : (policy : PolicyView) (slot : ℕ) (h : List Timed) (timed : Timed) 
 seen_more policy slot h timed features is here before =
     let s = settings_at policy slot (Some features) in
     let same_settings : settings_at policy slot (opening_of h) ≡ s = ap (settings_at policy slot) is in
-    let late : is_early (phase_of h) ≡ false = late_of (is_early (phase_of h)) (λ early. none_some (sym (untold h early) ∙ is)) in
+    let late : is_early (phase_of h) ≡ false = late_of (is_early (phase_of h)) (λ early. none-some features (sym (untold h early) ∙ is)) in
     let follows = by_phase policy slot (switch_of h) (view_of policy slot h) timed (phase_of h) late (ascending h) (before.ports_known ∙ ap (λ (t : Settings). own_ports t (known_of h)) (sym same_settings)) in
     record {
       features_seen = rw here (follows.features_stay ∙ before.features_seen);
@@ -312,7 +289,7 @@ seen_by policy slot h timed features (Some own) is here before now =
     seen_more policy slot h timed features same here (before same here)
 
 pub seen : (policy : PolicyView) (slot : ℕ) (h : List Timed) (features : Features) → SeesItsSwitch policy slot h features
-seen policy slot [] features told here = none_some told
+seen policy slot [] features told here = absurd (none-some features told)
 seen policy slot (timed ∷ h) features told here =
     seen_by policy slot h timed features (opening_of h) refl here (seen policy slot h features) told
 

@@ -1,7 +1,8 @@
 -- A slice that is down is sent nothing until it comes up.
-use Rattle.std.proofs.Common.{◌≡◌, ℕ, ◌==◌, ◌&&◌, Bool, true, false, cond, if◌then◌else◌, List, [], ◌∷◌, ◌++◌, map, refl, ap, ap₂, sym, ◌∙◌, append-nil, true≢false, Option, Some, None, is_none, inl, inr, ◌⊎◌}
+use Rattle.std.proofs.Common.{◌≡◌, ℕ, ◌==◌, ◌&&◌, ◌||◌, Bool, true, false, cond, if◌then◌else◌, List, [], ◌∷◌, ◌++◌, map, refl, ap, ap₂, sym, ◌∙◌, append-nil, true≢false, Option, Some, None, is_none, inl, inr, ◌⊎◌}
 use Rattle.std.proofs.lemmas.Bool.{eq-eqb, or_parts}
 use Rattle.std.specs.List.{list_any}
+use Rattle.of10_model.proofs.Results.{either_none}
 use Rattle.of10_ctl.specs.declared.kind.TheConstants.{PACKET_IN}
 use Rattle.of10_ctl.specs.Frames.{is_bad}
 use Rattle.of10_flow.specs.declared.packet_in.PacketIn.{PacketIn}
@@ -17,6 +18,7 @@ use Rattle.slice_words.specs.Answers.{no_buffer}
 use Rattle.slice_words.specs.Messages.{is_dismissing}
 use Rattle.slice_words.specs.Alone.{with_items, sent_for}
 use Rattle.slice_words.specs.Laws.{is_coming}
+use Rattle.slice_words.proofs.AnswerKinds.{either}
 use Rattle.slice_words.proofs.Joining.{silent}
 use Rattle.desk_words.specs.declared.event.Event.{Event}
 use Rattle.desk_words.specs.declared.event.Event.TheVariants.{SwitchUp, SwitchMsg, SwitchDown, SliceUp, SliceMsg, SliceDown}
@@ -28,7 +30,25 @@ use Rattle.desk_words.specs.Openings.{well_formed, status_told, features_told, p
 use Rattle.desk_words.specs.Histories.{is_slot, settings_at, Side, side_of, view_of, handed, shares_of, is_kept, packet_items, status_items, message_items, opening_items, event_items, phase_items, items_of, is_open, is_slice_up}
 use Rattle.desk_words.specs.Sent.{sent, sent_by}
 use Rattle.desk_words.specs.Laws.{is_up_of, IsSilentUntilUp, IsDownAfterDown}
-use Rattle.desk_words.proofs.Alone.{blind, either_none}
+use Rattle.desk_words.proofs.Alone.{blind}
+
+-- ---- items of which none passes a test
+
+pub none_or : (test : Item → Bool) (b : Bool) (items : List Item) → list_any test items ≡ false → list_any test (if b then items else []) ≡ false
+none_or test b items none = either (λ (shown : List Item). list_any test shown ≡ false) b items [] none refl
+
+none_handed : (test : Item → Bool) (packet : PacketIn) (shares : List Share) → ((share : Share) → test (handed share packet) ≡ false) → list_any test (map (λ share. handed share packet) shares) ≡ false
+none_handed test packet [] none = refl
+none_handed test packet (share ∷ others) none =
+    ap (λ (one : Bool). one || list_any test (map (λ other. handed other packet) others)) (none share) ∙ none_handed test packet others none
+
+-- a packet shows a slice nothing but the packet
+pub none_of_packet : (test : Item → Bool) (rules : List Rule) (slot : ℕ) (view : List Item) (told : Option PacketIn) → ((packet : PacketIn) (share : Share) → test (handed share packet) ≡ false)
+    → list_any test (elim told [ None ↦ [] | Some packet ↦ packet_items rules slot view packet ]) ≡ false
+none_of_packet test rules slot view None none = refl
+none_of_packet test rules slot view (Some packet) none =
+    none_or test (packet.buffer == no_buffer && is_none (probe_slot_of packet.payload) && is_up view) (map (λ share. handed share packet) (shares_of rules slot packet))
+    (none_handed test packet (shares_of rules slot packet) (none packet))
 
 -- ---- items that say nothing of the connection
 
@@ -36,37 +56,18 @@ use Rattle.desk_words.proofs.Alone.{blind, either_none}
 abbrev pub are_plain : List Item → Bool
 are_plain items = list_any is_forgetting items
 
-plain_or : (b : Bool) (items : List Item) → are_plain items ≡ false → are_plain (if b then items else []) ≡ false
-plain_or true items plain = plain
-plain_or false items plain = refl
-
-plain_handed : (packet : PacketIn) (shares : List Share) → are_plain (map (λ share. handed share packet) shares) ≡ false
-plain_handed packet [] = refl
-plain_handed packet (share ∷ others) = plain_handed packet others
-
-plain_packet : (rules : List Rule) (slot : ℕ) (view : List Item) (packet : Option PacketIn)
-    → are_plain (elim packet [ None ↦ [] | Some p ↦ packet_items rules slot view p ]) ≡ false
-plain_packet rules slot view None = refl
-plain_packet rules slot view (Some packet) =
-    plain_or (packet.buffer == no_buffer && is_none (probe_slot_of packet.payload) && is_up view) (map (λ share. handed share packet) (shares_of rules slot packet))
-    (plain_handed packet (shares_of rules slot packet))
-
 plain_status : (s : Settings) (known : List (List ℕ)) (status : Option PortStatus)
     → are_plain (elim status [ None ↦ [] | Some said ↦ status_items s known said ]) ≡ false
 plain_status s known None = refl
-plain_status s known (Some status) = plain_or (is_kept status known && is_own_port s (port_number status.port)) (Status status ∷ []) refl
-
-plain_choice : (b : Bool) (some others : List Item) → are_plain some ≡ false → are_plain others ≡ false → are_plain (if b then some else others) ≡ false
-plain_choice true some others a b = a
-plain_choice false some others a b = b
+plain_status s known (Some status) = none_or is_forgetting (is_kept status known && is_own_port s (port_number status.port)) (Status status ∷ []) refl
 
 -- what a message of the switch shows says nothing of the slice's connection
 pub plain_message : (policy : PolicyView) (slot : ℕ) (switch : Switch) (view : List Item) (message : List ℕ) → are_plain (message_items policy slot switch view message) ≡ false
 unfolding message_items
 plain_message policy slot switch view message =
-    plain_choice (is_bad message) (End ∷ []) _ refl
-    (plain_choice (is_of PACKET_IN message) _ _
-    (plain_packet (rules_of policy switch.features) slot view (well_formed (read_packet_in message)))
+    either (λ (items : List Item). are_plain items ≡ false) (is_bad message) (End ∷ []) _ refl
+    (either (λ (items : List Item). are_plain items ≡ false) (is_of PACKET_IN message) _ _
+    (none_of_packet is_forgetting (rules_of policy switch.features) slot view (well_formed (read_packet_in message)) (λ packet share. refl))
     (plain_status (settings_at policy slot switch.features) switch.known (status_told message)))
 
 pub plain_opening : (policy : PolicyView) (slot : ℕ) (told : Option Features) → are_plain (opening_items policy slot told) ≡ false
@@ -148,10 +149,6 @@ plain_none [] plain = refl
 plain_none (item ∷ items) plain =
     rw (plain_no_up item ((or_parts (is_forgetting item) (are_plain items) plain).0)) (plain_none items ((or_parts (is_forgetting item) (are_plain items) plain).1))
 
-one_none : (b : Bool) (item : Item) → is_coming item ≡ false → list_any is_coming (if b then item ∷ [] else []) ≡ false
-one_none true item going = rw going refl
-one_none false item going = refl
-
 -- an event that isn't the slice's up shows no up
 none_event : (policy : PolicyView) (slot : ℕ) (switch : Switch) (view : List Item) (moment : ℕ) (timed : Timed) (event : Event) → timed.event ≡ event → is_up_of slot timed ≡ false
     → list_any is_coming (event_items policy slot switch view moment event) ≡ false
@@ -160,8 +157,8 @@ none_event policy slot switch view moment timed (SwitchMsg message) e still = pl
 none_event policy slot switch view moment timed SwitchDown e still = refl
 none_event policy slot switch view moment timed (SliceUp other) e still =
     let other_slot : (other == slot) ≡ false = (rw e at still) in rw other_slot refl
-none_event policy slot switch view moment timed (SliceMsg other message) e still = one_none (other == slot && is_up view) (Msg message moment) refl
-none_event policy slot switch view moment timed (SliceDown other) e still = one_none (other == slot) Down refl
+none_event policy slot switch view moment timed (SliceMsg other message) e still = none_or is_coming (other == slot && is_up view) (Msg message moment ∷ []) refl
+none_event policy slot switch view moment timed (SliceDown other) e still = none_or is_coming (other == slot) (Down ∷ []) refl
 
 none_in : (policy : PolicyView) (slot : ℕ) (switch : Switch) (view : List Item) (timed : Timed) (phase : Phase) → is_up_of slot timed ≡ false
     → list_any is_coming (phase_items policy slot switch view timed phase) ≡ false
@@ -169,10 +166,6 @@ none_in policy slot switch view timed Fresh still = refl
 none_in policy slot switch view timed Begun still = plain_none (opening_items policy slot (opening_with Begun timed.event)) (plain_opening policy slot (opening_with Begun timed.event))
 none_in policy slot switch view timed Opened still = none_event policy slot switch view timed.moment timed timed.event refl still
 none_in policy slot switch view timed Ended still = refl
-
-none_or : (b : Bool) (items : List Item) → list_any is_coming items ≡ false → list_any is_coming (cond b items []) ≡ false
-none_or true items still = still
-none_or false items still = refl
 
 -- ---- before the opening nobody is up
 
@@ -233,7 +226,7 @@ one_silent : (policy : PolicyView) (slot : ℕ) (h : List Timed) (timed : Timed)
 one_silent policy slot h timed still (inl down) =
     let view = view_of policy slot h in
     let items = items_of policy slot (switch_of h) (side_of policy slot h) timed in
-    let none = none_or (is_slot policy slot) (phase_items policy slot (switch_of h) view timed (phase_of h)) (none_in policy slot (switch_of h) view timed (phase_of h) still) in
+    let none = none_or is_coming (is_slot policy slot) (phase_items policy slot (switch_of h) view timed (phase_of h)) (none_in policy slot (switch_of h) view timed (phase_of h) still) in
     let both = silent_items (settings_at policy slot (opening_of h)) view items down none in
     (both.0, and_false (is_open (phase_after (phase_of h) timed.event)) (is_up (with_items items view)) both.1)
 one_silent policy slot h timed still (inr ended) =
@@ -257,7 +250,7 @@ until_up policy slot (timed ∷ later) h down none =
 -- ---- a connection that ended
 
 -- a slot that no slice has sees nothing
-nowhere : (policy : PolicyView) (slot : ℕ) (h : List Timed) → is_slot policy slot ≡ false → view_of policy slot h ≡ []
+pub nowhere : (policy : PolicyView) (slot : ℕ) (h : List Timed) → is_slot policy slot ≡ false → view_of policy slot h ≡ []
 nowhere policy slot [] out = refl
 nowhere policy slot (timed ∷ h) out = rw out (nowhere policy slot h out)
 
