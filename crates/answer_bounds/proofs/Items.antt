@@ -17,6 +17,7 @@ use Rattle.flowspace.specs.Policies.{PolicyView}
 use Rattle.slice_words.specs.Items.{Settings, is_own_port, Share, Writer, Reader, Item, Up, Down, Msg, Status, End, is_up}
 use Rattle.slice_words.specs.Items as items
 use Rattle.slice_words.specs.Answers.{no_buffer}
+use Rattle.slice_words.proofs.AnswerKinds.{either}
 use Rattle.desk_words.specs.declared.event.Event.{Event}
 use Rattle.desk_words.specs.declared.event.Event.TheVariants.{SwitchUp, SwitchMsg, SwitchDown, SliceUp, SliceMsg, SliceDown}
 use Rattle.desk_words.specs.declared.event.Timed.{Timed}
@@ -43,12 +44,7 @@ one_item : (view : List Item) (item : Item) → IsBounded view item → AreFewIt
 one_item view item bounded = record { few = omega arith; bounded = (bounded, tt) }
 
 items_if : (view : List Item) (b : Bool) (shown : List Item) → AreFewItems view shown → AreFewItems view (if b then shown else [])
-items_if view true shown h = h
-items_if view false shown h = no_items view
-
-items_either : (view : List Item) (b : Bool) (some others : List Item) → AreFewItems view some → AreFewItems view others → AreFewItems view (if b then some else others)
-items_either view true some others a b = a
-items_either view false some others a b = b
+items_if view b shown h = either (AreFewItems view) b shown [] h (no_items view)
 
 -- ---- packets
 
@@ -105,8 +101,8 @@ opening_few policy slot view (Some features) = one_item view (items.Opened (own_
 message_few : (policy : PolicyView) (slot : ℕ) (switch : Switch) (view : List Item) (message : List ℕ) → IsShort message → AreFewItems view (message_items policy slot switch view message)
 unfolding message_items
 message_few policy slot switch view message short =
-    items_either view (is_bad message) _ _ (one_item view End tt)
-    (items_either view (is_of PACKET_IN message) _ _ (packet_few (rules_of policy switch.features) slot view (well_formed (read_packet_in message)) (packet_short message short))
+    either (AreFewItems view) (is_bad message) _ _ (one_item view End tt)
+    (either (AreFewItems view) (is_of PACKET_IN message) _ _ (packet_few (rules_of policy switch.features) slot view (well_formed (read_packet_in message)) (packet_short message short))
     (status_few (settings_at policy slot switch.features) view switch.known (status_told message) (told_status message)))
 
 event_few : (policy : PolicyView) (slot moment : ℕ) (switch : Switch) (view : List Item) (event : Event) → HasFewPorts view → IsFramed event

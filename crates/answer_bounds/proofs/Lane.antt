@@ -7,6 +7,7 @@ use Rattle.of10_ctl.specs.Frames.{message_of}
 use Rattle.of10_flow.specs.FlowMods.{spell_flow_mod}
 use Rattle.of10_port.specs.declared.features.Features.{Features}
 use Rattle.slice_words.specs.Messages.{xid_of}
+use Rattle.slice_words.proofs.AnswerKinds.{either}
 use Rattle.desk_words.specs.declared.event.Event.{Event}
 use Rattle.desk_words.specs.declared.event.Event.TheVariants.{SwitchUp, SwitchMsg, SwitchDown, SliceUp, SliceMsg, SliceDown}
 use Rattle.desk_words.specs.declared.phase.Phase.{Phase}
@@ -15,7 +16,7 @@ use Rattle.of10_ctl.specs.Kinds.{is_of}
 use Rattle.desk_words.specs.Openings.{features_told}
 use Rattle.desk_words.specs.Sent.{greeting, whole_packets, clearing, preparation, echo_for, lane_in}
 use Rattle.answer_bounds.specs.Bounds.{IsFramed, AreFew}
-use Rattle.answer_bounds.proofs.Messages.{IsShort, few-none, few-one, few-append, few-more, few-either, short-message, short-echo}
+use Rattle.answer_bounds.proofs.Messages.{IsShort, few-none, few-one, few-append, few-more, short-message, short-echo}
 
 -- ---- the proxy's own messages
 
@@ -40,7 +41,7 @@ few_preparation =
 few_echo : (message : List ℕ) → IsShort message → AreFew 3 (echo_for message)
 few_echo message short =
     let reply = message_of ECHO_REPLY (xid_of message) (drop 8 message) in
-    few-either 3 (is_of ECHO_REQUEST message) (reply ∷ []) []
+    either (AreFew 3) (is_of ECHO_REQUEST message) (reply ∷ []) []
     (few-more 1 3 (reply ∷ []) (omega arith) (few-one reply (short-echo (xid_of message) message short))) (few-none 3)
 
 few_begun : (message : List ℕ) (told : Option Features) → IsShort message → AreFew 3 (elim told [ None ↦ echo_for message | Some features ↦ preparation ])

@@ -1,5 +1,5 @@
 -- Few messages, and how long those are that this proxy makes.
-use Rattle.std.proofs.Common.{ℕ, suc, ◌+◌, ◌*◌, ◌≤◌, List, [], ◌∷◌, ◌++◌, length, take, drop, Bool, true, false, if◌then◌else◌, arith}
+use Rattle.std.proofs.Common.{ℕ, suc, ◌+◌, ◌*◌, ◌≤◌, List, [], ◌∷◌, ◌++◌, length, take, drop, arith}
 use Rattle.std.specs.List.{All}
 use Rattle.std.proofs.lemmas.List.{length-append, length-take, length-drop}
 use Rattle.std.proofs.lemmas.List.Elements.{All-nil, All-cons, All-head, All-tail, All-append}
@@ -47,11 +47,6 @@ few-more m n messages more a =
 -- one message at most in front of others
 pub few-next : (n : ℕ) (some others : List (List ℕ)) → AreFew 1 some → AreFew n others → AreFew (suc n) (some ++ others)
 few-next n some others a b = few-more (1 + n) (suc n) (some ++ others) (omega arith) (few-append 1 n some others a b)
-
--- either of two lists
-pub few-either : (most : ℕ) (b : Bool) (some others : List (List ℕ)) → AreFew most some → AreFew most others → AreFew most (if b then some else others)
-few-either most true some others a b = a
-few-either most false some others a b = b
 
 pub size-short : (messages : List (List ℕ)) → All IsShort messages → size messages ≤ 65535 * length messages
 size-short [] h = omega arith

@@ -21,6 +21,7 @@ use Rattle.port_view.specs.KnownPorts.{is_of_number, ports_below, ports_above, w
 use Rattle.port_view.specs.SlicePorts.{ports_of_slice}
 use Rattle.port_view.proofs.Knowing.{cases_kept, changed-kept, changed-not_kept}
 use Rattle.slice_words.specs.Items.{Item, known_ports}
+use Rattle.slice_words.proofs.AnswerKinds.{either}
 use Rattle.desk_words.specs.declared.event.Event.{Event}
 use Rattle.desk_words.specs.declared.event.Event.TheVariants.{SwitchUp, SwitchMsg, SwitchDown, SliceUp, SliceMsg, SliceDown}
 use Rattle.desk_words.specs.declared.event.Timed.{Timed}
@@ -99,10 +100,6 @@ told_status message = if_told IsWhole (is_of PORT_STATUS message) (well_formed (
 
 -- ---- each known port has 48 bytes
 
-whole_either : (b : Bool) (some others : List (List ℕ)) → All IsPort some → All IsPort others → All IsPort (if b then some else others)
-whole_either true some others a b = a
-whole_either false some others a b = b
-
 whole_with : (port : List ℕ) (known : List (List ℕ)) → IsPort port → All IsPort known → All IsPort (with_port port known)
 unfolding with_port
 whole_with port known one all =
@@ -115,7 +112,7 @@ unfolding without_port
 whole_without number known all = All-filter (λ port. not (is_of_number number port)) IsPort known all
 
 whole_told : (known : List (List ℕ)) (port : List ℕ) → All IsPort known → IsPort port → All IsPort (with_told known port)
-whole_told known port all one = whole_either (is_in_port (port_number port)) (with_port port known) known (whole_with port known one all) all
+whole_told known port all one = either (All IsPort) (is_in_port (port_number port)) (with_port port known) known (whole_with port known one all) all
 
 whole_fold : (ports known : List (List ℕ)) → All IsPort ports → All IsPort known → All IsPort (fold with_told known ports)
 whole_fold [] known ports all = all
@@ -129,7 +126,7 @@ whole_first ports all = whole_fold ports [] all (All-nil IsPort)
 whole_plainly : (status : PortStatus) (known : List (List ℕ)) → IsWhole status → All IsPort known → All IsPort (changed_plainly status known)
 unfolding changed_plainly
 whole_plainly status known one all =
-    whole_either (status.reason == 1) (without_port (port_number status.port) known) (with_port status.port known)
+    either (All IsPort) (status.reason == 1) (without_port (port_number status.port) known) (with_port status.port known)
     (whole_without (port_number status.port) known all) (whole_with status.port known one all)
 
 whole_changed : (status : PortStatus) (known : List (List ℕ)) → IsWhole status → All IsPort known → All IsPort (changed status known)
