@@ -1,5 +1,5 @@
 -- The examples, by computing what the definitions say.
-use Rattle.std.specs.Prelude.{refl}
+use Rattle.std.specs.Prelude.{Bool, true, refl}
 use Rattle.std.specs.Fmt.{digits}
 use Rattle.hex.specs.Hex.{encode_with}
 use Rattle.of10_model.specs.Pattern.{has}
@@ -24,74 +24,79 @@ use Rattle.desk_examples.specs.Ports.{StatusReachesBob, OwnPortsAreTold}
 use Rattle.desk_examples.specs.Connections.{NothingHappens, SwitchGoes, BadLengthEndsTheSwitch, EarlySliceIsRefused}
 use Rattle.desk_examples.specs.Readers.{WriterIsToldAlone, ReaderIsTold}
 
-pub packet_reaches_shown : PacketReaches
+-- what the examples compute with
+computing : Bool
 unfolding digits encode_with has Spell frames_at frames_of features_front read_features spell_features read_port_status spell_port_status ports_in spell_flow_mod read_packet_in spell_packet_in header_of_packet link_of tagged_link typed arp_of ipv4_of network_of transport_at transport_of probe_slot_of trailer_slot changed changed_plainly first_known kept_of with_port without_port local_answer message_answer packet_told form_fault message_items report_from
+computing = true
+
+pub packet_reaches_shown : PacketReaches
+unfolding computing
 packet_reaches_shown = refl
 
 pub packet_passes_shown : PacketPasses
-unfolding digits encode_with has Spell frames_at frames_of features_front read_features spell_features read_port_status spell_port_status ports_in spell_flow_mod read_packet_in spell_packet_in header_of_packet link_of tagged_link typed arp_of ipv4_of network_of transport_at transport_of probe_slot_of trailer_slot changed changed_plainly first_known kept_of with_port without_port local_answer message_answer packet_told form_fault message_items report_from
+unfolding computing
 packet_passes_shown = refl
 
 pub bad_length_closes_shown : BadLengthCloses
-unfolding digits encode_with has Spell frames_at frames_of features_front read_features spell_features read_port_status spell_port_status ports_in spell_flow_mod read_packet_in spell_packet_in header_of_packet link_of tagged_link typed arp_of ipv4_of network_of transport_at transport_of probe_slot_of trailer_slot changed changed_plainly first_known kept_of with_port without_port local_answer message_answer packet_told form_fault message_items report_from
+unfolding computing
 bad_length_closes_shown = refl
 
 pub features_are_told_shown : FeaturesAreTold
-unfolding digits encode_with has Spell frames_at frames_of features_front read_features spell_features read_port_status spell_port_status ports_in spell_flow_mod read_packet_in spell_packet_in header_of_packet link_of tagged_link typed arp_of ipv4_of network_of transport_at transport_of probe_slot_of trailer_slot changed changed_plainly first_known kept_of with_port without_port local_answer message_answer packet_told form_fault message_items report_from
+unfolding computing
 features_are_told_shown = refl
 
 pub config_is_kept_shown : ConfigIsKept
-unfolding digits encode_with has Spell frames_at frames_of features_front read_features spell_features read_port_status spell_port_status ports_in spell_flow_mod read_packet_in spell_packet_in header_of_packet link_of tagged_link typed arp_of ipv4_of network_of transport_at transport_of probe_slot_of trailer_slot changed changed_plainly first_known kept_of with_port without_port local_answer message_answer packet_told form_fault message_items report_from
+unfolding computing
 config_is_kept_shown = refl
 
 pub flags_are_refused_shown : FlagsAreRefused
-unfolding digits encode_with has Spell frames_at frames_of features_front read_features spell_features read_port_status spell_port_status ports_in spell_flow_mod read_packet_in spell_packet_in header_of_packet link_of tagged_link typed arp_of ipv4_of network_of transport_at transport_of probe_slot_of trailer_slot changed changed_plainly first_known kept_of with_port without_port local_answer message_answer packet_told form_fault message_items report_from
+unfolding computing
 flags_are_refused_shown = refl
 
 pub old_version_closes_shown : OldVersionCloses
-unfolding digits encode_with has Spell frames_at frames_of features_front read_features spell_features read_port_status spell_port_status ports_in spell_flow_mod read_packet_in spell_packet_in header_of_packet link_of tagged_link typed arp_of ipv4_of network_of transport_at transport_of probe_slot_of trailer_slot changed changed_plainly first_known kept_of with_port without_port local_answer message_answer packet_told form_fault message_items report_from
+unfolding computing
 old_version_closes_shown = refl
 
 pub echo_is_answered_shown : EchoIsAnswered
-unfolding digits encode_with has Spell frames_at frames_of features_front read_features spell_features read_port_status spell_port_status ports_in spell_flow_mod read_packet_in spell_packet_in header_of_packet link_of tagged_link typed arp_of ipv4_of network_of transport_at transport_of probe_slot_of trailer_slot changed changed_plainly first_known kept_of with_port without_port local_answer message_answer packet_told form_fault message_items report_from
+unfolding computing
 echo_is_answered_shown = refl
 
 pub vendor_is_refused_shown : VendorIsRefused
-unfolding digits encode_with has Spell frames_at frames_of features_front read_features spell_features read_port_status spell_port_status ports_in spell_flow_mod read_packet_in spell_packet_in header_of_packet link_of tagged_link typed arp_of ipv4_of network_of transport_at transport_of probe_slot_of trailer_slot changed changed_plainly first_known kept_of with_port without_port local_answer message_answer packet_told form_fault message_items report_from
+unfolding computing
 vendor_is_refused_shown = refl
 
 pub port_mod_is_refused_shown : PortModIsRefused
-unfolding digits encode_with has Spell frames_at frames_of features_front read_features spell_features read_port_status spell_port_status ports_in spell_flow_mod read_packet_in spell_packet_in header_of_packet link_of tagged_link typed arp_of ipv4_of network_of transport_at transport_of probe_slot_of trailer_slot changed changed_plainly first_known kept_of with_port without_port local_answer message_answer packet_told form_fault message_items report_from
+unfolding computing
 port_mod_is_refused_shown = refl
 
 pub status_reaches_bob_shown : StatusReachesBob
-unfolding digits encode_with has Spell frames_at frames_of features_front read_features spell_features read_port_status spell_port_status ports_in spell_flow_mod read_packet_in spell_packet_in header_of_packet link_of tagged_link typed arp_of ipv4_of network_of transport_at transport_of probe_slot_of trailer_slot changed changed_plainly first_known kept_of with_port without_port local_answer message_answer packet_told form_fault message_items report_from
+unfolding computing
 status_reaches_bob_shown = refl
 
 pub own_ports_are_told_shown : OwnPortsAreTold
-unfolding digits encode_with has Spell frames_at frames_of features_front read_features spell_features read_port_status spell_port_status ports_in spell_flow_mod read_packet_in spell_packet_in header_of_packet link_of tagged_link typed arp_of ipv4_of network_of transport_at transport_of probe_slot_of trailer_slot changed changed_plainly first_known kept_of with_port without_port local_answer message_answer packet_told form_fault message_items report_from
+unfolding computing
 own_ports_are_told_shown = refl
 
 pub nothing_happens_shown : NothingHappens
-unfolding digits encode_with has Spell frames_at frames_of features_front read_features spell_features read_port_status spell_port_status ports_in spell_flow_mod read_packet_in spell_packet_in header_of_packet link_of tagged_link typed arp_of ipv4_of network_of transport_at transport_of probe_slot_of trailer_slot changed changed_plainly first_known kept_of with_port without_port local_answer message_answer packet_told form_fault message_items report_from
+unfolding computing
 nothing_happens_shown = refl
 
 pub switch_goes_shown : SwitchGoes
-unfolding digits encode_with has Spell frames_at frames_of features_front read_features spell_features read_port_status spell_port_status ports_in spell_flow_mod read_packet_in spell_packet_in header_of_packet link_of tagged_link typed arp_of ipv4_of network_of transport_at transport_of probe_slot_of trailer_slot changed changed_plainly first_known kept_of with_port without_port local_answer message_answer packet_told form_fault message_items report_from
+unfolding computing
 switch_goes_shown = refl
 
 pub bad_length_ends_the_switch_shown : BadLengthEndsTheSwitch
-unfolding digits encode_with has Spell frames_at frames_of features_front read_features spell_features read_port_status spell_port_status ports_in spell_flow_mod read_packet_in spell_packet_in header_of_packet link_of tagged_link typed arp_of ipv4_of network_of transport_at transport_of probe_slot_of trailer_slot changed changed_plainly first_known kept_of with_port without_port local_answer message_answer packet_told form_fault message_items report_from
+unfolding computing
 bad_length_ends_the_switch_shown = refl
 
 pub early_slice_is_refused_shown : EarlySliceIsRefused
-unfolding digits encode_with has Spell frames_at frames_of features_front read_features spell_features read_port_status spell_port_status ports_in spell_flow_mod read_packet_in spell_packet_in header_of_packet link_of tagged_link typed arp_of ipv4_of network_of transport_at transport_of probe_slot_of trailer_slot changed changed_plainly first_known kept_of with_port without_port local_answer message_answer packet_told form_fault message_items report_from
+unfolding computing
 early_slice_is_refused_shown = refl
 
 pub writer_is_told_alone_shown : WriterIsToldAlone
-unfolding digits encode_with has Spell frames_at frames_of features_front read_features spell_features read_port_status spell_port_status ports_in spell_flow_mod read_packet_in spell_packet_in header_of_packet link_of tagged_link typed arp_of ipv4_of network_of transport_at transport_of probe_slot_of trailer_slot changed changed_plainly first_known kept_of with_port without_port local_answer message_answer packet_told form_fault message_items report_from
+unfolding computing
 writer_is_told_alone_shown = refl
 
 pub reader_is_told_shown : ReaderIsTold
-unfolding digits encode_with has Spell frames_at frames_of features_front read_features spell_features read_port_status spell_port_status ports_in spell_flow_mod read_packet_in spell_packet_in header_of_packet link_of tagged_link typed arp_of ipv4_of network_of transport_at transport_of probe_slot_of trailer_slot changed changed_plainly first_known kept_of with_port without_port local_answer message_answer packet_told form_fault message_items report_from
+unfolding computing
 reader_is_told_shown = refl

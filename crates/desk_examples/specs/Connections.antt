@@ -1,5 +1,5 @@
 -- Worked examples of connections that come and go.
-use Rattle.std.specs.Prelude.{◌≡◌, [], ◌∷◌, ◌++◌, codes}
+use Rattle.std.specs.Prelude.{◌≡◌, [], ◌∷◌, codes}
 use Rattle.recording.specs.Recordings.{switch_up, switch_bytes, switch_down, slice_up}
 use Rattle.desk_words.specs.Reports.{report}
 use Rattle.desk_examples.specs.Examples.{policy, told, Follows}
