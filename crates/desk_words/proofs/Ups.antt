@@ -28,13 +28,11 @@ by_message true true false message moment view now last is same off d = rw d (is
 by_message true false true message moment view now last is same off d = is ∙ sym off
 by_message true false false message moment view now last is same off d = is ∙ same
 
-by_up : (own : Bool) (view : List Item) (now last : Bool) → is_up view ≡ last → now ≡ own → is_up (with_items (if own then Up ∷ [] else []) view) ≡ (if own then now else last)
-by_up true view now last same on = sym on
-by_up false view now last same on = same
-
-by_down : (own : Bool) (view : List Item) (now last : Bool) → is_up view ≡ last → now ≡ false → is_up (with_items (if own then Down ∷ [] else []) view) ≡ (if own then now else last)
-by_down true view now last same off = sym off
-by_down false view now last same off = same
+-- its connection comes or goes
+by_item : (own : Bool) (item : Item) (view : List Item) (now last : Bool) → is_up view ≡ last → (own ≡ true → is_up (item ∷ view) ≡ now)
+    → is_up (with_items (if own then item ∷ [] else []) view) ≡ (if own then now else last)
+by_item true item view now last same tells = tells refl
+by_item false item view now last same tells = same
 
 -- an event after the opening, by what it is
 one_event : (policy : PolicyView) (slot : ℕ) (switch : Switch) (view : List Item) (timed : Timed) (event : Event) → timed.event ≡ event → (last : Bool) → is_up view ≡ last
@@ -42,10 +40,10 @@ one_event : (policy : PolicyView) (slot : ℕ) (switch : Switch) (view : List It
 one_event policy slot switch view timed SwitchUp e last same = same
 one_event policy slot switch view timed (SwitchMsg message) e last same = stays_all (message_items policy slot switch view message) view (plain_message policy slot switch view message) ∙ same
 one_event policy slot switch view timed SwitchDown e last same = same
-one_event policy slot switch view timed (SliceUp other) e last same = by_up (other == slot) view (is_up_of slot timed) last same (rw e refl)
+one_event policy slot switch view timed (SliceUp other) e last same = by_item (other == slot) Up view (is_up_of slot timed) last same (λ own. rw e (sym own))
 one_event policy slot switch view timed (SliceMsg other message) e last same =
     by_message (other == slot) (is_up view) (is_dismissing message) message timed.moment view (is_up_of slot timed) last refl same (rw e refl) refl
-one_event policy slot switch view timed (SliceDown other) e last same = by_down (other == slot) view (is_up_of slot timed) last same (rw e refl)
+one_event policy slot switch view timed (SliceDown other) e last same = by_item (other == slot) Down view (is_up_of slot timed) last same (λ own. rw e refl)
 
 last_of : (b : Bool) (slot : ℕ) (timed : Timed) (events : List Timed) → is_last_up slot (if b then timed ∷ events else events) ≡ (if b then is_up_of slot timed else is_last_up slot events)
 last_of true slot timed events = refl
