@@ -5,6 +5,7 @@ use Rattle.std.specs.List.{All}
 use Rattle.std.specs.Simd.{first_chunks}
 use Rattle.std.proofs.lemmas.Bool.{cases_Bool}
 use Rattle.std.proofs.lemmas.List.{length-drop}
+use Rattle.std.proofs.lemmas.Option.{IfSome_then}
 use Rattle.std.proofs.lemmas.List.Elements.{All-nil, All-cons, All-head, All-tail, All-append, All-filter}
 use Rattle.std.proofs.lemmas.List.Filters.{length-filter_both}
 use Rattle.of10_ctl.specs.declared.kind.TheConstants.{FEATURES_REPLY, PORT_STATUS}
@@ -28,11 +29,11 @@ use Rattle.desk_words.specs.declared.event.Timed.{Timed}
 use Rattle.desk_words.specs.declared.phase.Phase.{Phase}
 use Rattle.desk_words.specs.declared.phase.Phase.TheVariants.{Fresh, Begun, Opened, Ended}
 use Rattle.of10_ctl.specs.Kinds.{is_of}
-use Rattle.desk_words.specs.Openings.{well_formed, features_told, status_told, phase_of, opening_after, opening_of, known_after, known_of}
+use Rattle.desk_words.specs.Openings.{well_formed, features_told, status_told, phase_of, opening_after, opening_of, known_of}
 use Rattle.desk_words.specs.Histories.{is_slot, settings_at, Side, view_of}
 use Rattle.desk_words.specs.Laws.{HasSeen}
 use Rattle.desk_words.proofs.Alone.{blind}
-use Rattle.desk_words.proofs.Seen.{seen, in_order}
+use Rattle.desk_words.proofs.Seen.{known_holds, seen, in_order}
 use Rattle.answer_bounds.specs.Bounds.{IsFramed, AreFramed}
 use Rattle.answer_bounds.proofs.AnswerSizes.{HasFewPorts}
 
@@ -135,35 +136,12 @@ whole_changed status known one all = elim (cases_kept (kept_of status known)) [
   | inr isnt ↦ rw (changed-not_kept status known isnt) all
 ]
 
-whole_begun : (known : List (List ℕ)) (told : Option Features) → IfSome told HasWhole → All IsPort known
-    → All IsPort (elim told [ None ↦ known | Some features ↦ first_known features.ports ])
-whole_begun known None has all = all
-whole_begun known (Some features) has all = whole_first features.ports has
-
-whole_opened : (known : List (List ℕ)) (told : Option PortStatus) → IfSome told IsWhole → All IsPort known
-    → All IsPort (elim told [ None ↦ known | Some status ↦ changed status known ])
-whole_opened known None has all = all
-whole_opened known (Some status) has all = whole_changed status known has all
-
-whole_after : (phase : Phase) (known : List (List ℕ)) (event : Event) → All IsPort known → All IsPort (known_after phase known event)
-whole_after Fresh known event all = all
-whole_after Ended known event all = all
-whole_after Begun known (SwitchMsg message) all = whole_begun known (features_told message) (told_whole message) all
-whole_after Begun known SwitchUp all = all
-whole_after Begun known SwitchDown all = all
-whole_after Begun known (SliceUp slot) all = all
-whole_after Begun known (SliceMsg slot message) all = all
-whole_after Begun known (SliceDown slot) all = all
-whole_after Opened known (SwitchMsg message) all = whole_opened known (status_told message) (told_status message) all
-whole_after Opened known SwitchUp all = all
-whole_after Opened known SwitchDown all = all
-whole_after Opened known (SliceUp slot) all = all
-whole_after Opened known (SliceMsg slot message) all = all
-whole_after Opened known (SliceDown slot) all = all
-
 whole_known : (h : List Timed) → All IsPort (known_of h)
-whole_known [] = All-nil IsPort
-whole_known (timed ∷ h) = whole_after (phase_of h) (known_of h) timed.event (whole_known h)
+whole_known h = known_holds (All IsPort) (record {
+  none = All-nil IsPort;
+  first = λ message. IfSome_then (features_told message) (told_whole message) (λ features has. whole_first features.ports has);
+  still = λ message. IfSome_then (status_told message) (told_status message) (λ status one known all. whole_changed status known one all);
+}) h
 
 -- ---- there are no more than fit a FEATURES_REPLY
 

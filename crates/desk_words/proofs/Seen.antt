@@ -201,39 +201,58 @@ by_phase policy slot switch view timed Ended late order same = record { features
 abbrev known_begun : List (List ℕ) → Option Features → List (List ℕ)
 known_begun known told = elim told [ None ↦ known | Some features ↦ first_known features.ports ]
 
+-- ---- what holds of the known ports
+
+-- a property holds of no ports, of those that a message's features tell, and still with a message's status
+pub record HoldsOfPorts (P : List (List ℕ) → Type 0) : Type 0 where
+  pub none : P []
+  pub first : (message : List ℕ) → IfSome (features_told message) (λ features. P (first_known features.ports))
+  pub still : (message : List ℕ) → IfSome (status_told message) (λ status. (known : List (List ℕ)) → P known → P (changed status known))
+
+holds_first : (P : List (List ℕ) → Type 0) (known : List (List ℕ)) (told : Option Features) → IfSome told (λ features. P (first_known features.ports)) → P known → P (known_begun known told)
+holds_first P known None first before = before
+holds_first P known (Some features) first before = first
+
+holds_still : (P : List (List ℕ) → Type 0) (known : List (List ℕ)) (told : Option PortStatus) → IfSome told (λ status. (others : List (List ℕ)) → P others → P (changed status others)) → P known → P (known_with known told)
+holds_still P known None still before = before
+holds_still P known (Some status) still before = still known before
+
+holds_after : (P : List (List ℕ) → Type 0) → HoldsOfPorts P → (phase : Phase) (known : List (List ℕ)) (event : Event) → P known → P (known_after phase known event)
+holds_after P each Fresh known event before = before
+holds_after P each Ended known event before = before
+holds_after P each Begun known (SwitchMsg message) before = holds_first P known (features_told message) (each.first message) before
+holds_after P each Begun known SwitchUp before = before
+holds_after P each Begun known SwitchDown before = before
+holds_after P each Begun known (SliceUp slot) before = before
+holds_after P each Begun known (SliceMsg slot message) before = before
+holds_after P each Begun known (SliceDown slot) before = before
+holds_after P each Opened known (SwitchMsg message) before = holds_still P known (status_told message) (each.still message) before
+holds_after P each Opened known SwitchUp before = before
+holds_after P each Opened known SwitchDown before = before
+holds_after P each Opened known (SliceUp slot) before = before
+holds_after P each Opened known (SliceMsg slot message) before = before
+holds_after P each Opened known (SliceDown slot) before = before
+
+pub known_holds : (P : List (List ℕ) → Type 0) → HoldsOfPorts P → (h : List Timed) → P (known_of h)
+known_holds P each [] = each.none
+known_holds P each (timed ∷ h) = holds_after P each (phase_of h) (known_of h) timed.event (known_holds P each h)
+
+-- ---- the known ports ascend
+
+if_any : {A : Type 0} (P : A → Type 0) (told : Option A) → ((x : A) → P x) → IfSome told P
+if_any P None all = tt
+if_any P (Some x) all = all x
+
 first_ascending : (features : Features) → IsAscending (first_known features.ports)
 unfolding known_by
 first_ascending features = IsAscending-known_of features []
 
--- ---- the known ports ascend
-
-ascending_told : (known : List (List ℕ)) (told : Option PortStatus) → IsAscending known → IsAscending (known_with known told)
-ascending_told known None order = order
-ascending_told known (Some status) order = IsAscending-changed status known order
-
-ascending_begun : (known : List (List ℕ)) (told : Option Features) → IsAscending known → IsAscending (known_begun known told)
-ascending_begun known None order = order
-ascending_begun known (Some features) order = first_ascending features
-
-ascending_after : (phase : Phase) (known : List (List ℕ)) (event : Event) → IsAscending known → IsAscending (known_after phase known event)
-ascending_after Fresh known event order = order
-ascending_after Ended known event order = order
-ascending_after Begun known (SwitchMsg message) order = ascending_begun known (features_told message) order
-ascending_after Begun known SwitchUp order = order
-ascending_after Begun known SwitchDown order = order
-ascending_after Begun known (SliceUp slot) order = order
-ascending_after Begun known (SliceMsg slot message) order = order
-ascending_after Begun known (SliceDown slot) order = order
-ascending_after Opened known (SwitchMsg message) order = ascending_told known (status_told message) order
-ascending_after Opened known SwitchUp order = order
-ascending_after Opened known SwitchDown order = order
-ascending_after Opened known (SliceUp slot) order = order
-ascending_after Opened known (SliceMsg slot message) order = order
-ascending_after Opened known (SliceDown slot) order = order
-
 pub ascending : (h : List Timed) → IsAscending (known_of h)
-ascending [] = IsAscending-none
-ascending (timed ∷ h) = ascending_after (phase_of h) (known_of h) timed.event (ascending h)
+ascending h = known_holds IsAscending (record {
+  none = IsAscending-none;
+  first = λ message. if_any (λ features. IsAscending (first_known features.ports)) (features_told message) first_ascending;
+  still = λ message. if_any (λ status. (known : List (List ℕ)) → IsAscending known → IsAscending (changed status known)) (status_told message) IsAscending-changed;
+}) h
 
 late_of : (early : Bool) → (early ≡ true → ⊥) → early ≡ false
 late_of true never = absurd (never refl)
