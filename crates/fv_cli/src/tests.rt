@@ -13,6 +13,7 @@ use recording::items;
 use std::alloc::Global;
 use std::process::Abort;
 use std::test::Fail;
+use wire_samples::bytes;
 
 /// The two slices of each policy.
 const SLICES: &str = "\
@@ -101,15 +102,6 @@ fn call(
     Ok(Answer { status, out, err })
 }
 
-/// The bytes of hex pieces, one after the other.
-fn bytes_of(alloc: Global, pieces: &[&str]) -> Result<Vec<u8>, Fail> {
-    let mut bytes = Vec::new(alloc);
-    for piece in pieces {
-        bytes.extend_from_slice(&hex::decode(alloc, *piece)?)?;
-    }
-    Ok(bytes)
-}
-
 /// The policy of the two slices with these rules.
 fn policy_of(alloc: Global, rules: &[&str]) -> Result<String, Fail> {
     let mut text = String::new(alloc);
@@ -130,7 +122,7 @@ fn play(alloc: Global, rules: &[&str], recording: &[u8], out: MemorySink) -> Res
 
 /// A replay of these records.
 fn replay(alloc: Global, rules: &[&str], pieces: &[&str], out: MemorySink) -> Result<Answer, Fail> {
-    play(alloc, rules, &bytes_of(alloc, pieces)?, out)
+    play(alloc, rules, &bytes(alloc, pieces)?, out)
 }
 
 fn expect_answer(rt: &impl Abort, answer: &Answer, status: u8, out: &[&str], err: &str) {
@@ -161,11 +153,11 @@ fn the_report_of_a_recording_in_memory_is_written(rt: HostRuntime) -> Result<(),
     let alloc = rt.alloc();
     let policy = policy_text::read(alloc, policy_of(alloc, RULES)?.as_bytes())?;
     let pieces = [MAGIC, SWITCH_UP, FEATURES, ALICE_UP, BOB_UP, WEB_PACKET];
-    let bytes = bytes_of(alloc, &pieces)?;
+    let recording = bytes(alloc, &pieces)?;
     let mut out = MemorySink::new(alloc);
-    let records = items(alloc, &bytes, policy.slices().len() as u8)?;
+    let records = items(alloc, &recording, policy.slices().len() as u8)?;
     assert_eq!(rt; records.len(), 5);
-    assert!(rt; report(alloc, &policy, &bytes, &mut out).is_ok());
+    assert!(rt; report(alloc, &policy, &recording, &mut out).is_ok());
     assert!(rt; out.as_slice().starts_with(OPENING.as_bytes()));
     assert!(rt; out.as_slice().ends_with(WEB_REPORT.as_bytes()));
     assert_eq!(rt; out.as_slice().len(), OPENING.len() + WEB_REPORT.len());

@@ -8,11 +8,12 @@ use crate::protocol::{ADD, CHECK_OVERLAP, DELETE, EMERG, NO_BUFFER, SEND_FLOW_RE
 use crate::{FlowMod, FlowRemoved, PacketIn, PacketOut};
 use of10_action::{Action, Actions, Bytes, DecodeFault, WireFault};
 use of10_ctl::kind::{FLOW_MOD, FLOW_REMOVED, PACKET_IN, PACKET_OUT};
-use of10_ctl::{Frame, is_frame, message};
+use of10_ctl::{Frame, message};
 use of10_match::Match;
 use of10_model::Pattern;
 use std::alloc::{AllocError, Global};
 use std::test::Fail;
+use wire_samples::{bytes, frame_of};
 
 /// To TCP port 80, as the 40 bytes of a match.
 const M80: &str =
@@ -26,40 +27,13 @@ const MALL: &str =
 const T80: &str =
     "000000000002 000000000001 0800 45 00 0028 0000 0000 40 06 0000 0a000001 0a000002 0400 0050 00000000 00000000 5002 0000 0000 0000";
 
-/// The bytes that the parts have in hexadecimal digits; blanks are disregarded.
-fn bytes(alloc: Global, parts: &[&str]) -> Result<Vec<u8>, AllocError> {
-    let mut out = Vec::new(alloc);
-    let mut high = None;
-    for part in parts {
-        for c in part.chars() {
-            let Some(digit) = c.to_digit(16) else {
-                continue;
-            };
-            let digit = digit as u8 & 0x0f;
-            high = match high {
-                None => Some(digit),
-                Some(first) => {
-                    out.push(first << 4 | digit)?;
-                    None
-                }
-            };
-        }
-    }
-    Ok(out)
-}
-
 fn frame(alloc: Global, kind: u8, bytes: &[u8]) -> Result<Option<Frame>, AllocError>
     ensures { IfOk result (λ found. IfSome found (λ f. IsOf kind f)) }
 {
-    if !is_frame(bytes) {
-        return Ok(None);
-    }
-    let frame = Frame::of(Vec::from_slice(alloc, bytes)?);
-    if frame.is_of(kind) {
-        Ok(Some(frame))
-    } else {
-        Ok(None)
-    }
+    Ok(match frame_of(alloc, bytes)? {
+        Some(frame) if frame.is_of(kind) => Some(frame),
+        _ => None,
+    })
 }
 
 // What no decoder of this crate answers: the bytes are no message of that type.

@@ -2,9 +2,9 @@ use super::*;
 use crate::protocol::NO_FLOOD;
 use of10_action::{DecodeFault, WireFault};
 use of10_ctl::kind::{FEATURES_REPLY, PORT_STATUS};
-use of10_ctl::{Frame, is_frame};
 use std::alloc::{AllocError, Global};
 use std::test::Fail;
+use wire_samples::frame_of;
 
 /// The features of the datapath 0xa1, before its ports; the length is that of four ports.
 const FRONT: &[u8] = b"\x01\x06\x00\xe0\xff\x00\x00\x01\x00\x00\x00\x00\x00\x00\x00\xa1\
@@ -19,15 +19,6 @@ fn port_of(number: u16) -> [u8; 48] {
     raw[0] = (number >> 8) as u8;
     raw[1] = (number & 0xff) as u8;
     raw
-}
-
-fn frame_of(alloc: Global, bytes: &[u8]) -> Result<Option<Frame>, AllocError> {
-    let bytes = Vec::from_slice(alloc, bytes)?;
-    Ok(if is_frame(&bytes) {
-        Some(Frame::of(bytes))
-    } else {
-        None
-    })
 }
 
 /// What the bytes are read as, where they are a FEATURES_REPLY.

@@ -2,11 +2,11 @@ use super::*;
 use crate::protocol::{AGGREGATE, DESC, FLOW, PORT, QUEUE, TABLE};
 use of10_action::WireFault;
 use of10_ctl::kind::{STATS_REPLY, STATS_REQUEST};
-use of10_ctl::{Frame, is_frame};
 use of10_match::Match;
 use of10_model::Pattern;
 use std::alloc::{AllocError, Global};
 use std::test::Fail;
+use wire_samples::frame_of;
 
 /// IPv4, TCP, to port 80.
 const WEB: Pattern = Pattern {
@@ -19,15 +19,6 @@ const WEB: Pattern = Pattern {
 /// The bytes of that match.
 const WEB_BYTES: [u8; 40] = *b"\x00\x38\x20\x4f\0\0\0\0\0\0\0\0\0\0\0\0\0\0\0\0\0\0\
 \x08\x00\x00\x06\0\0\0\0\0\0\0\0\0\0\0\0\x00\x50";
-
-fn frame_of(alloc: Global, bytes: &[u8]) -> Result<Option<Frame>, AllocError> {
-    let bytes = Vec::from_slice(alloc, bytes)?;
-    Ok(if is_frame(&bytes) {
-        Some(Frame::of(bytes))
-    } else {
-        None
-    })
-}
 
 /// What the bytes are read as, where they are a STATS_REQUEST.
 fn request_in(

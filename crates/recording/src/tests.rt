@@ -1,6 +1,7 @@
 use super::*;
 use std::alloc::Global;
 use std::test::Fail;
+use wire_samples::bytes;
 
 /// The bytes that begin a recording.
 const BEGIN: &str = "4656524543000001";
@@ -22,15 +23,6 @@ const SLICE_GONE: &str = "05000100000000000000000000000000";
 
 /// Three bytes of the slice in slot 1 for switch 0.
 const SLICE_TALKS: &str = "04000100000000030000000000000000616263";
-
-/// The bytes of the pieces, one after the other.
-fn bytes_of(alloc: Global, pieces: &[&str]) -> Result<Vec<u8>, Fail> {
-    let mut bytes = Vec::new(alloc);
-    for piece in pieces {
-        bytes.extend_from_slice(&hex::decode(alloc, *piece)?)?;
-    }
-    Ok(bytes)
-}
 
 #[test]
 fn faults_come_in_their_order_and_at_their_place(rt: HostRuntime) -> Result<(), Fail> {
@@ -203,7 +195,7 @@ fn faults_come_in_their_order_and_at_their_place(rt: HostRuntime) -> Result<(), 
         ),
     ];
     for (slices, pieces, fault) in &cases {
-        let file = bytes_of(rt.alloc(), pieces)?;
+        let file = bytes(rt.alloc(), pieces)?;
         assert_eq!(rt; items(rt.alloc(), &file, *slices).err(), Some(*fault));
     }
     Ok(())
@@ -296,7 +288,7 @@ fn records_that_fit_are_read(rt: HostRuntime) -> Result<(), Fail> {
         ),
     ];
     for (slices, pieces, wanted) in &cases {
-        let file = bytes_of(rt.alloc(), pieces)?;
+        let file = bytes(rt.alloc(), pieces)?;
         match items(rt.alloc(), &file, *slices) {
             Ok(found) => assert_eq!(rt; found.as_slice(), *wanted),
             Err(fault) => assert_eq!(rt; Some(fault), None),
@@ -321,7 +313,7 @@ fn records_are_appended(rt: HostRuntime) -> Result<(), Fail> {
         SLICE_TALKS,
         "010f1f0000000001010203040506070809",
     ];
-    assert_eq!(rt; out.as_slice(), bytes_of(alloc, &wanted)?.as_slice());
+    assert_eq!(rt; out.as_slice(), bytes(alloc, &wanted)?.as_slice());
     Ok(())
 }
 

@@ -5,11 +5,10 @@
 #![tactic(auto)]
 
 mod matches;
-mod messages;
 mod policies;
 mod switches;
 
 pub use matches::{ANY, Packets, match_of, packet, tcp};
-pub use messages::{bytes, frame};
 pub use policies::{plain_rules, policy, rule, slice, switch_policy, two_slices};
 pub use switches::{features, port, three_ports};
+pub use wire_samples::{bytes, frame};

@@ -3,12 +3,11 @@
 
 ghost use Rattle.of10_ctl.specs.Kinds.{IsOf};
 
-use super::bytes_of;
 use of10_ctl::kind::{
     ERROR, FEATURES_REPLY, FLOW_MOD, FLOW_REMOVED, PACKET_IN, PACKET_OUT, PORT_STATUS, STATS_REPLY,
     STATS_REQUEST,
 };
-use of10_ctl::{Frame, error_frame, is_frame, message};
+use of10_ctl::{Frame, error_frame, message};
 use of10_flow::{FlowMod, FlowRemoved, PacketIn, PacketOut};
 use of10_model::wire::u16_at;
 use of10_port::{Features, PortStatus};
@@ -16,6 +15,7 @@ use of10_stats::protocol::FLOW;
 use of10_stats::{StatsRequest, entry_size, flow_entry, part};
 use std::alloc::Global;
 use std::test::Fail;
+use wire_samples::{bytes, frame_of};
 
 /// What a message says, in words, and the message that says it.
 #[derive(Drop)]
@@ -379,9 +379,10 @@ const MESSAGES: [(&[&str], &[&str]); 22] = [
 fn a_message_of_each_type_is_read_and_written(rt: HostRuntime) -> Result<(), Fail> {
     let alloc = rt.alloc();
     for (kind, (spelled, wanted)) in MESSAGES.iter().enumerate() {
-        let bytes = bytes_of(alloc, spelled)?;
-        assert!(rt; is_frame(&bytes), "{kind} is a frame");
-        let frame = Frame::of(bytes);
+        let Some(frame) = frame_of(alloc, &bytes(alloc, spelled)?)? else {
+            assert!(rt; false, "{kind} is a frame");
+            return Ok(());
+        };
         assert_eq!(rt; usize::from(frame.head().kind), kind);
         let Some(said) = read(alloc, &frame)? else {
             assert!(rt; false, "{kind} is well formed");

@@ -1,8 +1,9 @@
 //! Recordings made of records that stand in a test by what they tell.
 
-use super::{MAGIC, bytes_of};
+use super::MAGIC;
 use std::alloc::Global;
 use std::test::Fail;
+use wire_samples::bytes;
 
 pub(super) const ALICE: u8 = 0;
 
@@ -91,7 +92,7 @@ impl Maker {
 
     fn put_opened(&mut self, alloc: Global, cut: Cut) -> Result<(), Fail> {
         self.put_record(0, 0, &[])?;
-        self.put_bytes(cut, 1, 0, &bytes_of(alloc, FEATURES)?)?;
+        self.put_bytes(cut, 1, 0, &bytes(alloc, FEATURES)?)?;
         self.put_record(3, ALICE, &[])?;
         self.put_record(3, BOB, &[])
     }
@@ -100,10 +101,10 @@ impl Maker {
         match step {
             Step::At(switch) => self.switch = switch,
             Step::SwitchUp => self.put_record(0, 0, &[])?,
-            Step::Switch(pieces) => self.put_bytes(cut, 1, 0, &bytes_of(alloc, pieces)?)?,
+            Step::Switch(pieces) => self.put_bytes(cut, 1, 0, &bytes(alloc, pieces)?)?,
             Step::SwitchDown => self.put_record(2, 0, &[])?,
             Step::SliceUp(slot) => self.put_record(3, slot, &[])?,
-            Step::Slice(slot, hex) => self.put_bytes(cut, 4, slot, &bytes_of(alloc, &[hex])?)?,
+            Step::Slice(slot, hex) => self.put_bytes(cut, 4, slot, &bytes(alloc, &[hex])?)?,
             Step::SliceDown(slot) => self.put_record(5, slot, &[])?,
             Step::Opened => self.put_opened(alloc, cut)?,
         }
@@ -114,7 +115,7 @@ impl Maker {
 /// The recording of these steps. It begins at switch 0.
 pub(super) fn recording_of(alloc: Global, cut: Cut, steps: &[Step]) -> Result<Vec<u8>, Fail> {
     let mut maker = Maker {
-        bytes: bytes_of(alloc, &[MAGIC])?,
+        bytes: bytes(alloc, &[MAGIC])?,
         switch: 0,
     };
     for step in steps {

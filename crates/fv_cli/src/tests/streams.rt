@@ -2,13 +2,14 @@
 
 use super::records::{Cut, Step, TO_WEB, recording_of};
 use super::{
-    ALICE_UP, BOB_UP, FEATURES, MAGIC, OPENING, RULES, SWITCH_UP, WEB_PACKET, WEB_REPORT, bytes_of,
+    ALICE_UP, BOB_UP, FEATURES, MAGIC, OPENING, RULES, SWITCH_UP, WEB_PACKET, WEB_REPORT,
     expect_answer, play,
 };
 use crate::base::MemorySink;
 use of10_ctl::{Framer, Next};
 use std::alloc::Global;
 use std::test::Fail;
+use wire_samples::bytes;
 
 /// Bytes of a record before what it carries.
 const RECORD_HEAD: usize = 16;
@@ -22,7 +23,7 @@ fn put_frames(
     record: &str,
 ) -> Result<u32, Fail> {
     let mut frames = 0u32;
-    for byte in bytes_of(alloc, &[record])?.iter().skip(RECORD_HEAD) {
+    for byte in bytes(alloc, &[record])?.iter().skip(RECORD_HEAD) {
         framer.feed(&[*byte])?;
         if let Next::Frame(frame) = framer.next()? {
             let frame = frame.as_slice();
@@ -40,12 +41,12 @@ fn put_frames(
 fn a_stream_cut_into_bytes_makes_the_same_report(rt: HostRuntime) -> Result<(), Fail> {
     let alloc = rt.alloc();
     let mut framer = Framer::new(alloc);
-    let mut recording = bytes_of(alloc, &[MAGIC, SWITCH_UP])?;
+    let mut recording = bytes(alloc, &[MAGIC, SWITCH_UP])?;
     assert_eq!(rt;
         put_frames(alloc, &mut framer, &mut recording, FEATURES)?,
         1
     );
-    recording.extend_from_slice(&bytes_of(alloc, &[ALICE_UP, BOB_UP])?)?;
+    recording.extend_from_slice(&bytes(alloc, &[ALICE_UP, BOB_UP])?)?;
     assert_eq!(rt;
         put_frames(alloc, &mut framer, &mut recording, WEB_PACKET)?,
         1
