@@ -1,9 +1,11 @@
 //! Matches and packets.
 
-ghost use Rattle.std.specs.Prelude.{◌≡◌};
+ghost use Rattle.std.specs.Prelude.{◌≡◌, ◌<◌, ◌*◌, ◌/◌, ◌^◌, None, Some};
+ghost use Rattle.of10_model.specs.Normal.{IsPrefix};
+ghost use Rattle.samples.specs.Makers.{kind_of, packets_of, pattern_of, prefix_of, protocol_of};
 
 use of10_match::{Header12, Match};
-use of10_model::wire::{set_u16, set_u32};
+use of10_model::{Pattern, Prefix};
 
 /// Which packets a match has.
 #[derive(Clone, Copy, Debug, PartialEq, Eq)]
@@ -24,31 +26,78 @@ pub const ANY: Packets = Packets {
     tcp: None,
 };
 
+fn without_low_bits(net: u32, count: u8) -> u32
+    requires { count < 32 }
+    ensures { result ≡ net / 2 ^ count * 2 ^ count }
+{
+    net >> count << count
+}
+
+fn prefix(net: u32, bits: u8) -> Option<Prefix>
+    ensures value { result ≡ prefix_of net bits }
+    ensures normal { IsPrefix result }
+{
+    if bits == 0 {
+        return None;
+    }
+    let count = 32_u8.saturating_sub(bits);
+    Some(Prefix {
+        bits: 32 - count,
+        value: without_low_bits(net, count),
+    })
+}
+
+fn kind(net: Option<Prefix>, tcp: Option<u16>) -> Option<u16>
+    ensures { result ≡ kind_of net tcp }
+{
+    if net.is_some() || tcp.is_some() {
+        Some(0x0800)
+    } else {
+        None
+    }
+}
+
+fn protocol(tcp: Option<u16>) -> Option<u8>
+    ensures { result ≡ protocol_of tcp }
+{
+    if tcp.is_some() { Some(6) } else { None }
+}
+
+fn pattern(in_port: Option<u16>, net: Option<Prefix>, tcp: Option<u16>) -> Match
+    requires { IsPrefix net }
+    ensures { result ≡ pattern_of in_port net tcp }
+{
+    Match::of(Pattern {
+        in_port,
+        dl_src: None,
+        dl_dst: None,
+        dl_vlan: None,
+        dl_vlan_pcp: None,
+        dl_type: kind(net, tcp),
+        nw_tos: None,
+        nw_proto: protocol(tcp),
+        nw_src: None,
+        nw_dst: net,
+        tp_src: None,
+        tp_dst: tcp,
+    })
+}
+
 /// The match of these packets.
-pub fn match_of(packets: &Packets) -> Match {
-    let ignored = u32::from(32_u8.saturating_sub(packets.bits));
-    let mut word = 0x0030_3fff | (ignored << 14);
-    let mut bytes = [0; 40];
-    if let Some(port) = packets.in_port {
-        word ^= 1;
-        set_u16(&mut bytes, 4, port);
-    }
-    if packets.bits > 0 || packets.tcp.is_some() {
-        word ^= 0x10;
-        set_u16(&mut bytes, 22, 0x0800);
-    }
-    if let Some(port) = packets.tcp {
-        word ^= 0xa0;
-        bytes[25] = 6;
-        set_u16(&mut bytes, 38, port);
-    }
-    set_u32(&mut bytes, 0, word);
-    set_u32(&mut bytes, 32, packets.net);
-    Match::decode(&bytes)
+pub fn match_of(packets: &Packets) -> Match
+    ensures { result ≡ packets_of packets.now }
+{
+    pattern(
+        packets.in_port,
+        prefix(packets.net, packets.bits),
+        packets.tcp,
+    )
 }
 
 /// The match of the TCP packets for a port, all or those that came in by one port.
-pub fn tcp(in_port: Option<u16>, port: u16) -> Match {
+pub fn tcp(in_port: Option<u16>, port: u16) -> Match
+    ensures { result ≡ pattern_of in_port None (Some port) }
+{
     match_of(&Packets {
         in_port,
         tcp: Some(port),

@@ -1,6 +1,10 @@
 //! Slices, rules and policies.
 
-ghost use Rattle.std.specs.Prelude.{◌≡◌, All, IfOk, IsTrue, None, Some, length};
+ghost use Rattle.std.specs.Prelude.{◌≡◌, ◌⊎◌, All, IfErr, IfOk, IsTrue, None, Some, length};
+ghost use Rattle.flowspace.specs.Loading.{Gives, fault_of, load_of};
+ghost use Rattle.flowspace.specs.Order.{rules_on};
+ghost use Rattle.flowspace.specs.declared.fault.PolicyFault.TheVariants.{Memory};
+ghost use Rattle.samples.specs.Makers.{alice_and_bob, slice_of};
 ghost use Rattle.flowspace.specs.Slices.{IsPlainSlice};
 ghost use Rattle.flowspace.specs.Rules.{IsPlainRule};
 
@@ -27,7 +31,7 @@ pub fn rule(priority: u32, pattern: &Match, writer: u8, readers: u32) -> Rule
 /// A slice of this name.
 pub fn slice(alloc: Global, name: &str) -> Result<Slice, AllocError>
     ensures plain { IfOk result IsPlainSlice }
-    ensures name { IfOk result (λ s. s.name ≡ name.now) }
+    ensures value { IfOk result (λ s. s ≡ slice_of name.now) }
 {
     let slice = Slice {
         name: Text::of(alloc, name)?,
@@ -46,7 +50,7 @@ pub fn slice(alloc: Global, name: &str) -> Result<Slice, AllocError>
 /// The slices alice, at slot 0, and bob.
 pub fn two_slices(alloc: Global) -> Result<Vec<Slice>, AllocError>
     ensures plain { IfOk result (λ v. All IsPlainSlice v.items) }
-    ensures count { IfOk result (λ v. length v.items ≡ 2) }
+    ensures value { IfOk result (λ v. v.items ≡ alice_and_bob) }
 {
     let mut slices = Vec::new(alloc);
     slices.push(slice(alloc, "alice")?)?;
@@ -74,6 +78,7 @@ pub fn plain_rules(alloc: Global, rules: &[Rule]) -> Result<Vec<Rule>, AllocErro
 
 /// What loading these rules for the two slices answers.
 pub fn policy(alloc: Global, rules: &[Rule]) -> Result<Policy, PolicyFault>
+    ensures value { Gives result (load_of alice_and_bob rules.now) }
     ensures slices { IfOk result (λ p. length p.slices ≡ 2) }
     ensures rules { IfOk result (λ p. p.rules ≡ rules.now) }
 {
@@ -85,7 +90,9 @@ pub fn policy(alloc: Global, rules: &[Rule]) -> Result<Policy, PolicyFault>
 
 /// What loading these rules for the two slices answers, for a switch.
 pub fn switch_policy(alloc: Global, rules: &[Rule]) -> Result<SwitchPolicy, PolicyFault>
-    ensures { IfOk result (λ p. length p.slices ≡ 2) }
+    ensures value { IfOk result (λ p. (fault_of alice_and_bob rules.now ≡ None) × (p.slices ≡ alice_and_bob) × (p.rules ≡ rules_on 0xa1 rules.now)) }
+    ensures fault { IfErr result (λ e. (e ≡ Memory) ⊎ (fault_of alice_and_bob rules.now ≡ Some e)) }
+    ensures slices { IfOk result (λ p. length p.slices ≡ 2) }
 {
     let policy = policy(alloc, rules)?;
     policy

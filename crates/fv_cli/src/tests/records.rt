@@ -62,6 +62,17 @@ pub(super) const TO_WEB: &str =
     "010a004800000000ffffffff003600010000000000000002000000000001080045000028000000004006\
 00000a0000010a0000020400005000000000000000005002000000000000";
 
+/// Appends a record of this kind, switch and slot.
+pub(super) fn put_record(out: &mut Vec<u8>, about: [u8; 3], carried: &[u8]) -> Result<(), Fail> {
+    let size = carried.len().min(u32::MAX as usize) as u32;
+    out.extend_from_slice(&about)?;
+    out.push(0)?;
+    out.extend_from_slice(&size.to_be_bytes())?;
+    out.extend_from_slice(&[0; 8])?;
+    out.extend_from_slice(carried)?;
+    Ok(())
+}
+
 /// A recording that is made, and the switch that is spoken of.
 #[derive(Drop)]
 struct Maker {
@@ -71,12 +82,7 @@ struct Maker {
 
 impl Maker {
     fn put_record(&mut self, kind: u8, slot: u8, carried: &[u8]) -> Result<(), Fail> {
-        let size = carried.len().min(u32::MAX as usize) as u32;
-        self.bytes.extend_from_slice(&[kind, self.switch, slot, 0])?;
-        self.bytes.extend_from_slice(&size.to_be_bytes())?;
-        self.bytes.extend_from_slice(&[0; 8])?;
-        self.bytes.extend_from_slice(carried)?;
-        Ok(())
+        put_record(&mut self.bytes, [kind, self.switch, slot], carried)
     }
 
     /// Bytes of a connection, in one record or in many.

@@ -1,6 +1,6 @@
 //! Streams that come byte by byte: through a framer of the test's own, and in records of one byte.
 
-use super::records::{Cut, Step, TO_WEB, recording_of};
+use super::records::{Cut, Step, TO_WEB, put_record, recording_of};
 use super::{
     ALICE_UP, BOB_UP, FEATURES, MAGIC, OPENING, RULES, SWITCH_UP, WEB_PACKET, WEB_REPORT,
     expect_answer, play,
@@ -26,11 +26,7 @@ fn put_frames(
     for byte in bytes(alloc, &[record])?.iter().skip(RECORD_HEAD) {
         framer.feed(&[*byte])?;
         if let Next::Frame(frame) = framer.next()? {
-            let frame = frame.as_slice();
-            out.extend_from_slice(&[1, 0, 0, 0])?;
-            out.extend_from_slice(&(frame.len() as u32).to_be_bytes())?;
-            out.extend_from_slice(&[0; 8])?;
-            out.extend_from_slice(frame)?;
+            put_record(out, [1, 0, 0], frame.as_slice())?;
             frames = frames.saturating_add(1);
         }
     }
