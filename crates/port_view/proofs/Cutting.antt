@@ -1,15 +1,16 @@
 -- Places in ascending lists of ports: what a search finds, and what is written there.
-use Rattle.std.proofs.Common.{◌≡◌, ◌≢◌, ℕ, ◌+◌, ◌<◌, ◌≤◌, List, ◌∷◌, ◌++◌, length, take, drop, get_or, set, refl, sym, ap, ap₂, ◌∙◌, inl, inr, arith}
+use Rattle.std.proofs.Common.{◌≡◌, ◌≢◌, ℕ, ◌+◌, ◌<◌, ◌≤◌, true, false, List, ◌∷◌, ◌++◌, length, take, drop, get_or, set, refl, sym, ap, ap₂, ◌∙◌, inl, inr, arith}
 use Rattle.std.specs.Prelude.{AllPairs, Result, Ok, Err, is_ok}
 use Rattle.std.specs.List.Sorted.{IsSearchInRange, IsBinarySearchResult, IsNonDecreasingBy}
 use Rattle.std.specs.Ordering.{nat_cmp, ordering_index}
 use Rattle.std.proofs.lemmas.Cmp.{ranked}
 use Rattle.std.proofs.lemmas.List.{take-append-drop, take-set, drop-set}
-use Rattle.std.proofs.lemmas.Bool.{cases_lt, eq-eqb, ne_eqb}
+use Rattle.std.proofs.lemmas.Bool.{cases_lt, cases_eq, cond_both, eq-eqb, ne_eqb}
 use Rattle.std.proofs.lemmas.Bool.Decides.{nat_tests}
 use Rattle.of10_port.specs.Ports.{port_number}
 use Rattle.of10_port.specs.declared.status.PortStatus.{PortStatus}
-use Rattle.port_view.specs.KnownPorts.{IsAscending, is_known, with_port, without_port, changed_plainly}
+use Rattle.flowspace.specs.Owners.{is_in_port}
+use Rattle.port_view.specs.KnownPorts.{IsAscending, is_known, with_port, without_port, with_told, changed_plainly}
 use Rattle.port_view.specs.Places.{IsPlace}
 use Rattle.port_view.proofs.Order.{cut, any_here, any_nowhere}
 
@@ -67,3 +68,16 @@ changed_plainly-delete status known is = rw (eq-eqb status.reason 1 is) refl
 pub changed_plainly-other : (status : PortStatus) (known : List (List ℕ)) → status.reason ≢ 1 → changed_plainly status known ≡ with_port status.port known
 unfolding changed_plainly
 changed_plainly-other status known isnt = rw (ne_eqb status.reason 1 isnt) refl
+
+-- what holds whether the port is deleted or told of
+pub by_reason : (P : List (List ℕ) → Type 0) (status : PortStatus) (known : List (List ℕ)) → (status.reason ≡ 1 → P (without_port (port_number status.port) known)) → (status.reason ≢ 1 → P (with_port status.port known))
+    → P (changed_plainly status known)
+by_reason P status known deleted told = elim (cases_eq status.reason 1) [
+  | inl is ↦ rw (changed_plainly-delete status known is) (deleted is)
+  | inr isnt ↦ rw (changed_plainly-other status known isnt) (told isnt)
+]
+
+-- what holds whether a port is passed over or not
+pub by_number : (P : List (List ℕ) → Type 0) (known : List (List ℕ)) (port : List ℕ) → (is_in_port (port_number port) ≡ true → P (with_port port known)) → (is_in_port (port_number port) ≡ false → P known)
+    → P (with_told known port)
+by_number P known port can cannot = cond_both (is_in_port (port_number port)) (with_port port known) known P can cannot

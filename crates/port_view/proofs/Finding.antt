@@ -27,7 +27,7 @@ find-without {X} p q stops (x ∷ xs) = elim (cases_Bool (p x)) [
   ]
 ]
 
-or_none : {X : Type 0} (o : Option X) → option_or o None ≡ o
+pub or_none : {X : Type 0} (o : Option X) → option_or o None ≡ o
 or_none None = refl
 or_none (Some x) = refl
 

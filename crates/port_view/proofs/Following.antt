@@ -8,8 +8,8 @@ use Rattle.of10_port.specs.declared.status.PortStatus.{PortStatus}
 use Rattle.port_view.specs.declared.answer.Kept.TheVariants.{Kept}
 use Rattle.port_view.specs.KnownPorts.{IsAscending, ports_below, ports_above, with_port, without_port, kept_of, changed_plainly, changed}
 use Rattle.port_view.proofs.Order.{AreAbove, Rises, Rises-from_pairs}
-use Rattle.port_view.proofs.Cutting.{changed_plainly-delete, changed_plainly-other}
-use Rattle.port_view.proofs.Knowing.{changed-kept, changed-not_kept, cases_kept}
+use Rattle.port_view.proofs.Cutting.{changed_plainly-delete, changed_plainly-other, by_reason}
+use Rattle.port_view.proofs.Knowing.{changed-kept, by_kept}
 
 -- ---- two tests on one list
 
@@ -71,10 +71,11 @@ module _ (is_own : ℕ → Bool) where
 
   pub own-changed : (status : PortStatus) (known : List (List ℕ)) → kept_of status known ≡ Kept → is_own (port_number status.port) ≡ true
       → own (changed status known) ≡ changed_plainly status (own known)
-  own-changed status known kept is = ap own (changed-kept status known kept) ∙ elim (cases_eq status.reason 1) [
-    | inl deletes ↦ rw (changed_plainly-delete status known deletes, changed_plainly-delete status (own known) deletes) (own-without (port_number status.port) known)
-    | inr tells ↦ rw (changed_plainly-other status known tells, changed_plainly-other status (own known) tells) (own-with status.port known is)
-  ]
+  own-changed status known kept is =
+      ap own (changed-kept status known kept)
+      ∙ by_reason (λ now. own now ≡ changed_plainly status (own known)) status known
+      (λ deletes. own-without (port_number status.port) known ∙ sym (changed_plainly-delete status (own known) deletes))
+      (λ tells. own-with status.port known is ∙ sym (changed_plainly-other status (own known) tells))
 
   passes_by : (number : ℕ) → is_own number ≡ false → (port : List ℕ) → is_own (port_number port) ≡ true → not (port_number port == number) ≡ true
   passes_by number isnt port is =
@@ -95,10 +96,7 @@ module _ (is_own : ℕ → Bool) where
 
   pub own-changed_other : (status : PortStatus) (known : List (List ℕ)) → IsAscending known → is_own (port_number status.port) ≡ false
       → own (changed status known) ≡ own known
-  own-changed_other status known rises isnt = elim (cases_kept (kept_of status known)) [
-    | inl kept ↦ ap own (changed-kept status known kept) ∙ elim (cases_eq status.reason 1) [
-      | inl deletes ↦ rw (changed_plainly-delete status known deletes) (own-without_other (port_number status.port) known isnt)
-      | inr tells ↦ rw (changed_plainly-other status known tells) (own-with_other status.port known rises isnt)
-    ]
-    | inr not_kept ↦ ap own (changed-not_kept status known not_kept)
-  ]
+  own-changed_other status known rises isnt =
+      by_kept (λ now. own now ≡ own known) status known
+      (λ kept. by_reason (λ now. own now ≡ own known) status known (λ deletes. own-without_other (port_number status.port) known isnt) (λ tells. own-with_other status.port known rises isnt))
+      (λ not_kept. refl)

@@ -1,7 +1,7 @@
 -- What holds of the known ports: they ascend, and no more than 1,364 are known.
 use Rattle.std.proofs.Common.{◌≡◌, ◌≢◌, ◌⊎◌, ℕ, ◌+◌, ◌<◌, ◌≤◌, ◌==◌, leb, not, Bool, true, false, List, [], ◌∷◌, length, take, get_or, refl, sym, ap, ◌∙◌, inl, inr, arith}
 use Rattle.std.specs.Prelude.{fold, if◌then◌else◌}
-use Rattle.std.proofs.lemmas.Bool.{cases_Bool, leb-false, and_cases, not-false, cases_eq}
+use Rattle.std.proofs.lemmas.Bool.{leb-false, and_cases, not-false}
 use Rattle.std.proofs.lemmas.List.{length-append}
 use Rattle.std.proofs.lemmas.List.Sums.{fold_more}
 use Rattle.std.proofs.lemmas.List.Filters.{length-filter_both}
@@ -10,11 +10,10 @@ use Rattle.of10_port.specs.declared.features.Features.{Features}
 use Rattle.of10_port.specs.declared.status.PortStatus.{PortStatus}
 use Rattle.port_view.specs.declared.answer.Kept.{Kept as Answer}
 use Rattle.port_view.specs.declared.answer.Kept.TheVariants.{Kept, Ignored, TooManyPorts}
-use Rattle.flowspace.specs.Owners.{is_in_port}
 use Rattle.port_view.specs.KnownPorts.{IsAscending, is_known, is_ignored, is_too_many, with_port, without_port, with_told, first_known, kept_of, changed_plainly, changed, known_of}
 use Rattle.port_view.specs.Places.{PortsStand}
 use Rattle.port_view.proofs.Order.{Rises-from_pairs, pairs_from_Rises, Rises-filter, Rises-put, length-parts, length-parts_known}
-use Rattle.port_view.proofs.Cutting.{changed_plainly-delete, changed_plainly-other}
+use Rattle.port_view.proofs.Cutting.{by_number, by_reason}
 
 -- ---- what becomes of a status
 
@@ -35,6 +34,14 @@ pub cases_kept : (answer : Answer) → (answer ≡ Kept) ⊎ (answer ≢ Kept)
 cases_kept Kept = inl refl
 cases_kept Ignored = inr (λ e. cc)
 cases_kept TooManyPorts = inr (λ e. cc)
+
+-- what holds whether a status is kept or not
+pub by_kept : (P : List (List ℕ) → Type 0) (status : PortStatus) (known : List (List ℕ)) → (kept_of status known ≡ Kept → P (changed_plainly status known)) → (kept_of status known ≢ Kept → P known)
+    → P (changed status known)
+by_kept P status known kept not_kept = elim (cases_kept (kept_of status known)) [
+  | inl is ↦ rw (changed-kept status known is) (kept is)
+  | inr isnt ↦ rw (changed-not_kept status known isnt) (not_kept isnt)
+]
 
 -- a kept status is neither ignored nor one too many
 kept_parts : (ignored too_many : Bool) → (if ignored then Ignored else if too_many then TooManyPorts else Kept) ≡ Kept → (ignored ≡ false) × (too_many ≡ false)
@@ -58,26 +65,18 @@ IsAscending-without_port number known h =
     pairs_from_Rises port_number _ (Rises-filter port_number (λ port. not (port_number port == number)) known (Rises-from_pairs port_number known h))
 
 pub IsAscending-changed_plainly : (status : PortStatus) (known : List (List ℕ)) → IsAscending known → IsAscending (changed_plainly status known)
-IsAscending-changed_plainly status known h = elim (cases_eq status.reason 1) [
-  | inl is ↦ rw (changed_plainly-delete status known is) (IsAscending-without_port (port_number status.port) known h)
-  | inr isnt ↦ rw (changed_plainly-other status known isnt) (IsAscending-with_port status.port known h)
-]
+IsAscending-changed_plainly status known h =
+    by_reason IsAscending status known (λ is. IsAscending-without_port (port_number status.port) known h) (λ isnt. IsAscending-with_port status.port known h)
 
 pub IsAscending-changed : (status : PortStatus) (known : List (List ℕ)) → IsAscending known → IsAscending (changed status known)
-IsAscending-changed status known h = elim (cases_kept (kept_of status known)) [
-  | inl is ↦ rw (changed-kept status known is) (IsAscending-changed_plainly status known h)
-  | inr isnt ↦ rw (changed-not_kept status known isnt) h
-]
+IsAscending-changed status known h = by_kept IsAscending status known (λ is. IsAscending-changed_plainly status known h) (λ isnt. h)
 
 pub IsAscending-none : IsAscending []
 unfolding IsAscending
 IsAscending-none i j d lt within = absurd (omega arith)
 
 pub IsAscending-with_told : (known : List (List ℕ)) (port : List ℕ) → IsAscending known → IsAscending (with_told known port)
-IsAscending-with_told known port h = elim (cases_Bool (is_in_port (port_number port))) [
-  | inl is ↦ rw is (IsAscending-with_port port known h)
-  | inr isnt ↦ rw isnt h
-]
+IsAscending-with_told known port h = by_number IsAscending known port (λ is. IsAscending-with_port port known h) (λ isnt. h)
 
 IsAscending-fold : (ports known : List (List ℕ)) → IsAscending known → IsAscending (fold with_told known ports)
 IsAscending-fold [] known h = h
@@ -114,26 +113,21 @@ length-without_port number known =
     let parts = length-filter_both (λ port. not (port_number port == number)) (λ port. not (not (port_number port == number))) (λ port. refl) known in omega arith
 
 pub few-changed_plainly : (status : PortStatus) (known : List (List ℕ)) → is_too_many status known ≡ false → length known ≤ 1364 → length (changed_plainly status known) ≤ 1364
-few-changed_plainly status known fits few = elim (cases_eq status.reason 1) [
-  | inl is ↦ rw (changed_plainly-delete status known is) (let less = length-without_port (port_number status.port) known in omega arith)
-  | inr isnt ↦ rw (changed_plainly-other status known isnt) (elim (and_cases (not (is_known (port_number status.port) known)) (leb 1364 (length known)) fits) [
-    | inl there ↦ let less = length-with_known status.port known (not-false (is_known (port_number status.port) known) there) in omega arith
-    | inr room ↦ let more = length-with_port status.port known in let below = leb-false 1364 (length known) room in omega arith
-  ])
-]
+few-changed_plainly status known fits few = by_reason (λ now. length now ≤ 1364) status known
+    (λ is. let less = length-without_port (port_number status.port) known in omega arith)
+    (λ isnt. elim (and_cases (not (is_known (port_number status.port) known)) (leb 1364 (length known)) fits) [
+      | inl there ↦ let less = length-with_known status.port known (not-false (is_known (port_number status.port) known) there) in omega arith
+      | inr room ↦ let more = length-with_port status.port known in let below = leb-false 1364 (length known) room in omega arith
+    ])
 
 pub few-changed : (status : PortStatus) (known : List (List ℕ)) → length known ≤ 1364 → length (changed status known) ≤ 1364
-few-changed status known few = elim (cases_kept (kept_of status known)) [
-  | inl is ↦ rw (changed-kept status known is) (few-changed_plainly status known (kept_of-parts status known is).1 few)
-  | inr isnt ↦ rw (changed-not_kept status known isnt) few
-]
+few-changed status known few = by_kept (λ now. length now ≤ 1364) status known (λ is. few-changed_plainly status known (kept_of-parts status known is).1 few) (λ isnt. few)
 
 length-fold : (ports known : List (List ℕ)) → length (fold with_told known ports) ≤ length known + length ports
 length-fold [] known = omega arith
-length-fold (port ∷ later) known = elim (cases_Bool (is_in_port (port_number port))) [
-  | inl is ↦ rw is (let more = length-with_port port known in let rest = length-fold later (with_port port known) in omega arith)
-  | inr isnt ↦ rw isnt (let rest = length-fold later known in omega arith)
-]
+length-fold (port ∷ later) known = by_number (λ now. length (fold with_told now later) ≤ length known + length (port ∷ later)) known port
+    (λ is. let more = length-with_port port known in let rest = length-fold later (with_port port known) in omega arith)
+    (λ isnt. let rest = length-fold later known in omega arith)
 
 pub length-first_known : (ports : List (List ℕ)) → length (first_known ports) ≤ length ports
 unfolding first_known

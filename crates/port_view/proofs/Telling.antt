@@ -13,9 +13,9 @@ use Rattle.port_view.specs.declared.answer.Kept.TheVariants.{Kept, Ignored, TooM
 use Rattle.flowspace.specs.Owners.{is_in_port}
 use Rattle.port_view.specs.KnownPorts.{is_of_number, port_of, with_port, without_port, with_told, first_known, kept_of, changed_plainly, known_of}
 use Rattle.port_view.specs.Told.{is_kept, kept_statuses, told_first, told_by, told_last}
-use Rattle.port_view.proofs.Cutting.{changed_plainly-delete, changed_plainly-other}
-use Rattle.port_view.proofs.Knowing.{changed-kept, changed-not_kept, cases_kept}
-use Rattle.port_view.proofs.Finding.{find-put_same, find-put_other, find-out_same, find-out_other}
+use Rattle.port_view.proofs.Cutting.{by_number, by_reason}
+use Rattle.port_view.proofs.Knowing.{by_kept}
+use Rattle.port_view.proofs.Finding.{or_none, find-put_same, find-put_other, find-out_same, find-out_other}
 
 -- ---- one port
 
@@ -49,10 +49,8 @@ port_of-told number port known can = elim (cases_eq (port_number port) number) [
   | inl same ↦
       let this : is_in_port (port_number port) ≡ true = ap is_in_port same ∙ can in
       rw (this, eq-eqb (port_number port) number same) (ap (λ (n : ℕ). port_of n (with_port port known)) (sym same) ∙ port_of-with_same port known)
-  | inr apart ↦ rw (ne_eqb (port_number port) number apart) (elim (cases_Bool (is_in_port (port_number port))) [
-    | inl is ↦ rw is (port_of-with_other number port known (λ e. apart (sym e)))
-    | inr isnt ↦ rw isnt refl
-  ])
+  | inr apart ↦ rw (ne_eqb (port_number port) number apart)
+      (by_number (λ now. port_of number now ≡ port_of number known) known port (λ is. port_of-with_other number port known (λ e. apart (sym e))) (λ isnt. refl))
 ]
 
 find_last : (number : ℕ) (port : List ℕ) (later : List (List ℕ))
@@ -79,31 +77,24 @@ port_of-never number (port ∷ later) known cannot none = elim (cases_Bool (is_i
   | inr isnt ↦ rw isnt (port_of-never number later known cannot none)
 ]
 
-or_nothing : (o : Option (List ℕ)) → option_or o None ≡ o
-or_nothing None = refl
-or_nothing (Some port) = refl
-
 port_of-first : (number : ℕ) (ports : List (List ℕ)) → port_of number (first_known ports) ≡ told_first number ports
 unfolding first_known
 port_of-first number ports = elim (cases_Bool (is_in_port number)) [
-  | inl can ↦ rw can (port_of-fold number ports [] can ∙ or_nothing (find (is_of_number number) (reverse ports)))
+  | inl can ↦ rw can (port_of-fold number ports [] can ∙ or_none (find (is_of_number number) (reverse ports)))
   | inr cannot ↦ rw cannot (port_of-never number ports [] cannot refl)
 ]
 
 -- ---- the statuses
 
 port_of-changed_same : (status : PortStatus) (known : List (List ℕ)) → port_of (port_number status.port) (changed_plainly status known) ≡ told_by status
-port_of-changed_same status known = elim (cases_eq status.reason 1) [
-  | inl is ↦ rw (changed_plainly-delete status known is, eq-eqb status.reason 1 is) (port_of-without_same (port_number status.port) known)
-  | inr isnt ↦ rw (changed_plainly-other status known isnt, ne_eqb status.reason 1 isnt) (port_of-with_same status.port known)
-]
+port_of-changed_same status known = by_reason (λ now. port_of (port_number status.port) now ≡ told_by status) status known
+    (λ is. rw (eq-eqb status.reason 1 is) (port_of-without_same (port_number status.port) known))
+    (λ isnt. rw (ne_eqb status.reason 1 isnt) (port_of-with_same status.port known))
 
 port_of-changed_other : (number : ℕ) (status : PortStatus) (known : List (List ℕ)) → number ≢ port_number status.port
     → port_of number (changed_plainly status known) ≡ port_of number known
-port_of-changed_other number status known apart = elim (cases_eq status.reason 1) [
-  | inl is ↦ rw (changed_plainly-delete status known is) (port_of-without_other number (port_number status.port) known apart)
-  | inr isnt ↦ rw (changed_plainly-other status known isnt) (port_of-with_other number status.port known apart)
-]
+port_of-changed_other number status known apart = by_reason (λ now. port_of number now ≡ port_of number known) status known
+    (λ is. port_of-without_other number (port_number status.port) known apart) (λ isnt. port_of-with_other number status.port known apart)
 
 kept_statuses-kept : (features : Features) (status : PortStatus) (earlier : List PortStatus) → kept_of status (known_of features earlier) ≡ Kept
     → kept_statuses features (status ∷ earlier) ≡ status ∷ kept_statuses features earlier
@@ -151,18 +142,15 @@ pub port_of-known_of : (features : Features) (statuses : List PortStatus) (numbe
 unfolding known_of
 port_of-known_of features [] number = port_of-first number features.ports ∙ sym (told_last-first number features)
 port_of-known_of features (status ∷ earlier) number =
-    elim (cases_kept (kept_of status (known_of features earlier))) [
-      | inl is ↦ rw (changed-kept status (known_of features earlier) is) (elim (cases_eq (port_number status.port) number) [
-        | inl same ↦
-            ap (λ (n : ℕ). port_of n (changed_plainly status (known_of features earlier))) (sym same)
-            ∙ port_of-changed_same status (known_of features earlier)
-            ∙ sym (told_last-same number features status earlier is same)
-        | inr apart ↦
-            port_of-changed_other number status (known_of features earlier) (λ e. apart (sym e))
-            ∙ port_of-known_of features earlier number
-            ∙ sym (told_last-other number features status earlier is apart)
-      ])
-      | inr isnt ↦
-          rw (changed-not_kept status (known_of features earlier) isnt)
-          (port_of-known_of features earlier number ∙ sym (told_last-not_kept number features status earlier isnt))
-    ]
+    by_kept (λ now. port_of number now ≡ told_last number features (status ∷ earlier)) status (known_of features earlier)
+    (λ is. elim (cases_eq (port_number status.port) number) [
+      | inl same ↦
+          ap (λ (n : ℕ). port_of n (changed_plainly status (known_of features earlier))) (sym same)
+          ∙ port_of-changed_same status (known_of features earlier)
+          ∙ sym (told_last-same number features status earlier is same)
+      | inr apart ↦
+          port_of-changed_other number status (known_of features earlier) (λ e. apart (sym e))
+          ∙ port_of-known_of features earlier number
+          ∙ sym (told_last-other number features status earlier is apart)
+    ])
+    (λ isnt. port_of-known_of features earlier number ∙ sym (told_last-not_kept number features status earlier isnt))
