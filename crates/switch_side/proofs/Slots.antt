@@ -1,5 +1,5 @@
 -- What one slice is sent for a message of the switch, by whether the slice is up.
-use Rattle.std.proofs.Common.{◌≡◌, ℕ, ◌==◌, ◌&&◌, not, Bool, true, false, if◌then◌else◌, List, [], ◌∷◌, ◌++◌, map, refl, ap, sym, ◌∙◌, Option, Some, None, is_none}
+use Rattle.std.proofs.Common.{◌≡◌, ℕ, ◌==◌, ◌&&◌, Bool, true, false, if◌then◌else◌, List, [], ◌∷◌, ◌++◌, map, refl, ap, sym, ◌∙◌, Option, Some, None, is_none}
 use Rattle.of10_model.specs.Normal.{is_value, bit}
 use Rattle.of10_ctl.specs.declared.kind.TheConstants.{PACKET_IN, PORT_STATUS}
 use Rattle.of10_ctl.specs.Frames.{is_bad}
@@ -22,6 +22,7 @@ use Rattle.of10_ctl.specs.Kinds.{is_of}
 use Rattle.desk_words.specs.Openings.{well_formed, status_told, rules_of, Switch}
 use Rattle.desk_words.specs.Histories.{is_slot, settings_at, Side, handed, header_in, shares_of, is_kept, packet_items, status_items, message_items, phase_items}
 use Rattle.desk_words.specs.Sent.{sent_with}
+use Rattle.desk_words.proofs.Seen.{no_kind}
 use Rattle.switch_side.specs.Dispatches.{kept_beside, status_kept, told_at}
 use Rattle.switch_side.specs.Carrying.{unnumbered, once, is_plain, packet_for, status_for}
 
@@ -103,18 +104,13 @@ by_kind s rules known slot view false found None own = refl
 by_kind s rules known slot view false found (Some status) own = by_kept s rules slot view status (is_kept status known) (own (port_number status.port))
 
 -- the end shows nothing that is answered
-end_sent : (s : Settings) (view : List Item) (up : Bool) → is_up view ≡ up → sent_for s view (End ∷ []) ≡ []
+pub end_sent : (s : Settings) (view : List Item) (up : Bool) → is_up view ≡ up → sent_for s view (End ∷ []) ≡ []
 end_sent s view true is = rw is refl
 end_sent s view false is = rw is refl
 
-and_not : (a b bad : Bool) → bad ≡ true → (a && b && not bad) ≡ false
-and_not true true bad is = rw is refl
-and_not true false bad is = refl
-and_not false b bad is = refl
-
 -- a message of a bad length is of no type
 pub bad_is_none : (kind : ℕ) (message : List ℕ) → is_bad message ≡ true → is_of kind message ≡ false
-bad_is_none kind message bad = and_not (version_of message == 1) (is_kind kind message) (is_bad message) bad
+bad_is_none kind message bad = no_kind (version_of message == 1) (is_kind kind message) (is_bad message) bad
 
 kept_if : (known : List (List ℕ)) (is_status : Bool) (told : Option PortStatus) → is_status ≡ false → kept_beside known (if is_status then told else None) ≡ None
 kept_if known is_status told none = rw none refl

@@ -1,5 +1,6 @@
 -- Nothing that a message of the switch shows changes what a slice's state keeps.
-use Rattle.std.proofs.Common.{ℕ, ◌==◌, ◌&&◌, Bool, true, false, if◌then◌else◌, List, [], ◌∷◌, map, subst, sym, Option, Some, None, is_none}
+use Rattle.std.proofs.Common.{ℕ, ◌==◌, ◌&&◌, Bool, if◌then◌else◌, List, [], ◌∷◌, map, ◌≡◌, refl, subst, sym, ◌∙◌, Option, Some, None, is_none}
+use Rattle.std.proofs.lemmas.Bool.{cond_both}
 use Rattle.of10_ctl.specs.declared.kind.TheConstants.{PACKET_IN}
 use Rattle.of10_ctl.specs.Frames.{is_bad}
 use Rattle.of10_flow.specs.declared.packet_in.PacketIn.{PacketIn}
@@ -10,10 +11,11 @@ use Rattle.frame_header.specs.Probes.{probe_slot_of}
 use Rattle.flowspace.specs.declared.rules.Rule.{Rule}
 use Rattle.flowspace.specs.Policies.{PolicyView}
 use Rattle.flow_book.specs.declared.state.SliceState.{SliceState}
-use Rattle.slice_words.specs.Items.{Settings, is_own_port, Share, Item, Sight, Status, End, is_up}
+use Rattle.slice_words.specs.Items.{Settings, is_own_port, Share, Item, Sight, Status, End, is_up, miss_send_len, latest}
 use Rattle.slice_words.specs.Answers.{no_buffer}
 use Rattle.slice_words.specs.Alone.{with_items}
-use Rattle.slice_words.specs.Standing.{SliceStands}
+use Rattle.slice_words.specs.Calls.{request_calls, collection_calls, questions, book_calls}
+use Rattle.slice_words.specs.Standing.{SliceStands, past_of}
 use Rattle.of10_ctl.specs.Kinds.{is_of}
 use Rattle.desk_words.specs.Openings.{well_formed, status_told, rules_of, Switch}
 use Rattle.desk_words.specs.Histories.{is_slot, settings_at, Side, handed, shares_of, is_kept, packet_items, status_items, message_items, phase_items}
@@ -21,47 +23,34 @@ use Rattle.switch_side.specs.Dispatches.{told_at}
 use Rattle.switch_side.specs.Laws.{StandsStill}
 
 -- what is seen with these items
-abbrev seen : Sight → List Item → Sight
+abbrev pub seen : Sight → List Item → Sight
 seen sight items = record { view = with_items items sight.view; came = sight.came }
 
-end_stands : (s : Settings) (sight : Sight) (state : SliceState) → SliceStands s sight state → SliceStands s (seen sight (End ∷ [])) state
-end_stands s sight state stands = record {
-  up = stands.up;
-  miss_send_len = stands.miss_send_len;
-  moment = stands.moment;
-  requests = stands.requests;
-  collections = stands.collections;
-  bucket = stands.bucket;
-  book = stands.book;
+-- a state belongs to what is seen after as it did before, where these parts of the view are the same
+passing : (s : Settings) (before after : Sight) (state : SliceState) → is_up after.view ≡ is_up before.view → miss_send_len after.view ≡ miss_send_len before.view → latest after.view ≡ latest before.view
+    → request_calls (past_of s after.view) ≡ request_calls (past_of s before.view) → collection_calls (past_of s after.view) ≡ collection_calls (past_of s before.view)
+    → questions (past_of s after.view) ≡ questions (past_of s before.view) → book_calls (past_of s after.view) ≡ book_calls (past_of s before.view)
+    → SliceStands s before state → SliceStands s after state
+passing s before after state up wanted moment requests collections asked books stands = record {
+  up = stands.up ∙ sym up;
+  miss_send_len = stands.miss_send_len ∙ sym wanted;
+  moment = stands.moment ∙ sym moment;
+  requests = rw requests stands.requests;
+  collections = rw collections stands.collections;
+  bucket = rw asked stands.bucket;
+  book = rw books stands.book;
   rate = stands.rate;
   burst = stands.burst;
 }
+
+pub end_stands : (s : Settings) (sight : Sight) (state : SliceState) → SliceStands s sight state → SliceStands s (seen sight (End ∷ [])) state
+end_stands s sight state stands = passing s sight (seen sight (End ∷ [])) state refl refl refl refl refl refl refl stands
 
 status_stands : (s : Settings) (sight : Sight) (state : SliceState) (status : PortStatus) → SliceStands s sight state → SliceStands s (seen sight (Status status ∷ [])) state
-status_stands s sight state status stands = record {
-  up = stands.up;
-  miss_send_len = stands.miss_send_len;
-  moment = stands.moment;
-  requests = stands.requests;
-  collections = stands.collections;
-  bucket = stands.bucket;
-  book = stands.book;
-  rate = stands.rate;
-  burst = stands.burst;
-}
+status_stands s sight state status stands = passing s sight (seen sight (Status status ∷ [])) state refl refl refl refl refl refl refl stands
 
 share_stands : (s : Settings) (sight : Sight) (state : SliceState) (packet : PacketIn) (share : Share) → SliceStands s sight state → SliceStands s (seen sight (handed share packet ∷ [])) state
-share_stands s sight state packet share stands = record {
-  up = stands.up;
-  miss_send_len = stands.miss_send_len;
-  moment = stands.moment;
-  requests = stands.requests;
-  collections = stands.collections;
-  bucket = stands.bucket;
-  book = stands.book;
-  rate = stands.rate;
-  burst = stands.burst;
-}
+share_stands s sight state packet share stands = passing s sight (seen sight (handed share packet ∷ [])) state refl refl refl refl refl refl refl stands
 
 shares_stand : (s : Settings) (sight : Sight) (state : SliceState) (packet : PacketIn) (shares : List Share) → SliceStands s sight state
     → SliceStands s (seen sight (map (λ share. handed share packet) shares)) state
@@ -72,8 +61,7 @@ shares_stand s sight state packet (share ∷ others) stands =
 -- of two lists of items that change nothing either may be shown
 either : (s : Settings) (sight : Sight) (state : SliceState) (b : Bool) (some others : List Item) → SliceStands s (seen sight some) state → SliceStands s (seen sight others) state
     → SliceStands s (seen sight (if b then some else others)) state
-either s sight state true some others one other = one
-either s sight state false some others one other = other
+either s sight state b some others one other = cond_both b some others (λ items. SliceStands s (seen sight items) state) (λ is. one) (λ isnt. other)
 
 packet_stands : (s : Settings) (sight : Sight) (state : SliceState) (rules : List Rule) (slot : ℕ) (found : Option PacketIn) → SliceStands s sight state
     → SliceStands s (seen sight (elim found [ None ↦ [] | Some packet ↦ packet_items rules slot sight.view packet ])) state

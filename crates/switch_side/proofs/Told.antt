@@ -81,10 +81,10 @@ own_ports : (p : PolicyView) (switch : Switch) (slot port : ℕ) (slice : Slice)
     → is_own_port (settings_at p slot switch.features) port ≡ has_port (rules_of p switch.features) slot port
 own_ports p switch slot port slice there = rw (there, settings_at) (has_port-own (rules_of p switch.features) slot port)
 
-has_slice : (slices : List Slice) (slot : ℕ) → slot < length slices → (slice : Slice) × (slice_get slices slot ≡ Some slice)
-has_slice [] slot lt = absurd (omega (arith, lt))
-has_slice (slice ∷ slices) zero lt = (slice, refl)
-has_slice (slice ∷ slices) (suc slot) lt = has_slice slices slot (omega (arith, lt))
+pub has_item : {A : Type 0} (xs : List A) (i : ℕ) → i < length xs → (x : A) × (slice_get xs i ≡ Some x)
+has_item [] i lt = absurd (omega (arith, lt))
+has_item (x ∷ xs) zero lt = (x, refl)
+has_item (x ∷ xs) (suc i) lt = has_item xs i (omega (arith, lt))
 
 one_sent : (p : PolicyView) (switch : Switch) (sides : ℕ → Side) (moment : ℕ) (message : List ℕ) (states : List SliceState)
     → switch.phase ≡ Opened → length states ≡ length p.slices → AllStand p switch sides states
@@ -92,7 +92,7 @@ one_sent : (p : PolicyView) (switch : Switch) (sides : ℕ → Side) (moment : �
     → say (rules_of p switch.features) switch.known message k state.up ≡ sent_with p k switch (sides k) (told_at moment message)
 one_sent p switch sides moment message states opened same stand slot k state at found =
     let lt : k < length p.slices = omega (arith, slice_get_within states slot state found, same, at) in
-    let slice = has_slice p.slices k lt in
+    let slice = has_item p.slices k lt in
     let same_slot : slot ≡ k = omega (arith, at) in
     let here : slice_get states k ≡ Some state = subst (λ x. slice_get states x ≡ Some state) same_slot found in
     ap (say (rules_of p switch.features) switch.known message k) (stand k state here).up
