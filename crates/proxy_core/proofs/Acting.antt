@@ -1,6 +1,7 @@
 -- A desk after an event, by the phase of the switch's connection.
 use Rattle.std.proofs.Common.{◌≡◌, ℕ, Bool, true, false, if◌then◌else◌, List, [], ◌∷◌, refl, ap, ap₂, subst, sym, ◌∙◌, true≢false, Option, Some, None}
 use Rattle.std.specs.Prelude.{ltb}
+use Rattle.std.proofs.lemmas.Option.{none-some}
 use Rattle.of10_port.specs.declared.features.Features.{Features}
 use Rattle.flowspace.specs.Policies.{PolicyView}
 use Rattle.outbox.specs.Queues.{Queue, no_messages, push_all, Kept, QueueStands}
@@ -16,9 +17,9 @@ use Rattle.desk_words.specs.Verdicts.{is_ended}
 use Rattle.desk_words.specs.Operations.{slice_limit, lane_limit, empties}
 use Rattle.proxy_core.specs.declared.parts.Session.{Session}
 use Rattle.proxy_core.specs.declared.parts.Desk.{Desk}
-use Rattle.proxy_core.specs.Slots.{HasOnly, HasMore}
 use Rattle.proxy_core.specs.Desks.{SessionStands, Opens, Body, is_before, Coherent, sides_after, up_after, queues_after, ends_now, lane_after}
-use Rattle.proxy_core.proofs.Lists.{none_some, within, either_none}
+use Rattle.of10_model.proofs.Results.{either_none}
+use Rattle.proxy_core.proofs.Lists.{within}
 use Rattle.proxy_core.proofs.Standing.{passes, ends_slot, session_goes}
 
 -- ---- slots that no slice has, and slots before the opening
@@ -57,8 +58,8 @@ body_after p switch sides qs ql timed old new b same phase lane opens = record {
 
 -- a session of a switch that hasn't ended is one of a switch that has told what it is
 opened_in : (phase : Phase) (told : Option Features) (features : Features) → (is_before phase ≡ true → told ≡ None) → told ≡ Some features → is_ended phase ≡ false → phase ≡ Opened
-opened_in Fresh told features before some on = none_some features (sym (before refl) ∙ some)
-opened_in Begun told features before some on = none_some features (sym (before refl) ∙ some)
+opened_in Fresh told features before some on = absurd (none-some features (sym (before refl) ∙ some))
+opened_in Begun told features before some on = absurd (none-some features (sym (before refl) ∙ some))
 opened_in Opened told features before some on = refl
 opened_in Ended told features before some on = absurd (true≢false on)
 
@@ -76,7 +77,7 @@ none_shown p slot switch side timed Ended shut none = refl
 shut_in : (phase : Phase) (told : Option Features) → (phase ≡ Opened → (features : Features) × (told ≡ Some features)) → told ≡ None → is_open phase ≡ false
 shut_in Fresh told opens none = refl
 shut_in Begun told opens none = refl
-shut_in Opened told opens none = (let some = opens refl in none_some some.0 (sym none ∙ some.1))
+shut_in Opened told opens none = (let some = opens refl in absurd (none-some some.0 (sym none ∙ some.1)))
 shut_in Ended told opens none = refl
 
 -- before the opening there is no session after an event that doesn't open it
@@ -112,22 +113,15 @@ session_ends p switch sides qs timed session s known shown keeps =
 
 -- ---- the lane
 
-pub lane_more : (p : PolicyView) (switch : Switch) (sides : ℕ → Side) (ql : Queue) (timed : Timed) (messages : List (List ℕ)) (old new : Kept)
-    → QueueStands lane_limit ql old → ends_now switch timed ≡ false → lane_in (λ slot. put_with p slot switch (sides slot) timed) switch.phase timed.event ≡ messages → HasMore messages old new
-    → QueueStands lane_limit (lane_after p switch sides ql timed) new
-lane_more p switch sides ql timed messages old new stands on is more =
-    subst (λ (b : Bool). QueueStands lane_limit (push_all lane_limit (if b then no_messages else ql) (lane_in (λ slot. put_with p slot switch (sides slot) timed) switch.phase timed.event)) new) (sym on)
-    (subst (λ (m : List (List ℕ)). QueueStands lane_limit (push_all lane_limit ql m) new) (sym is) (more lane_limit ql stands))
+pub lane_is : (p : PolicyView) (switch : Switch) (sides : ℕ → Side) (ql : Queue) (timed : Timed) (over : Bool) (messages : List (List ℕ)) (lane : Kept)
+    → ends_now switch timed ≡ over → lane_in (λ slot. put_with p slot switch (sides slot) timed) switch.phase timed.event ≡ messages
+    → QueueStands lane_limit (push_all lane_limit (if over then no_messages else ql) messages) lane → QueueStands lane_limit (lane_after p switch sides ql timed) lane
+lane_is p switch sides ql timed over messages lane ends is stands =
+    subst (λ (b : Bool). QueueStands lane_limit (push_all lane_limit (if b then no_messages else ql) (lane_in (λ slot. put_with p slot switch (sides slot) timed) switch.phase timed.event)) lane) (sym ends)
+    (subst (λ (m : List (List ℕ)). QueueStands lane_limit (push_all lane_limit (if over then no_messages else ql) m) lane) (sym is) stands)
 
 pub lane_stays : (p : PolicyView) (switch : Switch) (sides : ℕ → Side) (ql : Queue) (timed : Timed) (lane : Kept)
     → QueueStands lane_limit ql lane → ends_now switch timed ≡ false → lane_in (λ slot. put_with p slot switch (sides slot) timed) switch.phase timed.event ≡ []
     → QueueStands lane_limit (lane_after p switch sides ql timed) lane
 unfolding push_all
-lane_stays p switch sides ql timed lane stands on is = lane_more p switch sides ql timed [] lane lane stands on is (λ limit q h. h)
-
-pub lane_ends : (p : PolicyView) (switch : Switch) (sides : ℕ → Side) (ql : Queue) (timed : Timed) (old new : Kept)
-    → QueueStands lane_limit ql old → ends_now switch timed ≡ true → lane_in (λ slot. put_with p slot switch (sides slot) timed) switch.phase timed.event ≡ [] → HasOnly [] old new
-    → QueueStands lane_limit (lane_after p switch sides ql timed) new
-lane_ends p switch sides ql timed old new stands over is only =
-    subst (λ (b : Bool). QueueStands lane_limit (push_all lane_limit (if b then no_messages else ql) (lane_in (λ slot. put_with p slot switch (sides slot) timed) switch.phase timed.event)) new) (sym over)
-    (subst (λ (m : List (List ℕ)). QueueStands lane_limit (push_all lane_limit no_messages m) new) (sym is) (only lane_limit ql stands))
+lane_stays p switch sides ql timed lane stands on is = lane_is p switch sides ql timed false [] lane on is stands

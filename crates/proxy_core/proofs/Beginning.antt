@@ -1,6 +1,7 @@
 -- The opening: a session as the switch's features begin it.
-use Rattle.std.proofs.Common.{◌≡◌, ℕ, ◌==◌, Bool, true, false, if◌then◌else◌, List, [], ◌∷◌, slice_get, refl, ap, ap₂, subst, sym, ◌∙◌, Option, Some, None}
+use Rattle.std.proofs.Common.{◌≡◌, ℕ, Bool, true, false, if◌then◌else◌, List, [], ◌∷◌, slice_get, refl, ap, ap₂, subst, sym, ◌∙◌, Option, Some, None}
 use Rattle.std.specs.Prelude.{ltb, is_some}
+use Rattle.std.proofs.lemmas.Option.{none-some}
 use Rattle.of10_ctl.specs.declared.kind.TheConstants.{FEATURES_REPLY, ECHO_REQUEST}
 use Rattle.of10_ctl.specs.Frames.{is_bad}
 use Rattle.of10_ctl.specs.Kinds.{is_of}
@@ -13,7 +14,6 @@ use Rattle.flow_book.specs.declared.state.SliceState.{SliceState}
 use Rattle.xid_map.specs.Requests.{RequestsStand}
 use Rattle.flow_book.specs.States.{IsFreshState}
 use Rattle.outbox.specs.Queues.{Queue, no_messages, push_all, Kept, QueueStands}
-use Rattle.slice_words.specs.Messages.{version_of, is_kind}
 use Rattle.slice_words.specs.Items.{Settings, Item, Opened as Told}
 use Rattle.slice_words.specs.Alone.{sent_for}
 use Rattle.slice_words.specs.Standing.{SliceStands}
@@ -28,17 +28,17 @@ use Rattle.switch_side.specs.Dispatches.{told_at}
 use Rattle.proxy_core.specs.declared.parts.Session.{Session}
 use Rattle.proxy_core.specs.Desks.{SlotStands, SessionStands, Opens, Coherent, sides_after, queues_after}
 use Rattle.proxy_core.specs.Opening.{Begins}
-use Rattle.proxy_core.proofs.Lists.{none_some, there, within}
+use Rattle.proxy_core.proofs.Lists.{there, within}
 use Rattle.proxy_core.proofs.Fitting.{settings_known}
-use Rattle.desk_words.proofs.Seen.{no_kind}
+use Rattle.switch_side.proofs.Slots.{bad_is_none}
 
 -- ---- messages of a bad length
 
 pub bad_features : (message : List ℕ) → is_bad message ≡ true → features_told message ≡ None
-bad_features message bad = rw (no_kind (version_of message == 1) (is_kind FEATURES_REPLY message) (is_bad message) bad) refl
+bad_features message bad = rw (bad_is_none FEATURES_REPLY message bad) refl
 
 pub bad_echo : (message : List ℕ) → is_bad message ≡ true → echo_for message ≡ []
-bad_echo message bad = rw (no_kind (version_of message == 1) (is_kind ECHO_REQUEST message) (is_bad message) bad) refl
+bad_echo message bad = rw (bad_is_none ECHO_REQUEST message bad) refl
 
 -- a FEATURES_REPLY with whole ports tells what the switch is
 pub told_whole : (message : List ℕ) → is_of FEATURES_REPLY message ≡ true → has_whole_ports message ≡ true → is_some (features_told message) ≡ true
@@ -46,7 +46,7 @@ unfolding read_features
 told_whole message own whole = rw (own, whole) refl
 
 good_by : (bad : Bool) (message : List ℕ) (features : Features) → is_bad message ≡ bad → features_told message ≡ Some features → bad ≡ false
-good_by true message features is told = none_some features (sym (bad_features message is) ∙ told)
+good_by true message features is told = absurd (none-some features (sym (bad_features message is) ∙ told))
 good_by false message features is told = refl
 
 pub told_good : (message : List ℕ) (features : Features) → features_told message ≡ Some features → is_bad message ≡ false

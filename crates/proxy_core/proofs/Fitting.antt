@@ -1,6 +1,7 @@
 -- What is known of a switch and what slices see fit together after every history.
 use Rattle.std.proofs.Common.{◌≡◌, ℕ, true, false, List, [], ◌∷◌, slice_get, refl, ap, sym, ◌∙◌, true≢false, Option, Some, None}
 use Rattle.std.specs.List.{filter}
+use Rattle.std.proofs.lemmas.List.Elements.{filter_agree}
 use Rattle.of10_port.specs.declared.features.Features.{Features}
 use Rattle.of10_port.specs.Ports.{port_number}
 use Rattle.flowspace.specs.declared.slices.Slice.{Slice}
@@ -19,7 +20,7 @@ use Rattle.desk_words.proofs.Silence.{is_early, untold}
 use Rattle.desk_words.proofs.Seen.{seen}
 use Rattle.switch_side.proofs.OwnPorts.{has_port-own}
 use Rattle.proxy_core.specs.Desks.{is_before, HasSeen, Coherent}
-use Rattle.proxy_core.proofs.Lists.{there, filter_same}
+use Rattle.proxy_core.proofs.Lists.{there}
 
 before_early : (phase : Phase) → is_before phase ≡ true → is_early phase ≡ true
 before_early Fresh is = refl
@@ -44,7 +45,7 @@ settings_known policy slot told slice is =
     ap (λ (o : Option Slice). elim o [ None ↦ record { slot = slot; rate = 0; burst = 0; quota = 0; rules = [] } | Some one ↦ settings_of one slot (rules_of policy told) ]) is
 
 own_same : (rules : List Rule) (slot : ℕ) (known : List (List ℕ)) → ports_of_slice (filter (is_written_by slot) rules) slot known ≡ ports_of_slice rules slot known
-own_same rules slot known = filter_same _ _ known (λ port. has_port-own rules slot (port_number port))
+own_same rules slot known = filter_agree _ _ (λ port. has_port-own rules slot (port_number port)) known
 
 ports_same : (policy : PolicyView) (slot : ℕ) (told : Option Features) (known : List (List ℕ)) → is_slot policy slot ≡ true
     → own_ports (settings_at policy slot told) known ≡ ports_of_slice (rules_of policy told) slot known

@@ -1,9 +1,9 @@
 -- What comes into each queue, and the room for it.
-use Rattle.std.proofs.Common.{◌≡◌, ◌≢◌, ℕ, suc, ◌+◌, ◌<◌, ◌≤◌, ◌==◌, Bool, true, false, if◌then◌else◌, List, [], ◌∷◌, ◌++◌, length, set, slice_get, refl, ap, ap₂, sym, ◌∙◌, subst, true≢false, eqb-true, append-nil, inl, inr, Some, arith}
+use Rattle.std.proofs.Common.{◌≡◌, ◌≢◌, ℕ, suc, ◌+◌, ◌<◌, ◌≤◌, ◌==◌, Bool, true, false, if◌then◌else◌, List, [], ◌∷◌, ◌++◌, length, set, slice_get, refl, ap, ap₂, sym, ◌∙◌, subst, eqb-true, append-nil, inl, inr, Some, arith}
 use Rattle.std.specs.Prelude.{ltb}
-use Rattle.std.proofs.lemmas.Bool.{cases_Bool, eq-eqb, cases_lt}
+use Rattle.std.proofs.lemmas.Bool.{cases_Bool, eq-eqb, ne_eqb, eqb-false, cases_lt}
 use Rattle.std.proofs.lemmas.List.{length-set}
-use Rattle.std.proofs.lemmas.Option.{slice_get_within}
+use Rattle.std.proofs.lemmas.Option.{same_Some, slice_get_within}
 use Rattle.flowspace.specs.declared.slices.Slice.{Slice}
 use Rattle.flowspace.specs.Policies.{PolicyView}
 use Rattle.outbox.specs.Queues.{Queue, no_messages, push, push_all, Kept, QueueStands}
@@ -15,7 +15,7 @@ use Rattle.switch_side.specs.Dispatches.{addressed, sent_from}
 use Rattle.proxy_core.specs.Slots.{SameQueue, HasMore, HasOnly}
 use Rattle.proxy_core.specs.Handing.{of_slot, HasRoomAt, HaveRoom, AreSame, AreHanded}
 use Rattle.proxy_core.proofs.Lists.{there, within}
-use Rattle.proxy_core.proofs.Places.{some_is, get_set, get_other}
+use Rattle.proxy_core.proofs.Places.{get_set, get_other}
 
 -- ---- one queue
 
@@ -47,7 +47,7 @@ then_more later a b c one others = λ limit q h. others limit q (one limit q h)
 -- ---- all queues
 
 same_kept : (slot : ℕ) (xs : List Kept) (a b : Kept) → slice_get xs slot ≡ Some a → slice_get xs slot ≡ Some b → a ≡ b
-same_kept slot xs a b ga gb = some_is (sym ga ∙ gb)
+same_kept slot xs a b ga gb = same_Some _ _ (sym ga ∙ gb)
 
 pub same_then : (xs ys zs : List Kept) → AreSame xs ys → AreSame ys zs → AreSame xs zs
 same_then xs ys zs one other = record {
@@ -67,9 +67,6 @@ slot_one : (slot i : ℕ) (message : List ℕ) (b : Bool) → (slot == i) ≡ b 
 slot_one slot i message true is = rw is refl
 slot_one slot i message false is = rw is refl
 
-unlike : (a b : ℕ) → a ≢ b → (a == b) ≡ false
-unlike a b other = elim (cases_Bool (a == b)) [ inl is ↦ absurd (other (eqb-true a b is)) | inr isnt ↦ isnt ]
-
 pub put_handed : (xs : List Kept) (slot : ℕ) (message : List ℕ) (x y : Kept) → slice_get xs slot ≡ Some x
     → ((limit : ℕ) (q : Queue) → QueueStands limit q x → QueueStands limit (push limit q message) y)
     → AreHanded ((slot, message) ∷ []) xs (set xs slot y)
@@ -78,14 +75,14 @@ put_handed xs slot message x y gx more = record {
   each = λ i a b ga gb. elim (cases_Bool (slot == i)) [
     | inl is ↦
         let e : slot ≡ i = eqb-true slot i is in
-        let is_x : x ≡ a = some_is (sym gx ∙ subst (λ (k : ℕ). slice_get xs k ≡ Some a) (sym e) ga) in
-        let is_y : y ≡ b = some_is (sym (get_set xs slot x y gx) ∙ subst (λ (k : ℕ). slice_get (set xs slot y) k ≡ Some b) (sym e) gb) in
+        let is_x : x ≡ a = same_Some _ _ (sym gx ∙ subst (λ (k : ℕ). slice_get xs k ≡ Some a) (sym e) ga) in
+        let is_y : y ≡ b = same_Some _ _ (sym (get_set xs slot x y gx) ∙ subst (λ (k : ℕ). slice_get (set xs slot y) k ≡ Some b) (sym e) gb) in
         subst (λ (m : List (List ℕ)). HasMore m a b) (sym (slot_one slot i message true is))
         (subst (λ (k : Kept). HasMore (message ∷ []) k b) is_x (subst (λ (k : Kept). HasMore (message ∷ []) x k) is_y (one_more message x y more)))
     | inr isnt ↦
-        let far : i ≢ slot = λ e. true≢false (sym (eq-eqb slot i (sym e)) ∙ isnt) in
+        let far : i ≢ slot = λ e. eqb-false slot i isnt (sym e) in
         subst (λ (m : List (List ℕ)). HasMore m a b) (sym (slot_one slot i message false isnt))
-        (subst (λ (k : Kept). HasMore [] a k) (some_is (sym ga ∙ sym (get_other xs slot i y far) ∙ gb)) (none_more a))
+        (subst (λ (k : Kept). HasMore [] a k) (same_Some _ _ (sym ga ∙ sym (get_other xs slot i y far) ∙ gb)) (none_more a))
   ];
 }
 
@@ -95,7 +92,7 @@ none_put xs slot message out = record {
   each = λ i a b ga gb.
       let inside = slice_get_within xs i a ga in
       let far : slot ≢ i = λ e. absurd (omega (arith, e)) in
-      subst (λ (m : List (List ℕ)). HasMore m a b) (sym (slot_one slot i message false (unlike slot i far)))
+      subst (λ (m : List (List ℕ)). HasMore m a b) (sym (slot_one slot i message false (ne_eqb slot i far)))
       (subst (λ (k : Kept). HasMore [] a k) (same_kept i xs a b ga gb) (none_more a));
 }
 
@@ -133,12 +130,12 @@ pub put_room : (xs : List Kept) (slot : ℕ) (message : List ℕ) (later : List 
 put_room xs slot message later x y gx less room i b gb = elim (cases_Bool (slot == i)) [
   | inl is ↦
       let e : slot ≡ i = eqb-true slot i is in
-      let is_y : y ≡ b = some_is (sym (get_set xs slot x y gx) ∙ subst (λ (k : ℕ). slice_get (set xs slot y) k ≡ Some b) (sym e) gb) in
+      let is_y : y ≡ b = same_Some _ _ (sym (get_set xs slot x y gx) ∙ subst (λ (k : ℕ). slice_get (set xs slot y) k ≡ Some b) (sym e) gb) in
       let was = room i x (subst (λ (k : ℕ). slice_get xs k ≡ Some x) e gx) in
       let first = ap length (slot_first slot i message later true is) in
       subst (λ (k : Kept). length (of_slot i later) ≤ k.room) is_y (omega (arith, less, was, first))
   | inr isnt ↦
-      let far : i ≢ slot = λ e. true≢false (sym (eq-eqb slot i (sym e)) ∙ isnt) in
+      let far : i ≢ slot = λ e. eqb-false slot i isnt (sym e) in
       first_room slot i b.room message later (room i b (sym (get_other xs slot i y far) ∙ gb))
 ]
 
@@ -161,8 +158,8 @@ pub rooms_more : (messages : List (ℕ × List ℕ)) (at n : ℕ) (here : ℕ ×
     → ((i : ℕ) (pair : ℕ × List ℕ) → i < at → slice_get messages i ≡ Some pair → HasRoomAt pair.0 n xs)
     → (i : ℕ) (pair : ℕ × List ℕ) → i < at + 1 → slice_get messages i ≡ Some pair → HasRoomAt pair.0 n zs
 rooms_more messages at n here xs zs gm room still before i pair less g = elim (cases_Bool (i == at)) [
-  | inl is ↦ subst (λ (m : ℕ × List ℕ). HasRoomAt m.0 n zs) (some_is (sym gm ∙ subst (λ (k : ℕ). slice_get messages k ≡ Some pair) (eqb-true i at is) g)) room
-  | inr isnt ↦ still pair.0 (before i pair (nearer i at less (λ e. true≢false (sym (eq-eqb i at e) ∙ isnt))) g)
+  | inl is ↦ subst (λ (m : ℕ × List ℕ). HasRoomAt m.0 n zs) (same_Some _ _ (sym gm ∙ subst (λ (k : ℕ). slice_get messages k ≡ Some pair) (eqb-true i at is) g)) room
+  | inr isnt ↦ still pair.0 (before i pair (nearer i at less (eqb-false i at isnt)) g)
 ]
 
 few_of_slot : (slot : ℕ) (messages : List (ℕ × List ℕ)) → length (of_slot slot messages) ≤ length messages
@@ -204,7 +201,7 @@ slot_own slot (message ∷ later) = slot_first slot slot message (addressed slot
 
 slot_others : (other slot : ℕ) (messages : List (List ℕ)) → other ≢ slot → of_slot slot (addressed other messages) ≡ []
 slot_others other slot [] far = refl
-slot_others other slot (message ∷ later) far = slot_first other slot message (addressed other later) false (unlike other slot far) ∙ slot_others other slot later far
+slot_others other slot (message ∷ later) far = slot_first other slot message (addressed other later) false (ne_eqb other slot far) ∙ slot_others other slot later far
 
 further : (a b : ℕ) → a ≤ b → a ≢ b → a + 1 ≤ b
 further a b low far = elim (cases_lt a b) [ inl less ↦ omega arith | inr more ↦ absurd (far (omega arith)) ]
@@ -232,7 +229,7 @@ slot_sent p switch sides timed from slot (slice ∷ others) low high = elim (cas
       let e : from ≡ slot = eqb-true from slot is in
       subst (λ (k : ℕ). of_slot k (sent_from p switch sides timed from (slice ∷ others)) ≡ sent_with p k switch (sides k) timed) e (slot_here p switch sides timed from slice others)
   | inr isnt ↦
-      let far : from ≢ slot = λ e. true≢false (sym (eq-eqb from slot e) ∙ isnt) in
+      let far : from ≢ slot = eqb-false from slot isnt in
       slot_append slot (addressed from (sent_with p from switch (sides from) timed)) (sent_from p switch sides timed (from + 1) others)
       ∙ ap₂ (λ (a b : List (List ℕ)). a ++ b) (slot_others from slot (sent_with p from switch (sides from) timed) far)
       (slot_sent p switch sides timed (from + 1) slot others (further from slot low far) (omega arith))

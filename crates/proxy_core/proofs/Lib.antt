@@ -5,7 +5,7 @@ mod Rooms
 mod Fitting
 mod Standing
 mod Slices
-mod Acting
+pub mod Acting
 mod Beginning
 mod Operating
 mod Events

@@ -14,10 +14,10 @@ use Rattle.desk_words.specs.declared.answer.Taken.{Taken}
 use Rattle.desk_words.specs.declared.answer.Taken.TheVariants.{Message}
 use Rattle.desk_words.specs.Openings.{phase_of, switch_of}
 use Rattle.desk_words.specs.Histories.{side_of}
-use Rattle.desk_words.specs.Verdicts.{is_ended, is_over, is_down, closes}
+use Rattle.desk_words.specs.Verdicts.{is_ended, is_over, is_down, closes, verdict}
 use Rattle.desk_words.specs.Operations.{Operation, Step, Take, events_of, queue_of, lane_of, waiting_of, empty_reply}
 use Rattle.proxy_core.specs.declared.parts.Desk.{Desk}
-use Rattle.proxy_core.specs.Desks.{Body, Acts, Stays, DeskStands, Replied, Answered, TakesNext, IsSilence, waiting_in, queues_less, lane_less, silence_now}
+use Rattle.proxy_core.specs.Desks.{Body, Acted, Acts, Stays, DeskStands, Replied, Answered, TakesNext, IsSilence, waiting_in, queues_less, lane_less, silence_now}
 use Rattle.proxy_core.proofs.Fitting.{coherent}
 
 -- ---- steps
@@ -41,15 +41,15 @@ counted p ops n desk b is = record {
   events = is;
 }
 
-closing_of : (b c : Bool) → b ≡ not c → c ≡ not b
-closing_of b true is = sym (ap not is)
-closing_of b false is = sym (ap not is)
+go_on : (over_ closing go : Bool) → over_ ≡ false → go ≡ not closing → (if go then Go else Close) ≡ (if over_ then verdicts.Ended else if closing then Close else Go)
+go_on over_ true go on is = rw (on, is) refl
+go_on over_ false go on is = rw (on, is) refl
 
-go_on : (over_ closing : Bool) → over_ ≡ false → closing ≡ false → Go ≡ (if over_ then verdicts.Ended else if closing then Close else Go)
-go_on over_ closing a b = rw (a, b) refl
-
-close_it : (over_ closing : Bool) → over_ ≡ false → closing ≡ true → Close ≡ (if over_ then verdicts.Ended else if closing then Close else Go)
-close_it over_ closing a b = rw (a, b) refl
+by_go : (p : PolicyView) (ops : List Operation) (timed : Timed) (go : Bool) (new : Desk) (n : ℕ) → (if go then Go else Close) ≡ verdict p (events_of ops) timed
+    → Acted p (switch_of (events_of ops)) (λ slot. side_of p slot (events_of ops)) (λ slot. queue_of p slot ops) (lane_of p ops) timed go new → n ≡ suc (length (events_of ops))
+    → Replied p ops timed (Ok (if go then Go else Close)) (record new { events = n })
+by_go p ops timed true new n is acted count = record { right = is; stands = counted p (Step timed (Ok Go) ∷ ops) n new acted.body count }
+by_go p ops timed false new n is acted count = record { right = is; stands = counted p (Step timed (Ok Close) ∷ ops) n new acted.body count }
 
 one_longer : (n k m : ℕ) → n ≡ k + 1 → k ≡ m → n ≡ suc m
 one_longer n k m a b = omega arith
@@ -57,20 +57,10 @@ one_longer n k m a b = omega arith
 -- an event was taken in
 pub stepped : (p : PolicyView) (ops : List Operation) (timed : Timed) (go : Bool) (old new : Desk) (n : ℕ) → DeskStands p ops old → (is_ended old.phase || leb (2 ^ 60) old.events) ≡ false
     → Acts old timed go new → n ≡ old.events + 1 → Replied p ops timed (Ok (if go then Go else Close)) (record new { events = n })
-stepped p ops timed true old new n s is acts count =
+stepped p ops timed go old new n s is acts count =
     let on = over_is p ops old false s is in
     let acted = acts p _ _ _ _ (coherent p (events_of ops)) s.body ((or_parts (is_ended (phase_of (events_of ops))) (leb (2 ^ 60) (length (events_of ops))) on).0) in
-    record {
-      right = go_on (is_over (events_of ops)) (closes p (events_of ops) timed) on (closing_of true (closes p (events_of ops) timed) acted.goes_on);
-      stands = counted p (Step timed (Ok Go) ∷ ops) n new acted.body (one_longer n old.events (length (events_of ops)) count s.events);
-    }
-stepped p ops timed false old new n s is acts count =
-    let on = over_is p ops old false s is in
-    let acted = acts p _ _ _ _ (coherent p (events_of ops)) s.body ((or_parts (is_ended (phase_of (events_of ops))) (leb (2 ^ 60) (length (events_of ops))) on).0) in
-    record {
-      right = close_it (is_over (events_of ops)) (closes p (events_of ops) timed) on (closing_of false (closes p (events_of ops) timed) acted.goes_on);
-      stands = counted p (Step timed (Ok Close) ∷ ops) n new acted.body (one_longer n old.events (length (events_of ops)) count s.events);
-    }
+    by_go p ops timed go new n (go_on (is_over (events_of ops)) (closes p (events_of ops) timed) go on acted.goes_on) acted (one_longer n old.events (length (events_of ops)) count s.events)
 
 -- ---- takes
 

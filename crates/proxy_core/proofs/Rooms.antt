@@ -1,8 +1,9 @@
 -- Queues and states, as they are made; the places of a session; and loops over messages.
-use Rattle.std.proofs.Common.{◌≡◌, ℕ, ◌+◌, ◌<◌, ◌&&◌, Bool, true, false, List, [], ◌∷◌, ◌++◌, length, set, slice_get, refl, ap, ap₂, sym, ◌∙◌, subst, true≢false, inl, inr, Option, Some, None, arith}
+use Rattle.std.proofs.Common.{◌≡◌, ℕ, ◌+◌, ◌<◌, ◌&&◌, Bool, true, false, List, [], ◌∷◌, ◌++◌, length, set, get_or, slice_get, refl, ap, ap₂, sym, ◌∙◌, subst, inl, inr, Option, Some, None, arith}
 use Rattle.std.specs.Prelude.{ltb}
-use Rattle.std.proofs.lemmas.Bool.{ltb-true, and_parts}
+use Rattle.std.proofs.lemmas.Bool.{lt-ltb, ltb-true, and_parts}
 use Rattle.std.proofs.lemmas.List.{length-append, length-set}
+use Rattle.std.proofs.lemmas.Option.{none-some, same_Some, slice_get_read}
 use Rattle.flowspace.specs.declared.slices.Slice.{Slice}
 use Rattle.flow_book.specs.declared.state.SliceState.{SliceState}
 use Rattle.flow_book.specs.States.{IsFreshState}
@@ -10,12 +11,8 @@ use Rattle.outbox.specs.Queues.{Queue, push, push_all, Kept}
 use Rattle.proxy_core.specs.declared.parts.Session.{Session}
 use Rattle.proxy_core.specs.Desks.{pending_at}
 use Rattle.proxy_core.specs.Opening.{has_slot, is_up_at, AtSlot}
-use Rattle.proxy_core.proofs.Lists.{none_some, within}
-use Rattle.proxy_core.proofs.Places.{some_is, get_set, get_other, get_more}
-
-pub nothing_left : {A : Type 0} (xs : List A) → length xs ≡ 0 → xs ≡ []
-nothing_left [] h = refl
-nothing_left (x ∷ xs) h = absurd (omega arith)
+use Rattle.proxy_core.proofs.Lists.{there, within}
+use Rattle.proxy_core.proofs.Places.{get_set, get_other, get_more, set_there}
 
 pub pushed_more : (limit : ℕ) (now : Queue) (message : List ℕ) (later all : List (List ℕ)) → all ≡ message ∷ later → push_all limit (push limit now message) later ≡ push_all limit now all
 unfolding push_all
@@ -29,7 +26,7 @@ all_pushed limit now q left all messages none same is = sym (ap (push_all limit 
 
 pub fresh_first : (slices : List Slice) (states : List SliceState) → states ≡ []
     → (slot : ℕ) (slice : Slice) (state : SliceState) → slice_get slices slot ≡ Some slice → slice_get states slot ≡ Some state → IsFreshState slot slice state
-fresh_first slices states none slot slice state gs g = none_some state (sym (ap (λ (l : List SliceState). slice_get l slot) none) ∙ g)
+fresh_first slices states none slot slice state gs g = absurd (none-some state (sym (ap (λ (l : List SliceState). slice_get l slot) none) ∙ g))
 
 pub fresh_more : (slices : List Slice) (states more : List SliceState) (place : ℕ) (slice : Slice) (state : SliceState) → length states ≡ place → slice_get slices place ≡ Some slice → IsFreshState place slice state
     → more ≡ states ++ state ∷ []
@@ -39,7 +36,7 @@ fresh_more slices states more place slice state count at fresh is before slot on
   | inl early ↦ before slot one its go early
   | inr last ↦
       let here : slot ≡ place = last.0 ∙ count in
-      let same : slice ≡ one = some_is (sym at ∙ subst (λ (k : ℕ). slice_get slices k ≡ Some one) here go) in
+      let same : slice ≡ one = same_Some _ _ (sym at ∙ subst (λ (k : ℕ). slice_get slices k ≡ Some one) here go) in
       subst (λ (k : ℕ). IsFreshState k one its) (sym here) (subst (λ (s : Slice). IsFreshState place s its) same (subst (λ (k : SliceState). IsFreshState place slice k) last.1 fresh))
 ]
 
@@ -48,20 +45,16 @@ one_longer xs zs x n is count = ap length is ∙ length-append xs (x ∷ []) ∙
 
 -- ---- one slot of a session
 
-and_second : (a b : Bool) → (a && b) ≡ true → b ≡ true
-and_second true b is = is
-and_second false b is = absurd (true≢false (sym is))
-
-pub in_states : (session : Session) (slot : ℕ) → has_slot session slot ≡ true → slot < length session.states.items
+in_states : (session : Session) (slot : ℕ) → has_slot session slot ≡ true → slot < length session.states.items
 in_states session slot is = ltb-true slot (length session.states.items) ((and_parts (ltb slot (length session.states.items)) (ltb slot (length session.queues.items)) is).0)
 
 pub there_up : (session : Session) (slot : ℕ) → is_up_at session slot ≡ true → has_slot session slot ≡ true
 there_up session slot is = (and_parts (has_slot session slot) (elim (slice_get session.states.items slot) as (λ o. Bool) [ None ↦ false | Some state ↦ state.up ]) is).0
 
-pub in_queues : (session : Session) (slot : ℕ) → has_slot session slot ≡ true → slot < length session.queues.items
-in_queues session slot is = ltb-true slot (length session.queues.items) (and_second (ltb slot (length session.states.items)) (ltb slot (length session.queues.items)) is)
+in_queues : (session : Session) (slot : ℕ) → has_slot session slot ≡ true → slot < length session.queues.items
+in_queues session slot is = ltb-true slot (length session.queues.items) ((and_parts (ltb slot (length session.states.items)) (ltb slot (length session.queues.items)) is).1)
 
-pub placed : (slot at : ℕ) (Becomes : SliceState → Kept → SliceState → Kept → Type 0) (old new : Session) (a x : SliceState) (b y : Kept) → at ≡ slot
+placed : (slot at : ℕ) (Becomes : SliceState → Kept → SliceState → Kept → Type 0) (old new : Session) (a x : SliceState) (b y : Kept) → at ≡ slot
     → new.policy ≡ old.policy → new.features ≡ old.features → new.ports ≡ old.ports
     → new.states.items ≡ set old.states.items at x → new.queues.items ≡ set old.queues.items at y
     → slice_get old.states.items at ≡ Some a → slice_get old.queues.items at ≡ Some b → Becomes a b x y → AtSlot slot Becomes old new
@@ -72,10 +65,10 @@ placed slot at Becomes old new a x b y here policy features ports states queues 
   states_count = ap length states ∙ length-set old.states.items at x;
   queues_count = ap length queues ∙ length-set old.queues.items at y;
   own = λ a2 b2 x2 y2 ga2 gb2 gx2 gy2.
-      let is_a : a ≡ a2 = some_is (sym ga ∙ subst (λ (k : ℕ). slice_get old.states.items k ≡ Some a2) (sym here) ga2) in
-      let is_b : b ≡ b2 = some_is (sym gb ∙ subst (λ (k : ℕ). slice_get old.queues.items k ≡ Some b2) (sym here) gb2) in
-      let is_x : x ≡ x2 = some_is (sym (get_set old.states.items at a x ga) ∙ subst (λ (l : List SliceState). slice_get l at ≡ Some x2) states (subst (λ (k : ℕ). slice_get new.states.items k ≡ Some x2) (sym here) gx2)) in
-      let is_y : y ≡ y2 = some_is (sym (get_set old.queues.items at b y gb) ∙ subst (λ (l : List Kept). slice_get l at ≡ Some y2) queues (subst (λ (k : ℕ). slice_get new.queues.items k ≡ Some y2) (sym here) gy2)) in
+      let is_a : a ≡ a2 = same_Some _ _ (sym ga ∙ subst (λ (k : ℕ). slice_get old.states.items k ≡ Some a2) (sym here) ga2) in
+      let is_b : b ≡ b2 = same_Some _ _ (sym gb ∙ subst (λ (k : ℕ). slice_get old.queues.items k ≡ Some b2) (sym here) gb2) in
+      let is_x : x ≡ x2 = same_Some _ _ (sym (get_set old.states.items at a x ga) ∙ subst (λ (l : List SliceState). slice_get l at ≡ Some x2) states (subst (λ (k : ℕ). slice_get new.states.items k ≡ Some x2) (sym here) gx2)) in
+      let is_y : y ≡ y2 = same_Some _ _ (sym (get_set old.queues.items at b y gb) ∙ subst (λ (l : List Kept). slice_get l at ≡ Some y2) queues (subst (λ (k : ℕ). slice_get new.queues.items k ≡ Some y2) (sym here) gy2)) in
       subst (λ (k : SliceState). Becomes k b2 x2 y2) is_a (subst (λ (k : Kept). Becomes a k x2 y2) is_b (subst (λ (k : SliceState). Becomes a b k y2) is_x (subst (λ (k : Kept). Becomes a b x k) is_y becomes)));
   others = λ i far. (
     ap (λ (l : List SliceState). slice_get l i) states ∙ get_other old.states.items at i x (λ e. far (e ∙ here)),
@@ -86,27 +79,31 @@ placed slot at Becomes old new a x b y here policy features ports states queues 
 is_there : (session : Session) (slot : ℕ) (a : SliceState) (b : Kept) → slice_get session.states.items slot ≡ Some a → slice_get session.queues.items slot ≡ Some b → has_slot session slot ≡ true
 is_there session slot a b ga gb = ap₂ (λ (x y : Bool). x && y) (within session.states.items slot a ga) (within session.queues.items slot b gb)
 
+-- the queue that was read at a place
+pub queue_read : (slot at : ℕ) (session : Session) (queue : Kept) → at ≡ slot → has_slot session slot ≡ true → queue ≡ get_or session.queues.items at queue → slice_get session.queues.items at ≡ Some queue
+queue_read slot at session queue here has read =
+    let q = in_queues session slot has in
+    slice_get_read session.queues.items (length session.queues.items) at queue refl (omega (arith, q, here)) read
+
+-- what was at a place, where the state and the queue were read there
+pub placed_here : (slot at : ℕ) (Becomes : SliceState → Kept → SliceState → Kept → Type 0) (old new : Session) (a x : SliceState) (b y : Kept) → at ≡ slot → has_slot old slot ≡ true
+    → new.policy ≡ old.policy → new.features ≡ old.features → new.ports ≡ old.ports
+    → new.states.items ≡ set old.states.items at x → new.queues.items ≡ set old.queues.items at y
+    → a ≡ get_or old.states.items at a → b ≡ get_or old.queues.items at b → Becomes a b x y → AtSlot slot Becomes old new
+placed_here slot at Becomes old new a x b y here has policy features ports states queues ga gb becomes =
+    let s = in_states old slot has in
+    placed slot at Becomes old new a x b y here policy features ports states queues
+    (slice_get_read old.states.items (length old.states.items) at a refl (omega (arith, s, here)) ga) (queue_read slot at old b here has gb) becomes
+
 -- the queue at a place was changed
-pub placed_queue : (slot at : ℕ) (Becomes : SliceState → Kept → SliceState → Kept → Type 0) (old new : Session) (b y : Kept) → at ≡ slot
+pub placed_queue : (slot at : ℕ) (Becomes : SliceState → Kept → SliceState → Kept → Type 0) (old new : Session) (b y : Kept) → at ≡ slot → has_slot old slot ≡ true
     → new.policy ≡ old.policy → new.features ≡ old.features → new.ports ≡ old.ports
     → new.states.items ≡ old.states.items → new.queues.items ≡ set old.queues.items at y
     → slice_get old.queues.items at ≡ Some b → ((a : SliceState) → Becomes a b a y) → AtSlot slot Becomes old new
-placed_queue slot at Becomes old new b y here policy features ports states queues gb becomes = record {
-  policy = policy;
-  features = features;
-  ports = ports;
-  states_count = ap length states;
-  queues_count = ap length queues ∙ length-set old.queues.items at y;
-  own = λ a2 b2 x2 y2 ga2 gb2 gx2 gy2.
-      let is_b : b ≡ b2 = some_is (sym gb ∙ subst (λ (k : ℕ). slice_get old.queues.items k ≡ Some b2) (sym here) gb2) in
-      let is_x : a2 ≡ x2 = some_is (sym ga2 ∙ subst (λ (l : List SliceState). slice_get l slot ≡ Some x2) states gx2) in
-      let is_y : y ≡ y2 = some_is (sym (get_set old.queues.items at b y gb) ∙ subst (λ (l : List Kept). slice_get l at ≡ Some y2) queues (subst (λ (k : ℕ). slice_get new.queues.items k ≡ Some y2) (sym here) gy2)) in
-      subst (λ (k : Kept). Becomes a2 k x2 y2) is_b (subst (λ (k : SliceState). Becomes a2 b k y2) is_x (subst (λ (k : Kept). Becomes a2 b a2 k) is_y (becomes a2)));
-  others = λ i far. (
-    ap (λ (l : List SliceState). slice_get l i) states,
-    ap (λ (l : List Kept). slice_get l i) queues ∙ get_other old.queues.items at i y (λ e. far (e ∙ here)),
-  );
-}
+placed_queue slot at Becomes old new b y here has policy features ports states queues gb becomes =
+    let s = in_states old slot has in
+    let a = there old.states.items at (lt-ltb at (length old.states.items) (omega (arith, s, here))) in
+    placed slot at Becomes old new a.0 a.0 b y here policy features ports (states ∙ sym (set_there old.states.items at a.0 a.1)) queues a.1 gb (becomes a.0)
 
 -- how many messages wait at a place
 pub waits_at : (session : Session) (slot : ℕ) (queue : Kept) → slice_get session.queues.items slot ≡ Some queue → length queue.pending ≡ pending_at slot (Some session)

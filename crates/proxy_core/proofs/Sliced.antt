@@ -1,7 +1,6 @@
 -- A desk with a session after an event of a slice's connection.
-use Rattle.std.proofs.Common.{◌≡◌, ℕ, ◌==◌, ◌&&◌, ◌||◌, not, Bool, true, false, if◌then◌else◌, List, [], ◌∷◌, map, slice_get, refl, ap, ap₂, subst, sym, ◌∙◌, true≢false, eqb-true, append-nil, inl, inr, Option, Some, None}
-use Rattle.std.specs.Prelude.{ltb}
-use Rattle.std.proofs.lemmas.Bool.{cases_Bool, eq-eqb, and_parts}
+use Rattle.std.proofs.Common.{◌≡◌, ◌≢◌, ℕ, ◌==◌, ◌&&◌, ◌||◌, not, Bool, true, false, if◌then◌else◌, List, [], ◌∷◌, map, slice_get, refl, ap, ap₂, subst, sym, ◌∙◌, true≢false, eqb-true, append-nil, inl, inr, Option, Some, None}
+use Rattle.std.proofs.lemmas.Bool.{cases_Bool, eqb-false, and_parts}
 use Rattle.std.specs.List.{filter}
 use Rattle.flowspace.specs.Rules.{is_written_by}
 use Rattle.flowspace.specs.Policies.{PolicyView}
@@ -22,18 +21,18 @@ use Rattle.desk_words.specs.Openings.{phase_after, known_after, Switch, switch_a
 use Rattle.desk_words.specs.Histories.{is_slot, settings_at, own_features, Side, items_of, is_open}
 use Rattle.desk_words.specs.Sent.{lane_in, put_with}
 use Rattle.desk_words.specs.Verdicts.{is_fresh, is_ended}
-use Rattle.desk_words.specs.Operations.{slice_limit, lane_limit}
+use Rattle.desk_words.specs.Operations.{slice_limit, lane_limit, empties}
 use Rattle.desk_words.proofs.Erasing.{slices_switch}
 use Rattle.proxy_core.specs.declared.parts.Session.{Session}
 use Rattle.proxy_core.specs.declared.parts.Desk.{Desk}
 use Rattle.proxy_core.specs.Slots.{Comes, Keeps, Heard, Hears, SameQueue}
-use Rattle.proxy_core.specs.Desks.{SlotStands, SessionStands, Opens, Coherent, sides_after, up_after, queues_after, ends_now, lane_after, Acts, Stays}
+use Rattle.proxy_core.specs.Desks.{SlotStands, SessionStands, Opens, Body, Coherent, sides_after, up_after, queues_after, ends_now, lane_after, closes_now, Acts, Stays}
 use Rattle.proxy_core.specs.Opening.{has_slot, is_up_at, AtSlot, Goes, StandsOn}
 use Rattle.proxy_core.proofs.Lists.{there}
 use Rattle.proxy_core.proofs.Fitting.{settings_known}
-use Rattle.proxy_core.proofs.Standing.{slot_after, items_opened, slots_are}
+use Rattle.proxy_core.proofs.Standing.{slot_after, items_opened, slots_are, slot_there, change_there}
 use Rattle.proxy_core.proofs.Slices.{one_slot, kept_slot, others_up, others_down, others_msg, shown_msg, up_comes, comes_slot, goes_slot}
-use Rattle.proxy_core.proofs.Acting.{body_after, is_opened, session_passes, lane_more, lane_stays}
+use Rattle.proxy_core.proofs.Acting.{body_after, is_opened, session_passes, lane_is, lane_stays}
 
 -- ---- the desk has a session
 
@@ -82,46 +81,71 @@ goes_down : (fresh there here : Bool) → fresh ≡ false → there ≡ here →
 goes_down fresh there true f is = is ∙ sym (rw f refl)
 goes_down fresh there false f is = is ∙ sym (rw f refl)
 
--- ---- a slice's controller connects
+-- ---- the desk after an event of a slice
+
+-- nothing that a slice does changes what is known of the switch
+abbrev StaysSame : Event → Type 0
+StaysSame event = (switch : Switch) → switch_after switch event ≡ switch
+
+-- by the lane and the session after it
+slice_body : (p : PolicyView) (switch : Switch) (sides : ℕ → Side) (qs : ℕ → Queue) (ql : Queue) (timed : Timed) (old new : Desk) (b : Session) → StaysSame timed.event
+    → Body p switch sides qs ql old → new.policy ≡ old.policy → new.phase ≡ old.phase → new.session ≡ Some b
+    → QueueStands lane_limit (lane_after p switch sides ql timed) new.lane
+    → SessionStands p (switch_after switch timed.event) (sides_after p switch sides timed) (queues_after p switch sides qs timed) b
+    → Body p (switch_after switch timed.event) (sides_after p switch sides timed) (queues_after p switch sides qs timed) (lane_after p switch sides ql timed) new
+slice_body p switch sides qs ql timed old new b still body policy phase now lane stands =
+    body_after p switch sides qs ql timed old new body policy (phase ∙ body.phase ∙ sym (phase_same switch timed.event (still switch))) lane
+    (subst (λ (k : Option Session). Opens p (switch_after switch timed.event) (sides_after p switch sides timed) (queues_after p switch sides qs timed) k) (sym now) stands)
+
+-- the lane as it was
+lane_same : (p : PolicyView) (switch : Switch) (sides : ℕ → Side) (ql : Queue) (timed : Timed) (old new : Kept) → StaysSame timed.event → is_ended switch.phase ≡ false → switch.phase ≡ Opened
+    → lane_in (λ i. put_with p i switch (sides i) timed) Opened timed.event ≡ [] → QueueStands lane_limit ql old → new ≡ old → QueueStands lane_limit (lane_after p switch sides ql timed) new
+lane_same p switch sides ql timed old new still on opened silent stands same =
+    subst (λ (k : Kept). QueueStands lane_limit (lane_after p switch sides ql timed) k) (sym same)
+    (lane_stays p switch sides ql timed old stands (no_end switch timed (phase_same switch timed.event (still switch)) on)
+    (ap (λ (k : Phase). lane_in (λ i. put_with p i switch (sides i) timed) k timed.event) opened ∙ silent))
+
+-- what becomes of a slot at an event of its slice
+abbrev Follows : ℕ → Event → ℕ → (SliceState → Kept → SliceState → Kept → Type 0) → Type 0
+Follows slot event moment Becomes =
+    (p : PolicyView) (switch : Switch) (sides : ℕ → Side) (qs : ℕ → Queue) (a : SliceState) (b : Kept) (x : SliceState) (y : Kept) → switch.phase ≡ Opened → is_slot p slot ≡ true
+    → SlotStands p slot switch (sides slot) (qs slot) a b → Becomes a b x y
+    → SlotStands p slot switch (sides_after p switch sides (record { event = event; moment = moment }) slot) (queues_after p switch sides qs (record { event = event; moment = moment }) slot) x y
+
+-- the slice's connection came or went
+moved : (old new : Desk) (a b : Session) (slot moment : ℕ) (event : Event) (Becomes : SliceState → Kept → SliceState → Kept → Type 0) (there_ : Bool) → StaysSame event
+    → old.session ≡ Some a → new.policy ≡ old.policy → new.phase ≡ old.phase → new.lane ≡ old.lane → new.session ≡ Some b → there_ ≡ has_slot a slot → AtSlot slot Becomes a b
+    → ((f : ℕ → List (List ℕ)) → lane_in f Opened event ≡ [])
+    → ((p : PolicyView) (switch : Switch) (sides : ℕ → Side) (i : ℕ) → i ≢ slot
+    → (items_of p i switch (sides i) (record { event = event; moment = moment }) ≡ []) × (empties i (up_after p switch sides (record { event = event; moment = moment }) i) event ≡ false))
+    → Follows slot event moment Becomes
+    → ((p : PolicyView) (switch : Switch) (sides : ℕ → Side) → switch.phase ≡ Opened → there_ ≡ is_slot p slot → there_ ≡ not (closes_now p switch sides (record { event = event; moment = moment })))
+    → Acts old (record { event = event; moment = moment }) there_ new
+moved old new a b slot moment event Becomes there_ still was policy phase lane now is at silent others own goes p switch sides qs ql fit body on =
+    let timed : Timed = record { event = event; moment = moment } in
+    let stands = stands_in p switch sides qs a old.session was body.opens in
+    let opened = is_opened p switch sides qs a fit stands on in
+    record {
+      body = slice_body p switch sides qs ql timed old new b still body policy phase now
+          (lane_same p switch sides ql timed old.lane new.lane still on opened (silent (λ i. put_with p i switch (sides i) timed)) body.lane lane)
+          (one_slot p switch sides qs timed slot Becomes a b stands at (known_same switch event (still switch)) (others p switch sides) (λ x y z w. own p switch sides qs x y z w opened));
+      goes_on = goes p switch sides opened (is ∙ slots_are p switch sides qs a slot stands);
+    }
 
 pub came : (old new : Desk) (a b : Session) (slot moment : ℕ) (there_ : Bool) → old.session ≡ Some a → new.policy ≡ old.policy → new.phase ≡ old.phase → new.lane ≡ old.lane → new.session ≡ Some b
     → there_ ≡ has_slot a slot → AtSlot slot Comes a b → Acts old (record { event = SliceUp slot; moment = moment }) there_ new
-came old new a b slot moment there_ was policy phase lane now is at p switch sides qs ql fit body on =
-    let timed : Timed = record { event = SliceUp slot; moment = moment } in
-    let stands = stands_in p switch sides qs a old.session was body.opens in
-    let opened = is_opened p switch sides qs a fit stands on in
-    let still = slices_switch switch (SliceUp slot) refl in
-    record {
-      body = body_after p switch sides qs ql timed old new body policy (phase ∙ body.phase ∙ sym (phase_same switch (SliceUp slot) still))
-          (subst (λ (k : Kept). QueueStands lane_limit (lane_after p switch sides ql timed) k) (sym lane)
-          (lane_stays p switch sides ql timed old.lane body.lane (no_end switch timed (phase_same switch (SliceUp slot) still) on)
-          (ap (λ (k : Phase). lane_in (λ i. put_with p i switch (sides i) timed) k (SliceUp slot)) opened)))
-          (subst (λ (k : Option Session). Opens p (switch_after switch (SliceUp slot)) (sides_after p switch sides timed) (queues_after p switch sides qs timed) k) (sym now)
-          (one_slot p switch sides qs timed slot Comes a b stands at (known_same switch (SliceUp slot) still) (others_up p switch sides slot moment)
-          (λ x y z w here one comes. comes_slot p switch sides qs slot moment x y z w opened here one comes)));
-      goes_on = goes_up (is_fresh switch.phase) there_ (is_slot p slot) (up_after p switch sides timed slot) (ap is_fresh opened) (is ∙ slots_are p switch sides qs a slot stands)
-          (λ here. up_comes p switch sides slot moment opened here);
-    }
-
--- ---- its connection ends
+came old new a b slot moment there_ was policy phase lane now is at =
+    moved old new a b slot moment (SliceUp slot) Comes there_ (λ switch. slices_switch switch (SliceUp slot) refl) was policy phase lane now is at (λ f. refl)
+    (λ p switch sides. others_up p switch sides slot moment) (λ p switch sides qs. comes_slot p switch sides qs slot moment)
+    (λ p switch sides opened here. goes_up (is_fresh switch.phase) there_ (is_slot p slot) (up_after p switch sides (record { event = SliceUp slot; moment = moment }) slot) (ap is_fresh opened) here
+    (λ is_here. up_comes p switch sides slot moment opened is_here))
 
 pub went : (old new : Desk) (a b : Session) (slot moment : ℕ) (there_ : Bool) → old.session ≡ Some a → new.policy ≡ old.policy → new.phase ≡ old.phase → new.lane ≡ old.lane → new.session ≡ Some b
     → there_ ≡ has_slot a slot → AtSlot slot Goes a b → Acts old (record { event = SliceDown slot; moment = moment }) there_ new
-went old new a b slot moment there_ was policy phase lane now is at p switch sides qs ql fit body on =
-    let timed : Timed = record { event = SliceDown slot; moment = moment } in
-    let stands = stands_in p switch sides qs a old.session was body.opens in
-    let opened = is_opened p switch sides qs a fit stands on in
-    let still = slices_switch switch (SliceDown slot) refl in
-    record {
-      body = body_after p switch sides qs ql timed old new body policy (phase ∙ body.phase ∙ sym (phase_same switch (SliceDown slot) still))
-          (subst (λ (k : Kept). QueueStands lane_limit (lane_after p switch sides ql timed) k) (sym lane)
-          (lane_stays p switch sides ql timed old.lane body.lane (no_end switch timed (phase_same switch (SliceDown slot) still) on)
-          (ap (λ (k : Phase). lane_in (λ i. put_with p i switch (sides i) timed) k (SliceDown slot)) opened)))
-          (subst (λ (k : Option Session). Opens p (switch_after switch (SliceDown slot)) (sides_after p switch sides timed) (queues_after p switch sides qs timed) k) (sym now)
-          (one_slot p switch sides qs timed slot Goes a b stands at (known_same switch (SliceDown slot) still) (others_down p switch sides slot moment)
-          (λ x y z w here one goes. goes_slot p switch sides qs slot moment x y z w opened here one goes)));
-      goes_on = goes_down (is_fresh switch.phase) there_ (is_slot p slot) (ap is_fresh opened) (is ∙ slots_are p switch sides qs a slot stands);
-    }
+went old new a b slot moment there_ was policy phase lane now is at =
+    moved old new a b slot moment (SliceDown slot) Goes there_ (λ switch. slices_switch switch (SliceDown slot) refl) was policy phase lane now is at (λ f. refl)
+    (λ p switch sides. others_down p switch sides slot moment) (λ p switch sides qs. goes_slot p switch sides qs slot moment)
+    (λ p switch sides opened here. goes_down (is_fresh switch.phase) there_ (is_slot p slot) (ap is_fresh opened) here)
 
 -- ---- a message of it, where it is up
 
@@ -186,9 +210,8 @@ up_there a slot state here is g = ap₂ (λ (b : Bool) (o : Option SliceState). 
 
 pub up_state : (p : PolicyView) (switch : Switch) (sides : ℕ → Side) (qs : ℕ → Queue) (a : Session) (slot : ℕ) → SessionStands p switch sides qs a → is_slot p slot ≡ true → is_up_at a slot ≡ is_up (sides slot).sight.view
 up_state p switch sides qs a slot s here =
-    let x = there a.states.items slot (subst (λ (n : ℕ). ltb slot n ≡ true) (sym s.states_count) here) in
-    let y = there a.queues.items slot (subst (λ (n : ℕ). ltb slot n ≡ true) (sym s.queues_count) here) in
-    up_there a slot x.0 true (slots_are p switch sides qs a slot s ∙ here) x.1 ∙ (s.each slot x.0 y.0 x.1 y.1).state_stands.up
+    let at = slot_there p switch sides qs a slot s here in
+    up_there a slot at.0 true (slots_are p switch sides qs a slot s ∙ here) at.2 ∙ at.4.state_stands.up
 
 pub heard_up : (old new : Desk) (a b : Session) (slot moment : ℕ) (message : List ℕ) (on : Bool) → old.session ≡ Some a → new.policy ≡ old.policy → new.phase ≡ old.phase → new.session ≡ Some b
     → is_up_at a slot ≡ true → AtSlot slot (λ x y z w. Hears a.policy a.ports a.features slot message moment on x y old.lane z w new.lane) a b
@@ -197,25 +220,20 @@ heard_up old new a b slot moment message on was policy phase now is at p switch 
     let timed : Timed = record { event = SliceMsg slot message; moment = moment } in
     let stands = stands_in p switch sides qs a old.session was body.opens in
     let opened = is_opened p switch sides qs a fit stands alive in
-    let still = slices_switch switch (SliceMsg slot message) refl in
+    let still : StaysSame (SliceMsg slot message) = λ k. slices_switch k (SliceMsg slot message) refl in
     let here : is_slot p slot ≡ true = sym (slots_are p switch sides qs a slot stands) ∙ (and_parts (has_slot a slot) (elim (slice_get a.states.items slot) as (λ o. Bool) [ None ↦ false | Some k ↦ k.up ]) is).0 in
     let up : is_up (sides slot).sight.view ≡ true = sym (up_state p switch sides qs a slot stands here) ∙ is in
-    let x = there a.states.items slot (subst (λ (n : ℕ). ltb slot n ≡ true) (sym stands.states_count) here) in
-    let y = there a.queues.items slot (subst (λ (n : ℕ). ltb slot n ≡ true) (sym stands.queues_count) here) in
-    let z = there b.states.items slot (subst (λ (n : ℕ). ltb slot n ≡ true) (sym (at.states_count ∙ stands.states_count)) here) in
-    let w = there b.queues.items slot (subst (λ (n : ℕ). ltb slot n ≡ true) (sym (at.queues_count ∙ stands.queues_count)) here) in
-    let heard = heard_at p switch sides qs a slot moment message on old.lane new.lane x.0 y.0 z.0 w.0 fit stands here up (stands.each slot x.0 y.0 x.1 y.1) (at.own x.0 y.0 z.0 w.0 x.1 y.1 z.1 w.1) in
+    let c = change_there p switch sides qs slot (λ x y z w. Hears a.policy a.ports a.features slot message moment on x y old.lane z w new.lane) a b stands at here in
+    let heard = heard_at p switch sides qs a slot moment message on old.lane new.lane c.0 c.1 c.2 c.3 fit stands here up c.5 c.4 in
     record {
-      body = body_after p switch sides qs ql timed old new body policy (phase ∙ body.phase ∙ sym (phase_same switch (SliceMsg slot message) still))
-          (lane_more p switch sides ql timed (map (rendered (sides slot).sight.came) (answer_to (settings_at p slot switch.features) (sides slot).sight.view (Msg message moment)).to_switch) old.lane new.lane body.lane
-          (no_end switch timed (phase_same switch (SliceMsg slot message) still) alive)
+      body = slice_body p switch sides qs ql timed old new b still body policy phase now
+          (lane_is p switch sides ql timed false (map (rendered (sides slot).sight.came) (answer_to (settings_at p slot switch.features) (sides slot).sight.view (Msg message moment)).to_switch) new.lane
+          (no_end switch timed (phase_same switch (SliceMsg slot message) (still switch)) alive)
           (ap (λ (k : Phase). lane_in (λ i. put_with p i switch (sides i) timed) k (SliceMsg slot message)) opened ∙ put_heard p switch sides slot moment message opened here up)
-          heard.to_switch)
-          (subst (λ (k : Option Session). Opens p (switch_after switch (SliceMsg slot message)) (sides_after p switch sides timed) (queues_after p switch sides qs timed) k) (sym now)
-          (one_slot p switch sides qs timed slot (λ x y z w. Hears a.policy a.ports a.features slot message moment on x y old.lane z w new.lane) a b stands at (known_same switch (SliceMsg slot message) still)
-          (others_msg p switch sides slot moment message)
+          (heard.to_switch lane_limit ql body.lane))
+          (one_slot p switch sides qs timed slot (λ x y z w. Hears a.policy a.ports a.features slot message moment on x y old.lane z w new.lane) a b stands at (known_same switch (SliceMsg slot message) (still switch)) (others_msg p switch sides slot moment message)
           (λ x y z w h one hears. hears_slot p switch sides qs slot moment message on old.lane new.lane x y z w opened h up one
-          (heard_at p switch sides qs a slot moment message on old.lane new.lane x y z w fit stands h up one hears))));
+          (heard_at p switch sides qs a slot moment message on old.lane new.lane x y z w fit stands h up one hears)));
       goes_on = goes_heard (is_fresh switch.phase) on (is_slot p slot) (is_up (sides slot).sight.view) (is_dismissing message) (up_after p switch sides timed slot) (ap is_fresh opened) here up
           (heard.goes_on ∙ ap not (ends (settings_at p slot switch.features) (sides slot).sight.view (Msg message moment))) (up_heard p switch sides slot moment message opened here up);
     }
@@ -243,7 +261,7 @@ unshown_all : (p : PolicyView) (switch : Switch) (sides : ℕ → Side) (slot mo
     → (i : ℕ) → items_of p i switch (sides i) (record { event = SliceMsg slot message; moment = moment }) ≡ []
 unshown_all p switch sides slot moment message opened down i = elim (cases_Bool (i == slot)) [
   | inl is ↦ subst (λ (k : ℕ). items_of p k switch (sides k) (record { event = SliceMsg slot message; moment = moment }) ≡ []) (sym (eqb-true i slot is)) (unshown p switch sides slot moment message opened down)
-  | inr isnt ↦ (others_msg p switch sides slot moment message i (λ e. true≢false (sym (eq-eqb i slot e) ∙ isnt))).0
+  | inr isnt ↦ (others_msg p switch sides slot moment message i (eqb-false i slot isnt)).0
 ]
 
 closed : (fresh here up up_then : Bool) → (here && up) ≡ false → (here ≡ true → up_then ≡ up) → false ≡ not ((fresh && true) || not here || (not false && not up_then))
@@ -258,18 +276,15 @@ heard_down old new a b slot moment message on was policy phase now is off same l
     let timed : Timed = record { event = SliceMsg slot message; moment = moment } in
     let stands = stands_in p switch sides qs a old.session was body.opens in
     let opened = is_opened p switch sides qs a fit stands alive in
-    let still = slices_switch switch (SliceMsg slot message) refl in
+    let still : StaysSame (SliceMsg slot message) = λ k. slices_switch k (SliceMsg slot message) refl in
     let down = by_slot (is_slot p slot) (is_up (sides slot).sight.view) (is_up_at a slot) (up_state p switch sides qs a slot stands) is in
     let none = unshown_all p switch sides slot moment message opened down in
     record {
-      body = body_after p switch sides qs ql timed old new body policy (phase ∙ body.phase ∙ sym (phase_same switch (SliceMsg slot message) still))
-          (subst (λ (k : Kept). QueueStands lane_limit (lane_after p switch sides ql timed) k) (sym lane)
-          (lane_stays p switch sides ql timed old.lane body.lane (no_end switch timed (phase_same switch (SliceMsg slot message) still) alive)
-          (ap (λ (k : Phase). lane_in (λ i. put_with p i switch (sides i) timed) k (SliceMsg slot message)) opened
-          ∙ ap (λ (items : List Item). map (rendered (sides slot).sight.came) (put_for (settings_at p slot switch.features) (sides slot).sight.view items)) (none slot))))
-          (subst (λ (k : Option Session). Opens p (switch_after switch (SliceMsg slot message)) (sides_after p switch sides timed) (queues_after p switch sides qs timed) k) (sym now)
+      body = slice_body p switch sides qs ql timed old new b still body policy phase now
+          (lane_same p switch sides ql timed old.lane new.lane still alive opened
+          (ap (λ (items : List Item). map (rendered (sides slot).sight.came) (put_for (settings_at p slot switch.features) (sides slot).sight.view items)) (none slot)) body.lane lane)
           (subst (λ (k : Session). SessionStands p (switch_after switch (SliceMsg slot message)) (sides_after p switch sides timed) (queues_after p switch sides qs timed) k) (sym same)
-          (session_passes p switch sides qs timed a stands (known_same switch (SliceMsg slot message) still) none (λ i. refl))));
+          (session_passes p switch sides qs timed a stands (known_same switch (SliceMsg slot message) (still switch)) none (λ i. refl)));
       goes_on = off ∙ closed (is_fresh switch.phase) (is_slot p slot) (is_up (sides slot).sight.view) (up_after p switch sides timed slot) down
           (λ here. ap₂ (λ (phase : Phase) (items : List Item). is_open (phase_after phase (SliceMsg slot message)) && is_up (with_items items (sides slot).sight.view)) opened (none slot));
     }

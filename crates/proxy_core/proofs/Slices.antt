@@ -1,7 +1,7 @@
 -- A session after an event of a slice's connection.
-use Rattle.std.proofs.Common.{◌≡◌, ◌≢◌, ℕ, ◌==◌, ◌&&◌, not, Bool, true, false, if◌then◌else◌, List, [], ◌∷◌, slice_get, refl, ap, ap₂, subst, sym, ◌∙◌, true≢false, eqb-true, inl, inr, Some}
+use Rattle.std.proofs.Common.{◌≡◌, ◌≢◌, ℕ, ◌==◌, ◌&&◌, not, Bool, true, false, if◌then◌else◌, List, [], ◌∷◌, refl, ap, ap₂, subst, sym, ◌∙◌}
 use Rattle.std.specs.Prelude.{ltb}
-use Rattle.std.proofs.lemmas.Bool.{cases_Bool, eq-eqb}
+use Rattle.std.proofs.lemmas.Bool.{eq-eqb, ne_eqb}
 use Rattle.flowspace.specs.Policies.{PolicyView}
 use Rattle.flow_book.specs.declared.state.SliceState.{SliceState}
 use Rattle.outbox.specs.Queues.{Queue, no_messages, push_all, Kept, QueueStands}
@@ -20,14 +20,8 @@ use Rattle.proxy_core.specs.declared.parts.Session.{Session}
 use Rattle.proxy_core.specs.Slots.{Keeps, Comes}
 use Rattle.proxy_core.specs.Desks.{SlotStands, SessionStands, sides_after, up_after, queues_after}
 use Rattle.proxy_core.specs.Opening.{AtSlot, Goes, StandsOn}
-use Rattle.proxy_core.proofs.Lists.{there, within}
-use Rattle.proxy_core.proofs.Standing.{slot_after, passes, items_opened, session_goes}
-
-pub unlike : (a b : ℕ) → a ≢ b → (b == a) ≡ false
-unlike a b other = elim (cases_Bool (b == a)) [ inl is ↦ absurd (other (sym (eqb-true b a is))) | inr isnt ↦ isnt ]
-
-unlike_of : (a b : ℕ) → (a == b) ≡ false → a ≢ b
-unlike_of a b isnt is = true≢false (sym (eq-eqb a b is) ∙ isnt)
+use Rattle.proxy_core.proofs.Lists.{within}
+use Rattle.proxy_core.proofs.Standing.{slot_after, passes, items_opened, session_goes, at_each, slot_becomes}
 
 -- all slots, where an event changed what is at one
 pub one_slot : (p : PolicyView) (switch : Switch) (sides : ℕ → Side) (qs : ℕ → Queue) (timed : Timed) (slot : ℕ) (Becomes : SliceState → Kept → SliceState → Kept → Type 0) (old new : Session)
@@ -40,50 +34,18 @@ pub one_slot : (p : PolicyView) (switch : Switch) (sides : ℕ → Side) (qs : �
 one_slot p switch sides qs timed slot Becomes old new s at known others own =
     session_goes p switch sides (sides_after p switch sides timed) qs (queues_after p switch sides qs timed) timed.event old new s at.policy at.features
     (at.ports ∙ s.known ∙ sym known) at.states_count at.queues_count
-    (λ i x y gx gy. elim (cases_Bool (i == slot)) [
-      | inl is ↦
-          let e : i ≡ slot = eqb-true i slot is in
-          let gx2 : slice_get new.states.items slot ≡ Some x = subst (λ (k : ℕ). slice_get new.states.items k ≡ Some x) e gx in
-          let gy2 : slice_get new.queues.items slot ≡ Some y = subst (λ (k : ℕ). slice_get new.queues.items k ≡ Some y) e gy in
-          let a = there old.states.items slot (subst (λ (n : ℕ). ltb slot n ≡ true) at.states_count (within new.states.items slot x gx2)) in
-          let b = there old.queues.items slot (subst (λ (n : ℕ). ltb slot n ≡ true) at.queues_count (within new.queues.items slot y gy2)) in
-          let inside : is_slot p slot ≡ true = subst (λ (n : ℕ). ltb slot n ≡ true) s.states_count (within old.states.items slot a.0 a.1) in
-          subst (λ (k : ℕ). SlotStands p k switch (sides_after p switch sides timed k) (queues_after p switch sides qs timed k) x y) (sym e)
-          (own a.0 b.0 x y inside (s.each slot a.0 b.0 a.1 b.1) (at.own a.0 b.0 x y a.1 b.1 gx2 gy2))
-      | inr isnt ↦
-          let far = unlike_of i slot isnt in
-          let same = at.others i far in
-          let still = others i far in
-          passes p switch sides qs timed i x y still.0 still.1 (s.each i x y (sym same.0 ∙ gx) (sym same.1 ∙ gy))
-    ])
+    (at_each (λ i x y. SlotStands p i switch (sides_after p switch sides timed i) (queues_after p switch sides qs timed i) x y) slot Becomes old new at
+    (λ a b x y ga gb becomes. own a b x y (subst (λ (n : ℕ). ltb slot n ≡ true) s.states_count (within old.states.items slot a ga)) (s.each slot a b ga gb) becomes)
+    (λ i x y far gx gy. let still = others i far in passes p switch sides qs timed i x y still.0 still.1 (s.each i x y gx gy)))
 
 -- want of memory at one slot
 pub kept_slot : (slot : ℕ) (old new : Session) → AtSlot slot Keeps old new → StandsOn old new
-kept_slot slot old new at p switch sides qs s = record {
-  told = s.told ∙ ap (λ f. Some f) (sym at.features);
-  slices = ap (λ v. v.slices) at.policy ∙ s.slices;
-  rules = ap (λ v. v.rules) at.policy ∙ s.rules;
-  known = at.ports ∙ s.known;
-  states_count = at.states_count ∙ s.states_count;
-  queues_count = at.queues_count ∙ s.queues_count;
-  each = λ i x y gx gy. elim (cases_Bool (i == slot)) [
-    | inl is ↦
-        let e : i ≡ slot = eqb-true i slot is in
-        let gx2 : slice_get new.states.items slot ≡ Some x = subst (λ (k : ℕ). slice_get new.states.items k ≡ Some x) e gx in
-        let gy2 : slice_get new.queues.items slot ≡ Some y = subst (λ (k : ℕ). slice_get new.queues.items k ≡ Some y) e gy in
-        let a = there old.states.items slot (subst (λ (n : ℕ). ltb slot n ≡ true) at.states_count (within new.states.items slot x gx2)) in
-        let b = there old.queues.items slot (subst (λ (n : ℕ). ltb slot n ≡ true) at.queues_count (within new.queues.items slot y gy2)) in
-        let was = s.each slot a.0 b.0 a.1 b.1 in
-        let keeps = at.own a.0 b.0 x y a.1 b.1 gx2 gy2 in
-        subst (λ (k : ℕ). SlotStands p k switch (sides k) (qs k) x y) (sym e) (record {
-          state_stands = subst (λ (state : SliceState). SliceStands (settings_at p slot switch.features) (sides slot).sight state) (sym keeps.0) was.state_stands;
-          queue_stands = keeps.1 _ (qs slot) was.queue_stands;
-        })
-    | inr isnt ↦
-        let same = at.others i (unlike_of i slot isnt) in
-        s.each i x y (sym same.0 ∙ gx) (sym same.1 ∙ gy)
-  ];
-}
+kept_slot slot old new at p switch sides qs s = slot_becomes p switch sides qs qs slot Keeps old new s at
+    (λ a b x y was keeps. record {
+      state_stands = subst (λ (state : SliceState). SliceStands (settings_at p slot switch.features) (sides slot).sight state) (sym keeps.0) was.state_stands;
+      queue_stands = keeps.1 _ (qs slot) was.queue_stands;
+    })
+    (λ i far. refl)
 
 -- ---- an event of a slice shows the others nothing
 
@@ -91,21 +53,21 @@ pub others_up : (p : PolicyView) (switch : Switch) (sides : ℕ → Side) (slot 
     → (items_of p i switch (sides i) (record { event = SliceUp slot; moment = moment }) ≡ [])
     × (empties i (up_after p switch sides (record { event = SliceUp slot; moment = moment }) i) (SliceUp slot) ≡ false)
 others_up p switch sides slot moment i far = (
-  others_items p i switch (sides i) (record { event = SliceUp slot; moment = moment }) (ap not (unlike i slot far)),
-  ap (λ (b : Bool). b && up_after p switch sides (record { event = SliceUp slot; moment = moment }) i) (unlike i slot far),
+  others_items p i switch (sides i) (record { event = SliceUp slot; moment = moment }) (ap not (ne_eqb slot i (λ e. far (sym e)))),
+  ap (λ (b : Bool). b && up_after p switch sides (record { event = SliceUp slot; moment = moment }) i) (ne_eqb slot i (λ e. far (sym e))),
 )
 
 pub others_down : (p : PolicyView) (switch : Switch) (sides : ℕ → Side) (slot moment i : ℕ) → i ≢ slot
     → (items_of p i switch (sides i) (record { event = SliceDown slot; moment = moment }) ≡ [])
     × (empties i (up_after p switch sides (record { event = SliceDown slot; moment = moment }) i) (SliceDown slot) ≡ false)
 others_down p switch sides slot moment i far =
-    (others_items p i switch (sides i) (record { event = SliceDown slot; moment = moment }) (ap not (unlike i slot far)), unlike i slot far)
+    (others_items p i switch (sides i) (record { event = SliceDown slot; moment = moment }) (ap not (ne_eqb slot i (λ e. far (sym e)))), ne_eqb slot i (λ e. far (sym e)))
 
 pub others_msg : (p : PolicyView) (switch : Switch) (sides : ℕ → Side) (slot moment : ℕ) (message : List ℕ) (i : ℕ) → i ≢ slot
     → (items_of p i switch (sides i) (record { event = SliceMsg slot message; moment = moment }) ≡ [])
     × (empties i (up_after p switch sides (record { event = SliceMsg slot message; moment = moment }) i) (SliceMsg slot message) ≡ false)
 others_msg p switch sides slot moment message i far =
-    (others_items p i switch (sides i) (record { event = SliceMsg slot message; moment = moment }) (ap not (unlike i slot far)), refl)
+    (others_items p i switch (sides i) (record { event = SliceMsg slot message; moment = moment }) (ap not (ne_eqb slot i (λ e. far (sym e)))), refl)
 
 -- ---- the slice itself
 

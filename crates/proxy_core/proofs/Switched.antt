@@ -2,6 +2,7 @@
 use Rattle.std.proofs.Common.{◌≡◌, ℕ, ◌&&◌, not, Bool, true, false, if◌then◌else◌, List, [], ◌∷◌, length, slice_get, refl, ap, ap₂, subst, sym, ◌∙◌, true≢false, inl, inr, ◌⊎◌, Option, Some, None, Result, Ok, Err, OnErr, IfOk, arith}
 use Rattle.std.specs.Prelude.{ltb}
 use Rattle.std.proofs.lemmas.Bool.{ltb-true}
+use Rattle.std.proofs.lemmas.Option.{none-some}
 use Rattle.of10_ctl.specs.Frames.{is_bad}
 use Rattle.of10_port.specs.declared.features.Features.{Features}
 use Rattle.of10_port.specs.declared.status.PortStatus.{PortStatus}
@@ -10,7 +11,7 @@ use Rattle.port_view.specs.declared.answer.Kept.{Kept as Answer}
 use Rattle.port_view.specs.declared.answer.Kept.TheVariants.{Kept as IsKept, Ignored, TooManyPorts}
 use Rattle.port_view.specs.KnownPorts.{changed, kept_of}
 use Rattle.port_view.proofs.Knowing.{changed-not_kept}
-use Rattle.outbox.specs.Queues.{Queue, push_all, Kept, QueueStands}
+use Rattle.outbox.specs.Queues.{Queue, no_messages, push_all, Kept, QueueStands}
 use Rattle.slice_words.specs.Items.{Item, End}
 use Rattle.desk_words.specs.declared.event.Event.{Event}
 use Rattle.desk_words.specs.declared.event.Event.TheVariants.{SwitchMsg}
@@ -21,7 +22,7 @@ use Rattle.desk_words.specs.Openings.{features_told, status_told, phase_after, o
 use Rattle.desk_words.specs.Histories.{Side, message_items}
 use Rattle.desk_words.specs.Sent.{preparation, echo_for, lane_in, put_with}
 use Rattle.desk_words.specs.Verdicts.{is_fresh, is_ended, is_closing}
-use Rattle.desk_words.specs.Operations.{slice_limit}
+use Rattle.desk_words.specs.Operations.{slice_limit, lane_limit}
 use Rattle.switch_side.specs.declared.dispatch.Dispatch.{Dispatch}
 use Rattle.switch_side.specs.Dispatches.{Surrounds, AllStand, IsDispatch, told_at, sent_from, kept_beside, status_kept}
 use Rattle.switch_side.proofs.Standing.{stands_still}
@@ -29,12 +30,12 @@ use Rattle.proxy_core.specs.declared.parts.Session.{Session}
 use Rattle.proxy_core.specs.declared.parts.Desk.{Desk}
 use Rattle.proxy_core.specs.Slots.{HasOnly, HasMore}
 use Rattle.proxy_core.specs.Handing.{AreSame, AreHanded, kept_by}
-use Rattle.proxy_core.specs.Desks.{SessionStands, Opens, is_before, Coherent, sides_after, up_after, queues_after, Acts, ActsIn, Ends, PassesOn}
+use Rattle.proxy_core.specs.Desks.{SessionStands, Opens, Body, is_before, Coherent, sides_after, up_after, queues_after, Acted, Acts, ActsIn, Ends, PassesOn}
 use Rattle.proxy_core.specs.Opening.{Begins, CarriedOut, Carries, StandsOn}
-use Rattle.proxy_core.proofs.Lists.{none_some, there, within}
-use Rattle.proxy_core.proofs.Standing.{items_opened, session_goes}
+use Rattle.proxy_core.proofs.Lists.{there, within}
+use Rattle.proxy_core.proofs.Standing.{items_opened, session_becomes, session_goes, queue_there}
 use Rattle.proxy_core.proofs.Handed.{slot_sent}
-use Rattle.proxy_core.proofs.Acting.{body_after, still_none, session_ends, lane_more, lane_ends}
+use Rattle.proxy_core.proofs.Acting.{body_after, still_none, session_ends, lane_is}
 use Rattle.proxy_core.proofs.Beginning.{bad_features, bad_echo, told_good, session_begins}
 use Rattle.desk_words.proofs.Seen.{bad_untold}
 
@@ -68,7 +69,7 @@ closes_msg p up Ended after message far = twice (is_ended after)
 
 none_begun : (p : PolicyView) (switch : Switch) (sides : ℕ → Side) (qs : ℕ → Queue) (session : Option Session) → Coherent p switch sides → switch.phase ≡ Begun → Opens p switch sides qs session → session ≡ None
 none_begun p switch sides qs None fit begun opens = refl
-none_begun p switch sides qs (Some session) fit begun stands = none_some session.features (sym (fit.before_untold (ap is_before begun)) ∙ stands.told)
+none_begun p switch sides qs (Some session) fit begun stands = absurd (none-some session.features (sym (fit.before_untold (ap is_before begun)) ∙ stands.told))
 
 -- the desk after a message that opens nothing
 begun_still : (p : PolicyView) (switch : Switch) (sides : ℕ → Side) (qs : ℕ → Queue) (moment : ℕ) (message : List ℕ) (session : Option Session) → Coherent p switch sides → switch.phase ≡ Begun → features_told message ≡ None
@@ -85,49 +86,49 @@ is_kept_answer IsKept = true
 is_kept_answer Ignored = false
 is_kept_answer TooManyPorts = false
 
+-- the desk after a message of the switch, by the phase before it and the phase after it
+told : (p : PolicyView) (switch : Switch) (sides : ℕ → Side) (qs : ℕ → Queue) (ql : Queue) (moment : ℕ) (message : List ℕ) (before after : Phase) (over : Bool) (sent : List (List ℕ)) (old new : Desk)
+    → Body p switch sides qs ql old → switch.phase ≡ before → is_fresh before ≡ false → phase_after before (SwitchMsg message) ≡ after → (not (is_ended before) && is_ended after) ≡ over
+    → lane_in (λ i. put_with p i switch (sides i) (told_at moment message)) before (SwitchMsg message) ≡ sent → new.policy ≡ old.policy → new.phase ≡ after
+    → QueueStands lane_limit (push_all lane_limit (if over then no_messages else ql) sent) new.lane
+    → Opens p (switch_after switch (SwitchMsg message)) (sides_after p switch sides (told_at moment message)) (queues_after p switch sides qs (told_at moment message)) new.session
+    → Acted p switch sides qs ql (told_at moment message) (not (is_ended after)) new
+told p switch sides qs ql moment message before after over sent old new body was far becomes ends is policy phase lane opens =
+    let timed = told_at moment message in
+    let then_ : phase_after switch.phase (SwitchMsg message) ≡ after = ap (λ (k : Phase). phase_after k (SwitchMsg message)) was ∙ becomes in
+    record {
+      body = body_after p switch sides qs ql timed old new body policy (phase ∙ sym then_)
+          (lane_is p switch sides ql timed over sent new.lane (ap₂ (λ (a b : Phase). not (is_ended a) && is_ended b) was then_ ∙ ends)
+          (ap (λ (k : Phase). lane_in (λ i. put_with p i switch (sides i) timed) k (SwitchMsg message)) was ∙ is) lane) opens;
+      goes_on = ap (λ (k : Phase). not (is_ended k)) (sym then_)
+          ∙ sym (ap not (closes_msg p (up_after p switch sides timed) switch.phase (phase_after switch.phase (SwitchMsg message)) message (ap is_fresh was ∙ far)));
+    }
+
 pub begun_ends : (old new : Desk) (moment : ℕ) (message : List ℕ) → Ends old new → is_bad message ≡ true → ActsIn Begun old (told_at moment message) false new
 begun_ends old new moment message ends bad p switch sides qs ql fit body begun =
-    let timed = told_at moment message in
-    let after : phase_after switch.phase (SwitchMsg message) ≡ Ended = ap (λ (k : Phase). phase_after k (SwitchMsg message)) begun ∙ begun_bad message bad in
     let none = bad_features message bad in
-    record {
-      body = body_after p switch sides qs ql timed old new body ends.same_policy (ends.phase ∙ sym after)
-          (lane_ends p switch sides ql timed old.lane new.lane body.lane (ap₂ (λ (a b : Phase). not (is_ended a) && is_ended b) begun after)
-          (ap (λ (k : Phase). lane_in (λ i. put_with p i switch (sides i) timed) k (SwitchMsg message)) begun ∙ lane_begun (λ i. put_with p i switch (sides i) timed) message None none ∙ bad_echo message bad) ends.lane)
-          (subst (λ (o : Option Session). Opens p (switch_after switch (SwitchMsg message)) (sides_after p switch sides timed) (queues_after p switch sides qs timed) o) (sym ends.session)
-          (begun_still p switch sides qs moment message old.session fit begun none body.opens));
-      goes_on = sym (ap not (closes_msg p (up_after p switch sides timed) switch.phase (phase_after switch.phase (SwitchMsg message)) message (ap is_fresh begun) ∙ ap is_ended after));
-    }
+    told p switch sides qs ql moment message Begun Ended true [] old new body begun refl (begun_bad message bad) refl
+    (lane_begun (λ i. put_with p i switch (sides i) (told_at moment message)) message None none ∙ bad_echo message bad) ends.same_policy ends.phase (ends.lane lane_limit ql body.lane)
+    (subst (λ (o : Option Session). Opens p (switch_after switch (SwitchMsg message)) (sides_after p switch sides (told_at moment message)) (queues_after p switch sides qs (told_at moment message)) o) (sym ends.session)
+    (begun_still p switch sides qs moment message old.session fit begun none body.opens))
 
 pub begun_answers : (old new : Desk) (moment : ℕ) (message : List ℕ) → new.policy ≡ old.policy → new.phase ≡ old.phase → HasMore (echo_for message) old.lane new.lane → new.session ≡ old.session
     → is_bad message ≡ false → features_told message ≡ None → ActsIn Begun old (told_at moment message) true new
 begun_answers old new moment message policy phase more session good none p switch sides qs ql fit body begun =
-    let timed = told_at moment message in
-    let after : phase_after switch.phase (SwitchMsg message) ≡ Begun = ap (λ (k : Phase). phase_after k (SwitchMsg message)) begun ∙ begun_echo message good none in
-    record {
-      body = body_after p switch sides qs ql timed old new body policy (phase ∙ body.phase ∙ begun ∙ sym after)
-          (lane_more p switch sides ql timed (echo_for message) old.lane new.lane body.lane (ap₂ (λ (a b : Phase). not (is_ended a) && is_ended b) begun after)
-          (ap (λ (k : Phase). lane_in (λ i. put_with p i switch (sides i) timed) k (SwitchMsg message)) begun ∙ lane_begun (λ i. put_with p i switch (sides i) timed) message None none) more)
-          (subst (λ (o : Option Session). Opens p (switch_after switch (SwitchMsg message)) (sides_after p switch sides timed) (queues_after p switch sides qs timed) o) (sym session)
-          (begun_still p switch sides qs moment message old.session fit begun none body.opens));
-      goes_on = sym (ap not (closes_msg p (up_after p switch sides timed) switch.phase (phase_after switch.phase (SwitchMsg message)) message (ap is_fresh begun) ∙ ap is_ended after));
-    }
+    told p switch sides qs ql moment message Begun Begun false (echo_for message) old new body begun refl (begun_echo message good none) refl
+    (lane_begun (λ i. put_with p i switch (sides i) (told_at moment message)) message None none) policy (phase ∙ body.phase ∙ begun) (more lane_limit ql body.lane)
+    (subst (λ (o : Option Session). Opens p (switch_after switch (SwitchMsg message)) (sides_after p switch sides (told_at moment message)) (queues_after p switch sides qs (told_at moment message)) o) (sym session)
+    (begun_still p switch sides qs moment message old.session fit begun none body.opens))
 
 pub opened : (old new : Desk) (moment : ℕ) (message : List ℕ) (features : Features) (session : Session) → new.policy ≡ old.policy → new.phase ≡ Opened → HasMore preparation old.lane new.lane → new.session ≡ Some session
     → features_told message ≡ Some features → Begins old.policy features session → ActsIn Begun old (told_at moment message) true new
-opened old new moment message features session policy phase more now told begins p switch sides qs ql fit body begun =
-    let timed = told_at moment message in
-    let after : phase_after switch.phase (SwitchMsg message) ≡ Opened = ap (λ (k : Phase). phase_after k (SwitchMsg message)) begun ∙ begun_opens message features told in
+opened old new moment message features session policy phase more now tells begins p switch sides qs ql fit body begun =
     let empty = none_begun p switch sides qs old.session fit begun body.opens in
-    record {
-      body = body_after p switch sides qs ql timed old new body policy (phase ∙ sym after)
-          (lane_more p switch sides ql timed preparation old.lane new.lane body.lane (ap₂ (λ (a b : Phase). not (is_ended a) && is_ended b) begun after)
-          (ap (λ (k : Phase). lane_in (λ i. put_with p i switch (sides i) timed) k (SwitchMsg message)) begun ∙ lane_begun (λ i. put_with p i switch (sides i) timed) message (Some features) told) more)
-          (subst (λ (o : Option Session). Opens p (switch_after switch (SwitchMsg message)) (sides_after p switch sides timed) (queues_after p switch sides qs timed) o) (sym now)
-          (session_begins p switch sides qs moment message features session fit (subst (λ (o : Option Session). Opens p switch sides qs o) empty body.opens) begun told
-          (subst (λ (v : PolicyView). Begins v features session) body.same_policy begins)));
-      goes_on = sym (ap not (closes_msg p (up_after p switch sides timed) switch.phase (phase_after switch.phase (SwitchMsg message)) message (ap is_fresh begun) ∙ ap is_ended after));
-    }
+    told p switch sides qs ql moment message Begun Opened false preparation old new body begun refl (begun_opens message features tells) refl
+    (lane_begun (λ i. put_with p i switch (sides i) (told_at moment message)) message (Some features) tells) policy phase (more lane_limit ql body.lane)
+    (subst (λ (o : Option Session). Opens p (switch_after switch (SwitchMsg message)) (sides_after p switch sides (told_at moment message)) (queues_after p switch sides qs (told_at moment message)) o) (sym now)
+    (session_begins p switch sides qs moment message features session fit (subst (λ (o : Option Session). Opens p switch sides qs o) empty body.opens) begun tells
+    (subst (λ (v : PolicyView). Begins v features session) body.same_policy begins)))
 
 -- ---- a message of a switch that has told what it is
 
@@ -155,38 +156,24 @@ bad_ends p switch sides qs moment message session stands open_ bad =
 opens_bad : (p : PolicyView) (switch : Switch) (sides : ℕ → Side) (qs : ℕ → Queue) (moment : ℕ) (message : List ℕ) (session : Option Session) → Coherent p switch sides → switch.phase ≡ Opened → is_bad message ≡ true → Opens p switch sides qs session
     → Opens p (switch_after switch (SwitchMsg message)) (sides_after p switch sides (told_at moment message)) (queues_after p switch sides qs (told_at moment message)) session
 opens_bad p switch sides qs moment message (Some session) fit open_ bad stands = bad_ends p switch sides qs moment message session stands open_ bad
-opens_bad p switch sides qs moment message None fit open_ bad opens = (let some = fit.open_told open_ in none_some some.0 (sym opens.0 ∙ some.1))
+opens_bad p switch sides qs moment message None fit open_ bad opens = (let some = fit.open_told open_ in absurd (none-some some.0 (sym opens.0 ∙ some.1)))
 
 -- a message of a bad length that was heard, where the session stays as it is
 pub hears_bad : (old mid new : Desk) (moment : ℕ) (message : List ℕ) → PassesOn moment message false old mid → Ends mid new → ActsIn Opened old (told_at moment message) false new
 hears_bad old mid new moment message passes ends p switch sides qs ql fit body open_ =
-    let timed = told_at moment message in
     let passed = passes p switch sides qs ql fit body open_ in
     let bad = passed.0 in
-    let after : phase_after switch.phase (SwitchMsg message) ≡ Ended = ap (λ (k : Phase). phase_after k (SwitchMsg message)) open_ ∙ opened_bad message bad in
-    record {
-      body = body_after p switch sides qs ql timed old new body (ends.same_policy ∙ ap (λ (d : Desk). d.policy) passed.1) (ends.phase ∙ sym after)
-          (lane_ends p switch sides ql timed old.lane new.lane body.lane (ap₂ (λ (a b : Phase). not (is_ended a) && is_ended b) open_ after)
-          (ap (λ (k : Phase). lane_in (λ i. put_with p i switch (sides i) timed) k (SwitchMsg message)) open_ ∙ bad_echo message bad)
-          (subst (λ (d : Desk). HasOnly [] d.lane new.lane) passed.1 ends.lane))
-          (subst (λ (o : Option Session). Opens p (switch_after switch (SwitchMsg message)) (sides_after p switch sides timed) (queues_after p switch sides qs timed) o) (sym (ends.session ∙ ap (λ (d : Desk). d.session) passed.1))
-          (opens_bad p switch sides qs moment message old.session fit open_ bad body.opens));
-      goes_on = sym (ap not (closes_msg p (up_after p switch sides timed) switch.phase (phase_after switch.phase (SwitchMsg message)) message (ap is_fresh open_) ∙ ap is_ended after));
-    }
+    told p switch sides qs ql moment message Opened Ended true [] old new body open_ refl (opened_bad message bad) refl (bad_echo message bad)
+    (ends.same_policy ∙ ap (λ (d : Desk). d.policy) passed.1) ends.phase (subst (λ (d : Desk). HasOnly [] d.lane new.lane) passed.1 ends.lane lane_limit ql body.lane)
+    (subst (λ (o : Option Session). Opens p (switch_after switch (SwitchMsg message)) (sides_after p switch sides (told_at moment message)) (queues_after p switch sides qs (told_at moment message)) o)
+    (sym (ends.session ∙ ap (λ (d : Desk). d.session) passed.1)) (opens_bad p switch sides qs moment message old.session fit open_ bad body.opens))
 
 -- a message that was carried out
 pub hears_good : (old new : Desk) (moment : ℕ) (message : List ℕ) → PassesOn moment message true old new → ActsIn Opened old (told_at moment message) true new
 hears_good old new moment message passes p switch sides qs ql fit body open_ =
-    let timed = told_at moment message in
     let passed = passes p switch sides qs ql fit body open_ in
-    let after : phase_after switch.phase (SwitchMsg message) ≡ Opened = ap (λ (k : Phase). phase_after k (SwitchMsg message)) open_ ∙ opened_good message passed.0 in
-    record {
-      body = body_after p switch sides qs ql timed old new body passed.1 (passed.2 ∙ body.phase ∙ open_ ∙ sym after)
-          (lane_more p switch sides ql timed (echo_for message) old.lane new.lane body.lane (ap₂ (λ (a b : Phase). not (is_ended a) && is_ended b) open_ after)
-          (ap (λ (k : Phase). lane_in (λ i. put_with p i switch (sides i) timed) k (SwitchMsg message)) open_) passed.4)
-          passed.3;
-      goes_on = sym (ap not (closes_msg p (up_after p switch sides timed) switch.phase (phase_after switch.phase (SwitchMsg message)) message (ap is_fresh open_) ∙ ap is_ended after));
-    }
+    told p switch sides qs ql moment message Opened Opened false (echo_for message) old new body open_ refl (opened_good message passed.0) refl refl
+    passed.1 (passed.2 ∙ body.phase ∙ open_) (passed.4 lane_limit ql body.lane) passed.3
 
 -- ---- a message that is carried out
 
@@ -205,10 +192,7 @@ surrounds : (p : PolicyView) (switch : Switch) (sides : ℕ → Side) (qs : ℕ 
 surrounds p switch sides qs session s open_ = record { opened = open_; slices = s.slices; rules = s.rules; known = s.known }
 
 all_stand : (p : PolicyView) (switch : Switch) (sides : ℕ → Side) (qs : ℕ → Queue) (session : Session) → SessionStands p switch sides qs session → AllStand p switch sides session.states.items
-all_stand p switch sides qs session s slot state g =
-    let here = subst (λ (n : ℕ). ltb slot n ≡ true) s.states_count (within session.states.items slot state g) in
-    let y = there session.queues.items slot (subst (λ (n : ℕ). ltb slot n ≡ true) (sym s.queues_count) here) in
-    (s.each slot state y.0 g y.1).state_stands
+all_stand p switch sides qs session s slot state g = (queue_there p switch sides qs session slot state s g).2.state_stands
 
 -- the session after it
 pub carried_session : (p : PolicyView) (switch : Switch) (sides : ℕ → Side) (qs : ℕ → Queue) (moment : ℕ) (message : List ℕ) (old new : Session) (rooms : List Kept) → SessionStands p switch sides qs old → switch.phase ≡ Opened
@@ -222,32 +206,22 @@ carried_session p switch sides qs moment message old new rooms s open_ policy fe
     (λ slot x y gx gy.
     let gx_old : slice_get old.states.items slot ≡ Some x = subst (λ v. slice_get v.items slot ≡ Some x) states gx in
     let here = subst (λ (n : ℕ). ltb slot n ≡ true) s.states_count (within old.states.items slot x gx_old) in
-    let was = there old.queues.items slot (subst (λ (n : ℕ). ltb slot n ≡ true) (sym s.queues_count) here) in
+    let was = queue_there p switch sides qs old slot x s gx_old in
     let mid = there rooms slot (subst (λ (n : ℕ). ltb slot n ≡ true) (sym (same.count ∙ s.queues_count)) here) in
-    let one = s.each slot x was.0 gx_old was.1 in
-    let roomy = same.each slot was.0 mid.0 was.1 mid.1 slice_limit (qs slot) one.queue_stands in
+    let roomy = same.each slot was.0 mid.0 was.1 mid.1 slice_limit (qs slot) was.2.queue_stands in
     record {
-      state_stands = stands_still p slot switch (sides slot) moment message x open_ one.state_stands;
+      state_stands = stands_still p slot switch (sides slot) moment message x open_ was.2.state_stands;
       queue_stands = subst (λ (m : List (List ℕ)). QueueStands slice_limit (push_all slice_limit (qs slot) m) y)
           (slot_sent p switch sides (told_at moment message) 0 slot p.slices (omega arith) (let less = ltb-true slot (length p.slices) here in omega arith)) (handed.each slot mid.0 y mid.1 gy slice_limit (qs slot) roomy);
     })
 
 -- want of memory after room was made in some queues
 pub kept_queues : (old new : Session) → new.policy ≡ old.policy → new.features ≡ old.features → new.states ≡ old.states → new.ports ≡ old.ports → AreSame old.queues.items new.queues.items → StandsOn old new
-kept_queues old new policy features states ports same p switch sides qs s = record {
-  told = s.told ∙ ap (λ (f : Features). Some f) (sym features);
-  slices = ap (λ v. v.slices) policy ∙ s.slices;
-  rules = ap (λ v. v.rules) policy ∙ s.rules;
-  known = ports ∙ s.known;
-  states_count = ap (λ v. length v.items) states ∙ s.states_count;
-  queues_count = same.count ∙ s.queues_count;
-  each = λ slot x y gx gy.
-      let gx_old : slice_get old.states.items slot ≡ Some x = subst (λ v. slice_get v.items slot ≡ Some x) states gx in
-      let here = subst (λ (n : ℕ). ltb slot n ≡ true) s.states_count (within old.states.items slot x gx_old) in
-      let was = there old.queues.items slot (subst (λ (n : ℕ). ltb slot n ≡ true) (sym s.queues_count) here) in
-      let one = s.each slot x was.0 gx_old was.1 in
-      record { state_stands = one.state_stands; queue_stands = same.each slot was.0 y was.1 gy slice_limit (qs slot) one.queue_stands };
-}
+kept_queues old new policy features states ports same p switch sides qs s =
+    session_becomes p switch switch sides sides qs qs old new s refl policy features (ports ∙ s.known) (ap (λ v. length v.items) states) same.count
+    (λ slot x y gx gy.
+    let was = queue_there p switch sides qs old slot x s (subst (λ v. slice_get v.items slot ≡ Some x) states gx) in
+    record { state_stands = was.2.state_stands; queue_stands = same.each slot was.0 y was.1 gy slice_limit (qs slot) was.2.queue_stands })
 
 -- all that follows from a message, for the session and the lane
 pub carried_out : (moment : ℕ) (message : List ℕ) (old new : Session) (lane new_lane : Kept) (rooms : List Kept) (p : PolicyView) (switch : Switch) (sides : ℕ → Side) (qs : ℕ → Queue) (d : Dispatch) → switch.phase ≡ Opened → SessionStands p switch sides qs old

@@ -1,7 +1,6 @@
 -- A desk after a take.
-use Rattle.std.proofs.Common.{◌≡◌, ◌≢◌, ℕ, ◌==◌, ◌&&◌, ◌||◌, not, Bool, true, false, if◌then◌else◌, List, slice_get, refl, ap, ap₂, subst, sym, ◌∙◌, true≢false, eqb-true, inl, inr, ◌⊎◌, Option, Some, None}
-use Rattle.std.specs.Prelude.{ltb}
-use Rattle.std.proofs.lemmas.Bool.{cases_Bool, eq-eqb}
+use Rattle.std.proofs.Common.{◌≡◌, ℕ, ◌==◌, ◌&&◌, ◌||◌, not, Bool, true, false, if◌then◌else◌, List, slice_get, refl, ap, ap₂, subst, sym, ◌∙◌, true≢false, inl, inr, ◌⊎◌, Option, Some, None}
+use Rattle.std.proofs.lemmas.Bool.{eq-eqb, ne_eqb}
 use Rattle.flowspace.specs.Policies.{PolicyView}
 use Rattle.flow_book.specs.declared.state.SliceState.{SliceState}
 use Rattle.outbox.specs.Queues.{Queue, no_messages, without_first, Kept, QueueStands}
@@ -20,10 +19,9 @@ use Rattle.desk_words.specs.Verdicts.{is_ended}
 use Rattle.desk_words.specs.Operations.{slice_limit, lane_limit}
 use Rattle.proxy_core.specs.declared.parts.Session.{Session}
 use Rattle.proxy_core.specs.declared.parts.Desk.{Desk}
-use Rattle.proxy_core.specs.Desks.{SlotStands, SessionStands, Opens, queues_less, TakesNext, silence_now, silence_before, IsSilence, is_message, Shrinks}
+use Rattle.proxy_core.specs.Desks.{SessionStands, Opens, queues_less, TakesNext, silence_now, silence_before, IsSilence, is_message, Shrinks}
 use Rattle.proxy_core.specs.Opening.{has_slot, is_up_at, AtSlot, IsNext, silence_at}
-use Rattle.proxy_core.proofs.Lists.{there, within}
-use Rattle.proxy_core.proofs.Standing.{slots_are}
+use Rattle.proxy_core.proofs.Standing.{slots_are, slot_becomes, slot_there, change_there}
 use Rattle.proxy_core.proofs.Acting.{is_opened}
 use Rattle.proxy_core.proofs.Events.{before_in, shut_before}
 use Rattle.proxy_core.proofs.Sliced.{up_state}
@@ -39,47 +37,20 @@ by_place : (p : PolicyView) (switch : Known) (sides : ℕ → Side) (qs : ℕ �
 by_place p switch sides qs a slot next b s at nowhere beyond false is =
     nowhere (slots_are p switch sides qs a slot s ∙ is) ∙ sym (ap (λ (q : Queue). slice_get q.pending 0) (beyond is))
 by_place p switch sides qs a slot next b s at nowhere beyond true is =
-    let x = there a.states.items slot (subst (λ (n : ℕ). ltb slot n ≡ true) (sym s.states_count) is) in
-    let y = there a.queues.items slot (subst (λ (n : ℕ). ltb slot n ≡ true) (sym s.queues_count) is) in
-    let z = there b.states.items slot (subst (λ (n : ℕ). ltb slot n ≡ true) (sym (at.states_count ∙ s.states_count)) is) in
-    let w = there b.queues.items slot (subst (λ (n : ℕ). ltb slot n ≡ true) (sym (at.queues_count ∙ s.queues_count)) is) in
-    ((at.own x.0 y.0 z.0 w.0 x.1 y.1 z.1 w.1).1 slice_limit (qs slot) (s.each slot x.0 y.0 x.1 y.1).queue_stands).0
+    let c = change_there p switch sides qs slot (IsNext next) a b s at is in
+    (c.4.1 slice_limit (qs slot) c.5.queue_stands).0
 
 less_one : (slot i : ℕ) (q : Queue) (b : Bool) → (slot == i) ≡ b → (if slot == i then without_first q else q) ≡ (if b then without_first q else q)
 less_one slot i q b is = ap (λ (k : Bool). if k then without_first q else q) is
 
 session_less : (p : PolicyView) (switch : Known) (sides : ℕ → Side) (qs : ℕ → Queue) (a : Session) (slot : ℕ) (next : Option (List ℕ)) (b : Session) → SessionStands p switch sides qs a → AtSlot slot (IsNext next) a b
     → SessionStands p switch sides (queues_less (Slice slot) qs) b
-session_less p switch sides qs a slot next b s at = record {
-  told = s.told ∙ ap (λ f. Some f) (sym at.features);
-  slices = ap (λ v. v.slices) at.policy ∙ s.slices;
-  rules = ap (λ v. v.rules) at.policy ∙ s.rules;
-  known = at.ports ∙ s.known;
-  states_count = at.states_count ∙ s.states_count;
-  queues_count = at.queues_count ∙ s.queues_count;
-  each = λ i z w gz gw. elim (cases_Bool (slot == i)) [
-    | inl is ↦
-        let e : slot ≡ i = eqb-true slot i is in
-        let gz2 : slice_get b.states.items slot ≡ Some z = subst (λ (k : ℕ). slice_get b.states.items k ≡ Some z) (sym e) gz in
-        let gw2 : slice_get b.queues.items slot ≡ Some w = subst (λ (k : ℕ). slice_get b.queues.items k ≡ Some w) (sym e) gw in
-        let x = there a.states.items slot (subst (λ (n : ℕ). ltb slot n ≡ true) at.states_count (within b.states.items slot z gz2)) in
-        let y = there a.queues.items slot (subst (λ (n : ℕ). ltb slot n ≡ true) at.queues_count (within b.queues.items slot w gw2)) in
-        let was = s.each slot x.0 y.0 x.1 y.1 in
-        let next_ = at.own x.0 y.0 z w x.1 y.1 gz2 gw2 in
-        subst (λ (k : ℕ). SlotStands p k switch (sides k) (queues_less (Slice slot) qs k) z w) e (record {
-          state_stands = subst (λ (state : SliceState). SliceStands (settings_at p slot switch.features) (sides slot).sight state) (sym next_.0) was.state_stands;
-          queue_stands = subst (λ (q : Queue). QueueStands slice_limit q w) (sym (less_one slot slot (qs slot) true (eq-eqb slot slot refl))) (next_.1 slice_limit (qs slot) was.queue_stands).1;
-        })
-    | inr isnt ↦
-        let far : i ≢ slot = λ e. true≢false (sym (eq-eqb slot i (sym e)) ∙ isnt) in
-        let same = at.others i far in
-        let was = s.each i z w (sym same.0 ∙ gz) (sym same.1 ∙ gw) in
-        record {
-          state_stands = was.state_stands;
-          queue_stands = subst (λ (q : Queue). QueueStands slice_limit q w) (sym (less_one slot i (qs i) false isnt)) was.queue_stands;
-        }
-  ];
-}
+session_less p switch sides qs a slot next b s at = slot_becomes p switch sides qs (queues_less (Slice slot) qs) slot (IsNext next) a b s at
+    (λ x y z w was taken. record {
+      state_stands = subst (λ (state : SliceState). SliceStands (settings_at p slot switch.features) (sides slot).sight state) (sym taken.0) was.state_stands;
+      queue_stands = subst (λ (q : Queue). QueueStands slice_limit q w) (sym (less_one slot slot (qs slot) true (eq-eqb slot slot refl))) (taken.1 slice_limit (qs slot) was.queue_stands).1;
+    })
+    (λ i far. less_one slot i (qs i) false (ne_eqb slot i (λ e. far (sym e))))
 
 pub took_slice : (old : Desk) (a b : Session) (slot : ℕ) (next : Option (List ℕ)) → old.session ≡ Some a → AtSlot slot (IsNext next) a b → (has_slot a slot ≡ false → next ≡ None)
     → TakesNext old (Slice slot) next (record old { session = Some b })
@@ -150,10 +121,9 @@ silence_cases p switch sides qs a slot true false s open_ here is =
     at_down a slot (up_state p switch sides qs a slot s here ∙ is)
     ∙ silent_gone (is_slot p slot) (is_up (sides slot).sight.view) (qs slot).choked switch.phase open_ (ap₂ (λ (b c : Bool). b && c) here is)
 silence_cases p switch sides qs a slot true true s open_ here is =
-    let x = there a.states.items slot (subst (λ (n : ℕ). ltb slot n ≡ true) (sym s.states_count) here) in
-    let y = there a.queues.items slot (subst (λ (n : ℕ). ltb slot n ≡ true) (sym s.queues_count) here) in
+    let at = slot_there p switch sides qs a slot s here in
     silent_up true (is_slot p slot) (is_up (sides slot).sight.view) (qs slot).choked switch.phase (silence_at slot a) open_ here is
-    (at_up a slot y.0 (up_state p switch sides qs a slot s here ∙ is) y.1 ∙ ap (λ (b : Bool). if b then Choked else Nothing) (s.each slot x.0 y.0 x.1 y.1).queue_stands.choked)
+    (at_up a slot at.1 (up_state p switch sides qs a slot s here ∙ is) at.3 ∙ ap (λ (b : Bool). if b then Choked else Nothing) at.4.queue_stands.choked)
 
 not_ended : (phase : Phase) → (phase ≡ Fresh) ⊎ ((phase ≡ Begun) ⊎ (phase ≡ Opened)) → is_ended phase ≡ false
 not_ended phase (inl is) = ap is_ended is

@@ -1,7 +1,8 @@
 use Rattle.std.proofs.Common.{◌≡◌, [], length, ap, sym, ◌∙◌, subst, arith}
+use Rattle.std.proofs.lemmas.List.{nil_from_length}
 use Rattle.std.specs.Vec.Iter.{into_iter_items}
 use Rattle.outbox.specs.Queues.{push, QueueStands}
-use Rattle.proxy_core.proofs.Rooms.{nothing_left, pushed_more, all_pushed}
+use Rattle.proxy_core.proofs.Rooms.{pushed_more, all_pushed}
 use Rattle.proxy_core.proofs.lane.push_all.Goals as goal
 
 pub push-requires : goal.push-requires
@@ -34,6 +35,6 @@ pub returns : goal.returns
 returns c = λ limit q h.
     let at = c.loop-message in
     let before = at.invariant.pushed limit q h in
-    let empty : into_iter_items at.message-iterator ≡ [] = nothing_left _ (sym at.invariant.whole ∙ c.in-None.ensures.steps.0) in
+    let empty : into_iter_items at.message-iterator ≡ [] = nil_from_length _ (sym at.invariant.whole ∙ c.in-None.ensures.steps.0) in
     subst (λ k. QueueStands limit k at.waiting)
     (all_pushed limit before.0 q (into_iter_items at.message-iterator) _ c.args.messages.items empty before.2 c.into_iter-message-iterator.ensures.into_iter_gives.0) before.1

@@ -1,7 +1,7 @@
 use Rattle.std.proofs.Common.{◌≡◌, [], length, ap, sym, ◌∙◌, subst, arith}
+use Rattle.std.proofs.lemmas.List.{nil_from_length}
 use Rattle.std.specs.Vec.Iter.{into_iter_items}
 use Rattle.proxy_core.specs.Handing.{HaveRoom, AreHanded}
-use Rattle.proxy_core.proofs.Rooms.{nothing_left}
 use Rattle.proxy_core.proofs.Handed.{none_handed, handed_more, room_of_first}
 use Rattle.proxy_core.proofs.opened.hand_out.Goals as goal
 
@@ -27,6 +27,6 @@ loop-slot-preserved c =
 pub returns : goal.returns
 returns c =
     let at = c.loop-slot in
-    let empty : into_iter_items at.slot-iterator ≡ [] = nothing_left _ (sym at.invariant.whole ∙ c.in-None.ensures.steps.0) in
+    let empty : into_iter_items at.slot-iterator ≡ [] = nil_from_length _ (sym at.invariant.whole ∙ c.in-None.ensures.steps.0) in
     subst (λ m. AreHanded m c.args.queues.now.items at.queues.items) c.into_iter-slot-iterator.ensures.into_iter_gives.0
     (at.invariant.handed at.queues.items (subst (λ m. AreHanded m at.queues.items at.queues.items) (sym empty) (none_handed at.queues.items)))
