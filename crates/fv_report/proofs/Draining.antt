@@ -1,7 +1,8 @@
 -- Messages that are taken and written one after another.
-use Rattle.std.proofs.Common.{◌≡◌, ℕ, Bool, true, false, List, [], ◌∷◌, ◌++◌, drop, refl, sym, ap, ◌∙◌, append_assoc, true≢false, Option, Some, None, slice_get, subst, codes}
+use Rattle.std.proofs.Common.{◌≡◌, ℕ, List, [], ◌∷◌, ◌++◌, drop, refl, sym, ap, ◌∙◌, append_assoc, Option, Some, None, slice_get, subst, codes}
 use Rattle.std.specs.List.{flat_map}
 use Rattle.std.proofs.lemmas.List.{append-nil}
+use Rattle.std.proofs.lemmas.Option.{none-some, same_Some}
 use Rattle.fv_base.specs.Told.{appended}
 use Rattle.hex.specs.Hex.{encode_lower}
 use Rattle.desk_words.specs.Reports.{Place, line}
@@ -26,22 +27,15 @@ pub record Drained (IsLeft : List (List ℕ) → Type 0) (text : List ℕ → Li
 pub drained_first : (IsLeft : List (List ℕ) → Type 0) (text : List ℕ → List ℕ) (messages : List (List ℕ)) (before : Option (List ℕ)) → IsLeft messages → Drained IsLeft text messages before before
 drained_first IsLeft text messages before holds = record { left = messages; holds = holds; done = []; written = appended_none before; whole = refl }
 
-abbrev is_some : Option (List ℕ) → Bool
-is_some None = false
-is_some (Some message) = true
-
-first_is : (message first : List ℕ) → Some message ≡ Some first → first ≡ message
-first_is message first e = sym (ap (λ (o : Option (List ℕ)). elim o [ None ↦ message | Some m ↦ m ]) e)
-
 more : (Then : List (List ℕ) → Type 0) (text : List ℕ → List ℕ) (messages left : List (List ℕ)) (done : List ℕ) (before now later : Option (List ℕ)) (message : List ℕ)
     → now ≡ appended before done → done ++ flat_map text left ≡ flat_map text messages → Some message ≡ slice_get left 0 → Then (drop 1 left) → later ≡ appended now (text message) → Drained Then text messages before later
-more Then text messages [] done before now later message written whole is next told = absurd (true≢false (ap is_some is))
+more Then text messages [] done before now later message written whole is next told = absurd (none-some message (sym is))
 more Then text messages (first ∷ others) done before now later message written whole is next told = record {
   left = others;
   holds = next;
   done = done ++ text message;
   written = both before now later done (text message) written told;
-  whole = append_assoc done (text message) (flat_map text others) ∙ ap (λ m. done ++ (text m ++ flat_map text others)) (sym (first_is message first is)) ∙ whole;
+  whole = append_assoc done (text message) (flat_map text others) ∙ ap (λ m. done ++ (text m ++ flat_map text others)) (same_Some message first is) ∙ whole;
 }
 
 -- one line more
@@ -51,9 +45,9 @@ drained_more IsLeft Then text messages before now later message d is next told =
 
 part : (text : List ℕ → List ℕ) (messages left : List (List ℕ)) (done : List ℕ) (before now later : Option (List ℕ)) (message : List ℕ)
     → now ≡ appended before done → done ++ flat_map text left ≡ flat_map text messages → Some message ≡ slice_get left 0 → WrotePart (text message) now later → WrotePart (flat_map text messages) before later
-part text messages [] done before now later message written whole is wrote = absurd (true≢false (ap is_some is))
+part text messages [] done before now later message written whole is wrote = absurd (none-some message (sym is))
 part text messages (first ∷ others) done before now later message written whole is wrote =
-    subst (λ all. WrotePart all before later) (ap (λ m. done ++ (text m ++ flat_map text others)) (sym (first_is message first is)) ∙ whole)
+    subst (λ all. WrotePart all before later) (ap (λ m. done ++ (text m ++ flat_map text others)) (same_Some message first is) ∙ whole)
     (part_of_second done (text message ++ flat_map text others) before now later written (part_of_first (text message) (flat_map text others) now later wrote))
 
 -- a piece of the next line
@@ -63,7 +57,7 @@ drained_part IsLeft text messages before now later message d is wrote = part tex
 
 nothing_left : (left : List (List ℕ)) → None ≡ slice_get left 0 → left ≡ []
 nothing_left [] is = refl
-nothing_left (first ∷ others) is = absurd (true≢false (sym (ap is_some is)))
+nothing_left (first ∷ others) is = absurd (none-some first is)
 
 -- all lines
 pub drained_all : (IsLeft : List (List ℕ) → Type 0) (text : List ℕ → List ℕ) (messages : List (List ℕ)) (before now : Option (List ℕ)) (d : Drained IsLeft text messages before now)

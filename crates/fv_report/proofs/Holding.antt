@@ -1,5 +1,5 @@
 -- What a desk stands for after a take and after a step.
-use Rattle.std.proofs.Common.{◌≡◌, ◌≤◌, ◌+◌, ◌==◌, ◌||◌, ◌&&◌, not, ltb, ℕ, Bool, true, false, if◌then◌else◌, List, [], ◌∷◌, drop, length, refl, sym, ap, ◌∙◌, subst, eqb-true, eq-eqb, None, Ok, slice_get, arith}
+use Rattle.std.proofs.Common.{◌≡◌, ◌≤◌, ◌+◌, ◌==◌, ◌||◌, ◌&&◌, not, ltb, ℕ, Bool, true, false, if◌then◌else◌, List, [], ◌∷◌, drop, length, refl, sym, ap, ◌∙◌, subst, true≢false, eqb-true, eq-eqb, None, Ok, slice_get, arith}
 use Rattle.std.proofs.lemmas.Bool.Decides.{nat_tests}
 use Rattle.flowspace.specs.Policies.{PolicyView}
 use Rattle.outbox.specs.Queues.{Queue, no_messages, size, push_all, without_first}
@@ -18,10 +18,11 @@ use Rattle.desk_words.specs.Openings.{phase_of}
 use Rattle.desk_words.specs.Histories.{is_slot, is_open, is_slice_up, view_of}
 use Rattle.desk_words.specs.Verdicts.{is_ended, is_fresh, is_over, closes}
 use Rattle.desk_words.specs.Sent.{sent_by, lane_by}
-use Rattle.desk_words.specs.Operations.{Operation, Step, Take, takes_in, events_of, slice_limit, lane_limit, empties_slice, ends, queue_event, lane_event, queue_of, lane_of, empty_reply}
-use Rattle.answer_bounds.specs.Bounds.{IsFramed, AreFramed, Fits}
+use Rattle.desk_words.specs.Operations.{Step, Take, takes_in, events_of, slice_limit, lane_limit, empties_slice, ends, queue_of, lane_of, empty_reply}
+use Rattle.answer_bounds.specs.Bounds.{IsFramed, AreFramed}
 use Rattle.answer_bounds.proofs.Fitting.{answers_fit}
 use Rattle.proxy_core.specs.declared.parts.Desk.{Desk}
+use Rattle.proxy_core.proofs.Acting.{either_empty}
 use Rattle.proxy_core.specs.Desks.{DeskStands, Takes, Steps}
 use Rattle.fv_report.specs.Holding.{waiting, Holds, nothing, IsQuiet, with_waiting, from_slot, After}
 use Rattle.fv_report.specs.Taking.{message_taken, is_nothing, is_the_end}
@@ -122,12 +123,6 @@ up_when Opened true false none = refl
 up_when Opened false true none = sym (none refl)
 up_when Opened false false none = refl
 
-end_when : (phase : Phase) → is_the_end (if is_ended phase then Ended else if is_fresh phase then NotOpen else if false then Choked else Nothing) ≡ is_ended phase
-end_when Fresh = refl
-end_when Begun = refl
-end_when Opened = refl
-end_when Over = refl
-
 -- whether a slice is up
 pub ask_up : (p : PolicyView) (h : List Timed) (slot : ℕ) (old new : Desk) (taken : Taken) → Takes old (Slice slot) taken new → IsQuiet p h old → is_nothing taken ≡ is_slice_up p slot h
 ask_up p h slot old new taken takes quiet =
@@ -138,19 +133,11 @@ ask_up p h slot old new taken takes quiet =
     ∙ up_when (phase_of evs) (is_slot p slot) (is_up (view_of p slot evs)) (not_up p slot evs)
     ∙ ap (is_slice_up p slot) quiet.events
 
-quiet_again : (slot other : ℕ) (b : Bool) → (if b then [] else nothing other) ≡ nothing other
-quiet_again slot other true = refl
-quiet_again slot other false = refl
-
 -- ---- steps
-
-emptied : (b : Bool) (q : Queue) → q ≡ no_messages → (if b then no_messages else q) ≡ no_messages
-emptied true q is = refl
-emptied false q is = is
 
 -- what waits for one destination after an event, where nothing waited
 all_wait : (limit : ℕ) (b : Bool) (q : Queue) (messages : List (List ℕ)) → q ≡ waiting [] → size messages ≤ limit → push_all limit (if b then no_messages else q) messages ≡ waiting messages
-all_wait limit b q messages is fits = ap (λ k. push_all limit k messages) (emptied b q is) ∙ push_all-kept limit [] messages (omega arith)
+all_wait limit b q messages is fits = ap (λ k. push_all limit k messages) (either_empty b q is) ∙ push_all-kept limit [] messages (omega arith)
 
 verdict_over : (a b : Bool) → verdicts.Ended ≡ (if a then verdicts.Ended else if b then Close else Go) → a ≡ true
 verdict_over true b is = refl
@@ -170,41 +157,27 @@ step_over p h timed old new steps quiet =
       record { ops = Step timed (Ok verdicts.Ended) ∷ quiet.ops; stands = replied.stands; events = quiet.events; queues = quiet.queues; lane_queue = quiet.lane_queue },
     )
 
-taken_in : (p : PolicyView) (ops : List Operation) (timed : Timed) (new : Desk) (v : Verdict) → DeskStands p (Step timed (Ok v) ∷ ops) new → events_of (Step timed (Ok v) ∷ ops) ≡ timed ∷ events_of ops
-    → ((slot : ℕ) → queue_of p slot (Step timed (Ok v) ∷ ops) ≡ queue_event p slot (events_of ops) timed (queue_of p slot ops)) → lane_of p (Step timed (Ok v) ∷ ops) ≡ lane_event p (events_of ops) timed (lane_of p ops)
-    → ((slot : ℕ) → queue_of p slot ops ≡ waiting []) → lane_of p ops ≡ waiting [] → Fits p (events_of ops) timed
-    → Holds p (timed ∷ events_of ops) (λ slot. sent_by p slot (events_of ops) timed) (lane_by p (events_of ops) timed) new
-taken_in p ops timed new v stands events queues lane quiet quiet_lane fits = record {
-  ops = Step timed (Ok v) ∷ ops;
-  stands = stands;
-  events = events;
-  queues = λ slot. queues slot ∙ all_wait slice_limit (empties_slice p slot (events_of ops) timed) (queue_of p slot ops) (sent_by p slot (events_of ops) timed) (quiet slot) (fits.slices slot);
-  lane_queue = lane ∙ all_wait lane_limit (ends (events_of ops) timed) (lane_of p ops) (lane_by p (events_of ops) timed) quiet_lane fits.lane;
-}
-
 -- an event that is taken in
-pub step_go : (p : PolicyView) (h : List Timed) (timed : Timed) (old new : Desk) → Steps old timed (Ok Go) new → IsQuiet p h old → AreFramed h → IsFramed timed.event → After p h timed true new
-step_go p h timed old new steps quiet framed one =
+step_in : (p : PolicyView) (h : List Timed) (timed : Timed) (old new : Desk) (v : Verdict) → takes_in (Ok v) ≡ true → Steps old timed (Ok v) new → IsQuiet p h old → AreFramed h → IsFramed timed.event → After p h timed true new
+step_in p h timed old new v takes steps quiet framed one =
     let replied = steps p quiet.ops quiet.stands in
     let evs = events_of quiet.ops in
+    let fits = answers_fit p evs timed (subst AreFramed (sym quiet.events) framed) one in
     subst (λ events. After p events timed true new) quiet.events (
-      verdict_on Go (is_over evs) (closes p evs timed) (λ e. absurd cc) replied.right,
-      taken_in p quiet.ops timed new Go replied.stands refl (λ slot. refl) refl quiet.queues quiet.lane_queue (answers_fit p evs timed (subst AreFramed (sym quiet.events) framed) one),
-    )
-
-pub step_close : (p : PolicyView) (h : List Timed) (timed : Timed) (old new : Desk) → Steps old timed (Ok Close) new → IsQuiet p h old → AreFramed h → IsFramed timed.event → After p h timed true new
-step_close p h timed old new steps quiet framed one =
-    let replied = steps p quiet.ops quiet.stands in
-    let evs = events_of quiet.ops in
-    subst (λ events. After p events timed true new) quiet.events (
-      verdict_on Close (is_over evs) (closes p evs timed) (λ e. absurd cc) replied.right,
-      taken_in p quiet.ops timed new Close replied.stands refl (λ slot. refl) refl quiet.queues quiet.lane_queue (answers_fit p evs timed (subst AreFramed (sym quiet.events) framed) one),
+      verdict_on v (is_over evs) (closes p evs timed) (λ e. true≢false (sym takes ∙ ap (λ (w : Verdict). takes_in (Ok w)) e)) replied.right,
+      record {
+        ops = Step timed (Ok v) ∷ quiet.ops;
+        stands = replied.stands;
+        events = rw takes refl;
+        queues = λ slot. rw takes (all_wait slice_limit (empties_slice p slot evs timed) (queue_of p slot quiet.ops) (sent_by p slot evs timed) (quiet.queues slot) (fits.slices slot));
+        lane_queue = rw takes (all_wait lane_limit (ends evs timed) (lane_of p quiet.ops) (lane_by p evs timed) quiet.lane_queue fits.lane);
+      },
     )
 
 -- an event with a verdict
 pub stepped : (p : PolicyView) (h : List Timed) (timed : Timed) (old new : Desk) (v : Verdict) (b : Bool) → Steps old timed (Ok v) new → b ≡ takes_in (Ok v) → IsQuiet p h old → AreFramed h → IsFramed timed.event → After p h timed b new
-stepped p h timed old new Go b steps is quiet framed one = subst (λ (k : Bool). After p h timed k new) (sym is) (step_go p h timed old new steps quiet framed one)
-stepped p h timed old new Close b steps is quiet framed one = subst (λ (k : Bool). After p h timed k new) (sym is) (step_close p h timed old new steps quiet framed one)
+stepped p h timed old new Go b steps is quiet framed one = subst (λ (k : Bool). After p h timed k new) (sym is) (step_in p h timed old new Go refl steps quiet framed one)
+stepped p h timed old new Close b steps is quiet framed one = subst (λ (k : Bool). After p h timed k new) (sym is) (step_in p h timed old new Close refl steps quiet framed one)
 stepped p h timed old new verdicts.Ended b steps is quiet framed one = subst (λ (k : Bool). After p h timed k new) (sym is) (step_over p h timed old new steps quiet)
 
 -- ---- slices one after another

@@ -1,9 +1,8 @@
 -- What of a recording isn't built, as it is looked for.
-use Rattle.std.proofs.Common.{◌≡◌, ◌<◌, ℕ, zero, suc, Bool, true, false, List, [], ◌∷◌, ◌++◌, drop, set, length, zip, find, refl, sym, ap, ◌∙◌, append_assoc, subst, true≢false, Option, Some, None, option_map, Result, Ok, Err, IfOk, slice_get, get_or, arith}
-use Rattle.std.proofs.lemmas.List.{append-nil, append_cancel_left}
-use Rattle.std.proofs.lemmas.Option.{slice_get-get_or}
-use Rattle.std.proofs.Math.Seq.{drop-append_seam}
-use Rattle.of10_ctl.specs.Streams.{Stream, Stands, frames_at, frames_of}
+use Rattle.std.proofs.Common.{◌≡◌, ◌<◌, ℕ, zero, suc, true, false, List, [], ◌∷◌, ◌++◌, drop, set, length, zip, find, refl, sym, ap, ◌∙◌, subst, Option, Some, None, option_map, slice_get, get_or, arith}
+use Rattle.std.proofs.lemmas.List.{length-set}
+use Rattle.std.proofs.lemmas.Option.{slice_get-get_or, none-some, same_Some}
+use Rattle.of10_ctl.specs.Streams.{Stream, Stands, frames_of}
 use Rattle.recording.specs.declared.item.Item.{Item}
 use Rattle.recording.specs.Recordings.{Told, switch_up, switch_bytes, slice_up, slice_bytes}
 use Rattle.slice_words.specs.Messages.{kind_of}
@@ -16,17 +15,9 @@ use Rattle.fv_report.specs.declared.streams.Streams.{Streams}
 use Rattle.fv_report.specs.Streams.{AreFresh, Restarts, TookFrame, connection, StreamsStand}
 use Rattle.fv_report.specs.Switches.{told_by}
 use Rattle.fv_report.specs.Lacks.{is_unbuilt, FoundIn, FindsIn, FindsInBytes, FindsAtSlot, FindsAt, AllFresh, AllStream, lack_at, lack_seen}
-use Rattle.fv_report.proofs.Recorded.{streams_up, streams_heard, streams_slice_up, streams_slice_heard, stream_by, set_get, set_length}
+use Rattle.fv_report.proofs.Streaming.{next_left, nothing_left}
+use Rattle.fv_report.proofs.Recorded.{frames_fed, streams_fresh, streams_up, streams_heard, streams_slice_up, streams_slice_heard, stream_by, set_get}
 use Rattle.fv_report.proofs.Running.{streams_other}
-
-abbrev is_there : {X : Type 0} → Option X → Bool
-is_there None = false
-is_there (Some x) = true
-
--- what holds of each answer holds of a result
-pub each_answer : {X E : Type 0} (P Q : X → Type 0) (result : Result X E) → ((x : X) → P x → Q x) → IfOk result P → IfOk result Q
-each_answer P Q (Ok x) each holds = each x holds
-each_answer P Q (Err fault) each holds = tt
 
 -- ---- one stream
 
@@ -37,10 +28,6 @@ pub record Looking (from : Dest) (fed : List ℕ) (all : List (List ℕ)) (frame
   pub stands : Stands framer fed given
   pub cut : given ++ rest ≡ frames_of fed
   pub same : find (is_unbuilt from) rest ≡ find (is_unbuilt from) all
-
--- a frame that is taken is the first of those that are left
-taken_first : (given rest others : List (List ℕ)) (frame : List ℕ) (frames : List (List ℕ)) → given ++ rest ≡ frames → (given ++ frame ∷ []) ++ others ≡ frames → rest ≡ frame ∷ others
-taken_first given rest others frame frames a b = append_cancel_left given rest (frame ∷ others) (a ∙ sym b ∙ append_assoc given (frame ∷ []) others)
 
 find_first : (from : Dest) (frame : List ℕ) (rest others all : List (List ℕ)) → rest ≡ frame ∷ others → is_unbuilt from frame ≡ true → find (is_unbuilt from) rest ≡ find (is_unbuilt from) all → Some frame ≡ find (is_unbuilt from) all
 find_first from frame rest others all left is same = rw is refl ∙ ap (find (is_unbuilt from)) (sym left) ∙ same
@@ -55,36 +42,30 @@ looking_more from fed all old new frame s took is = record {
   rest = took.0.0;
   stands = took.1;
   cut = took.0.1;
-  same = find_later from frame s.rest took.0.0 all (taken_first s.given s.rest took.0.0 frame (frames_of fed) s.cut took.0.1) is s.same;
+  same = find_later from frame s.rest took.0.0 all (next_left s.given s.rest took.0.0 frame (frames_of fed) s.cut took.0.1) is s.same;
 }
 
 -- one that isn't is the first
 pub looking_found : (from : Dest) (fed : List ℕ) (all : List (List ℕ)) (old new : Stream) (frame : List ℕ) (s : Looking from fed all old) → TookFrame (Some frame) fed s.given new → is_unbuilt from frame ≡ true → FoundIn from (Some (kind_of frame)) fed all new
 looking_found from fed all old new frame s took is = record {
-  first = ap (option_map kind_of) (find_first from frame s.rest took.0.0 all (taken_first s.given s.rest took.0.0 frame (frames_of fed) s.cut took.0.1) is s.same);
-  given = λ none. absurd (true≢false (ap is_there none));
+  first = ap (option_map kind_of) (find_first from frame s.rest took.0.0 all (next_left s.given s.rest took.0.0 frame (frames_of fed) s.cut took.0.1) is s.same);
+  given = λ none. absurd (none-some _ (sym none));
 }
 
 -- where no frame is left there is none
 pub looking_none : (from : Dest) (fed : List ℕ) (all : List (List ℕ)) (old new : Stream) (s : Looking from fed all old) → TookFrame None fed s.given new → FoundIn from None fed all new
 looking_none from fed all old new s took =
-    let none : s.rest ≡ [] = append_cancel_left s.given s.rest [] (s.cut ∙ sym took.0 ∙ sym (append-nil s.given)) in
+    let none : s.rest ≡ [] = nothing_left s.given s.rest (frames_of fed) s.cut took.0 in
     record {
       first = ap (option_map kind_of) (sym (ap (find (is_unbuilt from)) none) ∙ s.same);
       given = λ same. subst (Stands new fed) took.0 took.1;
     }
 
--- a framer that gave all frames goes on behind them
-pub frames_behind : (framer : Stream) (fed bytes : List ℕ) → Stands framer fed (frames_of fed) → frames_of fed ++ drop (length (frames_of fed)) (frames_of (fed ++ bytes)) ≡ frames_of (fed ++ bytes)
-frames_behind framer fed bytes stands =
-    let given = frames_of fed in
-    ap (λ (frames : List (List ℕ)). given ++ drop (length given) frames) (stands.frames bytes) ∙ ap (λ (others : List (List ℕ)). given ++ others) (drop-append_seam given _) ∙ sym (stands.frames bytes)
-
 -- bytes were fed, and all that was left was looked at
 pub bytes_looked : (from : Dest) (bytes : List ℕ) (kind : Option ℕ) (old fed_more new : Stream) → ((fed : List ℕ) (given : List (List ℕ)) → Stands old fed given → Stands fed_more (fed ++ bytes) given)
     → FindsIn from kind fed_more new → FindsInBytes from bytes kind old new
 bytes_looked from bytes kind old fed_more new feeds finds = λ fed stands.
-    finds (fed ++ bytes) (frames_of fed) (drop (length (frames_of fed)) (frames_of (fed ++ bytes))) (feeds fed (frames_of fed) stands) (frames_behind old fed bytes stands)
+    finds (fed ++ bytes) (frames_of fed) (drop (length (frames_of fed)) (frames_of (fed ++ bytes))) (feeds fed (frames_of fed) stands) (frames_fed fed bytes)
 
 -- ---- one record
 
@@ -130,25 +111,16 @@ lack_slice_heard slices switch slot moment bytes kind old new within same finds 
 
 -- what holds of each element and of one more holds of all
 pub each_more : {X : Type 0} (P : X → Type 0) (xs : List X) (new : X) → ((at : ℕ) (x : X) → slice_get xs at ≡ Some x → P x) → P new → (at : ℕ) (x : X) → slice_get (xs ++ new ∷ []) at ≡ Some x → P x
-each_more P [] new each own zero x is = subst P (ap (λ (o : Option _). elim o [ None ↦ new | Some y ↦ y ]) is) own
-each_more P [] new each own (suc at) x is = absurd (true≢false (sym (ap is_there is)))
+each_more P [] new each own zero x is = subst P (same_Some new x is) own
+each_more P [] new each own (suc at) x is = absurd (none-some x is)
 each_more P (first ∷ others) new each own zero x is = each 0 x is
 each_more P (first ∷ others) new each own (suc at) x is = each_more P others new (λ k y g. each (suc k) y g) own at x is
 
 -- the streams after a record of a switch
 streams_among : (slices : ℕ) (r : Told) (before : List Told) (switches : List Streams) (new : Streams) → StreamsStand slices r.switch (r ∷ before) new → AllStream slices before switches → AllStream slices (r ∷ before) (set switches r.switch new)
 streams_among slices r before switches new own all = record {
-  count = set_length switches r.switch new ∙ all.count;
+  count = length-set switches r.switch new ∙ all.count;
   each = set_get (λ number streams. StreamsStand slices number (r ∷ before) streams) switches r.switch new (λ other streams unlike g. streams_other slices other r before streams unlike (all.each other streams g)) own;
-}
-
--- nothing came on a connection before all records
-fresh_stand : (slices switch : ℕ) (streams : Streams) → AreFresh slices streams → StreamsStand slices switch [] streams
-unfolding frames_of frames_at
-fresh_stand slices switch streams fresh = record {
-  of_switch = fresh.0;
-  number = fresh.1.number;
-  of_slices = λ at framer is. fresh.1.each at framer is;
 }
 
 -- ---- one record after another
@@ -156,7 +128,7 @@ fresh_stand slices switch streams fresh = record {
 -- a record that completes a message that isn't built is the first that lacks
 found_here : (item : Item) (kind : ℕ) (message : Option (List ℕ)) (later : Option built.Lack) → Some kind ≡ option_map kind_of message
     → Some (lack_at item kind) ≡ option_map lack_seen (elim message [ None ↦ later | Some m ↦ Some (lack_of item m) ])
-found_here item kind None later is = absurd (true≢false (ap is_there is))
+found_here item kind None later is = absurd (none-some kind (sym is))
 found_here item kind (Some message) later is = ap (option_map (lack_at item)) is
 
 lack_here : (before : List Told) (item : Item) (r : Told) (later : List (Item × Told)) (kind : ℕ) → Some kind ≡ option_map kind_of (unbuilt_in r before) → Some (lack_at item kind) ≡ option_map lack_seen (first_lack before ((item, r) ∷ later))
@@ -166,7 +138,7 @@ lack_here before item r later kind is = found_here item kind (unbuilt_in r befor
 -- any other is passed over
 none_here : (item : Item) (message : Option (List ℕ)) (later : Option built.Lack) → None ≡ option_map kind_of message → elim message [ None ↦ later | Some m ↦ Some (lack_of item m) ] ≡ later
 none_here item None later is = refl
-none_here item (Some message) later is = absurd (true≢false (sym (ap is_there is)))
+none_here item (Some message) later is = absurd (none-some (kind_of message) is)
 
 lack_behind : (before : List Told) (item : Item) (r : Told) (later : List (Item × Told)) → None ≡ option_map kind_of (unbuilt_in r before) → first_lack before ((item, r) ∷ later) ≡ first_lack (r ∷ before) later
 unfolding first_lack
@@ -185,7 +157,7 @@ pub record Searching (slices : ℕ) (file : List ℕ) (items left : List Item) (
 pub searching_first : (slices : ℕ) (file : List ℕ) (items : List Item) (switches : List Streams) → AllFresh slices switches → Searching slices file items items switches
 searching_first slices file items switches fresh = record {
   before = [];
-  stand = record { count = fresh.count; each = λ number streams is. fresh_stand slices number streams (fresh.each number streams is) };
+  stand = record { count = fresh.count; each = λ number streams is. streams_fresh slices number [] streams refl (λ slot. refl) (fresh.each number streams is) };
   same = refl;
 }
 

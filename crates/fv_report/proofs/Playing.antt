@@ -1,7 +1,8 @@
 -- Events that are played one after another.
 use Rattle.std.proofs.Common.{◌≡◌, ◌+◌, ℕ, suc, Bool, true, false, if◌then◌else◌, List, [], ◌∷◌, ◌++◌, map, length, refl, sym, ap, ap₂, ◌∙◌, append_assoc, subst, Option, Some, None, Result, Ok, Err, IfOk, arith}
 use Rattle.std.specs.Result.{IsErr}
-use Rattle.std.proofs.lemmas.List.{append-nil, length-append, append_cancel_left}
+use Rattle.std.proofs.lemmas.Result.{IfOk-from_err}
+use Rattle.std.proofs.lemmas.List.{append-nil, length-append}
 use Rattle.std.proofs.lemmas.List.Elements.{All-cons}
 use Rattle.fv_base.specs.Told.{appended}
 use Rattle.flowspace.specs.Policies.{PolicyView}
@@ -23,7 +24,8 @@ use Rattle.fv_report.specs.Writing.{WrotePart}
 use Rattle.fv_report.specs.Holding.{IsQuiet}
 use Rattle.fv_report.specs.Streams.{TookFrame}
 use Rattle.fv_report.specs.Plays.{event_from, Played, Plays, Hears}
-use Rattle.fv_report.proofs.Writing.{both, part_of_first, part_of_second, part_of_all, at_fault, no_ok, not_ok}
+use Rattle.fv_report.proofs.Streaming.{next_left, nothing_left}
+use Rattle.fv_report.proofs.Writing.{both, part_of_first, part_of_second, part_of_all, at_fault}
 
 -- ---- one event
 
@@ -41,6 +43,22 @@ one_event p moment h event is = rw is refl
 pub no_event : (p : PolicyView) (moment : ℕ) (h : List Timed) (event : Event) → happens p h event ≡ false → happening p moment h (event ∷ []) ≡ []
 no_event p moment h event is = rw is refl
 
+-- a fault ends what is played
+plays_part : {E : Type 0} (p : PolicyView) (moment : ℕ) (h : List Timed) (events : List Event) (place : Place) (result : Result Place E) (before after : Option (List ℕ)) (desk : Desk)
+    → IsErr result → WrotePart (lines_of p (place_of place) h (happening p moment h events)) before after → Plays p moment h events place result before after desk
+plays_part p moment h events place result before after desk err part = record {
+  writes = at_fault result (lines_of p (place_of place) h (happening p moment h events)) before after err part;
+  played = IfOk-from_err result (λ later. Played p h (happening p moment h events) place later desk) err;
+}
+
+-- a piece of its lines was written
+pub failed_one : {E : Type 0} (p : PolicyView) (timed : Timed) (h : List Timed) (place : Place) (result : Result Place E) (before after : Option (List ℕ)) (desk : Desk)
+    → happens p h timed.event ≡ true → IsErr result → WrotePart (event_lines p (place_of place) h timed) before after → Plays p timed.moment h (timed.event ∷ []) place result before after desk
+failed_one p timed h place result before after desk is err part =
+    let own = one_event p timed.moment h timed.event is in
+    plays_part p timed.moment h (timed.event ∷ []) place result before after desk err
+    (subst (λ (events : List Timed). WrotePart (lines_of p (place_of place) h events) before after) (sym own) (part_of_first (event_lines p (place_of place) h timed) [] before after part))
+
 -- the event was played
 pub played_one : {E : Type 0} (p : PolicyView) (timed : Timed) (h : List Timed) (place : Place) (result : Result Place E) (before after : Option (List ℕ)) (desk : Desk)
     → happens p h timed.event ≡ true → after ≡ appended before (event_lines p (place_of place) h timed) → IsQuiet p (next_of h timed) desk → AreFramed h → IsFramed timed.event
@@ -57,23 +75,7 @@ played_one p timed h place (Ok later) before after desk is written quiet framed 
       };
     }
 played_one p timed h place (Err fault) before after desk is written quiet framed one number switch =
-    let own = one_event p timed.moment h timed.event is in
-    record {
-      writes = subst (λ (events : List Timed). WrotePart (lines_of p (place_of place) h events) before after) (sym own)
-          (part_of_first (event_lines p (place_of place) h timed) [] before after (part_of_all (event_lines p (place_of place) h timed) before after written));
-      played = tt;
-    }
-
--- a piece of its lines was written
-pub failed_one : {E : Type 0} (p : PolicyView) (timed : Timed) (h : List Timed) (place : Place) (result : Result Place E) (before after : Option (List ℕ)) (desk : Desk)
-    → happens p h timed.event ≡ true → IsErr result → WrotePart (event_lines p (place_of place) h timed) before after → Plays p timed.moment h (timed.event ∷ []) place result before after desk
-failed_one p timed h place result before after desk is err part =
-    let own = one_event p timed.moment h timed.event is in
-    record {
-      writes = at_fault result (lines_of p (place_of place) h (happening p timed.moment h (timed.event ∷ []))) before after err
-          (subst (λ (events : List Timed). WrotePart (lines_of p (place_of place) h events) before after) (sym own) (part_of_first (event_lines p (place_of place) h timed) [] before after part));
-      played = no_ok (λ later. Played p h (happening p timed.moment h (timed.event ∷ [])) place later desk) result err;
-    }
+    failed_one p timed h place (Err fault) before after desk is refl (part_of_all (event_lines p (place_of place) h timed) before after written)
 
 no_more : (n : ℕ) → n ≡ n + 0
 no_more n = omega arith
@@ -120,9 +122,20 @@ pub record Hearing (p : PolicyView) (moment : ℕ) (from : Dest) (first_place pl
   pub switch : place.switch ≡ first_place.switch
   pub next : next_after h (happening p moment h (map (event_from from) rest)) ≡ next_after first (happening p moment first (map (event_from from) all))
 
--- the frame that is taken is the first of those that are left
-first_left : (given rest others : List (List ℕ)) (frame : List ℕ) (frames : List (List ℕ)) → given ++ rest ≡ frames → (given ++ frame ∷ []) ++ others ≡ frames → rest ≡ frame ∷ others
-first_left given rest others frame frames a b = append_cancel_left given rest (frame ∷ others) (a ∙ sym b ∙ append_assoc given (frame ∷ []) others)
+-- what the next frame of a connection makes happen, and then the others
+next_happening : (p : PolicyView) (moment : ℕ) (from : Dest) (h : List Timed) (rest others : List (List ℕ)) (frame : List ℕ) → rest ≡ frame ∷ others
+    → happening p moment h (map (event_from from) rest) ≡ (let own = happening p moment h (event_from from frame ∷ []) in own ++ happening p moment (next_after h own) (map (event_from from) others))
+next_happening p moment from h rest others frame left =
+    ap (λ (r : List (List ℕ)). happening p moment h (map (event_from from) r)) left ∙ happening_first p moment h (event_from from frame) (map (event_from from) others) (happens p h (event_from from frame)) refl
+
+-- the lines of the next frame, and then those of the others
+next_lines : (p : PolicyView) (moment : ℕ) (from : Dest) (place : Place) (h : List Timed) (rest others : List (List ℕ)) (frame : List ℕ) → rest ≡ frame ∷ others
+    → (let own = happening p moment h (event_from from frame ∷ []) in
+    lines_of p (place_of place) h own ++ lines_of p (record { number = place.number + length own; switch = place.switch }) (next_after h own) (happening p moment (next_after h own) (map (event_from from) others)))
+    ≡ lines_of p (place_of place) h (happening p moment h (map (event_from from) rest))
+next_lines p moment from place h rest others frame left =
+    let own = happening p moment h (event_from from frame ∷ []) in
+    sym (lines_both p place.number place.switch h own (happening p moment (next_after h own) (map (event_from from) others))) ∙ ap (lines_of p (place_of place) h) (sym (next_happening p moment from h rest others frame left))
 
 place_after : (place later : Place) (n : ℕ) → later.number ≡ n → later.switch ≡ place.switch → place_of later ≡ (let k : report.Place = record { number = n; switch = place.switch } in k)
 place_after place later n number switch = ap₂ (λ (a b : ℕ). let k : report.Place = record { number = a; switch = b } in k) number switch
@@ -133,13 +146,12 @@ pub hearing_more : (p : PolicyView) (moment : ℕ) (from : Dest) (first_place pl
     → later_told ≡ appended now (lines_of p (place_of place) s.h (happening p moment s.h (event_from from frame ∷ []))) → Played p s.h (happening p moment s.h (event_from from frame ∷ [])) place later desk
     → Hearing p moment from first_place later first all fed before later_told desk new
 hearing_more p moment from first_place place later first all fed before now later_told old desk framer new frame s took written played =
-    let event = event_from from frame in
-    let own = happening p moment s.h (event ∷ []) in
+    let own = happening p moment s.h (event_from from frame ∷ []) in
     let others = took.0.0 in
-    let left : s.rest ≡ frame ∷ others = first_left s.given s.rest others frame (frames_of fed) s.cut took.0.1 in
+    let left : s.rest ≡ frame ∷ others = next_left s.given s.rest others frame (frames_of fed) s.cut took.0.1 in
     let events = map (event_from from) others in
     let h = next_after s.h own in
-    let split : happening p moment s.h (map (event_from from) s.rest) ≡ own ++ happening p moment h events = ap (λ (r : List (List ℕ)). happening p moment s.h (map (event_from from) r)) left ∙ happening_first p moment s.h event events (happens p s.h event) refl in
+    let split = next_happening p moment from s.h s.rest others frame left in
     let text = lines_of p (place_of place) s.h own in
     let placed : place_of later ≡ (let k : report.Place = record { number = place.number + length own; switch = place.switch } in k) = place_after place later (place.number + length own) played.number played.switch in
     let counted = ap length split ∙ length-append own (happening p moment h events) in
@@ -158,8 +170,7 @@ hearing_more p moment from first_place place later first all fed before now late
       lines =
           append_assoc s.done text (lines_of p (place_of later) h (happening p moment h events))
           ∙ ap (λ (k : report.Place). s.done ++ (text ++ lines_of p k h (happening p moment h events))) placed
-          ∙ ap (λ t. s.done ++ t) (sym (lines_both p place.number place.switch s.h own (happening p moment h events)))
-          ∙ ap (λ (e : List Timed). s.done ++ lines_of p (place_of place) s.h e) (sym split)
+          ∙ ap (λ t. s.done ++ t) (next_lines p moment from place s.h s.rest others frame left)
           ∙ s.lines;
       number = omega (arith, counted, was, number);
       switch = played.switch ∙ s.switch;
@@ -172,17 +183,14 @@ pub hearing_part : (p : PolicyView) (moment : ℕ) (from : Dest) (first_place pl
     → WrotePart (lines_of p (place_of place) s.h (happening p moment s.h (event_from from frame ∷ []))) now later_told
     → WrotePart (lines_of p (place_of first_place) first (happening p moment first (map (event_from from) all))) before later_told
 hearing_part p moment from first_place place first all fed before now later_told old framer new frame s took part =
-    let event = event_from from frame in
-    let own = happening p moment s.h (event ∷ []) in
+    let own = happening p moment s.h (event_from from frame ∷ []) in
     let others = took.0.0 in
-    let left : s.rest ≡ frame ∷ others = first_left s.given s.rest others frame (frames_of fed) s.cut took.0.1 in
+    let left : s.rest ≡ frame ∷ others = next_left s.given s.rest others frame (frames_of fed) s.cut took.0.1 in
     let events = map (event_from from) others in
     let h = next_after s.h own in
-    let split : happening p moment s.h (map (event_from from) s.rest) ≡ own ++ happening p moment h events = ap (λ (r : List (List ℕ)). happening p moment s.h (map (event_from from) r)) left ∙ happening_first p moment s.h event events (happens p s.h event) refl in
     let text = lines_of p (place_of place) s.h own in
     let behind = lines_of p (record { number = place.number + length own; switch = place.switch }) h (happening p moment h events) in
-    subst (λ t. WrotePart t before later_told)
-    (ap (λ t. s.done ++ t) (sym (lines_both p place.number place.switch s.h own (happening p moment h events))) ∙ ap (λ (e : List Timed). s.done ++ lines_of p (place_of place) s.h e) (sym split) ∙ s.lines)
+    subst (λ t. WrotePart t before later_told) (ap (λ t. s.done ++ t) (next_lines p moment from place s.h s.rest others frame left) ∙ s.lines)
     (part_of_second s.done (text ++ behind) before now later_told s.written (part_of_first text behind now later_told part))
 
 -- what was written before a fault that wrote nothing
@@ -195,22 +203,16 @@ hearing_stopped p moment from first_place place first all fed before now old fra
 pub hearing_failed : {E : Type 0} (p : PolicyView) (moment : ℕ) (from : Dest) (place : Place) (h : List Timed) (rest : List (List ℕ)) (fed : List ℕ) (result : Result Place E) (before after : Option (List ℕ)) (desk : Desk) (framer : Stream)
     → IsErr result → WrotePart (lines_of p (place_of place) h (happening p moment h (map (event_from from) rest))) before after → Hears p moment from h fed rest place result before after desk framer
 hearing_failed p moment from place h rest fed result before after desk framer err part = record {
-  plays = record {
-    writes = at_fault result (lines_of p (place_of place) h (happening p moment h (map (event_from from) rest))) before after err part;
-    played = no_ok (λ later. Played p h (happening p moment h (map (event_from from) rest)) place later desk) result err;
-  };
-  given = not_ok (Stands framer fed (frames_of fed)) result err;
+  plays = plays_part p moment h (map (event_from from) rest) place result before after desk err part;
+  given = IfOk-from_err result (λ _. Stands framer fed (frames_of fed)) err;
 }
-
-nothing_behind : (given rest : List (List ℕ)) (frames : List (List ℕ)) → given ++ rest ≡ frames → given ≡ frames → rest ≡ []
-nothing_behind given rest frames a b = append_cancel_left given rest [] (a ∙ sym b ∙ sym (append-nil given))
 
 -- all frames were heard
 pub hearing_all : {E : Type 0} (p : PolicyView) (moment : ℕ) (from : Dest) (first_place place : Place) (first : List Timed) (all : List (List ℕ)) (fed : List ℕ) (before now : Option (List ℕ)) (desk : Desk) (framer new : Stream)
     (s : Hearing p moment from first_place place first all fed before now desk framer) → TookFrame None fed s.given new
     → Hears {E = E} p moment from first fed all first_place (Ok place) before now desk new
 hearing_all p moment from first_place place first all fed before now desk framer new s took =
-    let none : s.rest ≡ [] = nothing_behind s.given s.rest (frames_of fed) s.cut took.0 in
+    let none : s.rest ≡ [] = nothing_left s.given s.rest (frames_of fed) s.cut took.0 in
     let empty : happening p moment s.h (map (event_from from) s.rest) ≡ [] = ap (λ (r : List (List ℕ)). happening p moment s.h (map (event_from from) r)) none in
     record {
       plays = record {

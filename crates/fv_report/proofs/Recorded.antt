@@ -1,10 +1,12 @@
 -- Connections and histories after one record more.
-use Rattle.std.proofs.Common.{◌≡◌, ◌+◌, ◌<◌, ◌≤◌, ◌==◌, ℕ, zero, suc, Bool, true, false, if◌then◌else◌, List, [], ◌∷◌, ◌++◌, map, drop, set, ltb, length, refl, sym, ap, ap₂, ◌∙◌, subst, true≢false, eq-eqb, Option, Some, None, Result, Ok, slice_get, get_or, arith}
-use Rattle.std.proofs.lemmas.Option.{slice_get_read}
+use Rattle.std.proofs.Common.{◌≡◌, ◌+◌, ◌<◌, ◌≤◌, ◌==◌, ℕ, zero, suc, Bool, true, false, if◌then◌else◌, List, [], ◌∷◌, ◌++◌, map, drop, set, ltb, length, refl, sym, ap, ap₂, ◌∙◌, subst, eq-eqb, Option, Some, None, Result, Ok, slice_get, get_or, arith}
+use Rattle.std.proofs.lemmas.Option.{slice_get_read, none-some, same_Some}
+use Rattle.std.proofs.lemmas.List.{length-set, set_past}
+use Rattle.std.proofs.Math.Dec.{eqb-zero-suc, eqb-suc-zero, eqb-suc-suc}
 use Rattle.std.specs.Result.{IsErr}
+use Rattle.std.proofs.lemmas.Result.{IfOk-from_err}
 use Rattle.std.proofs.Common.{inl, inr}
 use Rattle.std.proofs.lemmas.Bool.{cases_Bool, ltb-true, ltb-false}
-use Rattle.std.proofs.lemmas.Bool.Decides.{nat_tests}
 use Rattle.std.proofs.Math.Seq.{drop-append_seam}
 use Rattle.std.proofs.Math.Nat.{le_refl}
 use Rattle.of10_ctl.specs.Streams.{Stream, Stands, frames_at, frames_of}
@@ -29,7 +31,7 @@ use Rattle.fv_report.specs.Writing.{WrotePart}
 use Rattle.fv_report.specs.Holding.{IsQuiet}
 use Rattle.fv_report.specs.Plays.{event_from, Played, Plays}
 use Rattle.fv_report.specs.Switches.{told_by, IsReady, SwitchStands, RecordPlayed, PlaysRecord}
-use Rattle.fv_report.proofs.Writing.{at_fault, no_ok, none_of}
+use Rattle.fv_report.proofs.Writing.{at_fault, none_of}
 use Rattle.fv_report.specs.Streams.{Restarts, AreFresh, connection, StreamStands, StreamsStand}
 
 pub same_number : (n : ℕ) → (n == n) ≡ true
@@ -74,17 +76,25 @@ kept : (switch kind slot : ℕ) (r : Told) (before : List Told) (framer : Stream
     → StreamStands (connection switch kind slot) before framer → StreamStands (connection switch kind slot) (r ∷ before) framer
 kept switch kind slot r before framer same stands = subst (λ (bytes : List ℕ). Stands framer bytes (frames_of bytes)) (sym same) stands
 
-fresh : (switch kind slot : ℕ) (r : Told) (before : List Told) (framer : Stream) → stream_before (connection switch kind slot) (r ∷ before) ≡ [] → Stands framer [] [] → StreamStands (connection switch kind slot) (r ∷ before) framer
-fresh switch kind slot r before framer empty stands = subst (λ (bytes : List ℕ). Stands framer bytes (frames_of bytes)) (sym empty) (subst (Stands framer []) no_frames stands)
+-- one to which nothing was fed stands for a connection on which nothing came
+fresh : (switch kind slot : ℕ) (before : List Told) (framer : Stream) → stream_before (connection switch kind slot) before ≡ [] → Stands framer [] [] → StreamStands (connection switch kind slot) before framer
+fresh switch kind slot before framer empty stands = subst (λ (bytes : List ℕ). Stands framer bytes (frames_of bytes)) (sym empty) (subst (Stands framer []) no_frames stands)
+
+-- fresh streams are those of a switch on which nothing came
+pub streams_fresh : (slices switch : ℕ) (before : List Told) (streams : Streams) → stream_before (connection switch switch_bytes 0) before ≡ [] → ((slot : ℕ) → stream_before (connection switch slice_bytes slot) before ≡ [])
+    → AreFresh slices streams → StreamsStand slices switch before streams
+streams_fresh slices switch before streams of_switch of_slices are = record {
+  of_switch = fresh switch switch_bytes 0 before streams.switch of_switch are.0;
+  number = are.1.number;
+  of_slices = λ at framer is. fresh switch slice_bytes at before framer (of_slices at) (are.1.each at framer is);
+}
 
 -- the switch connected
 pub streams_up : (slices switch slot moment : ℕ) (bytes : List ℕ) (before : List Told) (streams : Streams) → AreFresh slices streams
     → StreamsStand slices switch (record { kind = switch_up; switch = switch; slot = slot; moment = moment; bytes = bytes } ∷ before) streams
-streams_up slices switch slot moment bytes before streams are = record {
-  of_switch = fresh switch switch_bytes 0 (record { kind = switch_up; switch = switch; slot = slot; moment = moment; bytes = bytes }) before streams.switch (rw (same_number switch) refl) are.0;
-  number = are.1.number;
-  of_slices = λ at framer is. fresh switch slice_bytes at (record { kind = switch_up; switch = switch; slot = slot; moment = moment; bytes = bytes }) before framer (rw (same_number switch) refl) (are.1.each at framer is);
-}
+streams_up slices switch slot moment bytes before streams are =
+    let r : Told = record { kind = switch_up; switch = switch; slot = slot; moment = moment; bytes = bytes } in
+    streams_fresh slices switch (r ∷ before) streams (rw (same_number switch) refl) (λ at. rw (same_number switch) refl) are
 
 -- bytes of the switch
 pub streams_heard : (slices switch moment : ℕ) (bytes : List ℕ) (before : List Told) (old new : Streams) → StreamsStand slices switch before old → new.slices ≡ old.slices
@@ -99,46 +109,35 @@ streams_heard slices switch moment bytes before old new stands same own =
       of_slices = λ at framer is. kept switch slice_bytes at r before framer (rw (same_number switch) refl) (stands.of_slices at framer (ap (λ v. slice_get v.items at) (sym same) ∙ is));
     }
 
-abbrev is_there : {X : Type 0} → Option X → Bool
-is_there None = false
-is_there (Some x) = true
-
-zero_suc : (n : ℕ) → (0 == suc n) ≡ false
-zero_suc n = grind (arith, nat_tests)
-
-suc_zero : (n : ℕ) → (suc n == 0) ≡ false
-suc_zero n = grind (arith, nat_tests)
-
-suc_suc : (n m : ℕ) → (n == m) ≡ false → (suc n == suc m) ≡ false
-suc_suc n m is = grind (arith, nat_tests, is)
-
 -- what holds of the other elements and of a new one holds after one was replaced
 pub set_get : {X : Type 0} (P : ℕ → X → Type 0) (xs : List X) (at : ℕ) (x : X) → ((other : ℕ) (y : X) → (at == other) ≡ false → slice_get xs other ≡ Some y → P other y) → P at x
     → (other : ℕ) (y : X) → slice_get (set xs at x) other ≡ Some y → P other y
-set_get P [] at x others own other y is = absurd (true≢false (sym (ap is_there is)))
-set_get P (z ∷ zs) zero x others own zero y is = subst (P 0) (ap (λ (o : Option _). elim o [ None ↦ x | Some k ↦ k ]) is) own
-set_get P (z ∷ zs) zero x others own (suc other) y is = others (suc other) y (zero_suc other) is
-set_get P (z ∷ zs) (suc at) x others own zero y is = others 0 y (suc_zero at) is
-set_get P (z ∷ zs) (suc at) x others own (suc other) y is = set_get (λ n. P (suc n)) zs at x (λ k w unlike g. others (suc k) w (suc_suc at k unlike) g) own other y is
+set_get P [] at x others own other y is = absurd (none-some y is)
+set_get P (z ∷ zs) zero x others own zero y is = subst (P 0) (same_Some x y is) own
+set_get P (z ∷ zs) zero x others own (suc other) y is = others (suc other) y (eqb-zero-suc other) is
+set_get P (z ∷ zs) (suc at) x others own zero y is = others 0 y (eqb-suc-zero at) is
+set_get P (z ∷ zs) (suc at) x others own (suc other) y is = set_get (λ n. P (suc n)) zs at x (λ k w unlike g. others (suc k) w (eqb-suc-suc at k ∙ unlike) g) own other y is
 
-pub set_length : {X : Type 0} (xs : List X) (at : ℕ) (x : X) → length (set xs at x) ≡ length xs
-set_length [] at x = refl
-set_length (y ∷ ys) zero x = refl
-set_length (y ∷ ys) (suc at) x = ap suc (set_length ys at x)
+-- the framer at one slot was replaced, and the other streams stay
+streams_set : (slices slot : ℕ) (r : Told) (before : List Told) (old new : Streams) (framer : Stream) → StreamsStand slices r.switch before old → new.switch ≡ old.switch → new.slices.items ≡ set old.slices.items slot framer
+    → stream_before (connection r.switch switch_bytes 0) (r ∷ before) ≡ stream_before (connection r.switch switch_bytes 0) before
+    → ((other : ℕ) → (slot == other) ≡ false → stream_before (connection r.switch slice_bytes other) (r ∷ before) ≡ stream_before (connection r.switch slice_bytes other) before)
+    → StreamStands (connection r.switch slice_bytes slot) (r ∷ before) framer → StreamsStand slices r.switch (r ∷ before) new
+streams_set slices slot r before old new framer stands same replaced of_switch of_others own = record {
+  of_switch = kept r.switch switch_bytes 0 r before new.switch of_switch (subst (StreamStands (connection r.switch switch_bytes 0) before) (sym same) stands.of_switch);
+  number = ap length replaced ∙ length-set old.slices.items slot framer ∙ stands.number;
+  of_slices = λ at f is.
+      set_get (λ n s. StreamStands (connection r.switch slice_bytes n) (r ∷ before) s) old.slices.items slot framer
+      (λ other s unlike g. kept r.switch slice_bytes other r before s (of_others other unlike) (stands.of_slices other s g)) own at f (ap (λ xs. slice_get xs at) (sym replaced) ∙ is);
+}
 
 -- a slice's controller connected
 pub streams_slice_up : (slices switch slot moment : ℕ) (bytes : List ℕ) (before : List Told) (old new : Streams) (framer : Stream) → StreamsStand slices switch before old → new.switch ≡ old.switch
     → new.slices.items ≡ set old.slices.items slot framer → Stands framer [] [] → StreamsStand slices switch (record { kind = slice_up; switch = switch; slot = slot; moment = moment; bytes = bytes } ∷ before) new
 streams_slice_up slices switch slot moment bytes before old new framer stands same replaced own =
     let r : Told = record { kind = slice_up; switch = switch; slot = slot; moment = moment; bytes = bytes } in
-    record {
-      of_switch = kept switch switch_bytes 0 r before new.switch (rw (same_number switch) refl) (subst (StreamStands (connection switch switch_bytes 0) before) (sym same) stands.of_switch);
-      number = ap length replaced ∙ set_length old.slices.items slot framer ∙ stands.number;
-      of_slices = λ at f is.
-          set_get (λ n s. StreamStands (connection switch slice_bytes n) (r ∷ before) s) old.slices.items slot framer
-          (λ other s unlike g. kept switch slice_bytes other r before s (rw (same_number switch, unlike) refl) (stands.of_slices other s g))
-          (fresh switch slice_bytes slot r before framer (rw (same_number switch, same_number slot) refl) own) at f (ap (λ xs. slice_get xs at) (sym replaced) ∙ is);
-    }
+    streams_set slices slot r before old new framer stands same replaced (rw (same_number switch) refl) (λ other unlike. rw (same_number switch, unlike) refl)
+    (fresh switch slice_bytes slot (r ∷ before) framer (rw (same_number switch, same_number slot) refl) own)
 
 -- bytes of a slice's controller
 pub streams_slice_heard : (slices switch slot moment : ℕ) (bytes : List ℕ) (before : List Told) (old new : Streams) (framer : Stream) → StreamsStand slices switch before old → new.switch ≡ old.switch
@@ -148,14 +147,8 @@ pub streams_slice_heard : (slices switch slot moment : ℕ) (bytes : List ℕ) (
 streams_slice_heard slices switch slot moment bytes before old new framer stands same replaced own =
     let r : Told = record { kind = slice_bytes; switch = switch; slot = slot; moment = moment; bytes = bytes } in
     let more : stream_before (connection switch slice_bytes slot) (r ∷ before) ≡ stream_before (connection switch slice_bytes slot) before ++ bytes = rw (same_number switch, same_number slot) refl in
-    record {
-      of_switch = kept switch switch_bytes 0 r before new.switch (rw (same_number switch) refl) (subst (StreamStands (connection switch switch_bytes 0) before) (sym same) stands.of_switch);
-      number = ap length replaced ∙ set_length old.slices.items slot framer ∙ stands.number;
-      of_slices = λ at f is.
-          set_get (λ n s. StreamStands (connection switch slice_bytes n) (r ∷ before) s) old.slices.items slot framer
-          (λ other s unlike g. kept switch slice_bytes other r before s (rw (same_number switch, unlike) refl) (stands.of_slices other s g))
-          (subst (λ (b : List ℕ). Stands framer b (frames_of b)) (sym more) own) at f (ap (λ xs. slice_get xs at) (sym replaced) ∙ is);
-    }
+    streams_set slices slot r before old new framer stands same replaced (rw (same_number switch) refl) (λ other unlike. rw (same_number switch, unlike) refl)
+    (subst (λ (b : List ℕ). Stands framer b (frames_of b)) (sym more) own)
 
 -- ---- one record played
 
@@ -172,17 +165,27 @@ record_played p r before number place later written_before written desk AfterIt 
   stands = after;
 }
 
--- a fault came between
+-- a piece of its lines was written before a fault
+pub part_played : {E S : Type 0} (p : PolicyView) (r : Told) (before : List Told) (number : ℕ) (result : Result ℕ E) (told wrote : Option (List ℕ)) (AfterIt : S → Type 0) (state : S) → IsErr result
+    → WrotePart (lines_of p (record { number = number; switch = r.switch }) (history_at p r before) (events_in p r before)) told wrote → RecordPlayed p r before number result told wrote AfterIt state
+part_played p r before number result told wrote AfterIt state err part = record {
+  writes = at_fault result (lines_of p (record { number = number; switch = r.switch }) (history_at p r before) (events_in p r before)) told wrote err part;
+  count = IfOk-from_err result (λ later. later ≡ number + length (events_in p r before)) err;
+  stands = IfOk-from_err result (λ _. AfterIt state) err;
+}
+
+-- nothing was played before a fault
+pub none_played : {E S : Type 0} (p : PolicyView) (r : Told) (before : List Told) (number : ℕ) (result : Result ℕ E) (told : Option (List ℕ)) (AfterIt : S → Type 0) (state : S) → IsErr result → RecordPlayed p r before number result told told AfterIt state
+none_played p r before number result told AfterIt state err =
+    part_played p r before number result told told AfterIt state err (none_of (lines_of p (record { number = number; switch = r.switch }) (history_at p r before) (events_in p r before)) told)
+
+-- a fault came between, after lines at its place
 pub record_failed : {E S : Type 0} (p : PolicyView) (r : Told) (before : List Told) (number : ℕ) (place : Place) (result : Result ℕ E) (written_before written : Option (List ℕ)) (AfterIt : S → Type 0) (state : S)
     → place.number ≡ number → place.switch ≡ r.switch → IsErr result → WrotePart (lines_of p (place_of place) (history_at p r before) (events_in p r before)) written_before written
     → RecordPlayed p r before number result written_before written AfterIt state
 record_failed p r before number place result written_before written AfterIt state numbered same err part =
-    let text = lines_of p (record { number = number; switch = r.switch }) (history_at p r before) (events_in p r before) in
-    record {
-      writes = at_fault result text written_before written err (subst (λ (t : List ℕ). WrotePart t written_before written) (placed p place number r.switch (history_at p r before) (events_in p r before) numbered same) part);
-      count = no_ok (λ later. later ≡ number + length (events_in p r before)) result err;
-      stands = no_ok (λ _. AfterIt state) result err;
-    }
+    part_played p r before number result written_before written AfterIt state err
+    (subst (λ (t : List ℕ). WrotePart t written_before written) (placed p place number r.switch (history_at p r before) (events_in p r before) numbered same) part)
 
 -- the switch after it
 pub switch_after : (p : PolicyView) (r : Told) (before : List Told) (place later : Place) (new : Switch) → Played p (history_at p r before) (events_in p r before) place later new.desk → StreamsStand (length p.slices) r.switch (r ∷ before) new.streams
@@ -194,25 +197,20 @@ switch_after p r before place later new played streams = record {
 }
 
 -- a stream at a slot that isn't there stays as it is
-set_past : (xs : List Stream) (at : ℕ) (x : Stream) → length xs ≤ at → xs ≡ set xs at x
-set_past [] at x past = refl
-set_past (y ∷ ys) zero x past = absurd (omega arith)
-set_past (y ∷ ys) (suc at) x past = ap (λ zs. y ∷ zs) (set_past ys at x (omega arith))
-
 pub nothing_restarts : (xs : List Stream) (at : ℕ) → length xs ≤ at → Restarts at xs xs
-nothing_restarts xs at past = (record { left = []; ended = false }, set_past xs at _ past, record { ended = refl; frames = λ later. refl })
+nothing_restarts xs at past = (record { left = []; ended = false }, sym (set_past xs at _ past), record { ended = refl; frames = λ later. refl })
 
 -- a record of a kind that is known
+told_kind : (item : Item) (bytes : List ℕ) (kind : ℕ) → item.kind ≡ kind → told_by item bytes ≡ (let r : Told = record { kind = kind; switch = item.switch; slot = item.slot; moment = item.moment; bytes = bytes } in r)
+told_kind item bytes kind is = ap (λ (k : ℕ). let r : Told = record { kind = k; switch = item.switch; slot = item.slot; moment = item.moment; bytes = bytes } in r) is
+
 pub by_kind : {E : Type 0} (p : PolicyView) (item : Item) (bytes : List ℕ) (kind number : ℕ) (result : Result ℕ E) (before after : Option (List ℕ)) (old new : Switch) → item.kind ≡ kind
     → PlaysRecord p (record { kind = kind; switch = item.switch; slot = item.slot; moment = item.moment; bytes = bytes }) number result before after old new → PlaysRecord p (told_by item bytes) number result before after old new
-by_kind p item bytes kind number result before after old new is plays =
-    subst (λ (k : ℕ). PlaysRecord p (record { kind = k; switch = item.switch; slot = item.slot; moment = item.moment; bytes = bytes }) number result before after old new) (sym is) plays
+by_kind p item bytes kind number result before after old new is plays = subst (λ (r : Told). PlaysRecord p r number result before after old new) (sym (told_kind item bytes kind is)) plays
 
 -- a fault before the record was played
 pub not_played : {E : Type 0} (p : PolicyView) (r : Told) (number : ℕ) (result : Result ℕ E) (told : Option (List ℕ)) (old new : Switch) → IsErr result → PlaysRecord p r number result told told old new
-not_played p r number result told old new err before stands =
-    let place : Place = record { number = number; switch = r.switch } in
-    record_failed p r before number place result told told (SwitchStands p r.switch (r ∷ before)) new refl refl err (none_of (lines_of p (place_of place) (history_at p r before) (events_in p r before)) told)
+not_played p r number result told old new err before stands = none_played p r before number result told (SwitchStands p r.switch (r ∷ before)) new err
 
 -- a record of a switch's bytes, whose slot is 0
 pub by_bytes : {E : Type 0} (p : PolicyView) (item : Item) (bytes : List ℕ) (number : ℕ) (result : Result ℕ E) (before after : Option (List ℕ)) (old new : Switch) → item.kind ≡ switch_bytes → item.slot ≡ 0
@@ -230,10 +228,6 @@ pub heard_same : {E : Type 0} (p : PolicyView) (moment : ℕ) (from : Dest) (h :
     → Plays p moment h (map (event_from from) rest) place result before after desk → Plays p moment h (map (event_from from) own) place result before after desk
 heard_same p moment from h place result before after desk rest own same plays = subst (λ (frames : List (List ℕ)). Plays p moment h (map (event_from from) frames) place result before after desk) same plays
 
-pub wrote_same : (p : PolicyView) (moment : ℕ) (from : Dest) (h : List Timed) (place : Place) (before after : Option (List ℕ)) (rest own : List (List ℕ)) → rest ≡ own
-    → WrotePart (lines_of p (place_of place) h (happening p moment h (map (event_from from) rest))) before after → WrotePart (lines_of p (place_of place) h (happening p moment h (map (event_from from) own))) before after
-wrote_same p moment from h place before after rest own same part = subst (λ (frames : List (List ℕ)). WrotePart (lines_of p (place_of place) h (happening p moment h (map (event_from from) frames))) before after) same part
-
 pub less_or_more : (n m : ℕ) → (n < m → ⊥) → m ≤ n
 less_or_more n m unlike = elim (cases_Bool (ltb n m)) [ inl is ↦ absurd (unlike (ltb-true n m is)) | inr isnt ↦ ltb-false n m isnt ]
 
@@ -243,14 +237,13 @@ found xs at x within is = slice_get_read xs (length xs) at x refl (ltb-true at (
 -- a record of a known kind finds its switch ready
 pub ready_by : (p : PolicyView) (item : Item) (kind : ℕ) (before : List Told) (event : Event) (switch : Switch) → item.kind ≡ kind
     → IsReady p (record { kind = kind; switch = item.switch; slot = item.slot; moment = item.moment; bytes = [] }) before event switch → IsReady p (told_by item []) before event switch
-ready_by p item kind before event switch is ready =
-    subst (λ (k : ℕ). IsReady p (record { kind = k; switch = item.switch; slot = item.slot; moment = item.moment; bytes = [] }) before event switch) (sym is) ready
+ready_by p item kind before event switch is ready = subst (λ (r : Told). IsReady p r before event switch) (sym (told_kind item [] kind is)) ready
 
--- the end of a connection leaves all streams
-pub streams_stay : (slices : ℕ) (r : Told) (before : List Told) (streams : Streams) → stream_before (connection r.switch switch_bytes 0) (r ∷ before) ≡ stream_before (connection r.switch switch_bytes 0) before
-    → ((slot : ℕ) → stream_before (connection r.switch slice_bytes slot) (r ∷ before) ≡ stream_before (connection r.switch slice_bytes slot) before) → StreamsStand slices r.switch before streams → StreamsStand slices r.switch (r ∷ before) streams
-streams_stay slices r before streams of_switch of_slices stands = record {
-  of_switch = kept r.switch switch_bytes 0 r before streams.switch of_switch stands.of_switch;
+-- a record that carries no byte of a switch's connections and begins none of them leaves their streams
+pub streams_stay : (slices switch : ℕ) (r : Told) (before : List Told) (streams : Streams) → stream_before (connection switch switch_bytes 0) (r ∷ before) ≡ stream_before (connection switch switch_bytes 0) before
+    → ((slot : ℕ) → stream_before (connection switch slice_bytes slot) (r ∷ before) ≡ stream_before (connection switch slice_bytes slot) before) → StreamsStand slices switch before streams → StreamsStand slices switch (r ∷ before) streams
+streams_stay slices switch r before streams of_switch of_slices stands = record {
+  of_switch = kept switch switch_bytes 0 r before streams.switch of_switch stands.of_switch;
   number = stands.number;
-  of_slices = λ at framer is. kept r.switch slice_bytes at r before framer (of_slices at) (stands.of_slices at framer is);
+  of_slices = λ at framer is. kept switch slice_bytes at r before framer (of_slices at) (stands.of_slices at framer is);
 }

@@ -1,14 +1,12 @@
 -- All switches of a recording, and all its records.
-use Rattle.std.proofs.Common.{◌≡◌, ◌+◌, ◌<◌, ◌≤◌, ◌==◌, ℕ, zero, suc, false, List, [], ◌∷◌, ◌++◌, drop, take, set, length, refl, sym, ap, ◌∙◌, append_assoc, subst, eqb-true, Option, Some, None, Result, Ok, Err, slice_get, get_or, add-one, arith}
-use Rattle.std.specs.Result.{IsErr}
+use Rattle.std.proofs.Common.{◌≡◌, ◌+◌, ◌==◌, ℕ, false, List, [], ◌∷◌, ◌++◌, set, length, refl, sym, ap, ◌∙◌, append_assoc, subst, Option, Some, None, Result, Ok, Err, slice_get}
+use Rattle.std.proofs.lemmas.List.{length-set}
 use Rattle.std.proofs.lemmas.List.Elements.{All-nil}
-use Rattle.std.proofs.lemmas.Bool.{cases_Bool, or_parts}
-use Rattle.std.proofs.Common.{inl, inr}
+use Rattle.std.proofs.lemmas.Bool.{or_parts}
 use Rattle.fv_base.specs.Told.{appended}
-use Rattle.of10_ctl.specs.Streams.{Stream, Stands, frames_of}
 use Rattle.flowspace.specs.Policies.{PolicyView}
 use Rattle.recording.specs.declared.item.Item.{Item}
-use Rattle.recording.specs.Recordings.{Told, byte_limit, switch_bytes, slice_bytes}
+use Rattle.recording.specs.Recordings.{Told, switch_bytes, slice_bytes}
 use Rattle.answer_bounds.specs.Bounds.{IsFramed, AreFramed}
 use Rattle.desk_words.specs.declared.event.Timed.{Timed}
 use Rattle.desk_words.specs.Recorded.{stream_before, history_of, history_at, events_in, carried, told_in}
@@ -18,10 +16,10 @@ use Rattle.fv_report.specs.declared.switch.Switch.{Switch}
 use Rattle.fv_report.specs.declared.streams.Streams.{Streams}
 use Rattle.fv_report.specs.Writing.{WrotePart, Wrote}
 use Rattle.fv_report.specs.Holding.{IsQuiet}
-use Rattle.fv_report.specs.Streams.{connection, StreamStands, StreamsStand}
+use Rattle.fv_report.specs.Streams.{connection, StreamsStand}
 use Rattle.fv_report.specs.Switches.{told_by, IsFreshSwitch, SwitchStands, RecordPlayed, PlaysRecord, IsUntouched, IsAt, PlaysAt, AreUnknown, AllStand, PlaysAmong}
-use Rattle.fv_report.proofs.Writing.{both, part_of_first, part_of_second, at_fault, no_ok, none_of, wrote_second}
-use Rattle.fv_report.proofs.Recorded.{no_frames, history_other, stream_other, set_get, set_length}
+use Rattle.fv_report.proofs.Writing.{both, part_of_first, part_of_second, wrote_second}
+use Rattle.fv_report.proofs.Recorded.{history_other, stream_other, set_get, streams_fresh, streams_stay}
 
 -- ---- a switch of which nothing came
 
@@ -33,19 +31,12 @@ no_history : (p : PolicyView) (switch : ℕ) (before : List Told) → IsUntouche
 no_history p switch [] none = refl
 no_history p switch (r ∷ before) none = let parts = or_parts (r.switch == switch) _ none in history_other p switch r before parts.0 ∙ no_history p switch before parts.1
 
-unfed : (switch kind slot : ℕ) (before : List Told) (framer : Stream) → IsUntouched switch before → Stands framer [] [] → StreamStands (connection switch kind slot) before framer
-unfed switch kind slot before framer none stands = subst (λ (bytes : List ℕ). Stands framer bytes (frames_of bytes)) (sym (no_stream switch kind slot before none)) (subst (Stands framer []) no_frames stands)
-
 -- a fresh switch is the one of which nothing came
 pub fresh_stands : (p : PolicyView) (switch : ℕ) (before : List Told) (new : Switch) → IsUntouched switch before → IsFreshSwitch p new → SwitchStands p switch before new
 fresh_stands p switch before new none fresh = record {
   quiet = subst (λ (h : List Timed). IsQuiet p h new.desk) (sym (no_history p switch before none)) fresh.quiet;
   framed = subst AreFramed (sym (no_history p switch before none)) (All-nil (λ (t : Timed). IsFramed t.event));
-  streams = record {
-    of_switch = unfed switch switch_bytes 0 before new.streams.switch none fresh.streams.0;
-    number = fresh.streams.1.number;
-    of_slices = λ slot framer is. unfed switch slice_bytes slot before framer none (fresh.streams.1.each slot framer is);
-  };
+  streams = streams_fresh (length p.slices) switch before new.streams (no_stream switch switch_bytes 0 before none) (λ slot. no_stream switch slice_bytes slot before none) fresh.streams;
 }
 
 -- ---- one record among all switches
@@ -56,38 +47,12 @@ pub played_otherwise : {E S T : Type 0} (p : PolicyView) (r : Told) (before : Li
 played_otherwise p r before number (Ok later) a b First Second s t played so = record { writes = played.writes; count = played.count; stands = so played.stands }
 played_otherwise p r before number (Err fault) a b First Second s t played so = record { writes = played.writes; count = tt; stands = tt }
 
--- nothing was played before a fault
-pub none_played : {E S : Type 0} (p : PolicyView) (r : Told) (before : List Told) (number : ℕ) (result : Result ℕ E) (told : Option (List ℕ)) (AfterIt : S → Type 0) (state : S) → IsErr result → RecordPlayed p r before number result told told AfterIt state
-none_played p r before number result told AfterIt state err =
-    let text = lines_of p (record { number = number; switch = r.switch }) (history_at p r before) (events_in p r before) in
-    record {
-      writes = at_fault result text told told err (none_of text told);
-      count = no_ok (λ later. later ≡ number + length (events_in p r before)) result err;
-      stands = no_ok (λ _. AfterIt state) result err;
-    }
-
--- a piece of its lines was written before a fault
-pub part_played : {E S : Type 0} (p : PolicyView) (r : Told) (before : List Told) (number : ℕ) (result : Result ℕ E) (told wrote : Option (List ℕ)) (AfterIt : S → Type 0) (state : S) → IsErr result
-    → WrotePart (lines_of p (record { number = number; switch = r.switch }) (history_at p r before) (events_in p r before)) told wrote → RecordPlayed p r before number result told wrote AfterIt state
-part_played p r before number result told wrote AfterIt state err part = record {
-  writes = at_fault result (lines_of p (record { number = number; switch = r.switch }) (history_at p r before) (events_in p r before)) told wrote err part;
-  count = no_ok (λ later. later ≡ number + length (events_in p r before)) result err;
-  stands = no_ok (λ _. AfterIt state) result err;
-}
-
 pub at_none : {E : Type 0} (p : PolicyView) (r : Told) (number : ℕ) (result : Result ℕ E) (a b : Option (List ℕ)) (fresh new : Switch) → IsFreshSwitch p fresh → PlaysRecord p r number result a b fresh new → PlaysAt p r number result a b None (Some new)
 at_none p r number result a b fresh new is_fresh plays before none =
     played_otherwise p r before number result a b (SwitchStands p r.switch (r ∷ before)) (IsAt p r.switch (r ∷ before)) new (Some new) (plays before (fresh_stands p r.switch before fresh none is_fresh)) (λ stands. stands)
 
-stream_stays : (switch kind slot : ℕ) (r : Told) (before : List Told) (framer : Stream) → (r.switch == switch) ≡ false → StreamStands (connection switch kind slot) before framer → StreamStands (connection switch kind slot) (r ∷ before) framer
-stream_stays switch kind slot r before framer other stands = subst (λ (bytes : List ℕ). Stands framer bytes (frames_of bytes)) (sym (stream_other switch kind slot r before other)) stands
-
 pub streams_other : (slices switch : ℕ) (r : Told) (before : List Told) (streams : Streams) → (r.switch == switch) ≡ false → StreamsStand slices switch before streams → StreamsStand slices switch (r ∷ before) streams
-streams_other slices switch r before streams other stands = record {
-  of_switch = stream_stays switch switch_bytes 0 r before streams.switch other stands.of_switch;
-  number = stands.number;
-  of_slices = λ slot framer is. stream_stays switch slice_bytes slot r before framer other (stands.of_slices slot framer is);
-}
+streams_other slices switch r before streams other stands = streams_stay slices switch r before streams (stream_other switch switch_bytes 0 r before other) (λ slot. stream_other switch slice_bytes slot r before other) stands
 
 -- a record of one switch leaves the others
 at_other : (p : PolicyView) (number : ℕ) (r : Told) (before : List Told) (known : Option Switch) → (r.switch == number) ≡ false → IsAt p number before known → IsAt p number (r ∷ before) known
@@ -103,20 +68,11 @@ pub among : {E : Type 0} (p : PolicyView) (r : Told) (number : ℕ) (result : Re
     → PlaysAmong p r number result a b switches (set switches r.switch new)
 among p r number result a b switches old new is plays before stands =
     played_otherwise p r before number result a b (IsAt p r.switch (r ∷ before)) (AllStand p (r ∷ before)) new (set switches r.switch new) (plays before (stands.each r.switch old is)) (λ own. record {
-      count = set_length switches r.switch new ∙ stands.count;
+      count = length-set switches r.switch new ∙ stands.count;
       each = λ at known g. set_get (λ n s. IsAt p n (r ∷ before) s) switches r.switch new (λ n s unlike gs. at_other p n r before s unlike (stands.each n s gs)) own at known g;
     })
 
 -- ---- all records
-
-unlike : (n m : ℕ) → (n ≡ m → ⊥) → (n == m) ≡ false
-unlike n m no_path = elim (cases_Bool (n == m)) [ inl is ↦ absurd (no_path (eqb-true n m is)) | inr isnt ↦ isnt ]
-
-no_bytes : (size kind : ℕ) (bytes : List ℕ) → size ≤ byte_limit kind → (kind == switch_bytes) ≡ false → (kind == slice_bytes) ≡ false → take size bytes ≡ []
-no_bytes size kind bytes within a b =
-    let none : byte_limit kind ≡ 0 = rw (a, b) refl in
-    let is : size ≡ 0 = omega (arith, within, none) in
-    ap (λ n. take n bytes) is
 
 -- the records that are left of a file, and what is written so far
 pub record Running (p : PolicyView) (file : List ℕ) (all left : List Item) (events : ℕ) (before now : Option (List ℕ)) (switches : List (Option Switch)) : Type 0 where
@@ -169,16 +125,3 @@ pub running_last : {A E : Type 0} (p : PolicyView) (file : List ℕ) (all : List
 unfolding report_from
 running_last p file all events before now after old result s wrote =
     subst (λ t. Wrote result t before after) s.whole (wrote_second result s.done (last_line events) before now after s.written wrote)
-
-left_then : (items : List Item) (i : ℕ) (other : Item) → i < length items → drop i items ≡ get_or items i other ∷ drop (suc i) items
-left_then [] i other within = absurd (omega arith)
-left_then (item ∷ items) zero other within = refl
-left_then (item ∷ items) (suc i) other within = left_then items i other (omega arith)
-
--- what is left from a place on is the record there, and what is left behind it
-pub left_more : (items : List Item) (i : ℕ) (other : Item) → i < length items → drop i items ≡ get_or items i other ∷ drop (i + 1) items
-left_more items i other within = left_then items i other within ∙ ap (λ n. get_or items i other ∷ drop n items) (sym (add-one i))
-
-pub none_left : (items : List Item) (i : ℕ) → i ≡ length items → drop i items ≡ []
-none_left [] i is = ap (λ n. drop n []) is
-none_left (item ∷ items) i is = ap (λ n. drop n (item ∷ items)) is ∙ none_left items (length items) refl

@@ -1,6 +1,7 @@
 -- The lines for the slices, one slot after another.
-use Rattle.std.proofs.Common.{◌≡◌, ◌+◌, ℕ, zero, suc, ltb, Bool, true, false, List, [], ◌∷◌, ◌++◌, drop, length, refl, sym, ap, ◌∙◌, append_assoc, subst, true≢false, Option, Some, None, slice_get, add-one, arith}
-use Rattle.std.proofs.lemmas.List.{append-nil}
+use Rattle.std.proofs.Common.{◌≡◌, ◌+◌, ℕ, ltb, false, List, [], ◌∷◌, ◌++◌, drop, length, refl, sym, ap, ◌∙◌, append_assoc, subst, Option, Some, slice_get, arith}
+use Rattle.std.proofs.lemmas.List.{append-nil, drop_more, drop_all}
+use Rattle.std.proofs.lemmas.Option.{slice_get_within, get_or_from_slice_get}
 use Rattle.std.proofs.lemmas.Bool.Decides.{nat_tests}
 use Rattle.fv_base.specs.Told.{appended}
 use Rattle.flowspace.specs.declared.slices.Slice.{Slice}
@@ -9,16 +10,6 @@ use Rattle.fv_report.specs.Writing.{WrotePart}
 use Rattle.fv_report.specs.Holding.{from_slot}
 use Rattle.fv_report.specs.Slices.{lines_by_slot}
 use Rattle.fv_report.proofs.Writing.{both, part_of_first, part_of_second}
-
-abbrev is_there : Option Slice → Bool
-is_there None = false
-is_there (Some slice) = true
-
--- from a slot on there is its slice, and then the others
-pub rest_of : (all : List Slice) (at : ℕ) (slice : Slice) → slice_get all at ≡ Some slice → drop at all ≡ slice ∷ drop (suc at) all
-rest_of [] at slice is = absurd (true≢false (sym (ap is_there is)))
-rest_of (first ∷ others) zero slice is = ap (λ (o : Option Slice). elim o [ None ↦ first ∷ others | Some s ↦ s ∷ others ]) is
-rest_of (first ∷ others) (suc at) slice is = rest_of others at slice is
 
 not_below : (at : ℕ) → ltb at at ≡ false
 not_below at = grind (arith, nat_tests)
@@ -29,7 +20,8 @@ own_from at slices = rw (not_below at) refl
 split : (place : Place) (slices : ℕ → List (List ℕ)) (all : List Slice) (at : ℕ) (slice : Slice) → slice_get all at ≡ Some slice
     → lines_by_slot place slices at (drop at all) ≡ slice_lines place slice.name (slices at) ++ lines_by_slot place slices (at + 1) (drop (at + 1) all)
 split place slices all at slice is =
-    ap (lines_by_slot place slices at) (rest_of all at slice is) ∙ ap (λ n. slice_lines place slice.name (slices at) ++ lines_by_slot place slices (at + 1) (drop n all)) (sym (add-one at))
+    ap (lines_by_slot place slices at) (drop_more all at slice (slice_get_within all at slice is))
+    ∙ ap (λ (first : Slice). slice_lines place first.name (slices at) ++ lines_by_slot place slices (at + 1) (drop (at + 1) all)) (get_or_from_slice_get all at slice slice is)
 
 -- the lines of one slot more
 pub slot_more : (place : Place) (slices : ℕ → List (List ℕ)) (all : List Slice) (at : ℕ) (slice : Slice) (name done whole : List ℕ) (before now later : Option (List ℕ))
@@ -56,12 +48,8 @@ slot_part place slices all at slice name done whole before now later is named wr
     subst (λ text. WrotePart text before later) (ap (λ text. done ++ (text ++ others)) same ∙ ap (λ text. done ++ text) (sym (split place slices all at slice is)) ∙ rest)
     (part_of_second done (own ++ others) before now later written (part_of_first own others now later part))
 
-drop_all : (all : List Slice) → drop (length all) all ≡ []
-drop_all [] = refl
-drop_all (slice ∷ others) = drop_all others
-
 -- the lines of all slots
 pub slots_done : (place : Place) (slices : ℕ → List (List ℕ)) (all : List Slice) (at : ℕ) (done whole : List ℕ) (before now : Option (List ℕ))
     → at ≡ length all → now ≡ appended before done → done ++ lines_by_slot place slices at (drop at all) ≡ whole → now ≡ appended before whole
 slots_done place slices all at done whole before now end written rest =
-    written ∙ ap (appended before) (sym (append-nil done) ∙ ap (λ (left : List Slice). done ++ lines_by_slot place slices at left) (sym (drop_all all) ∙ ap (λ n. drop n all) (sym end)) ∙ rest)
+    written ∙ ap (appended before) (sym (append-nil done) ∙ ap (λ (left : List Slice). done ++ lines_by_slot place slices at left) (sym (drop_all at all (omega (arith, end)))) ∙ rest)

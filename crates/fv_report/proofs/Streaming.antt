@@ -1,6 +1,6 @@
 -- Frames that are taken one after another, and fresh framers.
-use Rattle.std.proofs.Common.{◌≡◌, ℕ, Bool, true, false, List, [], ◌++◌, sym, ap, ◌∙◌, subst, Option, Some, None}
-use Rattle.std.proofs.lemmas.List.{append-nil}
+use Rattle.std.proofs.Common.{◌≡◌, ℕ, true, List, [], ◌∷◌, ◌++◌, sym, ap, ◌∙◌, append_assoc, subst}
+use Rattle.std.proofs.lemmas.List.{append-nil, append_cancel_left}
 use Rattle.of10_ctl.specs.declared.framer.Next.{Next}
 use Rattle.of10_ctl.specs.declared.framer.Next.TheVariants.{Frame, NeedMore, Ended}
 use Rattle.of10_ctl.specs.Streams.{Stream, Stands, frames_of, has_bad, answer, frame_in}
@@ -18,6 +18,10 @@ took old new fed given (Frame frame) stands is then = ((frame_exact old fed give
 took old new fed given NeedMore stands is then = (((need_more_exact old fed given stands).0 (sym is)).0, subst (Stands new fed) (append-nil given) then)
 took old new fed given Ended stands is then = (ended_all old fed given stands ((ended_exact old fed given stands).0 (sym is)), subst (Stands new fed) (append-nil given) then)
 
-abbrev is_there : Option Stream → Bool
-is_there None = false
-is_there (Some stream) = true
+-- the frame that is taken is the first of those that are left
+pub next_left : (given rest others : List (List ℕ)) (frame : List ℕ) (frames : List (List ℕ)) → given ++ rest ≡ frames → (given ++ frame ∷ []) ++ others ≡ frames → rest ≡ frame ∷ others
+next_left given rest others frame frames a b = append_cancel_left given rest (frame ∷ others) (a ∙ sym b ∙ append_assoc given (frame ∷ []) others)
+
+-- where all frames were given none is left
+pub nothing_left : (given rest frames : List (List ℕ)) → given ++ rest ≡ frames → given ≡ frames → rest ≡ []
+nothing_left given rest frames a b = append_cancel_left given rest [] (a ∙ sym b ∙ sym (append-nil given))

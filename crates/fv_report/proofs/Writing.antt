@@ -1,5 +1,5 @@
 -- Texts that are written one after another.
-use Rattle.std.proofs.Common.{◌≡◌, ℕ, List, [], ◌++◌, refl, sym, ap, ◌∙◌, append_assoc, subst, Option, Some, None, Result, Ok, Err, IfOk, OnOk}
+use Rattle.std.proofs.Common.{◌≡◌, ℕ, List, [], ◌++◌, refl, sym, ap, ◌∙◌, append_assoc, subst, Option, Some, None, Result, Ok, Err, OnOk}
 use Rattle.std.specs.Result.{IsErr}
 use Rattle.std.proofs.lemmas.List.{append-nil}
 use Rattle.fv_base.specs.Told.{appended}
@@ -44,15 +44,6 @@ wrote_second (Err fault) first second before now later a b = part_of_second firs
 pub at_fault : {A E : Type 0} (result : Result A E) (text : List ℕ) (before now : Option (List ℕ)) → IsErr result → WrotePart text before now → Wrote result text before now
 at_fault (Err fault) text before now is part = part
 at_fault (Ok value) text before now is part = absurd cc
-
--- what is said of a success holds at a fault
-pub no_ok : {A E : Type 0} (P : A → Type 0) (result : Result A E) → IsErr result → IfOk result P
-no_ok P (Err fault) is = tt
-no_ok P (Ok value) is = absurd cc
-
-pub not_ok : {A E : Type 0} (P : Type 0) (result : Result A E) → IsErr result → OnOk result P
-not_ok P (Err fault) is = tt
-not_ok P (Ok value) is = absurd cc
 
 -- what holds holds at a success
 pub on_ok : {A E P : Type 0} (result : Result A E) → P → OnOk result P

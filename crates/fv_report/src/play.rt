@@ -1,6 +1,6 @@
 //! What comes on one connection is played at the desk.
 
-ghost use Rattle.std.specs.Prelude.{ℕ, ◌≡◌, ◌+◌, ◌++◌, true, List, [], ◌∷◌, length, drop, IfOk, IfErr};
+ghost use Rattle.std.specs.Prelude.{ℕ, ◌≡◌, ◌≤◌, ◌+◌, ◌^◌, ◌++◌, true, List, [], ◌∷◌, length, drop, IfOk, IfErr, OnErr};
 ghost use Rattle.flowspace.specs.Policies.{PolicyView};
 ghost use Rattle.of10_ctl.specs.Frames.{IsFrame};
 ghost use Rattle.of10_ctl.specs.Streams.{Stands, frames_of};
@@ -33,6 +33,7 @@ fn next_place(place: Place) -> Result<Place, ReportFault>
     ensures number { IfOk result (λ next. next.number ≡ place.number + 1) }
     ensures switch { IfOk result (λ next. next.switch ≡ place.switch) }
     ensures memory { IfErr result (λ f. f ≡ ReportFault.Memory) }
+    ensures full { OnErr result (2 ^ 64 ≤ place.number + 1) }
 {
     match place.number.checked_add(1) {
         Some(number) => Ok(Place { number, ..place }),

@@ -1,7 +1,8 @@
 use Rattle.std.proofs.Common.{◌∷◌, Option, Some, Ok, subst, sym}
 use Rattle.fv_report.specs.declared.switch.Switch.{Switch}
 use Rattle.fv_report.specs.Switches.{told_by, IsAt, PlaysAt}
-use Rattle.fv_report.proofs.Running.{none_played, part_played, at_none, fresh_stands}
+use Rattle.fv_report.proofs.Recorded.{none_played, part_played}
+use Rattle.fv_report.proofs.Running.{at_none, fresh_stands}
 use Rattle.fv_report.proofs.run.play_at.Goals as goal
 
 pub returns-in_err-switch-in-None-clause-plays : goal.returns-in_err-switch-in-None-clause-plays

@@ -1,10 +1,11 @@
 use Rattle.std.proofs.Common.{List, drop, ◌+◌, subst, arith, ◌∙◌, refl}
+use Rattle.std.proofs.lemmas.List.{drop_more, drop_all}
 use Rattle.std.proofs.lemmas.Result.{err_from_is_err_and}
 use Rattle.recording.specs.declared.item.Item.{Item}
 use Rattle.desk_words.specs.Recorded.{told_in}
 use Rattle.desk_words.specs.Reports.{report}
 use Rattle.fv_report.proofs.Writing.{at_fault, appended_none, counted_after, fault_after}
-use Rattle.fv_report.proofs.Running.{Running, running_first, running_more, running_part, running_last, left_more, none_left}
+use Rattle.fv_report.proofs.Running.{Running, running_first, running_more, running_part, running_last}
 use Rattle.fv_report.proofs.run.report_items.Goals as goal
 
 pub loop-item-init : goal.loop-item-init
@@ -25,7 +26,7 @@ returns-in_err-events-clause-writes g c =
     let after = g.K.Sink.contents c.play_item.new.out in
     let s = c.loop-item.invariant.running in
     at_fault c.from_residual-in_err-events.result (report p (told_in file all)) before after c.from_residual-in_err-events.ensures.0
-    (running_part p file all (drop i all) (drop (i + 1) all) _ c.loop-item.events _ before now after c.loop-item.switches.items c.play_item.new.switches.items (left_more all i _ c.loop-item-test.true) s (c.in_err-events.ensures.plays s.past s.stands))
+    (running_part p file all (drop i all) (drop (i + 1) all) _ c.loop-item.events _ before now after c.loop-item.switches.items c.play_item.new.switches.items (drop_more all i _ c.loop-item-test.true) s (c.in_err-events.ensures.plays s.past s.stands))
 
 pub loop-item-preserved : goal.loop-item-preserved
 loop-item-preserved g c =
@@ -38,7 +39,7 @@ loop-item-preserved g c =
     let after = g.K.Sink.contents c.play_item.new.out in
     let s = c.loop-item.invariant.running in
     record {
-      running = running_more p file all (drop i all) (drop (i + 1) all) _ c.loop-item.events c.in_ok-events.events before now after c.loop-item.switches.items c.play_item.new.switches.items (left_more all i _ c.loop-item-test.true) s (c.in_ok-events.ensures.plays s.past s.stands);
+      running = running_more p file all (drop i all) (drop (i + 1) all) _ c.loop-item.events c.in_ok-events.events before now after c.loop-item.switches.items c.play_item.new.switches.items (drop_more all i _ c.loop-item-test.true) s (c.in_ok-events.ensures.plays s.past s.stands);
       sixteen = c.play_item.ensures.length;
       calm = c.in_ok-events.ensures.counted ∙ c.loop-item.invariant.calm;
     }
@@ -50,7 +51,7 @@ returns-clause-writes g c =
     let all = c.args.items.now in
     let out = c.loop-item-test.false in
     let end = c.loop-item.auto.item-index-end in
-    let s = subst (λ (left : List Item). Running p file all left c.loop-item.events (g.K.Sink.contents c.args.out.now) (g.K.Sink.contents c.loop-item.out) c.loop-item.switches.items) (none_left all c.loop-item.item-index (omega arith)) c.loop-item.invariant.running in
+    let s = subst (λ (left : List Item). Running p file all left c.loop-item.events (g.K.Sink.contents c.args.out.now) (g.K.Sink.contents c.loop-item.out) c.loop-item.switches.items) (drop_all c.loop-item.item-index all (omega arith)) c.loop-item.invariant.running in
     running_last p file all c.loop-item.events (g.K.Sink.contents c.args.out.now) (g.K.Sink.contents c.loop-item.out) (g.K.Sink.contents c.put_last.new.out) c.loop-item.switches.items c.put_last.result s c.put_last.ensures.writes
 
 pub returns-in_err-events-clause-counted : goal.returns-in_err-events-clause-counted

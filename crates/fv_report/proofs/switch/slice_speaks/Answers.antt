@@ -5,7 +5,7 @@ use Rattle.desk_words.specs.declared.answer.Dest.TheVariants.{Slice}
 use Rattle.desk_words.specs.Recorded.{stream_before, completed, history_of}
 use Rattle.fv_report.specs.Streams.{connection}
 use Rattle.fv_report.specs.Switches.{SwitchStands}
-use Rattle.fv_report.proofs.Recorded.{streams_slice_heard, record_played, record_failed, switch_after, by_kind, completed_by, heard_same, wrote_same, found}
+use Rattle.fv_report.proofs.Recorded.{streams_slice_heard, record_played, record_failed, switch_after, by_kind, completed_by, heard_same, found}
 use Rattle.fv_report.proofs.switch.slice_speaks.Goals as goal
 
 pub returns-in_err-later-clause-plays : goal.returns-in_err-later-clause-plays
@@ -24,7 +24,7 @@ returns-in_err-later-clause-plays g c =
     let place = c.place_of-place.result in
     let heard = c.in_err-later.ensures.hears h fed stands.quiet stands.framed (stands.streams.of_slices item.slot c.in-Some.framer.now (subst (λ (n : ℕ). slice_get c.args.switch.now.streams.slices.items n ≡ Some c.in-Some.framer.now) c.from.ensures (found c.args.switch.now.streams.slices.items c.from.result c.in-Some.framer.now (sym c.in-Some.ensures.item.0) c.in-Some.ensures.value))) in
     record_failed p r before c.args.events place c.from_residual.result told wrote (SwitchStands p r.switch (r ∷ before)) _ c.place_of-place.ensures.number c.place_of-place.ensures.switch c.from_residual.ensures.0
-    (wrote_same p item.moment (Slice item.slot) h place told wrote rest (completed r before) (completed_by r before) heard.plays.writes))
+    (heard_same p item.moment (Slice item.slot) h place _ told wrote c.hear_bytes.new.desk rest (completed r before) (completed_by r before) heard.plays).writes)
 
 pub returns-clause-plays : goal.returns-clause-plays
 returns-clause-plays g c =

@@ -12,6 +12,6 @@ returns-clause-plays g c = λ before stands.
     c.play_event.ensures.plays before (ready_by p item switch_down before SwitchDown c.args.switch.now c.requires.kind (record {
       quiet = stands.quiet;
       framed = stands.framed;
-      streams = streams_stay (length p.slices) r before c.args.switch.now.streams (rw (same_number r.switch) refl) (λ slot. rw (same_number r.switch) refl) stands.streams;
+      streams = streams_stay (length p.slices) r.switch r before c.args.switch.now.streams (rw (same_number r.switch) refl) (λ slot. rw (same_number r.switch) refl) stands.streams;
       one = refl;
     }))

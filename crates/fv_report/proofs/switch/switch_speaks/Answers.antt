@@ -5,7 +5,7 @@ use Rattle.desk_words.specs.declared.answer.Dest.TheVariants.{Switch as ToSwitch
 use Rattle.desk_words.specs.Recorded.{stream_before, completed, history_of}
 use Rattle.fv_report.specs.Streams.{connection}
 use Rattle.fv_report.specs.Switches.{SwitchStands}
-use Rattle.fv_report.proofs.Recorded.{streams_heard, record_played, record_failed, switch_after, by_bytes, completed_by, heard_same, wrote_same}
+use Rattle.fv_report.proofs.Recorded.{streams_heard, record_played, record_failed, switch_after, by_bytes, completed_by, heard_same}
 use Rattle.fv_report.proofs.switch.switch_speaks.Goals as goal
 
 pub returns-in_err-later-clause-plays : goal.returns-in_err-later-clause-plays
@@ -24,7 +24,7 @@ returns-in_err-later-clause-plays g c =
     let place = c.place_of-place.result in
     let heard = c.in_err-later.ensures.hears h fed stands.quiet stands.framed stands.streams.of_switch in
     record_failed p r before c.args.events place c.from_residual.result told wrote (SwitchStands p r.switch (r ∷ before)) _ c.place_of-place.ensures.number c.place_of-place.ensures.switch c.from_residual.ensures.0
-    (wrote_same p item.moment ToSwitch h place told wrote rest (completed r before) (completed_by r before) heard.plays.writes))
+    (heard_same p item.moment ToSwitch h place _ told wrote c.hear_bytes.new.desk rest (completed r before) (completed_by r before) heard.plays).writes)
 
 pub returns-clause-plays : goal.returns-clause-plays
 returns-clause-plays g c =
