@@ -2,11 +2,13 @@
 use Rattle.std.proofs.Common.{◌≡◌, ℕ, ◌+◌, ◌-◌, ◌*◌, ◌/◌, ◌^◌, ◌<◌, ◌≤◌, ◌==◌, ◌&&◌, Bool, true, false, cond, nat_le, leb-true, List, [], ◌∷◌, length, slice_index, Option, Some, None, option_map, refl, ap, subst, arith}
 use Rattle.std.proofs.Math.Nat.{div-mul-le_self, mul-mod_left}
 use Rattle.std.proofs.lemmas.Bool.{and_parts}
+use Rattle.std.proofs.lemmas.Option.{same_Some, cond_some}
 use Rattle.toml.specs.Data.{Data, string, integer, float, boolean, datetime, array, table}
 use Rattle.of10_model.specs.declared.pattern.Prefix.{Prefix}
 use Rattle.of10_model.specs.Normal.{IsPrefix}
 use Rattle.policy_text.specs.declared.values.Numerals.TheVariants.{Hardware}
-use Rattle.policy_text.specs.Addresses.{◌>>=◌, hex_digit, pair_at, has_colons, six_pairs, digits_at, octet_of, octet_at, after, dotted_at, bits_of, bits_after, leading_bits, prefix}
+use Rattle.of10_model.specs.Meet.{◌>>=◌}
+use Rattle.policy_text.specs.Addresses.{hex_digit, pair_at, has_colons, six_pairs, digits_at, octet_of, octet_at, after, dotted_at, bits_of, bits_after, leading_bits, prefix}
 use Rattle.policy_text.specs.Reading.{numeral, addresses}
 
 bind_some : {A B : Type 0} (o : Option A) (f : A → Option B) (y : B) → (o >>= f) ≡ Some y → (x : A) × (o ≡ Some x) × (f x ≡ Some y)
@@ -16,16 +18,6 @@ bind_some (Some x) f y e = (x, refl, e)
 map_some : {A B : Type 0} (f : A → B) (o : Option A) (y : B) → option_map f o ≡ Some y → (x : A) × (o ≡ Some x) × (f x ≡ y)
 map_some f None y e = absurd cc
 map_some f (Some x) y e = (x, refl, cc)
-
-abbrev found : {A : Type 0} → A → Option A
-found x = Some x
-
-some_is : {A : Type 0} (x y : A) → found x ≡ found y → x ≡ y
-some_is x y e = cc
-
-kept_if : {A : Type 0} (b : Bool) (x y : A) → cond b (Some x) None ≡ Some y → (b ≡ true) × (x ≡ y)
-kept_if true x y e = (refl, cc)
-kept_if false x y e = absurd cc
 
 -- ---- hex
 
@@ -56,7 +48,7 @@ six_pairs_below text n e =
     let d = bind_some (pair_at text 9) _ n c.2 in
     let f = bind_some (pair_at text 12) _ n d.2 in
     let g = bind_some (pair_at text 15) _ n f.2 in
-    let same = some_is (((((a.0 * 256 + b.0) * 256 + c.0) * 256 + d.0) * 256 + f.0) * 256 + g.0) n g.2 in
+    let same = same_Some (((((a.0 * 256 + b.0) * 256 + c.0) * 256 + d.0) * 256 + f.0) * 256 + g.0) n g.2 in
     omega (arith, pair_below text 0 a.0 a.1, pair_below text 3 b.0 b.1, pair_below text 6 c.0 c.1, pair_below text 9 d.0 d.1, pair_below text 12 f.0 f.1, pair_below text 15 g.0 g.1, same)
 
 hardware_cases : (b : Bool) (text : List ℕ) (n : ℕ) → cond b (six_pairs text) None ≡ Some n → n < 2 ^ 48
@@ -78,7 +70,7 @@ octet_below : (text : List ℕ) (n : ℕ × List ℕ) → octet_at text ≡ Some
 unfolding octet_at
 octet_below text n e =
     let a = bind_some (digits_at text) octet_of n e in
-    let k = kept_if (nat_le a.0.0 255) a.0 n a.2 in
+    let k = cond_some (nat_le a.0.0 255) a.0 n a.2 in
     subst (λ (m : ℕ × List ℕ). m.0 ≤ 255) k.1 (leb-true _ _ k.0)
 
 dotted_below : (text : List ℕ) (n : ℕ × List ℕ) → dotted_at text ≡ Some n → n.0 < 2 ^ 32
@@ -92,13 +84,13 @@ dotted_below text n e =
     let rc = bind_some (after 46 c.0.1) _ n c.2 in
     let d = bind_some (octet_at rc.0) _ n rc.2 in
     let made : ℕ × List ℕ = (((a.0.0 * 256 + b.0.0) * 256 + c.0.0) * 256 + d.0.0, d.0.1) in
-    let same = some_is made n d.2 in
+    let same = same_Some made n d.2 in
     let first : made.0 ≡ n.0 = ap (λ (m : ℕ × List ℕ). m.0) same in
     omega (arith, octet_below text a.0 a.1, octet_below ra.0 b.0 b.1, octet_below rb.0 c.0 c.1, octet_below rc.0 d.0 d.1, first)
 
 bits_of_range : (n : ℕ × List ℕ) (bits : ℕ) → bits_of n ≡ Some bits → (1 ≤ bits) × (bits ≤ 32)
 bits_of_range n bits e =
-    let k = kept_if (nat_le 1 n.0 && nat_le n.0 32 && length n.1 == 0) n.0 bits e in
+    let k = cond_some (nat_le 1 n.0 && nat_le n.0 32 && length n.1 == 0) n.0 bits e in
     let outer = and_parts (nat_le 1 n.0 && nat_le n.0 32) (length n.1 == 0) k.0 in
     let inner = and_parts (nat_le 1 n.0) (nat_le n.0 32) outer.0 in
     subst (λ m. (1 ≤ m) × (m ≤ 32)) k.1 (leb-true _ _ inner.0, leb-true _ _ inner.1)

@@ -10,7 +10,8 @@ use Rattle.policy_text.specs.declared.fault.ReadFault.TheVariants.{Missing, BadV
 use Rattle.policy_text.specs.declared.values.Numbers.TheVariants.{UpTo, Between, InPort, Vlan, Service}
 use Rattle.policy_text.specs.declared.values.Numerals.TheVariants.{Datapath, Hardware}
 use Rattle.policy_text.specs.declared.values.Texts.TheVariants.{Name, Controller, Any}
-use Rattle.policy_text.specs.Reading.{◌>>=◌, SectionView, place_of, least, unknown_keys, no_unknown, known_keys, formed, demanded, allowed, required, optional, number, numeral, addresses, text, text_list}
+use Rattle.of10_model.specs.Results.{◌>>=◌}
+use Rattle.policy_text.specs.Reading.{SectionView, place_of, least, unknown_keys, no_unknown, known_keys, formed, demanded, allowed, required, optional, number, numeral, addresses, text, text_list}
 use Rattle.policy_text.specs.Slices.{slice_in}
 use Rattle.policy_text.specs.Rules.{link_in, pattern_in, slot_of, named, writer_of, slots_of, no_improper, proper, RuleText, names_under, rule_text_in, rule_from, rule_in}
 

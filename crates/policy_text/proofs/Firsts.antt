@@ -1,5 +1,6 @@
 -- The first item that isn't read, and the least unknown key.
 use Rattle.std.proofs.Common.{◌≡◌, ◌↔◌, ◌⊎◌, inl, inr, ℕ, zero, suc, ◌<◌, List, [], ◌∷◌, Some, Result, Ok, Err, refl, sym, ap, ◌∙◌, arith}
+use Rattle.std.proofs.lemmas.Option.{same_Some}
 use Rattle.toml.specs.Data.{Data, table, Items, no_items, item, get_item, Members}
 use Rattle.flowspace.specs.declared.rules.Rule.{Rule}
 use Rattle.flowspace.specs.declared.slices.Slice.{Slice}
@@ -7,7 +8,8 @@ use Rattle.policy_text.specs.declared.fault.Part.{Part}
 use Rattle.policy_text.specs.declared.fault.Part.TheVariants as part
 use Rattle.policy_text.specs.declared.fault.ReadFault.{ReadFault}
 use Rattle.policy_text.specs.Firsts.{AreReadAs, IsFirstRefused, StandsIn}
-use Rattle.policy_text.specs.Reading.{◌>>=◌}
+use Rattle.of10_model.specs.Results.{◌>>=◌}
+use Rattle.of10_model.proofs.Results.{bind_err, others_wrong}
 use Rattle.policy_text.specs.Rules.{rule_section, rule_of, rules_from}
 use Rattle.policy_text.specs.Slices.{slice_section, slice_of, slices_from}
 use Rattle.policy_text.proofs.Faults.{Has, OfKeys, slice_has, OfRule, rule_has}
@@ -71,11 +73,8 @@ each_read read (item d rest) (x ∷ xs) h =
 abbrev AreReadBefore : {A : Type 0} → (ℕ → Data → Result A ReadFault) → Items → ℕ → Type 0
 AreReadBefore {A} read items index = (i : ℕ) (d : Data) → i < index → get_item i items ≡ Some d → (x : A) × (read i d ≡ Ok x)
 
-some_is : (a b : Data) → Some a ≡ Some b → a ≡ b
-some_is a b e = cc
-
 earlier_later : {A : Type 0} (read : ℕ → Data → Result A ReadFault) (d : Data) (rest : Items) (index : ℕ) (x : A) → read 0 d ≡ Ok x → AreReadBefore (next read) rest index → AreReadBefore read (item d rest) (suc index)
-earlier_later read d rest index x e h zero other lt there = (x, ap (read 0) (sym (some_is d other there)) ∙ e)
+earlier_later read d rest index x e h zero other lt there = (x, ap (read 0) (sym (same_Some d other there)) ∙ e)
 earlier_later read d rest index x e h (suc i) other lt there = h i other (omega (arith, lt)) there
 
 refused_later : {A : Type 0} (read : ℕ → Data → Result A ReadFault) (d : Data) (rest : Items) (fault : ReadFault) (x : A) → read 0 d ≡ Ok x → IsFirstRefused (next read) rest fault → IsFirstRefused read (item d rest) fault
@@ -96,24 +95,19 @@ refused_here read d rest fault e = record {
   earlier = λ i other lt there. absurd (omega (arith, lt));
 }
 
-split_fault : {A : Type 0} (first : Result A ReadFault) (others : Result (List A) ReadFault) (fault : ReadFault) → answer first others ≡ Err fault → (first ≡ Err fault) ⊎ ((x : A) × (first ≡ Ok x) × (others ≡ Err fault))
-split_fault (Ok x) (Ok rest) fault e = absurd cc
-split_fault (Ok x) (Err other) fault e = inr (x, refl, cc)
-split_fault (Err other) others fault e = inl cc
-
 first_refused : {A : Type 0} (read : ℕ → Data → Result A ReadFault) (items : Items) (fault : ReadFault) → reads read 0 items ≡ Err fault → IsFirstRefused read items fault
 first_refused read no_items fault e = absurd cc
 first_refused read (item d rest) fault e =
-    elim (split_fault (read 0 d) (reads (next read) 0 rest) fault (sym (reads_step read d rest) ∙ e)) [
+    elim (bind_err (read 0 d) (λ x. reads (next read) 0 rest >>= (λ xs. Ok (x ∷ xs))) fault (sym (reads_step read d rest) ∙ e)) [
       | inl here ↦ refused_here read d rest fault here
-      | inr later ↦ refused_later read d rest fault later.0 later.1 (first_refused (next read) rest fault later.2)
+      | inr later ↦ refused_later read d rest fault later.0 later.1 (first_refused (next read) rest fault (others_wrong (reads (next read) 0 rest) later.0 fault later.2))
     ]
 
 refused_at : {A : Type 0} (read : ℕ → Data → Result A ReadFault) (items : Items) (fault : ReadFault) (index : ℕ) (refused : Data)
     → get_item index items ≡ Some refused → read index refused ≡ Err fault → AreReadBefore read items index → reads read 0 items ≡ Err fault
 refused_at read no_items fault index refused there e h = absurd cc
 refused_at read (item d rest) fault zero refused there e h =
-    let here : read 0 d ≡ Err fault = ap (read 0) (some_is d refused there) ∙ e in
+    let here : read 0 d ≡ Err fault = ap (read 0) (same_Some d refused there) ∙ e in
     reads_step read d rest ∙ rw here refl
 refused_at read (item d rest) fault (suc index) refused there e h =
     let first = h 0 d (omega arith) refl in

@@ -22,7 +22,7 @@ use Rattle.policy_text.specs.Slices.{slices_from}
 use Rattle.policy_text.specs.Rules.{rules_from}
 use Rattle.policy_text.specs.Documents.{top, parts_in, document_of, parts_of, loaded, policy_of}
 use Rattle.policy_text.specs.Printing.{Entry, unless_default, slice_entries, hex_text, hardware_text, prefix_text, number_value, text_value, name_at, names_in, names, own_entries, link_entries, network_entries, items_text, entry_text, entries_text, slice_text, rule_text, slices_text, rules_text, text_of, IsHeld}
-use Rattle.policy_text.proofs.Steps.{bind_is}
+use Rattle.of10_model.proofs.Results.{bind_is}
 use Rattle.policy_text.proofs.PrintedNodes.{table_of, EachApart}
 use Rattle.policy_text.proofs.PrintedLines.{IsWritten, AreWritten, EachWritten, tables_text, document_text, said, parsed}
 use Rattle.policy_text.proofs.PrintedTables.{rule_entries, AreNamed, slices_back, IsPrintable, rules_back}

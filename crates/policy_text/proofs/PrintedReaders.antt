@@ -12,7 +12,7 @@ use Rattle.std.proofs.lemmas.Nat.{mod-pow-add}
 use Rattle.flowspace.specs.declared.slices.Slice.{Slice}
 use Rattle.policy_text.specs.Rules.{slot_of, named, slots_of, are_different, bits_below}
 use Rattle.policy_text.specs.Printing.{name_at, names_in}
-use Rattle.policy_text.proofs.Steps.{bind_is}
+use Rattle.of10_model.proofs.Results.{bind_is}
 
 -- ---- names
 

@@ -22,7 +22,9 @@ use Rattle.policy_text.specs.Reading.{SectionView, known_keys, required, optiona
 use Rattle.policy_text.specs.Slices.{slice_section, slice_in, slice_of, slices_from}
 use Rattle.policy_text.specs.Rules.{pattern_in, first_improper, are_different, bits_below, writer_of, slots_of, no_improper, proper, RuleText, names_under, rule_text_in, rule_from, rule_section, rule_in, rule_of, rules_from}
 use Rattle.policy_text.specs.Documents.{top, parts_in, parts_of, ArePlain}
-use Rattle.policy_text.proofs.Steps.{bind_ok, bind_is, ok_is, when_some, optional_holds, required_holds, number_is, text_is}
+use Rattle.std.proofs.lemmas.Option.{cond_some}
+use Rattle.of10_model.proofs.Results.{bind_ok, bind_is, ok_is}
+use Rattle.policy_text.proofs.Steps.{optional_holds, required_holds, number_is, text_is}
 use Rattle.policy_text.proofs.SoundPatterns.{IsWritten, pattern_sound, meaningful, needed_is}
 
 -- ---- slices
@@ -177,7 +179,7 @@ rules_sound slices index (item d ds) rs e =
 
 tables_some : (d : Data) (items : Items) → some_tables d ≡ Some items → has_items items ≡ true
 tables_some (array ds) items e =
-    let w = when_some (has_items ds && are_tables ds) ds items e in
+    let w = cond_some (has_items ds && are_tables ds) ds items e in
     subst (λ x. has_items x ≡ true) w.1 (and_parts (has_items ds) (are_tables ds) w.0).0
 tables_some (string x) items e = absurd cc
 tables_some (integer x) items e = absurd cc

@@ -12,7 +12,8 @@ use Rattle.policy_text.specs.declared.values.Numbers.TheVariants.{UpTo, InPort, 
 use Rattle.policy_text.specs.declared.values.Numerals.TheVariants.{Hardware}
 use Rattle.policy_text.specs.Reading.{SectionView, optional, is_number, number, numeral, addresses}
 use Rattle.policy_text.specs.Rules.{LinkView, link_in, joined, pattern_in, first_improper}
-use Rattle.policy_text.proofs.Steps.{bind_ok, ok_is, optional_holds, number_is}
+use Rattle.of10_model.proofs.Results.{bind_ok, ok_is}
+use Rattle.policy_text.proofs.Steps.{optional_holds, number_is}
 use Rattle.policy_text.proofs.AddressRanges.{hardware_below, addresses_range}
 
 -- ---- ranges

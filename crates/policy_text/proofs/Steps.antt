@@ -1,28 +1,14 @@
 -- The steps of a reading that did not fail.
 use Rattle.std.proofs.Common.{◌≡◌, ℕ, pos, negsuc, Bool, true, false, List, Option, Some, None, IfSome, Result, Ok, Err, refl, ap, ◌∙◌, subst}
+use Rattle.std.proofs.lemmas.Option.{cond_some}
 use Rattle.toml.specs.Data.{Data, string, integer, float, boolean, datetime, array, table, get_member}
 use Rattle.policy_text.specs.declared.fault.Place.{Place}
 use Rattle.policy_text.specs.declared.fault.ReadFault.{ReadFault}
 use Rattle.policy_text.specs.declared.values.Numbers.{Numbers}
 use Rattle.policy_text.specs.declared.values.Texts.{Texts}
-use Rattle.policy_text.specs.Reading.{◌>>=◌, SectionView, place_of, formed, demanded, allowed, required, optional, when, is_number, number, is_text, text}
-
-pub bind_ok : {A B : Type 0} (r : Result A ReadFault) (f : A → Result B ReadFault) (y : B) → (r >>= f) ≡ Ok y → (x : A) × (r ≡ Ok x) × (f x ≡ Ok y)
-bind_ok (Ok x) f y e = (x, refl, e)
-bind_ok (Err fault) f y e = absurd cc
-
-pub bind_is : {A B : Type 0} (r : Result A ReadFault) (f : A → Result B ReadFault) (x : A) (y : Result B ReadFault) → r ≡ Ok x → f x ≡ y → (r >>= f) ≡ y
-bind_is r f x y e h = ap (λ q. q >>= f) e ∙ h
-
-abbrev done : {A : Type 0} → A → Result A ReadFault
-done x = Ok x
-
-pub ok_is : {A : Type 0} (x y : A) → done x ≡ done y → x ≡ y
-ok_is x y e = cc
-
-pub when_some : {A : Type 0} (b : Bool) (x y : A) → when b x ≡ Some y → (b ≡ true) × (x ≡ y)
-when_some true x y e = (refl, cc)
-when_some false x y e = absurd cc
+use Rattle.of10_model.specs.Results.{◌>>=◌}
+use Rattle.of10_model.proofs.Results.{bind_ok, ok_is}
+use Rattle.policy_text.specs.Reading.{SectionView, place_of, formed, demanded, allowed, required, optional, when, is_number, number, is_text, text}
 
 formed_some : {A : Type 0} (at : Place) (o : Option A) (x : A) → formed at o ≡ Ok x → o ≡ Some x
 formed_some at None x e = absurd cc
@@ -48,7 +34,7 @@ required_holds P read h this key y e = demanded_holds P read h (place_of this ke
 -- the numbers and the texts that are read
 pub number_is : (numbers : Numbers) (d : Data) (n : ℕ) → number numbers d ≡ Some n → is_number numbers n ≡ true
 number_is numbers (integer (pos x)) n e =
-    let w = when_some (is_number numbers x) x n e in
+    let w = cond_some (is_number numbers x) x n e in
     subst (λ y. is_number numbers y ≡ true) w.1 w.0
 number_is numbers (integer (negsuc x)) n e = absurd cc
 number_is numbers (string x) n e = absurd cc
@@ -60,7 +46,7 @@ number_is numbers (table x) n e = absurd cc
 
 pub text_is : (texts : Texts) (d : Data) (s : List ℕ) → text texts d ≡ Some s → is_text texts s ≡ true
 text_is texts (string x) s e =
-    let w = when_some (is_text texts x) x s e in
+    let w = cond_some (is_text texts x) x s e in
     subst (λ y. is_text texts y ≡ true) w.1 w.0
 text_is texts (integer x) s e = absurd cc
 text_is texts (float x) s e = absurd cc

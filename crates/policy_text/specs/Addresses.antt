@@ -1,12 +1,7 @@
 -- Addresses and identifiers as they are written in a policy text. The forms are this proxy's own rule.
 use Rattle.std.specs.Prelude.{ℕ, ◌+◌, ◌-◌, ◌*◌, ◌/◌, ◌^◌, ◌==◌, ◌&&◌, nat_le, Bool, List, [], ◌∷◌, length, slice_index, Option, Some, None, option_map, if◌then◌else◌}
 use Rattle.of10_model.specs.declared.pattern.Prefix.{Prefix}
-
--- a part that isn't of its form ends a reading
-infixl 10 ◌>>=◌
-abbrev pub ◌>>=◌ : {A B : Type 0} → Option A → (A → Option B) → Option B
-None >>= f = None
-(Some x) >>= f = f x
+use Rattle.of10_model.specs.Meet.{◌>>=◌}
 
 -- ---- hex
 

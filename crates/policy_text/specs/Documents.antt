@@ -12,7 +12,8 @@ use Rattle.policy_text.specs.declared.fault.Part.TheVariants as part
 use Rattle.policy_text.specs.declared.fault.ReadFault.{ReadFault}
 use Rattle.policy_text.specs.declared.fault.ReadFault.TheVariants.{NotToml, Refused}
 use Rattle.policy_text.specs.declared.values.Numbers.TheVariants.{Between}
-use Rattle.policy_text.specs.Reading.{◌>>=◌, SectionView, known_keys, required, optional, number, tables, some_tables}
+use Rattle.of10_model.specs.Results.{◌>>=◌}
+use Rattle.policy_text.specs.Reading.{SectionView, known_keys, required, optional, number, tables, some_tables}
 use Rattle.policy_text.specs.Slices.{slices_from}
 use Rattle.policy_text.specs.Rules.{rules_from}
 

@@ -7,6 +7,7 @@ use Rattle.toml.specs.Data.{Data, string, integer, array, Items, no_items, item,
 use Rattle.toml.specs.Text.{are_tables, has_items}
 use Rattle.flowspace.specs.Slices.{is_name_byte}
 use Rattle.of10_model.specs.declared.pattern.Prefix.{Prefix}
+use Rattle.of10_model.specs.Results.{◌>>=◌}
 use Rattle.policy_text.specs.Addresses.{datapath_id, hardware_address, prefix}
 use Rattle.policy_text.specs.declared.fault.Part.{Part}
 use Rattle.policy_text.specs.declared.fault.Part.TheVariants.{Top, Slice, Rule}
@@ -19,12 +20,6 @@ use Rattle.policy_text.specs.declared.values.Numerals.{Numerals}
 use Rattle.policy_text.specs.declared.values.Numerals.TheVariants.{Datapath, Hardware}
 use Rattle.policy_text.specs.declared.values.Texts.{Texts}
 use Rattle.policy_text.specs.declared.values.Texts.TheVariants.{Name, Controller, Any}
-
--- the first fault ends a reading
-infixl 10 ◌>>=◌
-abbrev pub ◌>>=◌ : {A B : Type 0} → Result A ReadFault → (A → Result B ReadFault) → Result B ReadFault
-(Ok x) >>= f = f x
-(Err fault) >>= f = Err fault
 
 -- a call fails as a reading does, or for want of memory
 abbrev pub Fails : {Y : Type 0} → ReadFault → Result Y ReadFault → Type 0

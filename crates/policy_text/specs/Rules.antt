@@ -16,7 +16,8 @@ use Rattle.policy_text.specs.declared.fault.ReadFault.TheVariants.{BadValue, Imp
 use Rattle.policy_text.specs.declared.values.Numbers.TheVariants.{UpTo, InPort, Vlan, Service}
 use Rattle.policy_text.specs.declared.values.Numerals.TheVariants.{Datapath, Hardware}
 use Rattle.policy_text.specs.declared.values.Texts.TheVariants.{Any}
-use Rattle.policy_text.specs.Reading.{◌>>=◌, SectionView, known_keys, required, optional, number, numeral, addresses, text, text_list}
+use Rattle.of10_model.specs.Results.{◌>>=◌}
+use Rattle.policy_text.specs.Reading.{SectionView, known_keys, required, optional, number, numeral, addresses, text, text_list}
 
 -- ---- the match
 

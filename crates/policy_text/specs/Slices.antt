@@ -7,7 +7,8 @@ use Rattle.policy_text.specs.declared.fault.ReadFault.{ReadFault}
 use Rattle.policy_text.specs.declared.fault.ReadFault.TheVariants.{BadValue}
 use Rattle.policy_text.specs.declared.values.Numbers.TheVariants.{UpTo, Between}
 use Rattle.policy_text.specs.declared.values.Texts.TheVariants.{Name, Controller}
-use Rattle.policy_text.specs.Reading.{◌>>=◌, SectionView, known_keys, required, optional, number, text}
+use Rattle.of10_model.specs.Results.{◌>>=◌}
+use Rattle.policy_text.specs.Reading.{SectionView, known_keys, required, optional, number, text}
 
 -- a slice's table
 abbrev pub slice_section : ℕ → Members → SectionView

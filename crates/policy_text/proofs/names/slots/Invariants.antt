@@ -1,6 +1,6 @@
 use Rattle.std.proofs.Common.{◌≡◌, length, map}
 use Rattle.policy_text.specs.Rules.{slots_of}
-use Rattle.policy_text.proofs.Loop.{with_front}
+use Rattle.of10_model.proofs.Results.{with_front}
 use Rattle.policy_text.proofs.names.slots.Given as goal
 
 abbrev pub invariant-loop-rest : goal.invariant-loop-rest

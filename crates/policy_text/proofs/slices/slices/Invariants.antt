@@ -1,7 +1,7 @@
 use Rattle.std.proofs.Common.{◌≡◌, drop}
 use Rattle.toml.specs.View.{items_view}
 use Rattle.policy_text.specs.Slices.{slices_from}
-use Rattle.policy_text.proofs.Loop.{with_front}
+use Rattle.of10_model.proofs.Results.{with_front}
 use Rattle.policy_text.proofs.slices.slices.Given as goal
 
 abbrev pub invariant-loop-index : goal.invariant-loop-index
