@@ -7,6 +7,7 @@ use Rattle.of10_model.specs.declared.pattern.Pattern.{Pattern}
 use Rattle.of10_model.specs.Same.{is_same}
 use Rattle.of10_model.specs.Inclusion.{includes_of}
 use Rattle.of10_model.specs.Meet.{is_disjoint}
+use Rattle.of10_flow.specs.declared.protocol.TheConstants.{ADD, MODIFY, MODIFY_STRICT}
 use Rattle.flow_book.specs.declared.booked.Booked.{Booked}
 
 -- what can be done to the book: a flow-mod with its command, pieces, priority, wish to be told of removals and number; the removal of a pair; and a failure of the request of a number for a pair
@@ -27,10 +28,10 @@ is_booked pattern priority booked = list_any (is_pair pattern priority) booked
 abbrev pub includes_booked : Pattern → List Booked → Bool
 includes_booked pattern booked = list_any (λ b. includes_of pattern b.pattern) booked
 
--- a piece comes to the book by a flow-mod: an ADD (0) and a MODIFY_STRICT (2) book a pair that isn't booked, a MODIFY (1) a match that includes no booked one, and deletes nothing
+-- a piece comes to the book by a flow-mod: an ADD and a MODIFY_STRICT book a pair that isn't booked, a MODIFY a match that includes no booked one, and deletes nothing
 abbrev pub is_newcomer : ℕ → ℕ → List Booked → Pattern → Bool
 is_newcomer command priority booked piece =
-    ((command == 0 || command == 2) && not (is_booked piece priority booked)) || (command == 1 && not (includes_booked piece booked))
+    ((command == ADD || command == MODIFY_STRICT) && not (is_booked piece priority booked)) || (command == MODIFY && not (includes_booked piece booked))
 
 -- how many pieces come to the book
 abbrev pub newcomers_in : ℕ → List Pattern → ℕ → List Booked → ℕ
@@ -51,7 +52,7 @@ first_booked priority asked number piece = record { pattern = piece; priority = 
 -- a booked pair after a flow-mod: where an ADD books it again it asks as the ADD does, and stays the request's that booked it first
 abbrev pub booked_again : ℕ → List Pattern → ℕ → Bool → Booked → Booked
 booked_again command pieces priority asked b =
-    if command == 0 && list_any (λ piece. is_pair piece priority b) pieces then record b { asked = asked } else b
+    if command == ADD && list_any (λ piece. is_pair piece priority b) pieces then record b { asked = asked } else b
 
 -- the request of this number booked the pair first
 abbrev pub is_first : ℕ → Option Booked → Bool

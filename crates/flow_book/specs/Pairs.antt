@@ -2,13 +2,14 @@
 use Rattle.std.specs.Prelude.{ℕ, ◌≡◌, ◌≢◌, ◌⊎◌, false, Bool, List, [], ◌∷◌, ◌++◌, All, AllPairs, Contains, Some}
 use Rattle.of10_model.specs.declared.pattern.Pattern.{Pattern}
 use Rattle.of10_model.specs.Normal.{IsNormal}
+use Rattle.of10_flow.specs.declared.protocol.TheConstants.{ADD, MODIFY, MODIFY_STRICT}
 use Rattle.flow_book.specs.declared.booked.Booked.{Booked}
 use Rattle.flow_book.specs.Books.{BookCall, Added, Removed, Failed, is_booked, includes_booked, book, booking}
 
--- a flow-mod with this command books a piece: an ADD (0) any, a MODIFY (1) one that includes no match booked before, of any priority, and a MODIFY_STRICT (2) one whose pair wasn't booked before
+-- a flow-mod with this command books a piece: an ADD any, a MODIFY one that includes no match booked before, of any priority, and a MODIFY_STRICT one whose pair wasn't booked before
 abbrev pub BooksPiece : ℕ → Pattern → ℕ → List BookCall → Type 0
 BooksPiece command piece priority earlier =
-    (command ≡ 0) ⊎ (((command ≡ 1) × (includes_booked piece (book earlier) ≡ false)) ⊎ ((command ≡ 2) × (is_booked piece priority (book earlier) ≡ false)))
+    (command ≡ ADD) ⊎ (((command ≡ MODIFY) × (includes_booked piece (book earlier) ≡ false)) ⊎ ((command ≡ MODIFY_STRICT) × (is_booked piece priority (book earlier) ≡ false)))
 
 -- a call books the pair: it is a flow-mod at this priority that books this match as one of its pieces
 abbrev pub Books : Pattern → ℕ → BookCall → List BookCall → Type 0
