@@ -1,4 +1,4 @@
-ghost use Rattle.std.specs.Prelude.{ℕ, ◌≡◌, ◌≤◌, ◌<◌, ◌+◌, length, slice_get, OnOk, IfSome};
+ghost use Rattle.std.specs.Prelude.{ℕ, ◌≡◌, ◌≤◌, ◌<◌, ◌+◌, length, slice_get, OnOk, IfSome, OnErr};
 ghost use Rattle.outbox.specs.Queues.{Queue, no_messages, push, without_first, QueueStands};
 
 use of10_ctl::Frame;
@@ -42,12 +42,13 @@ impl Outbox {
     }
 
     /// Takes memory for so many more messages.
-    pub fn reserve(&mut self, count: u32) -> Result<(), AllocError>
+    pub fn reserve(&mut self, count: usize) -> Result<(), AllocError>
         ensures room { OnOk result (count ≤ self.new.room) }
+        ensures full { OnErr result (self.old.room < count) }
         ensures stands { (limit : ℕ) (q : Queue) → QueueStands limit q self.old → QueueStands limit q self.new }
         ensures kept { self.old.room ≤ self.new.room }
     {
-        self.frames.reserve(count as usize)
+        self.frames.reserve(count)
     }
 
     /// Adds a message behind the others, or drops it where it would pass the limit or the outbox is choked;

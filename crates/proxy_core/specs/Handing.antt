@@ -14,6 +14,10 @@ of_slot slot (pair ∷ later) = if pair.0 == slot then pair.1 ∷ of_slot slot l
 abbrev pub HasRoomAt : ℕ → ℕ → List Kept → Type 0
 HasRoomAt slot count queues = (queue : Kept) → slice_get queues slot ≡ Some queue → count ≤ queue.room
 
+-- each queue that gets one of these messages has room for so many as there are
+abbrev pub HasRoomForAll : List (ℕ × List ℕ) → List Kept → Type 0
+HasRoomForAll messages queues = (i : ℕ) (pair : ℕ × List ℕ) → slice_get messages i ≡ Some pair → HasRoomAt pair.0 (length messages) queues
+
 -- each queue has room for the messages of its slot
 abbrev pub HaveRoom : List (ℕ × List ℕ) → List Kept → Type 0
 HaveRoom messages queues = (slot : ℕ) → HasRoomAt slot (length (of_slot slot messages)) queues

@@ -100,18 +100,6 @@ pub(crate) fn echo(alloc: Global, frame: &Frame) -> Result<Vec<Frame>, AllocErro
     reply(alloc, frame)
 }
 
-/// Takes memory for so many more messages.
-pub(crate) fn make_room(waiting: &mut Outbox, count: usize) -> Result<(), AllocError>
-    ensures room { OnOk result (count ≤ waiting.new.room) }
-    ensures stands { (limit : ℕ) (q : Queue) → QueueStands limit q waiting.old → QueueStands limit q waiting.new }
-    ensures kept { waiting.old.room ≤ waiting.new.room }
-{
-    match u32::try_from(count) {
-        Ok(count) => waiting.reserve(count),
-        Err(_) => Err(AllocError),
-    }
-}
-
 /// Adds messages, in order, for which there is room.
 pub(crate) fn push_all(waiting: &mut Outbox, messages: Vec<Frame>)
     requires { length messages.items ≤ waiting.old.room }

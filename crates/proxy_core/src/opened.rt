@@ -3,9 +3,8 @@
 ghost use Rattle.std.specs.Prelude.{ℕ, ◌≡◌, ◌≤◌, List, [], ◌∷◌, length, IfOk, OnOk, OnErr, All};
 ghost use Rattle.flowspace.specs.Slices.{IsPlainSlice};
 ghost use Rattle.proxy_core.specs.Opening.{AreFresh, AreEmpty, Begins};
-ghost use Rattle.proxy_core.specs.Handing.{HasRoomAt, HaveRoom, AreSame, AreHanded, kept_by};
+ghost use Rattle.proxy_core.specs.Handing.{HasRoomAt, HasRoomForAll, HaveRoom, AreSame, AreHanded, kept_by};
 
-use crate::lane::make_room;
 use crate::parts::Session;
 use flow_book::SliceState;
 use flowspace::{Policy, Slice};
@@ -68,10 +67,11 @@ fn make_room_at(queues: &mut Vec<Outbox>, slot: u8, count: usize) -> Result<(), 
     ensures room { OnOk result (HasRoomAt slot count queues.new.items) }
     ensures more { (slot n : ℕ) → HasRoomAt slot n queues.old.items → HasRoomAt slot n queues.new.items }
     ensures same { AreSame queues.old.items queues.new.items }
+    ensures full { OnErr result (¬ HasRoomAt slot count queues.old.items) }
 {
     let at = usize::from(slot);
     if at < queues.len() {
-        make_room(&mut queues[at], count)?;
+        queues[at].reserve(count)?;
     }
     Ok(())
 }
@@ -83,6 +83,7 @@ pub(crate) fn make_rooms(
 ) -> Result<(), AllocError>
     ensures room { OnOk result (HaveRoom messages.now queues.new.items) }
     ensures same { AreSame queues.old.items queues.new.items }
+    ensures full { OnErr result (¬ HasRoomForAll messages.now queues.old.items) }
 {
     for at in 0..messages.len() {
         make_room_at(queues, messages[at].0, messages.len())?;

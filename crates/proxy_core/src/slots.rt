@@ -7,7 +7,7 @@ ghost use Rattle.slice_words.specs.Standing.{SliceStands};
 ghost use Rattle.slice_side.specs.Reactions.{with_item};
 ghost use Rattle.proxy_core.specs.Slots.{Comes, Hears, Keeps};
 
-use crate::lane::{make_room, push_all};
+use crate::lane::push_all;
 use flow_book::SliceState;
 use flowspace::SwitchPolicy;
 use of10_ctl::kind::HELLO;
@@ -28,7 +28,7 @@ pub(crate) fn come(
     ensures err { OnErr result (Keeps state.old queue.old state.new queue.new) }
 {
     let hello = message(alloc, HELLO, 0, &[])?;
-    make_room(queue, 1)?;
+    queue.reserve(1)?;
     queue.clear();
     come_up(state);
     queue.push(hello);
@@ -62,8 +62,8 @@ pub(crate) fn hear(
     ensures lane { OnErr result ((limit : ℕ) (q : Queue) → QueueStands limit q lane.old → QueueStands limit q lane.new) }
 {
     let reaction = react(alloc, policy, ports, features, state, slot, frame, moment)?;
-    make_room(queue, reaction.to_slice.len())?;
-    make_room(lane, reaction.to_switch.len())?;
+    queue.reserve(reaction.to_slice.len())?;
+    lane.reserve(reaction.to_switch.len())?;
     apply(state, reaction.change);
     push_all(queue, reaction.to_slice);
     push_all(lane, reaction.to_switch);

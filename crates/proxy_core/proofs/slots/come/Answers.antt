@@ -7,5 +7,5 @@ pub returns-clause-ok : goal.returns-clause-ok
 returns-clause-ok c = (
   c.come_up.ensures,
   subst (λ (m : List ℕ). HasOnly (m ∷ []) c.args.queue.now c.push.new.self) c.in_ok-hello.ensures.value
-      (only_one c.in_ok-hello.hello c.args.queue.now c.make_room.new.waiting c.clear.new.self c.push.new.self c.make_room.ensures.stands c.clear.ensures.stands c.push.ensures.stands),
+      (only_one c.in_ok-hello.hello c.args.queue.now c.reserve.new.self c.clear.new.self c.push.new.self c.reserve.ensures.stands c.clear.ensures.stands c.push.ensures.stands),
 )
