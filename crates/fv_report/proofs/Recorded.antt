@@ -6,7 +6,8 @@ use Rattle.std.proofs.Math.Dec.{eqb-zero-suc, eqb-suc-zero, eqb-suc-suc}
 use Rattle.std.specs.Result.{IsErr}
 use Rattle.std.proofs.lemmas.Result.{IfOk-from_err}
 use Rattle.std.proofs.Common.{inl, inr}
-use Rattle.std.proofs.lemmas.Bool.{cases_Bool, ltb-true, ltb-false}
+use Rattle.std.proofs.lemmas.Bool.{cases_Bool, ltb-true, ltb-false, ne_eqb}
+use Rattle.std.proofs.lemmas.List.Elements.{All-nil}
 use Rattle.std.proofs.Math.Seq.{drop-append_seam}
 use Rattle.std.proofs.Math.Nat.{le_refl}
 use Rattle.of10_ctl.specs.Streams.{Stream, Stands, frames_at, frames_of}
@@ -18,7 +19,7 @@ use Rattle.desk_words.specs.declared.event.Timed.{Timed}
 use Rattle.desk_words.specs.declared.answer.Dest.{Dest}
 use Rattle.desk_words.specs.Recorded.{happening, begins_stream, is_same_stream, stream_before, completed, history_of, history_at, events_in, next_after}
 use Rattle.desk_words.proofs.Completed.{frames_first}
-use Rattle.answer_bounds.specs.Bounds.{AreFramed}
+use Rattle.answer_bounds.specs.Bounds.{IsFramed, AreFramed}
 use Rattle.desk_words.specs.Reports as report
 use Rattle.desk_words.specs.Reports.{lines_of}
 use Rattle.fv_base.specs.Told.{appended}
@@ -30,7 +31,7 @@ use Rattle.fv_report.specs.Lines.{place_of}
 use Rattle.fv_report.specs.Writing.{WrotePart}
 use Rattle.fv_report.specs.Holding.{IsQuiet}
 use Rattle.fv_report.specs.Plays.{event_from, Played, Plays}
-use Rattle.fv_report.specs.Switches.{told_by, IsReady, SwitchStands, RecordPlayed, PlaysRecord}
+use Rattle.fv_report.specs.Switches.{told_by, IsFreshSwitch, SwitchStands, RecordPlayed, PlaysRecord, IsTurn, Readies}
 use Rattle.fv_report.proofs.Writing.{at_fault, none_of}
 use Rattle.fv_report.specs.Streams.{Restarts, AreFresh, connection, StreamStands, StreamsStand}
 
@@ -234,11 +235,6 @@ less_or_more n m unlike = elim (cases_Bool (ltb n m)) [ inl is ↦ absurd (unlik
 pub found : {X : Type 0} (xs : List X) (at : ℕ) (x : X) → ltb at (length xs) ≡ true → x ≡ get_or xs at x → slice_get xs at ≡ Some x
 found xs at x within is = slice_get_read xs (length xs) at x refl (ltb-true at (length xs) within) is
 
--- a record of a known kind finds its switch ready
-pub ready_by : (p : PolicyView) (item : Item) (kind : ℕ) (before : List Told) (event : Event) (switch : Switch) → item.kind ≡ kind
-    → IsReady p (record { kind = kind; switch = item.switch; slot = item.slot; moment = item.moment; bytes = [] }) before event switch → IsReady p (told_by item []) before event switch
-ready_by p item kind before event switch is ready = subst (λ (r : Told). IsReady p r before event switch) (sym (told_kind item [] kind is)) ready
-
 -- a record that carries no byte of a switch's connections and begins none of them leaves their streams
 pub streams_stay : (slices switch : ℕ) (r : Told) (before : List Told) (streams : Streams) → stream_before (connection switch switch_bytes 0) (r ∷ before) ≡ stream_before (connection switch switch_bytes 0) before
     → ((slot : ℕ) → stream_before (connection switch slice_bytes slot) (r ∷ before) ≡ stream_before (connection switch slice_bytes slot) before) → StreamsStand slices switch before streams → StreamsStand slices switch (r ∷ before) streams
@@ -247,3 +243,34 @@ streams_stay slices switch r before streams of_switch of_slices stands = record 
   number = stands.number;
   of_slices = λ at framer is. kept switch slice_bytes at r before framer (of_slices at) (stands.of_slices at framer is);
 }
+
+-- the switch connected
+pub ready_up : (p : PolicyView) (item : Item) (old new : Switch) → item.kind ≡ switch_up → IsFreshSwitch p new → Readies p (told_by item []) old new
+ready_up p item old new is fresh = subst (λ (r : Told). Readies p r old new) (sym (told_kind item [] switch_up is)) (λ before stands. record {
+  quiet = fresh.quiet;
+  framed = All-nil (λ (t : Timed). IsFramed t.event);
+  streams = streams_up (length p.slices) item.switch item.slot item.moment [] before new.streams fresh.streams;
+})
+
+-- a slice's controller connected
+pub ready_slice_up : (p : PolicyView) (item : Item) (old new : Switch) → item.kind ≡ slice_up → new.desk ≡ old.desk → new.streams.switch ≡ old.streams.switch → Restarts item.slot old.streams.slices.items new.streams.slices.items → Readies p (told_by item []) old new
+ready_slice_up p item old new is desk same restarts = subst (λ (r : Told). Readies p r old new) (sym (told_kind item [] slice_up is)) (λ before stands. record {
+  quiet = subst (IsQuiet p (history_of p item.switch before)) (sym desk) stands.quiet;
+  framed = stands.framed;
+  streams = streams_slice_up (length p.slices) item.switch item.slot item.moment [] before old.streams new.streams restarts.0 stands.streams same restarts.1 restarts.2;
+})
+
+-- a connection ended
+pub ready_down : (p : PolicyView) (item : Item) (switch : Switch) → IsTurn item.kind → (item.kind ≡ switch_up → ⊥) → (item.kind ≡ slice_up → ⊥) → Readies p (told_by item []) switch switch
+ready_down p item switch turn no_up no_slice_up before stands =
+    let r = told_by item [] in
+    let same = same_number item.switch in
+    let up = ne_eqb item.kind switch_up no_up in
+    let slice = ne_eqb item.kind slice_up no_slice_up in
+    let of_switch = ne_eqb item.kind switch_bytes turn.0 in
+    let of_slice = ne_eqb item.kind slice_bytes turn.1 in
+    record {
+      quiet = rw up stands.quiet;
+      framed = rw up stands.framed;
+      streams = streams_stay (length p.slices) item.switch r before switch.streams (rw (same, up, of_switch) refl) (λ slot. rw (same, up, slice, of_slice) refl) stands.streams;
+    }

@@ -5,8 +5,7 @@ use Rattle.flowspace.specs.Policies.{PolicyView}
 use Rattle.recording.specs.declared.item.Item.{Item}
 use Rattle.recording.specs.Recordings.{Told, switch_bytes, slice_up, slice_bytes}
 use Rattle.answer_bounds.specs.Bounds.{AreFramed}
-use Rattle.desk_words.specs.declared.event.Event.{Event}
-use Rattle.desk_words.specs.Recorded.{happenings, history_of, history_at, events_in}
+use Rattle.desk_words.specs.Recorded.{history_of, history_at, events_in}
 use Rattle.desk_words.specs.Reports.{lines_of}
 use Rattle.fv_report.specs.declared.switch.Switch.{Switch}
 use Rattle.fv_report.specs.Writing.{Wrote}
@@ -40,18 +39,18 @@ PlaysRecord policy r number result written_before written old new =
     (before : List Told) → SwitchStands policy r.switch before old
     → RecordPlayed policy r before number result written_before written (SwitchStands policy r.switch (r ∷ before)) new
 
--- the one event of a record can happen at a switch: its desk holds the history before the record, and its streams are those with it
-pub record IsReady (policy : PolicyView) (r : Told) (before : List Told) (event : Event) (switch : Switch) : Type 0 where
+-- a record of this kind carries no bytes: a connection begins or ends
+abbrev pub IsTurn : ℕ → Type 0
+IsTurn kind = (kind ≡ switch_bytes → ⊥) × (kind ≡ slice_bytes → ⊥)
+
+-- a switch is ready for the events of a record: its desk holds the history before the record, and its streams are those with it
+pub record IsReady (policy : PolicyView) (r : Told) (before : List Told) (switch : Switch) : Type 0 where
   pub quiet : IsQuiet policy (history_at policy r before) switch.desk
   pub framed : AreFramed (history_at policy r before)
   pub streams : StreamsStand (length policy.slices) r.switch (r ∷ before) switch.streams
-  pub one : happenings r before ≡ event ∷ []
 
--- the one event of a record is played at a switch that is ready for it
-abbrev pub PlaysEvent : {E : Type 0} → PolicyView → Told → Event → ℕ → Result ℕ E → Option (List ℕ) → Option (List ℕ) → Switch → Switch → Type 0
-PlaysEvent policy r event number result written_before written old new =
-    (before : List Told) → IsReady policy r before event old
-    → RecordPlayed policy r before number result written_before written (SwitchStands policy r.switch (r ∷ before)) new
+abbrev pub Readies : PolicyView → Told → Switch → Switch → Type 0
+Readies policy r old new = (before : List Told) → SwitchStands policy r.switch before old → IsReady policy r before new
 
 -- no record is of the switch
 abbrev pub IsUntouched : ℕ → List Told → Type 0

@@ -1,12 +1,13 @@
 //! One switch of a recording: its desk, and what came on its connections.
 
-ghost use Rattle.std.specs.Prelude.{◌≡◌, ◌<◌, true, List, [], length, IfOk};
-ghost use Rattle.recording.specs.Recordings.{switch_up, switch_bytes, switch_down, slice_up, slice_bytes, slice_down};
+ghost use Rattle.std.specs.Prelude.{◌≡◌, ◌<◌, true, List, [], ◌∷◌, length, IfOk, OnOk};
+ghost use Rattle.flowspace.specs.Policies.{PolicyView};
+ghost use Rattle.recording.specs.Recordings.{Told, switch_bytes, slice_bytes};
 ghost use Rattle.answer_bounds.specs.Bounds.{IsFramed};
 ghost use Rattle.desk_words.specs.declared.event.Timed.{Timed};
-ghost use Rattle.desk_words.specs.Recorded.{happens};
+ghost use Rattle.desk_words.specs.Recorded.{happens, happenings};
 ghost use Rattle.fv_report.specs.Writing.{Counted};
-ghost use Rattle.fv_report.specs.Switches.{told_by, IsFreshSwitch, IsRecord, PlaysRecord, PlaysEvent};
+ghost use Rattle.fv_report.specs.Switches.{told_by, IsFreshSwitch, IsRecord, IsTurn, Readies, PlaysRecord};
 
 use crate::fault::ReportFault;
 use crate::line::{LineBuffer, Place};
@@ -35,6 +36,25 @@ impl Switch {
             streams: Streams::new(alloc, policy.slice_count())?,
         })
     }
+
+    /// Before the event of a record that carries no bytes: where the switch connects, all begins anew, and
+    /// where a slice's controller does, its stream.
+    fn renew(&mut self, alloc: Global, policy: &Policy, item: &Item) -> Result<(), AllocError>
+        requires { IsTurn item.now.kind }
+        ensures { OnOk result (Readies policy.now (told_by item.now []) self.old self.new) }
+    {
+        match item.kind {
+            SWITCH_UP => {
+                *self = Switch::new(alloc, policy)?;
+                Ok(())
+            }
+            SLICE_UP => {
+                restart(alloc, &mut self.streams.slices, item.slot);
+                Ok(())
+            }
+            _ => Ok(()),
+        }
+    }
 }
 
 /// Where the lines of an event of a record belong.
@@ -48,8 +68,23 @@ fn place_of(events: u64, item: &Item) -> Place
     }
 }
 
-/// Plays the one event of a record, at a switch whose streams are already those with the record.
-fn play_event<K: Sink>(
+/// The one event of a record that carries no bytes.
+fn event_of(item: &Item) -> Event
+    requires { IsTurn item.now.kind }
+    ensures one { (before : List Told) → happenings (told_by item.now []) before ≡ result ∷ [] }
+    ensures framed { IsFramed result }
+    ensures happens { (policy : PolicyView) (h : List Timed) → happens policy h result ≡ true }
+{
+    match item.kind {
+        SWITCH_UP => Event::SwitchUp,
+        SWITCH_DOWN => Event::SwitchDown,
+        SLICE_UP => Event::SliceUp(item.slot),
+        _ => Event::SliceDown(item.slot),
+    }
+}
+
+/// A connection begins or ends.
+fn connection_turns<K: Sink>(
     alloc: Global,
     out: &mut K,
     line: &mut LineBuffer,
@@ -57,39 +92,19 @@ fn play_event<K: Sink>(
     events: u64,
     switch: &mut Switch,
     item: &Item,
-    event: Event,
 ) -> Result<u64, ReportFault>
-    requires framed { IsFramed event }
-    requires happens { (h : List Timed) → happens policy.now h event ≡ true }
-    ensures plays { PlaysEvent policy.now (told_by item.now []) event events result (K.contents out.old) (K.contents out.new) switch.old switch.new }
+    requires kind { IsTurn item.now.kind }
+    ensures plays { PlaysRecord policy.now (told_by item.now []) events result (K.contents out.old) (K.contents out.new) switch.old switch.new }
     ensures counted { Counted result (K.faults out.old) (K.faults out.new) }
 {
+    switch.renew(alloc, policy, item)?;
     let timed = Timed {
-        event,
+        event: event_of(item),
         moment: item.moment,
     };
     let place = place_of(events, item);
     let later = play(alloc, out, line, &mut switch.desk, policy, place, timed)?;
     Ok(later.number)
-}
-
-/// The switch connected: all begins anew.
-fn switch_comes<K: Sink>(
-    alloc: Global,
-    out: &mut K,
-    line: &mut LineBuffer,
-    policy: &Policy,
-    events: u64,
-    switch: &mut Switch,
-    item: &Item,
-) -> Result<u64, ReportFault>
-    requires kind { item.now.kind ≡ switch_up }
-    ensures plays { PlaysRecord policy.now (told_by item.now []) events result (K.contents out.old) (K.contents out.new) switch.old switch.new }
-    ensures counted { Counted result (K.faults out.old) (K.faults out.new) }
-{
-    *switch = Switch::new(alloc, policy)?;
-    let event = Event::SwitchUp;
-    play_event(alloc, out, line, policy, events, switch, item, event)
 }
 
 /// Bytes of the switch.
@@ -117,43 +132,6 @@ fn switch_speaks<K: Sink>(
     let framer = &mut streams.switch;
     let later = hear_bytes(alloc, out, line, desk, policy, place, came, framer, bytes)?;
     Ok(later.number)
-}
-
-/// The switch's connection ended.
-fn switch_goes<K: Sink>(
-    alloc: Global,
-    out: &mut K,
-    line: &mut LineBuffer,
-    policy: &Policy,
-    events: u64,
-    switch: &mut Switch,
-    item: &Item,
-) -> Result<u64, ReportFault>
-    requires kind { item.now.kind ≡ switch_down }
-    ensures plays { PlaysRecord policy.now (told_by item.now []) events result (K.contents out.old) (K.contents out.new) switch.old switch.new }
-    ensures counted { Counted result (K.faults out.old) (K.faults out.new) }
-{
-    let event = Event::SwitchDown;
-    play_event(alloc, out, line, policy, events, switch, item, event)
-}
-
-/// A slice's controller connected.
-fn slice_comes<K: Sink>(
-    alloc: Global,
-    out: &mut K,
-    line: &mut LineBuffer,
-    policy: &Policy,
-    events: u64,
-    switch: &mut Switch,
-    item: &Item,
-) -> Result<u64, ReportFault>
-    requires kind { item.now.kind ≡ slice_up }
-    ensures plays { PlaysRecord policy.now (told_by item.now []) events result (K.contents out.old) (K.contents out.new) switch.old switch.new }
-    ensures counted { Counted result (K.faults out.old) (K.faults out.new) }
-{
-    restart(alloc, &mut switch.streams.slices, item.slot);
-    let event = Event::SliceUp(item.slot);
-    play_event(alloc, out, line, policy, events, switch, item, event)
 }
 
 /// Bytes of a slice's controller.
@@ -186,25 +164,6 @@ fn slice_speaks<K: Sink>(
     Ok(later.number)
 }
 
-/// The connection of a slice's controller ended.
-fn slice_goes<K: Sink>(
-    alloc: Global,
-    out: &mut K,
-    line: &mut LineBuffer,
-    policy: &Policy,
-    events: u64,
-    switch: &mut Switch,
-    item: &Item,
-) -> Result<u64, ReportFault>
-    requires kind { item.now.kind ≡ slice_down }
-    requires slot { item.now.slot < length policy.now.slices }
-    ensures plays { PlaysRecord policy.now (told_by item.now []) events result (K.contents out.old) (K.contents out.new) switch.old switch.new }
-    ensures counted { Counted result (K.faults out.old) (K.faults out.new) }
-{
-    let event = Event::SliceDown(item.slot);
-    play_event(alloc, out, line, policy, events, switch, item, event)
-}
-
 /// Plays a record.
 pub(crate) fn play_record<K: Sink>(
     alloc: Global,
@@ -221,11 +180,8 @@ pub(crate) fn play_record<K: Sink>(
     ensures counted { Counted result (K.faults out.old) (K.faults out.new) }
 {
     match item.kind {
-        SWITCH_UP => switch_comes(alloc, out, line, policy, events, switch, item),
         SWITCH_BYTES => switch_speaks(alloc, out, line, policy, events, switch, item, bytes),
-        SWITCH_DOWN => switch_goes(alloc, out, line, policy, events, switch, item),
-        SLICE_UP => slice_comes(alloc, out, line, policy, events, switch, item),
         SLICE_BYTES => slice_speaks(alloc, out, line, policy, events, switch, item, bytes),
-        _ => slice_goes(alloc, out, line, policy, events, switch, item),
+        _ => connection_turns(alloc, out, line, policy, events, switch, item),
     }
 }

@@ -8,31 +8,37 @@ use Rattle.fv_report.specs.Lines.{place_of}
 use Rattle.fv_report.specs.Writing.{WrotePart}
 use Rattle.fv_report.specs.Plays.{Plays}
 use Rattle.fv_report.specs.Switches.{told_by, SwitchStands}
-use Rattle.fv_report.proofs.Recorded.{record_played, record_failed, switch_after}
-use Rattle.fv_report.proofs.switch.play_event.Goals as goal
+use Rattle.fv_report.proofs.Recorded.{record_played, record_failed, not_played, switch_after}
+use Rattle.fv_report.proofs.switch.connection_turns.Goals as goal
+
+pub returns-in_err-renew-clause-plays : goal.returns-in_err-renew-clause-plays
+returns-in_err-renew-clause-plays g c =
+    not_played c.args.policy.now (told_by c.args.item.now []) c.args.events c.from_residual.result (g.K.Sink.contents c.args.out.now) c.args.switch.now _ c.from_residual.ensures.0
 
 pub returns-in_err-later-clause-plays : goal.returns-in_err-later-clause-plays
-returns-in_err-later-clause-plays g c = λ before ready.
+returns-in_err-later-clause-plays g c = λ before stands.
     let p = c.args.policy.now in
     let r = told_by c.args.item.now [] in
     let h = history_at p r before in
+    let ready = c.in_ok-renew.ensures before stands in
     let place = c.place_of-place.result in
     let told = g.K.Sink.contents c.args.out.now in
     let wrote = g.K.Sink.contents c.play.new.out in
-    let plays = c.in_err-later.ensures.plays h ready.quiet ready.framed c.requires.framed (c.requires.happens h) in
-    record_failed p r before c.args.events place c.from_residual.result told wrote (SwitchStands p r.switch (r ∷ before)) _ c.place_of-place.ensures.number c.place_of-place.ensures.switch c.from_residual.ensures.0
-    (subst (λ (events : List Event). WrotePart (lines_of p (place_of place) h (happening p r.moment h events)) told wrote) (sym ready.one) plays.writes)
+    let plays = c.in_err-later.ensures.plays h ready.quiet ready.framed c.event_of.ensures.framed (c.event_of.ensures.happens p h) in
+    record_failed p r before c.args.events place c.from_residual-in_err-later.result told wrote (SwitchStands p r.switch (r ∷ before)) _ c.place_of-place.ensures.number c.place_of-place.ensures.switch c.from_residual-in_err-later.ensures.0
+    (subst (λ (events : List Event). WrotePart (lines_of p (place_of place) h (happening p r.moment h events)) told wrote) (sym (c.event_of.ensures.one before)) plays.writes)
 
 pub returns-clause-plays : goal.returns-clause-plays
-returns-clause-plays g c = λ before ready.
+returns-clause-plays g c = λ before stands.
     let p = c.args.policy.now in
     let r = told_by c.args.item.now [] in
     let h = history_at p r before in
+    let ready = c.in_ok-renew.ensures before stands in
     let place = c.place_of-place.result in
     let told = g.K.Sink.contents c.args.out.now in
     let wrote = g.K.Sink.contents c.play.new.out in
     let result : Result Place ReportFault = Ok c.in_ok-later.later in
-    let plays = subst (λ (events : List Event). Plays p r.moment h events place result told wrote c.play.new.desk) (sym ready.one)
-    (c.in_ok-later.ensures.plays h ready.quiet ready.framed c.requires.framed (c.requires.happens h)) in
+    let plays = subst (λ (events : List Event). Plays p r.moment h events place result told wrote c.play.new.desk) (sym (c.event_of.ensures.one before))
+    (c.in_ok-later.ensures.plays h ready.quiet ready.framed c.event_of.ensures.framed (c.event_of.ensures.happens p h)) in
     record_played p r before c.args.events place c.in_ok-later.later told wrote c.play.new.desk (SwitchStands p r.switch (r ∷ before)) _ c.place_of-place.ensures.number c.place_of-place.ensures.switch plays.writes plays.played
     (switch_after p r before place c.in_ok-later.later _ plays.played ready.streams)
