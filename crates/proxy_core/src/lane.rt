@@ -1,10 +1,10 @@
 //! The proxy's own messages to a switch, and how messages are put into what waits.
 
-ghost use Rattle.std.specs.Prelude.{ℕ, ◌≡◌, ◌≤◌, List, length, IfOk, OnOk, OnErr, IsTrue};
+ghost use Rattle.std.specs.Prelude.{◌≡◌, ◌≤◌, List, length, IfOk, OnErr, IsTrue};
 ghost use Rattle.of10_ctl.specs.Frames.{IsFrame};
 ghost use Rattle.of10_ctl.specs.Kinds.{IsOf, is_of};
-ghost use Rattle.outbox.specs.Queues.{Queue, push_all, QueueStands};
 ghost use Rattle.desk_words.specs.Sent.{greeting, whole_packets, clearing, preparation, echo_for};
+ghost use Rattle.proxy_core.specs.Slots.{HasMore};
 
 use of10_action::Actions;
 use of10_ctl::kind::{
@@ -103,7 +103,7 @@ pub(crate) fn echo(alloc: Global, frame: &Frame) -> Result<Vec<Frame>, AllocErro
 /// Adds messages, in order, for which there is room.
 pub(crate) fn push_all(waiting: &mut Outbox, messages: Vec<Frame>)
     requires { length messages.items ≤ waiting.old.room }
-    ensures { (limit : ℕ) (q : Queue) → QueueStands limit q waiting.old → QueueStands limit (push_all limit q messages.items) waiting.new }
+    ensures { HasMore messages.items waiting.old waiting.new }
 {
     for message in messages {
         waiting.push(message);

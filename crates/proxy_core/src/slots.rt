@@ -1,11 +1,9 @@
 //! What events make of one slice: its state, and the messages that wait for its controller.
 
-ghost use Rattle.std.specs.Prelude.{ℕ, ◌≡◌, OnOk, OnErr, IfOk};
+ghost use Rattle.std.specs.Prelude.{ℕ, OnOk, OnErr, IfOk};
 ghost use Rattle.outbox.specs.Queues.{Queue, no_messages, QueueStands};
-ghost use Rattle.slice_words.specs.Items.{Settings, Sight, Down};
-ghost use Rattle.slice_words.specs.Standing.{SliceStands};
-ghost use Rattle.slice_side.specs.Reactions.{with_item};
-ghost use Rattle.proxy_core.specs.Slots.{Comes, Hears, Keeps};
+ghost use Rattle.slice_words.specs.Items.{Down};
+ghost use Rattle.proxy_core.specs.Slots.{Comes, Hears, IsSeen, Keeps, SameQueue};
 
 use crate::lane::push_all;
 use flow_book::SliceState;
@@ -37,7 +35,7 @@ pub(crate) fn come(
 
 /// The connection of the slice's controller ended: what waited is dropped.
 pub(crate) fn go(state: &mut SliceState, waiting: &mut Outbox)
-    ensures state { (s : Settings) (sight : Sight) → SliceStands s sight state.old → SliceStands s (with_item Down sight) state.new }
+    ensures state { IsSeen Down state.old state.new }
     ensures waiting { (limit : ℕ) (q : Queue) → QueueStands limit q waiting.old → QueueStands limit no_messages waiting.new }
 {
     go_down(state);
@@ -59,7 +57,7 @@ pub(crate) fn hear(
 ) -> Result<bool, AllocError>
     ensures ok { IfOk result (λ on. Hears policy.now ports.now features.now slot frame.now moment on state.old queue.old lane.old state.new queue.new lane.new) }
     ensures err { OnErr result (Keeps state.old queue.old state.new queue.new) }
-    ensures lane { OnErr result ((limit : ℕ) (q : Queue) → QueueStands limit q lane.old → QueueStands limit q lane.new) }
+    ensures lane { OnErr result (SameQueue lane.old lane.new) }
 {
     let reaction = react(alloc, policy, ports, features, state, slot, frame, moment)?;
     queue.reserve(reaction.to_slice.len())?;
