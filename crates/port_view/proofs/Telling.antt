@@ -70,12 +70,11 @@ port_of-fold number (port ∷ later) known can =
 port_of-never : (number : ℕ) (ports known : List (List ℕ)) → is_in_port number ≡ false → port_of number known ≡ None
     → port_of number (fold with_told known ports) ≡ None
 port_of-never number [] known cannot none = none
-port_of-never number (port ∷ later) known cannot none = elim (cases_Bool (is_in_port (port_number port))) [
-  | inl is ↦
-      let apart : number ≢ port_number port = λ e. let this : true ≡ false = sym is ∙ ap is_in_port (sym e) ∙ cannot in cc in
-      rw is (port_of-never number later (with_port port known) cannot (port_of-with_other number port known apart ∙ none))
-  | inr isnt ↦ rw isnt (port_of-never number later known cannot none)
-]
+port_of-never number (port ∷ later) known cannot none = by_number (λ now. port_of number (fold with_told now later) ≡ None) known port
+    (λ is.
+    let apart : number ≢ port_number port = λ e. let this : true ≡ false = sym is ∙ ap is_in_port (sym e) ∙ cannot in cc in
+    port_of-never number later (with_port port known) cannot (port_of-with_other number port known apart ∙ none))
+    (λ isnt. port_of-never number later known cannot none)
 
 port_of-first : (number : ℕ) (ports : List (List ℕ)) → port_of number (first_known ports) ≡ told_first number ports
 unfolding first_known
