@@ -1,5 +1,5 @@
 -- Connections and histories after one record more.
-use Rattle.std.proofs.Common.{◌≡◌, ◌+◌, ◌<◌, ◌≤◌, ◌==◌, ℕ, zero, suc, Bool, true, false, if◌then◌else◌, List, [], ◌∷◌, ◌++◌, map, drop, set, ltb, length, refl, sym, ap, ap₂, ◌∙◌, subst, eq-eqb, Option, Some, None, Result, Ok, slice_get, get_or, arith}
+use Rattle.std.proofs.Common.{◌≡◌, ◌+◌, ◌<◌, ◌≤◌, ◌==◌, ℕ, zero, suc, true, false, if◌then◌else◌, List, [], ◌∷◌, ◌++◌, map, drop, set, ltb, length, refl, sym, ap, ap₂, ◌∙◌, subst, eq-eqb, Option, Some, Result, Ok, slice_get, get_or}
 use Rattle.std.proofs.lemmas.Option.{slice_get_read, none-some, same_Some}
 use Rattle.std.proofs.lemmas.List.{length-set, set_past}
 use Rattle.std.proofs.Math.Dec.{eqb-zero-suc, eqb-suc-zero, eqb-suc-suc}
@@ -14,10 +14,9 @@ use Rattle.of10_ctl.specs.Streams.{Stream, Stands, frames_at, frames_of}
 use Rattle.flowspace.specs.Policies.{PolicyView}
 use Rattle.recording.specs.declared.item.Item.{Item}
 use Rattle.recording.specs.Recordings.{Told, switch_up, switch_bytes, slice_up, slice_bytes}
-use Rattle.desk_words.specs.declared.event.Event.{Event}
 use Rattle.desk_words.specs.declared.event.Timed.{Timed}
 use Rattle.desk_words.specs.declared.answer.Dest.{Dest}
-use Rattle.desk_words.specs.Recorded.{happening, begins_stream, is_same_stream, stream_before, completed, history_of, history_at, events_in, next_after}
+use Rattle.desk_words.specs.Recorded.{begins_stream, is_same_stream, stream_before, completed, history_of, history_at, events_in, next_after}
 use Rattle.desk_words.proofs.Completed.{frames_first}
 use Rattle.answer_bounds.specs.Bounds.{IsFramed, AreFramed}
 use Rattle.desk_words.specs.Reports as report

@@ -1,5 +1,5 @@
 -- The lines for the slices, one slot after another.
-use Rattle.std.proofs.Common.{◌≡◌, ◌+◌, ℕ, ltb, false, List, [], ◌∷◌, ◌++◌, drop, length, refl, sym, ap, ◌∙◌, append_assoc, subst, Option, Some, slice_get, arith}
+use Rattle.std.proofs.Common.{◌≡◌, ◌+◌, ℕ, ltb, false, List, ◌++◌, drop, length, refl, sym, ap, ◌∙◌, append_assoc, subst, Option, Some, slice_get, arith}
 use Rattle.std.proofs.lemmas.List.{append-nil, drop_more, drop_all}
 use Rattle.std.proofs.lemmas.Option.{slice_get_within, get_or_from_slice_get}
 use Rattle.std.proofs.lemmas.Bool.Decides.{nat_tests}
