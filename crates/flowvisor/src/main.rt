@@ -6,16 +6,17 @@ ghost use Rattle.std.specs.IoError.{error_kind};
 
 mod counts;
 mod disk;
+mod run;
 mod stream;
 #[cfg(test)]
 mod tests;
 
-use disk::Disk;
-use fv_cli::base::{Sink, Words, put_all};
-use fv_cli::{Ending, offline};
+use fv_cli::Ending;
+use fv_cli::base::Words;
+use run::{end, run, show};
 use std::alloc::AllocError;
 use std::env;
-use std::io::{self, BufWriter, ErrorKind};
+use std::io::{self, ErrorKind};
 use std::process::ExitCode;
 use stream::Stream;
 
@@ -39,10 +40,8 @@ large, and 8 where the recording needs what isn't built yet. Each status but 0 h
 /// What `--version` prints.
 const VERSION: &str = "flowvisor 0.1.0 (OpenFlow 1.0, wire version 0x01)\n";
 
-/// How many bytes of output are gathered before they are written.
-const OUTPUT_PIECE: usize = 262_144;
-
 /// Why the words weren't taken.
+#[derive(Drop)]
 enum WordsRefused {
     /// One isn't UTF-8.
     NotText,
@@ -79,6 +78,26 @@ fn words(rt: &HostRuntime) -> Result<Words, WordsRefused> {
     Ok(words)
 }
 
+/// What is said of words that weren't taken.
+fn ending_of(refused: &WordsRefused) -> Ending
+    ensures text { refused.now ≡ WordsRefused.NotText → result ≡ Ending.Usage }
+    ensures memory { refused.now ≡ WordsRefused.Memory → result ≡ Ending.NoMemory }
+{
+    match refused {
+        WordsRefused::NotText => Ending::Usage,
+        WordsRefused::Memory => Ending::NoMemory,
+    }
+}
+
+/// The text that a word asks for which stands alone.
+fn text_for(word: &str) -> Option<&'static str> {
+    match word {
+        "--help" => Some(HELP),
+        "--version" => Some(VERSION),
+        _ => None,
+    }
+}
+
 /// The text that a lone word asks for.
 fn lone_answer(rt: &HostRuntime) -> Option<&'static str> {
     let mut words = env::args(rt).ok()?.skip(1);
@@ -86,45 +105,17 @@ fn lone_answer(rt: &HostRuntime) -> Option<&'static str> {
     if words.next().is_some() {
         return None;
     }
-    match word.as_str() {
-        "--help" => Some(HELP),
-        "--version" => Some(VERSION),
-        _ => None,
-    }
-}
-
-/// Puts the line of an ending on standard error, and answers its status.
-fn end(rt: &HostRuntime, ending: &Ending) -> u8 {
-    ending.say(&mut Stream::new(rt.stderr()));
-    ending.status()
-}
-
-/// Runs with these words; standard output is gathered and flushed at the end.
-fn run(rt: &HostRuntime, words: &Words) -> u8 {
-    let Ok(writer) = BufWriter::with_capacity(rt.alloc(), OUTPUT_PIECE, rt.stdout()) else {
-        return end(rt, &Ending::NoMemory);
-    };
-    let mut out = Stream::new(writer);
-    let mut err = Stream::new(rt.stderr());
-    let mut files = Disk::new(rt);
-    let status = offline(rt.alloc(), words, &mut files, &mut out, &mut err);
-    if out.finish().is_err() && status == 0 {
-        return end(rt, &Ending::WriteFault);
-    }
-    status
+    text_for(word.as_str())
 }
 
 fn start(rt: &HostRuntime) -> u8 {
+    let mut err = Stream::new(rt.stderr());
     if let Some(text) = lone_answer(rt) {
-        return match put_all(&mut Stream::new(rt.stdout()), text.as_bytes()) {
-            Ok(()) => Ending::Done.status(),
-            Err(_) => end(rt, &Ending::WriteFault),
-        };
+        return show(text, &mut Stream::new(rt.stdout()), &mut err);
     }
     match words(rt) {
-        Ok(words) => run(rt, &words),
-        Err(WordsRefused::NotText) => end(rt, &Ending::Usage),
-        Err(WordsRefused::Memory) => end(rt, &Ending::NoMemory),
+        Ok(words) => run(rt, &words, rt.stdout(), &mut err),
+        Err(refused) => end(&mut err, &ending_of(&refused)),
     }
 }
 

@@ -1,6 +1,7 @@
 //! Standard output and standard error as sinks. Nothing is told of what they hold.
 
-ghost use Rattle.std.specs.Prelude.{None};
+ghost use Rattle.std.specs.Prelude.{◌≡◌, None, OnErr, OnOk};
+ghost use Rattle.fv_base.specs.Told.{Rose};
 
 use crate::counts::one_more;
 use fv_cli::base::{Failed, Sink};
@@ -20,7 +21,10 @@ impl<W: Write + Drop> Stream<W> {
     }
 
     /// Writes what was gathered.
-    pub fn finish(&mut self) -> Result<(), Failed> {
+    pub fn finish(&mut self) -> Result<(), Failed>
+        ensures calm { OnOk result (self.new.faults ≡ self.old.faults) }
+        ensures cause { OnErr result (Rose self.old.faults self.new.faults) }
+    {
         match self.writer.flush() {
             Ok(()) => Ok(()),
             Err(_) => {

@@ -1,6 +1,8 @@
 use crate::disk::Disk;
+use crate::run::{run, show};
 use crate::stream::Stream;
-use fv_cli::base::{Files, LoadFault, Sink, load_file, put_all};
+use crate::{HELP, VERSION, text_for};
+use fv_cli::base::{Files, LoadFault, MemorySink, Sink, Words, load_file, put_all};
 use std::io::{BufWriter, Write};
 use std::test::Fail;
 use std::{env, fs, process};
@@ -8,6 +10,9 @@ use std::{env, fs, process};
 const TEXT: &[u8] = b"one\ntwo\n";
 
 const OTHER: &[u8] = b"1st\n2nd\n";
+
+const POLICY: &[u8] =
+    b"version = 1\n[[slice]]\nname = \"alice\"\ncontroller = \"127.0.0.1:6633\"\n";
 
 /// A path for a file of this process in the folder of files that don't last.
 fn scratch_path(rt: &HostRuntime, name: &str) -> Result<String, Fail> {
@@ -40,11 +45,16 @@ fn disk_reads_what_files_hold(rt: HostRuntime) -> Result<(), Fail> {
     for (name, text, from, size, count) in [
         (&path, TEXT, 4, 4, 4),
         (&path, TEXT, 0, 2, 2),
-        (&path, TEXT, 2, 2, 2),
-        (&path, TEXT, 5, 4, 3),
+        (&path, TEXT, 0, 2, 2),
+        (&path, TEXT, 1, 2, 2),
+        (&path, TEXT, 3, 2, 2),
+        (&path, TEXT, 3, 2, 2),
+        (&path, TEXT, 4, 2, 2),
+        (&path, TEXT, 7, 4, 1),
         (&path, TEXT, 8, 4, 0),
         (&path, TEXT, 0, 4, 4),
         (&other, OTHER, 4, 4, 4),
+        (&other, OTHER, 0, 2, 2),
     ] {
         assert_eq!(rt;
             disk.read(name.as_str(), from as u64, &mut part[..size])
@@ -54,7 +64,10 @@ fn disk_reads_what_files_hold(rt: HostRuntime) -> Result<(), Fail> {
         assert_eq!(rt; &part[..count], &text[from..from + count]);
     }
 
+    // The file stays open until it is read to its end, or another is.
     fs::remove_file(&rt, other.as_str())?;
+    assert_eq!(rt; disk.read(other.as_str(), 2, &mut part[..2]).ok(), Some(2));
+    assert_eq!(rt; &part[..2], &OTHER[2..4]);
     fs::remove_file(&rt, path.as_str())?;
     for nothing in [path.as_str(), "/"] {
         assert_eq!(rt;
@@ -78,5 +91,94 @@ fn streams_write_what_is_put(rt: HostRuntime) -> Result<(), Fail> {
     let mut narrow = Stream::new(room.as_mut_slice());
     assert_eq!(rt; narrow.put(TEXT).ok(), Some(5));
     assert!(rt; narrow.put(&TEXT[5..]).is_err());
+
+    let mut room = [0u8; 5];
+    let mut late = Stream::new(BufWriter::new(rt.alloc(), room.as_mut_slice())?);
+    assert!(rt; put_all(&mut late, TEXT).is_ok());
+    assert!(rt; late.finish().is_err());
+    Ok(())
+}
+
+const USAGE: &[u8] =
+    b"usage: flowvisor check POLICY / replay POLICY RECORDING / gen SEED COUNT / serve POLICY LISTEN COUNT\n";
+
+fn words(rt: &HostRuntime, each: &[&str]) -> Result<Words, Fail> {
+    let mut words = Words::new(rt.alloc());
+    for word in each {
+        words.push(word)?;
+    }
+    Ok(words)
+}
+
+#[test]
+fn runs_end_as_their_output_is_taken(rt: HostRuntime) -> Result<(), Fail> {
+    let policy = scratch_path(&rt, "policy")?;
+    let recording = scratch_path(&rt, "recording")?;
+    let missing = scratch_path(&rt, "missing")?;
+    fs::create(&rt, policy.as_str())?.write_all(POLICY)?;
+    fs::create(&rt, recording.as_str())?.write_all(b"FVREC\0\0\x01")?;
+    let (policy, recording, missing) = (policy.as_str(), recording.as_str(), missing.as_str());
+
+    for (each, size, status, output, line) in [
+        (
+            &["replay", policy, recording][..],
+            6,
+            0,
+            "end 0\n",
+            &b""[..],
+        ),
+        (
+            &["replay", policy, recording][..],
+            5,
+            5,
+            "end 0",
+            b"write fault\n",
+        ),
+        (&["replay", policy, missing][..], 6, 4, "", b"read fault\n"),
+        (
+            &["replay", missing, recording][..],
+            6,
+            4,
+            "",
+            b"read fault\n",
+        ),
+        (&["replay", "/", recording][..], 6, 4, "", b"read fault\n"),
+        (&["replay", policy][..], 6, 1, "", USAGE),
+        (&[][..], 6, 1, "", USAGE),
+    ] {
+        let mut room = [0u8; 6];
+        let mut err = MemorySink::new(rt.alloc());
+        let words = words(&rt, each)?;
+        assert_eq!(rt; run(&rt, &words, &mut room[..size], &mut err), status);
+        assert_eq!(rt; &room[..output.len()], output.as_bytes());
+        assert_eq!(rt; err.as_slice(), line);
+    }
+    fs::remove_file(&rt, policy)?;
+    fs::remove_file(&rt, recording)?;
+    Ok(())
+}
+
+#[test]
+fn texts_are_shown_for_their_words(rt: HostRuntime) -> Result<(), Fail> {
+    for (word, text) in [
+        ("--help", Some(HELP)),
+        ("--version", Some(VERSION)),
+        ("--helps", None),
+        ("-h", None),
+        ("", None),
+    ] {
+        assert_eq!(rt; text_for(word), text);
+    }
+    assert!(rt; HELP.starts_with("FlowVisor for OpenFlow 1.0:"));
+    assert!(rt; VERSION.starts_with("flowvisor "));
+
+    for (size, status, line) in [(8, 0, &b""[..]), (7, 5, b"write fault\n")] {
+        let mut room = [0u8; 8];
+        let mut out = Stream::new(&mut room[..size]);
+        let mut err = MemorySink::new(rt.alloc());
+        assert_eq!(rt; show("one\ntwo\n", &mut out, &mut err), status);
+        assert_eq!(rt; err.as_slice(), line);
+        assert_eq!(rt; &room[..size], &TEXT[..size]);
+    }
     Ok(())
 }

@@ -1,0 +1,57 @@
+//! What the program does once its words are known, over any writer and any sink for its line.
+
+ghost use Rattle.std.specs.Prelude.{◌≡◌, ◌⊎◌, ◌&&◌, ◌==◌, if◌then◌else◌, is_err, None};
+ghost use Rattle.fv_base.specs.Told.{appended, Rose};
+ghost use Rattle.fv_base.specs.Words.{form_of};
+ghost use Rattle.fv_cli.specs.Endings.{status_of, line_of, IsPut};
+
+use crate::disk::Disk;
+use crate::stream::Stream;
+use fv_cli::base::{Failed, Sink, Words, put_all};
+use fv_cli::{Ending, offline};
+use std::io::{BufWriter, Write};
+
+/// How many bytes of output are gathered before they are written.
+const OUTPUT_PIECE: usize = 262_144;
+
+/// Puts the line of an ending, and answers its status.
+pub fn end<E: Sink>(err: &mut E, ending: &Ending) -> u8
+    ensures status { result ≡ status_of ending.now }
+    ensures line { IsPut (line_of ending.now) (E.contents err.old) (E.contents err.new) (E.faults err.old) (E.faults err.new) }
+{
+    ending.say(err);
+    ending.status()
+}
+
+/// Puts a text that was asked for, and answers the status.
+pub fn show<O: Sink, E: Sink>(text: &str, out: &mut O, err: &mut E) -> u8
+    ensures done { result ≡ 0 → O.contents out.new ≡ appended (O.contents out.old) text.now }
+    ensures fault { (result ≡ 0) ⊎ ((result ≡ 5) × Rose (O.faults out.old) (O.faults out.new)) }
+{
+    match put_all(out, text.as_bytes()) {
+        Ok(()) => Ending::Done.status(),
+        Err(_) => end(err, &Ending::WriteFault),
+    }
+}
+
+// A flush that fails is a fault of writing, where the run told of none.
+fn after_flush<E: Sink>(status: u8, flushed: Result<(), Failed>, err: &mut E) -> u8
+    ensures { result ≡ (if status == 0 && is_err flushed then 5 else status) }
+{
+    if status == 0 && flushed.is_err() {
+        return end(err, &Ending::WriteFault);
+    }
+    status
+}
+
+/// Runs with these words; what is written is gathered, and flushed at the end.
+pub fn run<W: Write + Drop, E: Sink>(rt: &HostRuntime, words: &Words, writer: W, err: &mut E) -> u8
+    ensures usage { form_of words.now ≡ None → (result ≡ 1) ⊎ (result ≡ 6) }
+{
+    let Ok(writer) = BufWriter::with_capacity(rt.alloc(), OUTPUT_PIECE, writer) else {
+        return end(err, &Ending::NoMemory);
+    };
+    let mut out = Stream::new(writer);
+    let status = offline(rt.alloc(), words, &mut Disk::new(rt), &mut out, err);
+    after_flush(status, out.finish(), err)
+}
