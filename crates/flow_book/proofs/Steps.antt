@@ -1,7 +1,7 @@
 -- The steps of a flow-mod: pieces booked again, newcomers collected, and their entries put to their places.
 use Rattle.std.proofs.Common.{ℕ, ◌≡◌, ◌+◌, ◌<◌, ◌≤◌, ◌||◌, List, [], ◌∷◌, ◌++◌, length, get_or, take, map, Bool, refl, sym, ap, subst, ◌∙◌, arith, true, false, if◌then◌else◌, inl, inr, append_assoc, append-nil, length-append}
 use Rattle.std.proofs.Math.Seq.{get_or-append_seam}
-use Rattle.std.proofs.lemmas.List.{get_or_append_left}
+use Rattle.std.proofs.lemmas.List.{map-append, get_or_append_left}
 use Rattle.std.specs.Prelude.{filter}
 use Rattle.std.specs.List.{list_any}
 use Rattle.std.specs.List.Sorted.{IsPermutation}
@@ -40,10 +40,6 @@ again_none p asked [] = refl
 again_none p asked (x ∷ xs) = ap (λ l. x ∷ l) (again_none p asked xs)
 
 -- ---- newcomers collected
-
-map-append : {X Y : Type 0} (f : X → Y) (xs ys : List X) → map f (xs ++ ys) ≡ map f xs ++ map f ys
-map-append f [] ys = refl
-map-append f (x ∷ xs) ys = ap (λ l. f x ∷ l) (map-append f xs ys)
 
 -- the entries of the newcomers among the first pieces
 abbrev pub fresh_of : ℕ → List Pattern → ℕ → Bool → ℕ → List Booked → List Booked
