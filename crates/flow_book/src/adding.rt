@@ -4,7 +4,7 @@ ghost use Rattle.std.specs.Prelude.{◌≡◌, ◌≢◌, ◌+◌, ◌≤◌, �
 ghost use Rattle.of10_model.specs.Normal.{IsNormal};
 ghost use Rattle.flow_book.specs.Order.{IsInOrder};
 ghost use Rattle.flow_book.specs.Books.{is_booked, is_newcomer, newcomers_in, first_booked, booked_again};
-ghost use Rattle.flow_book.specs.Adding.{with_asked, again, AreNew};
+ghost use Rattle.flow_book.specs.Adding.{with_asked, again, AreNew, IsSettled};
 
 use crate::booked::Booked;
 use crate::entry::{Entry, place_for, place_of};
@@ -126,13 +126,7 @@ fn settle_each(entries: &mut Vec<Entry>, fresh: &mut Vec<Entry>)
     requires order { IsInOrder entries.old.items }
     requires unbooked { AreNew fresh.old.items entries.old.items }
     requires room { vec_len entries.old + vec_len fresh.old ≤ vec_capacity entries.old }
-    ensures added { IsPermutation (fresh.old.items ++ entries.old.items) entries.new.items }
-    ensures order { IsInOrder entries.new.items }
-    ensures len { vec_len entries.new ≡ vec_len entries.old + vec_len fresh.old }
-    ensures capacity { vec_capacity entries.old ≤ vec_capacity entries.new }
-    ensures empty { fresh.new.items ≡ [] }
-    ensures emptied { vec_len fresh.new ≡ 0 }
-    ensures fresh_capacity { vec_capacity fresh.new ≡ vec_capacity fresh.old }
+    ensures { IsSettled fresh.old entries.old fresh.new entries.new }
 {
     while let Some(entry) = fresh.pop() {
         settle(entries, entry);
@@ -145,13 +139,7 @@ fn settle_together(entries: &mut Vec<Entry>, fresh: &mut Vec<Entry>)
     requires unbooked { AreNew fresh.old.items entries.old.items }
     requires normal { All (λ b. IsNormal b.pattern) fresh.old.items }
     requires room { vec_len entries.old + vec_len fresh.old ≤ vec_capacity entries.old }
-    ensures added { IsPermutation (fresh.old.items ++ entries.old.items) entries.new.items }
-    ensures order { IsInOrder entries.new.items }
-    ensures len { vec_len entries.new ≡ vec_len entries.old + vec_len fresh.old }
-    ensures capacity { vec_capacity entries.old ≤ vec_capacity entries.new }
-    ensures empty { fresh.new.items ≡ [] }
-    ensures emptied { vec_len fresh.new ≡ 0 }
-    ensures fresh_capacity { vec_capacity fresh.new ≡ vec_capacity fresh.old }
+    ensures { IsSettled fresh.old entries.old fresh.new entries.new }
 {
     match entries.append(fresh) {
         Ok(()) => entries.sort_unstable_by(|one, other| one.order(other)),
@@ -165,13 +153,7 @@ pub(crate) fn settle_all(entries: &mut Vec<Entry>, fresh: &mut Vec<Entry>)
     requires unbooked { AreNew fresh.old.items entries.old.items }
     requires normal { All (λ b. IsNormal b.pattern) fresh.old.items }
     requires room { vec_len entries.old + vec_len fresh.old ≤ vec_capacity entries.old }
-    ensures added { IsPermutation (fresh.old.items ++ entries.old.items) entries.new.items }
-    ensures order { IsInOrder entries.new.items }
-    ensures len { vec_len entries.new ≡ vec_len entries.old + vec_len fresh.old }
-    ensures capacity { vec_capacity entries.old ≤ vec_capacity entries.new }
-    ensures empty { fresh.new.items ≡ [] }
-    ensures emptied { vec_len fresh.new ≡ 0 }
-    ensures fresh_capacity { vec_capacity fresh.new ≡ vec_capacity fresh.old }
+    ensures { IsSettled fresh.old entries.old fresh.new entries.new }
 {
     if fresh.len() < MANY {
         settle_each(entries, fresh);
