@@ -4,13 +4,14 @@ use Rattle.std.specs.List.{All}
 use Rattle.std.proofs.lemmas.List.{map-append, length-take}
 use Rattle.of10_ctl.specs.declared.kind.TheConstants.{HELLO, ECHO_REPLY}
 use Rattle.of10_ctl.specs.Frames.{message_of, error_of}
+use Rattle.of10_flow.specs.declared.protocol.TheConstants.{NO_BUFFER}
 use Rattle.of10_port.specs.Ports.{IsPort}
 use Rattle.of10_port.specs.Features.{spell_features}
 use Rattle.of10_port.specs.PortStatus.{spell_port_status}
 use Rattle.port_view.specs.SlicePorts.{features_with}
 use Rattle.slice_words.specs.Messages.{xid_of}
 use Rattle.slice_words.specs.Items.{Settings, Share, Writer, Reader, Probe, Packet, Item, Opened, Up, Down, Msg, Lost, Handed, Removed, Status, Fault, Barrier, Queues, Entry, Last, End, is_up, miss_send_len, buffered_count, known_ports}
-use Rattle.slice_words.specs.Answers.{Answer, Past, silence, told, dismissal, error_for, refused, no_common_version, bad_length, config_reply, no_buffer, packet_message, packet_told, message_answer, answer}
+use Rattle.slice_words.specs.Answers.{Answer, Past, silence, told, dismissal, error_for, refused, no_common_version, bad_length, config_reply, packet_message, packet_told, message_answer, answer}
 use Rattle.slice_words.specs.Alone.{rendered, played, answer_to, sent_for, put_for}
 use Rattle.slice_words.proofs.AnswerKinds.{either, message_holds}
 use Rattle.answer_bounds.specs.Bounds.{AreFew}
@@ -78,10 +79,10 @@ unfolding packet_told
 packet_size view packet (Writer buffered) fits =
     either IsShort buffered _ _
     (short-packet_message (buffered_count view % 2 ^ 24) packet.total_len (if packet.reason == 0 then take (miss_send_len view) packet.payload else packet.payload) packet (cut_fits (packet.reason == 0) (miss_send_len view) packet.payload fits))
-    (short-packet_message no_buffer packet.total_len packet.payload packet fits)
-packet_size view packet Reader fits = short-packet_message no_buffer packet.total_len packet.payload packet fits
+    (short-packet_message NO_BUFFER packet.total_len packet.payload packet fits)
+packet_size view packet Reader fits = short-packet_message NO_BUFFER packet.total_len packet.payload packet fits
 packet_size view packet Probe fits =
-    short-packet_message no_buffer (packet.total_len - 8) (take (length packet.payload - 8) packet.payload) packet (cut_fits true (length packet.payload - 8) packet.payload fits)
+    short-packet_message NO_BUFFER (packet.total_len - 8) (take (length packet.payload - 8) packet.payload) packet (cut_fits true (length packet.payload - 8) packet.payload fits)
 
 -- ---- all items
 

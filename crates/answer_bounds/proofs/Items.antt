@@ -5,6 +5,7 @@ use Rattle.std.proofs.lemmas.List.{length-map, length-drop}
 use Rattle.of10_model.specs.Normal.{is_value, bit}
 use Rattle.of10_ctl.specs.declared.kind.TheConstants.{PACKET_IN}
 use Rattle.of10_ctl.specs.Frames.{is_bad}
+use Rattle.of10_flow.specs.declared.protocol.TheConstants.{NO_BUFFER}
 use Rattle.of10_flow.specs.declared.packet_in.PacketIn.{PacketIn}
 use Rattle.of10_flow.specs.PacketIns.{read_packet_in}
 use Rattle.of10_port.specs.declared.features.Features.{Features}
@@ -16,7 +17,6 @@ use Rattle.flowspace.specs.Order.{writer_of, readers_of}
 use Rattle.flowspace.specs.Policies.{PolicyView}
 use Rattle.slice_words.specs.Items.{Settings, is_own_port, Share, Writer, Reader, Item, Up, Down, Msg, Status, End, is_up}
 use Rattle.slice_words.specs.Items as items
-use Rattle.slice_words.specs.Answers.{no_buffer}
 use Rattle.slice_words.proofs.AnswerKinds.{either}
 use Rattle.desk_words.specs.declared.event.Event.{Event}
 use Rattle.desk_words.specs.declared.event.Event.TheVariants.{SwitchUp, SwitchMsg, SwitchDown, SliceUp, SliceMsg, SliceDown}
@@ -81,7 +81,7 @@ packet_few : (rules : List Rule) (slot : ℕ) (view : List Item) (told : Option 
     → AreFewItems view (elim told [ None ↦ [] | Some packet ↦ packet_items rules slot view packet ])
 packet_few rules slot view None short = no_items view
 packet_few rules slot view (Some packet) short =
-    items_if view (packet.buffer == no_buffer && is_none (probe_slot_of packet.payload) && is_up view) (map (λ share. handed share packet) (shares_of rules slot packet))
+    items_if view (packet.buffer == NO_BUFFER && is_none (probe_slot_of packet.payload) && is_up view) (map (λ share. handed share packet) (shares_of rules slot packet))
     (handed_few rules slot view packet short)
 
 -- ---- ports

@@ -5,6 +5,7 @@ use Rattle.std.specs.List.{list_any}
 use Rattle.of10_model.proofs.Results.{either_none}
 use Rattle.of10_ctl.specs.declared.kind.TheConstants.{PACKET_IN}
 use Rattle.of10_ctl.specs.Frames.{is_bad}
+use Rattle.of10_flow.specs.declared.protocol.TheConstants.{NO_BUFFER}
 use Rattle.of10_flow.specs.declared.packet_in.PacketIn.{PacketIn}
 use Rattle.of10_flow.specs.PacketIns.{read_packet_in}
 use Rattle.of10_port.specs.declared.features.Features.{Features}
@@ -14,7 +15,6 @@ use Rattle.frame_header.specs.Probes.{probe_slot_of}
 use Rattle.flowspace.specs.declared.rules.Rule.{Rule}
 use Rattle.flowspace.specs.Policies.{PolicyView}
 use Rattle.slice_words.specs.Items.{Settings, is_own_port, Share, Item, Opened as Told, Up, Down, Msg, Lost, Handed, Removed, Status, Fault, Barrier, Queues, Entry, Last, End, is_up, is_forgetting}
-use Rattle.slice_words.specs.Answers.{no_buffer}
 use Rattle.slice_words.specs.Messages.{is_dismissing}
 use Rattle.slice_words.specs.Alone.{with_items, sent_for}
 use Rattle.slice_words.specs.Laws.{is_coming}
@@ -47,7 +47,7 @@ pub none_of_packet : (test : Item → Bool) (rules : List Rule) (slot : ℕ) (vi
     → list_any test (elim told [ None ↦ [] | Some packet ↦ packet_items rules slot view packet ]) ≡ false
 none_of_packet test rules slot view None none = refl
 none_of_packet test rules slot view (Some packet) none =
-    none_or test (packet.buffer == no_buffer && is_none (probe_slot_of packet.payload) && is_up view) (map (λ share. handed share packet) (shares_of rules slot packet))
+    none_or test (packet.buffer == NO_BUFFER && is_none (probe_slot_of packet.payload) && is_up view) (map (λ share. handed share packet) (shares_of rules slot packet))
     (none_handed test packet (shares_of rules slot packet) (none packet))
 
 -- ---- items that say nothing of the connection

@@ -1,5 +1,6 @@
 -- What is taken of a queue is what was sent, in order, up to what was dropped.
 use Rattle.std.proofs.Common.{◌≡◌, ℕ, ◌+◌, ◌||◌, nat_lt, Bool, true, false, if◌then◌else◌, List, [], ◌∷◌, ◌++◌, length, refl, ap, sym, subst, ◌∙◌, append_assoc, append-nil, true≢false, eqb-true}
+use Rattle.std.proofs.lemmas.Bool.{or_parts}
 use Rattle.flowspace.specs.Policies.{PolicyView}
 use Rattle.outbox.specs.Queues.{Queue, no_messages, size, push, push_all, without_first}
 use Rattle.desk_words.specs.declared.event.Timed.{Timed}
@@ -32,10 +33,6 @@ in_order_kept messages taken q m free o = record {
   kept = λ _. refl;
 }
 
-free_of : (choked full : Bool) → (choked || full) ≡ false → choked ≡ false
-free_of true full is = is
-free_of false full is = refl
-
 by_test : (messages taken : List (List ℕ)) (q : Queue) (m : List ℕ) (full : Bool) → ((full ≡ false) → q.choked ≡ false) → AreInOrder messages taken q
     → AreInOrder (messages ++ m ∷ []) taken (if full then record q { choked = true } else record q { pending = q.pending ++ m ∷ [] })
 by_test messages taken q m true free o = in_order_choked messages taken q m o
@@ -44,7 +41,7 @@ by_test messages taken q m false free o = in_order_kept messages taken q m (free
 pushed : (limit : ℕ) (messages taken : List (List ℕ)) (q : Queue) (m : List ℕ) → AreInOrder messages taken q → AreInOrder (messages ++ m ∷ []) taken (push limit q m)
 unfolding push
 pushed limit messages taken q m o =
-    by_test messages taken q m (q.choked || nat_lt limit (size q.pending + length m)) (free_of q.choked (nat_lt limit (size q.pending + length m))) o
+    by_test messages taken q m (q.choked || nat_lt limit (size q.pending + length m)) (λ free. (or_parts q.choked (nat_lt limit (size q.pending + length m)) free).0) o
 
 pushed_all : (limit : ℕ) (messages taken : List (List ℕ)) (q : Queue) (more : List (List ℕ)) → AreInOrder messages taken q → AreInOrder (messages ++ more) taken (push_all limit q more)
 unfolding push_all

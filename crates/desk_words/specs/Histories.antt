@@ -4,6 +4,7 @@ use Rattle.of10_model.specs.Header.{Header}
 use Rattle.of10_model.specs.Normal.{is_value, bit}
 use Rattle.of10_ctl.specs.declared.kind.TheConstants.{PACKET_IN}
 use Rattle.of10_ctl.specs.Frames.{is_bad}
+use Rattle.of10_flow.specs.declared.protocol.TheConstants.{NO_BUFFER}
 use Rattle.of10_flow.specs.declared.packet_in.PacketIn.{PacketIn}
 use Rattle.of10_flow.specs.PacketIns.{read_packet_in}
 use Rattle.of10_port.specs.declared.features.Features.{Features}
@@ -19,7 +20,6 @@ use Rattle.port_view.specs.KnownPorts.{first_known, kept_of}
 use Rattle.port_view.specs.SlicePorts.{ports_of_slice}
 use Rattle.slice_words.specs.Items.{Settings, settings_of, is_own_port, Share, Writer, Reader, Probe, Packet, Item, Up, Down, Msg, Handed, Status, End, Sight, is_up}
 use Rattle.slice_words.specs.Items as items
-use Rattle.slice_words.specs.Answers.{no_buffer}
 use Rattle.slice_words.specs.Alone.{with_items}
 use Rattle.desk_words.specs.declared.event.Event.{Event}
 use Rattle.desk_words.specs.declared.event.Event.TheVariants.{SwitchUp, SwitchMsg, SwitchDown, SliceUp, SliceMsg, SliceDown}
@@ -87,7 +87,7 @@ shares_of rules slot packet =
 -- a packet-in shows the slice its packet once for each of its shares, where it is up. What is buffered, and what bears a probe's mark of a slot of the policy, comes later; until then a packet with any mark shows nothing
 abbrev pub packet_items : List Rule → ℕ → List Item → PacketIn → List Item
 packet_items rules slot view packet =
-    if packet.buffer == no_buffer && is_none (probe_slot_of packet.payload) && is_up view then map (λ share. handed share packet) (shares_of rules slot packet) else []
+    if packet.buffer == NO_BUFFER && is_none (probe_slot_of packet.payload) && is_up view then map (λ share. handed share packet) (shares_of rules slot packet) else []
 
 -- a change is kept beside the ports that are known
 abbrev pub is_kept : PortStatus → List (List ℕ) → Bool

@@ -4,12 +4,11 @@ use Rattle.byteorder.specs.Endian.{big_bytes}
 use Rattle.of10_model.specs.Exact.{all_free}
 use Rattle.of10_ctl.specs.declared.kind.TheConstants.{HELLO, ECHO_REQUEST, ECHO_REPLY, FEATURES_REQUEST, SET_CONFIG, BARRIER_REQUEST}
 use Rattle.of10_ctl.specs.Frames.{message_of}
-use Rattle.of10_flow.specs.declared.protocol.TheConstants.{DELETE}
+use Rattle.of10_flow.specs.declared.protocol.TheConstants.{NO_BUFFER, DELETE}
 use Rattle.of10_flow.specs.FlowMods.{spell_flow_mod}
 use Rattle.of10_port.specs.declared.protocol.TheConstants.{NONE}
 use Rattle.flowspace.specs.Policies.{PolicyView}
 use Rattle.slice_words.specs.Messages.{xid_of}
-use Rattle.slice_words.specs.Answers.{no_buffer}
 use Rattle.slice_words.specs.Alone.{rendered, sent_for, put_for}
 use Rattle.desk_words.specs.declared.event.Event.{Event}
 use Rattle.desk_words.specs.declared.event.Event.TheVariants.{SwitchUp, SwitchMsg, SliceMsg}
@@ -55,7 +54,7 @@ clearing = spell_flow_mod (record {
   idle = 0;
   hard = 0;
   priority = 0;
-  buffer = no_buffer;
+  buffer = NO_BUFFER;
   out_port = NONE;
   flags = 0;
   actions = [];

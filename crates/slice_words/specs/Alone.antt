@@ -1,8 +1,9 @@
 -- What a slice is sent by a proxy that serves it alone: the answers to the items of its view, one after another (this proxy's own rule).
 use Rattle.std.specs.Prelude.{ℕ, ◌-◌, List, [], ◌∷◌, ◌++◌, length, get_or, Option, Some, None}
 use Rattle.byteorder.specs.Endian.{big_bytes}
+use Rattle.of10_flow.specs.declared.protocol.TheConstants.{NO_BUFFER}
 use Rattle.slice_words.specs.Items.{Settings, Item}
-use Rattle.slice_words.specs.Answers.{Outgoing, Answer, Past, answer, no_buffer}
+use Rattle.slice_words.specs.Answers.{Outgoing, Answer, Past, answer}
 
 -- a way to answer an item after a view with its answers
 abbrev pub Answering : Type 0
@@ -41,7 +42,7 @@ put_for s view (item ∷ items) = (answer_to s view item).to_switch ++ put_for s
 
 -- the number with which a slice's k-th buffered packet came, among the numbers of all, newest first; k is below their number
 abbrev pub number_of : List ℕ → ℕ → ℕ
-number_of came k = get_or came (length came - 1 - k) no_buffer
+number_of came k = get_or came (length came - 1 - k) NO_BUFFER
 
 -- the four bytes of that number, and none where no packet is named
 abbrev pub buffer_bytes : List ℕ → Option ℕ → List ℕ

@@ -4,6 +4,7 @@ use Rattle.byteorder.specs.Endian.{big_bytes}
 use Rattle.of10_action.specs.Faults.{class_and_code}
 use Rattle.of10_ctl.specs.declared.kind.TheConstants.{HELLO, ERROR, ECHO_REQUEST, ECHO_REPLY, VENDOR, FEATURES_REQUEST, GET_CONFIG_REQUEST, GET_CONFIG_REPLY, SET_CONFIG, PORT_MOD}
 use Rattle.of10_ctl.specs.Frames.{is_bad, message_of, error_of}
+use Rattle.of10_flow.specs.declared.protocol.TheConstants.{NO_BUFFER}
 use Rattle.of10_flow.specs.PacketIns.{spell_packet_in}
 use Rattle.of10_port.specs.Features.{spell_features}
 use Rattle.of10_port.specs.PortStatus.{spell_port_status}
@@ -126,10 +127,6 @@ message_answer s view past moment message =
 
 -- ---- packets
 
--- the number that says that a packet isn't buffered (section 5.4.1)
-abbrev pub no_buffer : ℕ
-no_buffer = 0xffffffff
-
 -- a packet-in for the slice with this number and so much of the packet (section 5.4.1)
 abbrev pub packet_message : ℕ → ℕ → List ℕ → Packet → List ℕ
 packet_message buffer total_len payload packet =
@@ -142,9 +139,9 @@ buffered_message view packet =
 
 -- the writer's packet is buffered where the switch buffers it, a reader's never; a probe comes without the mark in its last eight bytes
 unfoldable pub packet_told : List Item → Packet → Share → List ℕ
-packet_told view packet (Writer buffered) = if buffered then buffered_message view packet else packet_message no_buffer packet.total_len packet.payload packet
-packet_told view packet Reader = packet_message no_buffer packet.total_len packet.payload packet
-packet_told view packet Probe = packet_message no_buffer (packet.total_len - 8) (take (length packet.payload - 8) packet.payload) packet
+packet_told view packet (Writer buffered) = if buffered then buffered_message view packet else packet_message NO_BUFFER packet.total_len packet.payload packet
+packet_told view packet Reader = packet_message NO_BUFFER packet.total_len packet.payload packet
+packet_told view packet Probe = packet_message NO_BUFFER (packet.total_len - 8) (take (length packet.payload - 8) packet.payload) packet
 
 -- ---- all items
 

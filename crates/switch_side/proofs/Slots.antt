@@ -3,6 +3,7 @@ use Rattle.std.proofs.Common.{◌≡◌, ℕ, ◌==◌, ◌&&◌, Bool, true, fa
 use Rattle.of10_model.specs.Normal.{is_value, bit}
 use Rattle.of10_ctl.specs.declared.kind.TheConstants.{PACKET_IN, PORT_STATUS}
 use Rattle.of10_ctl.specs.Frames.{is_bad}
+use Rattle.of10_flow.specs.declared.protocol.TheConstants.{NO_BUFFER}
 use Rattle.of10_flow.specs.declared.packet_in.PacketIn.{PacketIn}
 use Rattle.of10_flow.specs.PacketIns.{read_packet_in, spell_packet_in}
 use Rattle.of10_port.specs.declared.status.PortStatus.{PortStatus}
@@ -15,7 +16,7 @@ use Rattle.flowspace.specs.Owners.{has_port}
 use Rattle.flowspace.specs.Policies.{PolicyView}
 use Rattle.slice_words.specs.Messages.{version_of, is_kind}
 use Rattle.slice_words.specs.Items.{Settings, is_own_port, Writer, Reader, Item, Status, End, is_up}
-use Rattle.slice_words.specs.Answers.{no_buffer, packet_told}
+use Rattle.slice_words.specs.Answers.{packet_told}
 use Rattle.slice_words.specs.Alone.{sent_for}
 use Rattle.desk_words.specs.declared.phase.Phase.TheVariants.{Opened}
 use Rattle.of10_ctl.specs.Kinds.{is_of}
@@ -60,7 +61,7 @@ by_form s rules slot view packet false false = refl
 
 packet_sent : (s : Settings) (rules : List Rule) (slot : ℕ) (view : List Item) (packet : PacketIn)
     → sent_for s view (packet_items rules slot view packet) ≡ say_packet rules packet slot (is_up view)
-packet_sent s rules slot view packet = by_form s rules slot view packet (packet.buffer == no_buffer) (is_none (probe_slot_of packet.payload))
+packet_sent s rules slot view packet = by_form s rules slot view packet (packet.buffer == NO_BUFFER) (is_none (probe_slot_of packet.payload))
 
 -- ---- ports
 

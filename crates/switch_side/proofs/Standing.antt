@@ -3,6 +3,7 @@ use Rattle.std.proofs.Common.{ℕ, ◌==◌, ◌&&◌, Bool, if◌then◌else◌
 use Rattle.std.proofs.lemmas.Bool.{cond_both}
 use Rattle.of10_ctl.specs.declared.kind.TheConstants.{PACKET_IN}
 use Rattle.of10_ctl.specs.Frames.{is_bad}
+use Rattle.of10_flow.specs.declared.protocol.TheConstants.{NO_BUFFER}
 use Rattle.of10_flow.specs.declared.packet_in.PacketIn.{PacketIn}
 use Rattle.of10_flow.specs.PacketIns.{read_packet_in}
 use Rattle.of10_port.specs.declared.status.PortStatus.{PortStatus}
@@ -12,7 +13,6 @@ use Rattle.flowspace.specs.declared.rules.Rule.{Rule}
 use Rattle.flowspace.specs.Policies.{PolicyView}
 use Rattle.flow_book.specs.declared.state.SliceState.{SliceState}
 use Rattle.slice_words.specs.Items.{Settings, is_own_port, Share, Item, Sight, Status, End, is_up, miss_send_len, latest}
-use Rattle.slice_words.specs.Answers.{no_buffer}
 use Rattle.slice_words.specs.Alone.{with_items}
 use Rattle.slice_words.specs.Calls.{request_calls, collection_calls, questions, book_calls}
 use Rattle.slice_words.specs.Standing.{SliceStands, past_of}
@@ -67,7 +67,7 @@ packet_stands : (s : Settings) (sight : Sight) (state : SliceState) (rules : Lis
     → SliceStands s (seen sight (elim found [ None ↦ [] | Some packet ↦ packet_items rules slot sight.view packet ])) state
 packet_stands s sight state rules slot None stands = stands
 packet_stands s sight state rules slot (Some packet) stands =
-    either s sight state (packet.buffer == no_buffer && is_none (probe_slot_of packet.payload) && is_up sight.view) (map (λ share. handed share packet) (shares_of rules slot packet)) []
+    either s sight state (packet.buffer == NO_BUFFER && is_none (probe_slot_of packet.payload) && is_up sight.view) (map (λ share. handed share packet) (shares_of rules slot packet)) []
     (shares_stand s sight state packet (shares_of rules slot packet) stands) stands
 
 port_stands : (s : Settings) (sight : Sight) (state : SliceState) (known : List (List ℕ)) (told : Option PortStatus) → SliceStands s sight state

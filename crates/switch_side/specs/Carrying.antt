@@ -3,6 +3,7 @@ use Rattle.std.specs.Prelude.{ℕ, ◌==◌, ◌&&◌, ◌+◌, Bool, false, if�
 use Rattle.of10_model.specs.Normal.{is_value, bit}
 use Rattle.of10_ctl.specs.declared.kind.TheConstants.{PACKET_IN}
 use Rattle.of10_ctl.specs.Frames.{is_bad}
+use Rattle.of10_flow.specs.declared.protocol.TheConstants.{NO_BUFFER}
 use Rattle.of10_flow.specs.declared.packet_in.PacketIn.{PacketIn}
 use Rattle.of10_flow.specs.PacketIns.{read_packet_in, spell_packet_in}
 use Rattle.of10_port.specs.declared.status.PortStatus.{PortStatus}
@@ -13,7 +14,6 @@ use Rattle.flowspace.specs.declared.rules.Rule.{Rule}
 use Rattle.flowspace.specs.Order.{writer_of, readers_of}
 use Rattle.flowspace.specs.Owners.{has_port}
 use Rattle.flow_book.specs.declared.state.SliceState.{SliceState}
-use Rattle.slice_words.specs.Answers.{no_buffer}
 use Rattle.of10_ctl.specs.Kinds.{is_of}
 use Rattle.desk_words.specs.Openings.{well_formed}
 use Rattle.desk_words.specs.Histories.{header_in}
@@ -35,7 +35,7 @@ carried d = record { messages = d.to_slices.items; replies = d.to_switch.items; 
 
 -- a packet as slices are told it: whole, without a number
 abbrev pub unnumbered : PacketIn → PacketIn
-unnumbered packet = record packet { xid = 0; buffer = no_buffer }
+unnumbered packet = record packet { xid = 0; buffer = NO_BUFFER }
 
 -- a message where it is due
 abbrev pub once : Bool → List ℕ → List (List ℕ)
@@ -43,7 +43,7 @@ once due message = if due then message ∷ [] else []
 
 -- the packet is neither buffered nor a probe
 abbrev pub is_plain : PacketIn → Bool
-is_plain packet = packet.buffer == no_buffer && is_none (probe_slot_of packet.payload)
+is_plain packet = packet.buffer == NO_BUFFER && is_none (probe_slot_of packet.payload)
 
 -- a packet for the slice at a slot, if it is up: for the writer, and for each reader
 abbrev pub packet_for : Option ℕ → ℕ → List ℕ → ℕ → Bool → List (List ℕ)
