@@ -2,3 +2,4 @@ pub mod Joining
 pub mod AnswerKinds
 pub mod Dismissing
 pub mod Wanting
+pub mod Moments

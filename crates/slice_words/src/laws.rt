@@ -2,7 +2,7 @@
 
 ghost use Rattle.std.specs.Prelude.{ℕ, List};
 ghost use Rattle.slice_words.specs.Items.{Settings, Item};
-ghost use Rattle.slice_words.specs.Laws.{AreJoined, IsSilentWhileDown, IsUpByTheLast, EndsExactly, IsSetByTheLast, IsForgotten, IsNeverSet};
+ghost use Rattle.slice_words.specs.Laws.{AreJoined, IsSilentWhileDown, IsUpByTheLast, EndsExactly, IsSetByTheLast, IsForgotten, IsNeverSet, IsAtLeastEach, IsOneOrZero};
 
 /// What a slice is sent over a view with more items is what it was sent before them, and then what
 /// follows from each of them.
@@ -31,4 +31,11 @@ pub fn length_by_the_last()
     ensures set { (later : List Item) (message : List ℕ) (moment : ℕ) (earlier : List Item) → IsSetByTheLast later message moment earlier }
     ensures forgotten { (later : List Item) (item : Item) (earlier : List Item) → IsForgotten later item earlier }
     ensures never { (view : List Item) → IsNeverSet view }
+{}
+
+/// The latest moment of a view is the greatest of the moments of its items that have one: it is at least
+/// each of them, and it is one of them; zero where there is none.
+pub fn latest_is_the_greatest_moment()
+    ensures least { (view : List Item) → IsAtLeastEach view }
+    ensures one { (view : List Item) → IsOneOrZero view }
 {}
