@@ -1,6 +1,7 @@
 //! What is wrong with the form of a slice's message.
 
-ghost use Rattle.std.specs.Prelude.{◌≡◌, IfOk, false, length};
+ghost use Rattle.std.specs.Prelude.{◌≡◌, IfOk, Result, false, length};
+ghost use Rattle.of10_action.specs.Reading.{Gives};
 ghost use Rattle.of10_ctl.specs.Kinds.{IsOf};
 ghost use Rattle.of10_ctl.specs.Frames.{is_bad};
 ghost use Rattle.of10_flow.specs.PacketOuts.{read_packet_out};
@@ -30,26 +31,29 @@ fn sized(size: usize, frame: &Frame) -> Option<WireFault>
     }
 }
 
-fn in_packet_out(alloc: Global, frame: &Frame) -> Result<Option<WireFault>, AllocError>
-    requires { IsOf 13 frame.now }
-    ensures { IfOk result (λ fault. fault ≡ fault_in (read_packet_out frame.now)) }
+/// The fault that was told where a message was read, if any.
+fn fault_told<T: Drop>(read: Result<T, DecodeFault>) -> Result<Option<WireFault>, AllocError>
+    ensures { (told : Result T WireFault) → Gives (λ m. m) read told → IfOk result (λ fault. fault ≡ fault_in told) }
 {
-    match PacketOut::decode(alloc, frame) {
+    match read {
         Ok(_) => Ok(None),
         Err(DecodeFault::Wire(fault)) => Ok(Some(fault)),
         Err(DecodeFault::Memory) => Err(AllocError),
     }
 }
 
+fn in_packet_out(alloc: Global, frame: &Frame) -> Result<Option<WireFault>, AllocError>
+    requires { IsOf 13 frame.now }
+    ensures { IfOk result (λ fault. fault ≡ fault_in (read_packet_out frame.now)) }
+{
+    fault_told(PacketOut::decode(alloc, frame))
+}
+
 fn in_flow_mod(alloc: Global, frame: &Frame) -> Result<Option<WireFault>, AllocError>
     requires { IsOf 14 frame.now }
     ensures { IfOk result (λ fault. fault ≡ fault_in (read_flow_mod frame.now)) }
 {
-    match FlowMod::decode(alloc, frame) {
-        Ok(_) => Ok(None),
-        Err(DecodeFault::Wire(fault)) => Ok(Some(fault)),
-        Err(DecodeFault::Memory) => Err(AllocError),
-    }
+    fault_told(FlowMod::decode(alloc, frame))
 }
 
 fn in_request(frame: &Frame) -> Option<WireFault>
