@@ -42,13 +42,20 @@ impl Outbox {
     }
 
     /// Takes memory for so many more messages.
-    pub fn reserve(&mut self, count: usize) -> Result<(), AllocError>
-        ensures room { OnOk result (count ≤ self.new.room) }
-        ensures full { OnErr result (self.old.room < count) }
+    pub fn reserve(&mut self, n: u32) -> Result<(), AllocError>
+        ensures room { OnOk result (n ≤ self.new.room) }
+        ensures full { OnErr result (self.old.room < n) }
         ensures stands { (limit : ℕ) (q : Queue) → QueueStands limit q self.old → QueueStands limit q self.new }
         ensures kept { self.old.room ≤ self.new.room }
     {
-        self.frames.reserve(count)
+        self.frames.reserve(n as usize)
+    }
+
+    /// For how many more messages there is memory.
+    pub fn room(&self) -> usize
+        ensures { result ≡ self.now.room }
+    {
+        self.frames.capacity() - self.frames.len()
     }
 
     /// Adds a message behind the others, or drops it where it would pass the limit or the outbox is choked;

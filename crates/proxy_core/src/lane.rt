@@ -1,8 +1,9 @@
 //! The proxy's own messages to a switch, and how messages are put into what waits.
 
-ghost use Rattle.std.specs.Prelude.{◌≡◌, ◌≤◌, List, length, IfOk, OnErr, IsTrue};
+ghost use Rattle.std.specs.Prelude.{ℕ, ◌≡◌, ◌≤◌, ◌<◌, List, length, IfOk, OnOk, OnErr, IsTrue};
 ghost use Rattle.of10_ctl.specs.Frames.{IsFrame};
 ghost use Rattle.of10_ctl.specs.Kinds.{IsOf, is_of};
+ghost use Rattle.outbox.specs.Queues.{Queue, QueueStands};
 ghost use Rattle.desk_words.specs.Sent.{greeting, whole_packets, clearing, preparation, echo_for};
 ghost use Rattle.proxy_core.specs.Slots.{HasMore};
 
@@ -98,6 +99,22 @@ pub(crate) fn echo(alloc: Global, frame: &Frame) -> Result<Vec<Frame>, AllocErro
         return Ok(Vec::new(alloc));
     }
     reply(alloc, frame)
+}
+
+/// Takes memory for so many more messages.
+pub(crate) fn make_room(waiting: &mut Outbox, count: usize) -> Result<(), AllocError>
+    ensures room { OnOk result (count ≤ waiting.new.room) }
+    ensures full { OnErr result (waiting.old.room < count) }
+    ensures stands { (limit : ℕ) (q : Queue) → QueueStands limit q waiting.old → QueueStands limit q waiting.new }
+    ensures kept { waiting.old.room ≤ waiting.new.room }
+{
+    if count <= waiting.room() {
+        return Ok(());
+    }
+    match u32::try_from(count) {
+        Ok(n) => waiting.reserve(n),
+        Err(_) => Err(AllocError),
+    }
 }
 
 /// Adds messages, in order, for which there is room.

@@ -5,6 +5,7 @@ ghost use Rattle.flowspace.specs.Slices.{IsPlainSlice};
 ghost use Rattle.proxy_core.specs.Opening.{AreFresh, AreEmpty, Begins};
 ghost use Rattle.proxy_core.specs.Handing.{HasRoomAt, HasRoomForAll, HaveRoom, AreSame, AreHanded, kept_by};
 
+use crate::lane::make_room;
 use crate::parts::Session;
 use flow_book::SliceState;
 use flowspace::{Policy, Slice};
@@ -71,7 +72,7 @@ fn make_room_at(queues: &mut Vec<Outbox>, slot: u8, count: usize) -> Result<(), 
 {
     let at = usize::from(slot);
     if at < queues.len() {
-        queues[at].reserve(count)?;
+        make_room(&mut queues[at], count)?;
     }
     Ok(())
 }

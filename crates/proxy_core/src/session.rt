@@ -4,7 +4,7 @@ ghost use Rattle.std.specs.Prelude.{ℕ, ◌≡◌, true, false, IfOk, OnOk, OnE
 ghost use Rattle.proxy_core.specs.Slots.{Comes, Hears, Keeps, SameQueue};
 ghost use Rattle.proxy_core.specs.Opening.{has_slot, is_up_at, AtSlot, Goes, Carries, StandsOn};
 
-use crate::lane::push_all;
+use crate::lane::{make_room, push_all};
 use crate::opened::{hand_out, keep, make_rooms};
 use crate::parts::Session;
 use crate::slots::{come, go, hear};
@@ -111,7 +111,7 @@ impl Session {
         if close {
             return Ok(false);
         }
-        lane.reserve(to_switch.len())?;
+        make_room(lane, to_switch.len())?;
         make_rooms(&mut self.queues, &to_slices)?;
         keep(&mut self.ports, port)?;
         hand_out(&mut self.queues, to_slices);

@@ -5,7 +5,7 @@ ghost use Rattle.outbox.specs.Queues.{Queue, no_messages, QueueStands};
 ghost use Rattle.slice_words.specs.Items.{Down};
 ghost use Rattle.proxy_core.specs.Slots.{Comes, Hears, IsSeen, Keeps, SameQueue};
 
-use crate::lane::push_all;
+use crate::lane::{make_room, push_all};
 use flow_book::SliceState;
 use flowspace::SwitchPolicy;
 use of10_ctl::kind::HELLO;
@@ -60,8 +60,8 @@ pub(crate) fn hear(
     ensures lane { OnErr result (SameQueue lane.old lane.new) }
 {
     let reaction = react(alloc, policy, ports, features, state, slot, frame, moment)?;
-    queue.reserve(reaction.to_slice.len())?;
-    lane.reserve(reaction.to_switch.len())?;
+    make_room(queue, reaction.to_slice.len())?;
+    make_room(lane, reaction.to_switch.len())?;
     apply(state, reaction.change);
     push_all(queue, reaction.to_slice);
     push_all(lane, reaction.to_switch);

@@ -9,7 +9,7 @@ ghost use Rattle.desk_words.specs.Verdicts.{is_down, is_ended};
 ghost use Rattle.desk_words.specs.declared.answer.Verdict.TheVariants.{Go, Close};
 ghost use Rattle.proxy_core.specs.Desks.{Acts, ActsIn, Stays, Ends, PassesOn, is_begun_with, DeskStands, Steps};
 
-use crate::lane::{echo, greeting, preparation, push_all};
+use crate::lane::{echo, greeting, make_room, preparation, push_all};
 use crate::parts::{Desk, Session};
 use desk_words::{Event, Phase, Timed, Verdict};
 use flowspace::Policy;
@@ -73,7 +73,7 @@ impl Desk {
         ensures events { self.new.events ≡ self.old.events }
     {
         let messages = greeting(alloc)?;
-        self.lane.reserve(messages.len())?;
+        make_room(&mut self.lane, messages.len())?;
         self.phase = connected(self.phase);
         push_all(&mut self.lane, messages);
         Ok(true)
@@ -98,7 +98,7 @@ impl Desk {
     {
         let session = Session::new(alloc, &self.policy, features)?;
         let messages = preparation(alloc)?;
-        self.lane.reserve(messages.len())?;
+        make_room(&mut self.lane, messages.len())?;
         self.phase = Phase::Opened;
         self.session = Some(session);
         push_all(&mut self.lane, messages);
@@ -113,7 +113,7 @@ impl Desk {
         ensures events { self.new.events ≡ self.old.events }
     {
         let messages = echo(alloc, frame)?;
-        self.lane.reserve(messages.len())?;
+        make_room(&mut self.lane, messages.len())?;
         push_all(&mut self.lane, messages);
         Ok(true)
     }

@@ -6,4 +6,4 @@ use Rattle.proxy_core.proofs.parts.Desk.open.Goals as goal
 pub returns-clause-ok : goal.returns-clause-ok
 returns-clause-ok c moment message told =
     opened c.args.self.now _ moment message c.args.features c.in_ok-session.session refl refl
-    (subst (λ (m : List (List ℕ)). HasMore m c.args.self.now.lane c.push_all.new.waiting) c.in_ok-messages.ensures (λ limit q h. c.push_all.ensures limit q (c.reserve.ensures.stands limit q h))) refl told c.in_ok-session.ensures
+    (subst (λ (m : List (List ℕ)). HasMore m c.args.self.now.lane c.push_all.new.waiting) c.in_ok-messages.ensures (λ limit q h. c.push_all.ensures limit q (c.make_room.ensures.stands limit q h))) refl told c.in_ok-session.ensures

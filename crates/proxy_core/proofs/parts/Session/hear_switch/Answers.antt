@@ -26,4 +26,4 @@ pub returns-clause-ok : goal.returns-clause-ok
 returns-clause-ok c moment p switch sides qs open_ s =
     carried_out moment c.args.frame.now c.args.self.now _ c.args.lane.now c.push_all.new.waiting c.make_rooms.new.queues.items p switch sides qs c.in_ok-to_slices.field-0 open_ s
     (λ p2 switch2 sides2 moment2 around stand. c.in_ok-to_slices.ensures.dispatch p2 switch2 sides2 moment2 around (subst (AllStand p2 switch2 sides2) (sym c.deref.ensures.value) stand)) c.if-close.false
-    refl refl refl c.in_ok-keep.ensures.ok c.make_rooms.ensures.same c.hand_out.ensures (λ limit q h. c.push_all.ensures limit q (c.reserve.ensures.stands limit q h))
+    refl refl refl c.in_ok-keep.ensures.ok c.make_rooms.ensures.same c.hand_out.ensures (λ limit q h. c.push_all.ensures limit q (c.make_room.ensures.stands limit q h))
