@@ -1,10 +1,12 @@
 -- What of a recording isn't built, as it is looked for.
-use Rattle.std.proofs.Common.{◌≡◌, ◌<◌, ℕ, zero, suc, true, false, List, [], ◌∷◌, ◌++◌, drop, set, length, zip, find, refl, sym, ap, ◌∙◌, subst, Option, Some, None, option_map, slice_get, get_or, arith}
-use Rattle.std.proofs.lemmas.List.{length-set}
-use Rattle.std.proofs.lemmas.Option.{slice_get-get_or, none-some, same_Some}
+use Rattle.std.proofs.Common.{◌≡◌, ◌+◌, ◌<◌, ℕ, zero, suc, true, false, List, [], ◌∷◌, ◌++◌, drop, set, length, zip, find, refl, sym, ap, ◌∙◌, subst, Option, Some, None, option_map, slice_get, get_or, arith}
+use Rattle.std.specs.List.{All}
+use Rattle.std.proofs.lemmas.List.{length-set, drop_more}
+use Rattle.std.proofs.lemmas.List.Elements.{All-get_or}
+use Rattle.std.proofs.lemmas.Option.{slice_get-get_or, slice_get_read, none-some, same_Some}
 use Rattle.of10_ctl.specs.Streams.{Stream, Stands, frames_of}
 use Rattle.recording.specs.declared.item.Item.{Item}
-use Rattle.recording.specs.Recordings.{Told, switch_up, switch_bytes, slice_up, slice_bytes}
+use Rattle.recording.specs.Recordings.{IsItem, Told, switch_up, switch_bytes, slice_up, slice_bytes}
 use Rattle.slice_words.specs.Messages.{kind_of}
 use Rattle.desk_words.specs.declared.answer.Dest.{Dest}
 use Rattle.desk_words.specs.declared.answer.Dest.TheVariants.{Switch}
@@ -160,6 +162,16 @@ searching_first slices file items switches fresh = record {
   stand = record { count = fresh.count; each = λ number streams is. streams_fresh slices number [] streams refl (λ slot. refl) (fresh.each number streams is) };
   same = refl;
 }
+
+-- the record at a place is the first that is left, and the streams that were got are its switch's
+pub searching_at : (slices : ℕ) (file : List ℕ) (items : List Item) (at number : ℕ) (absent : Item) (switches : List Streams) (old : Streams) → at < length items → All (IsItem slices file) items → number ≡ (get_or items at absent).switch
+    → old ≡ get_or switches number old → Searching slices file items (drop at items) switches
+    → (slice_get switches (get_or items at absent).switch ≡ Some old) × Searching slices file items (get_or items at absent ∷ drop (at + 1) items) switches
+searching_at slices file items at number absent switches old within all same own s =
+    let item = All-get_or (IsItem slices file) items at absent within all in
+    let known = item.switch in
+    let count = s.stand.count in
+    (ap (slice_get switches) (sym same) ∙ slice_get_read switches (length switches) number old refl (omega (arith, known, same, count)) own, subst (λ left. Searching slices file items left switches) (drop_more items at absent within) s)
 
 -- a record was passed over
 pub searching_more : (slices : ℕ) (file : List ℕ) (items later : List Item) (item : Item) (switches : List Streams) (old new : Streams) → slice_get switches item.switch ≡ Some old → FindsAt slices (told_by item (carried file item)) None old new

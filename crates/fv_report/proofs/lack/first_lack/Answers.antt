@@ -1,13 +1,11 @@
-use Rattle.std.proofs.Common.{◌≡◌, ◌+◌, ◌∙◌, length, drop, set, get_or, slice_get, Some, None, refl, sym, ap, subst, arith}
-use Rattle.std.proofs.lemmas.List.{drop_more}
+use Rattle.std.proofs.Common.{◌+◌, ◌∙◌, drop, set, get_or, Some, None, sym, ap, subst, arith}
 use Rattle.std.proofs.lemmas.List.Elements.{All-get_or}
-use Rattle.std.proofs.lemmas.Option.{slice_get_read}
 use Rattle.std.proofs.Math.ListN.{drop_of_length-le}
 use Rattle.recording.specs.declared.item.Item.{Item}
 use Rattle.recording.specs.Recordings.{IsItem}
 use Rattle.fv_report.specs.Switches.{told_by}
 use Rattle.fv_report.specs.Lacks.{FindsAt}
-use Rattle.fv_report.proofs.Lacking.{Searching, searching_first, searching_more, searching_found, searching_none}
+use Rattle.fv_report.proofs.Lacking.{Searching, searching_first, searching_at, searching_more, searching_found, searching_none}
 use Rattle.fv_report.proofs.lack.first_lack.Goals as goal
 
 abbrev no_item : Item
@@ -34,16 +32,10 @@ returns-in-Some c =
     let switches = c.loop-item.switches.items in
     let old = c.index_mut-streams.result.now in
     let new = c.first_in_record.new.streams in
-    let s = subst (λ left. Searching c.args.slices file items left switches) (drop_more items at no_item c.loop-item-test.true) c.loop-item.invariant in
-    let record_item = All-get_or (IsItem c.args.slices file) items at no_item c.loop-item-test.true c.requires in
-    let known = record_item.switch in
-    let same = c.from.ensures in
-    let count = c.loop-item.invariant.stand.count in
-    let there : slice_get switches item.switch ≡ Some old =
-    ap (λ n. slice_get switches n) (sym c.from.ensures) ∙ slice_get_read switches (length switches) c.from.result old refl (omega (arith, known, same, count)) c.index_mut-streams.ensures.value in
+    let here = searching_at c.args.slices file items at c.from.result no_item switches old c.loop-item-test.true c.requires c.from.ensures c.index_mut-streams.ensures.value c.loop-item.invariant in
     let finds : FindsAt c.args.slices (told_by item c.carried.result.now) (Some c.in-Some.kind) old new = subst (λ kind. FindsAt c.args.slices (told_by item c.carried.result.now) kind old new) c.in-Some.is c.in_ok-kind.ensures in
     ap (λ lack. Some lack) c.lack_of.ensures
-    ∙ searching_found c.args.slices file items (drop (at + 1) items) item c.in-Some.kind switches old new there (subst (λ bytes. FindsAt c.args.slices (told_by item bytes) (Some c.in-Some.kind) old new) c.carried.ensures finds) s
+    ∙ searching_found c.args.slices file items (drop (at + 1) items) item c.in-Some.kind switches old new here.0 (subst (λ bytes. FindsAt c.args.slices (told_by item bytes) (Some c.in-Some.kind) old new) c.carried.ensures finds) here.1
 
 pub loop-item-preserved : goal.loop-item-preserved
 loop-item-preserved c =
@@ -54,16 +46,10 @@ loop-item-preserved c =
     let switches = c.loop-item.switches.items in
     let old = c.index_mut-streams.result.now in
     let new = c.first_in_record.new.streams in
-    let s = subst (λ left. Searching c.args.slices file items left switches) (drop_more items at no_item c.loop-item-test.true) c.loop-item.invariant in
-    let record_item = All-get_or (IsItem c.args.slices file) items at no_item c.loop-item-test.true c.requires in
-    let known = record_item.switch in
-    let same = c.from.ensures in
-    let count = c.loop-item.invariant.stand.count in
-    let there : slice_get switches item.switch ≡ Some old =
-    ap (λ n. slice_get switches n) (sym c.from.ensures) ∙ slice_get_read switches (length switches) c.from.result old refl (omega (arith, known, same, count)) c.index_mut-streams.ensures.value in
+    let here = searching_at c.args.slices file items at c.from.result no_item switches old c.loop-item-test.true c.requires c.from.ensures c.index_mut-streams.ensures.value c.loop-item.invariant in
     let finds : FindsAt c.args.slices (told_by item c.carried.result.now) None old new = subst (λ kind. FindsAt c.args.slices (told_by item c.carried.result.now) kind old new) c.in_default.is c.in_ok-kind.ensures in
     subst (λ number. Searching c.args.slices file items (drop (at + 1) items) (set switches number new)) (sym c.from.ensures)
-    (searching_more c.args.slices file items (drop (at + 1) items) item switches old new there (subst (λ bytes. FindsAt c.args.slices (told_by item bytes) None old new) c.carried.ensures finds) s)
+    (searching_more c.args.slices file items (drop (at + 1) items) item switches old new here.0 (subst (λ bytes. FindsAt c.args.slices (told_by item bytes) None old new) c.carried.ensures finds) here.1)
 
 pub returns : goal.returns
 returns c = searching_none c.args.slices c.args.bytes.now c.args.items.now c.loop-item.switches.items
