@@ -1,5 +1,5 @@
 -- Connections and histories after one record more.
-use Rattle.std.proofs.Common.{◌≡◌, ◌+◌, ◌<◌, ◌≤◌, ◌==◌, ℕ, zero, suc, true, false, if◌then◌else◌, List, [], ◌∷◌, ◌++◌, map, drop, set, ltb, length, refl, sym, ap, ap₂, ◌∙◌, subst, eq-eqb, Option, Some, Result, Ok, slice_get, get_or}
+use Rattle.std.proofs.Common.{◌≡◌, ◌+◌, ◌<◌, ◌≤◌, ◌==◌, ℕ, zero, suc, true, false, if◌then◌else◌, List, [], ◌∷◌, ◌++◌, map, drop, set, ltb, length, refl, sym, ap, ap₂, ◌∙◌, subst, eq-eqb, Option, Some, Result, Ok, Err, slice_get, get_or}
 use Rattle.std.proofs.lemmas.Option.{slice_get_read, none-some, same_Some}
 use Rattle.std.proofs.lemmas.List.{length-set, set_past}
 use Rattle.std.proofs.Math.Dec.{eqb-zero-suc, eqb-suc-zero, eqb-suc-suc}
@@ -16,7 +16,8 @@ use Rattle.recording.specs.declared.item.Item.{Item}
 use Rattle.recording.specs.Recordings.{Told, switch_up, switch_bytes, slice_up, slice_bytes}
 use Rattle.desk_words.specs.declared.event.Timed.{Timed}
 use Rattle.desk_words.specs.declared.answer.Dest.{Dest}
-use Rattle.desk_words.specs.Recorded.{begins_stream, is_same_stream, stream_before, completed, history_of, history_at, events_in, next_after}
+use Rattle.desk_words.specs.declared.answer.Dest.TheVariants.{Switch as ToSwitch, Slice}
+use Rattle.desk_words.specs.Recorded.{begins_stream, is_same_stream, stream_before, completed, happenings, history_of, history_at, events_in, next_after}
 use Rattle.desk_words.proofs.Completed.{frames_first}
 use Rattle.answer_bounds.specs.Bounds.{IsFramed, AreFramed}
 use Rattle.desk_words.specs.Reports as report
@@ -30,7 +31,7 @@ use Rattle.fv_report.specs.Lines.{place_of}
 use Rattle.fv_report.specs.Writing.{WrotePart}
 use Rattle.fv_report.specs.Holding.{IsQuiet}
 use Rattle.fv_report.specs.Plays.{event_from, Played, Plays}
-use Rattle.fv_report.specs.Switches.{told_by, IsFreshSwitch, SwitchStands, RecordPlayed, PlaysRecord, IsTurn, Readies}
+use Rattle.fv_report.specs.Switches.{told_by, IsFreshSwitch, SwitchStands, RecordPlayed, PlaysRecord, IsTurn, Readies, kind_from, slot_from, told_from, Spoken}
 use Rattle.fv_report.proofs.Writing.{at_fault, none_of}
 use Rattle.fv_report.specs.Streams.{Restarts, AreFresh, connection, StreamStands, StreamsStand}
 
@@ -227,6 +228,30 @@ completed_by r before = ap (λ (fed : List ℕ). drop (length (frames_of fed)) (
 pub heard_same : {E : Type 0} (p : PolicyView) (moment : ℕ) (from : Dest) (h : List Timed) (place : Place) (result : Result Place E) (before after : Option (List ℕ)) (desk : Desk) (rest own : List (List ℕ)) → rest ≡ own
     → Plays p moment h (map (event_from from) rest) place result before after desk → Plays p moment h (map (event_from from) own) place result before after desk
 heard_same p moment from h place result before after desk rest own same plays = subst (λ (frames : List (List ℕ)). Plays p moment h (map (event_from from) frames) place result before after desk) same plays
+
+-- frames of a connection that were heard are what a record of its bytes makes happen
+pub heard_from : {E : Type 0} (p : PolicyView) (from : Dest) (item : Item) (bytes : List ℕ) (before : List Told) (place : Place) (result : Result Place E) (told wrote : Option (List ℕ)) (desk : Desk)
+    → (let fed = stream_before (connection item.switch (kind_from from) (slot_from from)) before in Plays p item.moment (history_of p item.switch before) (map (event_from from) (drop (length (frames_of fed)) (frames_of (fed ++ bytes)))) place result told wrote desk)
+    → Plays p item.moment (history_at p (told_from from item bytes) before) (happenings (told_from from item bytes) before) place result told wrote desk
+heard_from p ToSwitch item bytes before place result told wrote desk plays = heard_same p item.moment ToSwitch (history_of p item.switch before) place result told wrote desk _ _ (completed_by (told_from ToSwitch item bytes) before) plays
+heard_from p (Slice slot) item bytes before place result told wrote desk plays = heard_same p item.moment (Slice slot) (history_of p item.switch before) place result told wrote desk _ _ (completed_by (told_from (Slice slot) item bytes) before) plays
+
+pub spoken : (p : PolicyView) (r : Told) (before : List Told) (place later : Place) (desk : Desk) (framer : Stream) → Played p (history_at p r before) (events_in p r before) place later desk
+    → (let fed = stream_before (connection r.switch r.kind r.slot) before in Stands framer (fed ++ r.bytes) (frames_of (fed ++ r.bytes))) → Spoken p r before desk framer
+spoken p r before place later desk framer played given = record {
+  quiet = subst (λ (h : List Timed). IsQuiet p h desk) (sym (history_more p r before)) played.quiet;
+  framed = subst AreFramed (sym (history_more p r before)) played.framed;
+  given = given;
+}
+
+-- a switch whose connection's bytes were played
+pub spoke_at : {E : Type 0} (p : PolicyView) (r : Told) (before : List Told) (number : ℕ) (result : Result ℕ E) (told wrote : Option (List ℕ)) (framer : Stream) (new : Switch)
+    → (Spoken p r before new.desk framer → StreamsStand (length p.slices) r.switch (r ∷ before) new.streams)
+    → RecordPlayed p r before number result told wrote (Spoken p r before new.desk) framer → RecordPlayed p r before number result told wrote (SwitchStands p r.switch (r ∷ before)) new
+spoke_at p r before number (Ok later) told wrote framer new streams played =
+    let spoken = played.stands in
+    record { writes = played.writes; count = played.count; stands = record { quiet = spoken.quiet; framed = spoken.framed; streams = streams spoken } }
+spoke_at p r before number (Err fault) told wrote framer new streams played = record { writes = played.writes; count = tt; stands = tt }
 
 pub less_or_more : (n m : ℕ) → (n < m → ⊥) → m ≤ n
 less_or_more n m unlike = elim (cases_Bool (ltb n m)) [ inl is ↦ absurd (unlike (ltb-true n m is)) | inr isnt ↦ ltb-false n m isnt ]

@@ -1,16 +1,20 @@
 -- Switches of a recording after some of its records (this proxy's own rule). Records have the newest first.
-use Rattle.std.specs.Prelude.{ℕ, ◌≡◌, ◌≤◌, ◌<◌, ◌+◌, ◌==◌, false, List, [], ◌∷◌, length, slice_get, Option, Some, None, Result, IfOk}
+use Rattle.std.specs.Prelude.{ℕ, ◌≡◌, ◌≤◌, ◌<◌, ◌+◌, ◌==◌, false, List, [], ◌∷◌, ◌++◌, length, slice_get, Option, Some, None, Result, IfOk}
 use Rattle.std.specs.List.{list_any}
 use Rattle.flowspace.specs.Policies.{PolicyView}
 use Rattle.recording.specs.declared.item.Item.{Item}
 use Rattle.recording.specs.Recordings.{Told, switch_bytes, slice_up, slice_bytes}
+use Rattle.of10_ctl.specs.Streams.{Stream, Stands, frames_of}
 use Rattle.answer_bounds.specs.Bounds.{AreFramed}
-use Rattle.desk_words.specs.Recorded.{history_of, history_at, events_in}
+use Rattle.desk_words.specs.declared.answer.Dest.{Dest}
+use Rattle.desk_words.specs.declared.answer.Dest.TheVariants.{Switch as ToSwitch, Slice}
+use Rattle.proxy_core.specs.declared.parts.Desk.{Desk}
+use Rattle.desk_words.specs.Recorded.{stream_before, history_of, history_at, events_in}
 use Rattle.desk_words.specs.Reports.{lines_of}
 use Rattle.fv_report.specs.declared.switch.Switch.{Switch}
 use Rattle.fv_report.specs.Writing.{Wrote}
 use Rattle.fv_report.specs.Holding.{IsQuiet}
-use Rattle.fv_report.specs.Streams.{AreFresh, StreamsStand}
+use Rattle.fv_report.specs.Streams.{AreFresh, connection, StreamStands, StreamsStand}
 
 -- what a record with these bytes tells
 abbrev pub told_by : Item → List ℕ → Told
@@ -38,6 +42,30 @@ abbrev pub PlaysRecord : {E : Type 0} → PolicyView → Told → ℕ → Result
 PlaysRecord policy r number result written_before written old new =
     (before : List Told) → SwitchStands policy r.switch before old
     → RecordPlayed policy r before number result written_before written (SwitchStands policy r.switch (r ∷ before)) new
+
+-- what a record of a connection's bytes tells
+abbrev pub kind_from : Dest → ℕ
+kind_from ToSwitch = switch_bytes
+kind_from (Slice slot) = slice_bytes
+
+abbrev pub slot_from : Dest → ℕ
+slot_from ToSwitch = 0
+slot_from (Slice slot) = slot
+
+abbrev pub told_from : Dest → Item → List ℕ → Told
+told_from from item bytes = record { kind = kind_from from; switch = item.switch; slot = slot_from from; moment = item.moment; bytes = bytes }
+
+-- the bytes of a record were heard: the desk holds the history with it, and the connection's framer has given all its frames
+pub record Spoken (policy : PolicyView) (r : Told) (before : List Told) (desk : Desk) (framer : Stream) : Type 0 where
+  pub quiet : IsQuiet policy (history_of policy r.switch (r ∷ before)) desk
+  pub framed : AreFramed (history_of policy r.switch (r ∷ before))
+  pub given : let fed = stream_before (connection r.switch r.kind r.slot) before in Stands framer (fed ++ r.bytes) (frames_of (fed ++ r.bytes))
+
+-- a connection's bytes are played at the desk of its switch
+abbrev pub Speaks : {E : Type 0} → PolicyView → Dest → Item → List ℕ → ℕ → Result ℕ E → Option (List ℕ) → Option (List ℕ) → Desk → Desk → Stream → Stream → Type 0
+Speaks policy from item bytes number result written_before written desk desk_after framer framer_after =
+    (before : List Told) → IsQuiet policy (history_of policy item.switch before) desk → AreFramed (history_of policy item.switch before) → StreamStands (connection item.switch (kind_from from) (slot_from from)) before framer
+    → RecordPlayed policy (told_from from item bytes) before number result written_before written (Spoken policy (told_from from item bytes) before desk_after) framer_after
 
 -- a record of this kind carries no bytes: a connection begins or ends
 abbrev pub IsTurn : ℕ → Type 0

@@ -7,7 +7,7 @@ ghost use Rattle.answer_bounds.specs.Bounds.{IsFramed};
 ghost use Rattle.desk_words.specs.declared.event.Timed.{Timed};
 ghost use Rattle.desk_words.specs.Recorded.{happens, happenings};
 ghost use Rattle.fv_report.specs.Writing.{Counted};
-ghost use Rattle.fv_report.specs.Switches.{told_by, IsFreshSwitch, IsRecord, IsTurn, Readies, PlaysRecord};
+ghost use Rattle.fv_report.specs.Switches.{told_by, IsFreshSwitch, IsRecord, IsTurn, Readies, PlaysRecord, Speaks};
 
 use crate::fault::ReportFault;
 use crate::line::{LineBuffer, Place};
@@ -15,6 +15,7 @@ use crate::play::{Came, hear_bytes, play};
 use crate::streams::{Streams, restart};
 use flowspace::Policy;
 use fv_base::Sink;
+use of10_ctl::Framer;
 use proxy_core::{Desk, Dest, Event, Timed};
 use recording::{Item, SLICE_BYTES, SLICE_UP, SWITCH_BYTES, SWITCH_DOWN, SWITCH_UP};
 use std::alloc::{AllocError, Global};
@@ -107,6 +108,31 @@ fn connection_turns<K: Sink>(
     Ok(later.number)
 }
 
+/// Bytes of a connection.
+fn connection_speaks<K: Sink>(
+    alloc: Global,
+    out: &mut K,
+    line: &mut LineBuffer,
+    policy: &Policy,
+    events: u64,
+    desk: &mut Desk,
+    from: Dest,
+    framer: &mut Framer,
+    item: &Item,
+    bytes: &[u8],
+) -> Result<u64, ReportFault>
+    ensures speaks { Speaks policy.now from item.now bytes.now events result (K.contents out.old) (K.contents out.new) desk.old desk.new framer.old framer.new }
+    ensures counted { Counted result (K.faults out.old) (K.faults out.new) }
+{
+    let place = place_of(events, item);
+    let came = Came {
+        from,
+        moment: item.moment,
+    };
+    let later = hear_bytes(alloc, out, line, desk, policy, place, came, framer, bytes)?;
+    Ok(later.number)
+}
+
 /// Bytes of the switch.
 fn switch_speaks<K: Sink>(
     alloc: Global,
@@ -123,15 +149,20 @@ fn switch_speaks<K: Sink>(
     ensures plays { PlaysRecord policy.now (told_by item.now bytes.now) events result (K.contents out.old) (K.contents out.new) switch.old switch.new }
     ensures counted { Counted result (K.faults out.old) (K.faults out.new) }
 {
-    let place = place_of(events, item);
-    let came = Came {
-        from: Dest::Switch,
-        moment: item.moment,
-    };
     let Switch { desk, streams } = switch;
     let framer = &mut streams.switch;
-    let later = hear_bytes(alloc, out, line, desk, policy, place, came, framer, bytes)?;
-    Ok(later.number)
+    connection_speaks(
+        alloc,
+        out,
+        line,
+        policy,
+        events,
+        desk,
+        Dest::Switch,
+        framer,
+        item,
+        bytes,
+    )
 }
 
 /// Bytes of a slice's controller.
@@ -150,18 +181,15 @@ fn slice_speaks<K: Sink>(
     ensures plays { PlaysRecord policy.now (told_by item.now bytes.now) events result (K.contents out.old) (K.contents out.new) switch.old switch.new }
     ensures counted { Counted result (K.faults out.old) (K.faults out.new) }
 {
-    let place = place_of(events, item);
-    let came = Came {
-        from: Dest::Slice(item.slot),
-        moment: item.moment,
-    };
+    let from = Dest::Slice(item.slot);
     let Switch { desk, streams } = switch;
     // Each slot of the policy has a stream.
     let Some(framer) = streams.slices.get_mut(usize::from(item.slot)) else {
         return Ok(events);
     };
-    let later = hear_bytes(alloc, out, line, desk, policy, place, came, framer, bytes)?;
-    Ok(later.number)
+    connection_speaks(
+        alloc, out, line, policy, events, desk, from, framer, item, bytes,
+    )
 }
 
 /// Plays a record.
