@@ -221,20 +221,15 @@ by_bytes p item bytes number result before after old new is none plays =
     (subst (λ (s : ℕ). PlaysRecord p (record { kind = switch_bytes; switch = item.switch; slot = s; moment = item.moment; bytes = bytes }) number result before after old new) (sym none) plays)
 
 -- the frames that a record completes, by its connection
-pub completed_by : (r : Told) (before : List Told) → (let fed = stream_before (connection r.switch r.kind r.slot) before in drop (length (frames_of fed)) (frames_of (fed ++ r.bytes))) ≡ completed r before
+completed_by : (r : Told) (before : List Told) → (let fed = stream_before (connection r.switch r.kind r.slot) before in drop (length (frames_of fed)) (frames_of (fed ++ r.bytes))) ≡ completed r before
 completed_by r before = ap (λ (fed : List ℕ). drop (length (frames_of fed)) (frames_of (fed ++ r.bytes))) (sym (stream_by r before))
-
--- the same frames are played the same way
-pub heard_same : {E : Type 0} (p : PolicyView) (moment : ℕ) (from : Dest) (h : List Timed) (place : Place) (result : Result Place E) (before after : Option (List ℕ)) (desk : Desk) (rest own : List (List ℕ)) → rest ≡ own
-    → Plays p moment h (map (event_from from) rest) place result before after desk → Plays p moment h (map (event_from from) own) place result before after desk
-heard_same p moment from h place result before after desk rest own same plays = subst (λ (frames : List (List ℕ)). Plays p moment h (map (event_from from) frames) place result before after desk) same plays
 
 -- frames of a connection that were heard are what a record of its bytes makes happen
 pub heard_from : {E : Type 0} (p : PolicyView) (from : Dest) (item : Item) (bytes : List ℕ) (before : List Told) (place : Place) (result : Result Place E) (told wrote : Option (List ℕ)) (desk : Desk)
     → (let fed = stream_before (connection item.switch (kind_from from) (slot_from from)) before in Plays p item.moment (history_of p item.switch before) (map (event_from from) (drop (length (frames_of fed)) (frames_of (fed ++ bytes)))) place result told wrote desk)
     → Plays p item.moment (history_at p (told_from from item bytes) before) (happenings (told_from from item bytes) before) place result told wrote desk
-heard_from p ToSwitch item bytes before place result told wrote desk plays = heard_same p item.moment ToSwitch (history_of p item.switch before) place result told wrote desk _ _ (completed_by (told_from ToSwitch item bytes) before) plays
-heard_from p (Slice slot) item bytes before place result told wrote desk plays = heard_same p item.moment (Slice slot) (history_of p item.switch before) place result told wrote desk _ _ (completed_by (told_from (Slice slot) item bytes) before) plays
+heard_from p ToSwitch item bytes before place result told wrote desk plays = subst (λ (frames : List (List ℕ)). Plays p item.moment (history_of p item.switch before) (map (event_from ToSwitch) frames) place result told wrote desk) (completed_by (told_from ToSwitch item bytes) before) plays
+heard_from p (Slice slot) item bytes before place result told wrote desk plays = subst (λ (frames : List (List ℕ)). Plays p item.moment (history_of p item.switch before) (map (event_from (Slice slot)) frames) place result told wrote desk) (completed_by (told_from (Slice slot) item bytes) before) plays
 
 pub spoken : (p : PolicyView) (r : Told) (before : List Told) (place later : Place) (desk : Desk) (framer : Stream) → Played p (history_at p r before) (events_in p r before) place later desk
     → (let fed = stream_before (connection r.switch r.kind r.slot) before in Stands framer (fed ++ r.bytes) (frames_of (fed ++ r.bytes))) → Spoken p r before desk framer
