@@ -7,8 +7,10 @@ ghost use Rattle.fv_cli.specs.Endings.{status_of, line_of, IsPut};
 
 use crate::disk::Disk;
 use crate::stream::Stream;
+use crate::texts::text_for;
 use fv_cli::base::{Failed, Sink, Words, put_all};
 use fv_cli::{Ending, offline};
+use std::alloc::{AllocError, Global};
 use std::io::{BufWriter, Write};
 
 /// How many bytes of output are gathered before they are written.
@@ -24,7 +26,7 @@ pub fn end<E: Sink>(err: &mut E, ending: &Ending) -> u8
 }
 
 /// Puts a text that was asked for, and answers the status.
-pub fn show<O: Sink, E: Sink>(text: &str, out: &mut O, err: &mut E) -> u8
+fn show<O: Sink, E: Sink>(text: &str, out: &mut O, err: &mut E) -> u8
     ensures done { result ≡ 0 → O.contents out.new ≡ appended (O.contents out.old) text.now }
     ensures fault { (result ≡ 0) ⊎ ((result ≡ 5) × Rose (O.faults out.old) (O.faults out.new)) }
 {
@@ -45,7 +47,7 @@ fn after_flush<E: Sink>(status: u8, flushed: Result<(), Failed>, err: &mut E) ->
 }
 
 /// Runs with these words; what is written is gathered, and flushed at the end.
-pub fn run<W: Write + Drop, E: Sink>(rt: &HostRuntime, words: &Words, writer: W, err: &mut E) -> u8
+fn run<W: Write + Drop, E: Sink>(rt: &HostRuntime, words: &Words, writer: W, err: &mut E) -> u8
     ensures usage { form_of words.now ≡ None → (result ≡ 1) ⊎ (result ≡ 6) }
 {
     let Ok(writer) = BufWriter::with_capacity(rt.alloc(), OUTPUT_PIECE, writer) else {
@@ -54,4 +56,32 @@ pub fn run<W: Write + Drop, E: Sink>(rt: &HostRuntime, words: &Words, writer: W,
     let mut out = Stream::new(writer);
     let status = offline(rt.alloc(), words, &mut Disk::new(rt), &mut out, err);
     after_flush(status, out.finish(), err)
+}
+
+fn all(alloc: Global, each: &[String]) -> Result<Words, AllocError> {
+    let mut words = Words::new(alloc);
+    for word in each {
+        words.push(word.as_str())?;
+    }
+    Ok(words)
+}
+
+/// Does what these words ask for, and answers the status.
+pub fn answer<W: Write + Drop, E: Sink>(
+    rt: &HostRuntime,
+    words: &[String],
+    writer: W,
+    err: &mut E,
+) -> u8 {
+    let lone = match words {
+        [word] => text_for(word.as_str()),
+        _ => None,
+    };
+    if let Some(text) = lone {
+        return show(text, &mut Stream::new(writer), err);
+    }
+    match all(rt.alloc(), words) {
+        Ok(words) => run(rt, &words, writer, err),
+        Err(_) => end(err, &Ending::NoMemory),
+    }
 }

@@ -1,8 +1,9 @@
 use crate::disk::Disk;
-use crate::run::{run, show};
+use crate::run::answer;
 use crate::stream::Stream;
-use crate::{HELP, VERSION, text_for};
-use fv_cli::base::{Files, LoadFault, MemorySink, Sink, Words, load_file, put_all};
+use crate::texts::{HELP, VERSION};
+use fv_cli::base::{Files, LoadFault, MemorySink, Sink, load_file, put_all};
+use std::alloc::Global;
 use std::io::{BufWriter, Write};
 use std::test::Fail;
 use std::{env, fs, process};
@@ -102,16 +103,16 @@ fn streams_write_what_is_put(rt: HostRuntime) -> Result<(), Fail> {
 const USAGE: &[u8] =
     b"usage: flowvisor check POLICY / replay POLICY RECORDING / gen SEED COUNT / serve POLICY LISTEN COUNT\n";
 
-fn words(rt: &HostRuntime, each: &[&str]) -> Result<Words, Fail> {
-    let mut words = Words::new(rt.alloc());
+fn words(alloc: Global, each: &[&str]) -> Result<Vec<String>, Fail> {
+    let mut words = Vec::new(alloc);
     for word in each {
-        words.push(word)?;
+        words.push(String::from_str(alloc, word)?)?;
     }
     Ok(words)
 }
 
 #[test]
-fn runs_end_as_their_output_is_taken(rt: HostRuntime) -> Result<(), Fail> {
+fn words_are_answered_with_their_status(rt: HostRuntime) -> Result<(), Fail> {
     let policy = scratch_path(&rt, "policy")?;
     let recording = scratch_path(&rt, "recording")?;
     let missing = scratch_path(&rt, "missing")?;
@@ -122,7 +123,7 @@ fn runs_end_as_their_output_is_taken(rt: HostRuntime) -> Result<(), Fail> {
     for (each, size, status, output, line) in [
         (
             &["replay", policy, recording][..],
-            6,
+            2048,
             0,
             "end 0\n",
             &b""[..],
@@ -134,51 +135,48 @@ fn runs_end_as_their_output_is_taken(rt: HostRuntime) -> Result<(), Fail> {
             "end 0",
             b"write fault\n",
         ),
-        (&["replay", policy, missing][..], 6, 4, "", b"read fault\n"),
+        (&["check", policy][..], 2048, 0, "ok 1 0\n", b""),
         (
-            &["replay", missing, recording][..],
-            6,
+            &["replay", policy, missing][..],
+            2048,
             4,
             "",
             b"read fault\n",
         ),
-        (&["replay", "/", recording][..], 6, 4, "", b"read fault\n"),
-        (&["replay", policy][..], 6, 1, "", USAGE),
-        (&[][..], 6, 1, "", USAGE),
+        (
+            &["replay", missing, recording][..],
+            2048,
+            4,
+            "",
+            b"read fault\n",
+        ),
+        (
+            &["replay", "/", recording][..],
+            2048,
+            4,
+            "",
+            b"read fault\n",
+        ),
+        (&["replay", policy][..], 2048, 1, "", USAGE),
+        (&[][..], 2048, 1, "", USAGE),
+        (&["--help"][..], 2048, 0, HELP, b""),
+        (&["--version"][..], 2048, 0, VERSION, b""),
+        (&["--version"][..], 9, 5, "flowvisor", b"write fault\n"),
+        (&["--helps"][..], 2048, 1, "", USAGE),
+        (&["--help", "--help"][..], 2048, 1, "", USAGE),
     ] {
-        let mut room = [0u8; 6];
+        let mut room = [0u8; 2048];
         let mut err = MemorySink::new(rt.alloc());
-        let words = words(&rt, each)?;
-        assert_eq!(rt; run(&rt, &words, &mut room[..size], &mut err), status);
-        assert_eq!(rt; &room[..output.len()], output.as_bytes());
+        let words = words(rt.alloc(), each)?;
+        assert_eq!(rt; answer(&rt, &words, &mut room[..size], &mut err), status);
+        assert!(rt; room.starts_with(output.as_bytes()));
+        assert!(rt; room[output.len()..].iter().all(|byte| *byte == 0));
         assert_eq!(rt; err.as_slice(), line);
-    }
-    fs::remove_file(&rt, policy)?;
-    fs::remove_file(&rt, recording)?;
-    Ok(())
-}
-
-#[test]
-fn texts_are_shown_for_their_words(rt: HostRuntime) -> Result<(), Fail> {
-    for (word, text) in [
-        ("--help", Some(HELP)),
-        ("--version", Some(VERSION)),
-        ("--helps", None),
-        ("-h", None),
-        ("", None),
-    ] {
-        assert_eq!(rt; text_for(word), text);
     }
     assert!(rt; HELP.starts_with("FlowVisor for OpenFlow 1.0:"));
     assert!(rt; VERSION.starts_with("flowvisor "));
 
-    for (size, status, line) in [(8, 0, &b""[..]), (7, 5, b"write fault\n")] {
-        let mut room = [0u8; 8];
-        let mut out = Stream::new(&mut room[..size]);
-        let mut err = MemorySink::new(rt.alloc());
-        assert_eq!(rt; show("one\ntwo\n", &mut out, &mut err), status);
-        assert_eq!(rt; err.as_slice(), line);
-        assert_eq!(rt; &room[..size], &TEXT[..size]);
-    }
+    fs::remove_file(&rt, policy)?;
+    fs::remove_file(&rt, recording)?;
     Ok(())
 }

@@ -1,0 +1,30 @@
+//! The texts that a lone word asks for.
+
+/// What `--help` prints.
+pub const HELP: &str = "\
+FlowVisor for OpenFlow 1.0: several controllers share one set of switches.
+
+usage: flowvisor check POLICY
+       flowvisor replay POLICY RECORDING
+
+check says whether the policy is accepted, and how many slices and rules it has.
+
+replay runs the recorded connections under the policy and writes the report: a line for each message that
+the switch and the slices would get.
+
+The exit status is 0, or 1 for other words, 2 where the policy is refused, 3 where the recording is, 4 where
+a file can't be read, 5 where the output can't be written, 6 where memory runs out, 7 where a file is too
+large, and 8 where the recording needs what isn't built yet. Each status but 0 has a line on standard error.
+";
+
+/// What `--version` prints.
+pub const VERSION: &str = "flowvisor 0.1.0 (OpenFlow 1.0, wire version 0x01)\n";
+
+/// The text that a word asks for which stands alone.
+pub fn text_for(word: &str) -> Option<&'static str> {
+    match word {
+        "--help" => Some(HELP),
+        "--version" => Some(VERSION),
+        _ => None,
+    }
+}
