@@ -3,7 +3,6 @@ use crate::run::answer;
 use crate::stream::Stream;
 use crate::texts::{HELP, VERSION};
 use fv_cli::base::{Files, LoadFault, MemorySink, Sink, load_file, put_all};
-use std::alloc::Global;
 use std::io::{BufWriter, Write};
 use std::test::Fail;
 use std::{env, fs, process};
@@ -103,10 +102,15 @@ fn streams_write_what_is_put(rt: HostRuntime) -> Result<(), Fail> {
 const USAGE: &[u8] =
     b"usage: flowvisor check POLICY / replay POLICY RECORDING / gen SEED COUNT / serve POLICY LISTEN COUNT\n";
 
-fn words(alloc: Global, each: &[&str]) -> Result<Vec<String>, Fail> {
-    let mut words = Vec::new(alloc);
+/// The words; one that begins with `@` is the path of the scratch file of that name.
+fn words(rt: &HostRuntime, each: &[&str]) -> Result<Vec<String>, Fail> {
+    let mut words = Vec::new(rt.alloc());
     for word in each {
-        words.push(String::from_str(alloc, word)?)?;
+        let word = match word.strip_prefix('@') {
+            Some(name) => scratch_path(rt, name)?,
+            None => String::from_str(rt.alloc(), word)?,
+        };
+        words.push(word)?;
     }
     Ok(words)
 }
@@ -115,49 +119,47 @@ fn words(alloc: Global, each: &[&str]) -> Result<Vec<String>, Fail> {
 fn words_are_answered_with_their_status(rt: HostRuntime) -> Result<(), Fail> {
     let policy = scratch_path(&rt, "policy")?;
     let recording = scratch_path(&rt, "recording")?;
-    let missing = scratch_path(&rt, "missing")?;
     fs::create(&rt, policy.as_str())?.write_all(POLICY)?;
     fs::create(&rt, recording.as_str())?.write_all(b"FVREC\0\0\x01")?;
-    let (policy, recording, missing) = (policy.as_str(), recording.as_str(), missing.as_str());
 
     for (each, size, status, output, line) in [
         (
-            &["replay", policy, recording][..],
+            &["replay", "@policy", "@recording"][..],
             2048,
             0,
             "end 0\n",
             &b""[..],
         ),
         (
-            &["replay", policy, recording][..],
+            &["replay", "@policy", "@recording"][..],
             5,
             5,
             "end 0",
             b"write fault\n",
         ),
-        (&["check", policy][..], 2048, 0, "ok 1 0\n", b""),
+        (&["check", "@policy"][..], 2048, 0, "ok 1 0\n", b""),
         (
-            &["replay", policy, missing][..],
+            &["replay", "@policy", "@missing"][..],
             2048,
             4,
             "",
             b"read fault\n",
         ),
         (
-            &["replay", missing, recording][..],
+            &["replay", "@missing", "@recording"][..],
             2048,
             4,
             "",
             b"read fault\n",
         ),
         (
-            &["replay", "/", recording][..],
+            &["replay", "/", "@recording"][..],
             2048,
             4,
             "",
             b"read fault\n",
         ),
-        (&["replay", policy][..], 2048, 1, "", USAGE),
+        (&["replay", "@policy"][..], 2048, 1, "", USAGE),
         (&[][..], 2048, 1, "", USAGE),
         (&["--help"][..], 2048, 0, HELP, b""),
         (&["--version"][..], 2048, 0, VERSION, b""),
@@ -167,7 +169,7 @@ fn words_are_answered_with_their_status(rt: HostRuntime) -> Result<(), Fail> {
     ] {
         let mut room = [0u8; 2048];
         let mut err = MemorySink::new(rt.alloc());
-        let words = words(rt.alloc(), each)?;
+        let words = words(&rt, each)?;
         assert_eq!(rt; answer(&rt, &words, &mut room[..size], &mut err), status);
         assert!(rt; room.starts_with(output.as_bytes()));
         assert!(rt; room[output.len()..].iter().all(|byte| *byte == 0));
@@ -176,7 +178,7 @@ fn words_are_answered_with_their_status(rt: HostRuntime) -> Result<(), Fail> {
     assert!(rt; HELP.starts_with("FlowVisor for OpenFlow 1.0:"));
     assert!(rt; VERSION.starts_with("flowvisor "));
 
-    fs::remove_file(&rt, policy)?;
-    fs::remove_file(&rt, recording)?;
+    fs::remove_file(&rt, policy.as_str())?;
+    fs::remove_file(&rt, recording.as_str())?;
     Ok(())
 }
