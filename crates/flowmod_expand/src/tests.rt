@@ -13,13 +13,9 @@ use of10_flow::protocol::{
     ADD, CHECK_OVERLAP, DELETE, DELETE_STRICT, MODIFY, MODIFY_STRICT, NO_BUFFER,
 };
 use of10_match::{Header12, Match};
-use samples::{bytes, rule, switch_policy, tcp};
+use samples::{TO_TCP_80, bytes, rule, switch_policy, tcp};
 use std::alloc::{AllocError, Global};
 use std::test::Fail;
-
-/// To TCP port 80, as the 40 bytes of a match.
-const M80: &str =
-    "0038204f 000000000000000000000000000000000000 0800 0006 000000000000000000000000 0050";
 
 /// To TCP port 22.
 const M22: &str =
@@ -202,7 +198,7 @@ fn a_flow_mod_is_sent_for_what_the_slice_writes(rt: HostRuntime) -> Result<(), F
         alloc,
         &[
             "010e0050 00000000",
-            M80,
+            TO_TCP_80,
             "0000000000000000 0000 003c 0000 000a ffffffff ffff 0001 0000000800020000",
         ],
     )?;
@@ -213,7 +209,7 @@ fn a_flow_mod_is_sent_for_what_the_slice_writes(rt: HostRuntime) -> Result<(), F
         alloc,
         &[
             "010e0048 00000001",
-            M80,
+            TO_TCP_80,
             "0000000000000000 0003 0000 0000 0000 ffffffff ffff 0000",
         ],
     )?;
@@ -282,7 +278,7 @@ fn each_piece_has_its_actions_and_one_the_buffer(rt: HostRuntime) -> Result<(), 
             "010e0048"
         };
         let expected = [
-            sent(alloc, head, M80, first)?,
+            sent(alloc, head, TO_TCP_80, first)?,
             sent(alloc, "010e0048", M22, second)?,
         ];
         let found = [tcp(None, 80), tcp(None, 22)];

@@ -6,7 +6,7 @@ mod spelling;
 ghost use Rattle.of10_action.specs.Actions.{HasAddress};
 
 use crate::{disjoint, includes, includes_aside, meet, rewrite, rewrite_header};
-use covers::expected;
+use covers::{expected, with_vlan};
 use drawn::{Draws, FIRST_HEADER};
 use membership::{header_aside, is_in, shared_header};
 use of10_action::Action;
@@ -95,14 +95,6 @@ fn cover(before: &Pattern, action: Action) -> Pattern
     requires { HasAddress action }
 {
     *rewrite(&match_of(before), &action).pattern()
-}
-
-fn with_vlan(m: &Pattern, dl_vlan: u16, dl_vlan_pcp: Option<u8>) -> Pattern {
-    Pattern {
-        dl_vlan: Some(dl_vlan),
-        dl_vlan_pcp,
-        ..*m
-    }
 }
 
 #[test]

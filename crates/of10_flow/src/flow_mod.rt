@@ -8,12 +8,12 @@ ghost use Rattle.of10_action.specs.Reading.{Gives};
 ghost use Rattle.of10_ctl.specs.Kinds.{IsOf};
 ghost use Rattle.of10_flow.specs.FlowMods.{IsFlowMod, flow_mod_with, read_flow_mod, spell_flow_mod};
 
-use crate::pattern::put_pattern;
+use crate::fields::{put_buffer, put_entry};
 use of10_action::{Actions, DecodeFault, WireFault, decode_list, encode_list, list_size};
 use of10_ctl::kind::FLOW_MOD;
 use of10_ctl::{Frame, begin};
 use of10_match::Match;
-use of10_model::wire::{put_u16, put_u32, put_u64, u16_at, u32_at, u64_at};
+use of10_model::wire::{put_u16, u16_at, u32_at, u64_at};
 use std::alloc::{AllocError, Global};
 
 /// A change of a flow table (OpenFlow 1.0.0, section 5.3.3).
@@ -87,34 +87,12 @@ fn read(alloc: Global, bytes: &[u8]) -> Result<FlowMod, DecodeFault>
     Ok(with_actions(actions, bytes))
 }
 
-fn put_entry(
-    out: &mut Vec<u8>,
-    pattern: &Match,
-    cookie: u64,
-    command: u16,
-) -> Result<(), AllocError>
-    ensures written { OnOk result (out.new.items ≡ out.old.items ++ (Spell pattern.now ++ big_bytes 8 cookie ++ big_bytes 2 command)) }
-    ensures size { length (Spell pattern.now) ≡ 40 }
-{
-    put_pattern(out, pattern)?;
-    put_u64(out, cookie)?;
-    put_u16(out, command)
-}
-
 fn put_times(out: &mut Vec<u8>, idle: u16, hard: u16, priority: u16) -> Result<(), AllocError>
     ensures { OnOk result (out.new.items ≡ out.old.items ++ (big_bytes 2 idle ++ big_bytes 2 hard ++ big_bytes 2 priority)) }
 {
     put_u16(out, idle)?;
     put_u16(out, hard)?;
     put_u16(out, priority)
-}
-
-fn put_place(out: &mut Vec<u8>, buffer: u32, out_port: u16, flags: u16) -> Result<(), AllocError>
-    ensures { OnOk result (out.new.items ≡ out.old.items ++ (big_bytes 4 buffer ++ big_bytes 2 out_port ++ big_bytes 2 flags)) }
-{
-    put_u32(out, buffer)?;
-    put_u16(out, out_port)?;
-    put_u16(out, flags)
 }
 
 impl FlowMod {
@@ -142,7 +120,7 @@ impl FlowMod {
         let mut out = begin(alloc, FLOW_MOD, self.xid, 64 + size)?;
         put_entry(&mut out, &self.pattern, self.cookie, self.command)?;
         put_times(&mut out, self.idle, self.hard, self.priority)?;
-        put_place(&mut out, self.buffer, self.out_port, self.flags)?;
+        put_buffer(&mut out, self.buffer, self.out_port, self.flags)?;
         encode_list(actions, &mut out)?;
         Ok(Frame::of(out))
     }

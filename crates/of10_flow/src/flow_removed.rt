@@ -7,7 +7,7 @@ ghost use Rattle.of10_action.specs.Reading.{Gives, Reads};
 ghost use Rattle.of10_ctl.specs.Kinds.{IsOf};
 ghost use Rattle.of10_flow.specs.FlowRemoveds.{IsFlowRemoved, read_flow_removed, spell_flow_removed};
 
-use crate::pattern::put_pattern;
+use crate::fields::put_entry;
 use of10_action::{DecodeFault, WireFault};
 use of10_ctl::kind::FLOW_REMOVED;
 use of10_ctl::{Frame, begin};
@@ -56,20 +56,6 @@ fn read(bytes: &[u8]) -> Result<FlowRemoved, WireFault>
         packets: u64_at(bytes, 72),
         bytes: u64_at(bytes, 80),
     })
-}
-
-fn put_entry(
-    out: &mut Vec<u8>,
-    pattern: &Match,
-    cookie: u64,
-    priority: u16,
-) -> Result<(), AllocError>
-    ensures written { OnOk result (out.new.items ≡ out.old.items ++ (Spell pattern.now ++ big_bytes 8 cookie ++ big_bytes 2 priority)) }
-    ensures size { length (Spell pattern.now) ≡ 40 }
-{
-    put_pattern(out, pattern)?;
-    put_u64(out, cookie)?;
-    put_u16(out, priority)
 }
 
 fn put_times(out: &mut Vec<u8>, reason: u8, seconds: u32, nanos: u32) -> Result<(), AllocError>

@@ -1,12 +1,12 @@
 //! The messages of OpenFlow 1.0 that change flow tables, tell of their entries and carry packets.
 #![tactic(auto)]
 
+mod fields;
 mod flow_mod;
 mod flow_removed;
 pub mod laws;
 mod packet_in;
 mod packet_out;
-mod pattern;
 pub mod protocol;
 
 pub use flow_mod::FlowMod;

@@ -7,10 +7,11 @@ ghost use Rattle.of10_action.specs.Reading.{Gives};
 ghost use Rattle.of10_ctl.specs.Kinds.{IsOf};
 ghost use Rattle.of10_flow.specs.PacketOuts.{IsPacketOut, read_packet_out, spell_packet_out};
 
+use crate::fields::put_buffer;
 use of10_action::{Actions, Bytes, DecodeFault, WireFault, decode_list, encode_list, list_size};
 use of10_ctl::kind::PACKET_OUT;
 use of10_ctl::{Frame, begin};
-use of10_model::wire::{put_u16, put_u32, u16_at, u32_at};
+use of10_model::wire::{u16_at, u32_at};
 use std::alloc::{AllocError, Global};
 
 /// A packet that a switch is to send out (OpenFlow 1.0.0, section 5.3.6).
@@ -52,14 +53,6 @@ fn read(alloc: Global, bytes: &[u8]) -> Result<PacketOut, DecodeFault>
     })
 }
 
-fn put_fields(out: &mut Vec<u8>, buffer: u32, in_port: u16, size: u16) -> Result<(), AllocError>
-    ensures { OnOk result (out.new.items ≡ out.old.items ++ (big_bytes 4 buffer ++ big_bytes 2 in_port ++ big_bytes 2 size)) }
-{
-    put_u32(out, buffer)?;
-    put_u16(out, in_port)?;
-    put_u16(out, size)
-}
-
 impl PacketOut {
     /// The packet-out that the frame is, or the first fault in it: its length where it is shorter than
     /// its fields or than fields and actions, then what is wrong with the first action that is wrong.
@@ -89,7 +82,7 @@ impl PacketOut {
             self.xid,
             8 + usize::from(size) + payload.len(),
         )?;
-        put_fields(&mut out, self.buffer, self.in_port, size)?;
+        put_buffer(&mut out, self.buffer, self.in_port, size)?;
         encode_list(actions, &mut out)?;
         out.extend_from_slice(payload)?;
         Ok(Frame::of(out))

@@ -13,11 +13,7 @@ use of10_match::Match;
 use of10_model::Pattern;
 use std::alloc::{AllocError, Global};
 use std::test::Fail;
-use wire_samples::{bytes, frame_of};
-
-/// To TCP port 80, as the 40 bytes of a match.
-const M80: &str =
-    "0038204f 000000000000000000000000000000000000 0800 0006 000000000000000000000000 0050";
+use wire_samples::{TO_TCP_80, bytes, message_of};
 
 /// Everything, as the 40 bytes of a match.
 const MALL: &str =
@@ -27,22 +23,13 @@ const MALL: &str =
 const T80: &str =
     "000000000002 000000000001 0800 45 00 0028 0000 0000 40 06 0000 0a000001 0a000002 0400 0050 00000000 00000000 5002 0000 0000 0000";
 
-fn frame(alloc: Global, kind: u8, bytes: &[u8]) -> Result<Option<Frame>, AllocError>
-    ensures { IfOk result (λ found. IfSome found (λ f. IsOf kind f)) }
-{
-    Ok(match frame_of(alloc, bytes)? {
-        Some(frame) if frame.is_of(kind) => Some(frame),
-        _ => None,
-    })
-}
-
 // What no decoder of this crate answers: the bytes are no message of that type.
 const NO_MESSAGE: DecodeFault = DecodeFault::Wire(WireFault::StatVendor);
 
 fn flow_mod(alloc: Global, bytes: &[u8]) -> Result<FlowMod, DecodeFault>
     ensures { IfOk result IsFlowMod }
 {
-    match frame(alloc, FLOW_MOD, bytes)? {
+    match message_of(alloc, FLOW_MOD, bytes)? {
         Some(frame) => FlowMod::decode(alloc, &frame),
         None => Err(NO_MESSAGE),
     }
@@ -51,7 +38,7 @@ fn flow_mod(alloc: Global, bytes: &[u8]) -> Result<FlowMod, DecodeFault>
 fn packet_out(alloc: Global, bytes: &[u8]) -> Result<PacketOut, DecodeFault>
     ensures { IfOk result IsPacketOut }
 {
-    match frame(alloc, PACKET_OUT, bytes)? {
+    match message_of(alloc, PACKET_OUT, bytes)? {
         Some(frame) => PacketOut::decode(alloc, &frame),
         None => Err(NO_MESSAGE),
     }
@@ -60,14 +47,14 @@ fn packet_out(alloc: Global, bytes: &[u8]) -> Result<PacketOut, DecodeFault>
 fn packet_in(alloc: Global, bytes: &[u8]) -> Result<PacketIn, DecodeFault>
     ensures { IfOk result IsPacketIn }
 {
-    match frame(alloc, PACKET_IN, bytes)? {
+    match message_of(alloc, PACKET_IN, bytes)? {
         Some(frame) => PacketIn::decode(alloc, &frame),
         None => Err(NO_MESSAGE),
     }
 }
 
 fn flow_removed(alloc: Global, bytes: &[u8]) -> Result<FlowRemoved, DecodeFault> {
-    match frame(alloc, FLOW_REMOVED, bytes)? {
+    match message_of(alloc, FLOW_REMOVED, bytes)? {
         Some(frame) => FlowRemoved::decode(&frame),
         None => Err(NO_MESSAGE),
     }
@@ -131,7 +118,7 @@ fn flow_mods(alloc: Global) -> Result<[(Vec<u8>, FlowMod); 3], AllocError> {
                 alloc,
                 &[
                     "010e0050 00000000",
-                    M80,
+                    TO_TCP_80,
                     "0000000000000000 0000 003c 0000 000a ffffffff ffff 0001 0000000800020000",
                 ],
             )?,
@@ -154,7 +141,7 @@ fn flow_mods(alloc: Global) -> Result<[(Vec<u8>, FlowMod); 3], AllocError> {
                 alloc,
                 &[
                     "010e0048 00000001",
-                    M80,
+                    TO_TCP_80,
                     "0000000000000000 0003 0000 0000 0000 ffffffff ffff 0000",
                 ],
             )?,
@@ -302,7 +289,7 @@ fn flow_removeds_are_read_and_written(rt: HostRuntime) -> Result<(), Fail> {
         alloc,
         &[
             "010b0058 01020304",
-            M80,
+            TO_TCP_80,
             "1112131415161718 000a 02 00 21222324 31323334 4142 0000 5152535455565758 6162636465666768",
         ],
     )?;

@@ -4,7 +4,7 @@ use of10_action::{DecodeFault, WireFault};
 use of10_ctl::kind::{FEATURES_REPLY, PORT_STATUS};
 use std::alloc::{AllocError, Global};
 use std::test::Fail;
-use wire_samples::frame_of;
+use wire_samples::message_of;
 
 /// The features of the datapath 0xa1, before its ports; the length is that of four ports.
 const FRONT: &[u8] = b"\x01\x06\x00\xe0\xff\x00\x00\x01\x00\x00\x00\x00\x00\x00\x00\xa1\
@@ -26,9 +26,9 @@ fn features_of(
     alloc: Global,
     bytes: &[u8],
 ) -> Result<Option<Result<Features, DecodeFault>>, AllocError> {
-    Ok(match frame_of(alloc, bytes)? {
-        Some(frame) if frame.is_of(FEATURES_REPLY) => Some(Features::decode(alloc, &frame)),
-        _ => None,
+    Ok(match message_of(alloc, FEATURES_REPLY, bytes)? {
+        Some(frame) => Some(Features::decode(alloc, &frame)),
+        None => None,
     })
 }
 
@@ -37,14 +37,14 @@ fn status_of(
     alloc: Global,
     bytes: &[u8],
 ) -> Result<Option<Result<PortStatus, WireFault>>, AllocError> {
-    Ok(match frame_of(alloc, bytes)? {
-        Some(frame) if frame.is_of(PORT_STATUS) => Some(PortStatus::decode(&frame)),
-        _ => None,
+    Ok(match message_of(alloc, PORT_STATUS, bytes)? {
+        Some(frame) => Some(PortStatus::decode(&frame)),
+        None => None,
     })
 }
 
 /// A message of this type and of so many bytes.
-fn message_of(alloc: Global, kind: u8, length: u16) -> Result<Vec<u8>, AllocError> {
+fn blank_message(alloc: Global, kind: u8, length: u16) -> Result<Vec<u8>, AllocError> {
     let mut bytes = vec![in alloc; 0; usize::from(length)]?;
     for (at, byte) in [
         (0, 1),
@@ -108,7 +108,7 @@ fn features_have_whole_ports(rt: HostRuntime) -> Result<(), Fail> {
         (79, None),
         (81, None),
     ] {
-        let message = message_of(alloc, FEATURES_REPLY, length)?;
+        let message = blank_message(alloc, FEATURES_REPLY, length)?;
         let right = match (features_of(alloc, &message)?, ports) {
             (Some(Ok(features)), Some(count)) => features.ports.as_slice().len() == count,
             (Some(Err(fault)), None) => fault == DecodeFault::Wire(WireFault::Length(length)),
@@ -154,7 +154,7 @@ fn a_change_is_read_and_written(rt: HostRuntime) -> Result<(), Fail> {
 fn a_change_has_one_length(rt: HostRuntime) -> Result<(), Fail> {
     let alloc = rt.alloc();
     for length in [8, 16, 63, 65, 112] {
-        let message = message_of(alloc, PORT_STATUS, length)?;
+        let message = blank_message(alloc, PORT_STATUS, length)?;
         assert_eq!(rt;
             status_of(alloc, &message)?,
             Some(Err(WireFault::Length(length)))

@@ -6,7 +6,7 @@ use of10_match::Match;
 use of10_model::Pattern;
 use std::alloc::{AllocError, Global};
 use std::test::Fail;
-use wire_samples::frame_of;
+use wire_samples::message_of;
 
 /// IPv4, TCP, to port 80.
 const WEB: Pattern = Pattern {
@@ -25,9 +25,9 @@ fn request_in(
     alloc: Global,
     bytes: &[u8],
 ) -> Result<Option<Result<StatsRequest, WireFault>>, AllocError> {
-    Ok(match frame_of(alloc, bytes)? {
-        Some(frame) if frame.is_of(STATS_REQUEST) => Some(StatsRequest::decode(&frame)),
-        _ => None,
+    Ok(match message_of(alloc, STATS_REQUEST, bytes)? {
+        Some(frame) => Some(StatsRequest::decode(&frame)),
+        None => None,
     })
 }
 
@@ -36,14 +36,14 @@ fn part_in(
     alloc: Global,
     bytes: &[u8],
 ) -> Result<Option<Result<StatsPart, WireFault>>, AllocError> {
-    Ok(match frame_of(alloc, bytes)? {
-        Some(frame) if frame.is_of(STATS_REPLY) => Some(part(&frame)),
-        _ => None,
+    Ok(match message_of(alloc, STATS_REPLY, bytes)? {
+        Some(frame) => Some(part(&frame)),
+        None => None,
     })
 }
 
 /// A message of this type, of so many bytes, with this type of statistics and these flags.
-fn message_of(
+fn stats_message(
     alloc: Global,
     kind: u8,
     length: u16,
@@ -135,7 +135,7 @@ fn requests_for_flows_are_read_and_written(rt: HostRuntime) -> Result<(), Fail> 
         out_port: 3,
     };
     for (kind, request) in [(FLOW, &flow), (AGGREGATE, &aggregate)] {
-        let mut message = message_of(alloc, STATS_REQUEST, 56, kind, 0)?;
+        let mut message = stats_message(alloc, STATS_REQUEST, 56, kind, 0)?;
         message.truncate(12);
         message.extend_from_slice(&WEB_BYTES)?;
         message.extend_from_slice(&[0xff, 0, 0, 3])?;
@@ -165,7 +165,7 @@ fn faults_of_requests_come_in_order(rt: HostRuntime) -> Result<(), Fail> {
         (21, QUEUE, WireFault::Length(21)),
     ];
     for (length, kind, fault) in rows {
-        let message = message_of(alloc, STATS_REQUEST, length, kind, 0)?;
+        let message = stats_message(alloc, STATS_REQUEST, length, kind, 0)?;
         assert_eq!(rt;
             request_in(alloc, &message)?,
             Some(Err(fault)),
@@ -197,7 +197,7 @@ fn parts_say_whether_more_follow(rt: HostRuntime) -> Result<(), Fail> {
         (3, true),
         (0xfffe, false),
     ] {
-        let message = message_of(alloc, STATS_REPLY, 12, PORT, flags)?;
+        let message = stats_message(alloc, STATS_REPLY, 12, PORT, flags)?;
         let wanted = StatsPart {
             kind: PORT,
             more,

@@ -1,9 +1,11 @@
 -- What the makers make.
-use Rattle.std.specs.Prelude.{ℕ, ◌-◌, ◌*◌, ◌/◌, ◌^◌, ◌==◌, ◌||◌, if◌then◌else◌, List, [], ◌∷◌, codes, Option, Some, None, is_some}
+use Rattle.std.specs.Prelude.{ℕ, ◌-◌, ◌*◌, ◌/◌, ◌^◌, ◌==◌, ◌||◌, if◌then◌else◌, List, [], ◌∷◌, ◌++◌, replicate, codes, Option, Some, None, is_some}
+use Rattle.byteorder.specs.Endian.{big_bytes}
 use Rattle.of10_model.specs.declared.pattern.Prefix.{Prefix}
 use Rattle.of10_model.specs.declared.pattern.Pattern.{Pattern}
 use Rattle.flowspace.specs.declared.slices.Slice.{Slice}
 use Rattle.samples.specs.declared.matches.Packets.{Packets}
+use Rattle.of10_port.specs.declared.features.Features.{Features}
 
 -- the addresses that begin as one does in so many bits; 33 and more are all bits
 abbrev pub prefix_of : ℕ → ℕ → Option Prefix
@@ -44,3 +46,11 @@ slice_of name = record { name = name; controller = codes "192.0.2.1:6633"; rate 
 
 abbrev pub alice_and_bob : List Slice
 alice_and_bob = slice_of (codes "alice") ∷ slice_of (codes "bob") ∷ []
+
+-- a port's number and 46 zeros
+abbrev pub port_of : ℕ → List ℕ
+port_of number = big_bytes 2 number ++ replicate 46 0
+
+-- the switch 0xa1 with these ports
+abbrev pub switch_of : List (List ℕ) → Features
+switch_of ports = record { datapath = 0xa1; buffers = 256; tables = 1; capabilities = 0; actions = 0xfff; ports = ports }

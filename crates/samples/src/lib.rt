@@ -1,4 +1,4 @@
-//! Slices, rules, switches and messages for the tests of other crates.
+//! Slices, rules and switches for the tests of other crates.
 //!
 //! What no policy or message may have, as a name of no bytes, is a mistake in a test. It is answered as
 //! want of memory, so that the test fails.
@@ -11,4 +11,4 @@ mod switches;
 pub use matches::{ANY, Packets, match_of, packet, tcp};
 pub use policies::{plain_rules, policy, rule, slice, switch_policy, two_slices};
 pub use switches::{features, port, three_ports};
-pub use wire_samples::{bytes, frame};
+pub use wire_samples::{TO_TCP_80, bytes, frame};

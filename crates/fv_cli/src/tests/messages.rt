@@ -15,7 +15,7 @@ use of10_stats::protocol::FLOW;
 use of10_stats::{StatsRequest, entry_size, flow_entry, part};
 use std::alloc::Global;
 use std::test::Fail;
-use wire_samples::{bytes, frame_of};
+use wire_samples::{TO_TCP_80, bytes, frame_of};
 
 /// What a message says, in words, and the message that says it.
 #[derive(Drop)]
@@ -176,10 +176,7 @@ fn read(alloc: Global, frame: &Frame) -> Result<Option<Said>, Fail> {
     }
 }
 
-/// To TCP port 80: the 40 bytes of the match, and what they say.
-const WEB: &str =
-    "0038204f000000000000000000000000000000000000080000060000000000000000000000000050";
-
+/// What the match to TCP port 80 says.
 const WEB_SAID: &str =
     "Match { pattern: Pattern { in_port: None, dl_src: None, dl_dst: None, dl_vlan: None, \
 dl_vlan_pcp: None, dl_type: Some(2048), nw_tos: None, nw_proto: Some(6), nw_src: None, nw_dst: None, tp_src: None, \
@@ -263,7 +260,7 @@ const MESSAGES: [(&[&str], &[&str]); 22] = [
     (
         &[
             "010b00580000000c",
-            WEB,
+            TO_TCP_80,
             "1122334455667788",
             "000a",
             "0200",
@@ -299,7 +296,7 @@ const MESSAGES: [(&[&str], &[&str]); 22] = [
     (
         &[
             "010e00580000000f",
-            WEB,
+            TO_TCP_80,
             "0000000000000102",
             "0001",
             "003c",
@@ -328,7 +325,14 @@ const MESSAGES: [(&[&str], &[&str]); 22] = [
         &["Head { version: 1, kind: 15, length: 32, xid: 16 }"],
     ),
     (
-        &["0110003800000011", "0001", "0000", WEB, "ff00", "ffff"],
+        &[
+            "0110003800000011",
+            "0001",
+            "0000",
+            TO_TCP_80,
+            "ff00",
+            "ffff",
+        ],
         &[
             "Flow { pattern: ",
             WEB_SAID,
@@ -341,7 +345,7 @@ const MESSAGES: [(&[&str], &[&str]); 22] = [
             "0001",
             "0001",
             "00580000",
-            WEB,
+            TO_TCP_80,
             "0000003c",
             "000001f4",
             "000a",

@@ -8,7 +8,8 @@ fn whole(value: u32) -> Option<Prefix> {
     Some(Prefix { bits: 32, value })
 }
 
-fn tagged(m: &Pattern, dl_vlan: u16, dl_vlan_pcp: Option<u8>) -> Pattern {
+/// The match with this VLAN and this priority.
+pub fn with_vlan(m: &Pattern, dl_vlan: u16, dl_vlan_pcp: Option<u8>) -> Pattern {
     Pattern {
         dl_vlan: Some(dl_vlan),
         dl_vlan_pcp,
@@ -16,18 +17,18 @@ fn tagged(m: &Pattern, dl_vlan: u16, dl_vlan_pcp: Option<u8>) -> Pattern {
     }
 }
 
-fn with_vlan(m: &Pattern, vlan: u16) -> Pattern {
+fn with_vlan_id(m: &Pattern, vlan: u16) -> Pattern {
     match m.dl_vlan {
-        Some(0xffff) => tagged(m, vlan % 4096, Some(0)),
-        _ => tagged(m, vlan % 4096, m.dl_vlan_pcp),
+        Some(0xffff) => with_vlan(m, vlan % 4096, Some(0)),
+        _ => with_vlan(m, vlan % 4096, m.dl_vlan_pcp),
     }
 }
 
 fn with_priority(m: &Pattern, priority: u8) -> Pattern {
     match m.dl_vlan {
         None => *m,
-        Some(0xffff) => tagged(m, 0, Some(priority % 8)),
-        Some(vlan) => tagged(m, vlan, Some(priority % 8)),
+        Some(0xffff) => with_vlan(m, 0, Some(priority % 8)),
+        Some(vlan) => with_vlan(m, vlan, Some(priority % 8)),
     }
 }
 
@@ -83,9 +84,9 @@ pub fn expected(m: &Match, action: &Action) -> Pattern {
             dl_dst: Some(address),
             ..*before
         },
-        Action::SetVlanVid(vlan) => with_vlan(before, vlan),
+        Action::SetVlanVid(vlan) => with_vlan_id(before, vlan),
         Action::SetVlanPcp(priority) => with_priority(before, priority),
-        Action::StripVlan => tagged(before, 0xffff, m.is_exact().then_some(0)),
+        Action::StripVlan => with_vlan(before, 0xffff, m.is_exact().then_some(0)),
         _ => with_network(before, action),
     }
 }
