@@ -1,6 +1,6 @@
 //! The link layer: Ethernet II, one 802.1Q tag, and 802.3 with and without SNAP.
 
-ghost use Rattle.std.specs.Prelude.{◌≡◌, ◌+◌, ◌*◌, ◌/◌, ◌%◌, ◌<◌, ◌≤◌, ◌^◌, length};
+ghost use Rattle.std.specs.Prelude.{◌≡◌, ◌/◌, ◌%◌, ◌<◌, ◌≤◌, ◌^◌};
 ghost use Rattle.frame_header.specs.Links.{field_at, typed, unread, untagged, tagged_link, link_of};
 
 use of10_model::protocol::UNTAGGED;

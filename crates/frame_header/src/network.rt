@@ -1,6 +1,6 @@
 //! The network layer, IPv4 and ARP, and the transport layer behind IPv4.
 
-ghost use Rattle.std.specs.Prelude.{◌≡◌, ◌+◌, ◌*◌, ◌/◌, ◌%◌, ◌<◌, ◌≤◌, ◌==◌, ◌↔◌, IsTrue, length, slice_index};
+ghost use Rattle.std.specs.Prelude.{◌≡◌, ◌*◌, ◌/◌, ◌%◌, ◌≤◌, length};
 ghost use Rattle.frame_header.specs.Networks.{transport_at, header_length, is_unfragmented, transport_of, ipv4_of, arp_of, network_of};
 
 use of10_model::protocol::{ARP, ICMP, IPV4, TCP, UDP};

@@ -3,7 +3,7 @@
 ghost use Rattle.std.specs.Prelude.{◌≡◌, if◌then◌else◌};
 ghost use Rattle.of10_model.specs.Header.{Header, IsHeader};
 ghost use Rattle.of10_model.specs.Pattern.{Has};
-ghost use Rattle.of10_model.specs.Normal.{is_exact, is_value, has_vlan, meaningless, IsInRange};
+ghost use Rattle.of10_model.specs.Normal.{is_value, IsInRange};
 ghost use Rattle.of10_action.specs.Actions.{HasAddress};
 ghost use Rattle.match_meet.specs.Rewriting.{rewritten, cover_of, names_tcp_or_udp, whole};
 

@@ -1,6 +1,6 @@
 //! Matches as sets of headers.
 
-ghost use Rattle.std.specs.Prelude.{◌≡◌, ◌↔◌, ◌||◌, IsTrue, IsNone, IfSome, IfNone, is_none};
+ghost use Rattle.std.specs.Prelude.{◌≡◌, ◌↔◌, ◌||◌, IsTrue, IfSome, IfNone, is_none};
 ghost use Rattle.of10_model.specs.Header.{Header, IsHeader};
 ghost use Rattle.of10_model.specs.Pattern.{Has};
 ghost use Rattle.of10_model.specs.Normal.{IsPrefix};
