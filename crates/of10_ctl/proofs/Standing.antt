@@ -3,7 +3,7 @@ use Rattle.std.proofs.Common.{◌≡◌, ℕ, ◌+◌, ◌≤◌, Bool, true, fa
 use Rattle.std.proofs.lemmas.List.{append-nil, drop-append-le, drop-drop}
 use Rattle.std.proofs.lemmas.List.Folds.{list_any-append}
 use Rattle.std.proofs.Math.Seq.{drop-append_seam}
-use Rattle.of10_ctl.specs.declared.framer.Next.TheVariants.{Frame, Ended}
+use Rattle.of10_ctl.specs.declared.framer.Next.TheVariants.{Frame}
 use Rattle.of10_ctl.specs.Frames.{is_bad}
 use Rattle.of10_ctl.specs.Streams.{frames_of, has_bad, next_of, answer, Stream, Stands}
 

@@ -1,5 +1,4 @@
 use super::*;
-use std::alloc::Global;
 use std::test::Fail;
 use wire_samples::bytes;
 
