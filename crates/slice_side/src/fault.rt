@@ -1,6 +1,6 @@
 //! What is wrong with the form of a slice's message.
 
-ghost use Rattle.std.specs.Prelude.{◌≡◌, IfOk, Result, false, length};
+ghost use Rattle.std.specs.Prelude.{◌≡◌, IfOk, Result, false};
 ghost use Rattle.of10_action.specs.Reading.{Gives};
 ghost use Rattle.of10_ctl.specs.Kinds.{IsOf};
 ghost use Rattle.of10_ctl.specs.Frames.{is_bad};

@@ -1,5 +1,5 @@
-ghost use Rattle.std.specs.Prelude.{◌≡◌, ◌==◌, ◌&&◌, IfOk, option_to_list};
-ghost use Rattle.slice_words.specs.Messages.{version_of, is_kind, is_dismissing, is_setting, flags_of, miss_send_len_of};
+ghost use Rattle.std.specs.Prelude.{◌≡◌, IfOk, option_to_list};
+ghost use Rattle.slice_words.specs.Messages.{is_dismissing, is_setting};
 ghost use Rattle.slice_words.specs.Items.{Settings, Sight, Msg};
 ghost use Rattle.slice_words.specs.Standing.{SliceStands};
 ghost use Rattle.slice_side.specs.Reactions.{Sees, IsReaction, IsChangeFor};
