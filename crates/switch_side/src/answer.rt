@@ -1,7 +1,7 @@
-ghost use Rattle.std.specs.Prelude.{ℕ, ◌≡◌, ◌≤◌, ◌∷◌, [], true, length, IsTrue, IfOk, OnErr, drop};
+ghost use Rattle.std.specs.Prelude.{ℕ, ◌≡◌, ◌≤◌, ◌∷◌, [], length, IsTrue, IfOk, OnErr, drop};
 ghost use Rattle.of10_ctl.specs.declared.kind.TheConstants.{ECHO_REPLY};
 ghost use Rattle.of10_ctl.specs.Frames.{IsFrame, message_of};
-ghost use Rattle.of10_ctl.specs.Kinds.{IsOf, is_of};
+ghost use Rattle.of10_ctl.specs.Kinds.{IsOf};
 ghost use Rattle.flowspace.specs.Policies.{PolicyView};
 ghost use Rattle.slice_words.specs.Messages.{xid_of};
 ghost use Rattle.desk_words.specs.Openings.{Switch};

@@ -7,7 +7,7 @@ ghost use Rattle.of10_flow.specs.PacketIns.{packet_of, read_packet_in, spell_pac
 ghost use Rattle.flowspace.specs.Order.{writer_of, readers_of};
 ghost use Rattle.desk_words.specs.Openings.{well_formed};
 ghost use Rattle.switch_side.specs.Dispatches.{addressed};
-ghost use Rattle.switch_side.specs.Carrying.{carried, telling, once, is_plain, packet_for, said_from, packet_told, packet_in_told};
+ghost use Rattle.switch_side.specs.Carrying.{carried, telling, is_plain, packet_for, said_from, packet_told, packet_in_told};
 
 use crate::dispatch::Dispatch;
 use flow_book::SliceState;
