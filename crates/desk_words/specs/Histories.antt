@@ -18,7 +18,7 @@ use Rattle.flowspace.specs.Policies.{PolicyView}
 use Rattle.port_view.specs.declared.answer.Kept.TheVariants.{Kept, Ignored, TooManyPorts}
 use Rattle.port_view.specs.KnownPorts.{first_known, kept_of}
 use Rattle.port_view.specs.SlicePorts.{ports_of_slice}
-use Rattle.slice_words.specs.Items.{Settings, settings_of, is_own_port, Share, Writer, Reader, Probe, Packet, Item, Up, Down, Msg, Handed, Status, End, Sight, is_up}
+use Rattle.slice_words.specs.Items.{Settings, settings_of, is_own_port, Share, Writer, Reader, Item, Up, Down, Msg, Handed, Status, End, Sight, is_up}
 use Rattle.slice_words.specs.Items as items
 use Rattle.slice_words.specs.Alone.{with_items}
 use Rattle.desk_words.specs.declared.event.Event.{Event}
