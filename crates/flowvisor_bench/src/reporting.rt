@@ -1,8 +1,6 @@
 //! The report of a recording of many packets that all go to one slice.
 
-ghost use Rattle.std.specs.Prelude.{◌≡◌, length};
 
-use flowspace::Policy;
 use fv_base::NeverSink;
 use fv_report::report_items;
 use policy_text::read;

@@ -1,7 +1,7 @@
 //! The lines that the program puts on its streams, as pieces. Making them and putting them takes no
 //! memory.
 
-ghost use Rattle.std.specs.Prelude.{◌≡◌, ◌≤◌, ◌++◌, ℕ, List, length, codes, decimal, OnOk, OnErr};
+ghost use Rattle.std.specs.Prelude.{◌≡◌, ◌≤◌, ◌++◌, ℕ, List, codes, decimal, OnOk, OnErr};
 ghost use Rattle.fv_base.specs.Told.{appended, IsPrefix, Rose};
 ghost use Rattle.policy_text.specs.Places.{place_text};
 ghost use Rattle.fv_cli.specs.Lines.{piece_text, whole_text, what_text, field_text, improper_text, refusal_text, reading_text, policy_line, recording_line, lack_line, accepted_line};

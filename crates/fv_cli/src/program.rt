@@ -1,6 +1,6 @@
 //! The program's call without the system: the words in, files and output by their traits, the status out.
 
-ghost use Rattle.std.specs.Prelude.{◌≡◌, ◌≤◌, ◌<◌, ◌^◌, ℕ, List, length, true, Ok, None, IfOk, IfErr, IfSome, OnOk};
+ghost use Rattle.std.specs.Prelude.{◌≡◌, ◌≤◌, ◌<◌, ◌^◌, ℕ, List, length, true, Ok, IfOk, IfErr, IfSome, OnOk};
 ghost use Rattle.std.specs.List.{All};
 ghost use Rattle.fv_base.specs.Words.{form_of};
 ghost use Rattle.recording.specs.Recordings.{IsItem};

@@ -1,8 +1,7 @@
 //! The connections of one switch, cut into frames.
 
-ghost use Rattle.std.specs.Prelude.{ℕ, ◌≡◌, ◌<◌, ◌++◌, List, [], ◌∷◌, length, IfOk, IfSome, OnErr};
+ghost use Rattle.std.specs.Prelude.{◌≡◌, ◌<◌, length, IfOk, IfSome};
 ghost use Rattle.of10_ctl.specs.Frames.{IsFrame};
-ghost use Rattle.of10_ctl.specs.Streams.{Stands};
 ghost use Rattle.fv_report.specs.Streams.{AreFreshFramers, AreFresh, Restarts, frame_given, TakesFrame};
 
 use of10_ctl::{Frame, Framer, Next};

@@ -1,6 +1,6 @@
 //! One event at a desk, and its lines.
 
-ghost use Rattle.std.specs.Prelude.{ℕ, ◌≡◌, true, false, if◌then◌else◌, List, Ok, OnOk, IfOk, IfErr};
+ghost use Rattle.std.specs.Prelude.{ℕ, ◌≡◌, List, Ok, OnOk, IfOk, IfErr};
 ghost use Rattle.flowspace.specs.Policies.{PolicyView};
 ghost use Rattle.desk_words.specs.declared.event.Timed.{Timed};
 ghost use Rattle.answer_bounds.specs.Bounds.{IsFramed, AreFramed};

@@ -1,8 +1,7 @@
 //! The proxy's own messages to a switch, and how messages are put into what waits.
 
-ghost use Rattle.std.specs.Prelude.{ℕ, ◌≡◌, ◌≤◌, ◌<◌, List, length, IfOk, OnOk, OnErr, IsTrue};
-ghost use Rattle.of10_ctl.specs.Frames.{IsFrame};
-ghost use Rattle.of10_ctl.specs.Kinds.{IsOf, is_of};
+ghost use Rattle.std.specs.Prelude.{ℕ, ◌≡◌, ◌≤◌, ◌<◌, length, IfOk, OnOk, OnErr};
+ghost use Rattle.of10_ctl.specs.Kinds.{IsOf};
 ghost use Rattle.outbox.specs.Queues.{Queue, QueueStands};
 ghost use Rattle.desk_words.specs.Sent.{greeting, whole_packets, clearing, preparation, echo_for};
 ghost use Rattle.proxy_core.specs.Slots.{HasMore};
