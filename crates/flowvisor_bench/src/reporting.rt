@@ -1,6 +1,5 @@
 //! The report of a recording of many packets that all go to one slice.
 
-
 use fv_base::NeverSink;
 use fv_report::report_items;
 use policy_text::read;
