@@ -1,5 +1,5 @@
 -- What is found, in words of the calls.
-use Rattle.std.proofs.Common.{◌≡◌, ◌≢◌, ℕ, ◌+◌, ◌/◌, ◌%◌, ◌<◌, ◌↔◌, Bool, true, false, IsTrue, List, [], ◌∷◌, ◌++◌, zero, suc, length, take, map, Contains, refl, ap, sym, subst, ◌∙◌, inl, inr, arith, add-one}
+use Rattle.std.proofs.Common.{◌≡◌, ◌≢◌, ℕ, ◌+◌, ◌/◌, ◌%◌, ◌<◌, ◌↔◌, ◌||◌, if◌then◌else◌, Bool, true, false, IsTrue, List, [], ◌∷◌, ◌++◌, zero, suc, length, take, map, Contains, refl, ap, sym, subst, ◌∙◌, inl, inr, arith, add-one}
 use Rattle.std.specs.Prelude.{◌==◌, find, slice_get, Some}
 use Rattle.std.proofs.lemmas.Bool.{cases_Bool, eqb-true}
 use Rattle.std.proofs.lemmas.Bool.Decides.{eqb_tells}
@@ -27,6 +27,14 @@ told_more b call later sought apart h = (λ e. contains_more call later sought (
 
 told_here : (call : RequestCall) (later : List RequestCall) → IsTrue true ↔ Contains (call ∷ later) call
 told_here call later = (λ e. (zero, omega arith, refl), λ c. refl)
+
+-- a mark tells of the request of its number
+told_marked : (mark : ℕ → RequestCall) (number other : ℕ) (later : List RequestCall) (b : Bool) → (mark other ≡ mark number → number ≡ other) → IsTrue b ↔ Contains later (mark number)
+    → IsTrue (number == other || b) ↔ Contains (mark other ∷ later) (mark number)
+told_marked mark number other later b same h = elim (eqb_tells number other) [
+  | inl this ↦ rw this.0 (subst (λ n. IsTrue true ↔ Contains (mark n ∷ later) (mark number)) this.1 (told_here (mark number) later))
+  | inr apart ↦ rw apart.0 (told_more b (mark other) later (mark number) (λ e. apart.1 (same e)) h)
+]
 
 told_none : (sought : RequestCall) → IsTrue false ↔ Contains [] sought
 told_none sought = (λ e. cc, λ c. absurd (omega (arith, c.1)))
@@ -93,6 +101,14 @@ get_map f (y ∷ ys) (suc place) x e = get_map f ys place x e
 get_behind : (x : Issued) (xs : List Issued) (place : ℕ) (found : Issued) → slice_get xs place ≡ Some found → slice_get (x ∷ xs) (place + 1) ≡ Some found
 get_behind x xs place found e = rw (add-one place) e
 
+error_set : (b : Bool) (request : Issued) → (if b then with_error request else request) ≡ record request { failed = b || request.failed }
+error_set true request = refl
+error_set false request = refl
+
+reply_set : (b : Bool) (request : Issued) → (if b then with_reply request else request) ≡ record request { done = b || request.done }
+reply_set true request = refl
+reply_set false request = refl
+
 -- the request that stands there, with what the calls since say of it
 record Standing (later : List RequestCall) (asked : Asked) (earlier : List RequestCall) : Type 0 where
   request : Issued
@@ -124,46 +140,24 @@ standing (Issue other ∷ later) asked earlier kept =
     }
 standing (MarkError number ∷ later) asked earlier kept =
     let h = standing later asked earlier (λ c. kept (contains_more (MarkError number) later Forget c)) in
-    let at = get_map (marked with_error number) (requests (later ++ (Issue asked ∷ earlier))) (issued later) h.request h.here in
-    elim (eqb_tells h.request.number number) [
-      | inl this ↦ record {
-        request = with_error h.request;
-        here = at ∙ rw this.0 refl;
-        same_number = h.same_number;
-        same_asked = h.same_asked;
-        failed = subst (λ n. IsTrue true ↔ Contains (MarkError n ∷ later) (MarkError h.request.number)) this.1 (told_here (MarkError h.request.number) later);
-        done = told_more h.request.done (MarkError number) later (MarkDone h.request.number) (λ e. cc) h.done;
-      }
-      | inr other ↦ record {
-        request = h.request;
-        here = at ∙ rw other.0 refl;
-        same_number = h.same_number;
-        same_asked = h.same_asked;
-        failed = told_more h.request.failed (MarkError number) later (MarkError h.request.number) (λ e. other.1 (cc)) h.failed;
-        done = told_more h.request.done (MarkError number) later (MarkDone h.request.number) (λ e. cc) h.done;
-      }
-    ]
+    record {
+      request = record h.request { failed = h.request.number == number || h.request.failed };
+      here = get_map (marked with_error number) _ (issued later) h.request h.here ∙ ap (λ r. Some r) (error_set (h.request.number == number) h.request);
+      same_number = h.same_number;
+      same_asked = h.same_asked;
+      failed = told_marked MarkError h.request.number number later h.request.failed (λ e. cc) h.failed;
+      done = told_more h.request.done (MarkError number) later (MarkDone h.request.number) (λ e. cc) h.done;
+    }
 standing (MarkDone number ∷ later) asked earlier kept =
     let h = standing later asked earlier (λ c. kept (contains_more (MarkDone number) later Forget c)) in
-    let at = get_map (marked with_reply number) (requests (later ++ (Issue asked ∷ earlier))) (issued later) h.request h.here in
-    elim (eqb_tells h.request.number number) [
-      | inl this ↦ record {
-        request = with_reply h.request;
-        here = at ∙ rw this.0 refl;
-        same_number = h.same_number;
-        same_asked = h.same_asked;
-        failed = told_more h.request.failed (MarkDone number) later (MarkError h.request.number) (λ e. cc) h.failed;
-        done = subst (λ n. IsTrue true ↔ Contains (MarkDone n ∷ later) (MarkDone h.request.number)) this.1 (told_here (MarkDone h.request.number) later);
-      }
-      | inr other ↦ record {
-        request = h.request;
-        here = at ∙ rw other.0 refl;
-        same_number = h.same_number;
-        same_asked = h.same_asked;
-        failed = told_more h.request.failed (MarkDone number) later (MarkError h.request.number) (λ e. cc) h.failed;
-        done = told_more h.request.done (MarkDone number) later (MarkDone h.request.number) (λ e. other.1 (cc)) h.done;
-      }
-    ]
+    record {
+      request = record h.request { done = h.request.number == number || h.request.done };
+      here = get_map (marked with_reply number) _ (issued later) h.request h.here ∙ ap (λ r. Some r) (reply_set (h.request.number == number) h.request);
+      same_number = h.same_number;
+      same_asked = h.same_asked;
+      failed = told_more h.request.failed (MarkDone number) later (MarkError h.request.number) (λ e. cc) h.failed;
+      done = told_marked MarkDone h.request.number number later h.request.done (λ e. cc) h.done;
+    }
 standing (Forget ∷ later) asked earlier kept = absurd (kept (zero, omega arith, refl))
 
 -- ---- what is found
