@@ -149,33 +149,42 @@ no_place number issued e = elim (cases_Bool (nat_lt number issued)) [
   | inr past ↦ ltb-false number issued past
 ]
 
--- what a mark makes of the remembered requests, in the three cases of the code
-pub mark_set : (m : Requests) (slot : ℕ) (calls : List RequestCall) (mark : Issued → Issued) (number place : ℕ) (y : Issued) → RequestsStand slot calls m
-    → Some place ≡ (if nat_lt number m.issued then Some (m.issued - 1 - number) else None) → Some y ≡ slice_get m.remembered place
-    → slice_set m.remembered place (mark y) ≡ take 4096 (map (marked mark number) (requests calls))
-unfolding remembered
-mark_set m slot calls mark number place y s at found =
-    let numbered : Numbered m.issued m.remembered = rw (s.same_issued, s.same_remembered) (Numbered-remembered calls) in
-    sym (marked_here mark number m.issued place m.remembered y numbered (place_of place number m.issued at) (sym found))
-    ∙ rw s.same_remembered (sym (take-map (marked mark number) 4096 (requests calls)))
+-- the call sets the mark on the request of the number
+abbrev pub Sets : RequestCall → (Issued → Issued) → ℕ → List RequestCall → Type 0
+Sets call mark number calls = (issued (call ∷ calls) ≡ issued calls) × (requests (call ∷ calls) ≡ map (marked mark number) (requests calls))
 
-pub mark_missing : (m : Requests) (slot : ℕ) (calls : List RequestCall) (mark : Issued → Issued) (number place : ℕ) → RequestsStand slot calls m
-    → Some place ≡ (if nat_lt number m.issued then Some (m.issued - 1 - number) else None) → None ≡ slice_get m.remembered place
-    → m.remembered ≡ take 4096 (map (marked mark number) (requests calls))
+stands_marked : (m : Requests) (slot : ℕ) (calls : List RequestCall) (call : RequestCall) (mark : Issued → Issued) (number : ℕ) (kept : List Issued) → Sets call mark number calls
+    → RequestsStand slot calls m → map (marked mark number) m.remembered ≡ kept → RequestsStand slot (call ∷ calls) (record m { remembered = kept })
 unfolding remembered
-mark_missing m slot calls mark number place s at found =
-    let numbered : Numbered m.issued m.remembered = rw (s.same_issued, s.same_remembered) (Numbered-remembered calls) in
-    sym (marked_nowhere mark number m.issued place m.remembered numbered (place_of place number m.issued at) (sym found))
-    ∙ rw s.same_remembered (sym (take-map (marked mark number) 4096 (requests calls)))
+stands_marked m slot calls call mark number kept sets s is = record {
+  same_slot = s.same_slot;
+  same_issued = s.same_issued ∙ sym sets.0;
+  same_remembered = sym is ∙ rw (s.same_remembered, sets.1) (sym (take-map (marked mark number) 4096 (requests calls)));
+}
 
-pub mark_later : (m : Requests) (slot : ℕ) (calls : List RequestCall) (mark : Issued → Issued) (number : ℕ) → RequestsStand slot calls m
-    → None ≡ (if nat_lt number m.issued then Some (m.issued - 1 - number) else None)
-    → m.remembered ≡ take 4096 (map (marked mark number) (requests calls))
-unfolding remembered
-mark_later m slot calls mark number s at =
-    let numbered : Numbered m.issued m.remembered = rw (s.same_issued, s.same_remembered) (Numbered-remembered calls) in
-    sym (unmarked mark number m.issued m.remembered numbered (no_place number m.issued at))
-    ∙ rw s.same_remembered (sym (take-map (marked mark number) 4096 (requests calls)))
+Numbered-stands : (m : Requests) (slot : ℕ) (calls : List RequestCall) → RequestsStand slot calls m → Numbered m.issued m.remembered
+Numbered-stands m slot calls s = rw (s.same_issued, s.same_remembered) (Numbered-remembered calls)
+
+-- a mark, in the three cases of the code
+pub mark_set : (m : Requests) (slot : ℕ) (calls : List RequestCall) (call : RequestCall) (mark : Issued → Issued) (number place : ℕ) (y : Issued) → Sets call mark number calls
+    → RequestsStand slot calls m → Some place ≡ (if nat_lt number m.issued then Some (m.issued - 1 - number) else None) → Some y ≡ slice_get m.remembered place
+    → RequestsStand slot (call ∷ calls) (record m { remembered = slice_set m.remembered place (mark y) })
+mark_set m slot calls call mark number place y sets s at found =
+    stands_marked m slot calls call mark number _ sets s
+    (marked_here mark number m.issued place m.remembered y (Numbered-stands m slot calls s) (place_of place number m.issued at) (sym found))
+
+pub mark_missing : (m : Requests) (slot : ℕ) (calls : List RequestCall) (call : RequestCall) (mark : Issued → Issued) (number place : ℕ) → Sets call mark number calls
+    → RequestsStand slot calls m → Some place ≡ (if nat_lt number m.issued then Some (m.issued - 1 - number) else None) → None ≡ slice_get m.remembered place
+    → RequestsStand slot (call ∷ calls) m
+mark_missing m slot calls call mark number place sets s at found =
+    stands_marked m slot calls call mark number _ sets s
+    (marked_nowhere mark number m.issued place m.remembered (Numbered-stands m slot calls s) (place_of place number m.issued at) (sym found))
+
+pub mark_later : (m : Requests) (slot : ℕ) (calls : List RequestCall) (call : RequestCall) (mark : Issued → Issued) (number : ℕ) → Sets call mark number calls
+    → RequestsStand slot calls m → None ≡ (if nat_lt number m.issued then Some (m.issued - 1 - number) else None)
+    → RequestsStand slot (call ∷ calls) m
+mark_later m slot calls call mark number sets s at =
+    stands_marked m slot calls call mark number _ sets s (unmarked mark number m.issued m.remembered (Numbered-stands m slot calls s) (no_place number m.issued at))
 
 -- what is found by a transaction id
 pub found-get : (slot physical : ℕ) (calls : List RequestCall) → physical / 16777216 ≡ slot

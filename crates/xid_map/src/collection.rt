@@ -1,5 +1,4 @@
 ghost use Rattle.std.specs.Prelude.{◌≡◌, ◌+◌, ◌-◌, ◌%◌, ◌^◌, ◌≤◌, ◌==◌, ◌++◌, [], length, nat_le, ◌<◌, if◌then◌else◌, OnOk, OnErr};
-ghost use Rattle.xid_map.specs.Collections.{Gathered};
 
 use of10_action::Bytes;
 use std::alloc::{AllocError, Global};
