@@ -18,6 +18,7 @@ use Rattle.match_meet.specs.Rewriting.{rewritten, Rewrite}
 use Rattle.match_meet.proofs.CoverHas.{Has-cover_of}
 use Rattle.match_meet.proofs.CoverNormal.{applied-cover_of}
 use Rattle.match_meet.proofs.Ranges.{IsHeader-rewritten}
+use Rattle.of10_port.specs.declared.protocol.TheConstants.{TABLE, CONTROLLER}
 use Rattle.flowspace.specs.declared.slices.Slice.{Slice}
 use Rattle.flowspace.specs.declared.rules.Rule.{Rule}
 use Rattle.flowspace.specs.Rules.{IsInPort, IsPlainRule, is_written_by}
@@ -60,9 +61,9 @@ with_entry h entry r lt = record {
   tp_dst = r.tp_dst;
 }
 
-pub sees : (port : ℕ) → (port ≡ 0xfffd) ⊎ (port ≡ 0xfff9) → sees_in_port port ≡ true
-sees port (inl e) = or_left (port == 0xfffd) (port == 0xfff9) (eq-eqb port 0xfffd e)
-sees port (inr e) = or_right (port == 0xfffd) (port == 0xfff9) (eq-eqb port 0xfff9 e)
+pub sees : (port : ℕ) → (port ≡ CONTROLLER) ⊎ (port ≡ TABLE) → sees_in_port port ≡ true
+sees port (inl e) = or_left (port == CONTROLLER) (port == TABLE) (eq-eqb port CONTROLLER e)
+sees port (inr e) = or_right (port == CONTROLLER) (port == TABLE) (eq-eqb port TABLE e)
 
 -- a write rule that has the header, as it counts at the port
 by_rule : (ss : List Slice) (rs : List Rule) → IsSwitchPolicy ss rs → (slot : ℕ) (h : Header) → IsHeader h → (port k : ℕ) (rule : Rule) → k < length rs → get_or rs k rule ≡ rule
@@ -135,7 +136,7 @@ pub sent_behind : (rs : List Rule) (slot : ℕ) (h : Header) (before later : Lis
 sent_behind rs slot h [] later action port sent e = sent.0 port e
 sent_behind rs slot h (first ∷ before) later action port sent e = sent_behind rs slot (rewritten h first) before later action port sent.1 e
 
-no_port : (n : ℕ) → IsInPort n → (n ≡ 0xfffd) ⊎ (n ≡ 0xfff9) → ⊥
+no_port : (n : ℕ) → IsInPort n → (n ≡ CONTROLLER) ⊎ (n ≡ TABLE) → ⊥
 no_port n (inl le) (inl e) = omega arith
 no_port n (inl le) (inr e) = omega arith
 no_port n (inr is) (inl e) = omega arith

@@ -8,6 +8,7 @@ use Rattle.std.proofs.lemmas.List.Elements.{All-nil, All-cons, All-head, All-tai
 use Rattle.of10_action.specs.declared.action.Action.{Action}
 use Rattle.of10_action.specs.declared.action.Action.TheVariants.{Output, SetVlanVid, SetVlanPcp, StripVlan, SetDlSrc, SetDlDst, SetNwSrc, SetNwDst, SetNwTos, SetTpSrc, SetTpDst, Enqueue}
 use Rattle.of10_action.specs.Actions.{IsAction, HasAddress, spell, spelling}
+use Rattle.of10_port.specs.declared.protocol.TheConstants.{FLOOD, ALL}
 use Rattle.flowspace.specs.declared.rules.Rule.{Rule}
 use Rattle.flowspace.specs.Owners.{HasPort}
 use Rattle.action_check.specs.Permitted.{outputs, ports_for, spread, expanded}
@@ -27,9 +28,9 @@ length-outputs max_len (port ∷ others) =
 -- FLOOD and ALL stand for ports of which the same holds
 pub All-ports_for : (P : ℕ → Type 0) (port : ℕ) (flood all ports : List ℕ) → All P flood → All P all → ports_for port flood all ≡ Some ports → All P ports
 All-ports_for P port flood all ports on_flood on_all e =
-    elim (cases_Bool (port == 0xfffb)) [
+    elim (cases_Bool (port == FLOOD)) [
       | inl is ↦ let same : Some flood ≡ Some ports = rw is at e in let known : flood ≡ ports = cc in rw known at on_flood
-      | inr other ↦ elim (cases_Bool (port == 0xfffc)) [
+      | inr other ↦ elim (cases_Bool (port == ALL)) [
         | inl is ↦ let same : Some all ≡ Some ports = rw (other, is) at e in let known : all ≡ ports = cc in rw known at on_all
         | inr neither ↦ let none : None ≡ Some ports = rw (other, neither) at e in absurd (cc)
       ]

@@ -9,12 +9,14 @@ use Rattle.of10_action.specs.declared.action.Action.{Action}
 use Rattle.of10_action.specs.declared.action.Action.TheVariants.{Output, SetVlanVid, SetVlanPcp, StripVlan, SetDlSrc, SetDlDst, SetNwSrc, SetNwDst, SetNwTos, SetTpSrc, SetTpDst, Enqueue}
 use Rattle.of10_action.specs.Actions.{IsAction}
 use Rattle.match_meet.specs.Rewriting.{is_ipv4, is_tcp_or_udp, rewritten}
+use Rattle.of10_port.specs.declared.protocol.TheConstants.{IN_PORT, TABLE, FLOOD, ALL, CONTROLLER}
 use Rattle.flowspace.specs.declared.slices.Slice.{Slice}
 use Rattle.flowspace.specs.declared.rules.Rule.{Rule}
 use Rattle.flowspace.specs.Policies.{IsSwitchPolicy}
 use Rattle.flowspace.specs.Owners.{HasPort, has_port}
 use Rattle.flowspace.proofs.Along.{option_or-None}
 use Rattle.flowspace.proofs.Owning.{has_port-iff}
+use Rattle.action_check.specs.declared.fault.TheConstants.{BAD_OUT_PORT}
 use Rattle.action_check.specs.declared.origin.Origin.{Origin}
 use Rattle.action_check.specs.declared.origin.Origin.TheVariants.{Piece, Packet, Probe}
 use Rattle.action_check.specs.Origins.{is_packet_out, after}
@@ -35,9 +37,9 @@ way_back rs slot (Probe in_port) t = (has_port-iff rs slot in_port).0 t
 
 own_way : (rs : List Rule) (slot : ℕ) (image : Origin) (port : ℕ) → IsTrue (is_own_way rs slot image port) → IsOwnWay rs slot image port
 own_way rs slot image port t =
-    elim (or_cases (has_port rs slot port) (port == 0xfff8 && has_way_back rs slot image) t) [
+    elim (or_cases (has_port rs slot port) (port == IN_PORT && has_way_back rs slot image) t) [
       | inl own ↦ inl ((has_port-iff rs slot port).0 own)
-      | inr back ↦ let parts = and_parts (port == 0xfff8) (has_way_back rs slot image) back in inr (eqb-true port 0xfff8 parts.0, way_back rs slot image parts.1)
+      | inr back ↦ let parts = and_parts (port == IN_PORT) (has_way_back rs slot image) back in inr (eqb-true port IN_PORT parts.0, way_back rs slot image parts.1)
     ]
 
 at_either : (b : Bool) (h k : Header) → h.in_port ≡ k.in_port → (if b then h else k).in_port ≡ k.in_port
@@ -46,21 +48,21 @@ at_either false h k e = refl
 
 -- CONTROLLER, FLOOD, ALL, or TABLE in a packet-out
 data IsOther (image : Origin) (port : ℕ) : Type 0 where
-  To_controller : port ≡ 0xfffd → IsOther image port
-  To_ports : (port ≡ 0xfffb) ⊎ (port ≡ 0xfffc) → IsOther image port
-  To_table : port ≡ 0xfff9 → IsTrue (is_packet_out image) → IsOther image port
+  To_controller : port ≡ CONTROLLER → IsOther image port
+  To_ports : (port ≡ FLOOD) ⊎ (port ≡ ALL) → IsOther image port
+  To_table : port ≡ TABLE → IsTrue (is_packet_out image) → IsOther image port
 
 other_way : (image : Origin) (port : ℕ) → IsTrue (is_other_way image port) → IsOther image port
 other_way image port t =
-    elim (or_cases (port == 0xfffd || port == 0xfffb || port == 0xfffc) (port == 0xfff9 && is_packet_out image) t) [
-      | inl u ↦ elim (or_cases (port == 0xfffd || port == 0xfffb) (port == 0xfffc) u) [
-        | inl v ↦ elim (or_cases (port == 0xfffd) (port == 0xfffb) v) [
-          | inl e ↦ To_controller (eqb-true port 0xfffd e)
-          | inr e ↦ To_ports (inl (eqb-true port 0xfffb e))
+    elim (or_cases (port == CONTROLLER || port == FLOOD || port == ALL) (port == TABLE && is_packet_out image) t) [
+      | inl u ↦ elim (or_cases (port == CONTROLLER || port == FLOOD) (port == ALL) u) [
+        | inl v ↦ elim (or_cases (port == CONTROLLER) (port == FLOOD) v) [
+          | inl e ↦ To_controller (eqb-true port CONTROLLER e)
+          | inr e ↦ To_ports (inl (eqb-true port FLOOD e))
         ]
-        | inr e ↦ To_ports (inr (eqb-true port 0xfffc e))
+        | inr e ↦ To_ports (inr (eqb-true port ALL e))
       ]
-      | inr w ↦ let parts = and_parts (port == 0xfff9) (is_packet_out image) w in To_table (eqb-true port 0xfff9 parts.0) parts.1
+      | inr w ↦ let parts = and_parts (port == TABLE) (is_packet_out image) w in To_table (eqb-true port TABLE parts.0) parts.1
     ]
 
 -- a probe that goes to CONTROLLER or TABLE has a code
@@ -69,18 +71,18 @@ seen true o t e = e
 seen false o t e = absurd (true≢false (sym t))
 
 stays : (rs : List Rule) (slot : ℕ) (image : Origin) (port : ℕ) (max_len : ℕ) → IsOther image port → probe_code image (Output port max_len) ≡ None
-    → HasWay rs slot image (Output port max_len) ⊎ ((port ≡ 0xfffb) ⊎ (port ≡ 0xfffc))
+    → HasWay rs slot image (Output port max_len) ⊎ ((port ≡ FLOOD) ⊎ (port ≡ ALL))
 stays rs slot image port max_len (To_ports e) n = inr e
 stays rs slot (Piece m) port max_len (To_controller e) n = inl (inr e)
 stays rs slot (Packet h) port max_len (To_controller e) n = inl (inr (inl e))
-stays rs slot (Probe in_port) port max_len (To_controller e) n = let clash = seen (sees_in_port port) (Some 4) (sees port (inl e)) n in absurd (cc)
+stays rs slot (Probe in_port) port max_len (To_controller e) n = let clash = seen (sees_in_port port) (Some BAD_OUT_PORT) (sees port (inl e)) n in absurd (cc)
 stays rs slot (Piece m) port max_len (To_table e t) n = absurd (true≢false (sym t))
 stays rs slot (Packet h) port max_len (To_table e t) n = inl (inr (inr e))
-stays rs slot (Probe in_port) port max_len (To_table e t) n = let clash = seen (sees_in_port port) (Some 4) (sees port (inr e)) n in absurd (cc)
+stays rs slot (Probe in_port) port max_len (To_table e t) n = let clash = seen (sees_in_port port) (Some BAD_OUT_PORT) (sees port (inr e)) n in absurd (cc)
 
 -- an output that is allowed goes by its own way, by one that stays in the list, or to FLOOD or ALL
 allowed_output : (rs : List Rule) (slot : ℕ) (image : Origin) (port max_len : ℕ) → code_of rs slot image (Output port max_len) ≡ None
-    → HasWay rs slot image (Output port max_len) ⊎ ((port ≡ 0xfffb) ⊎ (port ≡ 0xfffc))
+    → HasWay rs slot image (Output port max_len) ⊎ ((port ≡ FLOOD) ⊎ (port ≡ ALL))
 allowed_output rs slot image port max_len e =
     let a = allowed rs slot image (Output port max_len) e in
     elim (or_cases (is_own_way rs slot image port) (is_other_way image port) a.way) [
@@ -90,7 +92,7 @@ allowed_output rs slot image port max_len e =
 
 -- ---- one action, expanded
 
-expanded_to : (port : ℕ) (flood all : List ℕ) → (port ≡ 0xfffb) ⊎ (port ≡ 0xfffc) → (ports : List ℕ) × (ports_for port flood all ≡ Some ports)
+expanded_to : (port : ℕ) (flood all : List ℕ) → (port ≡ FLOOD) ⊎ (port ≡ ALL) → (ports : List ℕ) × (ports_for port flood all ≡ Some ports)
 expanded_to port flood all (inl e) = (flood, rw e refl)
 expanded_to port flood all (inr e) = (all, rw e refl)
 
@@ -105,7 +107,7 @@ way_output : (rs : List Rule) (slot : ℕ) (image : Origin) (port max_len : ℕ)
 way_output rs slot image port max_len None own way = All-cons (HasWay rs slot image) (Output port max_len) [] (way refl) (All-nil (HasWay rs slot image))
 way_output rs slot image port max_len (Some ports) own way = way_outputs rs slot image max_len ports (own ports refl)
 
-way_itself : (rs : List Rule) (slot : ℕ) (image : Origin) (port max_len : ℕ) (flood all : List ℕ) → HasWay rs slot image (Output port max_len) ⊎ ((port ≡ 0xfffb) ⊎ (port ≡ 0xfffc))
+way_itself : (rs : List Rule) (slot : ℕ) (image : Origin) (port max_len : ℕ) (flood all : List ℕ) → HasWay rs slot image (Output port max_len) ⊎ ((port ≡ FLOOD) ⊎ (port ≡ ALL))
     → ports_for port flood all ≡ None → HasWay rs slot image (Output port max_len)
 way_itself rs slot image port max_len flood all (inl way) e = way
 way_itself rs slot image port max_len flood all (inr to) e =
