@@ -1,6 +1,6 @@
 -- The pieces of a match, rule by rule, and what holds of them.
 use Rattle.std.proofs.Common.{◌≡◌, ℕ, ◌+◌, ◌<◌, Bool, true, false, if◌then◌else◌, List, [], ◌∷◌, ◌++◌, length, take, get_or, map, filter, filter_map, All, Option, Some, None, refl, sym, ◌∙◌, ap, subst}
-use Rattle.std.proofs.lemmas.List.{append-nil, take_more}
+use Rattle.std.proofs.lemmas.List.{append-nil, map-append, take_more}
 use Rattle.std.proofs.lemmas.List.Elements.{All-push, filter-append, filter_map-append}
 use Rattle.of10_model.specs.declared.pattern.Pattern.{Pattern}
 use Rattle.of10_model.specs.Normal.{IsNormal}
@@ -15,13 +15,9 @@ use Rattle.flowmod_expand.proofs.Repeats.{is_among, without_repeats_more}
 abbrev pub part_of : ℕ → Pattern → Rule → Option Pattern
 part_of slot m rule = if is_written_by slot rule then meet_of m rule.pattern else None
 
-map_append : {A B : Type 0} (f : A → B) (xs ys : List A) → map f (xs ++ ys) ≡ map f xs ++ map f ys
-map_append f [] ys = refl
-map_append f (x ∷ xs) ys = ap (λ zs. f x ∷ zs) (map_append f xs ys)
-
 writes_of_more : (rules : List Rule) (rule : Rule) (slot : ℕ) → writes_of (rules ++ rule ∷ []) slot ≡ writes_of rules slot ++ writes_of (rule ∷ []) slot
 writes_of_more rules rule slot =
-    ap (map (λ r. r.pattern)) (filter-append (is_written_by slot) rules (rule ∷ [])) ∙ map_append (λ r. r.pattern) (filter (is_written_by slot) rules) (filter (is_written_by slot) (rule ∷ []))
+    ap (map (λ r. r.pattern)) (filter-append (is_written_by slot) rules (rule ∷ [])) ∙ map-append (λ r. r.pattern) (filter (is_written_by slot) rules) (filter (is_written_by slot) (rule ∷ []))
 
 meets_more : (rules : List Rule) (rule : Rule) (slot : ℕ) (m : Pattern)
     → filter_map (meet_of m) (writes_of (rules ++ rule ∷ []) slot) ≡ filter_map (meet_of m) (writes_of rules slot) ++ filter_map (meet_of m) (writes_of (rule ∷ []) slot)

@@ -1,7 +1,6 @@
 //! The messages of a flow-mod.
 
-ghost use Rattle.std.specs.Prelude.{◌≡◌, ◌↔◌, ◌⊎◌, ◌+◌, ◌<◌, ◌≤◌, true, false, length, All, sum_by, IfOk, IfSome, MatchOption, IsTrue};
-ghost use Rattle.of10_action.specs.Actions.{spelling};
+ghost use Rattle.std.specs.Prelude.{◌≡◌, ◌⊎◌, ◌+◌, ◌<◌, ◌≤◌, true, false, length, All, sum_by, IfOk, IfSome, MatchOption, IsTrue};
 ghost use Rattle.of10_ctl.specs.Kinds.{IsOf};
 ghost use Rattle.flowmod_expand.specs.Messages.{buffer_at, flow_messages, are_too_large, Gives};
 

@@ -1,14 +1,11 @@
 //! The pieces of a match.
 
-ghost use Rattle.std.specs.Prelude.{◌≡◌, ◌<◌, ◌≤◌, ◌≢◌, ◌++◌, ◌∷◌, [], if◌then◌else◌, length, All, Any, AllPairs, IfOk, OnOk, None};
+ghost use Rattle.std.specs.Prelude.{◌≡◌, ◌<◌, ◌≤◌, ◌≢◌, ◌++◌, ◌∷◌, [], if◌then◌else◌, length, All, AllPairs, IfOk, OnOk, None};
 ghost use Rattle.std.specs.List.{list_any};
-ghost use Rattle.of10_model.specs.Header.{Header};
-ghost use Rattle.of10_model.specs.Pattern.{Has};
 ghost use Rattle.of10_model.specs.Normal.{IsNormal};
 ghost use Rattle.of10_model.specs.Same.{same, same_prefix, is_same};
 ghost use Rattle.of10_model.specs.Meet.{meet_of};
 ghost use Rattle.flowspace.specs.Rules.{is_written_by};
-ghost use Rattle.flowspace.specs.Owners.{HasWriteRule, Owns};
 ghost use Rattle.flowmod_expand.specs.Pieces.{pieces_of};
 ghost use Rattle.flowmod_expand.specs.Marks.{mark_of, AreMarked};
 
