@@ -1,6 +1,6 @@
 //! What a flow-mod adds to the entries of a book.
 
-ghost use Rattle.std.specs.Prelude.{◌≡◌, ◌≢◌, ◌+◌, ◌≤◌, ◌<◌, ◌∷◌, ◌++◌, [], false, length, filter, map, All, IsPermutation, vec_len, vec_capacity};
+ghost use Rattle.std.specs.Prelude.{◌≡◌, ◌+◌, ◌≤◌, ◌<◌, ◌∷◌, ◌++◌, [], false, filter, map, All, IsPermutation, vec_len, vec_capacity};
 ghost use Rattle.of10_model.specs.Normal.{IsNormal};
 ghost use Rattle.flow_book.specs.Order.{IsInOrder};
 ghost use Rattle.flow_book.specs.Books.{is_booked, is_newcomer, newcomers_in, first_booked, booked_again};

@@ -1,6 +1,6 @@
 //! What is asked of the entries of a book.
 
-ghost use Rattle.std.specs.Prelude.{◌≡◌, ◌≤◌, ◌==◌, ◌&&◌, not, length, filter};
+ghost use Rattle.std.specs.Prelude.{◌≡◌, ◌≤◌, ◌==◌, not, length, filter};
 ghost use Rattle.std.specs.List.{list_any};
 ghost use Rattle.of10_model.specs.Meet.{is_disjoint};
 ghost use Rattle.flow_book.specs.Order.{IsInOrder};
