@@ -2,6 +2,7 @@
 use Rattle.std.proofs.Common.{◌≡◌, ℕ, not, IsTrue, Bool, true, false, if◌then◌else◌, List, Option, Some, None, refl}
 use Rattle.of10_action.specs.declared.action.Action.{Action}
 use Rattle.flowspace.specs.declared.rules.Rule.{Rule}
+use Rattle.action_check.specs.declared.fault.TheConstants.{BAD_OUT_PORT, BAD_ARGUMENT, NOT_PERMITTED}
 use Rattle.action_check.specs.declared.origin.Origin.{Origin}
 use Rattle.action_check.specs.ActionRules.{argument_fits, has_way, is_covered, probe_code, code_of}
 
@@ -11,7 +12,7 @@ pub record IsAllowed (rules : List Rule) (slot : ℕ) (image : Origin) (action :
   pub covered : IsTrue (is_covered rules slot image action)
   pub no_code : probe_code image action ≡ None
 
-by_tests : (a w c : Bool) (o : Option ℕ) → (if not a then Some 5 else if not w then Some 4 else if not c then Some 6 else o) ≡ None
+by_tests : (a w c : Bool) (o : Option ℕ) → (if not a then Some BAD_ARGUMENT else if not w then Some BAD_OUT_PORT else if not c then Some NOT_PERMITTED else o) ≡ None
     → IsTrue a × IsTrue w × IsTrue c × (o ≡ None)
 by_tests false w c o e = absurd (cc)
 by_tests true false c o e = absurd (cc)
