@@ -1,17 +1,11 @@
 -- Lists by descending rank: what `ranked` gives, and that nothing else is in that order.
-use Rattle.std.proofs.Common.{◌≡◌, ℕ, zero, suc, ◌+◌, ◌<◌, ◌≤◌, Bool, true, false, cond, leb, List, [], ◌∷◌, length, get_or, map, filter, refl, sym, ap, ◌∙◌, arith, inl, inr, eqb-true, eq-eqb, not, ◌&&◌, ◌==◌, is_lt, nat_cmp}
+use Rattle.std.proofs.Common.{◌≡◌, ℕ, zero, suc, ◌+◌, ◌<◌, ◌≤◌, Bool, true, false, cond, leb, List, [], ◌∷◌, length, get_or, map, filter, refl, sym, ap, ◌∙◌, arith, inl, inr, leb-true, leb-false, eqb-true, eq-eqb, not, ◌&&◌, ◌==◌, is_lt, nat_cmp}
 use Rattle.std.proofs.lemmas.Bool.{cond-true, cond-false, cases_Bool}
 use Rattle.std.proofs.lemmas.Bool.Decides.{nat_tests}
 use Rattle.std.proofs.lemmas.List.Sorted.{IsPermutation-refl, IsPermutation-cons, IsPermutation-trans, IsPermutation-sym, IsPermutation-middle}
 use Rattle.std.proofs.lemmas.List.Elements.{filter_agree}
 use Rattle.std.specs.List.Sorted.{IsPermutation, IsSortedBy, IsStableBy, ties}
 use Rattle.flowspace.specs.Order.{placed, ranked}
-
-leb-le : (m n : ℕ) → leb m n ≡ true → m ≤ n
-leb-le m n h = grind (arith, nat_tests)
-
-leb-lt : (m n : ℕ) → leb m n ≡ false → n < m
-leb-lt m n h = grind (arith, nat_tests)
 
 not_before : (m n : ℕ) → is_lt (nat_cmp m n) ≡ false → n ≤ m
 not_before m n h = grind (arith, nat_tests)
@@ -97,7 +91,7 @@ module _ {A : Type 0} (rank : A → ℕ) where
                   ∙ ap (λ l. cond (has_rank p x) (x ∷ l) l) (sym (left_by (has_rank p) y ys without))
               | inl with ↦
                   elim (cases_Bool (has_rank p x)) [
-                    | inl both ↦ absurd (omega (arith, has_rank-true p x both, has_rank-true p y with, leb-lt (rank y) (rank x) later))
+                    | inl both ↦ absurd (omega (arith, has_rank-true p x both, has_rank-true p y with, leb-false (rank y) (rank x) later))
                     | inr only ↦
                         kept_by (has_rank p) y (placed rank x ys) with ∙ ap (λ l. y ∷ l) (filter-placed p x ys ∙ left_by (has_rank p) x ys only)
                         ∙ sym (left_by (has_rank p) x (y ∷ ys) only ∙ kept_by (has_rank p) y ys with)
@@ -138,10 +132,10 @@ module _ {A : Type 0} (rank : A → ℕ) where
   Falls-placed x (y ∷ ys) h =
       elim (cases_Bool (leb (rank y) (rank x))) [
         | inl here ↦
-            let le = leb-le (rank y) (rank x) here in
+            let le = leb-true (rank y) (rank x) here in
             rw (placed-here x y ys here) ((le, AreAtMost-le (rank y) (rank x) ys le h.0), h)
         | inr later ↦
-            let lt = leb-lt (rank y) (rank x) later in
+            let lt = leb-false (rank y) (rank x) later in
             rw (placed-later x y ys later) (AreAtMost-placed (rank y) x ys (omega arith) h.0, Falls-placed x ys h.1)
       ]
 
