@@ -136,14 +136,14 @@ owner_of_match-Owns ss rs policy normal slot m normal_m =
 
 -- ---- ports
 
-IsInPort-is_in_port : (port : ℕ) → is_in_port port ≡ true → IsInPort port
+pub IsInPort-is_in_port : (port : ℕ) → is_in_port port ≡ true → IsInPort port
 IsInPort-is_in_port port e =
     elim (or_cases (leb port 0xff00) (port == 0xfffe) e) [
       | inl le ↦ inl (leb-true port 0xff00 le)
       | inr same ↦ inr (eqb-true port 0xfffe same)
     ]
 
-is_in_port-IsInPort : (port : ℕ) → IsInPort port → is_in_port port ≡ true
+pub is_in_port-IsInPort : (port : ℕ) → IsInPort port → is_in_port port ≡ true
 is_in_port-IsInPort port (inl le) = or_left (leb port 0xff00) (port == 0xfffe) (le-leb port 0xff00 le)
 is_in_port-IsInPort port (inr same) = or_right (leb port 0xff00) (port == 0xfffe) (eq-eqb port 0xfffe same)
 

@@ -12,6 +12,7 @@ use Rattle.flowspace.specs.declared.rules.Rule.{Rule}
 use Rattle.flowspace.specs.declared.slices.Slice.{Slice}
 use Rattle.flowspace.specs.Rules.{IsInPort, IsVlan, IsPlainRule}
 use Rattle.flowspace.specs.Slices.{is_name_byte, IsPlainSlice}
+use Rattle.flowspace.proofs.Owning.{is_in_port-IsInPort}
 use Rattle.policy_text.specs.declared.fault.Part.{Part}
 use Rattle.policy_text.specs.declared.fault.Part.TheVariants as part
 use Rattle.policy_text.specs.declared.fault.Place.{Place}
@@ -116,8 +117,7 @@ rule_entries slices r = own_entries slices r ++ (link_entries r.pattern ++ netwo
 
 port_allowed : (o : Option ℕ) → IfSome o IsInPort → IfSome o (λ n. is_number InPort n ≡ true)
 port_allowed None h = tt
-port_allowed (Some n) (inl low) = rw (le-leb n 0xff00 low) refl
-port_allowed (Some n) (inr own) = rw own refl
+port_allowed (Some n) h = is_in_port-IsInPort n h
 
 vlan_allowed : (o : Option ℕ) → IfSome o IsVlan → IfSome o (λ n. is_number Vlan n ≡ true)
 vlan_allowed None h = tt

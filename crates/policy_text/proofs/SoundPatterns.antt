@@ -1,6 +1,6 @@
 -- The match that a text says is a normal one, and constrains a field only where the field means something.
-use Rattle.std.proofs.Common.{◌≡◌, ◌⊎◌, inl, inr, ℕ, ◌<◌, ◌%◌, ◌^◌, ◌==◌, Bool, true, false, not, ◌&&◌, ◌||◌, cond, nat_le, leb-true, eqb-true, true≢false, IsTrue, List, Option, Some, None, IsSome, IfSome, is_some, Ok, codes, refl, sym, subst, arith}
-use Rattle.std.proofs.lemmas.Bool.{and_parts}
+use Rattle.std.proofs.Common.{◌≡◌, inl, inr, ℕ, ◌<◌, ◌%◌, ◌^◌, ◌==◌, Bool, true, false, not, ◌&&◌, cond, nat_le, leb-true, eqb-true, true≢false, IsTrue, List, Option, Some, None, IsSome, IfSome, is_some, Ok, codes, refl, sym, subst, arith}
+use Rattle.std.proofs.lemmas.Bool.{and_parts, or_cases}
 use Rattle.of10_model.specs.declared.pattern.Prefix.{Prefix}
 use Rattle.of10_model.specs.declared.pattern.Pattern.{Pattern}
 use Rattle.of10_model.specs.Normal.{is_given, is_whole, is_exact, has_vlan, has_network, has_service, has_ports, kept, kept_prefix, IsBelow, IsService, IsPrefix, IsInRange, IsNormal}
@@ -8,6 +8,7 @@ use Rattle.of10_model.proofs.NormalFields.{applied_same}
 use Rattle.of10_model.proofs.Twelve.{each_true}
 use Rattle.flowspace.specs.declared.fault.Field.{Field}
 use Rattle.flowspace.specs.Rules.{IsInPort, IsVlan}
+use Rattle.flowspace.proofs.Owning.{IsInPort-is_in_port}
 use Rattle.policy_text.specs.declared.values.Numbers.TheVariants.{UpTo, InPort, Vlan, Service}
 use Rattle.policy_text.specs.declared.values.Numerals.TheVariants.{Hardware}
 use Rattle.policy_text.specs.Reading.{SectionView, optional, is_number, number, numeral, addresses}
@@ -18,15 +19,8 @@ use Rattle.policy_text.proofs.AddressRanges.{hardware_below, addresses_range}
 
 -- ---- ranges
 
-either : (a b : Bool) → (a || b) ≡ true → (a ≡ true) ⊎ (b ≡ true)
-either true b e = inl refl
-either false b e = inr e
-
-port_is : (n : ℕ) → is_number InPort n ≡ true → IsInPort n
-port_is n e = elim (either (nat_le n 0xff00) (n == 0xfffe) e) [ inl low ↦ inl (leb-true _ _ low) | inr own ↦ inr (eqb-true _ _ own) ]
-
 vlan_is : (n : ℕ) → is_number Vlan n ≡ true → IsVlan n
-vlan_is n e = elim (either (nat_le n 4095) (n == 0xffff) e) [ inl low ↦ inl (leb-true _ _ low) | inr mark ↦ inr (eqb-true _ _ mark) ]
+vlan_is n e = elim (or_cases (nat_le n 4095) (n == 0xffff) e) [ inl low ↦ inl (leb-true _ _ low) | inr mark ↦ inr (eqb-true _ _ mark) ]
 
 service_is : (n : ℕ) → is_number Service n ≡ true → IsService (Some n)
 service_is n e =
@@ -87,7 +81,7 @@ link_sound this l e =
     let g = bind_ok (optional (number (UpTo 0xffff)) this (codes "dl_type")) _ l f.2 in
     let made : LinkView = record { in_port = a.0; dl_src = b.0; dl_dst = c.0; dl_vlan = d.0; dl_vlan_pcp = f.0; dl_type = g.0 } in
     subst IsLink (ok_is made l g.2) (record {
-      in_port = optional_holds IsInPort (number InPort) (λ x n r. port_is n (number_is InPort x n r)) this (codes "in_port") a.0 a.1;
+      in_port = optional_holds IsInPort (number InPort) (λ x n r. IsInPort-is_in_port n (number_is InPort x n r)) this (codes "in_port") a.0 a.1;
       dl_src = hardware_read this (codes "dl_src") b.0 b.1;
       dl_dst = hardware_read this (codes "dl_dst") c.0 c.1;
       dl_vlan = optional_holds IsVlan (number Vlan) (λ x n r. vlan_is n (number_is Vlan x n r)) this (codes "dl_vlan") d.0 d.1;

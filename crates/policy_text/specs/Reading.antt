@@ -5,6 +5,7 @@ use Rattle.std.specs.Ordering.{nat_cmp, is_lt}
 use Rattle.std.specs.Cmp.Lexicographic.{slice_cmp}
 use Rattle.toml.specs.Data.{Data, string, integer, array, Items, no_items, item, Members, no_members, member, get_member}
 use Rattle.toml.specs.Text.{are_tables, has_items}
+use Rattle.flowspace.specs.Owners.{is_in_port}
 use Rattle.flowspace.specs.Slices.{is_name_byte}
 use Rattle.of10_model.specs.declared.pattern.Prefix.{Prefix}
 use Rattle.of10_model.specs.Results.{◌>>=◌}
@@ -141,7 +142,7 @@ when b x = if b then Some x else None
 abbrev pub is_number : Numbers → ℕ → Bool
 is_number (UpTo high) n = nat_le n high
 is_number (Between low high) n = nat_le low n && nat_le n high
-is_number InPort n = nat_le n 0xff00 || n == 0xfffe
+is_number InPort n = is_in_port n
 is_number Vlan n = nat_le n 4095 || n == 0xffff
 is_number Service n = nat_le n 252 && n % 4 == 0
 
