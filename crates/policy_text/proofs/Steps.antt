@@ -1,14 +1,12 @@
 -- The steps of a reading that did not fail.
-use Rattle.std.proofs.Common.{◌≡◌, ℕ, pos, negsuc, Bool, true, false, List, Option, Some, None, IfSome, Result, Ok, Err, refl, ap, ◌∙◌, subst}
+use Rattle.std.proofs.Common.{◌≡◌, ℕ, pos, negsuc, true, List, Option, Some, None, IfSome, Ok, ap, subst}
 use Rattle.std.proofs.lemmas.Option.{cond_some}
 use Rattle.toml.specs.Data.{Data, string, integer, float, boolean, datetime, array, table, get_member}
 use Rattle.policy_text.specs.declared.fault.Place.{Place}
-use Rattle.policy_text.specs.declared.fault.ReadFault.{ReadFault}
 use Rattle.policy_text.specs.declared.values.Numbers.{Numbers}
 use Rattle.policy_text.specs.declared.values.Texts.{Texts}
-use Rattle.of10_model.specs.Results.{◌>>=◌}
 use Rattle.of10_model.proofs.Results.{bind_ok, ok_is}
-use Rattle.policy_text.specs.Reading.{SectionView, place_of, formed, demanded, allowed, required, optional, when, is_number, number, is_text, text}
+use Rattle.policy_text.specs.Reading.{SectionView, place_of, formed, demanded, allowed, required, optional, is_number, number, is_text, text}
 
 formed_some : {A : Type 0} (at : Place) (o : Option A) (x : A) → formed at o ≡ Ok x → o ≡ Some x
 formed_some at None x e = absurd cc

@@ -1,6 +1,6 @@
 //! The forms of the values under keys.
 
-ghost use Rattle.std.specs.Prelude.{◌≡◌, ◌≤◌, Some, true, IfOk, IfSome, map, option_map};
+ghost use Rattle.std.specs.Prelude.{◌≡◌, ◌≤◌, true, IfOk, IfSome, map, option_map};
 ghost use Rattle.toml.specs.Text.{are_tables, has_items};
 ghost use Rattle.toml.specs.View.{items_view, view};
 ghost use Rattle.policy_text.specs.Reading.{addresses, each_text, greatest, is_name, is_number, is_text, number, numeral, numeral_of, some_tables, tables, text, text_list};
