@@ -4,7 +4,7 @@ use super::given::spelled;
 use flowspace::Rule;
 use of10_match::{Header12, Match};
 use of10_model::wire::set_u16;
-use samples::rule;
+use samples::{packet, rule};
 
 #[derive(Drop)]
 pub struct Draws {
@@ -65,21 +65,17 @@ impl Draws {
         self.at(port)
     }
 
-    /// A TCP packet.
+    /// A TCP or UDP packet.
     pub fn header(&mut self) -> Header12 {
+        let in_port = 1 + u16::from(self.numbers.below(2));
+        let nw_proto = 6 + 11 * self.numbers.below(2);
+        let nw_src = self.address();
+        let nw_dst = self.address();
+        let tp_dst = 80 + u16::from(self.numbers.below(2));
         Header12 {
-            in_port: 1 + u16::from(self.numbers.below(2)),
-            dl_src: 1,
-            dl_dst: 2,
-            dl_vlan: 0xffff,
-            dl_vlan_pcp: 0,
-            dl_type: 0x0800,
-            nw_tos: 0,
-            nw_proto: 6 + 11 * self.numbers.below(2),
-            nw_src: self.address(),
-            nw_dst: self.address(),
-            tp_src: 1024,
-            tp_dst: 80 + u16::from(self.numbers.below(2)),
+            nw_proto,
+            nw_src,
+            ..packet(in_port, nw_dst, tp_dst)
         }
     }
 }
