@@ -2,3 +2,4 @@ pub mod Heads
 pub mod Frames
 pub mod Kinds
 pub mod Streams
+pub mod Padding
