@@ -1,7 +1,8 @@
 //! Laws of the definitions. Each function's contract is the law; its body does nothing.
 
-ghost use Rattle.std.specs.Prelude.{[], ◌∷◌, ◌≡◌, Ok};
+ghost use Rattle.std.specs.Prelude.{ℕ, List, [], ◌∷◌, ◌≡◌, Ok};
 ghost use Rattle.of10_ctl.specs.Kinds.{IsOf};
+ghost use Rattle.of10_ctl.specs.Padding.{AlikeBut};
 ghost use Rattle.of10_flow.specs.declared.flow_mod.FlowMod.{FlowMod};
 ghost use Rattle.of10_flow.specs.declared.flow_removed.FlowRemoved.{FlowRemoved};
 ghost use Rattle.of10_flow.specs.declared.packet_in.PacketIn.{PacketIn};
@@ -38,4 +39,17 @@ pub fn packet_in_is_read_again()
 /// What is spelled as a flow-removed message is one, and is read again.
 pub fn flow_removed_is_read_again()
     ensures { (m : FlowRemoved) → IsFlowRemoved m → IsOf 11 (spell_flow_removed m) × (read_flow_removed (spell_flow_removed m) ≡ Ok m) }
+{}
+
+/// The padding of a packet-in says nothing: packet-ins alike but for byte 17 are read alike (OpenFlow 1.0.0,
+/// section 5.4.1).
+pub fn packet_in_padding_says_nothing()
+    ensures { (a b : List ℕ) → AlikeBut 17 18 a b → read_packet_in a ≡ read_packet_in b }
+{}
+
+/// The padding of a flow-removed message says nothing: messages alike but for byte 59, or but for bytes 70 and
+/// 71, are read alike (OpenFlow 1.0.0, section 5.4.2).
+pub fn flow_removed_padding_says_nothing()
+    ensures reason { (a b : List ℕ) → AlikeBut 59 60 a b → read_flow_removed a ≡ read_flow_removed b }
+    ensures idle { (a b : List ℕ) → AlikeBut 70 72 a b → read_flow_removed a ≡ read_flow_removed b }
 {}
