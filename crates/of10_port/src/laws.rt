@@ -1,7 +1,8 @@
 //! Laws of the definitions. Each function's contract is the law; its body does nothing.
 
-ghost use Rattle.std.specs.Prelude.{ℕ, [], ◌∷◌, ◌≡◌, Ok};
+ghost use Rattle.std.specs.Prelude.{ℕ, List, [], ◌∷◌, ◌≡◌, Ok};
 ghost use Rattle.of10_ctl.specs.Kinds.{IsOf};
+ghost use Rattle.of10_ctl.specs.Padding.{AlikeBut};
 ghost use Rattle.of10_port.specs.declared.features.Features.{Features};
 ghost use Rattle.of10_port.specs.declared.status.PortStatus.{PortStatus};
 ghost use Rattle.of10_port.specs.declared.protocol.TheConstants.{MAX, IN_PORT, TABLE, NORMAL, FLOOD, ALL, CONTROLLER, LOCAL, NONE, NO_FLOOD};
@@ -26,4 +27,16 @@ pub fn features_are_read_again()
 pub fn port_status_is_read_again()
     ensures kind { (s : PortStatus) (xid : ℕ) → IsPortStatus s → IsOf 12 (spell_port_status s xid) }
     ensures again { (s : PortStatus) (xid : ℕ) → IsPortStatus s → read_port_status (spell_port_status s xid) ≡ Ok s }
+{}
+
+/// The padding of a FEATURES_REPLY says nothing: replies alike but for bytes 21 to 23 are read alike (OpenFlow
+/// 1.0.0, section 5.3.1).
+pub fn features_padding_says_nothing()
+    ensures { (a b : List ℕ) → AlikeBut 21 24 a b → read_features a ≡ read_features b }
+{}
+
+/// The padding of a PORT_STATUS says nothing: messages alike but for bytes 9 to 15 are read alike (OpenFlow
+/// 1.0.0, section 5.4.3).
+pub fn port_status_padding_says_nothing()
+    ensures { (a b : List ℕ) → AlikeBut 9 16 a b → read_port_status a ≡ read_port_status b }
 {}
