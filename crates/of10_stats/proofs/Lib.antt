@@ -1,3 +1,4 @@
 pub mod Written
 pub mod Again
 pub mod Sizes
+pub mod Padding
