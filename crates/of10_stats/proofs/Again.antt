@@ -1,14 +1,13 @@
 -- What is spelled is a request, and is read again.
-use Rattle.std.proofs.Common.{◌≡◌, ℕ, ◌+◌, ◌≤◌, ltb, eqb, true, false, List, [], ◌++◌, length, take, drop, slice_index, Result, Ok, refl, ap, ◌∙◌, arith}
+use Rattle.std.proofs.Common.{◌≡◌, ℕ, ◌+◌, ◌≤◌, ltb, eqb, true, false, List, [], ◌++◌, length, Ok, refl, ap, ◌∙◌, arith}
 use Rattle.std.proofs.lemmas.Bool.{le-ltb, eq-eqb, ne_eqb}
 use Rattle.byteorder.specs.Endian.{big_bytes}
 use Rattle.byteorder.specs.Numbers.{big_number-reads_back}
-use Rattle.of10_model.specs.declared.pattern.Pattern.{Pattern}
-use Rattle.of10_model.specs.Normal.{number_at, match_at, IsNormal}
+use Rattle.of10_model.specs.Normal.{number_at, match_at}
 use Rattle.of10_model.specs.Spelling.{Spell}
 use Rattle.of10_model.proofs.Spelling.{Norm-Spell}
 use Rattle.of10_ctl.specs.Kinds.{IsOf}
-use Rattle.of10_ctl.proofs.Reading.{IsOf-message, length-message}
+use Rattle.of10_ctl.proofs.Reading.{IsOf-message}
 use Rattle.of10_stats.specs.declared.request.StatsRequest.{StatsRequest}
 use Rattle.of10_stats.specs.declared.request.StatsRequest.TheVariants.{Desc, Flow, Aggregate, Table, Port, Queue}
 use Rattle.of10_stats.specs.Requests.{IsRequest, kind_of, request_body, body_size, spell_request, request_of, read_request}
