@@ -9,9 +9,10 @@ completions = $(DESTDIR)$(PREFIX)/share/bash-completion/completions
 
 .PHONY: build demo check install uninstall
 
-# Proves what isn't proved yet, and builds.
+# Proves and builds where there is no program, or a source is newer than it.
 build:
-	@cd crates/flowvisor && rt run -- --version
+	@test -x $(program) && test -z "$$(find crates crates.txt \( -name out -o -name must-fail \) -prune \
+	  -o -type f -newer $(program) -print)" || (cd crates/flowvisor && rt run -- --version)
 	@echo "the program is $(program)"
 
 demo: build
@@ -23,10 +24,7 @@ demo: build
 check:
 	@rt ci
 
-# Builds only where there is no program, or a source is newer than it.
-install:
-	@test -x $(program) && test -z "$$(find crates crates.txt \( -name out -o -name must-fail \) -prune \
-	  -o -type f -newer $(program) -print)" || $(MAKE) build
+install: build
 	install -d "$(bin)" "$(manual)" "$(completions)"
 	install -m 755 $(program) "$(bin)/flowvisor"
 	install -m 644 man/flowvisor.1 "$(manual)/flowvisor.1"
