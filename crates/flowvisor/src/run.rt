@@ -1,9 +1,11 @@
 //! What the program does once its words are known, over any writer and any sink for its line.
 
-ghost use Rattle.std.specs.Prelude.{◌≡◌, ◌⊎◌, ◌&&◌, ◌==◌, if◌then◌else◌, is_err, None};
+ghost use Rattle.std.specs.Prelude.{◌≡◌, ◌⊎◌, ◌&&◌, ◌==◌, if◌then◌else◌, is_err, false, true, map, string_bytes, IfOk, None, Some};
 ghost use Rattle.fv_base.specs.Told.{appended, Rose};
 ghost use Rattle.fv_base.specs.Words.{form_of};
+ghost use Rattle.fv_cli.specs.declared.ending.Ending.TheVariants.{WriteFault};
 ghost use Rattle.fv_cli.specs.Endings.{status_of, line_of, IsPut};
+ghost use Rattle.flowvisor.specs.Asked.{text_in, EndedSo, Suits};
 
 use crate::disk::Disk;
 use crate::stream::Stream;
@@ -29,6 +31,7 @@ pub fn end<E: Sink>(err: &mut E, ending: &Ending) -> u8
 fn show<O: Sink, E: Sink>(text: &str, out: &mut O, err: &mut E) -> u8
     ensures done { result ≡ 0 → O.contents out.new ≡ appended (O.contents out.old) text.now }
     ensures fault { (result ≡ 0) ⊎ ((result ≡ 5) × Rose (O.faults out.old) (O.faults out.new)) }
+    ensures ended { EndedSo (Suits (Some text.now) None) (E.contents err.old) (E.contents err.new) (E.faults err.old) (E.faults err.new) result }
 {
     match put_all(out, text.as_bytes()) {
         Ok(()) => Ending::Done.status(),
@@ -38,7 +41,9 @@ fn show<O: Sink, E: Sink>(text: &str, out: &mut O, err: &mut E) -> u8
 
 // A flush that fails is a fault of writing, where the run told of none.
 fn after_flush<E: Sink>(status: u8, flushed: Result<(), Failed>, err: &mut E) -> u8
-    ensures { result ≡ (if status == 0 && is_err flushed then 5 else status) }
+    ensures status { result ≡ (if status == 0 && is_err flushed then 5 else status) }
+    ensures line { (status == 0 && is_err flushed) ≡ true → IsPut (line_of WriteFault) (E.contents err.old) (E.contents err.new) (E.faults err.old) (E.faults err.new) }
+    ensures quiet { (status == 0 && is_err flushed) ≡ false → (E.contents err.new ≡ E.contents err.old) × (E.faults err.new ≡ E.faults err.old) }
 {
     if status == 0 && flushed.is_err() {
         return end(err, &Ending::WriteFault);
@@ -48,7 +53,7 @@ fn after_flush<E: Sink>(status: u8, flushed: Result<(), Failed>, err: &mut E) ->
 
 /// Runs with these words; what is written is gathered, and flushed at the end.
 fn run<W: Write + Drop, E: Sink>(rt: &HostRuntime, words: &Words, writer: W, err: &mut E) -> u8
-    ensures usage { form_of words.now ≡ None → (result ≡ 1) ⊎ (result ≡ 6) }
+    ensures { EndedSo (Suits None (form_of words.now)) (E.contents err.old) (E.contents err.new) (E.faults err.old) (E.faults err.new) result }
 {
     let Ok(writer) = BufWriter::with_capacity(rt.alloc(), OUTPUT_PIECE, writer) else {
         return end(err, &Ending::NoMemory);
@@ -58,7 +63,9 @@ fn run<W: Write + Drop, E: Sink>(rt: &HostRuntime, words: &Words, writer: W, err
     after_flush(status, out.finish(), err)
 }
 
-fn all(alloc: Global, each: &[String]) -> Result<Words, AllocError> {
+fn all(alloc: Global, each: &[String]) -> Result<Words, AllocError>
+    ensures { IfOk result (λ w. w ≡ map string_bytes each.now) }
+{
     let mut words = Words::new(alloc);
     for word in each {
         words.push(word.as_str())?;
@@ -72,12 +79,10 @@ pub fn answer<W: Write + Drop, E: Sink>(
     words: &[String],
     writer: W,
     err: &mut E,
-) -> u8 {
-    let lone = match words {
-        [word] => text_for(word.as_str()),
-        _ => None,
-    };
-    if let Some(text) = lone {
+) -> u8
+    ensures { EndedSo (Suits (text_in (map string_bytes words.now)) (form_of (map string_bytes words.now))) (E.contents err.old) (E.contents err.new) (E.faults err.old) (E.faults err.new) result }
+{
+    if let Some(text) = text_for(words) {
         return show(text, &mut Stream::new(writer), err);
     }
     match all(rt.alloc(), words) {

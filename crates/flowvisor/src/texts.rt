@@ -1,5 +1,8 @@
 //! The texts that a lone word asks for.
 
+ghost use Rattle.std.specs.Prelude.{◌≡◌, map, option_map, string_bytes};
+ghost use Rattle.flowvisor.specs.Asked.{text_in, text_of};
+
 /// What `--help` prints.
 pub const HELP: &str = "\
 FlowVisor for OpenFlow 1.0: several controllers share one set of switches.
@@ -20,11 +23,22 @@ large, and 8 where the recording needs what isn't built yet. Each status but 0 h
 /// What `--version` prints.
 pub const VERSION: &str = "flowvisor 0.1.0 (OpenFlow 1.0, wire version 0x01)\n";
 
-/// The text that a word asks for which stands alone.
-pub fn text_for(word: &str) -> Option<&'static str> {
+fn text_of(word: &str) -> Option<&'static str>
+    ensures { option_map (λ t. t.now) result ≡ text_of word.now }
+{
     match word {
         "--help" => Some(HELP),
         "--version" => Some(VERSION),
+        _ => None,
+    }
+}
+
+/// The text that these words ask for: one word alone.
+pub fn text_for(words: &[String]) -> Option<&'static str>
+    ensures { option_map (λ t. t.now) result ≡ text_in (map string_bytes words.now) }
+{
+    match words {
+        [word] => text_of(word.as_str()),
         _ => None,
     }
 }

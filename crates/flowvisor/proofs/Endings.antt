@@ -1,0 +1,98 @@
+-- Lines that are put for endings.
+use Rattle.std.proofs.Common.{◌≡◌, ◌≢◌, ◌⊎◌, ℕ, ◌==◌, ◌&&◌, if◌then◌else◌, Bool, true, false, List, [], ◌∷◌, ◌++◌, Option, None, Some, refl, sym, ap, subst, ◌∙◌, arith, inl, inr, append-nil}
+use Rattle.std.proofs.lemmas.Bool.{cases_Bool}
+use Rattle.fv_base.specs.Told.{appended, IsPrefix, Rose}
+use Rattle.fv_base.specs.Words.{FormBytes, OfCheck, OfReplay, form_of}
+use Rattle.fv_cli.specs.declared.ending.Ending.{Ending}
+use Rattle.fv_cli.specs.declared.ending.Ending.TheVariants.{Done, Usage, ReadFault, WriteFault, NoMemory, NoMemoryToRun, TooLarge, PolicyRefused, RecordingRefused, NotBuilt}
+use Rattle.fv_cli.specs.Endings.{status_of, line_of, IsPut, Outside, Ended, Causes, IsCheckCause, IsReplayCause}
+use Rattle.flowvisor.specs.Asked.{Suits, EndedSo}
+
+-- ---- lines
+
+appended-nothing : (told : Option (List ℕ)) → appended told [] ≡ told
+appended-nothing None = refl
+appended-nothing (Some bytes) = ap (λ b. Some b) (append-nil bytes)
+
+-- nothing is put, and no count rises
+pub nothing_put : (told : Option (List ℕ)) (count : ℕ) → IsPut [] told told count count
+nothing_put told count = inl (sym (appended-nothing told), refl)
+
+Rose-Rose : (a b c : ℕ) → Rose a b → Rose b c → Rose a c
+Rose-Rose a b c (inl lt) (inl more) = inl (omega (arith, lt, more))
+Rose-Rose a b c (inl lt) (inr last) = inr last
+Rose-Rose a b c (inr last) (inl more) = inr (omega (arith, last, more))
+Rose-Rose a b c (inr _) (inr last) = inr last
+
+no_piece : (piece : List ℕ) → IsPrefix piece [] → piece ≡ []
+no_piece [] (rest, e) = refl
+no_piece (x ∷ piece) (rest, e) = absurd (cc)
+
+-- a line that is put behind nothing
+behind_nothing : (line : List ℕ) (before between after : Option (List ℕ)) (count count_between count_after : ℕ) → IsPut [] before between count count_between
+    → IsPut line between after count_between count_after → IsPut line before after count count_after
+behind_nothing line before between after count count_between count_after (inl (told, same)) put =
+    subst (λ n. IsPut line before after n count_after) same (subst (λ t. IsPut line t after count_between count_after) (told ∙ appended-nothing before) put)
+behind_nothing line before between after count count_between count_after (inr (piece, prefix, told, rose)) put =
+    let same : between ≡ before = told ∙ ap (appended before) (no_piece piece prefix) ∙ appended-nothing before in
+    let put : IsPut line before after count_between count_after = subst (λ t. IsPut line t after count_between count_after) same put in
+    elim put [
+      | inl whole ↦ inr (line, ([], append-nil line), whole.0, subst (λ n. Rose count n) (sym whole.1) rose)
+      | inr (piece, prefix, told, more) ↦ inr (piece, prefix, told, Rose-Rose count count_between count_after rose more)
+    ]
+
+-- ---- what suits the words
+
+pub memory_suits : (form : Option FormBytes) → Suits None form NoMemory
+memory_suits None = inr refl
+memory_suits (Some form) = λ e. cc
+
+cause_suits : (w : Outside) (form : Option FormBytes) (ending : Ending) → Causes w form ending → Suits None form ending
+cause_suits w None ending cause = inl cause
+cause_suits w (Some (OfCheck policy)) ending cause = λ is. subst (λ e. IsCheckCause w policy e) is cause
+cause_suits w (Some (OfReplay policy recording)) ending cause = λ is. subst (λ e. IsReplayCause w policy recording e) is cause
+
+-- a run that went well, and whose flush failed
+fault_suits : (form : Option FormBytes) → Suits None form Done → Suits None form WriteFault
+fault_suits None (inl e) = absurd (cc)
+fault_suits None (inr e) = absurd (cc)
+fault_suits (Some form) _ = λ e. cc
+
+only_done : (ending : Ending) (failed : Bool) → (status_of ending == 0 && failed) ≡ true → ending ≡ Done
+only_done Done failed e = refl
+only_done Usage failed e = absurd (cc)
+only_done ReadFault failed e = absurd (cc)
+only_done WriteFault failed e = absurd (cc)
+only_done NoMemory failed e = absurd (cc)
+only_done NoMemoryToRun failed e = absurd (cc)
+only_done TooLarge failed e = absurd (cc)
+only_done (PolicyRefused fault) failed e = absurd (cc)
+only_done (RecordingRefused fault) failed e = absurd (cc)
+only_done (NotBuilt lack) failed e = absurd (cc)
+
+pub after_run : (w : Outside) (words : List (List ℕ)) (failed : Bool) (before between after : Option (List ℕ)) (count count_between count_after status result : ℕ)
+    → Ended w words before between count count_between status
+    → result ≡ (if status == 0 && failed then 5 else status)
+    → ((status == 0 && failed) ≡ true → IsPut (line_of WriteFault) between after count_between count_after)
+    → ((status == 0 && failed) ≡ false → (after ≡ between) × (count_after ≡ count_between))
+    → EndedSo (Suits None (form_of words)) before after count count_after result
+after_run w words failed before between after count count_between count_after status result ended said line quiet =
+    let suits = cause_suits w (form_of words) ended.ending ended.cause in
+    elim (cases_Bool (status == 0 && failed)) [
+      | inl fails ↦
+          let done : ended.ending ≡ Done = only_done ended.ending failed (subst (λ n. (n == 0 && failed) ≡ true) ended.answer fails) in
+          record {
+            ending = WriteFault;
+            suits = fault_suits (form_of words) (subst (λ e. Suits None (form_of words) e) done suits);
+            answer = said ∙ rw fails refl;
+            line = behind_nothing (line_of WriteFault) before between after count count_between count_after (subst (λ e. IsPut (line_of e) before between count count_between) done ended.line) (line fails);
+          }
+      | inr well ↦
+          let same = quiet well in
+          record {
+            ending = ended.ending;
+            suits = suits;
+            answer = said ∙ rw well ended.answer;
+            line = subst (λ n. IsPut (line_of ended.ending) before after count n) (sym same.1) (subst (λ told. IsPut (line_of ended.ending) before told count count_between) (sym same.0) ended.line);
+          }
+    ]

@@ -1,0 +1,29 @@
+-- What words ask for, and how what they ask for may end. All of this is the program's own rule.
+use Rattle.std.specs.Prelude.{◌≡◌, ◌≢◌, ◌⊎◌, ℕ, if◌then◌else◌, List, [], ◌∷◌, Option, None, Some, bytes_eq, codes}
+use Rattle.fv_base.specs.Words.{FormBytes}
+use Rattle.fv_cli.specs.declared.ending.Ending.{Ending}
+use Rattle.fv_cli.specs.declared.ending.Ending.TheVariants.{Done, Usage, WriteFault, NoMemory}
+use Rattle.fv_cli.specs.Endings.{status_of, line_of, IsPut}
+use Rattle.flowvisor.specs.declared.texts.TheConstants.{HELP, VERSION}
+
+-- the text that a word asks for
+abbrev pub text_of : List ℕ → Option (List ℕ)
+text_of word = if bytes_eq word (codes "--help") then Some HELP.now else if bytes_eq word (codes "--version") then Some VERSION.now else None
+
+-- the text that these words ask for: one word alone
+abbrev pub text_in : List (List ℕ) → Option (List ℕ)
+text_in (word ∷ []) = text_of word
+text_in _ = None
+
+-- words that ask for a text end well or with a fault of writing; words without a form end with the usage, where there is memory to say so; others don't
+abbrev pub Suits : Option (List ℕ) → Option FormBytes → Ending → Type 0
+Suits (Some text) form ending = (ending ≡ Done) ⊎ (ending ≡ WriteFault)
+Suits None None ending = (ending ≡ Usage) ⊎ (ending ≡ NoMemory)
+Suits None (Some form) ending = ending ≢ Usage
+
+-- A call that ended with a status: one ending that suits gives the status, and its line was put.
+pub record EndedSo (Suiting : Ending → Type 0) (err_before err_after : Option (List ℕ)) (err_faults err_faults_after status : ℕ) : Type 0 where
+  pub ending : Ending
+  pub suits : Suiting ending
+  pub answer : status ≡ status_of ending
+  pub line : IsPut (line_of ending) err_before err_after err_faults err_faults_after
