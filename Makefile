@@ -12,7 +12,8 @@ completions = $(DESTDIR)$(PREFIX)/share/bash-completion/completions
 # Proves and builds where there is no program, or a source is newer than it.
 build:
 	@test -x $(program) && test -z "$$(find crates crates.txt \( -name out -o -name must-fail \) -prune \
-	  -o -type f -newer $(program) -print)" || (cd crates/flowvisor && rt run -- --version)
+	  -o -type f -newer $(program) -print)" || \
+	  (cd crates/flowvisor && rt run -- --version && touch out/flowvisor)
 	@echo "the program is $(program)"
 
 demo: build
