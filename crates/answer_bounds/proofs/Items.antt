@@ -25,7 +25,8 @@ use Rattle.desk_words.specs.declared.phase.Phase.{Phase}
 use Rattle.desk_words.specs.declared.phase.Phase.TheVariants.{Fresh, Begun, Opened, Ended}
 use Rattle.of10_ctl.specs.Kinds.{is_of}
 use Rattle.desk_words.specs.Openings.{well_formed, status_told, opening_with, rules_of, Switch, switch_of, phase_of}
-use Rattle.desk_words.specs.Histories.{is_slot, settings_at, own_features, handed, header_in, shares_of, packet_items, is_kept, status_items, message_items, opening_items, event_items, phase_items, items_of, side_of, view_of}
+use Rattle.desk_words.specs.Histories.{is_slot, settings_at, own_features, handed, header_in, shares_of, packet_items, status_items, message_items, opening_items, event_items, phase_items, items_of, side_of, view_of}
+use Rattle.port_view.specs.KnownPorts.{is_kept}
 use Rattle.answer_bounds.specs.Bounds.{IsFramed, AreFramed}
 use Rattle.answer_bounds.proofs.Messages.{IsShort}
 use Rattle.answer_bounds.proofs.AnswerSizes.{HasFewPorts, IsBounded, AreBounded}

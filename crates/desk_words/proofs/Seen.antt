@@ -14,7 +14,7 @@ use Rattle.flowspace.specs.Owners.{has_port}
 use Rattle.flowspace.specs.Policies.{PolicyView}
 use Rattle.port_view.specs.declared.answer.Kept.{Kept as Answer}
 use Rattle.port_view.specs.declared.answer.Kept.TheVariants.{Kept, Ignored, TooManyPorts}
-use Rattle.port_view.specs.KnownPorts.{IsAscending, first_known, changed, changed_plainly, kept_of, known_of as known_by}
+use Rattle.port_view.specs.KnownPorts.{is_kept, IsAscending, first_known, changed, changed_plainly, kept_of, says_kept, known_of as known_by}
 use Rattle.port_view.specs.SlicePorts.{ports_of_slice}
 use Rattle.port_view.proofs.Knowing.{changed-not_kept, IsAscending-changed, IsAscending-none, IsAscending-known_of, few-changed, few-known_of}
 use Rattle.port_view.proofs.Following.{own-changed, own-changed_other}
@@ -28,7 +28,7 @@ use Rattle.desk_words.specs.declared.phase.Phase.{Phase}
 use Rattle.desk_words.specs.declared.phase.Phase.TheVariants.{Fresh, Begun, Opened, Ended}
 use Rattle.of10_ctl.specs.Kinds.{is_of}
 use Rattle.desk_words.specs.Openings.{well_formed, features_told, status_told, phase_of, opening_after, opening_of, rules_of, known_after, known_of, Switch, switch_of}
-use Rattle.desk_words.specs.Histories.{is_slot, settings_at, own_ports, own_features, packet_items, status_items, is_kept, message_items, event_items, phase_items, Side, view_of}
+use Rattle.desk_words.specs.Histories.{is_slot, settings_at, own_ports, own_features, packet_items, status_items, message_items, event_items, phase_items, Side, view_of}
 use Rattle.desk_words.specs.Laws.{HasSeen, SeesItsSwitch, AreKnownInOrder}
 use Rattle.desk_words.proofs.Alone.{blind}
 use Rattle.desk_words.proofs.Silence.{none_or, none_of_packet, is_early, untold}
@@ -66,22 +66,17 @@ untelling_all (item ∷ items) view none =
 
 -- ---- the known ports after a status
 
-abbrev is_kept_answer : Answer → Bool
-is_kept_answer Kept = true
-is_kept_answer Ignored = false
-is_kept_answer TooManyPorts = false
-
 ignored : Ignored ≡ Kept → ⊥
-ignored e = true≢false (sym (ap is_kept_answer e))
+ignored e = true≢false (sym (ap says_kept e))
 
 too_many : TooManyPorts ≡ Kept → ⊥
-too_many e = true≢false (sym (ap is_kept_answer e))
+too_many e = true≢false (sym (ap says_kept e))
 
 -- the slice's own ports, after a status that may be kept and may be of a port of the slice
 own_after : (rules : List Rule) (slot : ℕ) (view : List Item) (status : PortStatus) (known : List (List ℕ)) (kept : Answer) (own : Bool)
     → kept_of status known ≡ kept → has_port rules slot (port_number status.port) ≡ own → IsAscending known
     → known_ports view ≡ ports_of_slice rules slot known
-    → known_ports (with_items (if is_kept_answer kept && own then Status status ∷ [] else []) view) ≡ ports_of_slice rules slot (changed status known)
+    → known_ports (with_items (if says_kept kept && own then Status status ∷ [] else []) view) ≡ ports_of_slice rules slot (changed status known)
 own_after rules slot view status known Kept true kept own order same =
     ap (changed_plainly status) same ∙ sym (own-changed (has_port rules slot) status known kept own)
 own_after rules slot view status known Kept false kept own order same =

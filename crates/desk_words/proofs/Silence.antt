@@ -27,7 +27,8 @@ use Rattle.desk_words.specs.declared.phase.Phase.{Phase}
 use Rattle.desk_words.specs.declared.phase.Phase.TheVariants.{Fresh, Begun, Opened, Ended}
 use Rattle.of10_ctl.specs.Kinds.{is_of}
 use Rattle.desk_words.specs.Openings.{well_formed, status_told, features_told, phase_after, phase_of, opening_with, opening_after, opening_of, rules_of, Switch, switch_of}
-use Rattle.desk_words.specs.Histories.{is_slot, settings_at, Side, side_of, view_of, handed, shares_of, is_kept, packet_items, status_items, message_items, opening_items, event_items, phase_items, items_of, is_open, is_slice_up}
+use Rattle.desk_words.specs.Histories.{is_slot, settings_at, Side, side_of, view_of, handed, shares_of, packet_items, status_items, message_items, opening_items, event_items, phase_items, items_of, is_open, is_slice_up}
+use Rattle.port_view.specs.KnownPorts.{is_kept}
 use Rattle.desk_words.specs.Sent.{sent, sent_by}
 use Rattle.desk_words.specs.Laws.{is_up_of, IsSilentUntilUp, IsDownAfterDown}
 use Rattle.desk_words.proofs.Alone.{blind}

@@ -15,8 +15,7 @@ use Rattle.frame_header.specs.Probes.{probe_slot_of}
 use Rattle.flowspace.specs.declared.rules.Rule.{Rule}
 use Rattle.flowspace.specs.Order.{writer_of, readers_of}
 use Rattle.flowspace.specs.Policies.{PolicyView}
-use Rattle.port_view.specs.declared.answer.Kept.TheVariants.{Kept, Ignored, TooManyPorts}
-use Rattle.port_view.specs.KnownPorts.{first_known, kept_of}
+use Rattle.port_view.specs.KnownPorts.{first_known, is_kept}
 use Rattle.port_view.specs.SlicePorts.{ports_of_slice}
 use Rattle.slice_words.specs.Items.{Settings, settings_of, is_own_port, Share, Writer, Reader, Item, Up, Down, Msg, Handed, Status, End, Sight, is_up}
 use Rattle.slice_words.specs.Items as items
@@ -88,10 +87,6 @@ shares_of rules slot packet =
 abbrev pub packet_items : List Rule → ℕ → List Item → PacketIn → List Item
 packet_items rules slot view packet =
     if packet.buffer == NO_BUFFER && is_none (probe_slot_of packet.payload) && is_up view then map (λ share. handed share packet) (shares_of rules slot packet) else []
-
--- a change is kept beside the ports that are known
-abbrev pub is_kept : PortStatus → List (List ℕ) → Bool
-is_kept status known = elim (kept_of status known) [ Kept ↦ true | Ignored ↦ false | TooManyPorts ↦ false ]
 
 -- a change that is kept is shown to the slices that have the port
 abbrev pub status_items : Settings → List (List ℕ) → PortStatus → List Item

@@ -93,6 +93,10 @@ events_in policy r before = happening policy r.moment (history_at policy r befor
 abbrev pub carried : List ℕ → Item → List ℕ
 carried file item = take item.size (drop item.from file)
 
+-- what an item that carries these bytes tells
+abbrev pub told_by : Item → List ℕ → Told
+told_by item bytes = record { kind = item.kind; switch = item.switch; slot = item.slot; moment = item.moment; bytes = bytes }
+
 -- what the items of a file tell
 abbrev pub told_in : List ℕ → List Item → List Told
-told_in file items = map (λ item. record { kind = item.kind; switch = item.switch; slot = item.slot; moment = item.moment; bytes = carried file item }) items
+told_in file items = map (λ item. told_by item (carried file item)) items

@@ -11,7 +11,7 @@ mod state;
 
 pub use book::FlowBook;
 pub use booked::Booked;
-pub use state::SliceState;
+pub use state::{MISS_SEND_LEN, SliceState};
 
 #[cfg(test)]
 mod tests;

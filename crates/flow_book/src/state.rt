@@ -7,6 +7,10 @@ use rate_bucket::RateBucket;
 use std::alloc::{AllocError, Global};
 use xid_map::{Collections, XidMap};
 
+/// How much of a packet a controller gets that has asked for nothing else (OpenFlow 1.0.0, section 5.3.2:
+/// OFP_DEFAULT_MISS_SEND_LEN).
+pub const MISS_SEND_LEN: u16 = 128;
+
 /// What one slice has at one switch.
 #[derive(Drop)]
 pub struct SliceState {
@@ -39,7 +43,7 @@ impl SliceState {
             bucket: RateBucket::new(of.rate, of.burst),
             book: FlowBook::new(alloc),
             up: false,
-            miss_send_len: 128,
+            miss_send_len: MISS_SEND_LEN,
             moment: 0,
         })
     }

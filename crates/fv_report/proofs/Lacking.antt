@@ -10,12 +10,11 @@ use Rattle.recording.specs.Recordings.{IsItem, Told, switch_up, switch_bytes, sl
 use Rattle.slice_words.specs.Messages.{kind_of}
 use Rattle.desk_words.specs.declared.answer.Dest.{Dest}
 use Rattle.desk_words.specs.declared.answer.Dest.TheVariants.{Switch}
-use Rattle.desk_words.specs.Recorded.{stream_before, carried, told_in}
+use Rattle.desk_words.specs.Recorded.{told_by, stream_before, carried, told_in}
 use Rattle.desk_words.specs.Built as built
 use Rattle.desk_words.specs.Built.{is_unbuilt_of_switch, is_unbuilt_of_slice, unbuilt_in, lack_of, first_lack}
 use Rattle.fv_report.specs.declared.streams.Streams.{Streams}
 use Rattle.fv_report.specs.Streams.{AreFresh, Restarts, TookFrame, connection, StreamsStand}
-use Rattle.fv_report.specs.Switches.{told_by}
 use Rattle.fv_report.specs.Lacks.{is_unbuilt, FoundIn, FindsIn, FindsInBytes, FindsAtSlot, FindsAt, AllFresh, AllStream, lack_at, lack_seen}
 use Rattle.fv_report.proofs.Streaming.{next_left, nothing_left}
 use Rattle.fv_report.proofs.Recorded.{frames_fed, streams_fresh, streams_up, streams_heard, streams_slice_up, streams_slice_heard, stream_by, set_get}

@@ -17,7 +17,7 @@ use Rattle.recording.specs.Recordings.{Told, switch_up, switch_bytes, slice_up, 
 use Rattle.desk_words.specs.declared.event.Timed.{Timed}
 use Rattle.desk_words.specs.declared.answer.Dest.{Dest}
 use Rattle.desk_words.specs.declared.answer.Dest.TheVariants.{Switch as ToSwitch, Slice}
-use Rattle.desk_words.specs.Recorded.{begins_stream, is_same_stream, stream_before, completed, happenings, history_of, history_at, events_in, next_after}
+use Rattle.desk_words.specs.Recorded.{told_by, begins_stream, is_same_stream, stream_before, completed, happenings, history_of, history_at, events_in, next_after}
 use Rattle.desk_words.proofs.Completed.{frames_first}
 use Rattle.answer_bounds.specs.Bounds.{IsFramed, AreFramed}
 use Rattle.desk_words.specs.Reports as report
@@ -31,7 +31,7 @@ use Rattle.fv_report.specs.Lines.{place_of}
 use Rattle.fv_report.specs.Writing.{WrotePart}
 use Rattle.fv_report.specs.Holding.{IsQuiet}
 use Rattle.fv_report.specs.Plays.{event_from, Played, Plays}
-use Rattle.fv_report.specs.Switches.{told_by, IsFreshSwitch, SwitchStands, RecordPlayed, PlaysRecord, IsTurn, Readies, kind_from, slot_from, told_from, Spoken}
+use Rattle.fv_report.specs.Switches.{IsFreshSwitch, SwitchStands, RecordPlayed, PlaysRecord, IsTurn, Readies, kind_from, slot_from, told_from, Spoken}
 use Rattle.fv_report.proofs.Writing.{at_fault, none_of}
 use Rattle.fv_report.specs.Streams.{Restarts, AreFresh, connection, StreamStands, StreamsStand}
 

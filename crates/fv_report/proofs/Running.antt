@@ -9,7 +9,7 @@ use Rattle.recording.specs.declared.item.Item.{Item}
 use Rattle.recording.specs.Recordings.{Told, switch_bytes, slice_bytes}
 use Rattle.answer_bounds.specs.Bounds.{IsFramed, AreFramed}
 use Rattle.desk_words.specs.declared.event.Timed.{Timed}
-use Rattle.desk_words.specs.Recorded.{stream_before, history_of, history_at, events_in, carried, told_in}
+use Rattle.desk_words.specs.Recorded.{told_by, stream_before, history_of, history_at, events_in, carried, told_in}
 use Rattle.desk_words.specs.Reports as report
 use Rattle.desk_words.specs.Reports.{lines_of, last_line, report_from}
 use Rattle.fv_report.specs.declared.switch.Switch.{Switch}
@@ -17,7 +17,7 @@ use Rattle.fv_report.specs.declared.streams.Streams.{Streams}
 use Rattle.fv_report.specs.Writing.{WrotePart, Wrote}
 use Rattle.fv_report.specs.Holding.{IsQuiet}
 use Rattle.fv_report.specs.Streams.{connection, StreamsStand}
-use Rattle.fv_report.specs.Switches.{told_by, IsFreshSwitch, SwitchStands, RecordPlayed, PlaysRecord, IsUntouched, IsAt, PlaysAt, AreUnknown, AllStand, PlaysAmong}
+use Rattle.fv_report.specs.Switches.{IsFreshSwitch, SwitchStands, RecordPlayed, PlaysRecord, IsUntouched, IsAt, PlaysAt, AreUnknown, AllStand, PlaysAmong}
 use Rattle.fv_report.proofs.Writing.{both, part_of_first, part_of_second, wrote_second}
 use Rattle.fv_report.proofs.Recorded.{history_other, stream_other, set_get, streams_fresh, streams_stay}
 

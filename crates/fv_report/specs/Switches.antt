@@ -9,16 +9,12 @@ use Rattle.answer_bounds.specs.Bounds.{AreFramed}
 use Rattle.desk_words.specs.declared.answer.Dest.{Dest}
 use Rattle.desk_words.specs.declared.answer.Dest.TheVariants.{Switch as ToSwitch, Slice}
 use Rattle.proxy_core.specs.declared.parts.Desk.{Desk}
-use Rattle.desk_words.specs.Recorded.{stream_before, history_of, history_at, events_in}
+use Rattle.desk_words.specs.Recorded.{told_by, stream_before, history_of, history_at, events_in}
 use Rattle.desk_words.specs.Reports.{lines_of}
 use Rattle.fv_report.specs.declared.switch.Switch.{Switch}
 use Rattle.fv_report.specs.Writing.{Wrote}
 use Rattle.fv_report.specs.Holding.{IsQuiet}
 use Rattle.fv_report.specs.Streams.{AreFresh, connection, StreamStands, StreamsStand}
-
--- what a record with these bytes tells
-abbrev pub told_by : Item → List ℕ → Told
-told_by item bytes = record { kind = item.kind; switch = item.switch; slot = item.slot; moment = item.moment; bytes = bytes }
 
 -- nothing has happened at a switch yet
 pub record IsFreshSwitch (policy : PolicyView) (switch : Switch) : Type 0 where

@@ -4,9 +4,9 @@ ghost use Rattle.std.specs.Prelude.{◌≡◌, [], zip, IfOk, option_map};
 ghost use Rattle.std.specs.List.{All};
 ghost use Rattle.of10_flow.specs.PacketIns.{packet_of};
 ghost use Rattle.recording.specs.Recordings.{IsItem};
-ghost use Rattle.desk_words.specs.Recorded.{told_in};
+ghost use Rattle.desk_words.specs.Recorded.{told_by, told_in};
 ghost use Rattle.desk_words.specs.Built.{is_one_of, is_special, is_special_packet_in, is_unbuilt_of_switch, is_unbuilt_of_slice, first_lack};
-ghost use Rattle.fv_report.specs.Switches.{told_by, IsRecord};
+ghost use Rattle.fv_report.specs.Switches.{IsRecord};
 ghost use Rattle.fv_report.specs.Lacks.{is_unbuilt, FindsIn, FindsInBytes, FindsAtSlot, FindsAt, AllFresh, lack_at, lack_seen};
 
 use crate::run::carried;

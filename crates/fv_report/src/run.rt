@@ -4,10 +4,10 @@ ghost use Rattle.std.specs.Prelude.{◌≡◌, List, length, Ok, IfOk};
 ghost use Rattle.std.specs.List.{All};
 ghost use Rattle.recording.specs.declared.item.Item.{Item};
 ghost use Rattle.recording.specs.Recordings.{IsItem, read_items};
-ghost use Rattle.desk_words.specs.Recorded.{carried, told_in};
+ghost use Rattle.desk_words.specs.Recorded.{told_by, carried, told_in};
 ghost use Rattle.desk_words.specs.Reports.{report};
 ghost use Rattle.fv_report.specs.Writing.{Wrote, Counted};
-ghost use Rattle.fv_report.specs.Switches.{told_by, IsRecord, PlaysAt, PlaysAmong, AreUnknown};
+ghost use Rattle.fv_report.specs.Switches.{IsRecord, PlaysAt, PlaysAmong, AreUnknown};
 
 use crate::fault::ReportFault;
 use crate::line::{LineBuffer, put_last};

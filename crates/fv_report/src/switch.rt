@@ -5,9 +5,9 @@ ghost use Rattle.flowspace.specs.Policies.{PolicyView};
 ghost use Rattle.recording.specs.Recordings.{Told, switch_bytes, slice_bytes};
 ghost use Rattle.answer_bounds.specs.Bounds.{IsFramed};
 ghost use Rattle.desk_words.specs.declared.event.Timed.{Timed};
-ghost use Rattle.desk_words.specs.Recorded.{happens, happenings};
+ghost use Rattle.desk_words.specs.Recorded.{told_by, happens, happenings};
 ghost use Rattle.fv_report.specs.Writing.{Counted};
-ghost use Rattle.fv_report.specs.Switches.{told_by, IsFreshSwitch, IsRecord, IsTurn, Readies, PlaysRecord, Speaks};
+ghost use Rattle.fv_report.specs.Switches.{IsFreshSwitch, IsRecord, IsTurn, Readies, PlaysRecord, Speaks};
 
 use crate::fault::ReportFault;
 use crate::line::{LineBuffer, Place};

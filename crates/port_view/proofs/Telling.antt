@@ -11,8 +11,8 @@ use Rattle.of10_port.specs.declared.status.PortStatus.{PortStatus}
 use Rattle.port_view.specs.declared.answer.Kept.{Kept as Answer}
 use Rattle.port_view.specs.declared.answer.Kept.TheVariants.{Kept, Ignored, TooManyPorts}
 use Rattle.flowspace.specs.Owners.{is_in_port}
-use Rattle.port_view.specs.KnownPorts.{is_of_number, port_of, with_port, without_port, with_told, first_known, kept_of, changed_plainly, known_of}
-use Rattle.port_view.specs.Told.{is_kept, kept_statuses, told_first, told_by, told_last}
+use Rattle.port_view.specs.KnownPorts.{is_of_number, port_of, with_port, without_port, with_told, first_known, kept_of, is_kept, changed_plainly, known_of}
+use Rattle.port_view.specs.Told.{kept_statuses, told_first, told_by, told_last}
 use Rattle.port_view.proofs.Cutting.{by_number, by_reason}
 use Rattle.port_view.proofs.Knowing.{by_kept}
 use Rattle.port_view.proofs.Finding.{or_none, find-put_same, find-put_other, find-out_same, find-out_other}
@@ -99,10 +99,10 @@ kept_statuses-kept : (features : Features) (status : PortStatus) (earlier : List
     → kept_statuses features (status ∷ earlier) ≡ status ∷ kept_statuses features earlier
 unfolding kept_statuses
 kept_statuses-kept features status earlier is =
-    let kept : is_kept features status earlier ≡ true = rw (is, is_kept) refl in rw kept refl
+    let kept : is_kept status (known_of features earlier) ≡ true = rw (is, is_kept) refl in rw kept refl
 
 is_kept-not : (features : Features) (status : PortStatus) (earlier : List PortStatus) (answer : Answer) → kept_of status (known_of features earlier) ≡ answer → answer ≢ Kept
-    → is_kept features status earlier ≡ false
+    → is_kept status (known_of features earlier) ≡ false
 is_kept-not features status earlier Kept is isnt = absurd (isnt refl)
 is_kept-not features status earlier Ignored is isnt = rw (is, is_kept) refl
 is_kept-not features status earlier TooManyPorts is isnt = rw (is, is_kept) refl

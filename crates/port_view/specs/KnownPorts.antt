@@ -1,6 +1,6 @@
 -- The ports of a switch that are known, by its FEATURES_REPLY and by its PORT_STATUS messages (OpenFlow 1.0.0, sections 5.3.1 and 5.4.3). What is kept of them is this proxy's own rule.
 -- A port is its 48 bytes. Known ports stand in ascending order of their numbers, no number twice.
-use Rattle.std.specs.Prelude.{ℕ, ◌<◌, ◌==◌, ◌&&◌, ◌||◌, nat_lt, nat_le, not, Bool, if◌then◌else◌, List, [], ◌∷◌, ◌++◌, length, filter, fold, find, AllPairs, Option}
+use Rattle.std.specs.Prelude.{ℕ, ◌<◌, ◌==◌, ◌&&◌, ◌||◌, nat_lt, nat_le, not, Bool, if◌then◌else◌, List, [], ◌∷◌, ◌++◌, length, filter, fold, find, AllPairs, Option, true, false}
 use Rattle.std.specs.List.{list_any}
 use Rattle.of10_port.specs.Ports.{port_number}
 use Rattle.of10_port.specs.declared.features.Features.{Features}
@@ -61,6 +61,16 @@ is_too_many status known = not (is_known (port_number status.port) known) && nat
 -- whether a status is kept
 unfoldable pub kept_of : PortStatus → List (List ℕ) → Answer
 kept_of status known = if is_ignored status known then Ignored else if is_too_many status known then TooManyPorts else Kept
+
+-- whether an answer says that the status is kept
+abbrev pub says_kept : Answer → Bool
+says_kept Kept = true
+says_kept Ignored = false
+says_kept TooManyPorts = false
+
+-- a status is kept beside the ports that are known
+abbrev pub is_kept : PortStatus → List (List ℕ) → Bool
+is_kept status known = says_kept (kept_of status known)
 
 -- what a kept status makes of the known ports: reason 1 deletes, the others add or modify (section 5.4.3)
 unfoldable pub changed_plainly : PortStatus → List (List ℕ) → List (List ℕ)

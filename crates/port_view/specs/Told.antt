@@ -1,20 +1,15 @@
 -- What was told last of a port. This is this proxy's own rule.
-use Rattle.std.specs.Prelude.{ℕ, ◌==◌, Bool, true, false, if◌then◌else◌, List, [], ◌∷◌, find, reverse, Option, Some, None}
+use Rattle.std.specs.Prelude.{ℕ, ◌==◌, if◌then◌else◌, List, [], ◌∷◌, find, reverse, Option, Some, None}
 use Rattle.std.specs.Option.{option_map_or}
 use Rattle.of10_port.specs.declared.features.Features.{Features}
 use Rattle.of10_port.specs.declared.status.PortStatus.{PortStatus}
-use Rattle.port_view.specs.declared.answer.Kept.TheVariants.{Kept, Ignored, TooManyPorts}
 use Rattle.flowspace.specs.Owners.{is_in_port}
-use Rattle.port_view.specs.KnownPorts.{is_of_number, kept_of, known_of}
-
--- a status is kept after those before it
-abbrev pub is_kept : Features → PortStatus → List PortStatus → Bool
-is_kept features status earlier = elim (kept_of status (known_of features earlier)) [ Kept ↦ true | Ignored ↦ false | TooManyPorts ↦ false ]
+use Rattle.port_view.specs.KnownPorts.{is_of_number, is_kept, known_of}
 
 -- of statuses, the newest first, those that were kept
 unfoldable pub kept_statuses : Features → List PortStatus → List PortStatus
 kept_statuses features [] = []
-kept_statuses features (status ∷ earlier) = if is_kept features status earlier then status ∷ kept_statuses features earlier else kept_statuses features earlier
+kept_statuses features (status ∷ earlier) = if is_kept status (known_of features earlier) then status ∷ kept_statuses features earlier else kept_statuses features earlier
 
 -- the port of a number that a FEATURES_REPLY tells of last
 abbrev pub told_first : ℕ → List (List ℕ) → Option (List ℕ)

@@ -6,11 +6,7 @@ ghost use Rattle.slice_words.specs.Standing.{SliceStands};
 ghost use Rattle.slice_side.specs.Reactions.{IsChange, with_item};
 
 use crate::change::Change;
-use flow_book::SliceState;
-
-/// How much of a packet a controller gets that has asked for nothing else (OpenFlow 1.0.0, section 5.3.2:
-/// OFP_DEFAULT_MISS_SEND_LEN).
-const MISS_SEND_LEN: u16 = 128;
+use flow_book::{MISS_SEND_LEN, SliceState};
 
 /// Forgets what belongs to one connection. The rate, the book and the numbering go on.
 fn forget(state: &mut SliceState)

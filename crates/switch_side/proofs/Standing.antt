@@ -18,7 +18,8 @@ use Rattle.slice_words.specs.Calls.{request_calls, collection_calls, questions, 
 use Rattle.slice_words.specs.Standing.{SliceStands, past_of}
 use Rattle.of10_ctl.specs.Kinds.{is_of}
 use Rattle.desk_words.specs.Openings.{well_formed, status_told, rules_of, Switch}
-use Rattle.desk_words.specs.Histories.{is_slot, settings_at, Side, handed, shares_of, is_kept, packet_items, status_items, message_items, phase_items}
+use Rattle.desk_words.specs.Histories.{is_slot, settings_at, Side, handed, shares_of, packet_items, status_items, message_items, phase_items}
+use Rattle.port_view.specs.KnownPorts.{is_kept}
 use Rattle.switch_side.specs.Dispatches.{told_at}
 use Rattle.switch_side.specs.Laws.{StandsStill}
 

@@ -13,7 +13,8 @@ use Rattle.desk_words.specs.declared.event.Event.TheVariants.{SwitchMsg}
 use Rattle.desk_words.specs.declared.event.Timed.{Timed}
 use Rattle.desk_words.specs.declared.phase.Phase.TheVariants.{Opened}
 use Rattle.desk_words.specs.Openings.{status_told, well_formed, rules_of, Switch}
-use Rattle.desk_words.specs.Histories.{settings_at, Side, is_kept}
+use Rattle.desk_words.specs.Histories.{settings_at, Side}
+use Rattle.port_view.specs.KnownPorts.{is_kept}
 use Rattle.desk_words.specs.Sent.{sent_with, echo_for}
 use Rattle.switch_side.specs.declared.dispatch.Dispatch.{Dispatch}
 

@@ -3,7 +3,7 @@ use Rattle.recording.specs.Recordings.{Told, switch_bytes}
 use Rattle.desk_words.specs.declared.answer.Dest.TheVariants.{Switch}
 use Rattle.std.proofs.lemmas.Result.{IfOk-weaker}
 use Rattle.fv_report.specs.declared.streams.Streams.{Streams}
-use Rattle.fv_report.specs.Switches.{told_by}
+use Rattle.desk_words.specs.Recorded.{told_by}
 use Rattle.fv_report.specs.Lacks.{FindsInBytes, FindsAtSlot, FindsAt}
 use Rattle.fv_report.proofs.Lacking.{lack_up, lack_heard, lack_slice_up, lack_slice_heard}
 use Rattle.fv_report.proofs.lack.first_in_record.Goals as goal

@@ -3,7 +3,7 @@ use Rattle.std.proofs.lemmas.List.Elements.{All-get_or}
 use Rattle.std.proofs.Math.ListN.{drop_of_length-le}
 use Rattle.recording.specs.declared.item.Item.{Item}
 use Rattle.recording.specs.Recordings.{IsItem}
-use Rattle.fv_report.specs.Switches.{told_by}
+use Rattle.desk_words.specs.Recorded.{told_by}
 use Rattle.fv_report.specs.Lacks.{FindsAt}
 use Rattle.fv_report.proofs.Lacking.{Searching, searching_first, searching_at, searching_more, searching_found, searching_none}
 use Rattle.fv_report.proofs.lack.first_lack.Goals as goal

@@ -1,6 +1,7 @@
 use Rattle.std.proofs.Common.{◌≡◌, ℕ, Some, set, slice_get, subst, sym, arith}
 use Rattle.std.proofs.lemmas.Option.{slice_get_read}
-use Rattle.fv_report.specs.Switches.{told_by, PlaysAmong}
+use Rattle.fv_report.specs.Switches.{PlaysAmong}
+use Rattle.desk_words.specs.Recorded.{told_by}
 use Rattle.fv_report.proofs.Running.{among}
 use Rattle.fv_report.proofs.run.play_among.Goals as goal
 

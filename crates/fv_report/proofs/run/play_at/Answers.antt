@@ -1,6 +1,7 @@
 use Rattle.std.proofs.Common.{◌∷◌, Option, Some, Ok, subst, sym}
 use Rattle.fv_report.specs.declared.switch.Switch.{Switch}
-use Rattle.fv_report.specs.Switches.{told_by, IsAt, PlaysAt}
+use Rattle.fv_report.specs.Switches.{IsAt, PlaysAt}
+use Rattle.desk_words.specs.Recorded.{told_by}
 use Rattle.fv_report.proofs.Recorded.{none_played, part_played}
 use Rattle.fv_report.proofs.Running.{at_none, fresh_stands}
 use Rattle.fv_report.proofs.run.play_at.Goals as goal

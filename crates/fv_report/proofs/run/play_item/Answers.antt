@@ -1,5 +1,6 @@
 use Rattle.std.proofs.Common.{List, ℕ, subst}
-use Rattle.fv_report.specs.Switches.{told_by, PlaysAmong}
+use Rattle.fv_report.specs.Switches.{PlaysAmong}
+use Rattle.desk_words.specs.Recorded.{told_by}
 use Rattle.fv_report.proofs.run.play_item.Goals as goal
 
 pub returns-clause-plays : goal.returns-clause-plays

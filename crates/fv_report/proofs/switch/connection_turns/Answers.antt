@@ -1,13 +1,13 @@
 use Rattle.std.proofs.Common.{[], ◌∷◌, List, Result, Ok, subst, sym}
 use Rattle.desk_words.specs.declared.event.Event.{Event}
-use Rattle.desk_words.specs.Recorded.{happening, history_at}
+use Rattle.desk_words.specs.Recorded.{told_by, happening, history_at}
 use Rattle.desk_words.specs.Reports.{lines_of}
 use Rattle.fv_report.specs.declared.fault.ReportFault.{ReportFault}
 use Rattle.fv_report.specs.declared.line.Place.{Place}
 use Rattle.fv_report.specs.Lines.{place_of}
 use Rattle.fv_report.specs.Writing.{WrotePart}
 use Rattle.fv_report.specs.Plays.{Plays}
-use Rattle.fv_report.specs.Switches.{told_by, SwitchStands}
+use Rattle.fv_report.specs.Switches.{SwitchStands}
 use Rattle.fv_report.proofs.Recorded.{record_played, record_failed, not_played, switch_after}
 use Rattle.fv_report.proofs.switch.connection_turns.Goals as goal
 
