@@ -3,4 +3,3 @@ pub mod Cutting
 pub mod Standing
 pub mod Answering
 pub mod Whole
-pub mod Padding

@@ -2,4 +2,3 @@ pub mod Heads
 pub mod Frames
 pub mod Kinds
 pub mod Streams
-pub mod Padding

@@ -1,7 +1,7 @@
 -- Padding says nothing.
 use Rattle.std.proofs.Common.{◌≡◌, ℕ, List, refl, arith}
-use Rattle.of10_ctl.specs.Padding.{AlikeBut}
-use Rattle.of10_ctl.proofs.Padding.{piece_before, number_before, number_behind}
+use Rattle.of10_model.specs.Padding.{AlikeBut}
+use Rattle.of10_model.proofs.Padding.{piece_before, number_before, number_behind}
 use Rattle.of10_flow.specs.FlowRemoveds.{read_flow_removed}
 use Rattle.of10_flow.specs.PacketIns.{read_packet_in}
 

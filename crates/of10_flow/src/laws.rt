@@ -1,8 +1,8 @@
 //! Laws of the definitions. Each function's contract is the law; its body does nothing.
 
 ghost use Rattle.std.specs.Prelude.{ℕ, List, [], ◌∷◌, ◌≡◌, Ok};
+ghost use Rattle.of10_model.specs.Padding.{AlikeBut};
 ghost use Rattle.of10_ctl.specs.Kinds.{IsOf};
-ghost use Rattle.of10_ctl.specs.Padding.{AlikeBut};
 ghost use Rattle.of10_flow.specs.declared.flow_mod.FlowMod.{FlowMod};
 ghost use Rattle.of10_flow.specs.declared.flow_removed.FlowRemoved.{FlowRemoved};
 ghost use Rattle.of10_flow.specs.declared.packet_in.PacketIn.{PacketIn};

@@ -12,3 +12,4 @@ pub mod Inhabited
 pub mod Including
 pub mod Disjointness
 pub mod Results
+pub mod Padding

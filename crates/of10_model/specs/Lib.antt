@@ -1,4 +1,5 @@
 pub mod Results
+pub mod Padding
 pub mod Header
 pub mod Pattern
 pub mod Same

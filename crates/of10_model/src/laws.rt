@@ -7,6 +7,7 @@ ghost use Rattle.of10_model.specs.Header.{Header, IsHeader};
 ghost use Rattle.of10_model.specs.Pattern.{Has, has};
 ghost use Rattle.of10_model.specs.Normal.{Norm, IsNormal};
 ghost use Rattle.of10_model.specs.Spelling.{Spell};
+ghost use Rattle.of10_model.specs.Padding.{AlikeBut};
 
 /// The protocols have the numbers of IEEE 802.3 and of IP, and untagged packets the VLAN 0xffff (OpenFlow
 /// 1.0.0, section 5.2.3).
@@ -29,6 +30,13 @@ pub fn normal_form_is_normal()
 /// The normal spelling of a normal match is read as that match.
 pub fn normal_spelling_is_read_again()
     ensures { (m : Pattern) → IsNormal m → Norm (Spell m) ≡ m }
+{}
+
+/// The padding of a match says nothing: matches alike but for byte 21, or but for bytes 26 and 27, have the same
+/// normal form (OpenFlow 1.0.0, section 5.2.3).
+pub fn match_padding_says_nothing()
+    ensures priority { (a b : List ℕ) → AlikeBut 21 22 a b → Norm a ≡ Norm b }
+    ensures protocol { (a b : List ℕ) → AlikeBut 26 28 a b → Norm a ≡ Norm b }
 {}
 
 /// Every normal match has a header.

@@ -1,7 +1,7 @@
 -- Padding says nothing.
 use Rattle.std.proofs.Common.{◌≡◌, ℕ, List, refl, arith}
-use Rattle.of10_ctl.specs.Padding.{AlikeBut}
-use Rattle.of10_ctl.proofs.Padding.{number_before, byte_before, rest_behind, number_behind}
+use Rattle.of10_model.specs.Padding.{AlikeBut}
+use Rattle.of10_model.proofs.Padding.{number_before, byte_before, rest_behind, number_behind}
 use Rattle.of10_port.specs.Features.{read_features}
 use Rattle.of10_port.specs.PortStatus.{read_port_status}
 

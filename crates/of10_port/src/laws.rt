@@ -1,8 +1,8 @@
 //! Laws of the definitions. Each function's contract is the law; its body does nothing.
 
 ghost use Rattle.std.specs.Prelude.{ℕ, List, [], ◌∷◌, ◌≡◌, Ok};
+ghost use Rattle.of10_model.specs.Padding.{AlikeBut};
 ghost use Rattle.of10_ctl.specs.Kinds.{IsOf};
-ghost use Rattle.of10_ctl.specs.Padding.{AlikeBut};
 ghost use Rattle.of10_port.specs.declared.features.Features.{Features};
 ghost use Rattle.of10_port.specs.declared.status.PortStatus.{PortStatus};
 ghost use Rattle.of10_port.specs.declared.protocol.TheConstants.{MAX, IN_PORT, TABLE, NORMAL, FLOOD, ALL, CONTROLLER, LOCAL, NONE, NO_FLOOD};

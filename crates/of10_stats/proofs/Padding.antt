@@ -1,8 +1,8 @@
 -- Padding says nothing.
 use Rattle.std.proofs.Common.{◌≡◌, ℕ, ◌≤◌, List, refl, sym, ◌∙◌, arith}
 use Rattle.of10_model.specs.Normal.{number_at}
-use Rattle.of10_ctl.specs.Padding.{AlikeBut}
-use Rattle.of10_ctl.proofs.Padding.{piece_before, number_before, byte_before, number_behind}
+use Rattle.of10_model.specs.Padding.{AlikeBut}
+use Rattle.of10_model.proofs.Padding.{piece_before, number_before, byte_before, number_behind}
 use Rattle.of10_stats.specs.Requests.{request_of, read_request}
 
 -- requests of one type and length are read alike if what they ask is

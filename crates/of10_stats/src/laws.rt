@@ -2,8 +2,8 @@
 
 ghost use Rattle.std.specs.Prelude.{ℕ, List, ◌≡◌, ◌≤◌, ◌↔◌, Ok, Some, length, take};
 ghost use Rattle.of10_model.specs.Normal.{number_at};
+ghost use Rattle.of10_model.specs.Padding.{AlikeBut};
 ghost use Rattle.of10_ctl.specs.Kinds.{IsOf};
-ghost use Rattle.of10_ctl.specs.Padding.{AlikeBut};
 ghost use Rattle.of10_stats.specs.declared.request.StatsRequest.{StatsRequest};
 ghost use Rattle.of10_stats.specs.Requests.{IsRequest, spell_request, read_request};
 ghost use Rattle.of10_stats.specs.Replies.{IsEntry, entry_size_of};

@@ -1,10 +1,10 @@
 -- What is read beside padding is read alike.
-use Rattle.std.proofs.Common.{◌≡◌, ℕ, ◌+◌, ◌≤◌, ◌<◌, List, take, drop, slice_index, sym, ap, ◌∙◌, arith}
+use Rattle.std.proofs.Common.{◌≡◌, ℕ, ◌+◌, ◌≤◌, ◌<◌, List, take, drop, slice_index, refl, sym, ap, ◌∙◌, arith}
 use Rattle.std.proofs.lemmas.List.{take-take, drop-drop, drop-take, get_or-take}
 use Rattle.byteorder.specs.Endian.{big_number}
 use Rattle.byteorder.specs.Numbers.{big_from-take}
-use Rattle.of10_model.specs.Normal.{number_at}
-use Rattle.of10_ctl.specs.Padding.{AlikeBut}
+use Rattle.of10_model.specs.Normal.{number_at, spelled, applied, Norm}
+use Rattle.of10_model.specs.Padding.{AlikeBut}
 
 -- ---- in front of the padding
 
@@ -32,3 +32,49 @@ rest_behind from to a b h more = sym (drop-drop more to a) ∙ ap (drop more) h.
 
 pub number_behind : (from to : ℕ) (a b : List ℕ) → AlikeBut from to a b → (more n : ℕ) → number_at a (to + more) n ≡ number_at b (to + more) n
 number_behind from to a b h more n = ap (big_number n) (rest_behind from to a b h more)
+
+-- ---- the padding of a match
+
+spelled_alike_priority : (a b : List ℕ) → AlikeBut 21 22 a b → spelled a ≡ spelled b
+unfolding spelled
+spelled_alike_priority a b h =
+    rw (
+      number_before 21 22 a b h 0 4 (omega arith),
+      number_before 21 22 a b h 4 2 (omega arith),
+      number_before 21 22 a b h 6 6 (omega arith),
+      number_before 21 22 a b h 12 6 (omega arith),
+      number_before 21 22 a b h 18 2 (omega arith),
+      number_before 21 22 a b h 20 1 (omega arith),
+      number_behind 21 22 a b h 0 2,
+      number_behind 21 22 a b h 2 1,
+      number_behind 21 22 a b h 3 1,
+      number_behind 21 22 a b h 6 4,
+      number_behind 21 22 a b h 10 4,
+      number_behind 21 22 a b h 14 2,
+      number_behind 21 22 a b h 16 2,
+    ) refl
+
+pub alike_priority : (a b : List ℕ) → AlikeBut 21 22 a b → Norm a ≡ Norm b
+alike_priority a b h = ap applied (spelled_alike_priority a b h)
+
+spelled_alike_protocol : (a b : List ℕ) → AlikeBut 26 28 a b → spelled a ≡ spelled b
+unfolding spelled
+spelled_alike_protocol a b h =
+    rw (
+      number_before 26 28 a b h 0 4 (omega arith),
+      number_before 26 28 a b h 4 2 (omega arith),
+      number_before 26 28 a b h 6 6 (omega arith),
+      number_before 26 28 a b h 12 6 (omega arith),
+      number_before 26 28 a b h 18 2 (omega arith),
+      number_before 26 28 a b h 20 1 (omega arith),
+      number_before 26 28 a b h 22 2 (omega arith),
+      number_before 26 28 a b h 24 1 (omega arith),
+      number_before 26 28 a b h 25 1 (omega arith),
+      number_behind 26 28 a b h 0 4,
+      number_behind 26 28 a b h 4 4,
+      number_behind 26 28 a b h 8 2,
+      number_behind 26 28 a b h 10 2,
+    ) refl
+
+pub alike_protocol : (a b : List ℕ) → AlikeBut 26 28 a b → Norm a ≡ Norm b
+alike_protocol a b h = ap applied (spelled_alike_protocol a b h)
