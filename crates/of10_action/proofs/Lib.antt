@@ -3,3 +3,4 @@ pub mod Again
 pub mod Cut
 pub mod Lengths
 pub mod Refused
+pub mod Padding

@@ -20,7 +20,7 @@ pub record IsHead (bytes : List ℕ) (head : ℕ × ℕ) : Type 0 where
   pub known : head.0 ≤ 11
   pub of_kind : head.1 ≡ size_of head.0
 
-head_is : (bytes : List ℕ) (head : ℕ × ℕ) → head_at bytes ≡ Ok head → IsHead bytes head
+pub head_is : (bytes : List ℕ) (head : ℕ × ℕ) → head_at bytes ≡ Ok head → IsHead bytes head
 unfolding head_at
 head_is bytes head e =
     let kind = number_at bytes 0 2 in

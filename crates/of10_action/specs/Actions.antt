@@ -2,6 +2,7 @@
 use Rattle.std.specs.Prelude.{ℕ, ◌<◌, ◌^◌, ◌==◌, ◌||◌, if◌then◌else◌, List, [], ◌∷◌, ◌++◌}
 use Rattle.std.specs.List.{flat_map}
 use Rattle.byteorder.specs.Endian.{big_bytes}
+use Rattle.of10_model.specs.Padding.{AlikeBut}
 use Rattle.of10_action.specs.declared.action.Action.{Action}
 use Rattle.of10_action.specs.declared.action.Action.TheVariants.{Output, SetVlanVid, SetVlanPcp, StripVlan, SetDlSrc, SetDlDst, SetNwSrc, SetNwDst, SetNwTos, SetTpSrc, SetTpDst, Enqueue}
 
@@ -63,6 +64,25 @@ body_of (SetNwTos service) = (service ∷ []) ++ padding 3
 body_of (SetTpSrc port) = big_bytes 2 port ++ padding 2
 body_of (SetTpDst port) = big_bytes 2 port ++ padding 2
 body_of (Enqueue port queue) = big_bytes 2 port ++ padding 6 ++ big_bytes 4 queue
+
+-- where the padding of an action stands, from one of its bytes up to another; none where the two are one
+abbrev pub padding_of : Action → ℕ × ℕ
+padding_of (Output port max_len) = (8, 8)
+padding_of (SetVlanVid vlan) = (6, 8)
+padding_of (SetVlanPcp priority) = (5, 8)
+padding_of StripVlan = (4, 8)
+padding_of (SetDlSrc address) = (10, 16)
+padding_of (SetDlDst address) = (10, 16)
+padding_of (SetNwSrc address) = (8, 8)
+padding_of (SetNwDst address) = (8, 8)
+padding_of (SetNwTos service) = (5, 8)
+padding_of (SetTpSrc port) = (6, 8)
+padding_of (SetTpDst port) = (6, 8)
+padding_of (Enqueue port queue) = (6, 12)
+
+-- bytes that differ only in the padding of an action that begins them
+abbrev pub AlikeButPadding : Action → List ℕ → List ℕ → Type 0
+AlikeButPadding action a b = AlikeBut (padding_of action).0 (padding_of action).1 a b
 
 -- an action is its kind, its length and its fields, padding zero
 abbrev pub spell : Action → List ℕ

@@ -2,7 +2,7 @@ ghost use Rattle.std.specs.Prelude.{◌≡◌, ◌<◌, ◌≤◌, ◌↔◌, �
 ghost use Rattle.std.specs.List.{All};
 ghost use Rattle.of10_action.specs.declared.action.Action.{Action};
 ghost use Rattle.of10_action.specs.declared.fault.WireFault.{WireFault};
-ghost use Rattle.of10_action.specs.Actions.{IsAction, HasAddress, size_of, spelling};
+ghost use Rattle.of10_action.specs.Actions.{IsAction, HasAddress, AlikeButPadding, size_of, spelling};
 ghost use Rattle.of10_action.specs.Reading.{Gives, Reads, head_at, action_of, action_at, actions_at, read_all, IsFirstFault};
 
 use crate::action::{Action, Actions};
@@ -118,6 +118,12 @@ pub fn decode_list(alloc: Global, bytes: &[u8]) -> Result<Actions, DecodeFault>
 /// What is spelled is read again.
 pub fn spelling_is_read()
     ensures { (actions : List Action) → All IsAction actions → read_all (spelling actions) ≡ Ok actions }
+{}
+
+/// The padding of an action says nothing: bytes alike with those that begin with an action but for its padding begin
+/// with the same action, and the same bytes stand behind it (OpenFlow 1.0.0, section 5.2.4).
+pub fn action_padding_says_nothing()
+    ensures { (a b rest : List ℕ) (action : Action) → action_at a ≡ Ok (action, rest) → AlikeButPadding action a b → action_at b ≡ Ok (action, rest) }
 {}
 
 /// What is read has the length of its spelling.

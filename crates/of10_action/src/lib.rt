@@ -8,8 +8,8 @@ mod fault;
 
 pub use action::{Action, Actions, Bytes};
 pub use decode::{
-    count_ends_no_reading, decode_list, fault_is_of_the_first_wrong, reading_keeps_the_length,
-    spelling_is_read,
+    action_padding_says_nothing, count_ends_no_reading, decode_list, fault_is_of_the_first_wrong,
+    reading_keeps_the_length, spelling_is_read,
 };
 pub use encode::{encode_list, list_size};
 pub use fault::{DecodeFault, WireFault, code};
