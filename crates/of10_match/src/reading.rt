@@ -4,7 +4,7 @@ ghost use Rattle.std.specs.Prelude.{◌≡◌, ◌<◌, ◌*◌, ◌/◌, ◌%�
 ghost use Rattle.of10_model.specs.Normal.{bit, leading, spelled};
 
 use of10_model::wire::{u8_at, u16_at, u32_at, u48_at};
-use of10_model::{Pattern, Prefix};
+use of10_model::{Pattern, Prefix, without_low_bits};
 
 fn is_freed(word: u32, place: u32) -> bool
     requires { place < 32 }
@@ -29,13 +29,6 @@ fn ignored_bits(word: u32, place: u32) -> u8
     ensures { result ≡ word / 2 ^ place % 64 }
 {
     ((word >> place) & 0x3f) as u8
-}
-
-fn without_low_bits(address: u32, count: u8) -> u32
-    requires { count < 32 }
-    ensures { result ≡ address / 2 ^ count * 2 ^ count }
-{
-    address >> count << count
 }
 
 fn prefix(word: u32, place: u32, address: u32) -> Option<Prefix>

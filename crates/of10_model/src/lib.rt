@@ -7,4 +7,4 @@ mod pattern;
 pub mod protocol;
 pub mod wire;
 
-pub use pattern::{Pattern, Prefix};
+pub use pattern::{Pattern, Prefix, without_low_bits};

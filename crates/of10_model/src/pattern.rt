@@ -1,4 +1,4 @@
-ghost use Rattle.std.specs.Prelude.{◌≡◌};
+ghost use Rattle.std.specs.Prelude.{◌≡◌, ◌<◌, ◌*◌, ◌/◌, ◌^◌};
 ghost use Rattle.of10_model.specs.Normal.{is_exact, is_whole};
 
 /// The leading bits of a network address (OpenFlow 1.0.0, section 5.2.3: a count of ignored bits).
@@ -26,6 +26,14 @@ pub struct Pattern {
     pub nw_dst: Option<Prefix>,
     pub tp_src: Option<u16>,
     pub tp_dst: Option<u16>,
+}
+
+/// The address with so many of its low bits zero.
+pub fn without_low_bits(address: u32, count: u8) -> u32
+    requires { count < 32 }
+    ensures { result ≡ address / 2 ^ count * 2 ^ count }
+{
+    address >> count << count
 }
 
 impl Prefix {

@@ -3,7 +3,7 @@
 ghost use Rattle.std.specs.Prelude.{◌≡◌, ◌≤◌, ◌<◌, ◌+◌, ◌*◌, IfSome, length, option_map, true};
 ghost use Rattle.policy_text.specs.Addresses.{after, bits_after, bits_of, datapath_id, digit_at, digits_at, dotted_at, hardware_address, has_colons, hex_after, hex_digit, leading_bits, octet_at, pair_at, prefix, six_pairs, with_digit};
 
-use of10_model::Prefix;
+use of10_model::{Prefix, without_low_bits};
 
 // ---- hex
 
@@ -184,7 +184,7 @@ fn leading_bits(address: u32, bits: u8) -> Prefix
     let ignored = 32 - bits;
     Prefix {
         bits,
-        value: address >> ignored << ignored,
+        value: without_low_bits(address, ignored),
     }
 }
 

@@ -1,11 +1,11 @@
 //! Matches and packets.
 
-ghost use Rattle.std.specs.Prelude.{◌≡◌, ◌<◌, ◌*◌, ◌/◌, ◌^◌, None, Some};
+ghost use Rattle.std.specs.Prelude.{◌≡◌, None, Some};
 ghost use Rattle.of10_model.specs.Normal.{IsPrefix};
 ghost use Rattle.samples.specs.Makers.{kind_of, packets_of, pattern_of, prefix_of, protocol_of};
 
 use of10_match::{Header12, Match};
-use of10_model::{Pattern, Prefix};
+use of10_model::{Pattern, Prefix, without_low_bits};
 
 /// Which packets a match has.
 #[derive(Clone, Copy, Debug, PartialEq, Eq)]
@@ -25,13 +25,6 @@ pub const ANY: Packets = Packets {
     bits: 0,
     tcp: None,
 };
-
-fn without_low_bits(net: u32, count: u8) -> u32
-    requires { count < 32 }
-    ensures { result ≡ net / 2 ^ count * 2 ^ count }
-{
-    net >> count << count
-}
 
 fn prefix(net: u32, bits: u8) -> Option<Prefix>
     ensures value { result ≡ prefix_of net bits }
