@@ -1,5 +1,4 @@
-ghost use Rattle.std.specs.Prelude.{◌≡◌, ◌+◌, ◌≤◌, ◌++◌, length, Err, OnOk, IfOk};
-ghost use Rattle.byteorder.specs.Endian.{big_bytes};
+ghost use Rattle.std.specs.Prelude.{◌≡◌, ◌+◌, ◌≤◌, length, Err, IfOk};
 ghost use Rattle.of10_model.specs.Normal.{number_at};
 ghost use Rattle.of10_action.specs.declared.fault.DecodeFault.TheVariants.{Memory};
 ghost use Rattle.of10_action.specs.Actions.{spelling};

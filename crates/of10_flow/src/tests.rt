@@ -1,5 +1,4 @@
-ghost use Rattle.std.specs.Prelude.{IfOk, IfSome};
-ghost use Rattle.of10_ctl.specs.Kinds.{IsOf};
+ghost use Rattle.std.specs.Prelude.{IfOk};
 ghost use Rattle.of10_flow.specs.FlowMods.{IsFlowMod};
 ghost use Rattle.of10_flow.specs.PacketIns.{IsPacketIn};
 ghost use Rattle.of10_flow.specs.PacketOuts.{IsPacketOut};
@@ -8,7 +7,7 @@ use crate::protocol::{ADD, CHECK_OVERLAP, DELETE, EMERG, NO_BUFFER, SEND_FLOW_RE
 use crate::{FlowMod, FlowRemoved, PacketIn, PacketOut};
 use of10_action::{Action, Actions, Bytes, DecodeFault, WireFault};
 use of10_ctl::kind::{FLOW_MOD, FLOW_REMOVED, PACKET_IN, PACKET_OUT};
-use of10_ctl::{Frame, message};
+use of10_ctl::message;
 use of10_match::Match;
 use of10_model::Pattern;
 use std::alloc::{AllocError, Global};

@@ -1,5 +1,4 @@
 ghost use Rattle.std.specs.Prelude.{◌≡◌, ◌+◌, ◌≤◌, ◌++◌, IfOk, OnOk, length};
-ghost use Rattle.of10_model.specs.Normal.{IsNormal};
 ghost use Rattle.of10_action.specs.Reading.{Reads};
 ghost use Rattle.of10_ctl.specs.Kinds.{IsOf};
 ghost use Rattle.of10_stats.specs.Requests.{IsRequest, body_size, flow_body, kind_of, read_request, request_body, request_of, spell_request};

@@ -9,7 +9,7 @@ use crate::fault::{Part, Place, ReadFault};
 use crate::section::Section;
 use crate::values::{Numbers, Texts};
 use flowspace::{Slice, Text, limits};
-use std::alloc::{AllocError, Global};
+use std::alloc::Global;
 use toml::Value;
 
 /// Messages a second, messages at once, and flow entries on a switch of a slice that doesn't say them.
