@@ -18,7 +18,7 @@ use Rattle.of10_model.specs.Inclusion.{includes_of}
 use Rattle.of10_model.specs.Meet.{is_disjoint}
 use Rattle.flow_book.specs.declared.booked.Booked.{Booked}
 use Rattle.flow_book.specs.Order.{IsInOrder}
-use Rattle.flow_book.specs.Books.{is_pair, is_newcomer, newcomers_in, fits_in, overlaps_in, HaveSame}
+use Rattle.flow_book.specs.Books.{BookCall, Book, BookStands, is_pair, is_newcomer, newcomers_in, fits_in, overlaps_in, book, booking, HaveSame}
 use Rattle.of10_model.specs.Same.{is_same}
 use Rattle.of10_model.proofs.Same.{one-is_same, is_same-one}
 use Rattle.flow_book.proofs.SamePairs.{Equal-pair}
@@ -171,3 +171,7 @@ find_same xs ys same o m p = elim (cases_Bool (list_any (is_pair m p) ys)) [
       ] in
       f.is ∙ ap Some (moved ∙ one) ∙ sym (find_one (is_pair m p) ys k x (sym (here x)) passes)
 ]
+
+-- so a book in order keeps of a pair what its calls say
+pub booking_kept : (calls : List BookCall) (kept : Book) → BookStands calls kept → IsInOrder kept.booked → (m : Pattern) (p : ℕ) → find (is_pair m p) kept.booked ≡ booking m p calls
+booking_kept calls kept s o m p = sym (find_same (book calls) kept.booked s.same o m p)

@@ -1,6 +1,5 @@
 use Rattle.std.proofs.Common.{ap, sym, ◌∙◌, Some}
-use Rattle.flow_book.specs.Books.{book}
-use Rattle.flow_book.proofs.Counts.{find_same}
+use Rattle.flow_book.proofs.Counts.{booking_kept}
 use Rattle.flow_book.proofs.Places.{find_pair-at, find_pair-gap}
 use Rattle.flow_book.proofs.book.FlowBook.booked.Goals as goal
 
@@ -12,8 +11,7 @@ returns-in-Ok-clause-value c =
 
 pub returns-in-Ok-clause-answer : goal.returns-in-Ok-clause-answer
 returns-in-Ok-clause-answer c calls s =
-    returns-in-Ok-clause-value c
-    ∙ rw (← c.self.view_is) (sym (find_same (book calls) c.self.inside.entries.items (rw (← c.self.view_is) at s).same c.self.invariant.0 c.args.pattern.now c.args.priority))
+    returns-in-Ok-clause-value c ∙ booking_kept calls c.args.self.now s (rw (← c.self.view_is) c.self.invariant.0) c.args.pattern.now c.args.priority
 
 pub returns-in-Err-clause-value : goal.returns-in-Err-clause-value
 returns-in-Err-clause-value c =
@@ -21,5 +19,4 @@ returns-in-Err-clause-value c =
 
 pub returns-in-Err-clause-answer : goal.returns-in-Err-clause-answer
 returns-in-Err-clause-answer c calls s =
-    returns-in-Err-clause-value c
-    ∙ rw (← c.self.view_is) (sym (find_same (book calls) c.self.inside.entries.items (rw (← c.self.view_is) at s).same c.self.invariant.0 c.args.pattern.now c.args.priority))
+    returns-in-Err-clause-value c ∙ booking_kept calls c.args.self.now s (rw (← c.self.view_is) c.self.invariant.0) c.args.pattern.now c.args.priority

@@ -1,7 +1,7 @@
 use Rattle.std.proofs.Common.{ap, sym, subst, ◌∙◌, arith, Some, not}
 use Rattle.flow_book.specs.Order.{IsInOrder}
-use Rattle.flow_book.specs.Books.{book, is_pair}
-use Rattle.flow_book.proofs.Counts.{find_same}
+use Rattle.flow_book.specs.Books.{is_pair}
+use Rattle.flow_book.proofs.Counts.{booking_kept}
 use Rattle.flow_book.proofs.Places.{find_pair-at, find_pair-gap, remove_pair, without-gap, IsInOrder-filter}
 use Rattle.flow_book.proofs.Standing.{stands-removed}
 use Rattle.flow_book.proofs.book.FlowBook.removed.Goals as goal
@@ -23,8 +23,7 @@ returns-in-Ok-clause-value c =
 
 pub returns-in-Ok-clause-answer : goal.returns-in-Ok-clause-answer
 returns-in-Ok-clause-answer c calls s =
-    returns-in-Ok-clause-value c
-    ∙ rw (← c.self.view_is) (sym (find_same (book calls) c.self.inside.entries.items (rw (← c.self.view_is) at s).same c.self.invariant.0 c.args.pattern.now c.args.priority))
+    returns-in-Ok-clause-value c ∙ booking_kept calls c.args.self.now s (rw (← c.self.view_is) c.self.invariant.0) c.args.pattern.now c.args.priority
 
 pub returns-in-Ok-clause-booked : goal.returns-in-Ok-clause-booked
 returns-in-Ok-clause-booked c =
@@ -39,8 +38,7 @@ returns-in-Err-clause-value c =
 
 pub returns-in-Err-clause-answer : goal.returns-in-Err-clause-answer
 returns-in-Err-clause-answer c calls s =
-    returns-in-Err-clause-value c
-    ∙ rw (← c.self.view_is) (sym (find_same (book calls) c.self.inside.entries.items (rw (← c.self.view_is) at s).same c.self.invariant.0 c.args.pattern.now c.args.priority))
+    returns-in-Err-clause-value c ∙ booking_kept calls c.args.self.now s (rw (← c.self.view_is) c.self.invariant.0) c.args.pattern.now c.args.priority
 
 pub returns-in-Err-clause-booked : goal.returns-in-Err-clause-booked
 returns-in-Err-clause-booked c =
