@@ -165,33 +165,20 @@ found_gathered number (x ∷ xs) calls (m ∷ ms) same =
       | inr other ↦ rw (test, other.0) (found_gathered number xs calls ms (cc))
     ]
 
-pub collection_of-found : (number : ℕ) (xs : List Collected) (z : Collected) (calls : List CollectionCall) → CollectionsStand calls xs
-    → Some z ≡ find (λ c. c.gathered.number == number) xs → collection_of number calls ≡ Some z.gathered
+pub collection_of-find : (number : ℕ) (xs : List Collected) (calls : List CollectionCall) → CollectionsStand calls xs
+    → option_map (λ c. c.gathered) (find (λ c. c.gathered.number == number) xs) ≡ collection_of number calls
 unfolding collection_of
-collection_of-found number xs z calls s is = sym (found_gathered number xs calls (collecting calls) s.same) ∙ ap (option_map (λ c. c.gathered)) (sym is)
-
-pub collection_of-missed : (number : ℕ) (xs : List Collected) (calls : List CollectionCall) → CollectionsStand calls xs
-    → None ≡ find (λ c. c.gathered.number == number) xs → collection_of number calls ≡ None
-unfolding collection_of
-collection_of-missed number xs calls s is = sym (found_gathered number xs calls (collecting calls) s.same) ∙ ap (option_map (λ c. c.gathered)) (sym is)
+collection_of-find number xs calls s = found_gathered number xs calls (collecting calls) s.same
 
 pub collection_of-at : (number k : ℕ) (xs : List Collected) (z : Collected) (calls : List CollectionCall) → CollectionsStand calls xs
     → StandsAt number k xs → z ≡ get_or xs k z → collection_of number calls ≡ Some z.gathered
-collection_of-at number k xs z calls s at is = collection_of-found number xs z calls s (sym (find_here number k xs z at is))
+collection_of-at number k xs z calls s at is = sym (collection_of-find number xs calls s) ∙ ap (option_map (λ c. c.gathered)) (find_here number k xs z at is)
 
 pub collection_of-nowhere : (number : ℕ) (xs : List Collected) (calls : List CollectionCall) → CollectionsStand calls xs
     → Nowhere number xs → collection_of number calls ≡ None
-collection_of-nowhere number xs calls s out = collection_of-missed number xs calls s (sym (find_nowhere number xs out))
+collection_of-nowhere number xs calls s out = sym (collection_of-find number xs calls s) ∙ ap (option_map (λ c. c.gathered)) (find_nowhere number xs out)
 
 -- ---- calls
-
-pub CollectionsStand-new : CollectionsStand [] []
-unfolding collecting
-CollectionsStand-new = record { same = refl }
-
-pub CollectionsStand-end_all : (calls : List CollectionCall) → CollectionsStand (EndAll ∷ calls) []
-unfolding collecting
-CollectionsStand-end_all calls = record { same = refl }
 
 -- calls that change one request alone: its collection is changed where it stands, and nothing where it doesn't
 changed_there : (number k : ℕ) (xs : List Collected) (z y : Collected) (before after : List CollectionCall) → collecting after ≡ collecting before

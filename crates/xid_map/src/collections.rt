@@ -1,5 +1,5 @@
 ghost use Rattle.std.specs.Prelude.{ℕ, ◌≡◌, ◌≢◌, ◌+◌, ◌<◌, ◌==◌, List, [], ◌∷◌, length, take, vec_capacity, find, position, IfOk, IfSome, IsTrue, OnOk, OnErr, option_map, option_copied};
-ghost use Rattle.xid_map.specs.Collections.{CollectionCall, Start, Add, Sum, Finish, EndAll, is_among, collecting, entries_of, sums_of, room_of, HasRoom, CollectionsStand};
+ghost use Rattle.xid_map.specs.Collections.{CollectionCall, Start, Add, Sum, Finish, EndAll, is_among, collecting, collection_of, entries_of, sums_of, room_of, HasRoom, CollectionsStand};
 
 use crate::collection::Collection;
 use of10_action::Bytes;
@@ -52,6 +52,7 @@ fn make_place(all: &mut Vec<Collection>)
 
 impl Collections {
     /// No collections, and the room for eight.
+    #[tactic(auto, unfolding(crate::specs::Collections::collecting))]
     pub fn new(alloc: Global) -> Result<Collections, AllocError>
         ensures stands { IfOk result (λ c. CollectionsStand [] c) }
         ensures room { IfOk result (λ c. (number bytes : ℕ) → HasRoom number bytes c) }
@@ -117,6 +118,7 @@ impl Collections {
     }
 
     /// Ends all collections.
+    #[tactic(auto, unfolding(crate::specs::Collections::collecting))]
     pub fn forget_all(&mut self)
         ensures stands { (calls : List CollectionCall) → CollectionsStand calls self.old → CollectionsStand (EndAll ∷ calls) self.new }
         ensures room { (number bytes : ℕ) → HasRoom number bytes self.new }
@@ -124,19 +126,27 @@ impl Collections {
         self.all.clear();
     }
 
+    fn collection(&self, number: u64) -> Option<&Collection>
+        ensures { (calls : List CollectionCall) → CollectionsStand calls self.now → option_map (λ c. c.gathered) (option_copied result) ≡ collection_of number calls }
+    {
+        collection_for(&self.all, number)
+    }
+
     /// The entries that the request has collected, the oldest first.
+    #[tactic(auto, unfolding(crate::specs::Collections::entries_of))]
     pub fn entries(&self, number: u64) -> Option<&[u8]>
         ensures { (calls : List CollectionCall) → CollectionsStand calls self.now → option_map (λ e. e.now) result ≡ entries_of number calls }
     {
-        let collection = collection_for(&self.all, number)?;
+        let collection = self.collection(number)?;
         Some(collection.entries())
     }
 
     /// The packets, bytes and flows that the request has summed.
+    #[tactic(auto, unfolding(crate::specs::Collections::sums_of))]
     pub fn sums(&self, number: u64) -> Option<(u64, u64, u32)>
         ensures { (calls : List CollectionCall) → CollectionsStand calls self.now → result ≡ sums_of number calls }
     {
-        let collection = collection_for(&self.all, number)?;
+        let collection = self.collection(number)?;
         Some(collection.sums())
     }
 
@@ -152,10 +162,11 @@ impl Collections {
     }
 
     /// How many bytes of entries may still be added to what the request collects; 0 where it doesn't.
+    #[tactic(auto, unfolding(crate::specs::Collections::room_of))]
     pub fn room(&self, number: u64) -> u32
         ensures { (calls : List CollectionCall) → CollectionsStand calls self.now → result ≡ room_of number calls }
     {
-        match collection_for(&self.all, number) {
+        match self.collection(number) {
             Some(collection) => collection.room(),
             None => 0,
         }
