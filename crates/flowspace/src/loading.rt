@@ -2,7 +2,6 @@
 
 ghost use Rattle.std.specs.Prelude.{◌≡◌, ◌^◌, [], length, nat_lt, bytes_eq, count_by, IfOk, find, option_map};
 ghost use Rattle.std.specs.List.{list_any};
-ghost use Rattle.of10_model.specs.Normal.{bit};
 ghost use Rattle.flowspace.specs.declared.fault.What.TheVariants.{Writes};
 ghost use Rattle.flowspace.specs.Rules.{is_written_by, is_slot, is_own_reader, is_refused};
 ghost use Rattle.flowspace.specs.Loading.{excess, first_along, name_fault, rule_fault, writes_fault, overlap_fault, fault_of};
@@ -11,7 +10,7 @@ use crate::fault::{Field, PolicyFault, What};
 use crate::limits::{RULES, SLICES, WRITES};
 use crate::order::{FiledRule, ordered_with_places};
 use crate::refusal::is_refused;
-use crate::rules::{Rule, is_written_by};
+use crate::rules::{Rule, has_slot, is_written_by};
 use crate::slices::Slice;
 use std::alloc::{AllocError, Global};
 
@@ -52,12 +51,6 @@ fn are_slots(slots: usize, bits: u32) -> bool
     slots >= 32 || bits >> slots == 0
 }
 
-fn is_set(bits: u32, place: u8) -> bool
-    ensures { result ≡ bit bits place }
-{
-    place < 32 && (bits >> place) & 1 == 1
-}
-
 fn is_slot(slots: usize, writer: Option<u8>) -> bool
     ensures { result ≡ is_slot slots writer }
 {
@@ -67,7 +60,7 @@ fn is_slot(slots: usize, writer: Option<u8>) -> bool
 fn is_own_reader(rule: &Rule) -> bool
     ensures { result ≡ is_own_reader rule.now }
 {
-    rule.writer.is_some_and(|slot| is_set(rule.readers, slot))
+    rule.writer.is_some_and(|slot| has_slot(rule.readers, slot))
 }
 
 fn rule_fault(slots: usize, before: &[Rule], rule: &Rule) -> Option<PolicyFault>

@@ -1,5 +1,5 @@
 ghost use Rattle.std.specs.Prelude.{◌≡◌, IfSome, IsSome, IsTrue};
-ghost use Rattle.of10_model.specs.Normal.{has_network, has_ports, has_service, has_vlan};
+ghost use Rattle.of10_model.specs.Normal.{bit, has_network, has_ports, has_service, has_vlan};
 ghost use Rattle.flowspace.specs.Rules.{holds, is_written_by, IsInPort, IsVlan, IsPlainRule};
 
 use crate::owners::is_in_port;
@@ -88,4 +88,11 @@ pub(crate) fn is_written_by(rule: &Rule, slot: usize) -> bool
 {
     rule.writer
         .is_some_and(|writer| usize::from(writer) == slot)
+}
+
+/// Whether a slot is among these: bit k stands for the slot k.
+pub fn has_slot(slots: u32, slot: u8) -> bool
+    ensures { result ≡ bit slots slot }
+{
+    slot < 32 && (slots >> slot) & 1 == 1
 }

@@ -11,20 +11,13 @@ ghost use Rattle.switch_side.specs.Carrying.{carried, telling, is_plain, packet_
 
 use crate::dispatch::Dispatch;
 use flow_book::SliceState;
-use flowspace::SwitchPolicy;
+use flowspace::{SwitchPolicy, has_slot};
 use frame_header::{header_of, probe_slot};
 use of10_ctl::Frame;
 use of10_flow::PacketInView;
 use of10_flow::protocol::NO_BUFFER;
 use of10_match::Header12;
 use std::alloc::{AllocError, Global};
-
-/// Whether a slot is among the slots of these bits.
-fn is_among(readers: u32, slot: u8) -> bool
-    ensures { result ≡ bit readers slot }
-{
-    slot < 32 && (readers >> slot) & 1 == 1
-}
 
 /// Who is handed the packets of one header.
 #[derive(Drop)]
@@ -63,7 +56,7 @@ impl Audience {
     fn has_reader(&self, slot: u8) -> bool
         ensures { result ≡ bit self.now.readers slot }
     {
-        is_among(self.readers, slot)
+        has_slot(self.readers, slot)
     }
 }
 

@@ -1,6 +1,0 @@
-use Rattle.std.proofs.lemmas.Bool.{le-ltb}
-use Rattle.flowspace.proofs.Bits.{no_bit}
-use Rattle.switch_side.proofs.packets.is_among.Goals as goal
-
-pub returns-else-slot-lt32 : goal.returns-else-slot-lt32
-returns-else-slot-lt32 c = rw (le-ltb c.args.slot 32 c.if-slot-lt32.false, no_bit c.args.readers c.args.slot c.ranges.readers.fits c.if-slot-lt32.false)
