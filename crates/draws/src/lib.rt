@@ -1,7 +1,8 @@
-//! Numbers that tests draw, the same at every run, by a linear congruential generator.
+//! Numbers that tests draw, the same at every run, by a linear congruential generator; and how often what
+//! they drew came to a case.
 #![tactic(auto)]
 
-ghost use Rattle.std.specs.Prelude.{◌≡◌, ◌<◌, ◌+◌, ◌*◌, ◌/◌, ◌%◌, ◌^◌};
+ghost use Rattle.std.specs.Prelude.{◌≡◌, ◌<◌, ◌+◌, ◌*◌, ◌/◌, ◌%◌, ◌^◌, count_by};
 
 /// A generator; those of one seed draw the same numbers.
 #[derive(Drop)]
@@ -40,4 +41,11 @@ impl Draws {
     {
         self.number_below(u64::from(limit)) as u8
     }
+}
+
+/// How many of the cases that were seen are this one.
+pub fn times<T: PartialEq>(seen: &[T], case: &T) -> usize
+    ensures { result ≡ count_by (λ one. T.eq one case.now) seen.now }
+{
+    seen.iter().filter(|one| *one == case).count()
 }

@@ -1,7 +1,7 @@
-ghost use Rattle.std.specs.Prelude.{◌≡◌, ◌≢◌, ◌+◌, ◌<◌, ◌≤◌, All, AllPairs, length, IsTrue};
+ghost use Rattle.std.specs.Prelude.{◌≢◌, ◌+◌, ◌≤◌, All, AllPairs, length, IsTrue};
 
 use super::*;
-use draws::Draws;
+use draws::{Draws, times};
 use flowspace::{Slice, Text};
 use match_meet::{disjoint, includes};
 use of10_flow::protocol::{ADD, DELETE, MODIFY, MODIFY_STRICT};
@@ -420,10 +420,6 @@ impl Both {
         }
         Ok(alike)
     }
-
-    fn times(&self, case: Case) -> usize {
-        self.seen.iter().filter(|seen| **seen == case).count()
-    }
 }
 
 #[test]
@@ -444,7 +440,7 @@ fn answers_as_a_plain_list(rt: HostRuntime) -> Result<(), Fail> {
         assert!(rt; booked_alike, "at {step}");
     }
     for case in CASES {
-        let times = both.times(case);
+        let times = times(&both.seen, &case);
         assert!(rt; times >= 50, "{case:?} {times} times");
     }
     Ok(())

@@ -1,7 +1,7 @@
 ghost use Rattle.std.specs.Prelude.{◌≡◌, ◌^◌, ◌<◌, length, IfOk, vec_len};
 
 use super::*;
-use draws::Draws;
+use draws::{Draws, times};
 use std::alloc::{AllocError, Global};
 use std::test::Fail;
 
@@ -349,10 +349,6 @@ impl Both {
         self.all.clear();
         Ok(())
     }
-
-    fn times(&self, case: Case) -> usize {
-        self.seen.iter().filter(|seen| **seen == case).count()
-    }
 }
 
 #[test]
@@ -390,7 +386,7 @@ fn collects_as_the_list_of_collections(rt: HostRuntime) -> Result<(), Fail> {
         }
     }
     for case in CASES {
-        let times = both.times(case);
+        let times = times(&both.seen, &case);
         assert!(rt; times >= 20, "{case:?} {times} times");
     }
     Ok(())
