@@ -68,6 +68,17 @@ fault_of ss rs =
     ∷ first_along overlap_fault [] (filed_in_order rs)
     ∷ [])
 
+-- the first fault that is found before the rules are put in order: any but an overlap
+abbrev pub fault_before_order : List Slice → List Rule → Option PolicyFault
+fault_before_order ss rs =
+    first_of_faults (
+    excess Slices 32 (length ss)
+    ∷ excess Rules 2048 (length rs)
+    ∷ first_along name_fault [] ss
+    ∷ first_along (rule_fault (length ss)) [] rs
+    ∷ first_along (writes_fault rs) [] ss
+    ∷ [])
+
 -- the policy that slices and rules make, or their first fault
 abbrev pub load_of : List Slice → List Rule → Result PolicyView PolicyFault
 load_of ss rs = elim (fault_of ss rs) [ None ↦ Ok (record { slices = ss; rules = rs }) | Some fault ↦ Err fault ]

@@ -1,10 +1,10 @@
 //! The first fault of slices and rules.
 
-ghost use Rattle.std.specs.Prelude.{◌≡◌, ◌^◌, [], length, nat_lt, bytes_eq, count_by, IfOk, find, option_map};
+ghost use Rattle.std.specs.Prelude.{◌≡◌, ◌^◌, [], length, nat_lt, bytes_eq, count_by, IfOk, IfSome, Ok, Some, find, option_map};
 ghost use Rattle.std.specs.List.{list_any};
 ghost use Rattle.flowspace.specs.declared.fault.What.TheVariants.{Writes};
 ghost use Rattle.flowspace.specs.Rules.{is_written_by, is_slot, is_own_reader, is_refused};
-ghost use Rattle.flowspace.specs.Loading.{excess, first_along, name_fault, rule_fault, writes_fault, overlap_fault, fault_of};
+ghost use Rattle.flowspace.specs.Loading.{excess, first_along, name_fault, rule_fault, writes_fault, overlap_fault, fault_before_order, fault_of};
 
 use crate::fault::{Field, PolicyFault, What};
 use crate::limits::{RULES, SLICES, WRITES};
@@ -150,7 +150,8 @@ pub(crate) fn fault_of(
     slices: &[Slice],
     rules: &[Rule],
 ) -> Result<Option<PolicyFault>, AllocError>
-    ensures { IfOk result (λ fault. fault ≡ fault_of slices.now rules.now) }
+    ensures fault { IfOk result (λ fault. fault ≡ fault_of slices.now rules.now) }
+    ensures early { IfSome (fault_before_order slices.now rules.now) (λ fault. result ≡ Ok (Some fault)) }
 {
     let fault = excess(What::Slices, SLICES, slices.len())
         .or_else(|| excess(What::Rules, RULES, rules.len()))

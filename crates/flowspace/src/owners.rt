@@ -7,12 +7,7 @@ ghost use Rattle.flowspace.specs.Owners.{is_owned_by, owner_of_match, is_in_port
 use crate::rules::{Rule, is_written_by};
 use match_meet::includes;
 use of10_match::Match;
-
-/// The greatest number of a physical port, and the number of the switch's own one (OpenFlow 1.0.0,
-/// section 5.2.1: OFPP_MAX and OFPP_LOCAL).
-const MAX: u16 = 0xff00;
-
-const LOCAL: u16 = 0xfffe;
+use of10_port::protocol::{LOCAL, MAX};
 
 fn is_owned_by(rule: &Rule, m: &Match) -> bool
     ensures { result ≡ is_owned_by m.now rule.now }

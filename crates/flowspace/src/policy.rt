@@ -1,9 +1,9 @@
-ghost use Rattle.std.specs.Prelude.{◌≡◌, ◌≤◌, length, All, IfOk};
+ghost use Rattle.std.specs.Prelude.{◌≡◌, ◌≤◌, length, All, IfOk, IfSome, Err};
 ghost use Rattle.flowspace.specs.Slices.{IsPlainSlice};
 ghost use Rattle.flowspace.specs.Rules.{IsPlainRule};
 ghost use Rattle.flowspace.specs.Order.{rules_on};
 ghost use Rattle.flowspace.specs.Policies.{IsPolicy};
-ghost use Rattle.flowspace.specs.Loading.{Gives, load_of};
+ghost use Rattle.flowspace.specs.Loading.{Gives, load_of, fault_before_order};
 
 use crate::fault::PolicyFault;
 use crate::loading::fault_of;
@@ -35,12 +35,13 @@ impl Policy {
     /// The policy of these slices, whose places are their slots, and of these rules, as they stand in
     /// the file; else the first fault: too many slices or rules, a name twice, along the file a rule that
     /// names no slice or whose writer reads, too many rules of one writer, and in rule order a rule that
-    /// takes headers of an earlier one for another slice.
+    /// takes headers of an earlier one for another slice. Memory is needed only for the last of these.
     pub fn load(alloc: Global, slices: Vec<Slice>, rules: Vec<Rule>) -> Result<Policy, PolicyFault>
         requires some_slice { 1 ≤ length slices.items }
         requires plain_slices { All IsPlainSlice slices.items }
         requires plain_rules { All IsPlainRule rules.items }
-        ensures { Gives result (load_of slices.items rules.items) }
+        ensures answer { Gives result (load_of slices.items rules.items) }
+        ensures early { IfSome (fault_before_order slices.items rules.items) (λ fault. result ≡ Err fault) }
     {
         match fault_of(alloc, &slices, &rules) {
             Ok(None) => Ok(Policy { slices, rules }),
