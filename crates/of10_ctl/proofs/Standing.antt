@@ -1,5 +1,5 @@
 -- What a framer stands for, step by step.
-use Rattle.std.proofs.Common.{◌≡◌, ℕ, ◌+◌, ◌≤◌, Bool, true, false, cond, ◌||◌, List, [], ◌∷◌, ◌++◌, length, drop, refl, sym, ap, ◌∙◌, append_assoc}
+use Rattle.std.proofs.Common.{◌≡◌, ℕ, ◌+◌, ◌≤◌, Bool, true, false, cond, ◌||◌, List, [], ◌∷◌, ◌++◌, length, drop, Result, Ok, Err, OnErr, refl, sym, ap, ◌∙◌, append_assoc}
 use Rattle.std.proofs.lemmas.List.{append-nil, drop-append-le, drop-drop}
 use Rattle.std.proofs.lemmas.List.Folds.{list_any-append}
 use Rattle.std.proofs.Math.Seq.{drop-append_seam}
@@ -52,3 +52,8 @@ pub answer_given : (s : Stream) (fed : List ℕ) (given : List (List ℕ)) → S
     → (frame : List ℕ) (others : List (List ℕ)) → frames_of (s.left ++ []) ≡ frame ∷ others → Frame frame ≡ answer fed given
 answer_given s fed given stands unended frame others is =
     answer_unended s fed given stands unended (frame ∷ others) (ap frames_of (sym (append-nil s.left)) ∙ is)
+
+-- what always holds holds at an error
+pub on_err : {T E P : Type 0} (r : Result T E) → P → OnErr r P
+on_err (Ok t) p = tt
+on_err (Err e) p = p

@@ -1,4 +1,4 @@
-ghost use Rattle.std.specs.Prelude.{◌≡◌, ◌≤◌, ◌+◌, ◌*◌, ◌++◌, ◌∷◌, List, [], ℕ, if◌then◌else◌, IfOk, OnOk, OnErr, IfSome, IfNone, length, take, drop};
+ghost use Rattle.std.specs.Prelude.{◌≡◌, ◌≤◌, ◌+◌, ◌*◌, ◌++◌, ◌∷◌, List, [], ℕ, if◌then◌else◌, false, IfOk, OnOk, OnErr, IfSome, IfNone, length, take, drop};
 ghost use Rattle.of10_ctl.specs.Frames.{IsFrame, is_bad};
 ghost use Rattle.of10_ctl.specs.Streams.{Stands, answer, frame_in, frames_of};
 
@@ -94,10 +94,12 @@ impl Framer {
         }
     }
 
-    /// Takes the next bytes of the stream. Those after a frame of a bad length are of no use.
+    /// Takes the next bytes of the stream. Those after a frame of a bad length are of no use, and take no
+    /// memory.
     pub fn feed(&mut self, piece: &[u8]) -> Result<(), AllocError>
         ensures stands { OnOk result ((fed : List ℕ) (given : List (List ℕ)) → Stands self.old fed given → Stands self.new (fed ++ piece.now) given) }
         ensures unchanged { OnErr result (self.new ≡ self.old) }
+        ensures memory { OnErr result (self.old.ended ≡ false) }
     {
         if self.ended {
             return Ok(());
@@ -108,13 +110,14 @@ impl Framer {
     }
 
     /// The next frame of all that was fed; `NeedMore` where none is whole, and `Ended` after a frame of
-    /// a bad length.
+    /// a bad length. Only a frame takes memory.
     pub fn next(&mut self) -> Result<Next, AllocError>
         ensures answer { IfOk result (λ next. (fed : List ℕ) (given : List (List ℕ)) → Stands self.old fed given → next ≡ answer fed given) }
         ensures stands { IfOk result (λ next. (fed : List ℕ) (given : List (List ℕ)) → Stands self.old fed given → Stands self.new fed (given ++ frame_in next)) }
         // A frame takes at least eight of the bytes that are left.
         ensures shorter { IfOk result (λ next. length self.new.left + 8 * length (frame_in next) ≤ length self.old.left) }
         ensures unchanged { OnErr result (self.new ≡ self.old) }
+        ensures memory { OnErr result ((fed : List ℕ) (given : List (List ℕ)) → Stands self.old fed given → (frame : List ℕ) × (frame_in (answer fed given) ≡ frame ∷ [])) }
     {
         if self.ended {
             return Ok(Next::Ended);

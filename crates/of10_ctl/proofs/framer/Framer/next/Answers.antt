@@ -1,12 +1,18 @@
 use Rattle.std.proofs.Common.{◌≡◌, ◌∙◌, ◌++◌, ℕ, List, [], false, take, drop, sym, ap}
-use Rattle.of10_ctl.specs.Streams.{Stream, frames_of}
-use Rattle.of10_ctl.proofs.Standing.{answer_unended, answer_given, stands_given}
+use Rattle.of10_ctl.specs.Streams.{Stream, frames_of, frame_in}
+use Rattle.of10_ctl.proofs.Standing.{answer_unended, answer_given, stands_given, on_err}
 use Rattle.of10_ctl.proofs.framer.Framer.next.Goals as goal
 
 pub returns-in_default-clause-answer : goal.returns-in_default-clause-answer
 returns-in_default-clause-answer c = λ fed given stands.
     let unended : c.args.self.now.ended ≡ false = rw (sym c.self.view_is) c.if-self.false in
     answer_unended c.args.self.now fed given stands unended [] (ap frames_of (sym c.left-left.ensures) ∙ c.in_default.ensures.none)
+
+pub returns-in_err-from_slice-clause-memory : goal.returns-in_err-from_slice-clause-memory
+returns-in_err-from_slice-clause-memory c = on_err c.from_residual.result (λ fed given stands.
+    let unended : c.args.self.now.ended ≡ false = rw (sym c.self.view_is) c.if-self.false in
+    let frame = take c.in-Some.size c.left-left.result.now in
+    (frame, ap frame_in (sym (answer_given c.args.self.now fed given stands unended frame _ (ap (λ (left : List ℕ). frames_of (left ++ [])) (sym c.left-left.ensures) ∙ c.in-Some.ensures.first [])))))
 
 pub returns-clause-answer : goal.returns-clause-answer
 returns-clause-answer c = λ fed given stands.
