@@ -1,4 +1,4 @@
-ghost use Rattle.std.specs.Prelude.{◌≡◌, ◌+◌, ◌≤◌, IfOk, length, take};
+ghost use Rattle.std.specs.Prelude.{◌≡◌, ◌+◌, ◌≤◌, IfOk, length, take, vec_capacity};
 ghost use Rattle.of10_ctl.specs.Heads.{head_bytes};
 ghost use Rattle.of10_ctl.specs.Frames.{message_of, error_of};
 ghost use Rattle.of10_ctl.specs.Kinds.{IsOf};
@@ -15,7 +15,8 @@ const CAUSE: usize = 64;
 /// The header of a message of version 1 whose body will have so many bytes, with room for them.
 pub fn begin(alloc: Global, kind: u8, xid: u32, body: usize) -> Result<Vec<u8>, AllocError>
     requires { body ≤ 65527 }
-    ensures { IfOk result (λ v. v.items ≡ head_bytes kind (8 + body) xid) }
+    ensures value { IfOk result (λ v. v.items ≡ head_bytes kind (8 + body) xid) }
+    ensures room { IfOk result (λ v. 8 + body ≤ vec_capacity v) }
 {
     let mut bytes = Vec::with_capacity(alloc, 8 + body)?;
     bytes.extend_from_slice(&[1, kind])?;
