@@ -1,5 +1,5 @@
 -- The test of two matches tells whether they are one.
-use Rattle.std.proofs.Common.{◌≡◌, ℕ, true, ◌==◌, Option, Some, None, refl, sym, eqb-true, eq-eqb}
+use Rattle.std.proofs.Common.{◌≡◌, ◌↔◌, IsTrue, ℕ, true, ◌==◌, Option, Some, None, refl, sym, subst, eqb-true, eq-eqb}
 use Rattle.std.proofs.lemmas.Bool.{true≢false, and_parts, and_from}
 use Rattle.of10_model.specs.declared.pattern.Prefix.{Prefix}
 use Rattle.of10_model.specs.declared.pattern.Pattern.{Pattern}
@@ -68,3 +68,7 @@ is_same-one a =
       is_tp_src = same-one a.nw_proto;
       is_tp_dst = same-one a.nw_tos;
     })
+
+-- the test answers by equality
+pub is_same_iff : (a b : Pattern) → IsTrue (is_same a b) ↔ (a ≡ b)
+is_same_iff a b = (one-is_same a b, λ same. subst (λ m. IsTrue (is_same a m)) same (is_same-one a))

@@ -17,7 +17,7 @@ same_prefix None (Some q) = false
 same_prefix (Some p) None = false
 same_prefix (Some p) (Some q) = p.bits == q.bits && p.value == q.value
 
--- two matches are one: each field has one constraint in both
+-- two matches are one: each field has one constraint in both. The fields in which matches of one slice differ most often come first, as in the code that tests this; the order says nothing, since laws::sameness_is_decided has it that this is equality
 unfoldable pub is_same : Pattern → Pattern → Bool
 is_same a b =
     same_prefix a.nw_dst b.nw_dst && same_prefix a.nw_src b.nw_src && same a.tp_dst b.tp_dst && same a.tp_src b.tp_src

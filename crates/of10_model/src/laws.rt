@@ -8,6 +8,7 @@ ghost use Rattle.of10_model.specs.Pattern.{Has, has};
 ghost use Rattle.of10_model.specs.Normal.{Norm, IsNormal};
 ghost use Rattle.of10_model.specs.Spelling.{Spell};
 ghost use Rattle.of10_model.specs.Padding.{AlikeBut};
+ghost use Rattle.of10_model.specs.Same.{is_same};
 
 /// The protocols have the numbers of IEEE 802.3 and of IP, and untagged packets the VLAN 0xffff (OpenFlow
 /// 1.0.0, section 5.2.3).
@@ -20,6 +21,11 @@ pub fn protocols_are_numbered()
 /// The test of membership, which computes, answers by the relation.
 pub fn membership_is_decided()
     ensures { (m : Pattern) (h : Header) → IsTrue (has m h) ↔ Has m h }
+{}
+
+/// The test of two matches, which computes, tells whether they are equal.
+pub fn sameness_is_decided()
+    ensures { (a b : Pattern) → IsTrue (is_same a b) ↔ (a ≡ b) }
 {}
 
 /// The normal form of any bytes is a normal match.
