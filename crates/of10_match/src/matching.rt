@@ -177,7 +177,7 @@ impl Match {
     pub fn exact(h: &Header12) -> Match
         requires { IsTidy h.now }
         ensures value { result ≡ exact_of h.now }
-        ensures alone { (other : Header) → Has result other → other ≡ h.now }
+        ensures alone { (other : Header) → Has result other ↔ (other ≡ h.now) }
     {
         Match {
             pattern: exact_pattern(h),

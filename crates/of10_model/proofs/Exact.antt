@@ -1,5 +1,5 @@
 -- The match of one header alone is normal, where the fields that don't apply are zero in it.
-use Rattle.std.proofs.Common.{ℕ, ◌≡◌, ◌-◌, ◌/◌, ◌%◌, ◌^◌, Bool, true, false, Option, Some, refl, ap, sym, lit≤, arith}
+use Rattle.std.proofs.Common.{ℕ, ◌≡◌, ◌↔◌, ◌-◌, ◌/◌, ◌%◌, ◌^◌, Bool, true, false, Option, Some, refl, ap, sym, lit≤, arith}
 use Rattle.of10_model.specs.Header.{Header, IsHeader}
 use Rattle.of10_model.specs.Normal.{applied, has_vlan, has_network, has_service, has_ports, IsInRange, IsNormal}
 use Rattle.of10_model.specs.Pattern.{Has}
@@ -62,6 +62,26 @@ IsNormal-exact h r t =
 same_whole : (x y : ℕ) → x / 2 ^ (32 - 32) ≡ y / 2 ^ (32 - 32) → x ≡ y
 same_whole x y e = omega arith
 
-pub alone-exact : (h other : Header) → Has (exact_of h) other → other ≡ h
+alone-exact : (h other : Header) → Has (exact_of h) other → other ≡ h
 alone-exact h other has =
     rw (has.in_port, has.dl_src, has.dl_dst, has.dl_vlan, has.dl_vlan_pcp, has.dl_type, has.nw_tos, has.nw_proto, same_whole other.nw_src h.nw_src has.nw_src, same_whole other.nw_dst h.nw_dst has.nw_dst, has.tp_src, has.tp_dst) refl
+
+has-exact : (h : Header) → Has (exact_of h) h
+has-exact h = record {
+  in_port = refl;
+  dl_src = refl;
+  dl_dst = refl;
+  dl_vlan = refl;
+  dl_vlan_pcp = refl;
+  dl_type = refl;
+  nw_tos = refl;
+  nw_proto = refl;
+  nw_src = refl;
+  nw_dst = refl;
+  tp_src = refl;
+  tp_dst = refl;
+}
+
+-- the match of one header has that header alone
+pub has_exact_iff : (h other : Header) → Has (exact_of h) other ↔ (other ≡ h)
+has_exact_iff h other = (alone-exact h other, λ same. rw same (has-exact h))
