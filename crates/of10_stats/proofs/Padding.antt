@@ -1,8 +1,9 @@
--- Padding says nothing.
-use Rattle.std.proofs.Common.{◌≡◌, ℕ, ◌≤◌, List, refl, sym, ◌∙◌, arith}
+-- Padding and flags say nothing.
+use Rattle.std.proofs.Common.{◌≡◌, ℕ, ◌≤◌, List, take, slice_index, refl, sym, ap, ◌∙◌, arith}
+use Rattle.std.proofs.lemmas.List.{get_or-drop}
 use Rattle.of10_model.specs.Normal.{number_at}
 use Rattle.of10_model.specs.Padding.{AlikeBut}
-use Rattle.of10_model.proofs.Padding.{piece_before, number_before, byte_before, number_behind}
+use Rattle.of10_model.proofs.Padding.{piece_before, number_before, byte_before, rest_behind, number_behind}
 use Rattle.of10_stats.specs.Requests.{request_of, read_request}
 
 -- requests of one type and length are read alike if what they ask is
@@ -39,3 +40,22 @@ port_alike a b is h = same_asked 14 20 a b 4 h (omega arith) is (same_port a b h
 
 pub queue_alike : (a b : List ℕ) → number_at a 8 2 ≡ 5 → AlikeBut 14 16 a b → read_request a ≡ read_request b
 queue_alike a b is h = same_asked 14 16 a b 5 h (omega arith) is (same_queue a b h)
+
+-- ---- flags
+
+table_behind : (a b : List ℕ) → AlikeBut 10 12 a b → slice_index a 52 ≡ slice_index b 52
+table_behind a b h = sym (get_or-drop 12 a 40 0) ∙ ap (λ (rest : List ℕ). slice_index rest 40) h.rest ∙ get_or-drop 12 b 40 0
+
+same_behind : (kind : ℕ) (a b : List ℕ) → AlikeBut 10 12 a b → request_of kind a ≡ request_of kind b
+unfolding request_of
+same_behind kind a b h =
+    rw (
+      number_behind 10 12 a b h 0 2,
+      number_behind 10 12 a b h 4 4,
+      number_behind 10 12 a b h 42 2,
+      table_behind a b h,
+      ap (take 40) (rest_behind 10 12 a b h 0),
+    ) refl
+
+pub flags_alike : (a b : List ℕ) → AlikeBut 10 12 a b → read_request a ≡ read_request b
+flags_alike a b h = same_asked 10 12 a b (number_at a 8 2) h (omega arith) refl (same_behind (number_at a 8 2) a b h)

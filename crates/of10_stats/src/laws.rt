@@ -24,6 +24,12 @@ pub fn request_padding_says_nothing()
     ensures queue { (a b : List ℕ) → number_at a 8 2 ≡ 5 → AlikeBut 14 16 a b → read_request a ≡ read_request b }
 {}
 
+/// The flags of a STATS_REQUEST, of which OpenFlow 1.0.0 defines none (section 5.3.5), say nothing: requests alike
+/// but for bytes 10 and 11 are read alike.
+pub fn request_flags_say_nothing()
+    ensures { (a b : List ℕ) → AlikeBut 10 12 a b → read_request a ≡ read_request b }
+{}
+
 /// The size of an entry is that of the only well-formed entry that begins the bytes.
 pub fn entry_size_is_that_of_the_entry()
     ensures { (kind n : ℕ) (rest : List ℕ) → (entry_size_of kind rest ≡ Some n) ↔ ((n ≤ length rest) × IsEntry kind (take n rest)) }
