@@ -12,6 +12,24 @@ use Rattle.of10_model.specs.Results.{◌>>=◌}
 use Rattle.of10_action.specs.Reading.{read_all}
 use Rattle.of10_ctl.specs.Frames.{message_of}
 use Rattle.of10_flow.specs.declared.flow_mod.FlowMod.{FlowMod}
+use Rattle.of10_flow.specs.declared.flow_mod.FlowModView.{FlowModView}
+
+-- what a view of a flow-mod shows
+abbrev pub shown_flow_mod : FlowModView → FlowMod
+shown_flow_mod view =
+    record {
+      xid = view.xid;
+      pattern = view.pattern.now;
+      cookie = view.cookie;
+      command = view.command;
+      idle = view.idle;
+      hard = view.hard;
+      priority = view.priority;
+      buffer = view.buffer;
+      out_port = view.out_port;
+      flags = view.flags;
+      actions = view.actions.now;
+    }
 
 -- each field lies in the range of its place in the message, and the message fits its length field (section 5.3.3)
 pub record IsFlowMod (m : FlowMod) : Type 0 where

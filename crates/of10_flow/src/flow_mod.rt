@@ -2,13 +2,13 @@ ghost use Rattle.std.specs.Prelude.{◌≡◌, ◌+◌, ◌≤◌, ◌++◌, len
 ghost use Rattle.std.specs.List.{All};
 ghost use Rattle.byteorder.specs.Endian.{big_bytes};
 ghost use Rattle.of10_action.specs.declared.fault.DecodeFault.TheVariants.{Memory};
-ghost use Rattle.of10_action.specs.Actions.{IsAction, spelling};
+ghost use Rattle.of10_action.specs.Actions.{IsAction, HasAddress, spelling};
 ghost use Rattle.of10_action.specs.Reading.{Gives};
 ghost use Rattle.of10_ctl.specs.Kinds.{IsOf};
-ghost use Rattle.of10_flow.specs.FlowMods.{IsFlowMod, flow_mod_with, read_flow_mod, spell_flow_mod};
+ghost use Rattle.of10_flow.specs.FlowMods.{IsFlowMod, flow_mod_with, read_flow_mod, shown_flow_mod, spell_flow_mod};
 
 use crate::fields::{put_buffer, put_entry};
-use of10_action::{Actions, DecodeFault, WireFault, decode_list, encode_list, list_size};
+use of10_action::{Action, Actions, DecodeFault, WireFault, decode_list, encode_list, list_size};
 use of10_ctl::kind::FLOW_MOD;
 use of10_ctl::{Frame, begin};
 use of10_match::Match;
@@ -37,6 +37,30 @@ pub struct FlowMod {
     /// Bits such as `protocol::CHECK_OVERLAP`.
     pub flags: u16,
     pub actions: Actions,
+}
+
+/// The same with its match and its actions where they lie: nothing is copied.
+#[derive(Clone, Copy, Debug)]
+pub struct FlowModView<'a> {
+    pub xid: u32,
+    pub pattern: &'a Match,
+    /// A number of the controller's own, which the switch keeps with the entry.
+    pub cookie: u64,
+    /// What to do, such as `protocol::ADD`.
+    pub command: u16,
+    /// Seconds without a packet after which the entry goes; 0 for never.
+    pub idle: u16,
+    /// Seconds after which the entry goes; 0 for never.
+    pub hard: u16,
+    /// The higher one is looked at first.
+    pub priority: u16,
+    /// The buffered packet that the actions are applied to as well, or `protocol::NO_BUFFER`.
+    pub buffer: u32,
+    /// What a delete asks of an entry: an output to this port, or to any port where this is 0xffff.
+    pub out_port: u16,
+    /// Bits such as `protocol::CHECK_OVERLAP`.
+    pub flags: u16,
+    pub actions: &'a [Action],
 }
 
 /// The flow-mod with these actions whose other fields the bytes have.
@@ -94,6 +118,26 @@ fn put_times(out: &mut Vec<u8>, idle: u16, hard: u16, priority: u16) -> Result<(
     put_u16(out, priority)
 }
 
+impl<'a> FlowModView<'a> {
+    /// The message, of at most 65,535 bytes.
+    #[tactic(auto, unfolding(crate::specs::FlowMods::spell_flow_mod))]
+    pub fn encode(&self, alloc: Global) -> Result<Frame, AllocError>
+        requires addresses { All HasAddress self.now.actions.now }
+        requires fits { 72 + length (spelling self.now.actions.now) ≤ 65535 }
+        ensures value { IfOk result (λ f. f ≡ spell_flow_mod (shown_flow_mod self.now)) }
+        ensures kind { IfOk result (λ f. IsOf 14 f) }
+        ensures size { IfOk result (λ f. length f ≡ 72 + length (spelling self.now.actions.now)) }
+    {
+        let size = list_size(self.actions) as usize;
+        let mut out = begin(alloc, FLOW_MOD, self.xid, 64 + size)?;
+        put_entry(&mut out, self.pattern, self.cookie, self.command)?;
+        put_times(&mut out, self.idle, self.hard, self.priority)?;
+        put_buffer(&mut out, self.buffer, self.out_port, self.flags)?;
+        encode_list(self.actions, &mut out)?;
+        Ok(Frame::of(out))
+    }
+}
+
 impl FlowMod {
     /// The flow-mod that the frame is, or the first fault in it: its length where it is shorter than its
     /// fields, then what is wrong with the first action that is wrong.
@@ -106,21 +150,33 @@ impl FlowMod {
         read(alloc, frame.as_slice())
     }
 
+    /// The same flow-mod; nothing is copied.
+    pub fn view(&self) -> FlowModView<'_>
+        ensures value { shown_flow_mod result ≡ self.now }
+        ensures addresses { All HasAddress result.actions.now }
+    {
+        FlowModView {
+            xid: self.xid,
+            pattern: &self.pattern,
+            cookie: self.cookie,
+            command: self.command,
+            idle: self.idle,
+            hard: self.hard,
+            priority: self.priority,
+            buffer: self.buffer,
+            out_port: self.out_port,
+            flags: self.flags,
+            actions: self.actions.as_slice(),
+        }
+    }
+
     /// The message, of at most 65,535 bytes.
-    #[tactic(auto, unfolding(crate::specs::FlowMods::spell_flow_mod))]
     pub fn encode(&self, alloc: Global) -> Result<Frame, AllocError>
         requires { 72 + length (spelling self.now.actions) ≤ 65535 }
         ensures value { IfOk result (λ f. f ≡ spell_flow_mod self.now) }
         ensures kind { IfOk result (λ f. IsOf 14 f) }
         ensures size { IfOk result (λ f. length f ≡ 72 + length (spelling self.now.actions)) }
     {
-        let actions = self.actions.as_slice();
-        let size = list_size(actions) as usize;
-        let mut out = begin(alloc, FLOW_MOD, self.xid, 64 + size)?;
-        put_entry(&mut out, &self.pattern, self.cookie, self.command)?;
-        put_times(&mut out, self.idle, self.hard, self.priority)?;
-        put_buffer(&mut out, self.buffer, self.out_port, self.flags)?;
-        encode_list(actions, &mut out)?;
-        Ok(Frame::of(out))
+        self.view().encode(alloc)
     }
 }

@@ -9,7 +9,7 @@ mod packet_in;
 mod packet_out;
 pub mod protocol;
 
-pub use flow_mod::FlowMod;
+pub use flow_mod::{FlowMod, FlowModView};
 pub use flow_removed::FlowRemoved;
 pub use packet_in::{PacketIn, PacketInView};
 pub use packet_out::PacketOut;
