@@ -1,9 +1,9 @@
 -- The messages of the pieces one after the other, and their sizes.
-use Rattle.std.proofs.Common.{◌≡◌, ℕ, zero, suc, ◌+◌, ◌-◌, ◌<◌, ◌≤◌, ◌⊎◌, inl, inr, Bool, true, false, nat_lt, if◌then◌else◌, List, [], ◌∷◌, ◌++◌, length, take, get_or, sum_by, All, Option, refl, sym, ◌∙◌, ap, arith}
+use Rattle.std.proofs.Common.{◌≡◌, ℕ, zero, suc, ◌+◌, ◌-◌, ◌<◌, ◌≤◌, ◌⊎◌, inl, inr, Bool, true, false, nat_lt, if◌then◌else◌, List, [], ◌∷◌, ◌++◌, length, take, get_or, sum_by, All, Option, refl, sym, ◌∙◌, ap, subst, arith}
 use Rattle.std.specs.List.{list_any}
 use Rattle.std.proofs.lemmas.Bool.{lt-ltb, le-ltb, or_left, or_right, cases_lt, true≢false, or_parts}
-use Rattle.std.proofs.lemmas.List.{get_or-map, length-map, take_more}
-use Rattle.std.proofs.lemmas.List.Elements.{All-push}
+use Rattle.std.proofs.lemmas.List.{get_or-map, length-map, take_more, take_all}
+use Rattle.std.proofs.lemmas.List.Elements.{All-nil, All-push}
 use Rattle.std.proofs.lemmas.List.Folds.{list_any_at, list_any_none}
 use Rattle.std.proofs.lemmas.List.Sums.{sum_by_push, sum_by_more_le}
 use Rattle.of10_model.specs.declared.pattern.Pattern.{Pattern}
@@ -59,28 +59,44 @@ too_large messages room i size d lt left is (inr together) =
     or_left (nat_lt 262144 (sum_by length messages)) (list_any (λ bytes. nat_lt 65535 (length bytes)) messages)
     (lt-ltb 262144 (sum_by length messages) (omega arith))
 
--- the first messages are made, and so much room is left
-pub record Made (messages frames : List (List ℕ)) (room i : ℕ) : Type 0 where
-  pub so_far : frames ≡ take i messages
-  pub left : room + sum_by length frames ≡ 262144
-  pub small : All (λ bytes. length bytes ≤ 65535) frames
-  pub kind : All (IsOf 14) frames
+-- of the first messages each is small enough, and so much room is left behind them
+pub record Counted (messages : List (List ℕ)) (room i : ℕ) : Type 0 where
+  pub left : room + sum_by length (take i messages) ≡ 262144
+  pub small : All (λ bytes. length bytes ≤ 65535) (take i messages)
 
-pub made_more : (messages frames : List (List ℕ)) (room i size : ℕ) (frame : List ℕ) → Made messages frames room i → i < length messages
-    → frame ≡ get_or messages i frame → IsOf 14 frame → length frame ≡ size → size ≤ 65535 → size ≤ room → Made messages (frames ++ frame ∷ []) (room - size) (i + 1)
-made_more messages frames room i size frame made lt is kind long alone together =
+pub counted_none : (messages : List (List ℕ)) → Counted messages 262144 0
+counted_none messages = record { left = refl; small = All-nil (λ bytes. length bytes ≤ 65535) }
+
+pub counted_more : (messages : List (List ℕ)) (room i size : ℕ) → Counted messages room i → i < length messages → length (get_or messages i []) ≡ size → size ≤ 65535 → size ≤ room → Counted messages (room - size) (i + 1)
+counted_more messages room i size counted lt is alone together =
+    let last = get_or messages i [] in
+    let sum = sum_by_push length (take i messages) last in
+    let left = counted.left in
     record {
-      so_far = rw (made.so_far, take_more messages i frame lt, ← is) refl;
-      left = let sum = sum_by_push length frames frame in let left = made.left in omega arith;
-      small = All-push (λ bytes. length bytes ≤ 65535) frames frame made.small (omega arith);
-      kind = All-push (IsOf 14) frames frame made.kind kind;
+      left = rw (take_more messages i [] lt) (omega arith);
+      small = rw (take_more messages i [] lt) (All-push (λ bytes. length bytes ≤ 65535) (take i messages) last counted.small (omega arith));
     }
 
--- where all are made, they aren't too large
-pub fits : (frames : List (List ℕ)) (room : ℕ) → room + sum_by length frames ≡ 262144 → All (λ bytes. length bytes ≤ 65535) frames → are_too_large frames ≡ false
-fits frames room left small =
-    let none = list_any_none (λ bytes. nat_lt 65535 (length bytes)) frames (λ k d lt. le-ltb 65535 (length (get_or frames k d)) (small k d lt)) in
-    rw (le-ltb 262144 (sum_by length frames) (omega arith), none) refl
+fits : (messages : List (List ℕ)) (room : ℕ) → room + sum_by length messages ≡ 262144 → All (λ bytes. length bytes ≤ 65535) messages → are_too_large messages ≡ false
+fits messages room left small =
+    let none = list_any_none (λ bytes. nat_lt 65535 (length bytes)) messages (λ k d lt. le-ltb 65535 (length (get_or messages k d)) (small k d lt)) in
+    rw (le-ltb 262144 (sum_by length messages) (omega arith), none) refl
+
+-- where all are counted, they aren't too large
+pub all_fit : (messages : List (List ℕ)) (room i : ℕ) → Counted messages room i → length messages ≤ i → are_too_large messages ≡ false
+all_fit messages room i counted all = subst (λ ms. are_too_large ms ≡ false) (take_all i messages all) (fits (take i messages) room counted.left counted.small)
+
+-- the first messages are made
+pub record Made (messages frames : List (List ℕ)) (i : ℕ) : Type 0 where
+  pub so_far : frames ≡ take i messages
+  pub kind : All (IsOf 14) frames
+
+pub made_more : (messages frames : List (List ℕ)) (i : ℕ) (frame : List ℕ) → Made messages frames i → i < length messages → frame ≡ get_or messages i frame → IsOf 14 frame → Made messages (frames ++ frame ∷ []) (i + 1)
+made_more messages frames i frame made lt is kind =
+    record {
+      so_far = rw (made.so_far, take_more messages i frame lt, ← is) refl;
+      kind = All-push (IsOf 14) frames frame made.kind kind;
+    }
 
 not_above : (a b : ℕ) → nat_lt a b ≡ false → b ≤ a
 not_above a b e =
@@ -97,36 +113,39 @@ pub sizes_within : (messages : List (List ℕ)) → are_too_large messages ≡ f
 sizes_within messages e k d lt =
     each_within messages (or_parts (nat_lt 262144 (sum_by length messages)) (list_any (λ bytes. nat_lt 65535 (length bytes)) messages) e).1 k d lt (nat_lt 65535 (length (get_or messages k d))) refl
 
--- ---- what the walk over the pieces makes at a place
+pub together_within : (messages : List (List ℕ)) → are_too_large messages ≡ false → sum_by length messages ≤ 262144
+together_within messages e = not_above 262144 (sum_by length messages) (or_parts (nat_lt 262144 (sum_by length messages)) (list_any (λ bytes. nat_lt 65535 (length bytes)) messages) e).0
 
-sent_with : (m : FlowMod) (xid : ℕ) (piece : Pattern) (actions sent : List Action) (number : ℕ) → sent ≡ (if is_delete m then [] else actions)
-    → record (sent_for m xid piece sent number) { actions = sent } ≡ sent_for m xid piece actions number
-unfolding sent_for
-sent_with m xid piece actions sent number is = ap (λ s. record (sent_for m xid piece sent number) { actions = s }) is
+-- ---- what stands at a place
 
 sent_size : (m : FlowMod) (xid : ℕ) (piece : Pattern) (actions : List Action) (number : ℕ) → length (spell_flow_mod (sent_for m xid piece actions number)) ≡ 72 + length (spelling (if is_delete m then [] else actions))
 unfolding sent_for
 sent_size m xid piece actions number = spell_size (sent_for m xid piece actions number)
 
-at_place : (m : FlowMod) (xid : ℕ) (pieces : List Pattern) (lists : List (List Action)) (buffer : Option (ℕ × ℕ)) (i : ℕ) (piece : Pattern) (actions : List Action) (b : List ℕ) → i < length pieces → length lists ≡ length pieces
-    → piece ≡ get_or pieces i piece → actions ≡ get_or lists i actions → get_or (flow_messages m xid pieces lists buffer) i b ≡ spell_flow_mod (sent_for m xid piece actions (buffer_at buffer i))
-at_place m xid pieces lists buffer i piece actions b lt long at_piece at_list =
-    flow_messages_at m xid pieces lists buffer i b piece actions lt long
-    ∙ ap (λ p. spell_flow_mod (sent_for m xid p (get_or lists i actions) (buffer_at buffer i))) (sym at_piece)
-    ∙ ap (λ l. spell_flow_mod (sent_for m xid piece l (buffer_at buffer i))) (sym at_list)
-
--- the message of the piece there
-pub made_at : (m : FlowMod) (xid : ℕ) (pieces : List Pattern) (lists : List (List Action)) (buffer : Option (ℕ × ℕ)) (i : ℕ) (piece : Pattern) (actions sent : List Action) (number : ℕ) (frame : List ℕ) → i < length pieces → length lists ≡ length pieces
-    → piece ≡ get_or pieces i piece → actions ≡ get_or lists i actions → sent ≡ (if is_delete m then [] else actions) → number ≡ buffer_at buffer i
-    → frame ≡ spell_flow_mod (record (sent_for m xid piece sent number) { actions = sent }) → frame ≡ get_or (flow_messages m xid pieces lists buffer) i frame
-made_at m xid pieces lists buffer i piece actions sent number frame lt long at_piece at_list is at_number made =
-    made ∙ ap spell_flow_mod (sent_with m xid piece actions sent number is) ∙ ap (λ n. spell_flow_mod (sent_for m xid piece actions n)) at_number
-    ∙ sym (at_place m xid pieces lists buffer i piece actions frame lt long at_piece at_list)
-
--- and its size
-pub size_at : (m : FlowMod) (xid : ℕ) (pieces : List Pattern) (lists : List (List Action)) (buffer : Option (ℕ × ℕ)) (i : ℕ) (piece : Pattern) (actions sent : List Action) (size : ℕ) → i < length pieces → length lists ≡ length pieces
-    → piece ≡ get_or pieces i piece → actions ≡ get_or lists i actions → sent ≡ (if is_delete m then [] else actions) → size ≡ length (spelling sent)
+-- the size of the message there
+pub size_at : (m : FlowMod) (xid : ℕ) (pieces : List Pattern) (lists : List (List Action)) (buffer : Option (ℕ × ℕ)) (i : ℕ) (actions sent : List Action) (size : ℕ) → i < length lists → length lists ≡ length pieces
+    → actions ≡ get_or lists i actions → sent ≡ (if is_delete m then [] else actions) → size ≡ length (spelling sent)
     → length (get_or (flow_messages m xid pieces lists buffer) i []) ≡ 72 + size
-size_at m xid pieces lists buffer i piece actions sent size lt long at_piece at_list is sized =
-    ap length (at_place m xid pieces lists buffer i piece actions [] lt long at_piece at_list) ∙ sent_size m xid piece actions (buffer_at buffer i)
-    ∙ ap (λ s. 72 + length (spelling s)) (sym is) ∙ ap (λ n. 72 + n) (sym sized)
+size_at m xid pieces lists buffer i actions sent size lt long at_list is sized =
+    let piece = get_or pieces i m.pattern in
+    ap length (flow_messages_at m xid pieces lists buffer i [] m.pattern actions (omega arith) long)
+    ∙ ap (λ l. length (spell_flow_mod (sent_for m xid piece l (buffer_at buffer i)))) (sym at_list)
+    ∙ sent_size m xid piece actions (buffer_at buffer i) ∙ ap (λ s. 72 + length (spelling s)) (sym is) ∙ ap (λ n. 72 + n) (sym sized)
+
+-- the message there is that of the flow-mod which is sent for the piece
+pub made_at : (m : FlowMod) (xid : ℕ) (pieces : List Pattern) (lists : List (List Action)) (buffer : Option (ℕ × ℕ)) (i : ℕ) (piece : Pattern) (actions : List Action) (number : ℕ) (sent : FlowMod) (b : List ℕ) → i < length pieces → length lists ≡ length pieces
+    → piece ≡ get_or pieces i piece → actions ≡ get_or lists i actions → number ≡ buffer_at buffer i → sent ≡ sent_for m xid piece actions number
+    → spell_flow_mod sent ≡ get_or (flow_messages m xid pieces lists buffer) i b
+made_at m xid pieces lists buffer i piece actions number sent b lt long at_piece at_list at_number is =
+    ap spell_flow_mod is ∙ ap (λ n. spell_flow_mod (sent_for m xid piece actions n)) at_number
+    ∙ ap (λ p. spell_flow_mod (sent_for m xid p actions (buffer_at buffer i))) at_piece
+    ∙ ap (λ l. spell_flow_mod (sent_for m xid (get_or pieces i piece) l (buffer_at buffer i))) at_list
+    ∙ sym (flow_messages_at m xid pieces lists buffer i b piece actions lt long)
+
+-- and fits its length field, where none is too large
+pub fits_at : (messages : List (List ℕ)) (i : ℕ) (sent : FlowMod) → i < length messages → are_too_large messages ≡ false → spell_flow_mod sent ≡ get_or messages i [] → 72 + length (spelling sent.actions) ≤ 65535
+fits_at messages i sent lt fit is =
+    let small = sizes_within messages fit i [] lt in
+    let same = ap length is in
+    let size = spell_size sent in
+    omega arith

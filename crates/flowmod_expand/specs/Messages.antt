@@ -44,8 +44,8 @@ flow_messages m xid pieces lists buffer = map spell_flow_mod (sent_from 0 m xid 
 abbrev pub are_too_large : List (List ℕ) → Bool
 are_too_large messages = nat_lt 262144 (sum_by length messages) || list_any (λ bytes. nat_lt 65535 (length bytes)) messages
 
--- a call answers the messages exactly where they aren't too large, and that they are where they are; or want of memory
+-- a call answers the messages exactly where they aren't too large, or want of memory in their place, and that they are too large where they are
 abbrev pub Gives : {A : Type 0} → (A → List (List ℕ)) → Result A BuildFault → List (List ℕ) → Type 0
 Gives view (Ok frames) messages = (view frames ≡ messages) × (are_too_large messages ≡ false)
 Gives view (Err TooLarge) messages = are_too_large messages ≡ true
-Gives view (Err Memory) messages = Unit {0}
+Gives view (Err Memory) messages = are_too_large messages ≡ false

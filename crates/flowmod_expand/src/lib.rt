@@ -6,8 +6,8 @@ mod fault;
 pub mod laws;
 mod marks;
 mod messages;
+mod sending;
 mod splitting;
-mod writing;
 
 pub use fault::BuildFault;
 pub use messages::build;

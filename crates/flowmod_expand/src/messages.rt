@@ -1,11 +1,12 @@
 //! The messages of a flow-mod.
 
-ghost use Rattle.std.specs.Prelude.{◌≡◌, ◌⊎◌, ◌+◌, ◌<◌, ◌≤◌, true, false, length, All, sum_by, IfOk, IfSome, MatchOption, IsTrue};
+ghost use Rattle.std.specs.Prelude.{ℕ, ◌≡◌, ◌⊎◌, ◌+◌, ◌<◌, ◌≤◌, false, List, length, All, Option, sum_by, IfOk, IfSome, IsTrue};
+ghost use Rattle.of10_model.specs.declared.pattern.Pattern.{Pattern};
 ghost use Rattle.of10_ctl.specs.Kinds.{IsOf};
 ghost use Rattle.flowmod_expand.specs.Messages.{buffer_at, flow_messages, are_too_large, Gives};
 
 use crate::fault::BuildFault;
-use crate::writing::{message, sent_actions};
+use crate::sending::{sent_actions, sent_for};
 use of10_action::{Actions, list_size};
 use of10_ctl::Frame;
 use of10_flow::FlowMod;
@@ -39,7 +40,22 @@ fn is_too_large(size: u64, room: u64) -> bool
     size > MOST_ACTIONS || FIELDS + size > room
 }
 
-/// The messages of the pieces; `None` where they are too large.
+/// Whether the messages of pieces with these lists of actions are too large.
+fn are_too_large(m: &FlowMod, actions: &[Actions]) -> bool
+    ensures { (xid : ℕ) (pieces : List Pattern) (buffer : Option (ℕ × ℕ)) → length actions.now ≡ length pieces → result ≡ are_too_large (flow_messages m.now xid pieces actions.now buffer) }
+{
+    let mut room = EXPANSION;
+    for list in actions {
+        let size = list_size(sent_actions(m, list));
+        if is_too_large(size, room) {
+            return true;
+        }
+        room -= FIELDS + size;
+    }
+    false
+}
+
+/// The messages of the pieces, which aren't too large.
 fn messages(
     alloc: Global,
     m: &FlowMod,
@@ -47,24 +63,19 @@ fn messages(
     pieces: &[Match],
     actions: &[Actions],
     buffer: Option<(u32, u32)>,
-) -> Result<Option<Vec<Frame>>, AllocError>
-    requires { length actions.now ≡ length pieces.now }
-    ensures value { IfOk result (λ o. MatchOption o (are_too_large (flow_messages m.now xid pieces.now actions.now buffer) ≡ true) (λ v. (v.items ≡ flow_messages m.now xid pieces.now actions.now buffer) × (are_too_large v.items ≡ false))) }
-    ensures kind { IfOk result (λ o. IfSome o (λ v. All (IsOf 14) v.items)) }
+) -> Result<Vec<Frame>, AllocError>
+    requires lists { length actions.now ≡ length pieces.now }
+    requires fits { are_too_large (flow_messages m.now xid pieces.now actions.now buffer) ≡ false }
+    ensures value { IfOk result (λ frames. frames.items ≡ flow_messages m.now xid pieces.now actions.now buffer) }
+    ensures kind { IfOk result (λ frames. All (IsOf 14) frames.items) }
 {
     let mut frames = Vec::with_capacity(alloc, pieces.len())?;
-    let mut room = EXPANSION;
     for (place, piece) in pieces.iter().enumerate() {
-        let sent = sent_actions(m, &actions[place]);
-        let size = list_size(sent);
-        if is_too_large(size, room) {
-            return Ok(None);
-        }
-        room -= FIELDS + size;
         let number = buffer_at(buffer, place);
-        frames.push(message(alloc, m, xid, piece, sent, size as u16, number)?)?;
+        let sent = sent_for(m, xid, piece, &actions[place], number);
+        frames.push(sent.encode(alloc)?)?;
     }
-    Ok(Some(frames))
+    Ok(frames)
 }
 
 /// One message for each piece of a flow-mod, under the transaction `xid` of the switch: the piece's match
@@ -87,9 +98,11 @@ pub fn build(
     ensures sizes { IfOk result (λ frames. All (λ frame. length frame ≤ 65535) frames.items) }
     ensures together { IfOk result (λ frames. sum_by length frames.items ≤ 262144) }
 {
+    if are_too_large(m, actions) {
+        return Err(BuildFault::TooLarge);
+    }
     match messages(alloc, m, xid, pieces, actions, buffer) {
-        Ok(Some(frames)) => Ok(frames),
-        Ok(None) => Err(BuildFault::TooLarge),
+        Ok(frames) => Ok(frames),
         Err(_) => Err(BuildFault::Memory),
     }
 }
