@@ -8,4 +8,6 @@ pub mod Phases
 pub mod Seen
 pub mod Telling
 pub mod Making
+pub mod Reporting
+pub mod Sessions
 pub mod Lacking

@@ -1,6 +1,6 @@
 -- Statements about histories and operations. `src/laws.rt` has a function for each, which is proved.
 use Rattle.std.specs.Prelude.{ℕ, ◌≡◌, ◌==◌, ◌&&◌, ◌||◌, not, Bool, true, false, if◌then◌else◌, List, [], ◌∷◌, ◌++◌, filter, filter_map, length, map, take, reverse, is_some, IfSome, ◌-◌, ◌<◌, ◌≤◌, Option, Some, None}
-use Rattle.std.specs.List.{list_any}
+use Rattle.std.specs.List.{list_any, flat_map, enumerate_from, range_with_len}
 use Rattle.std.specs.Option.{option_or}
 use Rattle.of10_ctl.specs.Frames.{is_bad}
 use Rattle.of10_port.specs.declared.features.Features.{Features}
@@ -24,7 +24,8 @@ use Rattle.desk_words.specs.Histories.{is_slot, settings_at, own_ports, own_feat
 use Rattle.desk_words.specs.Sent.{sent_by, sent, lane_by}
 use Rattle.desk_words.specs.Verdicts.{is_fresh, is_ended, is_over, is_switch_up}
 use Rattle.desk_words.specs.Operations.{Operation, Step, Take, takes_in, events_of, empties_slice, ends, is_slice, is_switch}
-use Rattle.desk_words.specs.Recorded.{stream_before, timed_at, happenings, next_after, history_of, history_at, events_in, completed}
+use Rattle.desk_words.specs.Recorded.{stream_before, timed_at, happenings, next_of, next_after, history_of, history_at, events_in, completed}
+use Rattle.desk_words.specs.Reports.{Place, lane_lines, slice_lines, name_at, close_lines, down_lines, event_lines, last_line, report}
 use Rattle.desk_words.specs.Built.{is_unbuilt_of_switch, is_unbuilt_of_slice, Lack}
 
 -- ---- the switch's connection
@@ -265,6 +266,67 @@ pub record GetsTheFirst (h events : List Timed) : Type 0 where
 pub record ComeAtTheirSwitch (policy : PolicyView) (r : Told) (before : List Told) : Type 0 where
   pub own : history_of policy r.switch (r ∷ before) ≡ next_after (history_at policy r before) (events_in policy r before)
   pub others : (switch : ℕ) → (r.switch == switch) ≡ false → history_of policy switch (r ∷ before) ≡ history_of policy switch before
+
+-- ---- the report of a recording
+
+-- an event of a recording: its switch, the history of that switch before it, and the event with its moment
+pub record Happened : Type 0 where
+  pub switch : ℕ
+  pub history : List Timed
+  pub timed : Timed
+
+-- events that come one after another at a switch, each after the history that those before it left
+abbrev pub each_after : ℕ → List Timed → List Timed → List Happened
+each_after switch h events = map (λ one. record { switch = switch; history = next_after h (take one.0 events); timed = one.1 }) (enumerate_from 0 events)
+
+-- the events of a record after others
+abbrev pub happened_in : PolicyView → List Told → Told → List Happened
+happened_in policy before r = each_after r.switch (history_at policy r before) (events_in policy r before)
+
+-- all events of a recording, in the order of its records
+abbrev pub all_happened : PolicyView → List Told → List Happened
+all_happened policy records = flat_map (λ one. happened_in policy (reverse (take one.0 records)) one.1) (enumerate_from 0 records)
+
+-- the lines of an event at its number
+abbrev pub lines_at : PolicyView → ℕ × Happened → List ℕ
+lines_at policy one = event_lines policy (record { number = one.0; switch = one.1.switch }) one.1.history one.1.timed
+
+-- a report is the lines of all events, each at its number, and then the last line with how many there are
+abbrev pub HasEachEventOnce : PolicyView → List Told → Type 0
+HasEachEventOnce policy records =
+    report policy records ≡ flat_map (lines_at policy) (enumerate_from 0 (all_happened policy records)) ++ last_line (length (all_happened policy records))
+
+-- what the lines of an event tell the slice at a slot: nothing once the history is over
+abbrev pub told_by : PolicyView → ℕ → List Timed → Timed → List (List ℕ)
+told_by policy slot h timed = if is_over h then [] else sent_by policy slot h timed
+
+-- the lines of an event are those for the switch, and by slot those of each slice's name for what it is told; then the connection that is closed, and the end
+abbrev pub ShowsEachSlice : PolicyView → Place → List Timed → Timed → Type 0
+ShowsEachSlice policy place h timed =
+    event_lines policy place h timed
+    ≡ (if is_over h then [] else lane_lines place (lane_by policy h timed))
+    ++ flat_map (λ slot. slice_lines place (name_at policy.slices slot) (told_by policy slot h timed)) (range_with_len 0 (length policy.slices))
+    ++ close_lines policy place (next_of h timed) timed.event
+    ++ (if is_over h then [] else down_lines place h timed)
+
+-- a switch comes up
+abbrev pub is_up_at : ℕ → Happened → Bool
+is_up_at switch one = one.switch == switch && is_switch_up one.timed.event
+
+-- of these events those of a switch from its last up on
+abbrev pub since_up : ℕ → List Happened → List Happened
+since_up switch [] = []
+since_up switch (one ∷ later) = if one.switch == switch && not (list_any (is_up_at switch) later) then one ∷ since_up switch later else since_up switch later
+
+-- what events tell a slice, one after another
+abbrev pub told_over : PolicyView → ℕ → List Happened → List (List ℕ)
+told_over policy slot events = flat_map (λ one. told_by policy slot one.history one.timed) events
+
+-- from a switch's last up on a report tells a slice what a proxy sends that serves it alone, with its settings on its view of the switch's history
+abbrev pub IsToldAsAlone : PolicyView → ℕ → ℕ → List Told → Type 0
+IsToldAsAlone policy slot switch records =
+    let h = history_of policy switch (reverse records) in
+    told_over policy slot (since_up switch (all_happened policy records)) ≡ alone (settings_at policy slot (opening_of h)) (view_of policy slot h)
 
 -- ---- what isn't built
 

@@ -7,8 +7,9 @@ ghost use Rattle.recording.specs.declared.item.Item.{Item};
 ghost use Rattle.recording.specs.Recordings.{Told};
 ghost use Rattle.desk_words.specs.declared.event.Timed.{Timed};
 ghost use Rattle.desk_words.specs.Operations.{Operation, IsLegal, queue_of, lane_of};
+ghost use Rattle.desk_words.specs.Reports.{Place};
 ghost use Rattle.desk_words.specs.Built.{Lack, first_lack};
-ghost use Rattle.desk_words.specs.Laws.{IsPhaseByEvents, IsAlone, AreAlike, IsErasable, IsBlindBefore, IsSilentUntilUp, IsDownAfterDown, IsUpByEvents, sent_since, taken_since, lane_since, lane_taken_since, AreInOrder, AreCompletedOnce, SeesItsSwitch, AreKnownInOrder, AreKnownAsTold, MakesTheFirst, GetsTheFirst, ComeAtTheirSwitch, AreBuilt, IsFirstLack};
+ghost use Rattle.desk_words.specs.Laws.{IsPhaseByEvents, IsAlone, AreAlike, IsErasable, IsBlindBefore, IsSilentUntilUp, IsDownAfterDown, IsUpByEvents, sent_since, taken_since, lane_since, lane_taken_since, AreInOrder, AreCompletedOnce, SeesItsSwitch, AreKnownInOrder, AreKnownAsTold, MakesTheFirst, GetsTheFirst, ComeAtTheirSwitch, HasEachEventOnce, ShowsEachSlice, IsToldAsAlone, AreBuilt, IsFirstLack};
 
 /// The switch's connection has ended where, after it came, it went or a message of a bad length came; the
 /// opening is the first FEATURES_REPLY between.
@@ -86,6 +87,24 @@ pub fn record_makes_the_first()
 pub fn events_come_at_their_switch()
     ensures order { (h events : List Timed) → GetsTheFirst h events }
     ensures place { (policy : PolicyView) (r : Told) (before : List Told) → ComeAtTheirSwitch policy r before }
+{}
+
+/// A report is the lines of all events of its recording, each at its number and after the history of its
+/// switch, one after another, and then the line that tells how many there are.
+pub fn report_has_each_event_once()
+    ensures { (policy : PolicyView) (records : List Told) → HasEachEventOnce policy records }
+{}
+
+/// The lines of an event for the slices are, by slot and each slice once, those of what it is sent there;
+/// there are none once the history is over.
+pub fn event_shows_each_slice()
+    ensures { (policy : PolicyView) (place : Place) (h : List Timed) (timed : Timed) → ShowsEachSlice policy place h timed }
+{}
+
+/// What the lines of a switch's events tell a slice from the switch's last up on is, one after the other,
+/// what a proxy sends that serves the slice alone on its view of the switch.
+pub fn slice_is_told_as_alone()
+    ensures { (policy : PolicyView) (slot switch : ℕ) (records : List Told) → IsToldAsAlone policy slot switch records }
 {}
 
 /// A recording lacks nothing exactly where each record completes only messages that are built; and its
