@@ -29,7 +29,7 @@ is_kind kind message = kind_of message == kind
 
 -- ---- what may come from a controller
 
--- a message ends its connection: its length field doesn't count the header, or it is a HELLO of version 0 (this proxy's own rule)
+-- a message ends its connection: its length field doesn't count the header, as it should (section 5.1), or it is a HELLO of version 0, which has no version in common with this proxy (section 4.2). That each of them ends the connection, whenever it comes, is this proxy's own rule
 abbrev pub is_dismissing : List ℕ → Bool
 is_dismissing message = is_bad message || (is_kind HELLO message && version_of message == 0)
 
