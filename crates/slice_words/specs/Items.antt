@@ -1,5 +1,5 @@
 -- What a slice sees: its settings, and a view, which is a list of items with the newest first. All of this is this proxy's own rule, over the messages of OpenFlow 1.0.0.
-use Rattle.std.specs.Prelude.{ℕ, ◌+◌, max, Bool, true, false, if◌then◌else◌, List, [], ◌∷◌, filter, Option, Some, None}
+use Rattle.std.specs.Prelude.{ℕ, ◌+◌, Bool, true, false, if◌then◌else◌, List, [], ◌∷◌, filter, filter_map, Option, Some, None}
 use Rattle.of10_model.specs.declared.pattern.Pattern.{Pattern}
 use Rattle.of10_flow.specs.declared.flow_removed.FlowRemoved.{FlowRemoved}
 use Rattle.of10_port.specs.declared.features.Features.{Features}
@@ -9,6 +9,7 @@ use Rattle.flowspace.specs.declared.rules.Rule.{Rule}
 use Rattle.flowspace.specs.Rules.{is_written_by}
 use Rattle.flowspace.specs.Owners.{has_port}
 use Rattle.port_view.specs.KnownPorts.{changed_plainly}
+use Rattle.rate_bucket.specs.Rates.{latest as greatest}
 use Rattle.slice_words.specs.Messages.{is_dismissing, is_setting, miss_send_len_of}
 
 -- ---- settings
@@ -106,11 +107,18 @@ miss_send_len (Msg message moment ∷ view) =
     if is_dismissing message then 128 else if is_setting message then miss_send_len_of message else miss_send_len view
 miss_send_len (item ∷ view) = miss_send_len view
 
--- the greatest moment of the controller's messages
+-- the moment of an item that has one: a message of the controller
+abbrev pub moment_of : Item → Option ℕ
+moment_of (Msg message moment) = Some moment
+moment_of item = None
+
+-- the moments of the controller's messages
+abbrev pub moments : List Item → List ℕ
+moments view = filter_map moment_of view
+
+-- the greatest of them
 abbrev pub latest : List Item → ℕ
-latest [] = 0
-latest (Msg message moment ∷ view) = max moment (latest view)
-latest (item ∷ view) = latest view
+latest view = greatest (moments view)
 
 -- a share of a packet that the slice may use by number
 abbrev pub is_buffered : Share → Bool

@@ -1,7 +1,7 @@
 -- Statements about views and answers. `src/laws.rt` has a function for each, which is proved.
-use Rattle.std.specs.Prelude.{ℕ, ◌≡◌, ◌≤◌, ◌⊎◌, ◌&&◌, ◌||◌, not, Bool, true, false, List, [], ◌∷◌, ◌++◌, filter, filter_map, All, Contains, Option, Some, None}
+use Rattle.std.specs.Prelude.{ℕ, ◌≡◌, ◌≤◌, ◌⊎◌, ◌&&◌, ◌||◌, not, Bool, true, false, List, [], ◌∷◌, ◌++◌, filter, All, Contains}
 use Rattle.std.specs.List.{list_any}
-use Rattle.slice_words.specs.Items.{Settings, Item, Up, Msg, is_up, miss_send_len, latest, is_forgetting}
+use Rattle.slice_words.specs.Items.{Settings, Item, Up, Msg, is_up, miss_send_len, moments, latest, is_forgetting}
 use Rattle.slice_words.specs.Messages.{is_dismissing, is_setting, miss_send_len_of}
 use Rattle.slice_words.specs.Answers.{silence}
 use Rattle.slice_words.specs.Alone.{answer_to, alone, with_items, sent_for}
@@ -59,15 +59,6 @@ IsForgotten later item earlier = is_forgetting item ≡ true → list_any is_set
 -- and where nothing was ever set
 abbrev pub IsNeverSet : List Item → Type 0
 IsNeverSet view = list_any is_set view ≡ false → miss_send_len view ≡ 128
-
--- the moment of an item that has one
-abbrev pub moment_of : Item → Option ℕ
-moment_of (Msg message moment) = Some moment
-moment_of item = None
-
--- the moments of a view
-abbrev pub moments : List Item → List ℕ
-moments view = filter_map moment_of view
 
 -- the latest moment of a view is at least each of its moments
 abbrev pub IsAtLeastEach : List Item → Type 0
