@@ -1,7 +1,7 @@
 -- A slice that is down is sent nothing until it comes up.
 use Rattle.std.proofs.Common.{◌≡◌, ℕ, ◌==◌, ◌&&◌, ◌||◌, Bool, true, false, cond, if◌then◌else◌, List, [], ◌∷◌, ◌++◌, map, refl, ap, ap₂, sym, ◌∙◌, append-nil, true≢false, Option, Some, None, is_none, inl, inr, ◌⊎◌}
 use Rattle.std.proofs.lemmas.Bool.{eq-eqb, or_parts}
-use Rattle.std.specs.List.{list_any}
+use Rattle.std.specs.List.{filter, list_any}
 use Rattle.of10_model.proofs.Results.{either_none}
 use Rattle.of10_ctl.specs.declared.kind.TheConstants.{PACKET_IN}
 use Rattle.of10_ctl.specs.Frames.{is_bad}
@@ -15,11 +15,10 @@ use Rattle.frame_header.specs.Probes.{probe_slot_of}
 use Rattle.flowspace.specs.declared.rules.Rule.{Rule}
 use Rattle.flowspace.specs.Policies.{PolicyView}
 use Rattle.slice_words.specs.Items.{Settings, is_own_port, Share, Item, Opened as Told, Up, Down, Msg, Lost, Handed, Removed, Status, Fault, Barrier, Queues, Entry, Last, End, is_up, is_forgetting}
-use Rattle.slice_words.specs.Messages.{is_dismissing}
 use Rattle.slice_words.specs.Alone.{with_items, sent_for}
-use Rattle.slice_words.specs.Laws.{is_coming}
+use Rattle.slice_words.specs.Laws.{is_coming, is_last_up}
 use Rattle.slice_words.proofs.AnswerKinds.{either}
-use Rattle.slice_words.proofs.Joining.{silent}
+use Rattle.slice_words.proofs.Joining.{silent, last_up}
 use Rattle.desk_words.specs.declared.event.Event.{Event}
 use Rattle.desk_words.specs.declared.event.Event.TheVariants.{SwitchUp, SwitchMsg, SwitchDown, SliceUp, SliceMsg, SliceDown}
 use Rattle.desk_words.specs.declared.event.Timed.{Timed}
@@ -76,20 +75,7 @@ plain_opening policy slot None = refl
 plain_opening policy slot (Some features) = refl
 
 stays : (item : Item) (view : List Item) → is_forgetting item ≡ false → is_up (item ∷ view) ≡ is_up view
-stays Up view plain = absurd (true≢false plain)
-stays Down view plain = absurd (true≢false plain)
-stays (Msg message moment) view plain = rw plain refl
-stays (Told features) view plain = refl
-stays (Lost k) view plain = refl
-stays (Handed packet) view plain = refl
-stays (Removed entry) view plain = refl
-stays (Status status) view plain = refl
-stays (Fault x class code pair) view plain = refl
-stays (Barrier x) view plain = refl
-stays (Queues x body) view plain = refl
-stays (Entry x kind bytes) view plain = refl
-stays (Last x kind) view plain = refl
-stays End view plain = refl
+stays item view plain = last_up (item ∷ view) ∙ ap (λ (forgetting : Bool). is_last_up (if forgetting then item ∷ filter is_forgetting view else filter is_forgetting view)) plain ∙ sym (last_up view)
 
 -- such items leave the slice up or down
 pub stays_all : (items view : List Item) → are_plain items ≡ false → is_up (with_items items view) ≡ is_up view
@@ -100,25 +86,9 @@ stays_all (item ∷ items) view plain =
 
 -- ---- items without an up
 
-kept_down : (dismissing up : Bool) → up ≡ false → (if dismissing then false else up) ≡ false
-kept_down true up down = refl
-kept_down false up down = down
-
 down_still : (item : Item) (view : List Item) → is_coming item ≡ false → is_up view ≡ false → is_up (item ∷ view) ≡ false
-down_still Up view going down = absurd (true≢false going)
-down_still Down view going down = refl
-down_still (Msg message moment) view going down = kept_down (is_dismissing message) (is_up view) down
-down_still (Told features) view going down = down
-down_still (Lost k) view going down = down
-down_still (Handed packet) view going down = down
-down_still (Removed entry) view going down = down
-down_still (Status status) view going down = down
-down_still (Fault x class code pair) view going down = down
-down_still (Barrier x) view going down = down
-down_still (Queues x body) view going down = down
-down_still (Entry x kind bytes) view going down = down
-down_still (Last x kind) view going down = down
-down_still End view going down = down
+down_still item view going down =
+    last_up (item ∷ view) ∙ either (λ (items : List Item). is_last_up items ≡ false) (is_forgetting item) (item ∷ filter is_forgetting view) (filter is_forgetting view) going (sym (last_up view) ∙ down)
 
 -- nothing is sent for items without an up while the slice is down, and it stays down
 silent_items : (s : Settings) (view items : List Item) → is_up view ≡ false → list_any is_coming items ≡ false
