@@ -1,5 +1,5 @@
 -- Reading records one after the other, as a loop does.
-use Rattle.std.proofs.Common.{◌≡◌, ℕ, zero, suc, ◌+◌, ◌-◌, ◌≤◌, ◌<◌, not, ltb, leb, List, [], ◌∷◌, ◌++◌, length, reverse, Result, Ok, Err, refl, sym, ap, subst, ◌∙◌, arith}
+use Rattle.std.proofs.Common.{◌≡◌, ℕ, zero, suc, ◌+◌, ◌-◌, ◌≤◌, ◌<◌, not, ltb, leb, List, [], ◌∷◌, ◌++◌, length, reverse, ◌⊎◌, inl, inr, Result, Ok, Err, refl, sym, ap, subst, ◌∙◌, arith}
 use Rattle.std.proofs.lemmas.Bool.{ltb-false, le-leb, lt-leb}
 use Rattle.std.proofs.lemmas.List.{append-nil, reverse-append}
 use Rattle.of10_model.specs.Normal.{number_at}
@@ -8,7 +8,7 @@ use Rattle.of10_model.proofs.Results.{ok_is, passed, same_bind, unless, with_fro
 use Rattle.recording.specs.declared.item.Item.{Item}
 use Rattle.recording.specs.declared.fault.RecordingFault.{RecordingFault}
 use Rattle.recording.specs.declared.fault.RecordingFault.TheVariants.{Torn, Bad, NotOpen, Memory}
-use Rattle.recording.specs.Recordings.{Fails, item_at, is_formed, fits, record_at, items_from}
+use Rattle.recording.specs.Recordings.{Fails, HasFirst, item_at, is_formed, fits, record_at, items_from}
 use Rattle.recording.proofs.Forms.{ended}
 
 -- what a record that is read has: its bytes begin behind its head and lie in the file
@@ -72,3 +72,9 @@ pub is_done : (slices : ℕ) (bytes : List ℕ) (front : List Item) (at : ℕ) (
 unfolding items_from
 is_done slices bytes front at total h so_far =
     sym so_far ∙ ap (with_front front) (same_count (length bytes) zero slices bytes (reverse front) at (omega arith) (omega arith)) ∙ ap (λ (whole : List Item). Ok whole) (append-nil front)
+
+-- where a record is read behind none or behind the first one, the first one is read
+pub first_read : (slices : ℕ) (bytes : List ℕ) (before : List Item) (at : ℕ) (r : Item) → ((before ≡ []) × (at ≡ 8)) ⊎ HasFirst slices bytes
+    → record_at slices bytes (reverse before) at ≡ Ok r → HasFirst slices bytes
+first_read slices bytes before at r (inl start) e = (r, subst (λ n. record_at slices bytes [] n ≡ Ok r) start.1 (subst (λ l. record_at slices bytes (reverse l) at ≡ Ok r) start.0 e))
+first_read slices bytes before at r (inr first) e = first

@@ -130,6 +130,14 @@ read_items slices bytes =
     else if bytes_eq (take 8 bytes) magic then items_from (length bytes) slices bytes [] 8
     else Err (Bad 0)
 
+-- the record behind the bytes that begin the file is read
+abbrev pub HasFirst : ℕ → List ℕ → Type 0
+HasFirst slices bytes = (first : Item) × (record_at slices bytes [] 8 ≡ Ok first)
+
+-- a file begins as a recording does, and its first record is read
+abbrev pub IsBegun : ℕ → List ℕ → Type 0
+IsBegun slices bytes = (take 8 bytes ≡ magic) × HasFirst slices bytes
+
 -- ---- what every record that is read has
 
 -- its numbers are within their ranges, its slot is 0 or a slot of the policy, and its bytes lie in the file

@@ -1,7 +1,8 @@
-ghost use Rattle.std.specs.Prelude.{◌≡◌, ◌+◌, ◌≤◌, List, [], length, IfOk};
+ghost use Rattle.std.specs.Prelude.{◌≡◌, ◌≢◌, ◌+◌, ◌≤◌, List, [], length, Err, IfOk};
 ghost use Rattle.std.specs.List.{All};
 ghost use Rattle.recording.specs.declared.item.Item.{Item};
-ghost use Rattle.recording.specs.Recordings.{Gives, IsItem, item_at, byte_limit, is_formed, record_at, read_items, items_from};
+ghost use Rattle.recording.specs.declared.fault.RecordingFault.TheVariants.{Memory};
+ghost use Rattle.recording.specs.Recordings.{Gives, IsItem, HasFirst, IsBegun, item_at, byte_limit, is_formed, record_at, read_items, items_from};
 ghost use Rattle.recording.specs.Standing.{Stands};
 
 use crate::fault::RecordingFault;
@@ -62,6 +63,7 @@ fn record(slices: u8, bytes: &[u8], ups: &Ups, at: usize) -> Result<Item, Record
     ensures value { (before : List Item) → Stands ups.now.switches ups.now.slices before → result ≡ record_at slices bytes.now before at }
     ensures item { IfOk result (IsItem slices bytes.now) }
     ensures from { IfOk result (λ i. i.from ≡ at + 16) }
+    ensures memory { result ≢ Err Memory }
 {
     let left = bytes.len() - at;
     if left < 16 {
@@ -85,6 +87,7 @@ fn records(alloc: Global, bytes: &[u8], slices: u8) -> Result<Vec<Item>, Recordi
     requires { 8 ≤ length bytes.now }
     ensures exact { Gives (λ v. v.items) result (items_from (length bytes.now) slices bytes.now [] 8) }
     ensures within { IfOk result (λ v. All (IsItem slices bytes.now) v.items) }
+    ensures memory { result ≡ Err Memory → HasFirst slices bytes.now }
 {
     let mut items = Vec::new(alloc);
     let mut ups = Ups::new();
@@ -103,11 +106,12 @@ fn records(alloc: Global, bytes: &[u8], slices: u8) -> Result<Vec<Item>, Recordi
 
 /// The records of a file, in order, under a policy of so many slices. The first fault is answered, in
 /// this order at each record: a head that is cut off, a head of no form, bytes that are cut off, and a
-/// record that can't come by who is up.
+/// record that can't come by who is up. Memory is taken for records that are read alone.
 #[tactic(auto, unfolding(crate::specs::Recordings::read_items))]
 pub fn items(alloc: Global, bytes: &[u8], slices: u8) -> Result<Vec<Item>, RecordingFault>
     ensures exact { Gives (λ v. v.items) result (read_items slices bytes.now) }
     ensures within { IfOk result (λ v. All (IsItem slices bytes.now) v.items) }
+    ensures memory { result ≡ Err Memory → IsBegun slices bytes.now }
 {
     if bytes.len() < 8 {
         return Err(RecordingFault::Torn(0));

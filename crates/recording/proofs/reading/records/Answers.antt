@@ -1,8 +1,8 @@
-use Rattle.std.proofs.Common.{[], ◌∷◌, reverse, sym}
+use Rattle.std.proofs.Common.{[], ◌∷◌, reverse, sym, inr}
 use Rattle.std.proofs.lemmas.List.{reverse-append}
 use Rattle.std.proofs.lemmas.List.Elements.{All-push}
 use Rattle.recording.specs.Recordings.{IsItem}
-use Rattle.recording.proofs.Walk.{goes_on, ends, is_done}
+use Rattle.recording.proofs.Walk.{goes_on, ends, is_done, first_read}
 use Rattle.recording.proofs.reading.records.Goals as goal
 
 pub returns-in-Err-clause-exact : goal.returns-in-Err-clause-exact
@@ -21,6 +21,7 @@ loop-at-preserved c =
       stands = rw (c.in_ok-push.ensures.items, newest) (c.note.ensures (reverse front) c.loop-at.invariant.stands);
       range = rw c.in_ok-push.ensures.items (All-push (IsItem c.args.slices c.args.bytes.now) front c.in-Ok.item c.loop-at.invariant.range c.in-Ok.ensures.item);
       inside = c.in-Ok.ensures.item.within;
+      begun = inr (first_read c.args.slices c.args.bytes.now front c.loop-at.at c.in-Ok.item c.loop-at.invariant.begun (sym (c.in-Ok.ensures.value (reverse front) c.loop-at.invariant.stands)));
     }
 
 pub returns-clause-exact : goal.returns-clause-exact

@@ -1,7 +1,7 @@
-use Rattle.std.proofs.Common.{length, ◌-◌, ◌≡◌, ◌≤◌, reverse, []}
+use Rattle.std.proofs.Common.{length, ◌-◌, ◌≡◌, ◌≤◌, ◌⊎◌, reverse, []}
 use Rattle.std.specs.List.{All}
 use Rattle.of10_model.proofs.Results.{with_front}
-use Rattle.recording.specs.Recordings.{IsItem, items_from}
+use Rattle.recording.specs.Recordings.{IsItem, HasFirst, items_from}
 use Rattle.recording.specs.Standing.{Stands}
 use Rattle.recording.proofs.reading.records.Given as goal
 
@@ -11,6 +11,7 @@ invariant-loop-at l = record {
   stands : Stands l.ups.switches l.ups.slices (reverse l.items.items);
   range : All (IsItem l.slices l.bytes) l.items.items;
   inside : l.at ≤ length l.bytes;
+  begun : ((l.items.items ≡ []) × (l.at ≡ 8)) ⊎ HasFirst l.slices l.bytes;
 }
 
 abbrev pub decreases-loop-at : goal.decreases-loop-at
