@@ -1,9 +1,9 @@
-ghost use Rattle.std.specs.Prelude.{ℕ, ◌≡◌, ◌≤◌, List, [], ◌∷◌, length, IfOk, OnOk, OnErr};
+ghost use Rattle.std.specs.Prelude.{ℕ, ◌≡◌, ◌≤◌, List, [], ◌∷◌, length, IfOk, OnOk, OnErr, IsTrue};
 ghost use Rattle.of10_ctl.specs.Kinds.{IsOf};
 ghost use Rattle.of10_port.specs.declared.features.Features.{Features as FeaturesView};
 ghost use Rattle.of10_port.specs.declared.status.PortStatus.{PortStatus as StatusView};
 ghost use Rattle.of10_port.specs.Features.{spell_features};
-ghost use Rattle.port_view.specs.KnownPorts.{IsAscending, with_told, first_known, kept_of, changed, known_of};
+ghost use Rattle.port_view.specs.KnownPorts.{IsAscending, with_told, first_known, kept_of, is_kept, changed, known_of};
 ghost use Rattle.port_view.specs.Places.{PortsStand};
 ghost use Rattle.port_view.specs.SlicePorts.{ports_of_slice, features_with, flooded};
 
@@ -88,14 +88,15 @@ impl PortView {
         answer
     }
 
-    /// Takes in what a switch told of one port. A status that isn't kept changes nothing, and neither does
-    /// want of memory.
+    /// Takes in what a switch told of one port. A status that isn't kept changes nothing and
+    /// takes no memory, and want of memory changes nothing.
     pub fn take_status(&mut self, status: &PortStatus) -> Result<Kept, AllocError>
         ensures value { IfOk result (λ kept. kept ≡ kept_of status.now self.old) }
         ensures ports { OnOk result (self.new ≡ changed status.now self.old) }
         ensures answer { IfOk result (λ kept. (features : FeaturesView) (statuses : List StatusView) → PortsStand features statuses self.old → kept ≡ kept_of status.now (known_of features statuses)) }
         ensures stands { OnOk result ((features : FeaturesView) (statuses : List StatusView) → PortsStand features statuses self.old → PortsStand features (status.now ∷ statuses) self.new) }
         ensures unchanged { OnErr result (self.new ≡ self.old) }
+        ensures memory { OnErr result (IsTrue (is_kept status.now self.old)) }
     {
         let (place, answer) = judged(&self.ports, status);
         match answer {

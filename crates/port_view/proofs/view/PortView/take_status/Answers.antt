@@ -38,4 +38,5 @@ returns-in-Ignored c =
       answer = λ features statuses s. sym is ∙ ap (kept_of c.args.status.now) s.known;
       stands = λ features statuses s. PortsStand-taken features statuses c.args.status.now c.args.self.now c.args.self.now s (sym same);
       unchanged = tt;
+      memory = tt;
     }
