@@ -1,12 +1,15 @@
 -- What a slice's message makes of the slice's state, and what is answered (this proxy's own rule).
-use Rattle.std.specs.Prelude.{ℕ, ◌≡◌, true, false, List, [], ◌∷◌, map, filter, Some}
+use Rattle.std.specs.Prelude.{ℕ, ◌≡◌, ◌+◌, ◌||◌, ◌&&◌, leb, Bool, true, false, List, [], ◌∷◌, length, map, filter, Some}
+use Rattle.of10_model.specs.Normal.{number_at}
+use Rattle.of10_ctl.specs.declared.kind.TheConstants.{PACKET_OUT, FLOW_MOD}
 use Rattle.of10_port.specs.declared.features.Features.{Features}
 use Rattle.flowspace.specs.declared.rules.Rule.{Rule}
 use Rattle.flowspace.specs.Rules.{is_written_by}
 use Rattle.flowspace.specs.Policies.{SwitchView}
 use Rattle.port_view.specs.SlicePorts.{ports_of_slice, features_with}
-use Rattle.slice_words.specs.Messages.{is_dismissing, is_setting, miss_send_len_of}
+use Rattle.slice_words.specs.Messages.{is_kind, is_dismissing, is_setting, miss_send_len_of}
 use Rattle.slice_words.specs.Items.{Settings, Sight, Item, Msg, is_up, miss_send_len, features_in, known_ports}
+use Rattle.slice_words.specs.Answers.{Answer}
 use Rattle.slice_words.specs.Alone.{answer_to, rendered}
 use Rattle.slice_side.specs.declared.answered.Reaction.{Reaction}
 use Rattle.slice_side.specs.declared.change.Change.{Change}
@@ -50,3 +53,16 @@ pub record IsReaction (s : Settings) (sight : Sight) (item : Item) (r : Reaction
   pub to_switch : r.to_switch.items ≡ map (rendered sight.came) (answer_to s sight.view item).to_switch
   pub close : r.close ≡ (answer_to s sight.view item).dismissed
   pub change : IsChange item r.change
+
+-- the answer has a message to the slice
+abbrev pub has_reply : Answer → Bool
+has_reply answer = leb 1 (length answer.to_slice)
+
+-- a packet-out or a flow-mod that is long enough for its actions, which are read into memory (OpenFlow 1.0.0, sections 5.3.6 and 5.3.3)
+abbrev pub has_actions : List ℕ → Bool
+has_actions message =
+    (is_kind PACKET_OUT message && leb (16 + number_at message 14 2) (length message)) || (is_kind FLOW_MOD message && leb 72 (length message))
+
+-- a message is replied to, or its actions are read
+abbrev pub is_heeded : Settings → List Item → List ℕ → ℕ → Bool
+is_heeded s view message moment = has_reply (answer_to s view (Msg message moment)) || has_actions message

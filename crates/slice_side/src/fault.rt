@@ -1,6 +1,8 @@
 //! What is wrong with the form of a slice's message.
 
-ghost use Rattle.std.specs.Prelude.{◌≡◌, IfOk, Result, false};
+ghost use Rattle.std.specs.Prelude.{◌≡◌, ◌+◌, ◌≤◌, length, IfOk, OnErr, IsTrue, Result, Err, false};
+ghost use Rattle.of10_model.specs.Normal.{number_at};
+ghost use Rattle.of10_action.specs.declared.fault.DecodeFault.TheVariants.{Memory};
 ghost use Rattle.of10_action.specs.Reading.{Gives};
 ghost use Rattle.of10_ctl.specs.Kinds.{IsOf};
 ghost use Rattle.of10_ctl.specs.Frames.{is_bad};
@@ -8,6 +10,7 @@ ghost use Rattle.of10_flow.specs.PacketOuts.{read_packet_out};
 ghost use Rattle.of10_flow.specs.FlowMods.{read_flow_mod};
 ghost use Rattle.of10_stats.specs.Requests.{read_request};
 ghost use Rattle.slice_words.specs.Messages.{version_of, sized, fault_in, form_fault};
+ghost use Rattle.slice_side.specs.Reactions.{has_actions};
 
 use of10_action::{DecodeFault, WireFault};
 use of10_ctl::Frame;
@@ -33,7 +36,8 @@ fn sized(size: usize, frame: &Frame) -> Option<WireFault>
 
 /// The fault that was told where a message was read, if any.
 fn fault_told<T: Drop>(read: Result<T, DecodeFault>) -> Result<Option<WireFault>, AllocError>
-    ensures { (told : Result T WireFault) → Gives (λ m. m) read told → IfOk result (λ fault. fault ≡ fault_in told) }
+    ensures fault { (told : Result T WireFault) → Gives (λ m. m) read told → IfOk result (λ fault. fault ≡ fault_in told) }
+    ensures memory { OnErr result (read ≡ Err Memory) }
 {
     match read {
         Ok(_) => Ok(None),
@@ -44,14 +48,16 @@ fn fault_told<T: Drop>(read: Result<T, DecodeFault>) -> Result<Option<WireFault>
 
 fn in_packet_out(alloc: Global, frame: &Frame) -> Result<Option<WireFault>, AllocError>
     requires { IsOf 13 frame.now }
-    ensures { IfOk result (λ fault. fault ≡ fault_in (read_packet_out frame.now)) }
+    ensures fault { IfOk result (λ fault. fault ≡ fault_in (read_packet_out frame.now)) }
+    ensures memory { OnErr result (16 + number_at frame.now 14 2 ≤ length frame.now) }
 {
     fault_told(PacketOut::decode(alloc, frame))
 }
 
 fn in_flow_mod(alloc: Global, frame: &Frame) -> Result<Option<WireFault>, AllocError>
     requires { IsOf 14 frame.now }
-    ensures { IfOk result (λ fault. fault ≡ fault_in (read_flow_mod frame.now)) }
+    ensures fault { IfOk result (λ fault. fault ≡ fault_in (read_flow_mod frame.now)) }
+    ensures memory { OnErr result (72 ≤ length frame.now) }
 {
     fault_told(FlowMod::decode(alloc, frame))
 }
@@ -70,7 +76,8 @@ fn in_request(frame: &Frame) -> Option<WireFault>
 #[tactic(auto, unfolding(slice_words::specs::Messages::form_fault))]
 pub(crate) fn form_fault(alloc: Global, frame: &Frame) -> Result<Option<WireFault>, AllocError>
     requires { (version_of frame.now ≡ 1) × (is_bad frame.now ≡ false) }
-    ensures { IfOk result (λ fault. fault ≡ form_fault frame.now) }
+    ensures fault { IfOk result (λ fault. fault ≡ form_fault frame.now) }
+    ensures memory { OnErr result (IsTrue (has_actions frame.now)) }
 {
     let kind = frame.head().kind;
     let _bytes = frame.as_slice();

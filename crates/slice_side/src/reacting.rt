@@ -1,8 +1,8 @@
-ghost use Rattle.std.specs.Prelude.{◌≡◌, IfOk, option_to_list};
+ghost use Rattle.std.specs.Prelude.{◌≡◌, IfOk, OnErr, IsTrue, is_some, option_to_list};
 ghost use Rattle.slice_words.specs.Messages.{is_dismissing, is_setting};
 ghost use Rattle.slice_words.specs.Items.{Settings, Sight, Msg};
 ghost use Rattle.slice_words.specs.Standing.{SliceStands};
-ghost use Rattle.slice_side.specs.Reactions.{Sees, IsReaction, IsChangeFor};
+ghost use Rattle.slice_side.specs.Reactions.{Sees, IsReaction, IsChangeFor, is_heeded};
 
 use crate::answered::Reaction;
 use crate::change::Change;
@@ -53,7 +53,8 @@ fn change_for(frame: &Frame, moment: u64) -> Change
 
 /// At most one message.
 fn one(alloc: Global, message: Option<Frame>) -> Result<Vec<Frame>, AllocError>
-    ensures { IfOk result (λ v. v.items ≡ option_to_list message) }
+    ensures value { IfOk result (λ v. v.items ≡ option_to_list message) }
+    ensures memory { OnErr result (IsTrue (is_some message)) }
 {
     let mut messages = Vec::new(alloc);
     if let Some(message) = message {
@@ -64,6 +65,7 @@ fn one(alloc: Global, message: Option<Frame>) -> Result<Vec<Frame>, AllocError>
 
 /// What follows from a message of the controller of the slice at the slot, which came at the moment. It
 /// changes nothing: `apply` makes the change. `features` are those with which the switch told what it is.
+/// Memory is taken for a reply and for actions that are read, and for no other message.
 pub fn react(
     alloc: Global,
     policy: &SwitchPolicy,
@@ -74,7 +76,8 @@ pub fn react(
     frame: &Frame,
     moment: u64,
 ) -> Result<Reaction, AllocError>
-    ensures { (s : Settings) (sight : Sight) → SliceStands s sight state.now → Sees s sight.view policy.now ports.now features.now slot → IfOk result (IsReaction s sight (Msg frame.now moment)) }
+    ensures reaction { (s : Settings) (sight : Sight) → SliceStands s sight state.now → Sees s sight.view policy.now ports.now features.now slot → IfOk result (IsReaction s sight (Msg frame.now moment)) }
+    ensures memory { (s : Settings) (sight : Sight) → SliceStands s sight state.now → Sees s sight.view policy.now ports.now features.now slot → OnErr result (IsTrue (is_heeded s sight.view frame.now moment)) }
 {
     let around = Around {
         policy,

@@ -1,11 +1,11 @@
 //! What is answered to a message, line by line.
 
-ghost use Rattle.std.specs.Prelude.{ℕ, ◌≡◌, ◌≤◌, false, length, List, IfOk, Some, option_to_list, true};
+ghost use Rattle.std.specs.Prelude.{ℕ, ◌≡◌, ◌≤◌, ◌||◌, false, length, List, IfOk, OnErr, IsTrue, Some, option_to_list, true};
 ghost use Rattle.of10_ctl.specs.Frames.{is_bad};
 ghost use Rattle.slice_words.specs.Messages.{version_of, is_kind, is_from_controller};
 ghost use Rattle.slice_words.specs.Items.{Settings, Item};
 ghost use Rattle.slice_words.specs.Answers.{Past, error_for, hello_answer, config_reply, setting_answer, local_answer, formed_answer, message_answer};
-ghost use Rattle.slice_side.specs.Reactions.{Shown};
+ghost use Rattle.slice_side.specs.Reactions.{Shown, has_reply, has_actions};
 
 use crate::fault::form_fault;
 use flowspace::SwitchPolicy;
@@ -60,7 +60,8 @@ fn refused(alloc: Global, class: u16, code: u16, frame: &Frame) -> Result<Option
 
 /// A HELLO of version 0 is refused; any other means version 1 (OpenFlow 1.0.0, section 4.2).
 fn hello(alloc: Global, frame: &Frame) -> Result<Option<Frame>, AllocError>
-    ensures { IfOk result (λ reply. option_to_list reply ≡ (hello_answer frame.now).to_slice) }
+    ensures reply { IfOk result (λ reply. option_to_list reply ≡ (hello_answer frame.now).to_slice) }
+    ensures memory { OnErr result (IsTrue (has_reply (hello_answer frame.now))) }
 {
     let head = frame.head();
     if head.version != 0 {
@@ -89,7 +90,8 @@ fn config(alloc: Global, wanted: u16, frame: &Frame) -> Result<Frame, AllocError
 /// SET_CONFIG is taken where it asks for fragments to be handled as usual (OpenFlow 1.0.0, section 5.3.2).
 fn setting(alloc: Global, frame: &Frame) -> Result<Option<Frame>, AllocError>
     requires { 12 ≤ length frame.now }
-    ensures { IfOk result (λ reply. option_to_list reply ≡ (setting_answer frame.now).to_slice) }
+    ensures reply { IfOk result (λ reply. option_to_list reply ≡ (setting_answer frame.now).to_slice) }
+    ensures memory { OnErr result (IsTrue (has_reply (setting_answer frame.now))) }
 {
     if u16_at(frame.as_slice(), 8) == 0 {
         return Ok(None);
@@ -102,7 +104,8 @@ fn setting(alloc: Global, frame: &Frame) -> Result<Option<Frame>, AllocError>
 #[tactic(auto, unfolding(slice_words::specs::Answers::local_answer))]
 fn local(alloc: Global, around: &Around<'_>, frame: &Frame) -> Result<Option<Frame>, AllocError>
     requires { is_kind 9 frame.now ≡ true → 12 ≤ length frame.now }
-    ensures { (s : Settings) (view : List Item) (past : List Past) (moment : ℕ) → Shown view around.now.policy.now.rules around.now.ports.now around.now.features.now around.now.slot around.now.miss_send_len → IfOk result (λ reply. option_to_list reply ≡ (local_answer s view past moment frame.now).to_slice) }
+    ensures reply { (s : Settings) (view : List Item) (past : List Past) (moment : ℕ) → Shown view around.now.policy.now.rules around.now.ports.now around.now.features.now around.now.slot around.now.miss_send_len → IfOk result (λ reply. option_to_list reply ≡ (local_answer s view past moment frame.now).to_slice) }
+    ensures memory { (s : Settings) (view : List Item) (past : List Past) (moment : ℕ) → Shown view around.now.policy.now.rules around.now.ports.now around.now.features.now around.now.slot around.now.miss_send_len → OnErr result (IsTrue (has_reply (local_answer s view past moment frame.now))) }
 {
     let head = frame.head();
     let bytes = frame.as_slice();
@@ -126,7 +129,8 @@ fn local(alloc: Global, around: &Around<'_>, frame: &Frame) -> Result<Option<Fra
 /// A message of a bad form is refused for its fault.
 fn formed(alloc: Global, around: &Around<'_>, frame: &Frame) -> Result<Option<Frame>, AllocError>
     requires { (version_of frame.now ≡ 1) × (is_bad frame.now ≡ false) }
-    ensures { (s : Settings) (view : List Item) (past : List Past) (moment : ℕ) → Shown view around.now.policy.now.rules around.now.ports.now around.now.features.now around.now.slot around.now.miss_send_len → IfOk result (λ reply. option_to_list reply ≡ (formed_answer s view past moment frame.now).to_slice) }
+    ensures reply { (s : Settings) (view : List Item) (past : List Past) (moment : ℕ) → Shown view around.now.policy.now.rules around.now.ports.now around.now.features.now around.now.slot around.now.miss_send_len → IfOk result (λ reply. option_to_list reply ≡ (formed_answer s view past moment frame.now).to_slice) }
+    ensures memory { (s : Settings) (view : List Item) (past : List Past) (moment : ℕ) → Shown view around.now.policy.now.rules around.now.ports.now around.now.features.now around.now.slot around.now.miss_send_len → OnErr result (IsTrue (has_reply (formed_answer s view past moment frame.now) || has_actions frame.now)) }
 {
     match form_fault(alloc, frame)? {
         None => local(alloc, around, frame),
@@ -144,7 +148,8 @@ pub(crate) fn reply(
     around: &Around<'_>,
     frame: &Frame,
 ) -> Result<Option<Frame>, AllocError>
-    ensures { (s : Settings) (view : List Item) (past : List Past) (moment : ℕ) → Shown view around.now.policy.now.rules around.now.ports.now around.now.features.now around.now.slot around.now.miss_send_len → IfOk result (λ reply. option_to_list reply ≡ (message_answer s view past moment frame.now).to_slice) }
+    ensures reply { (s : Settings) (view : List Item) (past : List Past) (moment : ℕ) → Shown view around.now.policy.now.rules around.now.ports.now around.now.features.now around.now.slot around.now.miss_send_len → IfOk result (λ reply. option_to_list reply ≡ (message_answer s view past moment frame.now).to_slice) }
+    ensures memory { (s : Settings) (view : List Item) (past : List Past) (moment : ℕ) → Shown view around.now.policy.now.rules around.now.ports.now around.now.features.now around.now.slot around.now.miss_send_len → OnErr result (IsTrue (has_reply (message_answer s view past moment frame.now) || has_actions frame.now)) }
 {
     let head = frame.head();
     if frame.bad_length() {
