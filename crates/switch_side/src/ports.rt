@@ -9,29 +9,27 @@ ghost use Rattle.switch_side.specs.Sharing.{HasNoted, HaveNoted, AreSlotsWith};
 
 use crate::dispatch::Dispatch;
 use flow_book::SliceState;
+use flowspace::limits::SLICES;
 use flowspace::{Rule, SwitchPolicy, is_in_port};
 use of10_ctl::Frame;
 use of10_port::PortStatus;
 use port_view::{Kept, PortView};
 use std::alloc::{AllocError, Global};
 
-/// The most slices that a policy has.
-const SLOTS: usize = 32;
-
 /// Notes the slot of the rule's writer, where the rule takes packets from the port.
-fn note(slots: &mut [bool; SLOTS], rule: &Rule, port: u16)
+fn note(slots: &mut [bool; SLICES], rule: &Rule, port: u16)
     ensures { HasNoted rule.now port slots.old slots.new }
 {
     let Some(slot) = rule.writer else {
         return;
     };
     let place = usize::from(slot);
-    if place < SLOTS && rule.pattern.pattern().in_port.is_none_or(|own| port == own) {
+    if place < SLICES && rule.pattern.pattern().in_port.is_none_or(|own| port == own) {
         slots[place] = true;
     }
 }
 
-fn note_all(slots: &mut [bool; SLOTS], rules: &[Rule], port: u16)
+fn note_all(slots: &mut [bool; SLICES], rules: &[Rule], port: u16)
     ensures { HaveNoted rules.now port slots.old slots.new }
 {
     for rule in rules {
@@ -40,10 +38,10 @@ fn note_all(slots: &mut [bool; SLOTS], rules: &[Rule], port: u16)
 }
 
 /// The slots of the slices that have a port, found in one pass over the rules.
-fn slots_with(policy: &SwitchPolicy, port: u16) -> [bool; SLOTS]
+fn slots_with(policy: &SwitchPolicy, port: u16) -> [bool; SLICES]
     ensures { AreSlotsWith policy.now.rules port result }
 {
-    let mut slots = [false; SLOTS];
+    let mut slots = [false; SLICES];
     if is_in_port(port) {
         note_all(&mut slots, policy.rules(), port);
     }
