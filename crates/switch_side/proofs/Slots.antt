@@ -25,8 +25,8 @@ use Rattle.desk_words.specs.Histories.{is_slot, settings_at, Side, handed, heade
 use Rattle.port_view.specs.KnownPorts.{is_kept}
 use Rattle.desk_words.specs.Sent.{sent_with}
 use Rattle.desk_words.proofs.Seen.{no_kind}
-use Rattle.switch_side.specs.Dispatches.{kept_beside, status_kept, told_at}
-use Rattle.switch_side.specs.Carrying.{unnumbered, once, is_plain, packet_for, status_for}
+use Rattle.switch_side.specs.Dispatches.{is_plain, kept_beside, status_kept, told_at}
+use Rattle.switch_side.specs.Carrying.{unnumbered, once, packet_for, status_for}
 
 -- ---- packets
 

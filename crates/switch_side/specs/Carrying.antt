@@ -1,5 +1,5 @@
 -- The same by who is up, in place of what each slice sees. The parts of the code are proved by this.
-use Rattle.std.specs.Prelude.{ℕ, ◌==◌, ◌&&◌, ◌+◌, Bool, false, if◌then◌else◌, List, [], ◌∷◌, ◌++◌, Option, Some, None, is_none}
+use Rattle.std.specs.Prelude.{ℕ, ◌&&◌, ◌+◌, Bool, false, if◌then◌else◌, List, [], ◌∷◌, ◌++◌, Option, Some, None}
 use Rattle.of10_model.specs.Normal.{is_value, bit}
 use Rattle.of10_ctl.specs.declared.kind.TheConstants.{PACKET_IN}
 use Rattle.of10_ctl.specs.Frames.{is_bad}
@@ -9,7 +9,6 @@ use Rattle.of10_flow.specs.PacketIns.{read_packet_in, spell_packet_in}
 use Rattle.of10_port.specs.declared.status.PortStatus.{PortStatus}
 use Rattle.of10_port.specs.Ports.{port_number}
 use Rattle.of10_port.specs.PortStatus.{spell_port_status}
-use Rattle.frame_header.specs.Probes.{probe_slot_of}
 use Rattle.flowspace.specs.declared.rules.Rule.{Rule}
 use Rattle.flowspace.specs.Order.{writer_of, readers_of}
 use Rattle.flowspace.specs.Owners.{has_port}
@@ -19,7 +18,7 @@ use Rattle.desk_words.specs.Openings.{well_formed}
 use Rattle.desk_words.specs.Histories.{header_in}
 use Rattle.desk_words.specs.Sent.{echo_for}
 use Rattle.switch_side.specs.declared.dispatch.Dispatch.{Dispatch}
-use Rattle.switch_side.specs.Dispatches.{addressed, status_kept}
+use Rattle.switch_side.specs.Dispatches.{is_plain, addressed, status_kept}
 
 -- what a dispatch carries
 pub record Carried : Type 0 where
@@ -40,10 +39,6 @@ unnumbered packet = record packet { xid = 0; buffer = NO_BUFFER }
 -- a message where it is due
 abbrev pub once : Bool → List ℕ → List (List ℕ)
 once due message = if due then message ∷ [] else []
-
--- the packet is neither buffered nor a probe
-abbrev pub is_plain : PacketIn → Bool
-is_plain packet = packet.buffer == NO_BUFFER && is_none (probe_slot_of packet.payload)
 
 -- a packet for the slice at a slot, if it is up: for the writer, and for each reader
 abbrev pub packet_for : Option ℕ → ℕ → List ℕ → ℕ → Bool → List (List ℕ)

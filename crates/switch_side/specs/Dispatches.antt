@@ -1,10 +1,13 @@
 -- What follows from one message of a switch that has told what it is, for all slices at once (this proxy's own rule).
-use Rattle.std.specs.Prelude.{ℕ, ◌≡◌, ◌+◌, ◌&&◌, ◌||◌, not, is_some, Bool, if◌then◌else◌, List, [], ◌∷◌, ◌++◌, map, slice_get, Option, Some, None}
+use Rattle.std.specs.Prelude.{ℕ, ◌≡◌, ◌+◌, ◌==◌, ◌&&◌, ◌||◌, not, is_some, is_none, Bool, false, if◌then◌else◌, List, [], ◌∷◌, ◌++◌, map, slice_get, Option, Some, None}
 use Rattle.of10_ctl.specs.declared.kind.TheConstants.{ECHO_REQUEST, PACKET_IN}
 use Rattle.of10_ctl.specs.Frames.{is_bad}
 use Rattle.of10_ctl.specs.Kinds.{is_of}
+use Rattle.of10_flow.specs.declared.protocol.TheConstants.{NO_BUFFER}
+use Rattle.of10_flow.specs.declared.packet_in.PacketIn.{PacketIn}
 use Rattle.of10_flow.specs.PacketIns.{read_packet_in}
 use Rattle.of10_port.specs.declared.status.PortStatus.{PortStatus}
+use Rattle.frame_header.specs.Probes.{probe_slot_of}
 use Rattle.flowspace.specs.declared.slices.Slice.{Slice}
 use Rattle.flowspace.specs.Policies.{PolicyView, SwitchView}
 use Rattle.flow_book.specs.declared.state.SliceState.{SliceState}
@@ -53,11 +56,20 @@ kept_beside known (Some status) = if is_kept status known then Some status else 
 abbrev pub status_kept : List (List ℕ) → List ℕ → Option PortStatus
 status_kept known message = kept_beside known (status_told message)
 
--- something may follow from a message: its length counts its header, and it is an ECHO_REQUEST, a PACKET_IN that is well formed, or tells of a port what is kept
+-- the packet is neither buffered nor a probe
+abbrev pub is_plain : PacketIn → Bool
+is_plain packet = packet.buffer == NO_BUFFER && is_none (probe_slot_of packet.payload)
+
+-- there is a packet, and it is plain; of any other nothing follows
+abbrev pub is_for_slices : Option PacketIn → Bool
+is_for_slices None = false
+is_for_slices (Some packet) = is_plain packet
+
+-- something may follow from a message: its length counts its header, and it is an ECHO_REQUEST, a PACKET_IN that is well formed and plain, or tells of a port what is kept
 abbrev pub is_told : List (List ℕ) → List ℕ → Bool
 is_told known message =
     not (is_bad message)
-    && (is_of ECHO_REQUEST message || (is_of PACKET_IN message && is_some (well_formed (read_packet_in message))) || is_some (status_kept known message))
+    && (is_of ECHO_REQUEST message || (is_of PACKET_IN message && is_for_slices (well_formed (read_packet_in message))) || is_some (status_kept known message))
 
 -- a message came from the switch
 abbrev pub told_at : ℕ → List ℕ → Timed

@@ -58,7 +58,8 @@ fn dispatch(
 /// What follows from one message of a switch that has told what it is, with one state for each slice of the
 /// policy. Nothing is changed: `port` is still to be taken in by the known ports, and no state changes. A
 /// message whose length doesn't count its header ends the connection; one that isn't of version 1, isn't
-/// well formed, or says nothing to anybody is dropped, for which no memory is taken.
+/// well formed, or says nothing to anybody, as a packet that is buffered or a probe, is dropped, for which
+/// no memory is taken.
 pub fn react(
     alloc: Global,
     policy: &SwitchPolicy,

@@ -1,13 +1,13 @@
 //! Packets that the switch hands up (OpenFlow 1.0.0, section 5.4.1).
 
-ghost use Rattle.std.specs.Prelude.{◌≡◌, ◌+◌, ◌≤◌, ◌++◌, [], ◌∷◌, length, is_some, IfOk, IsTrue, OnOk, OnErr, None};
+ghost use Rattle.std.specs.Prelude.{◌≡◌, ◌+◌, ◌≤◌, ◌++◌, [], ◌∷◌, length, IfOk, IsTrue, OnOk, OnErr, None};
 ghost use Rattle.of10_model.specs.Normal.{is_value, bit};
 ghost use Rattle.of10_ctl.specs.Kinds.{IsOf};
 ghost use Rattle.of10_flow.specs.PacketIns.{packet_of, read_packet_in, spell_packet_in};
 ghost use Rattle.flowspace.specs.Order.{writer_of, readers_of};
 ghost use Rattle.desk_words.specs.Openings.{well_formed};
-ghost use Rattle.switch_side.specs.Dispatches.{addressed};
-ghost use Rattle.switch_side.specs.Carrying.{carried, telling, is_plain, packet_for, said_from, packet_told, packet_in_told};
+ghost use Rattle.switch_side.specs.Dispatches.{addressed, is_plain, is_for_slices};
+ghost use Rattle.switch_side.specs.Carrying.{carried, telling, packet_for, said_from, packet_told, packet_in_told};
 
 use crate::dispatch::Dispatch;
 use flow_book::SliceState;
@@ -132,7 +132,8 @@ fn handed(
 ) -> Result<Vec<(u8, Frame)>, AllocError>
     requires few { length states.now ≤ 32 }
     requires fits { 18 + length packet.now.payload.now ≤ 65535 }
-    ensures { IfOk result (λ v. v.items ≡ packet_told policy.now.rules states.now (packet_of packet.now)) }
+    ensures value { IfOk result (λ v. v.items ≡ packet_told policy.now.rules states.now (packet_of packet.now)) }
+    ensures memory { OnErr result (IsTrue (is_plain (packet_of packet.now))) }
 {
     if !is_plain(packet) {
         return Ok(Vec::new(alloc));
@@ -157,7 +158,7 @@ pub(crate) fn packet_in(
     requires kind { IsOf 10 frame.now }
     requires few { length states.now ≤ 32 }
     ensures value { IfOk result (λ d. carried d ≡ telling (packet_in_told policy.now.rules states.now frame.now) None) }
-    ensures memory { OnErr result (IsTrue (is_some (well_formed (read_packet_in frame.now)))) }
+    ensures memory { OnErr result (IsTrue (is_for_slices (well_formed (read_packet_in frame.now)))) }
 {
     match PacketInView::decode(frame) {
         Ok(packet) => {
