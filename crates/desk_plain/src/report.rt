@@ -127,7 +127,7 @@ fn fresh_histories(alloc: Global) -> Result<Vec<Vec<Event>>, AllocError> {
 }
 
 /// The report of a recording under a policy: for each event, by its number, a line for each message that
-/// the switch and the slices get and for a connection that closes, and at the end how many events there were.
+/// the switches and the slices get and for a connection that closes, and at the end how many events there were.
 pub(crate) fn report(
     alloc: Global,
     policy: &Policy,

@@ -13,7 +13,7 @@ usage: flowvisor check POLICY
 check says whether the policy is accepted, and how many slices and rules it has.
 
 replay runs the recorded connections under the policy and writes the report: a line for each message that
-the switch and the slices would get.
+the switches and the slices would get.
 
 The exit status is 0, or 1 for other words, 2 where the policy is refused, 3 where the recording is, 4 where
 a file can't be read, 5 where the output can't be written, 6 where memory runs out, 7 where a file is too
