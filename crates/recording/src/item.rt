@@ -1,6 +1,9 @@
 /// The eight bytes that begin a recording.
 pub const MAGIC: [u8; 8] = [0x46, 0x56, 0x52, 0x45, 0x43, 0, 0, 1];
 
+/// How many bytes the head of a record has.
+pub const RECORD_HEAD: usize = 16;
+
 /// How many bytes a record may carry.
 pub const BYTE_LIMIT: u32 = 16_777_216;
 

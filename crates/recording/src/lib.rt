@@ -10,8 +10,8 @@ mod writing;
 
 pub use fault::RecordingFault;
 pub use item::{
-    BYTE_LIMIT, Item, MAGIC, SLICE_BYTES, SLICE_DOWN, SLICE_UP, SWITCH_BYTES, SWITCH_DOWN,
-    SWITCH_UP, SWITCHES,
+    BYTE_LIMIT, Item, MAGIC, RECORD_HEAD, SLICE_BYTES, SLICE_DOWN, SLICE_UP, SWITCH_BYTES,
+    SWITCH_DOWN, SWITCH_UP, SWITCHES,
 };
 pub use reading::items;
 pub use writing::{add_item, begin_recording};

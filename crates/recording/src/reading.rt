@@ -7,13 +7,13 @@ ghost use Rattle.recording.specs.Standing.{Stands};
 
 use crate::fault::RecordingFault;
 use crate::item::{
-    BYTE_LIMIT, Item, MAGIC, SLICE_BYTES, SLICE_DOWN, SLICE_UP, SWITCH_BYTES, SWITCHES,
+    BYTE_LIMIT, Item, MAGIC, RECORD_HEAD, SLICE_BYTES, SLICE_DOWN, SLICE_UP, SWITCH_BYTES, SWITCHES,
 };
 use crate::ups::Ups;
 use of10_model::wire::{u8_at, u32_at, u64_at};
 use std::alloc::Global;
 
-/// What the head of 16 bytes says.
+/// What the head of a record says.
 #[tactic(auto, unfolding(crate::specs::Recordings::item_at))]
 fn head(bytes: &[u8], at: usize) -> Item
     requires { at + 16 ≤ length bytes.now }
@@ -25,7 +25,7 @@ fn head(bytes: &[u8], at: usize) -> Item
         switch: u8_at(bytes, at + 1),
         slot: u8_at(bytes, at + 2),
         moment: u64_at(bytes, at + 8),
-        from: at + 16,
+        from: at + RECORD_HEAD,
         size: u32_at(bytes, at + 4) as usize,
     }
 }
@@ -66,14 +66,14 @@ fn record(slices: u8, bytes: &[u8], ups: &Ups, at: usize) -> Result<Item, Record
     ensures memory { result ≢ Err Memory }
 {
     let left = bytes.len() - at;
-    if left < 16 {
+    if left < RECORD_HEAD {
         return Err(RecordingFault::Torn(at as u64));
     }
     let item = head(bytes, at);
     if !has_form(slices, u8_at(bytes, at + 3), &item) {
         return Err(RecordingFault::Bad(at as u64));
     }
-    if left - 16 < item.size {
+    if left - RECORD_HEAD < item.size {
         return Err(RecordingFault::Torn(at as u64));
     }
     if !ups.admits(&item) {
