@@ -20,11 +20,8 @@ use of10_ctl::{Frame, Framer};
 use of10_flow::PacketInView;
 use of10_flow::protocol::NO_BUFFER;
 use proxy_core::Dest;
-use recording::{Item, SLICE_BYTES, SLICE_UP, SWITCH_BYTES, SWITCH_UP, SWITCHES};
+use recording::{Item, RECORD_HEAD, SLICE_BYTES, SLICE_UP, SWITCH_BYTES, SWITCH_UP, SWITCHES};
 use std::alloc::{AllocError, Global};
-
-/// Bytes of a record before those that it carries.
-const RECORD_HEAD: usize = 16;
 
 /// A message that isn't built yet.
 #[derive(Clone, Copy, Debug, PartialEq, Eq)]
