@@ -4,7 +4,7 @@ use Rattle.proxy_core.proofs.slots.hear.Goals as goal
 
 pub returns-clause-ok : goal.returns-clause-ok
 returns-clause-ok c s sight stands sees =
-    let is = c.in_ok-reaction.ensures s sight stands sees in
+    let is = c.in_ok-reaction.ensures.reaction s sight stands sees in
     record {
       stands = c.apply.ensures s sight _ stands is.change;
       to_slice = subst (λ (m : List (List ℕ)). HasMore m c.args.queue.now c.push_all.new.waiting) is.to_slice (λ limit q h. c.push_all.ensures limit q (c.make_room.ensures.stands limit q h));
