@@ -7,12 +7,10 @@ use super::{
 };
 use crate::base::MemorySink;
 use of10_ctl::{Framer, Next};
+use recording::RECORD_HEAD;
 use std::alloc::Global;
 use std::test::Fail;
 use wire_samples::bytes;
-
-/// Bytes of a record before what it carries.
-const RECORD_HEAD: usize = 16;
 
 /// Feeds the bytes that a record of the switch carries, one by one, and appends a record for each frame
 /// that comes; answers how many there were.
