@@ -9,7 +9,7 @@ ghost use Rattle.action_check.specs.ActionRules.{argument_fits, port_of, has_way
 
 use crate::fault::{BAD_ARGUMENT, BAD_OUT_PORT, NOT_PERMITTED};
 use crate::origin::Origin;
-use flowspace::{Rule, SwitchPolicy};
+use flowspace::{Rule, SwitchPolicy, is_written_by};
 use match_meet::{includes, includes_aside};
 use of10_action::Action;
 use of10_match::{Header12, Match};
@@ -83,12 +83,6 @@ fn sees_in_port(port: u16) -> bool
     port == CONTROLLER || port == TABLE
 }
 
-fn is_written_by(rule: &Rule, slot: u8) -> bool
-    ensures { result ≡ is_written_by slot rule.now }
-{
-    rule.writer.is_some_and(|writer| writer == slot)
-}
-
 fn covers(m: &Match, cover: &Match, port: u16) -> bool
     ensures { result ≡ includes_of (counted port m.now) cover.now }
 {
@@ -128,12 +122,14 @@ fn has_header(m: &Match, header: &Header12, port: u16) -> bool
 fn is_cover_written(rules: &[Rule], slot: u8, cover: &Match, port: u16) -> bool
     ensures { result ≡ list_any (λ rule. is_written_by slot rule && includes_of (counted port rule.pattern) cover.now) rules.now }
 {
+    let slot = usize::from(slot);
     rules.iter().any(|rule| is_written_by(rule, slot) && covers(&rule.pattern, cover, port))
 }
 
 fn is_header_written(rules: &[Rule], slot: u8, header: &Header12, port: u16) -> bool
     ensures { result ≡ list_any (λ rule. is_written_by slot rule && has (counted port rule.pattern) header.now) rules.now }
 {
+    let slot = usize::from(slot);
     rules.iter().any(|rule| is_written_by(rule, slot) && has_header(&rule.pattern, header, port))
 }
 

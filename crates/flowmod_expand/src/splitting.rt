@@ -10,7 +10,7 @@ ghost use Rattle.flowmod_expand.specs.Pieces.{pieces_of};
 ghost use Rattle.flowmod_expand.specs.Marks.{mark_of, AreMarked};
 
 use crate::marks::{MARKS, mark_of};
-use flowspace::{Rule, SwitchPolicy};
+use flowspace::{Rule, SwitchPolicy, is_written_by};
 use match_meet::meet;
 use of10_match::Match;
 use of10_model::{Pattern, Prefix};
@@ -71,7 +71,7 @@ fn is_among(found: &[Match], piece: &Pattern) -> bool
 fn piece_of(rule: &Rule, slot: u8, pattern: &Match) -> Option<Match>
     ensures { result ≡ (if is_written_by slot rule.now then meet_of pattern.now rule.now.pattern else None) }
 {
-    if rule.writer == Some(slot) {
+    if is_written_by(rule, usize::from(slot)) {
         meet(pattern, &rule.pattern)
     } else {
         None

@@ -83,7 +83,7 @@ pub(crate) fn is_held(rule: &Rule, datapath: u64) -> bool
 }
 
 /// Whether the slice at a slot writes the rule.
-pub(crate) fn is_written_by(rule: &Rule, slot: usize) -> bool
+pub fn is_written_by(rule: &Rule, slot: usize) -> bool
     ensures { result ≡ is_written_by slot rule.now }
 {
     rule.writer
