@@ -21,7 +21,7 @@ demo: build
 	@cat examples/first-packet.out
 	@cmp examples/first-packet.out examples/first-packet.report && echo "as it should be"
 
-# The gate: every proof that no earlier run on this machine kept, the edits that must fail, the tests and the runs of programs.
+# The gate: every proof, the edits that must fail, the tests and the runs of programs.
 check:
 	@rt ci
 
