@@ -1,14 +1,49 @@
--- The frames of a stream are the first of those of a longer one.
-use Rattle.std.proofs.Common.{◌≡◌, ℕ, zero, suc, ◌<◌, ◌≤◌, inl, inr, false, List, [], ◌∷◌, ◌++◌, length, take, drop, refl, ap, sym, ◌∙◌, arith, le_refl}
-use Rattle.std.proofs.lemmas.List.{length-drop}
+-- The bytes of a connection before a record, and the frames of a stream, which are the first of those of a longer one.
+use Rattle.std.proofs.Common.{◌≡◌, ℕ, zero, suc, ◌<◌, ◌≤◌, inl, inr, not, cond, Bool, true, false, if◌then◌else◌, List, [], ◌∷◌, ◌++◌, length, take, drop, reverse, refl, ap, sym, ◌∙◌, arith, le_refl, append-nil}
+use Rattle.std.specs.List.{filter, take_while, flat_map}
+use Rattle.std.proofs.Math.Seq.{drop-append_seam}
+use Rattle.std.proofs.lemmas.List.{length-drop, reverse-append}
+use Rattle.std.proofs.lemmas.List.Sums.{take_while-cons}
+use Rattle.std.proofs.lemmas.Grind.{flat_map-append}
 use Rattle.std.proofs.lemmas.Bool.{cases_lt, le-ltb}
 use Rattle.of10_ctl.specs.Heads.{length_field}
 use Rattle.of10_ctl.specs.Frames.{is_bad}
 use Rattle.of10_ctl.specs.Streams.{frames_of, AreFirst}
 use Rattle.of10_ctl.proofs.Cutting.{frames-short, frames-bad, frames-cut_off, frames-whole, length_field-take, first-bad, first-whole}
 use Rattle.recording.specs.Recordings.{Told}
-use Rattle.desk_words.specs.Recorded.{stream_before}
-use Rattle.desk_words.specs.Laws.{AreCompletedOnce}
+use Rattle.desk_words.specs.Recorded.{is_same_stream, begins_stream, stream_before}
+use Rattle.desk_words.specs.Laws.{connection_before, AreCompletedOnce}
+
+-- ---- the bytes before a record
+
+-- the bytes of records, one after another
+abbrev bytes_of : List Told → List ℕ
+bytes_of records = flat_map (λ (other : Told). other.bytes) records
+
+-- the bytes of a list turned round end with those of its first
+bytes_last : (other : Told) (records : List Told) → bytes_of (reverse (other ∷ records)) ≡ bytes_of (reverse records) ++ other.bytes
+bytes_last other records =
+    ap bytes_of (reverse-append (other ∷ []) records) ∙ flat_map-append (λ (one : Told). one.bytes) (reverse records) (other ∷ [])
+    ∙ ap (λ (last : List ℕ). bytes_of (reverse records) ++ last) (append-nil other.bytes)
+
+-- a record more begins the connection, is of it, or neither
+one_more : (test : Told → Bool) (other : Told) (records : List Told) (earlier : List ℕ) (begins same : Bool) → test other ≡ same → earlier ≡ bytes_of (reverse (filter test records))
+    → (if begins then [] else if same then earlier ++ other.bytes else earlier) ≡ bytes_of (reverse (filter test (cond (not begins) (other ∷ records) [])))
+one_more test other records earlier true same is bytes = refl
+one_more test other records earlier false true is bytes =
+    ap (λ (front : List ℕ). front ++ other.bytes) bytes ∙ sym (bytes_last other (filter test records))
+    ∙ ap (λ (own : Bool). bytes_of (reverse (cond own (other ∷ filter test records) (filter test records)))) (sym is)
+one_more test other records earlier false false is bytes =
+    bytes ∙ ap (λ (own : Bool). bytes_of (reverse (cond own (other ∷ filter test records) (filter test records)))) (sym is)
+
+stream_bytes : (r : Told) (before : List Told) → stream_before r before ≡ bytes_of (connection_before r before)
+stream_bytes r [] = refl
+stream_bytes r (other ∷ before) =
+    let goes_on = λ (one : Told). not (begins_stream r one) in
+    one_more (is_same_stream r) other (take_while goes_on before) (stream_before r before) (begins_stream r other) (is_same_stream r other) refl (stream_bytes r before)
+    ∙ ap (λ (records : List Told). bytes_of (reverse (filter (is_same_stream r) records))) (sym (take_while-cons goes_on other before))
+
+-- ---- the frames of a longer stream
 
 none_first : (frames all : List (List ℕ)) → frames ≡ [] → AreFirst frames all
 none_first frames all none = (all, ap (λ (f : List (List ℕ)). f ++ all) none)
@@ -48,5 +83,14 @@ frames_first (suc n) bytes later few = elim (cases_lt (length bytes) 8) [
   ]
 ]
 
+-- what is left behind the first frames is the others
+others_behind : (given all : List (List ℕ)) → AreFirst given all → given ++ drop (length given) all ≡ all
+others_behind given all first =
+    ap (λ (frames : List (List ℕ)). given ++ drop (length given) frames) (sym first.1)
+    ∙ ap (λ (frames : List (List ℕ)). given ++ frames) (drop-append_seam given first.0) ∙ first.1
+
 pub completed_once : (r : Told) (before : List Told) → AreCompletedOnce r before
-completed_once r before = frames_first (length (stream_before r before)) (stream_before r before) r.bytes (le_refl _)
+completed_once r before = record {
+  bytes = stream_bytes r before;
+  frames = (let s = stream_before r before in others_behind (frames_of s) (frames_of (s ++ r.bytes)) (frames_first (length s) s r.bytes (le_refl _)));
+}

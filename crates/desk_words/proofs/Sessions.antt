@@ -14,7 +14,7 @@ use Rattle.desk_words.specs.declared.event.Timed.{Timed}
 use Rattle.desk_words.specs.Sent.{sent}
 use Rattle.desk_words.specs.Verdicts.{is_over, is_switch_up}
 use Rattle.desk_words.specs.Recorded.{completed, timed_at, happenings, happens, next_of, next_after, happening, history_of, history_at, events_in}
-use Rattle.desk_words.specs.Laws.{Happened, each_after, happened_in, told_by, is_up_at, since_up, told_over, IsToldAsAlone}
+use Rattle.desk_words.specs.Laws.{Happened, each_after, happened_in, shown_to, is_up_at, since_up, told_over, IsToldAsAlone}
 use Rattle.desk_words.proofs.Alone.{sent_alone}
 use Rattle.desk_words.proofs.Making.{reverse_more, at_their_switch}
 use Rattle.desk_words.proofs.Reporting.{each_next, happened_after, next_happened, from_none}
@@ -22,7 +22,7 @@ use Rattle.desk_words.proofs.Reporting.{each_next, happened_after, next_happened
 -- ---- what is told and what is sent
 
 sent_next : (policy : PolicyView) (slot : ℕ) (h : List Timed) (timed : Timed) (over : Bool) → is_over h ≡ over
-    → sent policy slot (next_of h timed) ≡ sent policy slot h ++ told_by policy slot h timed
+    → sent policy slot (next_of h timed) ≡ sent policy slot h ++ shown_to policy slot h timed
 sent_next policy slot h timed true is = rw is (sym (append-nil (sent policy slot h)))
 sent_next policy slot h timed false is = rw is refl
 
@@ -33,7 +33,7 @@ sent_after policy slot switch h (timed ∷ later) =
     let rest = told_over policy slot (each_after switch (next_of h timed) later) in
     sent_after policy slot switch (next_of h timed) later
     ∙ ap (λ (front : List (List ℕ)). front ++ rest) (sent_next policy slot h timed (is_over h) refl)
-    ∙ append_assoc (sent policy slot h) (told_by policy slot h timed) rest
+    ∙ append_assoc (sent policy slot h) (shown_to policy slot h timed) rest
     ∙ ap (λ (events : List Happened). sent policy slot h ++ told_over policy slot events) (sym (each_next switch h timed later))
 
 -- ---- events since the last up
@@ -143,7 +143,7 @@ told_further policy slot events before r other told =
     let all = of_itself r.switch h own (none_happens policy r.moment h (happenings r before) (none_of_kind r before other)) in
     let same : history_of policy r.switch before ≡ h = ap (λ (b : Bool). if b then [] else history_of policy r.switch before) (sym other) in
     ap (told_over policy slot) (since_both r.switch events (each_after r.switch h own) all.0 ∙ ap (λ (rest : List Happened). since_up r.switch events ++ rest) all.1)
-    ∙ flat_map-append (λ one. told_by policy slot one.history one.timed) (since_up r.switch events) (each_after r.switch h own)
+    ∙ flat_map-append (λ one. shown_to policy slot one.history one.timed) (since_up r.switch events) (each_after r.switch h own)
     ∙ ap (λ (front : List (List ℕ)). front ++ text) (told ∙ ap (sent policy slot) same)
     ∙ sym (sent_after policy slot r.switch h own) ∙ ap (sent policy slot) (sym (at_their_switch policy r before).own)
 

@@ -1,16 +1,19 @@
 -- What is taken of a queue is what was sent, in order, up to what was dropped.
-use Rattle.std.proofs.Common.{◌≡◌, ℕ, ◌+◌, ◌||◌, nat_lt, Bool, true, false, if◌then◌else◌, List, [], ◌∷◌, ◌++◌, length, refl, ap, sym, subst, ◌∙◌, append_assoc, append-nil, true≢false, eqb-true}
+use Rattle.std.proofs.Common.{◌≡◌, ℕ, ◌+◌, ◌≤◌, ◌||◌, nat_lt, Bool, true, false, if◌then◌else◌, List, [], ◌∷◌, ◌++◌, length, Result, refl, ap, sym, subst, arith, ◌∙◌, append_assoc, append-nil, true≢false, eqb-true}
 use Rattle.std.proofs.lemmas.Bool.{or_parts}
 use Rattle.flowspace.specs.Policies.{PolicyView}
+use Rattle.std.specs.declared.alloc.AllocError.{AllocError}
 use Rattle.outbox.specs.Queues.{Queue, no_messages, size, push, push_all, without_first}
+use Rattle.outbox.proofs.Keeping.{push_all-kept}
 use Rattle.desk_words.specs.declared.event.Timed.{Timed}
 use Rattle.desk_words.specs.declared.answer.Dest.{Dest}
 use Rattle.desk_words.specs.declared.answer.Dest.TheVariants.{Switch, Slice}
+use Rattle.desk_words.specs.declared.answer.Verdict.{Verdict}
 use Rattle.desk_words.specs.declared.answer.Taken.{Taken}
 use Rattle.desk_words.specs.declared.answer.Taken.TheVariants.{Message, Nothing, Choked, Ended, NotOpen}
 use Rattle.desk_words.specs.Sent.{sent_by, lane_by}
 use Rattle.desk_words.specs.Operations.{Operation, Step, Take, takes_in, events_of, empties_slice, ends, queue_event, lane_event, slice_limit, lane_limit, is_switch, is_slice, queue_of, lane_of, waiting_of, is_gone, is_early, empty_reply, take_reply, IsLegal}
-use Rattle.desk_words.specs.Laws.{message_in, sent_since, taken_since, lane_since, lane_taken_since, AreInOrder}
+use Rattle.desk_words.specs.Laws.{message_in, sent_since, taken_since, lane_since, lane_taken_since, AreInOrder, AllWait, SliceWaits, LaneWaits}
 
 -- ---- messages are put
 
@@ -146,3 +149,34 @@ pub lane_order : (policy : PolicyView) (ops : List Operation) → IsLegal policy
 lane_order policy [] legal = empty_order
 lane_order policy (Step timed reply ∷ before) legal = lane_step policy before timed (takes_in reply) (lane_order policy before legal.1)
 lane_order policy (Take dest reply ∷ before) legal = lane_take policy before dest reply (is_switch dest) (own_lane policy before dest) (lane_order policy before legal.1) legal.0
+
+-- ---- what waits where there is room
+
+unchoked_waits : (limit : ℕ) (pending messages : List (List ℕ)) (choked : Bool) → choked ≡ false → size pending + size messages ≤ limit
+    → push_all limit (record { pending = pending; choked = choked }) messages ≡ record { pending = pending ++ messages; choked = false }
+unchoked_waits limit pending messages true free room = absurd (true≢false free)
+unchoked_waits limit pending messages false free room = push_all-kept limit pending messages room
+
+all_wait : (limit : ℕ) (empties : Bool) (messages : List (List ℕ)) (q : Queue) → AllWait limit empties messages q (push_all limit (if empties then no_messages else q) messages)
+all_wait limit true messages q = record {
+  alone = λ _ room. push_all-kept limit [] messages (omega arith);
+  behind = λ stays. absurd (true≢false stays);
+}
+all_wait limit false messages q = record {
+  alone = λ emptied. absurd (true≢false (sym emptied));
+  behind = λ _ free room. unchoked_waits limit q.pending messages q.choked free room;
+}
+
+pub slice_waits : (policy : PolicyView) (slot : ℕ) (before : List Operation) (timed : Timed) (reply : Result Verdict AllocError) → SliceWaits policy slot before timed reply
+slice_waits policy slot before timed reply is =
+    let h = events_of before in
+    let q = queue_of policy slot before in
+    subst (λ (in_it : Bool). AllWait slice_limit (empties_slice policy slot h timed) (sent_by policy slot h timed) q (if in_it then queue_event policy slot h timed q else q))
+    (sym is) (all_wait slice_limit (empties_slice policy slot h timed) (sent_by policy slot h timed) q)
+
+pub lane_waits : (policy : PolicyView) (before : List Operation) (timed : Timed) (reply : Result Verdict AllocError) → LaneWaits policy before timed reply
+lane_waits policy before timed reply is =
+    let h = events_of before in
+    let q = lane_of policy before in
+    subst (λ (in_it : Bool). AllWait lane_limit (ends h timed) (lane_by policy h timed) q (if in_it then lane_event policy h timed q else q))
+    (sym is) (all_wait lane_limit (ends h timed) (lane_by policy h timed) q)

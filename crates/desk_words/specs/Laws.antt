@@ -1,30 +1,32 @@
 -- Statements about histories and operations. `src/laws.rt` has a function for each, which is proved.
-use Rattle.std.specs.Prelude.{ℕ, ◌≡◌, ◌==◌, ◌&&◌, ◌||◌, not, Bool, true, false, if◌then◌else◌, List, [], ◌∷◌, ◌++◌, filter, filter_map, length, map, take, reverse, is_some, IfSome, ◌-◌, ◌<◌, ◌≤◌, Option, Some, None}
-use Rattle.std.specs.List.{list_any, flat_map, enumerate_from, range_with_len}
+use Rattle.std.specs.Prelude.{ℕ, ◌≡◌, ◌+◌, ◌==◌, ◌&&◌, ◌||◌, not, Bool, true, false, if◌then◌else◌, List, [], ◌∷◌, ◌++◌, filter, filter_map, length, map, take, reverse, is_some, IfSome, ◌-◌, ◌<◌, ◌≤◌, Option, Some, None, Result}
+use Rattle.std.specs.declared.alloc.AllocError.{AllocError}
+use Rattle.std.specs.List.{list_any, take_while, flat_map, enumerate_from, range_with_len}
 use Rattle.std.specs.Option.{option_or}
 use Rattle.of10_ctl.specs.Frames.{is_bad}
 use Rattle.of10_port.specs.declared.features.Features.{Features}
 use Rattle.of10_port.specs.declared.status.PortStatus.{PortStatus}
-use Rattle.of10_ctl.specs.Streams.{frames_of, AreFirst}
+use Rattle.of10_ctl.specs.Streams.{frames_of}
 use Rattle.flowspace.specs.Policies.{PolicyView}
 use Rattle.port_view.specs.KnownPorts.{IsAscending, known_of as known_by}
 use Rattle.recording.specs.declared.item.Item.{Item}
 use Rattle.recording.specs.Recordings.{Told, switch_bytes, slice_bytes}
-use Rattle.outbox.specs.Queues.{Queue}
+use Rattle.outbox.specs.Queues.{Queue, size}
 use Rattle.slice_words.specs.Messages.{is_dismissing, kind_of}
 use Rattle.slice_words.specs.Items.{features_in, known_ports}
 use Rattle.slice_words.specs.Alone.{alone}
 use Rattle.desk_words.specs.declared.event.Event.{Event}
 use Rattle.desk_words.specs.declared.event.Event.TheVariants.{SwitchUp, SwitchMsg, SwitchDown, SliceUp, SliceMsg, SliceDown}
 use Rattle.desk_words.specs.declared.event.Timed.{Timed}
+use Rattle.desk_words.specs.declared.answer.Verdict.{Verdict}
 use Rattle.desk_words.specs.declared.answer.Taken.{Taken}
 use Rattle.desk_words.specs.declared.answer.Taken.TheVariants.{Message}
 use Rattle.desk_words.specs.Openings.{features_told, status_told, phase_of, opening_of, known_of, switch_of}
 use Rattle.desk_words.specs.Histories.{is_slot, settings_at, own_ports, own_features, side_start, side_of, view_of, is_open, is_slice_up}
 use Rattle.desk_words.specs.Sent.{sent_by, sent, lane_by}
 use Rattle.desk_words.specs.Verdicts.{is_fresh, is_ended, is_over, is_switch_up}
-use Rattle.desk_words.specs.Operations.{Operation, Step, Take, takes_in, events_of, empties_slice, ends, is_slice, is_switch}
-use Rattle.desk_words.specs.Recorded.{stream_before, timed_at, happenings, next_of, next_after, history_of, history_at, events_in, completed}
+use Rattle.desk_words.specs.Operations.{Operation, Step, Take, takes_in, events_of, empties_slice, ends, slice_limit, lane_limit, is_slice, is_switch, queue_of, lane_of}
+use Rattle.desk_words.specs.Recorded.{is_same_stream, begins_stream, stream_before, timed_at, happenings, next_of, next_after, history_of, history_at, events_in, completed}
 use Rattle.desk_words.specs.Reports.{Place, lane_lines, slice_lines, name_at, close_lines, down_lines, event_lines, last_line, report}
 use Rattle.desk_words.specs.Built.{is_unbuilt_of_switch, is_unbuilt_of_slice, Lack}
 
@@ -198,11 +200,33 @@ pub record AreInOrder (messages taken : List (List ℕ)) (q : Queue) : Type 0 wh
   pub order : taken ++ (q.pending ++ dropped) ≡ messages
   pub kept : q.choked ≡ false → dropped ≡ []
 
+-- where there is room all messages wait: alone where the queue is emptied for them, else behind those of a queue that isn't choked
+pub record AllWait (limit : ℕ) (empties : Bool) (messages : List (List ℕ)) (old new : Queue) : Type 0 where
+  pub alone : empties ≡ true → size messages ≤ limit → new ≡ record { pending = messages; choked = false }
+  pub behind : empties ≡ false → old.choked ≡ false → size old.pending + size messages ≤ limit → new ≡ record { pending = old.pending ++ messages; choked = false }
+
+-- so it is for a slice at a step that is taken in
+abbrev pub SliceWaits : PolicyView → ℕ → List Operation → Timed → Result Verdict AllocError → Type 0
+SliceWaits policy slot before timed reply =
+    takes_in reply ≡ true
+    → AllWait slice_limit (empties_slice policy slot (events_of before) timed) (sent_by policy slot (events_of before) timed) (queue_of policy slot before) (queue_of policy slot (Step timed reply ∷ before))
+
+-- and for the switch
+abbrev pub LaneWaits : PolicyView → List Operation → Timed → Result Verdict AllocError → Type 0
+LaneWaits policy before timed reply =
+    takes_in reply ≡ true
+    → AllWait lane_limit (ends (events_of before) timed) (lane_by policy (events_of before) timed) (lane_of policy before) (lane_of policy (Step timed reply ∷ before))
+
 -- ---- streams
 
--- the frames of a connection before a record are the first of those with the record's bytes: each is completed once
-abbrev pub AreCompletedOnce : Told → List Told → Type 0
-AreCompletedOnce r before = AreFirst (frames_of (stream_before r before)) (frames_of (stream_before r before ++ r.bytes))
+-- the records of a record's connection before it, since that began, the oldest first
+abbrev pub connection_before : Told → List Told → List Told
+connection_before r before = reverse (filter (is_same_stream r) (take_while (λ other. not (begins_stream r other)) before))
+
+-- the bytes before a record are those of its connection's records since that began; and the frames of these bytes, then those that the record completes, are the frames with its own bytes
+pub record AreCompletedOnce (r : Told) (before : List Told) : Type 0 where
+  pub bytes : stream_before r before ≡ flat_map (λ other. other.bytes) (connection_before r before)
+  pub frames : frames_of (stream_before r before) ++ completed r before ≡ frames_of (stream_before r before ++ r.bytes)
 
 -- ---- what a slice has seen of its switch
 
@@ -296,16 +320,16 @@ abbrev pub HasEachEventOnce : PolicyView → List Told → Type 0
 HasEachEventOnce policy records =
     report policy records ≡ flat_map (lines_at policy) (enumerate_from 0 (all_happened policy records)) ++ last_line (length (all_happened policy records))
 
--- what the lines of an event tell the slice at a slot: nothing once the history is over
-abbrev pub told_by : PolicyView → ℕ → List Timed → Timed → List (List ℕ)
-told_by policy slot h timed = if is_over h then [] else sent_by policy slot h timed
+-- what the lines of an event show the slice at a slot: nothing once the history is over
+abbrev pub shown_to : PolicyView → ℕ → List Timed → Timed → List (List ℕ)
+shown_to policy slot h timed = if is_over h then [] else sent_by policy slot h timed
 
 -- the lines of an event are those for the switch, and by slot those of each slice's name for what it is told; then the connection that is closed, and the end
 abbrev pub ShowsEachSlice : PolicyView → Place → List Timed → Timed → Type 0
 ShowsEachSlice policy place h timed =
     event_lines policy place h timed
     ≡ (if is_over h then [] else lane_lines place (lane_by policy h timed))
-    ++ flat_map (λ slot. slice_lines place (name_at policy.slices slot) (told_by policy slot h timed)) (range_with_len 0 (length policy.slices))
+    ++ flat_map (λ slot. slice_lines place (name_at policy.slices slot) (shown_to policy slot h timed)) (range_with_len 0 (length policy.slices))
     ++ close_lines policy place (next_of h timed) timed.event
     ++ (if is_over h then [] else down_lines place h timed)
 
@@ -320,7 +344,7 @@ since_up switch (one ∷ later) = if one.switch == switch && not (list_any (is_u
 
 -- what events tell a slice, one after another
 abbrev pub told_over : PolicyView → ℕ → List Happened → List (List ℕ)
-told_over policy slot events = flat_map (λ one. told_by policy slot one.history one.timed) events
+told_over policy slot events = flat_map (λ one. shown_to policy slot one.history one.timed) events
 
 -- from a switch's last up on a report tells a slice what a proxy sends that serves it alone, with its settings on its view of the switch's history
 abbrev pub IsToldAsAlone : PolicyView → ℕ → ℕ → List Told → Type 0

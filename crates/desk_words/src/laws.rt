@@ -1,15 +1,17 @@
 //! Laws of the definitions. Each function's contract is the law; its body does nothing.
 
-ghost use Rattle.std.specs.Prelude.{ℕ, ◌≡◌, ◌↔◌, List, Some, None};
+ghost use Rattle.std.specs.Prelude.{ℕ, ◌≡◌, ◌↔◌, List, Some, None, Result};
+ghost use Rattle.std.specs.declared.alloc.AllocError.{AllocError};
 ghost use Rattle.of10_port.specs.declared.features.Features.{Features};
 ghost use Rattle.flowspace.specs.Policies.{PolicyView};
 ghost use Rattle.recording.specs.declared.item.Item.{Item};
 ghost use Rattle.recording.specs.Recordings.{Told};
 ghost use Rattle.desk_words.specs.declared.event.Timed.{Timed};
+ghost use Rattle.desk_words.specs.declared.answer.Verdict.{Verdict};
 ghost use Rattle.desk_words.specs.Operations.{Operation, IsLegal, queue_of, lane_of};
 ghost use Rattle.desk_words.specs.Reports.{Place};
 ghost use Rattle.desk_words.specs.Built.{Lack, first_lack};
-ghost use Rattle.desk_words.specs.Laws.{IsPhaseByEvents, IsAlone, AreAlike, IsErasable, IsBlindBefore, IsSilentUntilUp, IsDownAfterDown, IsUpByEvents, sent_since, taken_since, lane_since, lane_taken_since, AreInOrder, AreCompletedOnce, SeesItsSwitch, AreKnownInOrder, AreKnownAsTold, MakesTheFirst, GetsTheFirst, ComeAtTheirSwitch, HasEachEventOnce, ShowsEachSlice, IsToldAsAlone, AreBuilt, IsFirstLack};
+ghost use Rattle.desk_words.specs.Laws.{IsPhaseByEvents, IsAlone, AreAlike, IsErasable, IsBlindBefore, IsSilentUntilUp, IsDownAfterDown, IsUpByEvents, sent_since, taken_since, lane_since, lane_taken_since, AreInOrder, SliceWaits, LaneWaits, AreCompletedOnce, SeesItsSwitch, AreKnownInOrder, AreKnownAsTold, MakesTheFirst, GetsTheFirst, ComeAtTheirSwitch, HasEachEventOnce, ShowsEachSlice, IsToldAsAlone, AreBuilt, IsFirstLack};
 
 /// The switch's connection has ended where, after it came, it went or a message of a bad length came; the
 /// opening is the first FEATURES_REPLY between.
@@ -51,14 +53,17 @@ pub fn up_by_events()
 {}
 
 /// What was taken for a destination since its queue was last emptied, what waits, and what was dropped
-/// are, in this order, all that it was sent since; nothing was dropped unless the queue is choked.
+/// are, in this order, all that it was sent since; nothing was dropped unless the queue is choked. What a step
+/// sends waits where there is room for it and the queue isn't choked.
 pub fn messages_are_taken_in_order()
     ensures slices { (policy : PolicyView) (slot : ℕ) (ops : List Operation) → IsLegal policy ops → AreInOrder (sent_since policy slot ops) (taken_since policy slot ops) (queue_of policy slot ops) }
     ensures lane { (policy : PolicyView) (ops : List Operation) → IsLegal policy ops → AreInOrder (lane_since policy ops) (lane_taken_since policy ops) (lane_of policy ops) }
+    ensures slices_wait { (policy : PolicyView) (slot : ℕ) (before : List Operation) (timed : Timed) (reply : Result Verdict AllocError) → SliceWaits policy slot before timed reply }
+    ensures lane_waits { (policy : PolicyView) (before : List Operation) (timed : Timed) (reply : Result Verdict AllocError) → LaneWaits policy before timed reply }
 {}
 
-/// The frames of a connection before a record are the first of those with the record's bytes, so that each
-/// frame is completed by one record.
+/// The bytes of a connection before a record are those of its records since it began, in their order. With
+/// the record's bytes its frames are those that it had before, and then those that the record completes.
 pub fn frames_are_completed_once()
     ensures { (r : Told) (before : List Told) → AreCompletedOnce r before }
 {}

@@ -6,7 +6,7 @@ use Rattle.fv_base.specs.Words.{FormBytes, OfCheck, OfReplay, form_of}
 use Rattle.fv_cli.specs.declared.ending.Ending.{Ending}
 use Rattle.fv_cli.specs.declared.ending.Ending.TheVariants.{Done, Usage, ReadFault, WriteFault, NoMemory, NoMemoryToRun, TooLarge, PolicyRefused, RecordingRefused, NotBuilt}
 use Rattle.fv_cli.specs.Endings.{status_of, line_of, IsPut, Outside, Ended, Causes, IsCheckCause, IsReplayCause}
-use Rattle.flowvisor.specs.Asked.{Suits, EndedSo}
+use Rattle.flowvisor.specs.Asked.{Suits, EndedSo, is_of_check}
 
 -- ---- lines
 
@@ -45,18 +45,32 @@ behind_nothing line before between after count count_between count_after (inr (p
 
 pub memory_suits : (form : Option FormBytes) → Suits None form NoMemory
 memory_suits None = inr refl
-memory_suits (Some form) = λ e. cc
+memory_suits (Some (OfCheck policy)) = refl
+memory_suits (Some (OfReplay policy recording)) = λ e. cc
+
+check_suits : (w : Outside) (policy : List ℕ) (ending : Ending) → IsCheckCause w policy ending → is_of_check ending ≡ true
+check_suits w policy Done cause = refl
+check_suits w policy Usage cause = absurd cause
+check_suits w policy ReadFault cause = refl
+check_suits w policy WriteFault cause = refl
+check_suits w policy NoMemory cause = refl
+check_suits w policy NoMemoryToRun cause = absurd cause
+check_suits w policy TooLarge cause = refl
+check_suits w policy (PolicyRefused fault) cause = refl
+check_suits w policy (RecordingRefused fault) cause = absurd cause
+check_suits w policy (NotBuilt lack) cause = absurd cause
 
 cause_suits : (w : Outside) (form : Option FormBytes) (ending : Ending) → Causes w form ending → Suits None form ending
 cause_suits w None ending cause = inl cause
-cause_suits w (Some (OfCheck policy)) ending cause = λ is. subst (λ e. IsCheckCause w policy e) is cause
+cause_suits w (Some (OfCheck policy)) ending cause = check_suits w policy ending cause
 cause_suits w (Some (OfReplay policy recording)) ending cause = λ is. subst (λ e. IsReplayCause w policy recording e) is cause
 
 -- a run that went well, and whose flush failed
 fault_suits : (form : Option FormBytes) → Suits None form Done → Suits None form WriteFault
 fault_suits None (inl e) = absurd (cc)
 fault_suits None (inr e) = absurd (cc)
-fault_suits (Some form) _ = λ e. cc
+fault_suits (Some (OfCheck policy)) _ = refl
+fault_suits (Some (OfReplay policy recording)) _ = λ e. cc
 
 only_done : (ending : Ending) (failed : Bool) → (status_of ending == 0 && failed) ≡ true → ending ≡ Done
 only_done Done failed e = refl

@@ -1,8 +1,8 @@
 -- What words ask for, and how what they ask for may end. All of this is the program's own rule.
-use Rattle.std.specs.Prelude.{◌≡◌, ◌≢◌, ◌⊎◌, ℕ, if◌then◌else◌, List, [], ◌∷◌, Option, None, Some, bytes_eq, codes}
-use Rattle.fv_base.specs.Words.{FormBytes}
+use Rattle.std.specs.Prelude.{◌≡◌, ◌≢◌, ◌⊎◌, ℕ, Bool, true, false, if◌then◌else◌, List, [], ◌∷◌, Option, None, Some, bytes_eq, codes}
+use Rattle.fv_base.specs.Words.{FormBytes, OfCheck, OfReplay}
 use Rattle.fv_cli.specs.declared.ending.Ending.{Ending}
-use Rattle.fv_cli.specs.declared.ending.Ending.TheVariants.{Done, Usage, WriteFault, NoMemory}
+use Rattle.fv_cli.specs.declared.ending.Ending.TheVariants.{Done, Usage, WriteFault, NoMemory, NoMemoryToRun, RecordingRefused, NotBuilt}
 use Rattle.fv_cli.specs.Endings.{status_of, line_of, IsPut}
 use Rattle.flowvisor.specs.declared.texts.TheConstants.{HELP, VERSION}
 
@@ -15,11 +15,20 @@ abbrev pub text_in : List (List ℕ) → Option (List ℕ)
 text_in (word ∷ []) = text_of word
 text_in _ = None
 
--- words that ask for a text end well or with a fault of writing; words without a form end with the usage, where there is memory to say so; others don't
+-- an ending that a check of a policy can have: none of words without a form, of a recording, or of a run
+abbrev pub is_of_check : Ending → Bool
+is_of_check Usage = false
+is_of_check (RecordingRefused fault) = false
+is_of_check (NotBuilt lack) = false
+is_of_check NoMemoryToRun = false
+is_of_check _ = true
+
+-- words that ask for a text end well or with a fault of writing; words without a form end with the usage, where there is memory to say so; a check ends as a check can, and a replay never with the usage
 abbrev pub Suits : Option (List ℕ) → Option FormBytes → Ending → Type 0
 Suits (Some text) form ending = (ending ≡ Done) ⊎ (ending ≡ WriteFault)
 Suits None None ending = (ending ≡ Usage) ⊎ (ending ≡ NoMemory)
-Suits None (Some form) ending = ending ≢ Usage
+Suits None (Some (OfCheck policy)) ending = is_of_check ending ≡ true
+Suits None (Some (OfReplay policy recording)) ending = ending ≢ Usage
 
 -- A call that ended with a status: one ending that suits gives the status, and its line was put.
 pub record EndedSo (Suiting : Ending → Type 0) (err_before err_after : Option (List ℕ)) (err_faults err_faults_after status : ℕ) : Type 0 where

@@ -1,7 +1,7 @@
 //! What the program does once its words are known, over any writer and any sink for its line.
 
-ghost use Rattle.std.specs.Prelude.{◌≡◌, ◌⊎◌, ◌&&◌, ◌==◌, if◌then◌else◌, is_err, false, true, map, string_bytes, IfOk, None, Some};
-ghost use Rattle.fv_base.specs.Told.{appended, Rose};
+ghost use Rattle.std.specs.Prelude.{ℕ, List, ◌≡◌, ◌⊎◌, ◌&&◌, ◌==◌, if◌then◌else◌, is_err, false, true, map, string_bytes, IfOk, None, Some};
+ghost use Rattle.fv_base.specs.Told.{appended, IsPrefix, Rose};
 ghost use Rattle.fv_base.specs.Words.{form_of};
 ghost use Rattle.fv_cli.specs.declared.ending.Ending.TheVariants.{WriteFault};
 ghost use Rattle.fv_cli.specs.Endings.{status_of, line_of, IsPut};
@@ -29,8 +29,8 @@ pub fn end<E: Sink>(err: &mut E, ending: &Ending) -> u8
 
 /// Puts a text that was asked for, and answers the status.
 fn show<O: Sink, E: Sink>(text: &str, out: &mut O, err: &mut E) -> u8
-    ensures done { result ≡ 0 → O.contents out.new ≡ appended (O.contents out.old) text.now }
-    ensures fault { (result ≡ 0) ⊎ ((result ≡ 5) × Rose (O.faults out.old) (O.faults out.new)) }
+    ensures done { result ≡ 0 → (O.contents out.new ≡ appended (O.contents out.old) text.now) × (O.faults out.new ≡ O.faults out.old) }
+    ensures fault { (result ≡ 0) ⊎ ((result ≡ 5) × ((piece : List ℕ) × IsPrefix piece text.now × (O.contents out.new ≡ appended (O.contents out.old) piece)) × Rose (O.faults out.old) (O.faults out.new)) }
     ensures ended { EndedSo (Suits (Some text.now) None) (E.contents err.old) (E.contents err.new) (E.faults err.old) (E.faults err.new) result }
 {
     match put_all(out, text.as_bytes()) {
