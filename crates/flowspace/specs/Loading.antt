@@ -56,28 +56,23 @@ filed_in_order rules = ranked (λ filed. filed.rule.priority) (filed 0 rules)
 abbrev pub overlap_fault : List FiledRule → FiledRule → Option PolicyFault
 overlap_fault before later = option_map (λ earlier. Overlap earlier.place later.place) (find (λ earlier. is_refused earlier.rule later.rule) before)
 
--- the first fault of slices and rules: too many slices or rules, a name twice, along the rules a slot that isn't there or a writer who reads, along the slots too many written rules, and along rule order an overlap
-unfoldable pub fault_of : List Slice → List Rule → Option PolicyFault
-fault_of ss rs =
-    first_of_faults (
+-- what is looked for before the rules are put in order: too many slices or rules, a name twice, along the rules a slot that isn't there or a writer who reads, and along the slots too many written rules
+abbrev pub faults_before_order : List Slice → List Rule → List (Option PolicyFault)
+faults_before_order ss rs =
     excess Slices 32 (length ss)
     ∷ excess Rules 2048 (length rs)
     ∷ first_along name_fault [] ss
     ∷ first_along (rule_fault (length ss)) [] rs
     ∷ first_along (writes_fault rs) [] ss
-    ∷ first_along overlap_fault [] (filed_in_order rs)
-    ∷ [])
+    ∷ []
 
--- the first fault that is found before the rules are put in order: any but an overlap
+-- the first fault of these
 abbrev pub fault_before_order : List Slice → List Rule → Option PolicyFault
-fault_before_order ss rs =
-    first_of_faults (
-    excess Slices 32 (length ss)
-    ∷ excess Rules 2048 (length rs)
-    ∷ first_along name_fault [] ss
-    ∷ first_along (rule_fault (length ss)) [] rs
-    ∷ first_along (writes_fault rs) [] ss
-    ∷ [])
+fault_before_order ss rs = first_of_faults (faults_before_order ss rs)
+
+-- the first fault of slices and rules: one of these, or along rule order an overlap
+unfoldable pub fault_of : List Slice → List Rule → Option PolicyFault
+fault_of ss rs = first_of_faults (faults_before_order ss rs ++ first_along overlap_fault [] (filed_in_order rs) ∷ [])
 
 -- the policy that slices and rules make, or their first fault
 abbrev pub load_of : List Slice → List Rule → Result PolicyView PolicyFault

@@ -1,5 +1,6 @@
 -- Reading actions one after the other, as a loop does.
-use Rattle.std.proofs.Common.{◌≡◌, ℕ, zero, suc, ◌≤◌, ◌<◌, ◌%◌, not, ltb, eqb, ◌||◌, List, [], ◌∷◌, ◌++◌, length, drop, Result, Ok, Err, refl, sym, ap, subst, ◌∙◌, arith}
+use Rattle.std.proofs.Common.{◌≡◌, ◌⊎◌, inl, inr, ℕ, zero, suc, ◌≤◌, ◌<◌, ◌%◌, true, not, ltb, eqb, ◌||◌, List, [], ◌∷◌, ◌++◌, length, drop, Result, Ok, Err, refl, sym, ap, subst, ◌∙◌, arith}
+use Rattle.std.specs.Prelude.{is_ok}
 use Rattle.std.proofs.lemmas.Bool.{ltb-false, eqb-true, or_parts}
 use Rattle.std.proofs.lemmas.List.{append-nil, length-drop}
 use Rattle.of10_model.specs.Normal.{number_at}
@@ -81,6 +82,11 @@ pub ends : (front : List Action) (bytes : List ℕ) (fault : WireFault) (total :
 unfolding actions_at
 ends front [] fault total lt e so_far = absurd (omega arith)
 ends front (b ∷ bytes) fault total lt e so_far = sym so_far ∙ rw e refl
+
+-- once an action is read, the first is right
+pub is_begun : (bytes rest : List ℕ) (x : Action × List ℕ) → action_at rest ≡ Ok x → (rest ≡ bytes) ⊎ (is_ok (action_at bytes) ≡ true) → is_ok (action_at bytes) ≡ true
+is_begun bytes rest x e (inl same) = subst (λ front. is_ok (action_at front) ≡ true) same (ap is_ok e)
+is_begun bytes rest x e (inr right) = right
 
 pub is_done : (front : List Action) (bytes : List ℕ) (total : Result (List Action) WireFault) → length bytes ≡ 0 → with_front front (read_all bytes) ≡ total → total ≡ Ok front
 unfolding actions_at

@@ -1,7 +1,8 @@
-ghost use Rattle.std.specs.Prelude.{◌≡◌, ◌<◌, ◌≤◌, ◌↔◌, ℕ, List, length, IfOk, Ok, Err};
+ghost use Rattle.std.specs.Prelude.{◌≡◌, ◌<◌, ◌≤◌, ◌↔◌, ℕ, true, List, length, is_ok, IfOk, Ok, Err};
 ghost use Rattle.std.specs.List.{All};
 ghost use Rattle.of10_action.specs.declared.action.Action.{Action};
 ghost use Rattle.of10_action.specs.declared.fault.WireFault.{WireFault};
+ghost use Rattle.of10_action.specs.declared.fault.DecodeFault.TheVariants.{Memory};
 ghost use Rattle.of10_action.specs.Actions.{IsAction, HasAddress, AlikeButPadding, size_of, spelling};
 ghost use Rattle.of10_action.specs.Reading.{Gives, Reads, head_at, action_of, action_at, actions_at, read_all, IsFirstFault};
 
@@ -84,6 +85,7 @@ fn first(bytes: &[u8]) -> Result<(Action, &[u8]), WireFault>
 
 fn list(alloc: Global, bytes: &[u8]) -> Result<Vec<Action>, DecodeFault>
     ensures exact { Gives (λ v. v.items) result (read_all bytes.now) }
+    ensures memory { result ≡ Err Memory → is_ok (action_at bytes.now) ≡ true }
     ensures range { IfOk result (λ v. All IsAction v.items) }
     ensures address { IfOk result (λ v. All HasAddress v.items) }
 {
@@ -107,6 +109,8 @@ pub fn decode_list(alloc: Global, bytes: &[u8]) -> Result<Actions, DecodeFault>
     ensures exact { Gives (λ a. a) result (read_all bytes.now) }
     // What is spelled so is read, unless memory runs out.
     ensures only { (actions : List Action) → All IsAction actions → bytes.now ≡ spelling actions → Gives (λ a. a) result (Ok actions) }
+    // Memory is taken only once the first action is right.
+    ensures memory { result ≡ Err Memory → is_ok (action_at bytes.now) ≡ true }
     ensures range { IfOk result (λ a. All IsAction a) }
 {
     match list(alloc, bytes) {
