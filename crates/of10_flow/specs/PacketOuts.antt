@@ -1,5 +1,5 @@
 -- Messages that send a packet out of a switch (OpenFlow 1.0.0, section 5.3.6).
-use Rattle.std.specs.Prelude.{ℕ, ◌+◌, ◌<◌, ◌≤◌, ◌^◌, nat_lt, if◌then◌else◌, List, ◌++◌, length, take, drop, Result, Ok, Err}
+use Rattle.std.specs.Prelude.{ℕ, ◌+◌, ◌<◌, ◌≤◌, ◌^◌, nat_lt, Bool, true, if◌then◌else◌, List, [], ◌++◌, length, take, drop, is_ok, Result, Ok, Err}
 use Rattle.std.specs.List.{All}
 use Rattle.byteorder.specs.Endian.{big_bytes}
 use Rattle.of10_model.specs.Normal.{number_at}
@@ -7,7 +7,7 @@ use Rattle.of10_action.specs.declared.fault.WireFault.{WireFault}
 use Rattle.of10_action.specs.declared.fault.WireFault.TheVariants.{Length}
 use Rattle.of10_action.specs.Actions.{IsAction, spelling}
 use Rattle.of10_model.specs.Results.{◌>>=◌}
-use Rattle.of10_action.specs.Reading.{read_all}
+use Rattle.of10_action.specs.Reading.{action_at, read_all}
 use Rattle.of10_ctl.specs.Frames.{message_of}
 use Rattle.of10_flow.specs.declared.packet_out.PacketOut.{PacketOut}
 
@@ -39,3 +39,8 @@ read_packet_out bytes =
         actions = actions;
         payload = drop (16 + size) bytes;
       })
+
+-- bytes of which the first action is right, where there is one
+abbrev pub begins_well : List ℕ → Bool
+begins_well [] = true
+begins_well bytes = is_ok (action_at bytes)

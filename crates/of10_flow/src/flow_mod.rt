@@ -1,9 +1,9 @@
-ghost use Rattle.std.specs.Prelude.{◌≡◌, ◌+◌, ◌≤◌, ◌++◌, length, drop, Err, OnOk, IfOk};
+ghost use Rattle.std.specs.Prelude.{◌≡◌, ◌+◌, ◌≤◌, ◌++◌, true, length, drop, is_ok, Err, OnOk, IfOk};
 ghost use Rattle.std.specs.List.{All};
 ghost use Rattle.byteorder.specs.Endian.{big_bytes};
 ghost use Rattle.of10_action.specs.declared.fault.DecodeFault.TheVariants.{Memory};
 ghost use Rattle.of10_action.specs.Actions.{IsAction, HasAddress, spelling};
-ghost use Rattle.of10_action.specs.Reading.{Gives};
+ghost use Rattle.of10_action.specs.Reading.{Gives, action_at};
 ghost use Rattle.of10_ctl.specs.Kinds.{IsOf};
 ghost use Rattle.of10_flow.specs.FlowMods.{IsFlowMod, flow_mod_with, read_flow_mod, shown_flow_mod, spell_flow_mod};
 
@@ -101,7 +101,7 @@ fn read(alloc: Global, bytes: &[u8]) -> Result<FlowMod, DecodeFault>
     requires { length bytes.now ≤ 65535 }
     ensures exact { Gives (λ m. m) result (read_flow_mod bytes.now) }
     ensures range { IfOk result IsFlowMod }
-    ensures memory { result ≡ Err Memory → 72 ≤ length bytes.now }
+    ensures memory { result ≡ Err Memory → (72 ≤ length bytes.now) × (is_ok (action_at (drop 72 bytes.now)) ≡ true) }
 {
     if bytes.len() < 72 {
         return Err(DecodeFault::Wire(WireFault::Length(bytes.len() as u16)));
@@ -145,7 +145,8 @@ impl FlowMod {
         requires { IsOf 14 frame.now }
         ensures exact { Gives (λ m. m) result (read_flow_mod frame.now) }
         ensures range { IfOk result IsFlowMod }
-        ensures memory { result ≡ Err Memory → 72 ≤ length frame.now }
+        // Memory is taken for actions alone, and once the first of them is right.
+        ensures memory { result ≡ Err Memory → (72 ≤ length frame.now) × (is_ok (action_at (drop 72 frame.now)) ≡ true) }
     {
         read(alloc, frame.as_slice())
     }

@@ -1,10 +1,10 @@
-ghost use Rattle.std.specs.Prelude.{◌≡◌, ◌+◌, ◌≤◌, length, Err, IfOk};
+ghost use Rattle.std.specs.Prelude.{◌≡◌, ◌+◌, ◌≤◌, true, length, take, drop, Err, IfOk};
 ghost use Rattle.of10_model.specs.Normal.{number_at};
 ghost use Rattle.of10_action.specs.declared.fault.DecodeFault.TheVariants.{Memory};
 ghost use Rattle.of10_action.specs.Actions.{spelling};
 ghost use Rattle.of10_action.specs.Reading.{Gives};
 ghost use Rattle.of10_ctl.specs.Kinds.{IsOf};
-ghost use Rattle.of10_flow.specs.PacketOuts.{IsPacketOut, read_packet_out, spell_packet_out};
+ghost use Rattle.of10_flow.specs.PacketOuts.{IsPacketOut, begins_well, read_packet_out, spell_packet_out};
 
 use crate::fields::put_buffer;
 use of10_action::{Actions, Bytes, DecodeFault, WireFault, decode_list, encode_list, list_size};
@@ -27,12 +27,12 @@ pub struct PacketOut {
 }
 
 /// What the bytes of a packet-out say.
-#[tactic(auto, using(of10_action::proofs::Lengths::spelled_length), unfolding(crate::specs::PacketOuts::read_packet_out))]
+#[tactic(auto, using(of10_action::proofs::Lengths::spelled_length, crate::proofs::Begins::begins), unfolding(crate::specs::PacketOuts::read_packet_out))]
 fn read(alloc: Global, bytes: &[u8]) -> Result<PacketOut, DecodeFault>
     requires { length bytes.now ≤ 65535 }
     ensures exact { Gives (λ m. m) result (read_packet_out bytes.now) }
     ensures range { IfOk result IsPacketOut }
-    ensures memory { result ≡ Err Memory → 16 + number_at bytes.now 14 2 ≤ length bytes.now }
+    ensures memory { result ≡ Err Memory → (16 + number_at bytes.now 14 2 ≤ length bytes.now) × (begins_well (take (number_at bytes.now 14 2) (drop 16 bytes.now)) ≡ true) }
 {
     if bytes.len() < 16 {
         return Err(DecodeFault::Wire(WireFault::Length(bytes.len() as u16)));
@@ -59,7 +59,8 @@ impl PacketOut {
         requires { IsOf 13 frame.now }
         ensures exact { Gives (λ m. m) result (read_packet_out frame.now) }
         ensures range { IfOk result IsPacketOut }
-        ensures memory { result ≡ Err Memory → 16 + number_at frame.now 14 2 ≤ length frame.now }
+        // Memory is taken for actions and the packet, and only where the first action, if there is one, is right.
+        ensures memory { result ≡ Err Memory → (16 + number_at frame.now 14 2 ≤ length frame.now) × (begins_well (take (number_at frame.now 14 2) (drop 16 frame.now)) ≡ true) }
     {
         read(alloc, frame.as_slice())
     }
