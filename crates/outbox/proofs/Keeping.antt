@@ -42,6 +42,14 @@ push_all-choked limit pending [] = refl
 push_all-choked limit pending (message ∷ later) =
     ap (λ q. push_all limit q later) (push-choked limit pending message) ∙ push_all-choked limit pending later
 
+pub push_all-none : (limit : ℕ) (q : Queue) → push_all limit q [] ≡ q
+unfolding push_all
+push_all-none limit q = refl
+
+pub push_all-one : (limit : ℕ) (q : Queue) (message : List ℕ) → push_all limit q (message ∷ []) ≡ push limit q message
+unfolding push_all
+push_all-one limit q message = refl
+
 pub push_all-append : (limit : ℕ) (q : Queue) (messages later : List (List ℕ)) → push_all limit q (messages ++ later) ≡ push_all limit (push_all limit q messages) later
 unfolding push_all
 push_all-append limit q [] later = refl

@@ -22,7 +22,10 @@ pub fn queue_stays_within_its_limit()
     ensures choked { (limit : ℕ) (pending messages : List (List ℕ)) → push_all limit (record { pending = pending; choked = true }) messages ≡ record { pending = pending; choked = true } }
 {}
 
-/// Messages come one after the other, however they are put together.
+/// Messages come one after the other, however they are put together: none leave a queue as it is, one comes as
+/// by [`message_is_kept_within_the_limit`] is said, and of more the later come to the queue that the earlier left.
 pub fn messages_come_one_after_the_other()
-    ensures { (limit : ℕ) (q : Queue) (messages later : List (List ℕ)) → push_all limit q (messages ++ later) ≡ push_all limit (push_all limit q messages) later }
+    ensures none { (limit : ℕ) (q : Queue) → push_all limit q [] ≡ q }
+    ensures one { (limit : ℕ) (q : Queue) (message : List ℕ) → push_all limit q (message ∷ []) ≡ push limit q message }
+    ensures more { (limit : ℕ) (q : Queue) (messages later : List (List ℕ)) → push_all limit q (messages ++ later) ≡ push_all limit (push_all limit q messages) later }
 {}

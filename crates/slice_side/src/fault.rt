@@ -1,7 +1,6 @@
 //! What is wrong with the form of a slice's message.
 
-ghost use Rattle.std.specs.Prelude.{◌≡◌, ◌+◌, ◌≤◌, length, IfOk, OnErr, IsTrue, Result, Err, false};
-ghost use Rattle.of10_model.specs.Normal.{number_at};
+ghost use Rattle.std.specs.Prelude.{◌≡◌, IfOk, OnErr, IsTrue, Result, Err, false};
 ghost use Rattle.of10_action.specs.declared.fault.DecodeFault.TheVariants.{Memory};
 ghost use Rattle.of10_action.specs.Reading.{Gives};
 ghost use Rattle.of10_ctl.specs.Kinds.{IsOf};
@@ -10,7 +9,7 @@ ghost use Rattle.of10_flow.specs.PacketOuts.{read_packet_out};
 ghost use Rattle.of10_flow.specs.FlowMods.{read_flow_mod};
 ghost use Rattle.of10_stats.specs.Requests.{read_request};
 ghost use Rattle.slice_words.specs.Messages.{version_of, sized, fault_in, form_fault};
-ghost use Rattle.slice_side.specs.Reactions.{has_actions};
+ghost use Rattle.slice_side.specs.Reactions.{begins_packet_out, begins_flow_mod, has_actions};
 
 use of10_action::{DecodeFault, WireFault};
 use of10_ctl::Frame;
@@ -49,7 +48,7 @@ fn fault_told<T: Drop>(read: Result<T, DecodeFault>) -> Result<Option<WireFault>
 fn in_packet_out(alloc: Global, frame: &Frame) -> Result<Option<WireFault>, AllocError>
     requires { IsOf 13 frame.now }
     ensures fault { IfOk result (λ fault. fault ≡ fault_in (read_packet_out frame.now)) }
-    ensures memory { OnErr result (16 + number_at frame.now 14 2 ≤ length frame.now) }
+    ensures memory { OnErr result (IsTrue (begins_packet_out frame.now)) }
 {
     fault_told(PacketOut::decode(alloc, frame))
 }
@@ -57,7 +56,7 @@ fn in_packet_out(alloc: Global, frame: &Frame) -> Result<Option<WireFault>, Allo
 fn in_flow_mod(alloc: Global, frame: &Frame) -> Result<Option<WireFault>, AllocError>
     requires { IsOf 14 frame.now }
     ensures fault { IfOk result (λ fault. fault ≡ fault_in (read_flow_mod frame.now)) }
-    ensures memory { OnErr result (72 ≤ length frame.now) }
+    ensures memory { OnErr result (IsTrue (begins_flow_mod frame.now)) }
 {
     fault_told(FlowMod::decode(alloc, frame))
 }

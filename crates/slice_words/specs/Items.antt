@@ -98,7 +98,7 @@ is_up (Down ∷ view) = false
 is_up (Msg message moment ∷ view) = if is_dismissing message then false else is_up view
 is_up (item ∷ view) = is_up view
 
--- what the controller set last for how much of a packet it wants (section 5.3.2), since it last came up; 128 before (section 4.1.2)
+-- what the controller set last for how much of a packet it wants (section 5.3.2), since the slice last came up, went down or sent a dismissing message; 128 where it set nothing since (section 4.1.2)
 abbrev pub miss_send_len : List Item → ℕ
 miss_send_len [] = 128
 miss_send_len (Up ∷ view) = 128
