@@ -2,8 +2,7 @@
 
 ghost use Rattle.std.specs.Prelude.{◌≡◌, ◌≤◌, length, None, IfOk};
 
-use crate::counts::one_more;
-use fv_cli::base::{Failed, Files};
+use fv_cli::base::{Failed, Files, one_more};
 use std::fs::File;
 use std::io::{self, Read, Seek, SeekFrom};
 

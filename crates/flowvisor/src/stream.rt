@@ -3,8 +3,7 @@
 ghost use Rattle.std.specs.Prelude.{◌≡◌, None, OnErr, OnOk};
 ghost use Rattle.fv_base.specs.Told.{Rose};
 
-use crate::counts::one_more;
-use fv_cli::base::{Failed, Sink};
+use fv_cli::base::{Failed, Sink, one_more};
 use std::io::Write;
 
 /// A sink over a writer.

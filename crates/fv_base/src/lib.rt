@@ -10,6 +10,6 @@ mod transfer;
 mod words;
 
 pub use memory::{MemoryFiles, MemorySink, NeverSink};
-pub use outside::{Failed, Files, Sink};
+pub use outside::{Failed, Files, Sink, one_more};
 pub use transfer::{LoadFault, load_file, put_all};
 pub use words::{Form, Words, WordsFault, read_words};

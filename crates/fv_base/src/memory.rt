@@ -6,7 +6,7 @@ ghost use Rattle.std.specs.Str.{bytes_eq};
 ghost use Rattle.fv_base.specs.Memory.{Starts, bytes_taken, called, files_plan, moved, read_count, sink_plan, file_at, count_at, is_declared, one_more, place_of, raised_at, with_file};
 ghost use Rattle.fv_base.specs.Told.{Gives, Rose, appended};
 
-use super::{Failed, Files, Sink};
+use super::{Failed, Files, Sink, one_more};
 use std::alloc::{AllocError, Global};
 
 // How calls go: how many bytes one moves at most, and the numbers of the calls that fail, from 0.
@@ -34,15 +34,6 @@ impl Plan {
             Some(there.min(self.most))
         }
     }
-}
-
-// The count after one more fault.
-fn one_more(faults: u64) -> u64
-    ensures value { result ≡ one_more faults }
-    ensures rose { Rose faults result }
-    ensures later { faults ≤ result }
-{
-    faults.saturating_add(1)
 }
 
 /// A sink that keeps what it takes. A put fails where its plan says so, and where memory for growing is

@@ -5,11 +5,21 @@
 //! in memory tell their contents, files and sockets don't, and a caller can't see which it has.
 
 ghost use Rattle.std.specs.Prelude.{◌≡◌, ◌≤◌, ◌<◌, ℕ, List, Option, length, drop, take, IfOk, OnOk, OnErr, IfSome};
+ghost use Rattle.fv_base.specs.Memory.{one_more};
 ghost use Rattle.fv_base.specs.Told.{appended, Gives, Rose};
 
 /// A call on the outside failed. Its cause is that the object's count of faults rose.
 #[derive(Clone, Copy, Debug, PartialEq, Eq)]
 pub struct Failed;
+
+/// A count of faults after one fault more; its last value stays.
+pub fn one_more(faults: u64) -> u64
+    ensures value { result ≡ one_more faults }
+    ensures rose { Rose faults result }
+    ensures later { faults ≤ result }
+{
+    faults.saturating_add(1)
+}
 
 /// Where bytes are written to.
 pub trait Sink: Drop {
