@@ -1,17 +1,15 @@
 -- What one event shows a slice: at most two items, each with a small answer.
-use Rattle.std.proofs.Common.{ℕ, ◌+◌, ◌==◌, ◌&&◌, ◌≤◌, ltb, is_none, Bool, true, false, if◌then◌else◌, inl, inr, List, [], ◌∷◌, ◌++◌, map, length, Option, Some, None, IfSome, arith}
+use Rattle.std.proofs.Common.{ℕ, ◌+◌, ◌==◌, ◌&&◌, ◌≤◌, ltb, Bool, true, false, if◌then◌else◌, inl, inr, List, [], ◌∷◌, ◌++◌, map, length, Option, Some, None, IfSome, arith}
 use Rattle.std.proofs.lemmas.Bool.{cases_Bool, ltb-false}
 use Rattle.std.proofs.lemmas.List.{length-map, length-drop}
 use Rattle.of10_model.specs.Normal.{is_value, bit}
 use Rattle.of10_ctl.specs.declared.kind.TheConstants.{PACKET_IN}
 use Rattle.of10_ctl.specs.Frames.{is_bad}
-use Rattle.of10_flow.specs.declared.protocol.TheConstants.{NO_BUFFER}
 use Rattle.of10_flow.specs.declared.packet_in.PacketIn.{PacketIn}
 use Rattle.of10_flow.specs.PacketIns.{read_packet_in}
 use Rattle.of10_port.specs.declared.features.Features.{Features}
 use Rattle.of10_port.specs.declared.status.PortStatus.{PortStatus}
 use Rattle.of10_port.specs.Ports.{port_number}
-use Rattle.frame_header.specs.Probes.{probe_slot_of}
 use Rattle.flowspace.specs.declared.rules.Rule.{Rule}
 use Rattle.flowspace.specs.Order.{writer_of, readers_of}
 use Rattle.flowspace.specs.Policies.{PolicyView}
@@ -25,7 +23,7 @@ use Rattle.desk_words.specs.declared.phase.Phase.{Phase}
 use Rattle.desk_words.specs.declared.phase.Phase.TheVariants.{Fresh, Begun, Opened, Ended}
 use Rattle.of10_ctl.specs.Kinds.{is_of}
 use Rattle.desk_words.specs.Openings.{well_formed, status_told, opening_with, rules_of, Switch, switch_of, phase_of}
-use Rattle.desk_words.specs.Histories.{is_slot, settings_at, own_features, handed, header_in, shares_of, packet_items, status_items, message_items, opening_items, event_items, phase_items, items_of, side_of, view_of}
+use Rattle.desk_words.specs.Histories.{is_slot, settings_at, own_features, handed, header_in, shares_of, is_plain, packet_items, status_items, message_items, opening_items, event_items, phase_items, items_of, side_of, view_of}
 use Rattle.port_view.specs.KnownPorts.{is_kept}
 use Rattle.answer_bounds.specs.Bounds.{IsFramed, AreFramed}
 use Rattle.answer_bounds.proofs.Messages.{IsShort}
@@ -82,7 +80,7 @@ packet_few : (rules : List Rule) (slot : ℕ) (view : List Item) (told : Option 
     → AreFewItems view (elim told [ None ↦ [] | Some packet ↦ packet_items rules slot view packet ])
 packet_few rules slot view None short = no_items view
 packet_few rules slot view (Some packet) short =
-    items_if view (packet.buffer == NO_BUFFER && is_none (probe_slot_of packet.payload) && is_up view) (map (λ share. handed share packet) (shares_of rules slot packet))
+    items_if view (is_plain packet && is_up view) (map (λ share. handed share packet) (shares_of rules slot packet))
     (handed_few rules slot view packet short)
 
 -- ---- ports

@@ -11,7 +11,7 @@ use Rattle.desk_words.specs.declared.event.Timed.{Timed}
 use Rattle.desk_words.specs.Sent.{sent_by, lane_by}
 use Rattle.desk_words.specs.Verdicts.{is_over}
 use Rattle.desk_words.specs.Recorded.{next_of, next_after, history_at, events_in}
-use Rattle.desk_words.specs.Reports.{Place, lane_lines, slice_lines, all_slice_lines, name_at, close_lines, down_lines, event_lines, lines_of, last_line, report_from}
+use Rattle.desk_words.specs.Reports.{Place, lane_lines, slice_lines, lines_by_slot, name_at, close_lines, down_lines, event_lines, lines_of, last_line, report_from}
 use Rattle.desk_words.specs.Laws.{Happened, each_after, happened_in, all_happened, lines_at, HasEachEventOnce, ShowsEachSlice}
 use Rattle.desk_words.proofs.Making.{reverse_more}
 
@@ -115,14 +115,14 @@ one_further : (n k : ℕ) → n + 1 + k ≡ n + suc k
 one_further n k = omega arith
 
 -- the slices from a slot on, where the slices of the policy have these there
-slices_shown : (policy : PolicyView) (place : Place) (h : List Timed) (timed : Timed) (slot : ℕ) (slices : List Slice)
+slices_shown : (policy : PolicyView) (place : Place) (messages : ℕ → List (List ℕ)) (slot : ℕ) (slices : List Slice)
     → ((k : ℕ) → slice_get policy.slices (slot + k) ≡ slice_get slices k)
-    → all_slice_lines policy place h timed slot slices ≡ flat_map (λ s. slice_lines place (name_at policy.slices s) (sent_by policy s h timed)) (range_with_len slot (length slices))
-slices_shown policy place h timed slot [] at = refl
-slices_shown policy place h timed slot (slice ∷ others) at =
-    ap₂ (λ (text rest : List ℕ). slice_lines place text (sent_by policy slot h timed) ++ rest)
+    → lines_by_slot place messages slot slices ≡ flat_map (λ s. slice_lines place (name_at policy.slices s) (messages s)) (range_with_len slot (length slices))
+slices_shown policy place messages slot [] at = refl
+slices_shown policy place messages slot (slice ∷ others) at =
+    ap₂ (λ (text rest : List ℕ). slice_lines place text (messages slot) ++ rest)
     (sym (ap (λ (found : Option Slice). elim found [ None ↦ [] | Some one ↦ one.name ]) (ap (slice_get policy.slices) (at_once slot) ∙ at 0)))
-    (slices_shown policy place h timed (slot + 1) others (λ k. ap (slice_get policy.slices) (one_further slot k) ∙ at (suc k)))
+    (slices_shown policy place messages (slot + 1) others (λ k. ap (slice_get policy.slices) (one_further slot k) ∙ at (suc k)))
 
 no_lines : (policy : PolicyView) (place : Place) (slots : List ℕ) → flat_map (λ s. slice_lines place (name_at policy.slices s) []) slots ≡ []
 no_lines policy place [] = refl
@@ -138,5 +138,5 @@ either_shown policy place false lane slices sends shows = ap (λ (text : List �
 pub each_slice : (policy : PolicyView) (place : Place) (h : List Timed) (timed : Timed) → ShowsEachSlice policy place h timed
 each_slice policy place h timed =
     ap (λ (front : List ℕ). front ++ close_lines policy place (next_of h timed) timed.event ++ (if is_over h then [] else down_lines place h timed))
-    (either_shown policy place (is_over h) (lane_lines place (lane_by policy h timed)) (all_slice_lines policy place h timed 0 policy.slices) (λ s. sent_by policy s h timed)
-    (slices_shown policy place h timed 0 policy.slices (λ k. ap (slice_get policy.slices) (from_zero k))))
+    (either_shown policy place (is_over h) (lane_lines place (lane_by policy h timed)) (lines_by_slot place (λ s. sent_by policy s h timed) 0 policy.slices) (λ s. sent_by policy s h timed)
+    (slices_shown policy place (λ s. sent_by policy s h timed) 0 policy.slices (λ k. ap (slice_get policy.slices) (from_zero k))))

@@ -1,16 +1,14 @@
 -- What of a recording isn't built yet: the first frame that would need it, and the record that completes it. Numbers are the types of messages (OpenFlow 1.0.0, section 5.1).
-use Rattle.std.specs.Prelude.{ℕ, ◌==◌, ◌||◌, ◌&&◌, not, Bool, false, if◌then◌else◌, List, [], ◌∷◌, ◌-◌, is_some, find, Option, Some, None}
+use Rattle.std.specs.Prelude.{ℕ, ◌==◌, ◌||◌, ◌&&◌, not, Bool, false, if◌then◌else◌, List, [], ◌∷◌, ◌-◌, find, Option, Some, None}
 use Rattle.std.specs.List.{list_any}
 use Rattle.of10_ctl.specs.declared.kind.TheConstants.{ERROR, PACKET_IN, FLOW_REMOVED, PACKET_OUT, FLOW_MOD, STATS_REQUEST, STATS_REPLY, BARRIER_REQUEST, BARRIER_REPLY, QUEUE_GET_CONFIG_REQUEST, QUEUE_GET_CONFIG_REPLY}
-use Rattle.of10_flow.specs.declared.protocol.TheConstants.{NO_BUFFER}
-use Rattle.of10_flow.specs.declared.packet_in.PacketIn.{PacketIn}
 use Rattle.of10_flow.specs.PacketIns.{read_packet_in}
-use Rattle.frame_header.specs.Probes.{probe_slot_of}
 use Rattle.recording.specs.declared.item.Item.{Item}
 use Rattle.recording.specs.Recordings.{Told, switch_bytes, slice_bytes}
 use Rattle.slice_words.specs.Messages.{kind_of}
 use Rattle.of10_ctl.specs.Kinds.{is_of}
 use Rattle.desk_words.specs.Openings.{well_formed}
+use Rattle.desk_words.specs.Histories.{is_plain}
 use Rattle.desk_words.specs.Recorded.{completed}
 
 -- a message is of one of these types
@@ -21,13 +19,9 @@ is_one_of kinds message = list_any (λ kind. is_of kind message) kinds
 abbrev pub is_unbuilt_of_slice : List ℕ → Bool
 is_unbuilt_of_slice message = is_one_of (PACKET_OUT ∷ FLOW_MOD ∷ STATS_REQUEST ∷ BARRIER_REQUEST ∷ QUEUE_GET_CONFIG_REQUEST ∷ []) message
 
--- a packet that is buffered, or that bears a probe's mark
-abbrev pub is_special : PacketIn → Bool
-is_special packet = not (packet.buffer == NO_BUFFER) || is_some (probe_slot_of packet.payload)
-
--- a PACKET_IN of such a packet (section 5.4.1)
+-- a PACKET_IN of a packet that is buffered, or that bears a probe's mark (section 5.4.1)
 abbrev pub is_special_packet_in : List ℕ → Bool
-is_special_packet_in message = is_of PACKET_IN message && elim (well_formed (read_packet_in message)) [ None ↦ false | Some packet ↦ is_special packet ]
+is_special_packet_in message = is_of PACKET_IN message && elim (well_formed (read_packet_in message)) [ None ↦ false | Some packet ↦ not (is_plain packet) ]
 
 -- what a switch sends that isn't built: what it answers to what is sent on, and such packets
 abbrev pub is_unbuilt_of_switch : List ℕ → Bool

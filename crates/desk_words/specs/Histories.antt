@@ -83,10 +83,14 @@ shares_of rules slot packet =
     (if is_value slot (writer_of rules (header_in packet)) then Writer false ∷ [] else [])
     ++ (if bit (readers_of rules (header_in packet)) slot then Reader ∷ [] else [])
 
+-- the packet is neither buffered nor a probe
+abbrev pub is_plain : PacketIn → Bool
+is_plain packet = packet.buffer == NO_BUFFER && is_none (probe_slot_of packet.payload)
+
 -- a packet-in shows the slice its packet once for each of its shares, where it is up. What is buffered, and what bears a probe's mark of a slot of the policy, comes later; until then a packet with any mark shows nothing
 abbrev pub packet_items : List Rule → ℕ → List Item → PacketIn → List Item
 packet_items rules slot view packet =
-    if packet.buffer == NO_BUFFER && is_none (probe_slot_of packet.payload) && is_up view then map (λ share. handed share packet) (shares_of rules slot packet) else []
+    if is_plain packet && is_up view then map (λ share. handed share packet) (shares_of rules slot packet) else []
 
 -- a change that is kept is shown to the slices that have the port
 abbrev pub status_items : Settings → List (List ℕ) → PortStatus → List Item

@@ -1,5 +1,5 @@
 -- The report of a recording: a line for each message that is sent, by event (this proxy's own rule). A summary of a made recording, which counts the same messages and their bytes, comes with what makes one.
-use Rattle.std.specs.Prelude.{ℕ, ◌+◌, if◌then◌else◌, List, [], ◌∷◌, ◌++◌, length, slice_get, Some, None, codes, decimal}
+use Rattle.std.specs.Prelude.{ℕ, ◌+◌, if◌then◌else◌, List, [], ◌∷◌, ◌++◌, length, slice_get, Option, Some, None, codes, decimal}
 use Rattle.std.specs.List.{flat_map}
 use Rattle.hex.specs.Hex.{encode_lower}
 use Rattle.flowspace.specs.declared.slices.Slice.{Slice}
@@ -35,21 +35,29 @@ lane_lines place messages = flat_map (λ message. line place (codes "lane " ++ e
 abbrev pub slice_lines : Place → List ℕ → List (List ℕ) → List ℕ
 slice_lines place name messages = flat_map (λ message. line place (codes "to " ++ name ++ codes " " ++ encode_lower message)) messages
 
--- what each slice from a slot on is sent at an event
-abbrev pub all_slice_lines : PolicyView → Place → List Timed → Timed → ℕ → List Slice → List ℕ
-all_slice_lines policy place h timed slot [] = []
-all_slice_lines policy place h timed slot (slice ∷ others) =
-    slice_lines place slice.name (sent_by policy slot h timed) ++ all_slice_lines policy place h timed (slot + 1) others
+-- for each slice from a slot on a line for each of its messages
+abbrev pub lines_by_slot : Place → (ℕ → List (List ℕ)) → ℕ → List Slice → List ℕ
+lines_by_slot place messages slot [] = []
+lines_by_slot place messages slot (slice ∷ others) = slice_lines place slice.name (messages slot) ++ lines_by_slot place messages (slot + 1) others
 
 -- the name of the slice at a slot
 abbrev pub name_at : List Slice → ℕ → List ℕ
 name_at slices slot = elim (slice_get slices slot) [ None ↦ [] | Some slice ↦ slice.name ]
 
+-- the slice whose controller connected or sent a message
+abbrev pub speaker : Event → Option ℕ
+speaker (SliceUp slot) = Some slot
+speaker (SliceMsg slot message) = Some slot
+speaker event = None
+
+-- the slice that spoke isn't up
+abbrev pub closing_lines : PolicyView → Place → List Timed → Option ℕ → List ℕ
+closing_lines policy place h None = []
+closing_lines policy place h (Some slot) = if is_slice_up policy slot h then [] else line place (codes "close " ++ name_at policy.slices slot)
+
 -- a slice's connection came or sent a message, and isn't up after that
 abbrev pub close_lines : PolicyView → Place → List Timed → Event → List ℕ
-close_lines policy place h (SliceUp slot) = if is_slice_up policy slot h then [] else line place (codes "close " ++ name_at policy.slices slot)
-close_lines policy place h (SliceMsg slot message) = if is_slice_up policy slot h then [] else line place (codes "close " ++ name_at policy.slices slot)
-close_lines policy place h event = []
+close_lines policy place h event = closing_lines policy place h (speaker event)
 
 -- an event ended the switch's connection
 abbrev pub down_lines : Place → List Timed → Timed → List ℕ
@@ -58,7 +66,7 @@ down_lines place h timed = if ends h timed then line place (codes "down") else [
 -- the lines of one event after a history: for the switch, for the slices by slot, the connection that is closed, and the end
 abbrev pub event_lines : PolicyView → Place → List Timed → Timed → List ℕ
 event_lines policy place h timed =
-    (if is_over h then [] else lane_lines place (lane_by policy h timed) ++ all_slice_lines policy place h timed 0 policy.slices)
+    (if is_over h then [] else lane_lines place (lane_by policy h timed) ++ lines_by_slot place (λ slot. sent_by policy slot h timed) 0 policy.slices)
     ++ close_lines policy place (next_of h timed) timed.event
     ++ (if is_over h then [] else down_lines place h timed)
 

@@ -5,10 +5,9 @@ use Rattle.std.proofs.lemmas.Option.{slice_get_within, get_or_from_slice_get}
 use Rattle.std.proofs.lemmas.Bool.Decides.{nat_tests}
 use Rattle.fv_base.specs.Told.{appended}
 use Rattle.flowspace.specs.declared.slices.Slice.{Slice}
-use Rattle.desk_words.specs.Reports.{Place, slice_lines}
+use Rattle.desk_words.specs.Reports.{Place, slice_lines, lines_by_slot}
 use Rattle.fv_report.specs.Writing.{WrotePart}
 use Rattle.fv_report.specs.Holding.{from_slot}
-use Rattle.fv_report.specs.Slices.{lines_by_slot}
 use Rattle.fv_report.proofs.Writing.{both, part_of_first, part_of_second}
 
 not_below : (at : ℕ) → ltb at at ≡ false

@@ -1,6 +1,5 @@
 pub mod Writing
 pub mod Lines
-pub mod Slices
 pub mod Holding
 pub mod Taking
 pub mod Turns

@@ -1,25 +1,10 @@
 -- The lines of one event, in parts (this proxy's own rule).
-use Rattle.std.specs.Prelude.{ℕ, if◌then◌else◌, List, [], ◌++◌, Option, Some, None, codes}
+use Rattle.std.specs.Prelude.{ℕ, if◌then◌else◌, List, [], ◌++◌, Option, codes}
 use Rattle.flowspace.specs.Policies.{PolicyView}
-use Rattle.desk_words.specs.declared.event.Event.{Event}
-use Rattle.desk_words.specs.declared.event.Event.TheVariants.{SliceUp, SliceMsg}
 use Rattle.desk_words.specs.declared.event.Timed.{Timed}
 use Rattle.desk_words.specs.Openings.{phase_of}
-use Rattle.desk_words.specs.Histories.{is_slice_up}
 use Rattle.desk_words.specs.Verdicts.{is_ended}
-use Rattle.desk_words.specs.Reports.{Place, line, lane_lines, name_at}
-use Rattle.fv_report.specs.Slices.{lines_by_slot}
-
--- the slice whose controller connected or sent a message
-abbrev pub speaker : Event → Option ℕ
-speaker (SliceUp slot) = Some slot
-speaker (SliceMsg slot message) = Some slot
-speaker event = None
-
--- the slice that spoke isn't up
-abbrev pub closing_lines : PolicyView → Place → List Timed → Option ℕ → List ℕ
-closing_lines policy place h None = []
-closing_lines policy place h (Some slot) = if is_slice_up policy slot h then [] else line place (codes "close " ++ name_at policy.slices slot)
+use Rattle.desk_words.specs.Reports.{Place, line, lane_lines, lines_by_slot, closing_lines}
 
 -- the switch's connection has ended
 abbrev pub end_lines : Place → List Timed → List ℕ

@@ -3,14 +3,13 @@
 ghost use Rattle.std.specs.Prelude.{ℕ, ◌≡◌, ◌<◌, List, [], OnOk, IfSome};
 ghost use Rattle.desk_words.specs.declared.event.Timed.{Timed};
 ghost use Rattle.desk_words.specs.declared.answer.Dest.TheVariants.{Switch, Slice};
-ghost use Rattle.desk_words.specs.Reports.{lane_lines, slice_lines};
+ghost use Rattle.desk_words.specs.Reports.{lane_lines, slice_lines, lines_by_slot};
 ghost use Rattle.proxy_core.specs.Desks.{left};
 ghost use Rattle.fv_report.specs.Lines.{place_of};
 ghost use Rattle.fv_report.specs.Writing.{Wrote, Counted};
 ghost use Rattle.fv_report.specs.Holding.{Holds, nothing, with_waiting};
 ghost use Rattle.flowspace.specs.Policies.{PolicyView};
 ghost use Rattle.fv_report.specs.Taking.{message_taken, TakesFromLane, TakesFromSlice};
-ghost use Rattle.fv_report.specs.Slices.{lines_by_slot};
 
 use crate::fault::ReportFault;
 use crate::line::{LineBuffer, Place, Said, put_line};

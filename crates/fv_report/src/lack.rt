@@ -2,26 +2,24 @@
 
 ghost use Rattle.std.specs.Prelude.{◌≡◌, [], zip, IfOk, option_map};
 ghost use Rattle.std.specs.List.{All};
-ghost use Rattle.of10_flow.specs.PacketIns.{packet_of};
 ghost use Rattle.recording.specs.Recordings.{IsItem};
 ghost use Rattle.desk_words.specs.Recorded.{told_by, told_in};
-ghost use Rattle.desk_words.specs.Built.{is_one_of, is_special, is_special_packet_in, is_unbuilt_of_switch, is_unbuilt_of_slice, first_lack};
+ghost use Rattle.desk_words.specs.Built.{is_one_of, is_special_packet_in, is_unbuilt_of_switch, is_unbuilt_of_slice, first_lack};
 ghost use Rattle.fv_report.specs.Switches.{IsRecord};
 ghost use Rattle.fv_report.specs.Lacks.{is_unbuilt, FindsIn, FindsInBytes, FindsAtSlot, FindsAt, AllFresh, lack_at, lack_seen};
 
 use crate::run::carried;
 use crate::streams::{Streams, next_frame, restart};
-use frame_header::probe_slot;
 use of10_ctl::kind::{
     BARRIER_REPLY, BARRIER_REQUEST, ERROR, FLOW_MOD, FLOW_REMOVED, PACKET_IN, PACKET_OUT,
     QUEUE_GET_CONFIG_REPLY, QUEUE_GET_CONFIG_REQUEST, STATS_REPLY, STATS_REQUEST,
 };
 use of10_ctl::{Frame, Framer};
 use of10_flow::PacketInView;
-use of10_flow::protocol::NO_BUFFER;
 use proxy_core::Dest;
 use recording::{Item, RECORD_HEAD, SLICE_BYTES, SLICE_UP, SWITCH_BYTES, SWITCH_UP, SWITCHES};
 use std::alloc::{AllocError, Global};
+use switch_side::is_plain;
 
 /// A message that isn't built yet.
 #[derive(Clone, Copy, Debug, PartialEq, Eq)]
@@ -39,13 +37,7 @@ fn is_one_of(frame: &Frame, kinds: &[u8]) -> bool
     kinds.iter().any(|kind| frame.is_of(*kind))
 }
 
-/// Whether the switch buffers the packet, or the packet bears a probe's mark.
-fn is_special(packet: &PacketInView<'_>) -> bool
-    ensures { result ≡ is_special (packet_of packet.now) }
-{
-    packet.buffer != NO_BUFFER || probe_slot(packet.payload).is_some()
-}
-
+/// Whether a message is a PACKET_IN of a packet that the switch buffers, or that bears a probe's mark.
 fn is_special_packet_in(frame: &Frame) -> bool
     ensures { result ≡ is_special_packet_in frame.now }
 {
@@ -53,7 +45,7 @@ fn is_special_packet_in(frame: &Frame) -> bool
         return false;
     }
     match PacketInView::decode(frame) {
-        Ok(packet) => is_special(&packet),
+        Ok(packet) => !is_plain(&packet),
         Err(_) => false,
     }
 }

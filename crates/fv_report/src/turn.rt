@@ -9,12 +9,12 @@ ghost use Rattle.desk_words.specs.Histories.{is_slice_up};
 ghost use Rattle.desk_words.specs.Verdicts.{is_ended};
 ghost use Rattle.desk_words.specs.Operations.{takes_in};
 ghost use Rattle.desk_words.specs.Recorded.{next_of};
-ghost use Rattle.desk_words.specs.Reports.{name_at, event_lines};
+ghost use Rattle.desk_words.specs.Reports.{name_at, speaker, closing_lines, event_lines};
 ghost use Rattle.fv_report.specs.Lines.{place_of};
 ghost use Rattle.fv_report.specs.Writing.{Wrote, Counted};
 ghost use Rattle.fv_report.specs.Holding.{Holds, IsQuiet, After};
 ghost use Rattle.fv_report.specs.Taking.{is_nothing, is_the_end};
-ghost use Rattle.fv_report.specs.Turns.{speaker, closing_lines, end_lines, told_lines};
+ghost use Rattle.fv_report.specs.Turns.{end_lines, told_lines};
 
 use crate::drain::{drain_lane, drain_slices};
 use crate::fault::ReportFault;

@@ -9,22 +9,15 @@ use Rattle.slice_words.specs.Items.{Settings, Sight, Item, Msg, is_up}
 use Rattle.slice_words.specs.Answers.{Answer, Past, message_answer}
 use Rattle.slice_words.specs.Alone.{answer_to, rendered}
 use Rattle.slice_words.specs.Standing.{SliceStands, past_of}
-use Rattle.slice_words.proofs.AnswerKinds.{message_holds}
+use Rattle.slice_words.proofs.AnswerKinds.{by_ending, message_holds}
 use Rattle.slice_words.proofs.Dismissing.{ends}
 use Rattle.slice_side.specs.Reactions.{Sees, Shown}
 
 -- ---- nothing is sent on to the switch
 
 message_kept : (s : Settings) (view : List Item) (past : List Past) (moment : ℕ) (message : List ℕ) → (message_answer s view past moment message).to_switch ≡ []
-message_kept s view past moment message = message_holds (λ (ends_ : Bool) (a : Answer). a.to_switch ≡ []) s view past moment message (record {
-  bad = refl;
-  old = refl;
-  nothing = refl;
-  refuses = λ fault. refl;
-  echoes = refl;
-  tells_features = λ features. refl;
-  tells_configuration = refl;
-})
+message_kept s view past moment message =
+    message_holds (λ (ends_ : Bool) (a : Answer). a.to_switch ≡ []) s view past moment message (by_ending _ view message (λ messages. refl) (λ messages. refl))
 
 -- ---- a slice that is up
 

@@ -21,6 +21,19 @@ pub record HoldsOfEach (P : Bool → Answer → Type 0) (view : List Item) (mess
   pub tells_features : (features : Features) → P false (answered (spell_features (features_with features (known_ports view)) (xid_of message) ∷ []))
   pub tells_configuration : P false (answered (config_reply (miss_send_len view) message ∷ []))
 
+-- what holds of messages with the end of the connection, where it is to end, and of messages alone, where it isn't, holds of each kind
+pub by_ending : (P : Bool → Answer → Type 0) (view : List Item) (message : List ℕ)
+    → ((messages : List (List ℕ)) → P true (dismissal messages)) → ((messages : List (List ℕ)) → P false (answered messages)) → HoldsOfEach P view message
+by_ending P view message ends goes_on = record {
+  bad = ends (error_for bad_length message ∷ []);
+  old = ends (error_of (xid_of message) no_common_version.0 no_common_version.1 [] ∷ []);
+  nothing = goes_on [];
+  refuses = λ fault. goes_on (error_for fault message ∷ []);
+  echoes = goes_on (message_of ECHO_REPLY (xid_of message) (drop 8 message) ∷ []);
+  tells_features = λ features. goes_on (spell_features (features_with features (known_ports view)) (xid_of message) ∷ []);
+  tells_configuration = goes_on (config_reply (miss_send_len view) message ∷ []);
+}
+
 pub either : {A : Type 0} (P : A → Type 0) (b : Bool) (some others : A) → P some → P others → P (if b then some else others)
 either P true some others a b = a
 either P false some others a b = b

@@ -1,15 +1,13 @@
 -- What one slice is sent for a message of the switch, by whether the slice is up.
-use Rattle.std.proofs.Common.{◌≡◌, ℕ, ◌==◌, ◌&&◌, Bool, true, false, if◌then◌else◌, List, [], ◌∷◌, ◌++◌, map, refl, ap, sym, ◌∙◌, Option, Some, None, is_none}
+use Rattle.std.proofs.Common.{◌≡◌, ℕ, ◌==◌, ◌&&◌, Bool, true, false, if◌then◌else◌, List, [], ◌∷◌, ◌++◌, map, refl, ap, sym, ◌∙◌, Option, Some, None}
 use Rattle.of10_model.specs.Normal.{is_value, bit}
 use Rattle.of10_ctl.specs.declared.kind.TheConstants.{PACKET_IN, PORT_STATUS}
 use Rattle.of10_ctl.specs.Frames.{is_bad}
-use Rattle.of10_flow.specs.declared.protocol.TheConstants.{NO_BUFFER}
 use Rattle.of10_flow.specs.declared.packet_in.PacketIn.{PacketIn}
 use Rattle.of10_flow.specs.PacketIns.{read_packet_in, spell_packet_in}
 use Rattle.of10_port.specs.declared.status.PortStatus.{PortStatus}
 use Rattle.of10_port.specs.Ports.{port_number}
 use Rattle.of10_port.specs.PortStatus.{read_port_status, spell_port_status}
-use Rattle.frame_header.specs.Probes.{probe_slot_of}
 use Rattle.flowspace.specs.declared.rules.Rule.{Rule}
 use Rattle.flowspace.specs.Order.{writer_of, readers_of}
 use Rattle.flowspace.specs.Owners.{has_port}
@@ -21,11 +19,11 @@ use Rattle.slice_words.specs.Alone.{sent_for}
 use Rattle.desk_words.specs.declared.phase.Phase.TheVariants.{Opened}
 use Rattle.of10_ctl.specs.Kinds.{is_of}
 use Rattle.desk_words.specs.Openings.{well_formed, status_told, rules_of, Switch}
-use Rattle.desk_words.specs.Histories.{is_slot, settings_at, Side, handed, header_in, shares_of, packet_items, status_items, message_items, phase_items}
+use Rattle.desk_words.specs.Histories.{is_slot, settings_at, Side, handed, header_in, shares_of, is_plain, packet_items, status_items, message_items, phase_items}
 use Rattle.port_view.specs.KnownPorts.{is_kept}
 use Rattle.desk_words.specs.Sent.{sent_with}
 use Rattle.desk_words.proofs.Seen.{no_kind}
-use Rattle.switch_side.specs.Dispatches.{is_plain, kept_beside, status_kept, told_at}
+use Rattle.switch_side.specs.Dispatches.{kept_beside, status_kept, told_at}
 use Rattle.switch_side.specs.Carrying.{unnumbered, once, packet_for, status_for}
 
 -- ---- packets
@@ -52,17 +50,15 @@ by_up s rules slot view packet true is =
     shares_sent s view packet (is_value slot (writer_of rules (header_in packet))) (bit (readers_of rules (header_in packet)) slot) is
 by_up s rules slot view packet false is = refl
 
-by_form : (s : Settings) (rules : List Rule) (slot : ℕ) (view : List Item) (packet : PacketIn) (whole unmarked : Bool)
-    → sent_for s view (if whole && unmarked && is_up view then map (λ share. handed share packet) (shares_of rules slot packet) else [])
-    ≡ (if whole && unmarked then packet_for (writer_of rules (header_in packet)) (readers_of rules (header_in packet)) (spell_packet_in (unnumbered packet)) slot (is_up view) else [])
-by_form s rules slot view packet true true = by_up s rules slot view packet (is_up view) refl
-by_form s rules slot view packet true false = refl
-by_form s rules slot view packet false true = refl
-by_form s rules slot view packet false false = refl
+by_form : (s : Settings) (rules : List Rule) (slot : ℕ) (view : List Item) (packet : PacketIn) (plain : Bool)
+    → sent_for s view (if plain && is_up view then map (λ share. handed share packet) (shares_of rules slot packet) else [])
+    ≡ (if plain then packet_for (writer_of rules (header_in packet)) (readers_of rules (header_in packet)) (spell_packet_in (unnumbered packet)) slot (is_up view) else [])
+by_form s rules slot view packet true = by_up s rules slot view packet (is_up view) refl
+by_form s rules slot view packet false = refl
 
 packet_sent : (s : Settings) (rules : List Rule) (slot : ℕ) (view : List Item) (packet : PacketIn)
     → sent_for s view (packet_items rules slot view packet) ≡ say_packet rules packet slot (is_up view)
-packet_sent s rules slot view packet = by_form s rules slot view packet (packet.buffer == NO_BUFFER) (is_none (probe_slot_of packet.payload))
+packet_sent s rules slot view packet = by_form s rules slot view packet (is_plain packet)
 
 -- ---- ports
 

@@ -1,14 +1,12 @@
 -- Nothing that a message of the switch shows changes what a slice's state keeps.
-use Rattle.std.proofs.Common.{ℕ, ◌==◌, ◌&&◌, Bool, if◌then◌else◌, List, [], ◌∷◌, map, ◌≡◌, refl, subst, sym, ◌∙◌, Option, Some, None, is_none}
+use Rattle.std.proofs.Common.{ℕ, ◌&&◌, Bool, if◌then◌else◌, List, [], ◌∷◌, map, ◌≡◌, refl, subst, sym, ◌∙◌, Option, Some, None}
 use Rattle.std.proofs.lemmas.Bool.{cond_both}
 use Rattle.of10_ctl.specs.declared.kind.TheConstants.{PACKET_IN}
 use Rattle.of10_ctl.specs.Frames.{is_bad}
-use Rattle.of10_flow.specs.declared.protocol.TheConstants.{NO_BUFFER}
 use Rattle.of10_flow.specs.declared.packet_in.PacketIn.{PacketIn}
 use Rattle.of10_flow.specs.PacketIns.{read_packet_in}
 use Rattle.of10_port.specs.declared.status.PortStatus.{PortStatus}
 use Rattle.of10_port.specs.Ports.{port_number}
-use Rattle.frame_header.specs.Probes.{probe_slot_of}
 use Rattle.flowspace.specs.declared.rules.Rule.{Rule}
 use Rattle.flowspace.specs.Policies.{PolicyView}
 use Rattle.flow_book.specs.declared.state.SliceState.{SliceState}
@@ -18,7 +16,7 @@ use Rattle.slice_words.specs.Calls.{request_calls, collection_calls, questions, 
 use Rattle.slice_words.specs.Standing.{SliceStands, past_of}
 use Rattle.of10_ctl.specs.Kinds.{is_of}
 use Rattle.desk_words.specs.Openings.{well_formed, status_told, rules_of, Switch}
-use Rattle.desk_words.specs.Histories.{is_slot, settings_at, Side, handed, shares_of, packet_items, status_items, message_items, phase_items}
+use Rattle.desk_words.specs.Histories.{is_slot, settings_at, Side, handed, shares_of, is_plain, packet_items, status_items, message_items, phase_items}
 use Rattle.port_view.specs.KnownPorts.{is_kept}
 use Rattle.switch_side.specs.Dispatches.{told_at}
 use Rattle.switch_side.specs.Laws.{StandsStill}
@@ -68,7 +66,7 @@ packet_stands : (s : Settings) (sight : Sight) (state : SliceState) (rules : Lis
     → SliceStands s (seen sight (elim found [ None ↦ [] | Some packet ↦ packet_items rules slot sight.view packet ])) state
 packet_stands s sight state rules slot None stands = stands
 packet_stands s sight state rules slot (Some packet) stands =
-    either s sight state (packet.buffer == NO_BUFFER && is_none (probe_slot_of packet.payload) && is_up sight.view) (map (λ share. handed share packet) (shares_of rules slot packet)) []
+    either s sight state (is_plain packet && is_up sight.view) (map (λ share. handed share packet) (shares_of rules slot packet)) []
     (shares_stand s sight state packet (shares_of rules slot packet) stands) stands
 
 port_stands : (s : Settings) (sight : Sight) (state : SliceState) (known : List (List ℕ)) (told : Option PortStatus) → SliceStands s sight state

@@ -17,9 +17,9 @@ use Rattle.desk_words.specs.declared.event.Timed.{Timed}
 use Rattle.desk_words.specs.declared.phase.Phase.TheVariants.{Opened}
 use Rattle.of10_ctl.specs.Kinds.{is_of}
 use Rattle.desk_words.specs.Openings.{well_formed, rules_of, Switch}
-use Rattle.desk_words.specs.Histories.{settings_at, Side, header_in}
+use Rattle.desk_words.specs.Histories.{settings_at, Side, header_in, is_plain}
 use Rattle.desk_words.specs.Sent.{sent_with}
-use Rattle.switch_side.specs.Dispatches.{is_plain, addressed, sent_from, status_kept, told_at, AllStand}
+use Rattle.switch_side.specs.Dispatches.{addressed, sent_from, status_kept, told_at, AllStand}
 use Rattle.switch_side.specs.Carrying.{unnumbered, packet_for, said_from, packet_told, port_told, message_told}
 use Rattle.switch_side.proofs.OwnPorts.{has_port-own}
 use Rattle.switch_side.proofs.Slots.{say_status, say_found, say, slot_sent}

@@ -15,10 +15,10 @@ use Rattle.flowspace.specs.Owners.{has_port}
 use Rattle.flow_book.specs.declared.state.SliceState.{SliceState}
 use Rattle.of10_ctl.specs.Kinds.{is_of}
 use Rattle.desk_words.specs.Openings.{well_formed}
-use Rattle.desk_words.specs.Histories.{header_in}
+use Rattle.desk_words.specs.Histories.{header_in, is_plain}
 use Rattle.desk_words.specs.Sent.{echo_for}
 use Rattle.switch_side.specs.declared.dispatch.Dispatch.{Dispatch}
-use Rattle.switch_side.specs.Dispatches.{is_plain, addressed, status_kept}
+use Rattle.switch_side.specs.Dispatches.{addressed, status_kept}
 
 -- what a dispatch carries
 pub record Carried : Type 0 where

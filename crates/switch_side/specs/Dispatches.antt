@@ -1,13 +1,11 @@
 -- What follows from one message of a switch that has told what it is, for all slices at once (this proxy's own rule).
-use Rattle.std.specs.Prelude.{ℕ, ◌≡◌, ◌+◌, ◌==◌, ◌&&◌, ◌||◌, not, is_some, is_none, Bool, false, if◌then◌else◌, List, [], ◌∷◌, ◌++◌, map, slice_get, Option, Some, None}
+use Rattle.std.specs.Prelude.{ℕ, ◌≡◌, ◌+◌, ◌&&◌, ◌||◌, not, is_some, Bool, false, if◌then◌else◌, List, [], ◌∷◌, ◌++◌, map, slice_get, Option, Some, None}
 use Rattle.of10_ctl.specs.declared.kind.TheConstants.{ECHO_REQUEST, PACKET_IN}
 use Rattle.of10_ctl.specs.Frames.{is_bad}
 use Rattle.of10_ctl.specs.Kinds.{is_of}
-use Rattle.of10_flow.specs.declared.protocol.TheConstants.{NO_BUFFER}
 use Rattle.of10_flow.specs.declared.packet_in.PacketIn.{PacketIn}
 use Rattle.of10_flow.specs.PacketIns.{read_packet_in}
 use Rattle.of10_port.specs.declared.status.PortStatus.{PortStatus}
-use Rattle.frame_header.specs.Probes.{probe_slot_of}
 use Rattle.flowspace.specs.declared.slices.Slice.{Slice}
 use Rattle.flowspace.specs.Policies.{PolicyView, SwitchView}
 use Rattle.flow_book.specs.declared.state.SliceState.{SliceState}
@@ -16,7 +14,7 @@ use Rattle.desk_words.specs.declared.event.Event.TheVariants.{SwitchMsg}
 use Rattle.desk_words.specs.declared.event.Timed.{Timed}
 use Rattle.desk_words.specs.declared.phase.Phase.TheVariants.{Opened}
 use Rattle.desk_words.specs.Openings.{status_told, well_formed, rules_of, Switch}
-use Rattle.desk_words.specs.Histories.{settings_at, Side}
+use Rattle.desk_words.specs.Histories.{settings_at, Side, is_plain}
 use Rattle.port_view.specs.KnownPorts.{is_kept}
 use Rattle.desk_words.specs.Sent.{sent_with, echo_for}
 use Rattle.switch_side.specs.declared.dispatch.Dispatch.{Dispatch}
@@ -55,10 +53,6 @@ kept_beside known (Some status) = if is_kept status known then Some status else 
 -- what a message tells of a port and is kept
 abbrev pub status_kept : List (List ℕ) → List ℕ → Option PortStatus
 status_kept known message = kept_beside known (status_told message)
-
--- the packet is neither buffered nor a probe
-abbrev pub is_plain : PacketIn → Bool
-is_plain packet = packet.buffer == NO_BUFFER && is_none (probe_slot_of packet.payload)
 
 -- there is a packet, and it is plain; of any other nothing follows
 abbrev pub is_for_slices : Option PacketIn → Bool

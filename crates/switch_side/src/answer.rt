@@ -58,8 +58,9 @@ fn dispatch(
 /// What follows from one message of a switch that has told what it is, with one state for each slice of the
 /// policy. Nothing is changed: `port` is still to be taken in by the known ports, and no state changes. A
 /// message whose length doesn't count its header ends the connection; one that isn't of version 1, isn't
-/// well formed, or says nothing to anybody, as a packet that is buffered or a probe, is dropped, for which
-/// no memory is taken.
+/// well formed, or says nothing to anybody, as a packet that is buffered or a probe, is dropped. Memory can
+/// be wanting only for an ECHO_REQUEST, for a PACKET_IN that is well formed and neither buffered nor a
+/// probe, and for what is told of a port and is kept; for these two also where no slice is to hear of it.
 pub fn react(
     alloc: Global,
     policy: &SwitchPolicy,

@@ -10,6 +10,7 @@ mod ports;
 
 pub use answer::react;
 pub use dispatch::Dispatch;
+pub use packets::is_plain;
 
 #[cfg(test)]
 mod tests;

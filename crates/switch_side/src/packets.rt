@@ -6,7 +6,8 @@ ghost use Rattle.of10_ctl.specs.Kinds.{IsOf};
 ghost use Rattle.of10_flow.specs.PacketIns.{packet_of, read_packet_in, spell_packet_in};
 ghost use Rattle.flowspace.specs.Order.{writer_of, readers_of};
 ghost use Rattle.desk_words.specs.Openings.{well_formed};
-ghost use Rattle.switch_side.specs.Dispatches.{addressed, is_plain, is_for_slices};
+ghost use Rattle.desk_words.specs.Histories.{is_plain};
+ghost use Rattle.switch_side.specs.Dispatches.{addressed, is_for_slices};
 ghost use Rattle.switch_side.specs.Carrying.{carried, telling, packet_for, said_from, packet_told, packet_in_told};
 
 use crate::dispatch::Dispatch;
@@ -115,8 +116,8 @@ fn put_for_all(
     Ok(to_slices)
 }
 
-/// The packet is neither buffered nor a probe.
-fn is_plain(packet: &PacketInView<'_>) -> bool
+/// Whether a packet is neither buffered nor a probe. Of any other packet nothing follows.
+pub fn is_plain(packet: &PacketInView<'_>) -> bool
     ensures { result ≡ is_plain (packet_of packet.now) }
 {
     packet.buffer == NO_BUFFER && probe_slot(packet.payload).is_none()

@@ -2,9 +2,9 @@ use Rattle.std.proofs.Common.{◌≡◌, ℕ, List, length, refl, ap, subst, Som
 use Rattle.std.proofs.lemmas.Result.{err_from_is_err_and}
 use Rattle.std.proofs.lemmas.Option.{slice_get_read}
 use Rattle.flowspace.specs.declared.slices.Slice.{Slice}
+use Rattle.desk_words.specs.Reports.{lines_by_slot}
 use Rattle.fv_report.specs.Lines.{place_of}
 use Rattle.fv_report.specs.Holding.{Holds, from_slot}
-use Rattle.fv_report.specs.Slices.{lines_by_slot}
 use Rattle.fv_report.proofs.Holding.{holds_next, holds_none}
 use Rattle.fv_report.proofs.Writing.{at_fault, fault_after}
 use Rattle.fv_report.proofs.Slices.{slot_more, slot_part, slots_done}

@@ -1,9 +1,8 @@
 use Rattle.std.proofs.Common.{◌++◌, [], ◌∙◌}
 use Rattle.std.proofs.lemmas.Result.{err_from_is_err_and}
-use Rattle.desk_words.specs.Reports.{lane_lines}
+use Rattle.desk_words.specs.Reports.{lane_lines, lines_by_slot, closing_lines}
 use Rattle.fv_report.specs.Lines.{place_of}
-use Rattle.fv_report.specs.Slices.{lines_by_slot}
-use Rattle.fv_report.specs.Turns.{closing_lines, end_lines}
+use Rattle.fv_report.specs.Turns.{end_lines}
 use Rattle.fv_report.proofs.Writing.{at_fault, part_of_first, part_of_second, wrote_second, counted_after, fault_after}
 use Rattle.fv_report.proofs.turn.tell.Goals as goal
 

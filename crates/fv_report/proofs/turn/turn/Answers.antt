@@ -1,12 +1,12 @@
 use Rattle.std.proofs.Common.{◌∷◌, ℕ, List, Bool, Option, subst, sym}
 use Rattle.std.proofs.lemmas.Result.{on_ok_weaker}
 use Rattle.desk_words.specs.declared.event.Timed.{Timed}
-use Rattle.desk_words.specs.Reports.{event_lines}
+use Rattle.desk_words.specs.Reports.{closing_lines, event_lines}
 use Rattle.desk_words.specs.Sent.{sent_by, lane_by}
 use Rattle.fv_report.specs.Lines.{place_of}
 use Rattle.fv_report.specs.Writing.{Wrote}
 use Rattle.fv_report.specs.Holding.{IsQuiet, After}
-use Rattle.fv_report.specs.Turns.{closing_lines, told_lines}
+use Rattle.fv_report.specs.Turns.{told_lines}
 use Rattle.fv_report.proofs.Writing.{at_fault, none_of, on_ok}
 use Rattle.fv_report.proofs.Turning.{told_event, over_event, next_on, next_over}
 use Rattle.fv_report.proofs.turn.turn.Goals as goal
