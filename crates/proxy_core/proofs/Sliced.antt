@@ -36,7 +36,7 @@ use Rattle.proxy_core.proofs.Acting.{body_after, is_opened, session_passes, lane
 
 -- ---- the desk has a session
 
-stands_in : (p : PolicyView) (switch : Switch) (sides : ℕ → Side) (qs : ℕ → Queue) (session : Session) (o : Option Session) → o ≡ Some session → Opens p switch sides qs o → SessionStands p switch sides qs session
+pub stands_in : (p : PolicyView) (switch : Switch) (sides : ℕ → Side) (qs : ℕ → Queue) (session : Session) (o : Option Session) → o ≡ Some session → Opens p switch sides qs o → SessionStands p switch sides qs session
 stands_in p switch sides qs session o is opens = subst (λ (k : Option Session). Opens p switch sides qs k) is opens
 
 -- want of memory changes nothing

@@ -1,5 +1,5 @@
 -- When a desk is the one that a list of operations makes of a policy. All of this is this proxy's own rule.
-use Rattle.std.specs.Prelude.{ℕ, ◌≡◌, ◌<◌, ◌&&◌, ◌||◌, not, Bool, true, false, if◌then◌else◌, List, [], ◌∷◌, length, slice_get, Option, Some, None, Result}
+use Rattle.std.specs.Prelude.{ℕ, ◌≡◌, ◌<◌, ◌&&◌, ◌||◌, not, Bool, true, false, if◌then◌else◌, List, [], ◌∷◌, length, slice_get, Option, Some, None, Result, IsTrue}
 use Rattle.std.specs.declared.alloc.AllocError.{AllocError}
 use Rattle.of10_ctl.specs.Frames.{is_bad}
 use Rattle.flowspace.specs.Policies.{PolicyView}
@@ -9,6 +9,7 @@ use Rattle.outbox.specs.Queues.{Queue, no_messages, push_all, without_first, Kep
 use Rattle.slice_words.specs.Items.{is_up, features_in, known_ports}
 use Rattle.slice_words.specs.Standing.{SliceStands}
 use Rattle.of10_port.specs.declared.features.Features.{Features}
+use Rattle.desk_words.specs.declared.event.Event.{Event}
 use Rattle.desk_words.specs.declared.event.Event.TheVariants.{SwitchMsg}
 use Rattle.desk_words.specs.declared.event.Timed.{Timed}
 use Rattle.desk_words.specs.declared.phase.Phase.{Phase}
@@ -22,7 +23,7 @@ use Rattle.desk_words.specs.declared.answer.Verdict.{Verdict}
 use Rattle.desk_words.specs.Openings.{rules_of, phase_after, Switch as Known, switch_after, switch_of}
 use Rattle.desk_words.specs.Histories.{is_slot, settings_at, own_features, Side, side_start, items_of, with_shown, side_of, is_open}
 use Rattle.desk_words.specs.Sent.{sent_with, put_with, lane_in, echo_for}
-use Rattle.desk_words.specs.Verdicts.{is_fresh, is_ended, is_closing}
+use Rattle.desk_words.specs.Verdicts.{is_fresh, is_ended, is_closing, may_want_in}
 use Rattle.desk_words.specs.Operations.{Operation, Step, Take, events_of, slice_limit, lane_limit, empties, is_slice, is_switch, queue_of, lane_of, take_reply, IsReply}
 use Rattle.proxy_core.specs.declared.parts.Session.{Session}
 use Rattle.proxy_core.specs.declared.parts.Desk.{Desk}
@@ -80,6 +81,10 @@ pub record Coherent (policy : PolicyView) (switch : Known) (sides : ℕ → Side
   pub beyond : (slot : ℕ) → is_slot policy slot ≡ false → sides slot ≡ side_start
   pub seen : (features : Features) → switch.features ≡ Some features → (slot : ℕ) → is_slot policy slot ≡ true → HasSeen policy switch features slot (sides slot)
 
+-- whether each slice is up
+abbrev pub up_now : Known → (ℕ → Side) → ℕ → Bool
+up_now switch sides slot = is_open switch.phase && is_up (sides slot).sight.view
+
 -- ---- after an event
 
 -- what each slice sees after an event
@@ -124,6 +129,12 @@ abbrev pub ActsIn : Phase → Desk → Timed → Bool → Desk → Type 0
 ActsIn phase old timed go new =
     (policy : PolicyView) (switch : Known) (sides : ℕ → Side) (qs : ℕ → Queue) (ql : Queue)
     → Coherent policy switch sides → Body policy switch sides qs ql old → switch.phase ≡ phase → Acted policy switch sides qs ql timed go new
+
+-- memory may be wanted for an event, by all that a desk stands for while the switch's connection hasn't ended
+abbrev pub MayWant : Desk → Event → Type 0
+MayWant desk event =
+    (policy : PolicyView) (switch : Known) (sides : ℕ → Side) (qs : ℕ → Queue) (ql : Queue)
+    → Coherent policy switch sides → Body policy switch sides qs ql desk → is_ended switch.phase ≡ false → IsTrue (may_want_in policy switch.phase (up_now switch sides) event)
 
 -- the switch's connection ended, and nothing waits for it
 pub record Ends (old new : Desk) : Type 0 where
