@@ -190,7 +190,7 @@ few_by : (policy : PolicyView) (slot : ℕ) (h : List Timed) (told : Option Feat
 few_by policy slot h None is framed here = subst (λ (side : Side). HasFewPorts side.sight.view) (sym (blind policy slot h is)) few_start
 few_by policy slot h (Some features) is framed here =
     let s = settings_at policy slot (Some features) in
-    let has : HasSeen policy slot h features = seen policy slot h features is here in
+    let has : HasSeen policy slot features (known_of h) (view_of policy slot h) = seen policy slot h features is here in
     few_view (view_of policy slot h) s.rules s.slot (known_of h) has.ports_known (few_known h framed) (whole_known h)
 
 pub few_ports : (policy : PolicyView) (slot : ℕ) (h : List Timed) → AreFramed h → is_slot policy slot ≡ true → HasFewPorts (view_of policy slot h)

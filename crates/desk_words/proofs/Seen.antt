@@ -273,7 +273,7 @@ seen_first policy slot switch timed (SwitchMsg message) Begun features e told =
 
 -- an event more, once the switch has told what it is
 seen_more : (policy : PolicyView) (slot : ℕ) (h : List Timed) (timed : Timed) (features : Features) → opening_of h ≡ Some features → is_slot policy slot ≡ true
-    → HasSeen policy slot h features → HasSeen policy slot (timed ∷ h) features
+    → HasSeen policy slot features (known_of h) (view_of policy slot h) → HasSeen policy slot features (known_of (timed ∷ h)) (view_of policy slot (timed ∷ h))
 seen_more policy slot h timed features is here before =
     let s = settings_at policy slot (Some features) in
     let same_settings : settings_at policy slot (opening_of h) ≡ s = ap (settings_at policy slot) is in
@@ -285,7 +285,7 @@ seen_more policy slot h timed features is here before =
     }
 
 seen_now : (policy : PolicyView) (slot : ℕ) (h : List Timed) (timed : Timed) (features : Features) → opening_of h ≡ None → is_slot policy slot ≡ true
-    → opening_after (phase_of h) None timed.event ≡ Some features → HasSeen policy slot (timed ∷ h) features
+    → opening_after (phase_of h) None timed.event ≡ Some features → HasSeen policy slot features (known_of (timed ∷ h)) (view_of policy slot (timed ∷ h))
 seen_now policy slot h timed features is here told =
     let both = seen_first policy slot (switch_of h) timed timed.event (phase_of h) features refl told in
     let start = blind policy slot h is in
@@ -296,7 +296,7 @@ seen_now policy slot h timed features is here told =
 
 -- by whether the switch had told what it is before
 seen_by : (policy : PolicyView) (slot : ℕ) (h : List Timed) (timed : Timed) (features : Features) (told : Option Features) → opening_of h ≡ told → is_slot policy slot ≡ true
-    → SeesItsSwitch policy slot h features → opening_after (phase_of h) told timed.event ≡ Some features → HasSeen policy slot (timed ∷ h) features
+    → SeesItsSwitch policy slot h features → opening_after (phase_of h) told timed.event ≡ Some features → HasSeen policy slot features (known_of (timed ∷ h)) (view_of policy slot (timed ∷ h))
 seen_by policy slot h timed features None is here before now = seen_now policy slot h timed features is here now
 seen_by policy slot h timed features (Some own) is here before now =
     let same : opening_of h ≡ Some features = is ∙ now in

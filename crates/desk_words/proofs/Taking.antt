@@ -11,6 +11,8 @@ use Rattle.desk_words.specs.declared.answer.Dest.TheVariants.{Switch, Slice}
 use Rattle.desk_words.specs.declared.answer.Verdict.{Verdict}
 use Rattle.desk_words.specs.declared.answer.Taken.{Taken}
 use Rattle.desk_words.specs.declared.answer.Taken.TheVariants.{Message, Nothing, Choked, Ended, NotOpen}
+use Rattle.desk_words.specs.Openings.{phase_of}
+use Rattle.desk_words.specs.Histories.{is_slice_up}
 use Rattle.desk_words.specs.Sent.{sent_by, lane_by}
 use Rattle.desk_words.specs.Operations.{Operation, Step, Take, takes_in, events_of, empties_slice, ends, queue_event, lane_event, slice_limit, lane_limit, is_switch, is_slice, queue_of, lane_of, waiting_of, is_gone, is_early, empty_reply, take_reply, IsLegal}
 use Rattle.desk_words.specs.Laws.{message_in, sent_since, taken_since, lane_since, lane_taken_since, AreInOrder, AllWait, SliceWaits, LaneWaits}
@@ -104,7 +106,7 @@ take_order : (policy : PolicyView) (slot : ℕ) (before : List Operation) (dest 
 take_order policy slot before dest reply true same o is =
     let q = queue_of policy slot before in
     taken_one (sent_since policy slot before) (taken_since policy slot before) q.pending q.choked reply (empty_reply policy (events_of before) dest q.choked) o
-    (no_message policy (events_of before) dest q.choked (is_gone policy (events_of before) dest) (is_early (events_of before) dest))
+    (no_message policy (events_of before) dest q.choked (is_gone policy (phase_of (events_of before)) (λ s. is_slice_up policy s (events_of before)) dest) (is_early (phase_of (events_of before)) dest))
     (is ∙ ap (λ (w : Queue). elim w.pending [ [] ↦ empty_reply policy (events_of before) dest w.choked | m ∷ later ↦ Message m ]) (same refl))
 take_order policy slot before dest reply false same o is = o
 
@@ -137,7 +139,7 @@ lane_take : (policy : PolicyView) (before : List Operation) (dest : Dest) (reply
 lane_take policy before dest reply true same o is =
     let q = lane_of policy before in
     taken_one (lane_since policy before) (lane_taken_since policy before) q.pending q.choked reply (empty_reply policy (events_of before) dest q.choked) o
-    (no_message policy (events_of before) dest q.choked (is_gone policy (events_of before) dest) (is_early (events_of before) dest))
+    (no_message policy (events_of before) dest q.choked (is_gone policy (phase_of (events_of before)) (λ s. is_slice_up policy s (events_of before)) dest) (is_early (phase_of (events_of before)) dest))
     (is ∙ ap (λ (w : Queue). elim w.pending [ [] ↦ empty_reply policy (events_of before) dest w.choked | m ∷ later ↦ Message m ]) (same refl))
 lane_take policy before dest reply false same o is = o
 

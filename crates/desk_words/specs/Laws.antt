@@ -14,6 +14,7 @@ use Rattle.recording.specs.Recordings.{Told, switch_bytes, slice_bytes}
 use Rattle.outbox.specs.Queues.{Queue, size}
 use Rattle.slice_words.specs.Messages.{is_dismissing, kind_of}
 use Rattle.slice_words.specs.Items.{features_in, known_ports}
+use Rattle.slice_words.specs.Items as items
 use Rattle.slice_words.specs.Alone.{alone}
 use Rattle.desk_words.specs.declared.event.Event.{Event}
 use Rattle.desk_words.specs.declared.event.Event.TheVariants.{SwitchUp, SwitchMsg, SwitchDown, SliceUp, SliceMsg, SliceDown}
@@ -230,14 +231,14 @@ pub record AreCompletedOnce (r : Told) (before : List Told) : Type 0 where
 
 -- ---- what a slice has seen of its switch
 
--- a slice has seen the features of its switch, and of the known ports it knows its own
-pub record HasSeen (policy : PolicyView) (slot : ℕ) (h : List Timed) (features : Features) : Type 0 where
-  pub features_seen : features_in (view_of policy slot h) ≡ Some (own_features (settings_at policy slot (Some features)) features)
-  pub ports_known : known_ports (view_of policy slot h) ≡ own_ports (settings_at policy slot (Some features)) (known_of h)
+-- by its view a slice has seen these features of its switch, and of these ports, which are known, it knows its own
+pub record HasSeen (policy : PolicyView) (slot : ℕ) (features : Features) (known : List (List ℕ)) (view : List items.Item) : Type 0 where
+  pub features_seen : features_in view ≡ Some (own_features (settings_at policy slot (Some features)) features)
+  pub ports_known : known_ports view ≡ own_ports (settings_at policy slot (Some features)) known
 
 -- so it is for each slice of the policy once the switch has told what it is
 abbrev pub SeesItsSwitch : PolicyView → ℕ → List Timed → Features → Type 0
-SeesItsSwitch policy slot h features = opening_of h ≡ Some features → is_slot policy slot ≡ true → HasSeen policy slot h features
+SeesItsSwitch policy slot h features = opening_of h ≡ Some features → is_slot policy slot ≡ true → HasSeen policy slot features (known_of h) (view_of policy slot h)
 
 -- the known ports ascend, and fit a FEATURES_REPLY where those of the opening do
 pub record AreKnownInOrder (h : List Timed) : Type 0 where

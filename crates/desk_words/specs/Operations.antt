@@ -1,5 +1,5 @@
 -- What a desk was asked to do, and what it must answer: steps, which are events, and takes, which are questions for the oldest message that waits. Lists have the newest first. All of this is this proxy's own rule.
-use Rattle.std.specs.Prelude.{ℕ, ◌≡◌, ◌==◌, ◌&&◌, ◌||◌, not, Bool, true, false, if◌then◌else◌, List, [], ◌∷◌, Result, Ok, Err}
+use Rattle.std.specs.Prelude.{ℕ, ◌≡◌, ◌==◌, ◌&&◌, ◌||◌, not, Bool, true, false, if◌then◌else◌, List, [], ◌∷◌, Result, Ok, Err, IsTrue}
 use Rattle.std.specs.declared.alloc.AllocError.{AllocError}
 use Rattle.flowspace.specs.Policies.{PolicyView}
 use Rattle.outbox.specs.Queues.{Queue, no_messages, push_all, without_first}
@@ -12,10 +12,11 @@ use Rattle.desk_words.specs.declared.answer.Verdict.{Verdict}
 use Rattle.desk_words.specs.declared.answer.Verdict.TheVariants as verdicts
 use Rattle.desk_words.specs.declared.answer.Taken.{Taken}
 use Rattle.desk_words.specs.declared.answer.Taken.TheVariants.{Message, Nothing, Choked, Ended, NotOpen}
-use Rattle.desk_words.specs.Openings.{phase_of}
+use Rattle.desk_words.specs.declared.phase.Phase.{Phase}
+use Rattle.desk_words.specs.Openings.{phase_after, phase_of}
 use Rattle.desk_words.specs.Histories.{is_slot, is_open, is_slice_up}
 use Rattle.desk_words.specs.Sent.{sent_by, lane_by}
-use Rattle.desk_words.specs.Verdicts.{is_fresh, is_ended, is_down, verdict}
+use Rattle.desk_words.specs.Verdicts.{is_fresh, is_ended, verdict, may_want}
 
 -- an operation with its reply
 pub data Operation : Type 0 where
@@ -56,9 +57,13 @@ empties slot up event = false
 abbrev pub empties_slice : PolicyView → ℕ → List Timed → Timed → Bool
 empties_slice policy slot h timed = empties slot (is_slice_up policy slot (timed ∷ h)) timed.event
 
--- an event ends the switch's connection, and so empties its queue
+-- an event ends the switch's connection, which is in a phase before it, and so empties its queue
+abbrev pub is_ending : Phase → Event → Bool
+is_ending before event = not (is_ended before) && is_ended (phase_after before event)
+
+-- the same of an event after a history
 abbrev pub ends : List Timed → Timed → Bool
-ends h timed = not (is_ended (phase_of h)) && is_ended (phase_of (timed ∷ h))
+ends h timed = is_ending (phase_of h) timed.event
 
 -- what waits for a slice after an event
 abbrev pub queue_event : PolicyView → ℕ → List Timed → Timed → Queue → Queue
@@ -90,26 +95,34 @@ lane_of policy [] = no_messages
 lane_of policy (Step timed reply ∷ before) = if takes_in reply then lane_event policy (events_of before) timed (lane_of policy before) else lane_of policy before
 lane_of policy (Take dest taken ∷ before) = if is_switch dest then without_first (lane_of policy before) else lane_of policy before
 
--- what waits for a destination
+-- what waits for a destination, where so much waits for the slices and for the switch
+abbrev pub waiting_in : Dest → (ℕ → Queue) → Queue → Queue
+waiting_in Switch queues lane = lane
+waiting_in (Slice slot) queues lane = queues slot
+
+-- what waits for it after these operations
 abbrev pub waiting_of : PolicyView → Dest → List Operation → Queue
-waiting_of policy Switch before = lane_of policy before
-waiting_of policy (Slice slot) before = queue_of policy slot before
+waiting_of policy dest before = waiting_in dest (λ slot. queue_of policy slot before) (lane_of policy before)
 
 -- ---- replies
 
--- no message will come for a destination: the switch's connection has ended, there is no such slot, or the slice isn't up though the switch has told what it is
-abbrev pub is_gone : PolicyView → List Timed → Dest → Bool
-is_gone policy h Switch = is_ended (phase_of h)
-is_gone policy h (Slice slot) = is_ended (phase_of h) || not (is_slot policy slot) || (is_open (phase_of h) && not (is_slice_up policy slot h))
+-- no message will come for a destination, where the switch's connection is in a phase and those of the slices are so up: the switch's has ended, there is no such slot, or the slice isn't up though the switch has told what it is
+abbrev pub is_gone : PolicyView → Phase → (ℕ → Bool) → Dest → Bool
+is_gone policy phase slice_up Switch = is_ended phase
+is_gone policy phase slice_up (Slice slot) = is_ended phase || not (is_slot policy slot) || (is_open phase && not (slice_up slot))
 
 -- it is too early for a destination: the switch hasn't connected, or for a slice hasn't told what it is
-abbrev pub is_early : List Timed → Dest → Bool
-is_early h Switch = is_fresh (phase_of h)
-is_early h (Slice slot) = not (is_open (phase_of h))
+abbrev pub is_early : Phase → Dest → Bool
+is_early phase Switch = is_fresh phase
+is_early phase (Slice slot) = not (is_open phase)
 
 -- what is answered where nothing waits
+abbrev pub silence : PolicyView → Phase → (ℕ → Bool) → Dest → Bool → Taken
+silence policy phase slice_up dest choked = if is_gone policy phase slice_up dest then Ended else if is_early phase dest then NotOpen else if choked then Choked else Nothing
+
+-- the same after a history
 abbrev pub empty_reply : PolicyView → List Timed → Dest → Bool → Taken
-empty_reply policy h dest choked = if is_gone policy h dest then Ended else if is_early h dest then NotOpen else if choked then Choked else Nothing
+empty_reply policy h dest choked = silence policy (phase_of h) (λ slot. is_slice_up policy slot h) dest choked
 
 -- what is answered to a take: the oldest message that waits, or why there is none
 abbrev pub take_reply : PolicyView → List Operation → Dest → Taken
@@ -117,10 +130,10 @@ take_reply policy before dest =
     let q = waiting_of policy dest before in
     elim q.pending [ [] ↦ empty_reply policy (events_of before) dest q.choked | message ∷ later ↦ Message message ]
 
--- a reply to a step is right: the verdict on its event, or want of memory, but not for a down
+-- a reply to a step is right: the verdict on its event, or want of memory where memory may be wanted for it
 abbrev pub IsReply : PolicyView → List Operation → Timed → Result Verdict AllocError → Type 0
 IsReply policy before timed (Ok answered) = answered ≡ verdict policy (events_of before) timed
-IsReply policy before timed (Err fault) = is_down timed.event ≡ false
+IsReply policy before timed (Err fault) = IsTrue (may_want policy (events_of before) timed.event)
 
 -- a list of operations is legal where each reply is right by those before it
 abbrev pub IsLegal : PolicyView → List Operation → Type 0

@@ -14,10 +14,10 @@ use Rattle.desk_words.specs.Openings.{phase_after, opening_with, opening_after, 
 use Rattle.desk_words.specs.Histories.{is_slot, settings_at, Side, items_of, phase_items, opening_items, is_open}
 use Rattle.desk_words.specs.Sent.{lane_in, put_with}
 use Rattle.desk_words.specs.Verdicts.{is_ended}
-use Rattle.desk_words.specs.Operations.{slice_limit, lane_limit, empties}
+use Rattle.desk_words.specs.Operations.{slice_limit, lane_limit, empties, is_ending}
 use Rattle.proxy_core.specs.declared.parts.Session.{Session}
 use Rattle.proxy_core.specs.declared.parts.Desk.{Desk}
-use Rattle.proxy_core.specs.Desks.{SessionStands, Opens, Body, is_before, Coherent, sides_after, up_after, queues_after, ends_now, lane_after}
+use Rattle.proxy_core.specs.Desks.{SessionStands, Opens, Body, is_before, Coherent, sides_after, up_after, queues_after, lane_after}
 use Rattle.of10_model.proofs.Results.{either_none}
 use Rattle.proxy_core.proofs.Lists.{within}
 use Rattle.proxy_core.proofs.Standing.{passes, ends_slot, session_goes}
@@ -114,14 +114,14 @@ session_ends p switch sides qs timed session s known shown keeps =
 -- ---- the lane
 
 pub lane_is : (p : PolicyView) (switch : Switch) (sides : ℕ → Side) (ql : Queue) (timed : Timed) (over : Bool) (messages : List (List ℕ)) (lane : Kept)
-    → ends_now switch timed ≡ over → lane_in (λ slot. put_with p slot switch (sides slot) timed) switch.phase timed.event ≡ messages
+    → is_ending switch.phase timed.event ≡ over → lane_in (λ slot. put_with p slot switch (sides slot) timed) switch.phase timed.event ≡ messages
     → QueueStands lane_limit (push_all lane_limit (if over then no_messages else ql) messages) lane → QueueStands lane_limit (lane_after p switch sides ql timed) lane
 lane_is p switch sides ql timed over messages lane ends is stands =
     subst (λ (b : Bool). QueueStands lane_limit (push_all lane_limit (if b then no_messages else ql) (lane_in (λ slot. put_with p slot switch (sides slot) timed) switch.phase timed.event)) lane) (sym ends)
     (subst (λ (m : List (List ℕ)). QueueStands lane_limit (push_all lane_limit (if over then no_messages else ql) m) lane) (sym is) stands)
 
 pub lane_stays : (p : PolicyView) (switch : Switch) (sides : ℕ → Side) (ql : Queue) (timed : Timed) (lane : Kept)
-    → QueueStands lane_limit ql lane → ends_now switch timed ≡ false → lane_in (λ slot. put_with p slot switch (sides slot) timed) switch.phase timed.event ≡ []
+    → QueueStands lane_limit ql lane → is_ending switch.phase timed.event ≡ false → lane_in (λ slot. put_with p slot switch (sides slot) timed) switch.phase timed.event ≡ []
     → QueueStands lane_limit (lane_after p switch sides ql timed) lane
 unfolding push_all
 lane_stays p switch sides ql timed lane stands on is = lane_is p switch sides ql timed false [] lane on is stands

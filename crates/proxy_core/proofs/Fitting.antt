@@ -13,13 +13,13 @@ use Rattle.slice_words.specs.Items.{Settings, settings_of}
 use Rattle.desk_words.specs.declared.event.Timed.{Timed}
 use Rattle.desk_words.specs.declared.phase.Phase.{Phase}
 use Rattle.desk_words.specs.declared.phase.Phase.TheVariants.{Fresh, Begun, Opened, Ended}
-use Rattle.desk_words.specs.Openings.{rules_of, phase_of, opening_of, known_of, switch_of}
-use Rattle.desk_words.specs.Histories.{is_slot, settings_at, own_ports, own_features, side_start, side_of, is_open}
+use Rattle.desk_words.specs.Openings.{rules_of, phase_of, opening_of, switch_of}
+use Rattle.desk_words.specs.Histories.{is_slot, settings_at, own_ports, side_start, side_of, is_open}
 use Rattle.desk_words.proofs.Alone.{has_told, opened_told, blind}
 use Rattle.desk_words.proofs.Silence.{is_early, untold}
 use Rattle.desk_words.proofs.Seen.{seen}
 use Rattle.switch_side.proofs.OwnPorts.{has_port-own}
-use Rattle.proxy_core.specs.Desks.{is_before, HasSeen, Coherent}
+use Rattle.proxy_core.specs.Desks.{is_before, Coherent}
 use Rattle.proxy_core.proofs.Lists.{there}
 
 before_early : (phase : Phase) → is_before phase ≡ true → is_early phase ≡ true
@@ -47,19 +47,11 @@ settings_known policy slot told slice is =
 own_same : (rules : List Rule) (slot : ℕ) (known : List (List ℕ)) → ports_of_slice (filter (is_written_by slot) rules) slot known ≡ ports_of_slice rules slot known
 own_same rules slot known = filter_agree _ _ (λ port. has_port-own rules slot (port_number port)) known
 
-ports_same : (policy : PolicyView) (slot : ℕ) (told : Option Features) (known : List (List ℕ)) → is_slot policy slot ≡ true
+pub ports_same : (policy : PolicyView) (slot : ℕ) (told : Option Features) (known : List (List ℕ)) → is_slot policy slot ≡ true
     → own_ports (settings_at policy slot told) known ≡ ports_of_slice (rules_of policy told) slot known
 ports_same policy slot told known here =
     let slice = there policy.slices slot here in
     ap (λ (s : Settings). own_ports s known) (settings_known policy slot told slice.0 slice.1) ∙ own_same (rules_of policy told) slot known
-
-has_seen : (policy : PolicyView) (slot : ℕ) (h : List Timed) (features : Features) → opening_of h ≡ Some features → is_slot policy slot ≡ true
-    → HasSeen policy (switch_of h) features slot (side_of policy slot h)
-has_seen policy slot h features told here =
-    let saw = seen policy slot h features told here in (
-      saw.features_seen ∙ ap (λ (t : Option Features). Some (own_features (settings_at policy slot t) features)) (sym told),
-      saw.ports_known ∙ ports_same policy slot (Some features) (known_of h) here ∙ ap (λ (t : Option Features). ports_of_slice (rules_of policy t) slot (known_of h)) (sym told),
-    )
 
 pub coherent : (policy : PolicyView) (h : List Timed) → Coherent policy (switch_of h) (λ slot. side_of policy slot h)
 coherent policy h = record {
@@ -67,5 +59,5 @@ coherent policy h = record {
   before_untold = λ before. untold h (before_early (phase_of h) before);
   blind = λ none slot. blind policy slot h none;
   beyond = λ slot out. sees_nothing policy slot h out;
-  seen = λ features told slot here. has_seen policy slot h features told here;
+  seen = λ features told slot here. seen policy slot h features told here;
 }

@@ -11,4 +11,5 @@ mod Operating
 mod Events
 mod Sliced
 mod Switched
+mod Wanting
 mod Taking

@@ -1,5 +1,5 @@
 -- Operations: what a desk stands for with one step or one take more.
-use Rattle.std.proofs.Common.{◌≡◌, ℕ, suc, arith, ◌+◌, ◌^◌, ◌||◌, ◌==◌, leb, not, Bool, true, false, if◌then◌else◌, List, [], ◌∷◌, length, slice_get, refl, ap, ap₂, sym, ◌∙◌, true≢false, Option, Some, None, Ok, Err}
+use Rattle.std.proofs.Common.{◌≡◌, ℕ, suc, arith, ◌+◌, ◌^◌, ◌&&◌, ◌||◌, ◌==◌, leb, not, Bool, true, false, if◌then◌else◌, List, [], ◌∷◌, length, slice_get, refl, ap, ap₂, sym, ◌∙◌, true≢false, Option, Some, None, Ok, Err}
 use Rattle.std.specs.declared.alloc.AllocError.{AllocError}
 use Rattle.std.proofs.lemmas.Bool.{or_parts}
 use Rattle.flowspace.specs.Policies.{PolicyView}
@@ -14,10 +14,10 @@ use Rattle.desk_words.specs.declared.answer.Taken.{Taken}
 use Rattle.desk_words.specs.declared.answer.Taken.TheVariants.{Message}
 use Rattle.desk_words.specs.Openings.{phase_of, switch_of}
 use Rattle.desk_words.specs.Histories.{side_of}
-use Rattle.desk_words.specs.Verdicts.{is_ended, is_over, is_down, closes, verdict}
-use Rattle.desk_words.specs.Operations.{Operation, Step, Take, events_of, queue_of, lane_of, waiting_of, empty_reply}
+use Rattle.desk_words.specs.Verdicts.{is_ended, is_over, closes, verdict}
+use Rattle.desk_words.specs.Operations.{Operation, Step, Take, events_of, queue_of, lane_of, waiting_in, waiting_of, empty_reply}
 use Rattle.proxy_core.specs.declared.parts.Desk.{Desk}
-use Rattle.proxy_core.specs.Desks.{Body, Acted, Acts, Stays, DeskStands, Replied, Answered, TakesNext, IsSilence, waiting_in, queues_less, lane_less, silence_now}
+use Rattle.proxy_core.specs.Desks.{Body, Acted, Acts, MayWant, Stays, DeskStands, Replied, Answered, TakesNext, IsSilence, queues_less, lane_less}
 use Rattle.proxy_core.proofs.Fitting.{coherent}
 
 -- ---- steps
@@ -26,12 +26,15 @@ over_is : (p : PolicyView) (ops : List Operation) (desk : Desk) (b : Bool) → D
 over_is p ops desk b s is = sym (ap₂ (λ (phase : Phase) (n : ℕ). is_ended phase || leb (2 ^ 60) n) s.body.phase s.events) ∙ is
 
 -- memory ran out
-pub refused : (p : PolicyView) (ops : List Operation) (timed : Timed) (fault : AllocError) (old new : Desk) → DeskStands p ops old → Stays old new → new.events ≡ old.events → is_down timed.event ≡ false
-    → Replied p ops timed (Err fault) new
-refused p ops timed fault old new s stays same down = record {
-  right = down;
-  stands = record { body = stays p _ _ _ _ s.body; events = same ∙ s.events };
-}
+pub refused : (p : PolicyView) (ops : List Operation) (timed : Timed) (fault : AllocError) (old new : Desk) → DeskStands p ops old → (is_ended old.phase || leb (2 ^ 60) old.events) ≡ false
+    → Stays old new → new.events ≡ old.events → MayWant old timed.event → Replied p ops timed (Err fault) new
+refused p ops timed fault old new s is stays same wants =
+    let h = events_of ops in
+    let on = over_is p ops old false s is in
+    record {
+      right = ap₂ (λ (over_ wanted : Bool). not over_ && wanted) on (wants p _ _ _ _ (coherent p h) s.body ((or_parts (is_ended (phase_of h)) (leb (2 ^ 60) (length h)) on).0));
+      stands = record { body = stays p _ _ _ _ s.body; events = same ∙ s.events };
+    }
 
 -- all but the count of events
 counted : (p : PolicyView) (ops : List Operation) (n : ℕ) (desk : Desk) → Body p (switch_of (events_of ops)) (λ slot. side_of p slot (events_of ops)) (λ slot. queue_of p slot ops) (lane_of p ops) desk → n ≡ length (events_of ops)
@@ -64,10 +67,6 @@ stepped p ops timed go old new n s is acts count =
 
 -- ---- takes
 
-waiting_same : (p : PolicyView) (ops : List Operation) (dest : Dest) → waiting_in dest (λ slot. queue_of p slot ops) (lane_of p ops) ≡ waiting_of p dest ops
-waiting_same p ops Switch = refl
-waiting_same p ops (Slice slot) = refl
-
 first_of : (pending : List (List ℕ)) (message : List ℕ) (empty : Taken) → Some message ≡ slice_get pending 0 → Message message ≡ elim pending [ [] ↦ empty | m ∷ later ↦ Message m ]
 first_of [] message empty is = absurd (true≢false (ap (λ (o : Option (List ℕ)). elim o [ None ↦ false | Some m ↦ true ]) is))
 first_of (m ∷ later) message empty is = ap (λ (o : Option (List ℕ)). elim o [ None ↦ Message message | Some k ↦ Message k ]) is
@@ -87,7 +86,7 @@ pub took : (p : PolicyView) (ops : List Operation) (dest : Dest) (message : List
 took p ops dest message old new s takes same =
     let t = takes p _ _ _ _ s.body in
     record {
-      right = first_of (waiting_of p dest ops).pending message _ (t.first ∙ ap (λ (q : Queue). slice_get q.pending 0) (waiting_same p ops dest));
+      right = first_of (waiting_of p dest ops).pending message _ t.first;
       stands = stands_less p ops dest (Message message) new t.body (same ∙ s.events);
     }
 
@@ -100,10 +99,6 @@ choked_less : (p : PolicyView) (ops : List Operation) (dest : Dest)
 choked_less p ops Switch = refl
 choked_less p ops (Slice slot) = same_if (slot == slot) (queue_of p slot ops)
 
-silence_same : (p : PolicyView) (ops : List Operation) (dest : Dest) (choked : Bool) → silence_now p (switch_of (events_of ops)) (λ slot. side_of p slot (events_of ops)) dest choked ≡ empty_reply p (events_of ops) dest choked
-silence_same p ops Switch choked = refl
-silence_same p ops (Slice slot) choked = refl
-
 -- nothing waits
 pub silent : (p : PolicyView) (ops : List Operation) (dest : Dest) (taken : Taken) (old new : Desk) → DeskStands p ops old → TakesNext old dest None new → new.events ≡ old.events → IsSilence new dest taken
     → Answered p ops dest taken new
@@ -112,7 +107,6 @@ silent p ops dest taken old new s takes same is =
     let q = waiting_of p dest ops in
     let said = is p _ _ _ _ (coherent p (events_of ops)) t.body in
     record {
-      right = said ∙ ap (silence_now p (switch_of (events_of ops)) (λ slot. side_of p slot (events_of ops)) dest) (choked_less p ops dest) ∙ silence_same p ops dest q.choked
-          ∙ none_of q.pending (empty_reply p (events_of ops) dest q.choked) (t.first ∙ ap (λ (k : Queue). slice_get k.pending 0) (waiting_same p ops dest));
+      right = said ∙ ap (empty_reply p (events_of ops) dest) (choked_less p ops dest) ∙ none_of q.pending (empty_reply p (events_of ops) dest q.choked) t.first;
       stands = stands_less p ops dest taken new t.body (same ∙ s.events);
     }

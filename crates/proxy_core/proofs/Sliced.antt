@@ -2,6 +2,7 @@
 use Rattle.std.proofs.Common.{◌≡◌, ◌≢◌, ℕ, ◌==◌, ◌&&◌, ◌||◌, not, Bool, true, false, if◌then◌else◌, List, [], ◌∷◌, map, slice_get, refl, ap, ap₂, subst, sym, ◌∙◌, true≢false, eqb-true, append-nil, inl, inr, Option, Some, None}
 use Rattle.std.proofs.lemmas.Bool.{cases_Bool, eqb-false, and_parts}
 use Rattle.std.specs.List.{filter}
+use Rattle.of10_port.specs.declared.features.Features.{Features}
 use Rattle.flowspace.specs.Rules.{is_written_by}
 use Rattle.flowspace.specs.Policies.{PolicyView}
 use Rattle.port_view.specs.SlicePorts.{ports_of_slice}
@@ -17,26 +18,26 @@ use Rattle.desk_words.specs.declared.event.Event.TheVariants.{SliceUp, SliceMsg,
 use Rattle.desk_words.specs.declared.event.Timed.{Timed}
 use Rattle.desk_words.specs.declared.phase.Phase.{Phase}
 use Rattle.desk_words.specs.declared.phase.Phase.TheVariants.{Opened}
-use Rattle.desk_words.specs.Openings.{phase_after, known_after, Switch, switch_after}
+use Rattle.desk_words.specs.Openings.{rules_of, phase_after, known_after, Switch, switch_after}
 use Rattle.desk_words.specs.Histories.{is_slot, settings_at, own_features, Side, items_of, is_open}
 use Rattle.desk_words.specs.Sent.{lane_in, put_with}
 use Rattle.desk_words.specs.Verdicts.{is_fresh, is_ended}
-use Rattle.desk_words.specs.Operations.{slice_limit, lane_limit, empties}
+use Rattle.desk_words.specs.Operations.{slice_limit, lane_limit, empties, is_ending}
 use Rattle.desk_words.proofs.Erasing.{slices_switch}
 use Rattle.proxy_core.specs.declared.parts.Session.{Session}
 use Rattle.proxy_core.specs.declared.parts.Desk.{Desk}
 use Rattle.proxy_core.specs.Slots.{Comes, Keeps, Heard, Hears, SameQueue}
-use Rattle.proxy_core.specs.Desks.{SlotStands, SessionStands, Opens, Body, Coherent, sides_after, up_after, queues_after, ends_now, lane_after, closes_now, Acts, Stays}
+use Rattle.proxy_core.specs.Desks.{SlotStands, SessionStands, Opens, Body, Coherent, sides_after, up_after, queues_after, lane_after, closes_now, Acts, Stays}
 use Rattle.proxy_core.specs.Opening.{has_slot, is_up_at, AtSlot, Goes, StandsOn}
 use Rattle.proxy_core.proofs.Lists.{there}
-use Rattle.proxy_core.proofs.Fitting.{settings_known}
+use Rattle.proxy_core.proofs.Fitting.{settings_known, ports_same}
 use Rattle.proxy_core.proofs.Standing.{slot_after, items_opened, slots_are, slot_there, change_there}
 use Rattle.proxy_core.proofs.Slices.{one_slot, kept_slot, others_up, others_down, others_msg, shown_msg, up_comes, comes_slot, goes_slot}
 use Rattle.proxy_core.proofs.Acting.{body_after, is_opened, session_passes, lane_is, lane_stays}
 
 -- ---- the desk has a session
 
-stands_in : (p : PolicyView) (switch : Switch) (sides : ℕ → Side) (qs : ℕ → Queue) (session : Session) (o : Option Session) → o ≡ Some session → Opens p switch sides qs o → SessionStands p switch sides qs session
+pub stands_in : (p : PolicyView) (switch : Switch) (sides : ℕ → Side) (qs : ℕ → Queue) (session : Session) (o : Option Session) → o ≡ Some session → Opens p switch sides qs o → SessionStands p switch sides qs session
 stands_in p switch sides qs session o is opens = subst (λ (k : Option Session). Opens p switch sides qs k) is opens
 
 -- want of memory changes nothing
@@ -70,7 +71,7 @@ phase_same switch event is = ap (λ (k : Switch). k.phase) is
 known_same : (switch : Switch) (event : Event) → switch_after switch event ≡ switch → known_after switch.phase switch.known event ≡ switch.known
 known_same switch event is = ap (λ (k : Switch). k.known) is
 
-no_end : (switch : Switch) (timed : Timed) → phase_after switch.phase timed.event ≡ switch.phase → is_ended switch.phase ≡ false → ends_now switch timed ≡ false
+no_end : (switch : Switch) (timed : Timed) → phase_after switch.phase timed.event ≡ switch.phase → is_ended switch.phase ≡ false → is_ending switch.phase timed.event ≡ false
 no_end switch timed stays on = ap₂ (λ (a b : Bool). not a && b) on (ap is_ended stays ∙ on)
 
 goes_up : (fresh there here up : Bool) → fresh ≡ false → there ≡ here → (here ≡ true → up ≡ true) → there ≡ not ((fresh && true) || not here || (not false && not up))
@@ -159,10 +160,11 @@ sees p switch sides qs a slot fit s here up =
     record {
       same_slot = ap (λ (k : Settings). k.slot) known;
       same_rules = ap (λ (k : Settings). k.rules) known ∙ ap (filter (is_written_by slot)) (sym s.rules);
-      opening = own_features (settings_at p slot switch.features) a.features;
-      opened = saw.0;
+      opening = own_features (settings_at p slot (Some a.features)) a.features;
+      opened = saw.features_seen;
       same_features = refl;
-      same_ports = saw.1 ∙ ap₂ (λ r (k : List (List ℕ)). ports_of_slice r slot k) (sym s.rules) (sym s.known);
+      same_ports = saw.ports_known ∙ ports_same p slot (Some a.features) switch.known here
+          ∙ ap (λ (t : Option Features). ports_of_slice (rules_of p t) slot switch.known) (sym s.told) ∙ ap₂ (λ r (k : List (List ℕ)). ports_of_slice r slot k) (sym s.rules) (sym s.known);
       up = up;
     }
 

@@ -31,7 +31,7 @@ use Rattle.proxy_core.specs.declared.parts.Desk.{Desk}
 use Rattle.proxy_core.specs.Slots.{HasOnly, HasMore}
 use Rattle.proxy_core.specs.Handing.{AreSame, AreHanded, kept_by}
 use Rattle.proxy_core.specs.Desks.{SessionStands, Opens, Body, is_before, Coherent, sides_after, up_after, queues_after, Acted, Acts, ActsIn, Ends, PassesOn}
-use Rattle.proxy_core.specs.Opening.{Begins, CarriedOut, Carries, StandsOn}
+use Rattle.proxy_core.specs.Opening.{Begins, CarriedOut, Carries, CountsHeader, StandsOn}
 use Rattle.proxy_core.proofs.Lists.{there, within}
 use Rattle.proxy_core.proofs.Standing.{items_opened, session_becomes, session_goes, queue_there}
 use Rattle.proxy_core.proofs.Handed.{slot_sent}
@@ -242,6 +242,13 @@ pub closed_bad : (moment : ℕ) (message : List ℕ) (old : Session) (p : Policy
     → d.close ≡ true → is_bad message ≡ true
 closed_bad moment message old p switch sides qs d open_ s dispatched goes =
     sym (dispatched p switch sides moment (surrounds p switch sides qs old s open_) (all_stand p switch sides qs old s)).close ∙ goes
+
+-- a message after which the connection goes on counts its header
+pub goes_good : (message : List ℕ) (old : Session) (d : Dispatch)
+    → ((p : PolicyView) (switch : Switch) (sides : ℕ → Side) (moment : ℕ) → Surrounds p switch old.policy old.ports → AllStand p switch sides old.states.items → IsDispatch p switch sides moment message d)
+    → d.close ≡ false → CountsHeader message old
+goes_good message old d dispatched goes p switch sides qs open_ s =
+    sym (dispatched p switch sides 0 (surrounds p switch sides qs old s open_) (all_stand p switch sides qs old s)).close ∙ goes
 
 -- ---- the desk hands a message on
 

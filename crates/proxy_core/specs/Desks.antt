@@ -1,14 +1,14 @@
 -- When a desk is the one that a list of operations makes of a policy. All of this is this proxy's own rule.
-use Rattle.std.specs.Prelude.{ℕ, ◌≡◌, ◌<◌, ◌&&◌, ◌||◌, not, Bool, true, false, if◌then◌else◌, List, [], ◌∷◌, length, slice_get, Option, Some, None, Result}
+use Rattle.std.specs.Prelude.{ℕ, ◌≡◌, ◌<◌, ◌&&◌, not, Bool, true, false, if◌then◌else◌, List, [], ◌∷◌, length, slice_get, Option, Some, None, Result, IsTrue}
 use Rattle.std.specs.declared.alloc.AllocError.{AllocError}
 use Rattle.of10_ctl.specs.Frames.{is_bad}
 use Rattle.flowspace.specs.Policies.{PolicyView}
 use Rattle.flow_book.specs.declared.state.SliceState.{SliceState}
-use Rattle.port_view.specs.SlicePorts.{ports_of_slice}
 use Rattle.outbox.specs.Queues.{Queue, no_messages, push_all, without_first, Kept, QueueStands}
-use Rattle.slice_words.specs.Items.{is_up, features_in, known_ports}
+use Rattle.slice_words.specs.Items.{is_up}
 use Rattle.slice_words.specs.Standing.{SliceStands}
 use Rattle.of10_port.specs.declared.features.Features.{Features}
+use Rattle.desk_words.specs.declared.event.Event.{Event}
 use Rattle.desk_words.specs.declared.event.Event.TheVariants.{SwitchMsg}
 use Rattle.desk_words.specs.declared.event.Timed.{Timed}
 use Rattle.desk_words.specs.declared.phase.Phase.{Phase}
@@ -17,13 +17,14 @@ use Rattle.desk_words.specs.declared.answer.Dest.{Dest}
 use Rattle.desk_words.specs.declared.answer.Dest.TheVariants.{Switch, Slice}
 use Rattle.desk_words.specs.declared.answer.Taken.{Taken}
 use Rattle.desk_words.specs.declared.answer.Taken.TheVariants as takens
-use Rattle.desk_words.specs.declared.answer.Taken.TheVariants.{Message, Nothing, Choked, NotOpen}
+use Rattle.desk_words.specs.declared.answer.Taken.TheVariants.{Message, NotOpen}
 use Rattle.desk_words.specs.declared.answer.Verdict.{Verdict}
 use Rattle.desk_words.specs.Openings.{rules_of, phase_after, Switch as Known, switch_after, switch_of}
-use Rattle.desk_words.specs.Histories.{is_slot, settings_at, own_features, Side, side_start, items_of, with_shown, side_of, is_open}
+use Rattle.desk_words.specs.Histories.{is_slot, settings_at, Side, side_start, items_of, with_shown, side_of, is_open}
 use Rattle.desk_words.specs.Sent.{sent_with, put_with, lane_in, echo_for}
-use Rattle.desk_words.specs.Verdicts.{is_fresh, is_ended, is_closing}
-use Rattle.desk_words.specs.Operations.{Operation, Step, Take, events_of, slice_limit, lane_limit, empties, is_slice, is_switch, queue_of, lane_of, take_reply, IsReply}
+use Rattle.desk_words.specs.Verdicts.{is_ended, is_closing, may_want_in}
+use Rattle.desk_words.specs.Operations.{Operation, Step, Take, events_of, slice_limit, lane_limit, empties, is_ending, is_slice, is_switch, queue_of, lane_of, waiting_in, silence, take_reply, IsReply}
+use Rattle.desk_words.specs.Laws.{HasSeen}
 use Rattle.proxy_core.specs.declared.parts.Session.{Session}
 use Rattle.proxy_core.specs.declared.parts.Desk.{Desk}
 use Rattle.proxy_core.specs.Slots.{HasMore, HasOnly}
@@ -66,19 +67,17 @@ abbrev pub is_before : Phase → Bool
 is_before Opened = false
 is_before phase = not (is_ended phase)
 
--- a slice has seen the features of the opening, and knows its own of the ports that are known now
-abbrev pub HasSeen : PolicyView → Known → Features → ℕ → Side → Type 0
-HasSeen policy switch features slot side =
-    (features_in side.sight.view ≡ Some (own_features (settings_at policy slot switch.features) features))
-    × (known_ports side.sight.view ≡ ports_of_slice (rules_of policy switch.features) slot switch.known)
-
 -- what is known of a switch and what slices see fit together
 pub record Coherent (policy : PolicyView) (switch : Known) (sides : ℕ → Side) : Type 0 where
   pub open_told : switch.phase ≡ Opened → (features : Features) × (switch.features ≡ Some features)
   pub before_untold : is_before switch.phase ≡ true → switch.features ≡ None
   pub blind : switch.features ≡ None → (slot : ℕ) → sides slot ≡ side_start
   pub beyond : (slot : ℕ) → is_slot policy slot ≡ false → sides slot ≡ side_start
-  pub seen : (features : Features) → switch.features ≡ Some features → (slot : ℕ) → is_slot policy slot ≡ true → HasSeen policy switch features slot (sides slot)
+  pub seen : (features : Features) → switch.features ≡ Some features → (slot : ℕ) → is_slot policy slot ≡ true → HasSeen policy slot features switch.known (sides slot).sight.view
+
+-- whether each slice is up
+abbrev pub up_now : Known → (ℕ → Side) → ℕ → Bool
+up_now switch sides slot = is_open switch.phase && is_up (sides slot).sight.view
 
 -- ---- after an event
 
@@ -95,14 +94,10 @@ abbrev pub queues_after : PolicyView → Known → (ℕ → Side) → (ℕ → Q
 queues_after policy switch sides qs timed slot =
     push_all slice_limit (if empties slot (up_after policy switch sides timed slot) timed.event then no_messages else qs slot) (sent_with policy slot switch (sides slot) timed)
 
--- an event ends the switch's connection
-abbrev pub ends_now : Known → Timed → Bool
-ends_now switch timed = not (is_ended switch.phase) && is_ended (phase_after switch.phase timed.event)
-
 -- what waits for the switch after it
 abbrev pub lane_after : PolicyView → Known → (ℕ → Side) → Queue → Timed → Queue
 lane_after policy switch sides ql timed =
-    push_all lane_limit (if ends_now switch timed then no_messages else ql) (lane_in (λ slot. put_with policy slot switch (sides slot) timed) switch.phase timed.event)
+    push_all lane_limit (if is_ending switch.phase timed.event then no_messages else ql) (lane_in (λ slot. put_with policy slot switch (sides slot) timed) switch.phase timed.event)
 
 -- whether an event closes its connection
 abbrev pub closes_now : PolicyView → Known → (ℕ → Side) → Timed → Bool
@@ -124,6 +119,12 @@ abbrev pub ActsIn : Phase → Desk → Timed → Bool → Desk → Type 0
 ActsIn phase old timed go new =
     (policy : PolicyView) (switch : Known) (sides : ℕ → Side) (qs : ℕ → Queue) (ql : Queue)
     → Coherent policy switch sides → Body policy switch sides qs ql old → switch.phase ≡ phase → Acted policy switch sides qs ql timed go new
+
+-- memory may be wanted for an event, by all that a desk stands for while the switch's connection hasn't ended
+abbrev pub MayWant : Desk → Event → Type 0
+MayWant desk event =
+    (policy : PolicyView) (switch : Known) (sides : ℕ → Side) (qs : ℕ → Queue) (ql : Queue)
+    → Coherent policy switch sides → Body policy switch sides qs ql desk → is_ended switch.phase ≡ false → IsTrue (may_want_in policy switch.phase (up_now switch sides) event)
 
 -- the switch's connection ended, and nothing waits for it
 pub record Ends (old new : Desk) : Type 0 where
@@ -156,11 +157,6 @@ is_begun_with phase policy slot = is_begun phase && is_slot policy slot
 
 -- ---- takes
 
--- what waits for a destination, where so much waits for the slices and for the switch
-abbrev pub waiting_in : Dest → (ℕ → Queue) → Queue → Queue
-waiting_in Switch qs ql = ql
-waiting_in (Slice slot) qs ql = qs slot
-
 -- what waits after the first message of a destination was taken
 abbrev pub queues_less : Dest → (ℕ → Queue) → ℕ → Queue
 queues_less dest qs slot = if is_slice slot dest then without_first (qs slot) else qs slot
@@ -177,29 +173,15 @@ abbrev pub TakesNext : Desk → Dest → Option (List ℕ) → Desk → Type 0
 TakesNext old dest next new =
     (policy : PolicyView) (switch : Known) (sides : ℕ → Side) (qs : ℕ → Queue) (ql : Queue) → Body policy switch sides qs ql old → TookNext policy switch sides qs ql dest next new
 
--- no message will come for a destination, or it is too early for one
-abbrev pub is_gone_now : PolicyView → Known → (ℕ → Side) → Dest → Bool
-is_gone_now policy switch sides Switch = is_ended switch.phase
-is_gone_now policy switch sides (Slice slot) =
-    is_ended switch.phase || not (is_slot policy slot) || (is_open switch.phase && not (is_open switch.phase && is_up (sides slot).sight.view))
-
-abbrev pub is_early_now : Known → Dest → Bool
-is_early_now switch Switch = is_fresh switch.phase
-is_early_now switch (Slice slot) = not (is_open switch.phase)
-
--- what is answered where nothing waits
-abbrev pub silence_now : PolicyView → Known → (ℕ → Side) → Dest → Bool → Taken
-silence_now policy switch sides dest choked =
-    if is_gone_now policy switch sides dest then takens.Ended else if is_early_now switch dest then NotOpen else if choked then Choked else Nothing
-
--- a slice before the switch has told what it is
+-- what is said of a slice before the switch has told what it is
 abbrev pub silence_before : PolicyView → ℕ → Taken
 silence_before policy slot = if is_slot policy slot then NotOpen else takens.Ended
 
+-- what there is to say of a destination for which nothing waits, by all that a desk stands for
 abbrev pub IsSilence : Desk → Dest → Taken → Type 0
 IsSilence desk dest taken =
     (policy : PolicyView) (switch : Known) (sides : ℕ → Side) (qs : ℕ → Queue) (ql : Queue)
-    → Coherent policy switch sides → Body policy switch sides qs ql desk → taken ≡ silence_now policy switch sides dest (waiting_in dest qs ql).choked
+    → Coherent policy switch sides → Body policy switch sides qs ql desk → taken ≡ silence policy switch.phase (up_now switch sides) dest (waiting_in dest qs ql).choked
 
 abbrev pub is_message : Taken → Bool
 is_message (Message message) = true

@@ -74,6 +74,11 @@ Carries moment message on old lane new new_lane =
     (policy : PolicyView) (switch : Switch) (sides : ℕ → Side) (qs : ℕ → Queue) → switch.phase ≡ Opened → SessionStands policy switch sides qs old
     → CarriedOut policy switch sides qs moment message on old lane new new_lane
 
+-- a message's length counts its header, by all that a session stands for once the switch has told what it is
+abbrev pub CountsHeader : List ℕ → Session → Type 0
+CountsHeader message session =
+    (policy : PolicyView) (switch : Switch) (sides : ℕ → Side) (qs : ℕ → Queue) → switch.phase ≡ Opened → SessionStands policy switch sides qs session → is_bad message ≡ false
+
 -- what a session stood for it stands for still
 abbrev pub StandsOn : Session → Session → Type 0
 StandsOn old new = (policy : PolicyView) (switch : Switch) (sides : ℕ → Side) (qs : ℕ → Queue) → SessionStands policy switch sides qs old → SessionStands policy switch sides qs new

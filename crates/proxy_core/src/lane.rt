@@ -1,7 +1,8 @@
 //! The proxy's own messages to a switch, and how messages are put into what waits.
 
-ghost use Rattle.std.specs.Prelude.{ℕ, ◌≡◌, ◌≤◌, ◌<◌, length, IfOk, OnOk, OnErr};
-ghost use Rattle.of10_ctl.specs.Kinds.{IsOf};
+ghost use Rattle.std.specs.Prelude.{ℕ, ◌≡◌, ◌≤◌, ◌<◌, length, IfOk, OnOk, OnErr, IsTrue};
+ghost use Rattle.of10_ctl.specs.declared.kind.TheConstants.{ECHO_REQUEST};
+ghost use Rattle.of10_ctl.specs.Kinds.{IsOf, is_of};
 ghost use Rattle.outbox.specs.Queues.{Queue, QueueStands};
 ghost use Rattle.desk_words.specs.Sent.{greeting, whole_packets, clearing, preparation, echo_for};
 ghost use Rattle.proxy_core.specs.Slots.{HasMore};
@@ -92,7 +93,7 @@ fn reply(alloc: Global, frame: &Frame) -> Result<Vec<Frame>, AllocError>
 /// The reply to an ECHO_REQUEST (OpenFlow 1.0.0, section 5.5); to any other message none.
 pub(crate) fn echo(alloc: Global, frame: &Frame) -> Result<Vec<Frame>, AllocError>
     ensures value { IfOk result (λ v. v.items ≡ echo_for frame.now) }
-    ensures memory { OnErr result (IsOf 2 frame.now) }
+    ensures memory { OnErr result (IsTrue (is_of ECHO_REQUEST frame.now)) }
 {
     if !frame.is_of(ECHO_REQUEST) {
         return Ok(Vec::new(alloc));

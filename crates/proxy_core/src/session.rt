@@ -1,8 +1,8 @@
 //! What events make of a session.
 
-ghost use Rattle.std.specs.Prelude.{ℕ, ◌≡◌, true, false, IfOk, OnOk, OnErr};
+ghost use Rattle.std.specs.Prelude.{ℕ, ◌≡◌, true, false, IfOk, OnOk, OnErr, IsTrue};
 ghost use Rattle.proxy_core.specs.Slots.{Comes, Hears, Keeps, SameQueue};
-ghost use Rattle.proxy_core.specs.Opening.{has_slot, is_up_at, AtSlot, Goes, Carries, StandsOn};
+ghost use Rattle.proxy_core.specs.Opening.{has_slot, is_up_at, AtSlot, Goes, Carries, CountsHeader, StandsOn};
 
 use crate::lane::{make_room, push_all};
 use crate::opened::{hand_out, keep, make_rooms};
@@ -33,6 +33,7 @@ impl Session {
         ensures value { IfOk result (λ there. there ≡ has_slot self.old slot) }
         ensures ok { OnOk result (AtSlot slot Comes self.old self.new) }
         ensures err { OnErr result (AtSlot slot Keeps self.old self.new) }
+        ensures memory { OnErr result (IsTrue (has_slot self.old slot)) }
     {
         if !self.has_slot(slot) {
             return Ok(false);
@@ -69,6 +70,7 @@ impl Session {
         ensures up { IfOk result (λ on. is_up_at self.old slot ≡ true → AtSlot slot (λ a b x y. Hears self.old.policy self.old.ports self.old.features slot frame.now moment on a b lane.old x y lane.new) self.old self.new) }
         ensures err { OnErr result (AtSlot slot Keeps self.old self.new) }
         ensures lane { OnErr result (SameQueue lane.old lane.new) }
+        ensures memory { OnErr result (IsTrue (is_up_at self.old slot)) }
     {
         if !self.is_up(slot) {
             return Ok(false);
@@ -98,6 +100,7 @@ impl Session {
         ensures ok { IfOk result (λ on. (moment : ℕ) → Carries moment frame.now on self.old lane.old self.new lane.new) }
         ensures err { OnErr result (StandsOn self.old self.new) }
         ensures lane { OnErr result (SameQueue lane.old lane.new) }
+        ensures memory { OnErr result (CountsHeader frame.now self.old) }
     {
         if self.states.len() != self.policy.slices().len() {
             return Ok(false);

@@ -1,13 +1,15 @@
 //! What a desk makes of an event.
 
 ghost use Rattle.std.specs.Prelude.{ℕ, ◌≡◌, ◌≤◌, ◌^◌, ◌||◌, leb, if◌then◌else◌, false, None, Some, length, IfOk, OnErr, IfSome, IsTrue, is_some, List, []};
+ghost use Rattle.of10_ctl.specs.declared.kind.TheConstants.{ECHO_REQUEST};
 ghost use Rattle.of10_ctl.specs.Frames.{is_bad};
+ghost use Rattle.of10_ctl.specs.Kinds.{is_of};
 ghost use Rattle.desk_words.specs.declared.event.Event.TheVariants.{SwitchUp, SwitchMsg, SwitchDown, SliceUp, SliceMsg, SliceDown};
 ghost use Rattle.desk_words.specs.declared.phase.Phase.TheVariants.{Begun, Opened};
 ghost use Rattle.desk_words.specs.Openings.{features_told, phase_after};
-ghost use Rattle.desk_words.specs.Verdicts.{is_down, is_ended};
+ghost use Rattle.desk_words.specs.Verdicts.{is_ended, may_want_told};
 ghost use Rattle.desk_words.specs.declared.answer.Verdict.TheVariants.{Go, Close};
-ghost use Rattle.proxy_core.specs.Desks.{Acts, ActsIn, Stays, Ends, PassesOn, is_begun_with, DeskStands, Steps};
+ghost use Rattle.proxy_core.specs.Desks.{Acts, ActsIn, MayWant, Stays, Ends, PassesOn, is_begun_with, DeskStands, Steps};
 
 use crate::lane::{echo, greeting, make_room, preparation, push_all};
 use crate::parts::{Desk, Session};
@@ -110,6 +112,7 @@ impl Desk {
         requires { (is_bad frame.now ≡ false) × (features_told frame.now ≡ None) }
         ensures ok { IfOk result (λ go. (moment : ℕ) → ActsIn Begun self.old (record { event = SwitchMsg frame.now; moment = moment }) go self.new) }
         ensures err { OnErr result (Stays self.old self.new) }
+        ensures memory { OnErr result (IsTrue (is_of ECHO_REQUEST frame.now)) }
         ensures events { self.new.events ≡ self.old.events }
     {
         let messages = echo(alloc, frame)?;
@@ -122,6 +125,7 @@ impl Desk {
     fn hear_first(&mut self, alloc: Global, frame: &Frame) -> Result<bool, AllocError>
         ensures ok { IfOk result (λ go. (moment : ℕ) → ActsIn Begun self.old (record { event = SwitchMsg frame.now; moment = moment }) go self.new) }
         ensures err { OnErr result (Stays self.old self.new) }
+        ensures memory { OnErr result (IsTrue (may_want_told Begun frame.now)) }
         ensures events { self.new.events ≡ self.old.events }
     {
         if frame.bad_length() {
@@ -138,6 +142,7 @@ impl Desk {
     fn pass_on(&mut self, alloc: Global, frame: &Frame) -> Result<bool, AllocError>
         ensures ok { IfOk result (λ go. (moment : ℕ) → PassesOn moment frame.now go self.old self.new) }
         ensures err { OnErr result (Stays self.old self.new) }
+        ensures memory { OnErr result (MayWant self.old (SwitchMsg frame.now)) }
         ensures events { self.new.events ≡ self.old.events }
     {
         match &mut self.session {
@@ -150,6 +155,7 @@ impl Desk {
     fn hear_later(&mut self, alloc: Global, frame: &Frame) -> Result<bool, AllocError>
         ensures ok { IfOk result (λ go. (moment : ℕ) → ActsIn Opened self.old (record { event = SwitchMsg frame.now; moment = moment }) go self.new) }
         ensures err { OnErr result (Stays self.old self.new) }
+        ensures memory { OnErr result (MayWant self.old (SwitchMsg frame.now)) }
         ensures events { self.new.events ≡ self.old.events }
     {
         if !self.pass_on(alloc, frame)? {
@@ -163,6 +169,7 @@ impl Desk {
     fn hear_switch(&mut self, alloc: Global, frame: &Frame) -> Result<bool, AllocError>
         ensures ok { IfOk result (λ go. (moment : ℕ) → Acts self.old (record { event = SwitchMsg frame.now; moment = moment }) go self.new) }
         ensures err { OnErr result (Stays self.old self.new) }
+        ensures memory { OnErr result (MayWant self.old (SwitchMsg frame.now)) }
         ensures events { self.new.events ≡ self.old.events }
     {
         match self.phase {
@@ -190,6 +197,7 @@ impl Desk {
     fn greet_slice(&mut self, alloc: Global, slot: u8) -> Result<bool, AllocError>
         ensures ok { IfOk result (λ go. (moment : ℕ) → Acts self.old (record { event = SliceUp slot; moment = moment }) go self.new) }
         ensures err { OnErr result (Stays self.old self.new) }
+        ensures memory { OnErr result (MayWant self.old (SliceUp slot)) }
         ensures events { self.new.events ≡ self.old.events }
     {
         match &mut self.session {
@@ -208,6 +216,7 @@ impl Desk {
     ) -> Result<bool, AllocError>
         ensures ok { IfOk result (λ go. Acts self.old (record { event = SliceMsg slot frame.now; moment = moment }) go self.new) }
         ensures err { OnErr result (Stays self.old self.new) }
+        ensures memory { OnErr result (MayWant self.old (SliceMsg slot frame.now)) }
         ensures events { self.new.events ≡ self.old.events }
     {
         match &mut self.session {
@@ -238,7 +247,7 @@ impl Desk {
     fn act(&mut self, alloc: Global, timed: Timed) -> Result<bool, AllocError>
         ensures ok { IfOk result (λ go. Acts self.old timed go self.new) }
         ensures err { OnErr result (Stays self.old self.new) }
-        ensures down { OnErr result (is_down timed.event ≡ false) }
+        ensures memory { OnErr result (MayWant self.old timed.event) }
         ensures events { self.new.events ≡ self.old.events }
     {
         let Timed { event, moment } = timed;
@@ -260,8 +269,9 @@ impl Desk {
     }
 
     /// One event. `AllocError` leaves what the desk stands for as it was, though memory that was taken may
-    /// stay, and the event isn't counted; it never comes at the end of a connection. After `Ended` nothing
-    /// more changes.
+    /// stay, and the event isn't counted. It comes only for what takes memory: the switch's up, a message of
+    /// it that may be answered or passed on, and the up or a message of a slice that can be greeted or heard.
+    /// After `Ended` nothing more changes.
     pub fn step(&mut self, alloc: Global, timed: Timed) -> Result<Verdict, AllocError>
         ensures { Steps self.old timed result self.new }
     {

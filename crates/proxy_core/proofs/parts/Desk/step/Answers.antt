@@ -8,7 +8,7 @@ pub returns-in_err-go : goal.returns-in_err-go
 returns-in_err-go c policy ops s =
     let p = err_from_is_err_and c.from_residual.result c.from_residual.ensures.1 in
     subst (λ reply. Replied policy ops c.args.timed reply c.act.new.self) (sym p.1)
-    (refused policy ops c.args.timed p.0 c.args.self.now c.act.new.self s c.in_err-go.ensures.err c.act.ensures.events c.in_err-go.ensures.down)
+    (refused policy ops c.args.timed p.0 c.args.self.now c.act.new.self s (sym c.is_over.ensures ∙ c.if-is_over.false) c.in_err-go.ensures.err c.act.ensures.events c.in_err-go.ensures.memory)
 
 pub returns : goal.returns
 returns c policy ops s =

@@ -1,7 +1,7 @@
 use Rattle.std.proofs.Common.{refl, sym, subst}
 use Rattle.switch_side.specs.Dispatches.{AllStand}
 use Rattle.std.proofs.lemmas.Result.{err_from_is_err_and}
-use Rattle.proxy_core.proofs.Switched.{kept_queues, carried_out, closed_bad}
+use Rattle.proxy_core.proofs.Switched.{kept_queues, carried_out, closed_bad, goes_good}
 use Rattle.proxy_core.proofs.parts.Session.hear_switch.Goals as goal
 
 pub returns-then-close-clause-ok : goal.returns-then-close-clause-ok
@@ -21,6 +21,27 @@ pub returns-in_err-keep-clause-err : goal.returns-in_err-keep-clause-err
 returns-in_err-keep-clause-err c =
     let p = err_from_is_err_and c.from_residual-in_err-keep.result c.from_residual-in_err-keep.ensures.1 in
     rw p.1 (kept_queues c.args.self.now _ refl refl refl c.in_err-keep.ensures.err c.make_rooms.ensures.same)
+
+pub returns-in_err-make_room-clause-memory : goal.returns-in_err-make_room-clause-memory
+returns-in_err-make_room-clause-memory c =
+    let p = err_from_is_err_and c.from_residual-in_err-make_room.result c.from_residual-in_err-make_room.ensures.1 in
+    rw p.1
+    (goes_good c.args.frame.now c.args.self.now c.in_ok-to_slices.field-0
+    (λ p2 switch2 sides2 moment2 around stand. c.in_ok-to_slices.ensures.dispatch p2 switch2 sides2 moment2 around (subst (AllStand p2 switch2 sides2) (sym c.deref.ensures.value) stand)) c.if-close.false)
+
+pub returns-in_err-make_rooms-clause-memory : goal.returns-in_err-make_rooms-clause-memory
+returns-in_err-make_rooms-clause-memory c =
+    let p = err_from_is_err_and c.from_residual-in_err-make_rooms.result c.from_residual-in_err-make_rooms.ensures.1 in
+    rw p.1
+    (goes_good c.args.frame.now c.args.self.now c.in_ok-to_slices.field-0
+    (λ p2 switch2 sides2 moment2 around stand. c.in_ok-to_slices.ensures.dispatch p2 switch2 sides2 moment2 around (subst (AllStand p2 switch2 sides2) (sym c.deref.ensures.value) stand)) c.if-close.false)
+
+pub returns-in_err-keep-clause-memory : goal.returns-in_err-keep-clause-memory
+returns-in_err-keep-clause-memory c =
+    let p = err_from_is_err_and c.from_residual-in_err-keep.result c.from_residual-in_err-keep.ensures.1 in
+    rw p.1
+    (goes_good c.args.frame.now c.args.self.now c.in_ok-to_slices.field-0
+    (λ p2 switch2 sides2 moment2 around stand. c.in_ok-to_slices.ensures.dispatch p2 switch2 sides2 moment2 around (subst (AllStand p2 switch2 sides2) (sym c.deref.ensures.value) stand)) c.if-close.false)
 
 pub returns-clause-ok : goal.returns-clause-ok
 returns-clause-ok c moment p switch sides qs open_ s =
