@@ -128,7 +128,7 @@ abbrev pub IsSilentUntilUp : PolicyView → ℕ → List Timed → List Timed �
 IsSilentUntilUp policy slot later h =
     is_slice_up policy slot h ≡ false → list_any (is_up_of slot) later ≡ false → AreSilent policy slot later h
 
--- a slice isn't up once its connection has ended
+-- a slice isn't up after its down
 abbrev pub IsDownAfterDown : PolicyView → ℕ → ℕ → List Timed → Type 0
 IsDownAfterDown policy slot moment h = is_slice_up policy slot (record { event = SliceDown slot; moment = moment } ∷ h) ≡ false
 

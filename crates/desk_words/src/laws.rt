@@ -40,7 +40,8 @@ pub fn blind_before_the_opening()
     ensures { (policy : PolicyView) (slot : ℕ) (h : List Timed) → IsBlindBefore policy slot h }
 {}
 
-/// A slice isn't up once its connection has ended, and is sent nothing until it comes up again.
+/// A slice isn't up after its down; and one that isn't up is sent nothing, and isn't up, until its connection
+/// comes.
 pub fn silent_until_up()
     ensures down { (policy : PolicyView) (slot moment : ℕ) (h : List Timed) → IsDownAfterDown policy slot moment h }
     ensures silent { (policy : PolicyView) (slot : ℕ) (later h : List Timed) → IsSilentUntilUp policy slot later h }
