@@ -1,5 +1,5 @@
 -- Packets as their fields spell them, layer by layer, and the header of each (OpenFlow 1.0.0, section 3.4 and table 3).
-use Rattle.std.specs.Prelude.{ℕ, ◌+◌, ◌*◌, ◌%◌, ◌^◌, ◌<◌, List, [], ◌++◌, Option, Some, None, ⊤}
+use Rattle.std.specs.Prelude.{◌≡◌, ℕ, ◌+◌, ◌*◌, ◌/◌, ◌%◌, ◌^◌, ◌<◌, ◌≤◌, List, [], ◌++◌, length, Option, Some, None, ⊤}
 use Rattle.byteorder.specs.Endian.{big_bytes}
 use Rattle.of10_model.specs.Header.{Header}
 
@@ -91,8 +91,8 @@ spell_segment (Tcp src dst) = big_bytes 2 src ++ big_bytes 2 dst
 spell_segment (Udp src dst) = big_bytes 2 src ++ big_bytes 2 dst
 spell_segment (Icmp kind code) = big_bytes 1 kind ++ big_bytes 1 code
 
--- an IPv4 header without options: six bits of service and two that aren't matched, two flags that say nothing of fragments,
--- the protocol, the addresses, and four fields that aren't read
+-- an IPv4 header: six bits of service and two that aren't matched, two flags that say nothing of fragments, the protocol,
+-- the addresses, the bytes of the options, and four fields that aren't read, the total length among them
 pub record Ipv4 : Type 0 where
   pub service : ℕ
   pub congestion : ℕ
@@ -104,8 +104,9 @@ pub record Ipv4 : Type 0 where
   pub checksum : ℕ
   pub src : ℕ
   pub dst : ℕ
+  pub options : List ℕ
 
--- the fields that are read lie in their bits
+-- the fields that are read lie in their bits, and the options are whole words of four bytes, ten words at most
 pub record IsIpv4 (p : Ipv4) : Type 0 where
   pub service : p.service < 64
   pub congestion : p.congestion < 4
@@ -113,14 +114,25 @@ pub record IsIpv4 (p : Ipv4) : Type 0 where
   pub proto : p.proto < 256
   pub src : p.src < 2 ^ 32
   pub dst : p.dst < 2 ^ 32
+  pub words : length p.options % 4 ≡ 0
+  pub most : length p.options ≤ 40
 
--- the 20 bytes of the header and what is behind them; the fragment is the flag for more and the offset, 14 bits
-unfoldable pub spell_ipv4 : Ipv4 → ℕ → List ℕ → List ℕ
-spell_ipv4 p fragment behind =
-    big_bytes 1 0x45 ++ big_bytes 1 (p.service * 4 + p.congestion) ++ big_bytes 2 p.total_len
+-- how many words of four bytes the header has: five, and those of the options
+abbrev pub header_words : Ipv4 → ℕ
+header_words p = 5 + length p.options / 4
+
+-- 20 bytes, of which the first has the version and the header's length in words, and then the options; the fragment is the
+-- flag for more and the offset, 14 bits
+abbrev pub spell_ipv4_header : Ipv4 → ℕ → List ℕ
+spell_ipv4_header p fragment =
+    big_bytes 1 (4 * 16 + header_words p) ++ big_bytes 1 (p.service * 4 + p.congestion) ++ big_bytes 2 p.total_len
     ++ big_bytes 2 p.ident ++ big_bytes 2 (p.flags * 0x4000 + fragment)
     ++ big_bytes 1 p.ttl ++ big_bytes 1 p.proto ++ big_bytes 2 p.checksum
-    ++ big_bytes 4 p.src ++ big_bytes 4 p.dst ++ behind
+    ++ big_bytes 4 p.src ++ big_bytes 4 p.dst ++ p.options
+
+-- the header and what is behind it
+unfoldable pub spell_ipv4 : Ipv4 → ℕ → List ℕ → List ℕ
+spell_ipv4 p fragment behind = spell_ipv4_header p fragment ++ behind
 
 -- the header of an IPv4 packet with two transport fields
 abbrev pub ipv4_header : ℕ → Ethernet → Ipv4 → ℕ → ℕ → Header
