@@ -1,17 +1,18 @@
 -- A packet that is spelled from its fields is given these.
-use Rattle.std.proofs.Common.{◌≡◌, ℕ, ◌==◌, ◌||◌, ◌+◌, ◌*◌, ◌/◌, ◌%◌, ◌^◌, ◌<◌, leb, Bool, true, false, List, [], ◌∷◌, ◌++◌, length, slice_index, Option, Some, None, refl, ap, ◌∙◌, arith}
+use Rattle.std.proofs.Common.{◌≡◌, ℕ, ◌==◌, ◌||◌, ◌+◌, ◌*◌, ◌/◌, ◌%◌, ◌^◌, ◌<◌, ◌≤◌, leb, Bool, true, false, List, [], ◌∷◌, ◌++◌, length, drop, slice_index, Option, Some, None, refl, ap, ◌∙◌, arith}
 use Rattle.std.proofs.Math.Nat.{mod-eq_of_lt}
 use Rattle.std.proofs.Math.Seq.{drop-append_seam, drop-append-add}
 use Rattle.std.proofs.lemmas.Bool.{le-leb, lt-leb, leb-true, leb-false, ne_eqb}
 use Rattle.std.proofs.lemmas.List.{length-append, get_or-append-add}
 use Rattle.byteorder.specs.Endian.{big_bytes}
 use Rattle.byteorder.specs.Numbers.{big_number-reads_back}
+use Rattle.of10_model.specs.Normal.{number_at}
 use Rattle.frame_header.specs.declared.network.Transport.{Transport}
 use Rattle.frame_header.specs.declared.network.Network.{Network}
 use Rattle.frame_header.specs.Links.{field_at, typed, tagged_link, link_of}
 use Rattle.frame_header.specs.Networks.{header_length, no_transport, transport_at, transport_of, ipv4_of, arp_of, network_of}
 use Rattle.frame_header.specs.Headers.{header_of_packet}
-use Rattle.frame_header.specs.Packets.{Tag, IsTag, IsTagOrNone, Ethernet, IsEthernet, spell_ethernet, vlan_of, pcp_of, Segment, IsSegment, proto_of, first_of, second_of, spell_segment, Ipv4, IsIpv4, spell_ipv4_header, spell_ipv4, ipv4_header, Arp, IsArp, spell_arp, arp_header}
+use Rattle.frame_header.specs.Packets.{Tag, IsTag, IsTagOrNone, Framing, IsFraming, spell_snap, spell_type, Ethernet, IsEthernet, spell_ethernet, vlan_of, pcp_of, Segment, IsSegment, proto_of, first_of, second_of, spell_segment, Ipv4, IsIpv4, spell_ipv4_header, spell_ipv4, ipv4_header, Arp, IsArp, spell_arp, arp_header}
 
 -- ---- Ethernet
 
@@ -32,38 +33,57 @@ record IsType (kind : ℕ) : Type 0 where
   least : leb 0x0600 kind ≡ true
   no_tag : (kind == 0x8100) ≡ false
 
-tagged_again : (t : Tag) (kind : ℕ) (payload : List ℕ) → IsTag t → IsType kind
-    → tagged_link (big_bytes 2 (t.pcp * 0x2000 + t.mark * 0x1000 + t.id) ++ big_bytes 2 kind ++ payload) ≡ record { vlan = t.id; pcp = t.pcp; kind = kind; payload = payload }
-unfolding typed tagged_link
-tagged_again t kind payload h k =
-    let bytes = big_bytes 2 (t.pcp * 0x2000 + t.mark * 0x1000 + t.id) ++ big_bytes 2 kind ++ payload in
+type_again : (f : Framing) (kind : ℕ) (payload : List ℕ) → IsFraming f → IsType kind
+    → typed (number_at (spell_type f kind ++ payload) 0 2) (drop 2 (spell_type f kind ++ payload)) ≡ record { kind = kind; payload = payload }
+unfolding typed
+type_again Framing.EthernetTwo kind payload h k = rw (big_number-reads_back 2 kind [] k.fits, k.least) refl
+type_again (Framing.Snap size) kind payload h k =
+    rw (
+      big_number-reads_back 2 size [] (omega (arith, h)),
+      lt-leb 0x0600 size h,
+      le-leb 8 (length (spell_snap kind ++ payload)) (omega arith),
+      big_number-reads_back 2 kind [] k.fits,
+    ) refl
+
+type_is_no_tag : (f : Framing) (kind : ℕ) (payload : List ℕ) → IsFraming f → IsType kind → (number_at (spell_type f kind ++ payload) 0 2 == 0x8100) ≡ false
+type_is_no_tag Framing.EthernetTwo kind payload h k = rw (big_number-reads_back 2 kind [] k.fits) k.no_tag
+type_is_no_tag (Framing.Snap size) kind payload h k =
+    rw (big_number-reads_back 2 size [] (omega (arith, h))) (ne_eqb size 0x8100 (λ e. omega (arith, h, e)))
+
+type_is_there : (f : Framing) (kind : ℕ) (payload : List ℕ) → 2 ≤ length (spell_type f kind ++ payload)
+type_is_there Framing.EthernetTwo kind payload = omega arith
+type_is_there (Framing.Snap size) kind payload = omega arith
+
+tagged_again : (t : Tag) (f : Framing) (kind : ℕ) (payload : List ℕ) → IsTag t → IsFraming f → IsType kind
+    → tagged_link (big_bytes 2 (t.pcp * 0x2000 + t.mark * 0x1000 + t.id) ++ spell_type f kind ++ payload) ≡ record { vlan = t.id; pcp = t.pcp; kind = kind; payload = payload }
+unfolding tagged_link
+tagged_again t f kind payload h g k =
+    let bytes = big_bytes 2 (t.pcp * 0x2000 + t.mark * 0x1000 + t.id) ++ spell_type f kind ++ payload in
     let parts = tag_parts t h in
     rw (
-      le-leb 4 (length bytes) (omega arith),
+      le-leb 4 (length bytes) (omega (arith, type_is_there f kind payload)),
       big_number-reads_back 2 (t.pcp * 0x2000 + t.mark * 0x1000 + t.id) [] parts.fits,
-      big_number-reads_back 2 kind [] k.fits,
-      k.least,
+      type_again f kind payload g k,
       parts.id,
       parts.pcp,
     ) refl
 
-link_with : (dst src : ℕ) (tag : Option Tag) (kind : ℕ) (payload : List ℕ) → IsTagOrNone tag → IsType kind
-    → link_of (spell_ethernet (record { dst = dst; src = src; tag = tag }) kind payload) ≡ record { vlan = vlan_of tag; pcp = pcp_of tag; kind = kind; payload = payload }
-unfolding spell_ethernet typed tagged_link link_of
-link_with dst src None kind payload h k =
-    let bytes = spell_ethernet (record { dst = dst; src = src; tag = None }) kind payload in
+link_with : (dst src : ℕ) (tag : Option Tag) (f : Framing) (kind : ℕ) (payload : List ℕ) → IsTagOrNone tag → IsFraming f → IsType kind
+    → link_of (spell_ethernet (record { dst = dst; src = src; tag = tag; framing = f }) kind payload) ≡ record { vlan = vlan_of tag; pcp = pcp_of tag; kind = kind; payload = payload }
+unfolding spell_ethernet link_of
+link_with dst src None f kind payload h g k =
+    let bytes = spell_ethernet (record { dst = dst; src = src; tag = None; framing = f }) kind payload in
     rw (
-      le-leb 14 (length bytes) (omega arith),
-      big_number-reads_back 2 kind [] k.fits,
-      k.no_tag,
-      k.least,
+      le-leb 14 (length bytes) (omega (arith, type_is_there f kind payload)),
+      type_is_no_tag f kind payload g k,
+      type_again f kind payload g k,
     ) refl
-link_with dst src (Some t) kind payload h k =
-    let bytes = spell_ethernet (record { dst = dst; src = src; tag = Some t }) kind payload in
-    rw (le-leb 14 (length bytes) (omega arith)) (tagged_again t kind payload h k)
+link_with dst src (Some t) f kind payload h g k =
+    let bytes = spell_ethernet (record { dst = dst; src = src; tag = Some t; framing = f }) kind payload in
+    rw (le-leb 14 (length bytes) (omega arith)) (tagged_again t f kind payload h g k)
 
 link_again : (e : Ethernet) (kind : ℕ) (payload : List ℕ) → IsEthernet e → IsType kind → link_of (spell_ethernet e kind payload) ≡ record { vlan = vlan_of e.tag; pcp = pcp_of e.tag; kind = kind; payload = payload }
-link_again e kind payload h k = link_with e.dst e.src e.tag kind payload h.tag k
+link_again e kind payload h k = link_with e.dst e.src e.tag e.framing kind payload h.tag h.framing k
 
 dst_again : (e : Ethernet) (kind : ℕ) (payload : List ℕ) → IsEthernet e → field_at (spell_ethernet e kind payload) 0 6 ≡ e.dst
 unfolding spell_ethernet

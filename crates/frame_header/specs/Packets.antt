@@ -22,26 +22,47 @@ abbrev pub IsTagOrNone : Option Tag → Type 0
 IsTagOrNone None = ⊤
 IsTagOrNone (Some t) = IsTag t
 
--- the two addresses of a packet, and its tag where it has one
+-- how a packet names its type: in place (Ethernet II), or behind a length, in an LLC/SNAP header (IEEE 802.3)
+pub data Framing : Type 0 where
+  EthernetTwo : Framing
+  Snap : ℕ → Framing
+
+-- a length is below 0x0600, the least type
+abbrev pub IsFraming : Framing → Type 0
+IsFraming EthernetTwo = ⊤
+IsFraming (Snap size) = size < 0x0600
+
+-- the two addresses of a packet, its tag where it has one, and how it names its type
 pub record Ethernet : Type 0 where
   pub dst : ℕ
   pub src : ℕ
   pub tag : Option Tag
+  pub framing : Framing
 
--- the addresses have 48 bits
+-- the addresses have 48 bits, and the tag and a length fit their fields
 pub record IsEthernet (e : Ethernet) : Type 0 where
   pub dst : e.dst < 2 ^ 48
   pub src : e.src < 2 ^ 48
   pub tag : IsTagOrNone e.tag
+  pub framing : IsFraming e.framing
 
 -- a tag is type 0x8100 and two bytes
 abbrev pub spell_tag : Option Tag → List ℕ
 spell_tag None = []
 spell_tag (Some t) = big_bytes 2 0x8100 ++ big_bytes 2 (t.pcp * 0x2000 + t.mark * 0x1000 + t.id)
 
--- a packet of Ethernet II: both addresses, the tag, the type and the payload
+-- an LLC header, of both access points 0xaa and control 3, and a SNAP header, of organization 0 and the type
+abbrev pub spell_snap : ℕ → List ℕ
+spell_snap kind = big_bytes 1 0xaa ++ big_bytes 1 0xaa ++ big_bytes 1 3 ++ big_bytes 3 0 ++ big_bytes 2 kind
+
+-- the type alone, or a length and the header with the type
+abbrev pub spell_type : Framing → ℕ → List ℕ
+spell_type EthernetTwo kind = big_bytes 2 kind
+spell_type (Snap size) kind = big_bytes 2 size ++ spell_snap kind
+
+-- a packet: both addresses, the tag, the type and the payload
 unfoldable pub spell_ethernet : Ethernet → ℕ → List ℕ → List ℕ
-spell_ethernet e kind payload = big_bytes 6 e.dst ++ big_bytes 6 e.src ++ spell_tag e.tag ++ big_bytes 2 kind ++ payload
+spell_ethernet e kind payload = big_bytes 6 e.dst ++ big_bytes 6 e.src ++ spell_tag e.tag ++ spell_type e.framing kind ++ payload
 
 -- without a tag the VLAN is 0xffff (section 5.2.3)
 abbrev pub vlan_of : Option Tag → ℕ
