@@ -1,15 +1,18 @@
 -- A packet that is spelled from its fields is given these.
-use Rattle.std.proofs.Common.{◌≡◌, ℕ, ◌==◌, ◌||◌, ◌+◌, ◌*◌, ◌/◌, ◌%◌, ◌^◌, ◌<◌, leb, true, false, List, [], ◌++◌, length, slice_index, Option, Some, None, refl, ◌∙◌, arith}
+use Rattle.std.proofs.Common.{◌≡◌, ℕ, ◌==◌, ◌||◌, ◌+◌, ◌*◌, ◌/◌, ◌%◌, ◌^◌, ◌<◌, ◌≤◌, leb, Bool, true, false, List, [], ◌∷◌, ◌++◌, length, drop, slice_index, Option, Some, None, refl, ap, ◌∙◌, arith}
 use Rattle.std.proofs.Math.Nat.{mod-eq_of_lt}
-use Rattle.std.proofs.lemmas.Bool.{le-leb, ne_eqb}
+use Rattle.std.proofs.Math.Seq.{drop-append_seam, drop-append-add}
+use Rattle.std.proofs.lemmas.Bool.{le-leb, lt-leb, leb-true, leb-false, ne_eqb}
+use Rattle.std.proofs.lemmas.List.{length-append, get_or-append-add}
 use Rattle.byteorder.specs.Endian.{big_bytes}
 use Rattle.byteorder.specs.Numbers.{big_number-reads_back}
+use Rattle.of10_model.specs.Normal.{number_at}
 use Rattle.frame_header.specs.declared.network.Transport.{Transport}
 use Rattle.frame_header.specs.declared.network.Network.{Network}
 use Rattle.frame_header.specs.Links.{field_at, typed, tagged_link, link_of}
-use Rattle.frame_header.specs.Networks.{no_transport, transport_at, transport_of, ipv4_of, arp_of, network_of}
+use Rattle.frame_header.specs.Networks.{header_length, no_transport, transport_at, transport_of, ipv4_of, arp_of, network_of}
 use Rattle.frame_header.specs.Headers.{header_of_packet}
-use Rattle.frame_header.specs.Packets.{Tag, IsTag, IsTagOrNone, Ethernet, IsEthernet, spell_ethernet, vlan_of, pcp_of, Segment, IsSegment, proto_of, first_of, second_of, spell_segment, Ipv4, IsIpv4, spell_ipv4, ipv4_header, Arp, IsArp, spell_arp, arp_header}
+use Rattle.frame_header.specs.Packets.{Tag, IsTag, IsTagOrNone, Framing, IsFraming, spell_snap, spell_type, Ethernet, IsEthernet, spell_ethernet, vlan_of, pcp_of, Segment, IsSegment, proto_of, first_of, second_of, spell_segment, Ipv4, IsIpv4, spell_ipv4_header, spell_ipv4, ipv4_header, Arp, IsArp, spell_arp, arp_header}
 
 -- ---- Ethernet
 
@@ -30,38 +33,57 @@ record IsType (kind : ℕ) : Type 0 where
   least : leb 0x0600 kind ≡ true
   no_tag : (kind == 0x8100) ≡ false
 
-tagged_again : (t : Tag) (kind : ℕ) (payload : List ℕ) → IsTag t → IsType kind
-    → tagged_link (big_bytes 2 (t.pcp * 0x2000 + t.mark * 0x1000 + t.id) ++ big_bytes 2 kind ++ payload) ≡ record { vlan = t.id; pcp = t.pcp; kind = kind; payload = payload }
-unfolding typed tagged_link
-tagged_again t kind payload h k =
-    let bytes = big_bytes 2 (t.pcp * 0x2000 + t.mark * 0x1000 + t.id) ++ big_bytes 2 kind ++ payload in
+type_again : (f : Framing) (kind : ℕ) (payload : List ℕ) → IsFraming f → IsType kind
+    → typed (number_at (spell_type f kind ++ payload) 0 2) (drop 2 (spell_type f kind ++ payload)) ≡ record { kind = kind; payload = payload }
+unfolding typed
+type_again Framing.EthernetTwo kind payload h k = rw (big_number-reads_back 2 kind [] k.fits, k.least) refl
+type_again (Framing.Snap size) kind payload h k =
+    rw (
+      big_number-reads_back 2 size [] (omega (arith, h)),
+      lt-leb 0x0600 size h,
+      le-leb 8 (length (spell_snap kind ++ payload)) (omega arith),
+      big_number-reads_back 2 kind [] k.fits,
+    ) refl
+
+type_is_no_tag : (f : Framing) (kind : ℕ) (payload : List ℕ) → IsFraming f → IsType kind → (number_at (spell_type f kind ++ payload) 0 2 == 0x8100) ≡ false
+type_is_no_tag Framing.EthernetTwo kind payload h k = rw (big_number-reads_back 2 kind [] k.fits) k.no_tag
+type_is_no_tag (Framing.Snap size) kind payload h k =
+    rw (big_number-reads_back 2 size [] (omega (arith, h))) (ne_eqb size 0x8100 (λ e. omega (arith, h, e)))
+
+type_is_there : (f : Framing) (kind : ℕ) (payload : List ℕ) → 2 ≤ length (spell_type f kind ++ payload)
+type_is_there Framing.EthernetTwo kind payload = omega arith
+type_is_there (Framing.Snap size) kind payload = omega arith
+
+tagged_again : (t : Tag) (f : Framing) (kind : ℕ) (payload : List ℕ) → IsTag t → IsFraming f → IsType kind
+    → tagged_link (big_bytes 2 (t.pcp * 0x2000 + t.mark * 0x1000 + t.id) ++ spell_type f kind ++ payload) ≡ record { vlan = t.id; pcp = t.pcp; kind = kind; payload = payload }
+unfolding tagged_link
+tagged_again t f kind payload h g k =
+    let bytes = big_bytes 2 (t.pcp * 0x2000 + t.mark * 0x1000 + t.id) ++ spell_type f kind ++ payload in
     let parts = tag_parts t h in
     rw (
-      le-leb 4 (length bytes) (omega arith),
+      le-leb 4 (length bytes) (omega (arith, type_is_there f kind payload)),
       big_number-reads_back 2 (t.pcp * 0x2000 + t.mark * 0x1000 + t.id) [] parts.fits,
-      big_number-reads_back 2 kind [] k.fits,
-      k.least,
+      type_again f kind payload g k,
       parts.id,
       parts.pcp,
     ) refl
 
-link_with : (dst src : ℕ) (tag : Option Tag) (kind : ℕ) (payload : List ℕ) → IsTagOrNone tag → IsType kind
-    → link_of (spell_ethernet (record { dst = dst; src = src; tag = tag }) kind payload) ≡ record { vlan = vlan_of tag; pcp = pcp_of tag; kind = kind; payload = payload }
-unfolding spell_ethernet typed tagged_link link_of
-link_with dst src None kind payload h k =
-    let bytes = spell_ethernet (record { dst = dst; src = src; tag = None }) kind payload in
+link_with : (dst src : ℕ) (tag : Option Tag) (f : Framing) (kind : ℕ) (payload : List ℕ) → IsTagOrNone tag → IsFraming f → IsType kind
+    → link_of (spell_ethernet (record { dst = dst; src = src; tag = tag; framing = f }) kind payload) ≡ record { vlan = vlan_of tag; pcp = pcp_of tag; kind = kind; payload = payload }
+unfolding spell_ethernet link_of
+link_with dst src None f kind payload h g k =
+    let bytes = spell_ethernet (record { dst = dst; src = src; tag = None; framing = f }) kind payload in
     rw (
-      le-leb 14 (length bytes) (omega arith),
-      big_number-reads_back 2 kind [] k.fits,
-      k.no_tag,
-      k.least,
+      le-leb 14 (length bytes) (omega (arith, type_is_there f kind payload)),
+      type_is_no_tag f kind payload g k,
+      type_again f kind payload g k,
     ) refl
-link_with dst src (Some t) kind payload h k =
-    let bytes = spell_ethernet (record { dst = dst; src = src; tag = Some t }) kind payload in
-    rw (le-leb 14 (length bytes) (omega arith)) (tagged_again t kind payload h k)
+link_with dst src (Some t) f kind payload h g k =
+    let bytes = spell_ethernet (record { dst = dst; src = src; tag = Some t; framing = f }) kind payload in
+    rw (le-leb 14 (length bytes) (omega arith)) (tagged_again t f kind payload h g k)
 
 link_again : (e : Ethernet) (kind : ℕ) (payload : List ℕ) → IsEthernet e → IsType kind → link_of (spell_ethernet e kind payload) ≡ record { vlan = vlan_of e.tag; pcp = pcp_of e.tag; kind = kind; payload = payload }
-link_again e kind payload h k = link_with e.dst e.src e.tag kind payload h.tag k
+link_again e kind payload h k = link_with e.dst e.src e.tag e.framing kind payload h.tag h.framing k
 
 dst_again : (e : Ethernet) (kind : ℕ) (payload : List ℕ) → IsEthernet e → field_at (spell_ethernet e kind payload) 0 6 ≡ e.dst
 unfolding spell_ethernet
@@ -96,45 +118,71 @@ header_again in_port e kind payload network h k n =
 
 -- ---- IPv4
 
--- two ports of TCP or of UDP
-ports_transport : (p : Ipv4) (proto src dst : ℕ) (rest : List ℕ) → IsIpv4 p → (src < 2 ^ 16) × (dst < 2 ^ 16) → p.proto ≡ proto → (proto == 6 || proto == 17) ≡ true
-    → transport_of (spell_ipv4 p 0 ((big_bytes 2 src ++ big_bytes 2 dst) ++ rest)) ≡ record { tp_src = src; tp_dst = dst }
-unfolding spell_ipv4 transport_of transport_at
-ports_transport p proto src dst rest h fits e test =
-    let packet = spell_ipv4 p 0 ((big_bytes 2 src ++ big_bytes 2 dst) ++ rest) in
-    let flags = h.flags in
-    let whole : (p.flags * 0x4000 + 0) % 0x4000 ≡ 0 = omega arith in
-    let is : slice_index packet 9 ≡ proto = mod-eq_of_lt h.proto ∙ e in
+ipv4_length : (p : Ipv4) (fragment : ℕ) (behind : List ℕ) → IsIpv4 p → header_length (spell_ipv4 p fragment behind) ≡ 20 + length p.options
+unfolding spell_ipv4
+ipv4_length p fragment behind h =
+    let a = h.words in
+    let b = h.most in
+    omega arith
+
+same_test : (n a b : ℕ) (t : Bool) → leb a b ≡ t → leb (n + a) (n + b) ≡ t
+same_test n a b true e = le-leb (n + a) (n + b) (omega (arith, leb-true a b e))
+same_test n a b false e = lt-leb (n + a) (n + b) (omega (arith, leb-false a b e))
+
+byte_behind : (front behind : List ℕ) → slice_index (front ++ behind) (length front) ≡ slice_index behind 0
+byte_behind [] behind = refl
+byte_behind (b ∷ front) behind = byte_behind front behind
+
+-- the transport fields behind a part of a packet
+transport_behind : (proto : ℕ) (front behind : List ℕ) → transport_at proto (front ++ behind) (length front) ≡ transport_at proto behind 0
+unfolding transport_at
+transport_behind proto front behind =
+    let bytes = front ++ behind in
+    let size : length bytes ≡ length front + length behind = length-append front behind in
+    let four : leb (length front + 4) (length bytes) ≡ leb 4 (length behind) = ap (leb (length front + 4)) size ∙ same_test (length front) 4 (length behind) _ refl in
+    let two : leb (length front + 2) (length bytes) ≡ leb 2 (length behind) = ap (leb (length front + 2)) size ∙ same_test (length front) 2 (length behind) _ refl in
     rw (
-      big_number-reads_back 2 (p.flags * 0x4000 + 0) [] (omega arith),
-      whole,
-      is,
+      four,
+      two,
+      drop-append_seam front behind,
+      drop-append-add front behind 2,
+      byte_behind front behind,
+      get_or-append-add front behind 1 0,
+    ) refl
+
+ports_transport : (proto src dst : ℕ) (rest : List ℕ) → (src < 2 ^ 16) × (dst < 2 ^ 16) → (proto == 6 || proto == 17) ≡ true
+    → transport_at proto ((big_bytes 2 src ++ big_bytes 2 dst) ++ rest) 0 ≡ record { tp_src = src; tp_dst = dst }
+unfolding transport_at
+ports_transport proto src dst rest fits test =
+    rw (
       test,
-      le-leb 24 (length packet) (omega arith),
+      le-leb 4 (length ((big_bytes 2 src ++ big_bytes 2 dst) ++ rest)) (omega arith),
       big_number-reads_back 2 src [] fits.0,
       big_number-reads_back 2 dst [] fits.1,
     ) refl
 
-whole_transport : (p : Ipv4) (s : Segment) (rest : List ℕ) → IsIpv4 p → IsSegment s → p.proto ≡ proto_of s
-    → transport_of (spell_ipv4 p 0 (spell_segment s ++ rest)) ≡ record { tp_src = first_of s; tp_dst = second_of s }
-unfolding spell_ipv4 transport_of transport_at
-whole_transport p (Segment.Tcp src dst) rest h fits e = ports_transport p 6 src dst rest h fits e refl
-whole_transport p (Segment.Udp src dst) rest h fits e = ports_transport p 17 src dst rest h fits e refl
-whole_transport p (Segment.Icmp kind code) rest h fits e =
-    let packet = spell_ipv4 p 0 (spell_segment (Segment.Icmp kind code) ++ rest) in
+segment_transport : (s : Segment) (rest : List ℕ) → IsSegment s → transport_at (proto_of s) (spell_segment s ++ rest) 0 ≡ record { tp_src = first_of s; tp_dst = second_of s }
+unfolding transport_at
+segment_transport (Segment.Tcp src dst) rest fits = ports_transport 6 src dst rest fits refl
+segment_transport (Segment.Udp src dst) rest fits = ports_transport 17 src dst rest fits refl
+segment_transport (Segment.Icmp kind code) rest fits =
+    let first : kind % 256 ≡ kind = mod-eq_of_lt fits.0 in
+    let second : code % 256 ≡ code = mod-eq_of_lt fits.1 in
+    rw (le-leb 2 (length (spell_segment (Segment.Icmp kind code) ++ rest)) (omega arith), first, second) refl
+
+whole_transport : (p : Ipv4) (behind : List ℕ) → IsIpv4 p → transport_of (spell_ipv4 p 0 behind) ≡ transport_at p.proto behind 0
+unfolding spell_ipv4 transport_of
+whole_transport p behind h =
+    let packet = spell_ipv4 p 0 behind in
     let flags = h.flags in
     let whole : (p.flags * 0x4000 + 0) % 0x4000 ≡ 0 = omega arith in
-    let proto : slice_index packet 9 ≡ 1 = mod-eq_of_lt h.proto ∙ e in
-    let first : slice_index packet 20 ≡ kind = mod-eq_of_lt fits.0 in
-    let second : slice_index packet 21 ≡ code = mod-eq_of_lt fits.1 in
+    let proto : slice_index packet 9 ≡ p.proto = mod-eq_of_lt h.proto in
+    let size : 20 + length p.options ≡ length (spell_ipv4_header p 0) = omega arith in
     rw (
       big_number-reads_back 2 (p.flags * 0x4000 + 0) [] (omega arith),
       whole,
-      proto,
-      le-leb 22 (length packet) (omega arith),
-      first,
-      second,
-    ) refl
+      ipv4_length p 0 behind h,
+    ) (ap (λ n. transport_at n packet (20 + length p.options)) proto ∙ ap (transport_at p.proto packet) size ∙ transport_behind p.proto (spell_ipv4_header p 0) behind)
 
 not_zero : (n : ℕ) → 0 < n → (n == 0) ≡ false
 not_zero n h = ne_eqb n 0 (λ e. omega (arith, h, e))
@@ -165,6 +213,8 @@ ipv4_again p fragment behind t h e =
     rw (
       e,
       le-leb 20 (length packet) (omega arith),
+      ipv4_length p fragment behind h,
+      le-leb 20 (20 + length p.options) (omega arith),
       byte,
       service,
       proto,
@@ -183,7 +233,7 @@ pub whole_ipv4 : (in_port : ℕ) (e : Ethernet) (p : Ipv4) (s : Segment) (rest :
     → header_of_packet in_port (spell_ethernet e 0x0800 (spell_ipv4 p 0 (spell_segment s ++ rest))) ≡ ipv4_header in_port e p (first_of s) (second_of s)
 whole_ipv4 in_port e p s rest h ip fits proto =
     let payload = spell_ipv4 p 0 (spell_segment s ++ rest) in
-    header_again in_port e 0x0800 payload _ h ipv4_type (ipv4_network payload ∙ ipv4_again p 0 (spell_segment s ++ rest) _ ip (whole_transport p s rest ip fits proto))
+    header_again in_port e 0x0800 payload _ h ipv4_type (ipv4_network payload ∙ ipv4_again p 0 (spell_segment s ++ rest) _ ip (whole_transport p (spell_segment s ++ rest) ip ∙ ap (λ n. transport_at n (spell_segment s ++ rest) 0) proto ∙ segment_transport s rest fits))
 
 pub fragment_ipv4 : (in_port : ℕ) (e : Ethernet) (p : Ipv4) (fragment : ℕ) (behind : List ℕ) → IsEthernet e → IsIpv4 p → 0 < fragment → fragment < 0x4000
     → header_of_packet in_port (spell_ethernet e 0x0800 (spell_ipv4 p fragment behind)) ≡ ipv4_header in_port e p 0 0

@@ -1,5 +1,5 @@
 -- Packets as their fields spell them, layer by layer, and the header of each (OpenFlow 1.0.0, section 3.4 and table 3).
-use Rattle.std.specs.Prelude.{ℕ, ◌+◌, ◌*◌, ◌%◌, ◌^◌, ◌<◌, List, [], ◌++◌, Option, Some, None, ⊤}
+use Rattle.std.specs.Prelude.{◌≡◌, ℕ, ◌+◌, ◌*◌, ◌/◌, ◌%◌, ◌^◌, ◌<◌, ◌≤◌, List, [], ◌++◌, length, Option, Some, None, ⊤}
 use Rattle.byteorder.specs.Endian.{big_bytes}
 use Rattle.of10_model.specs.Header.{Header}
 
@@ -22,26 +22,47 @@ abbrev pub IsTagOrNone : Option Tag → Type 0
 IsTagOrNone None = ⊤
 IsTagOrNone (Some t) = IsTag t
 
--- the two addresses of a packet, and its tag where it has one
+-- how a packet names its type: in place (Ethernet II), or behind a length, in an LLC/SNAP header (IEEE 802.3)
+pub data Framing : Type 0 where
+  EthernetTwo : Framing
+  Snap : ℕ → Framing
+
+-- a length is below 0x0600, the least type
+abbrev pub IsFraming : Framing → Type 0
+IsFraming EthernetTwo = ⊤
+IsFraming (Snap size) = size < 0x0600
+
+-- the two addresses of a packet, its tag where it has one, and how it names its type
 pub record Ethernet : Type 0 where
   pub dst : ℕ
   pub src : ℕ
   pub tag : Option Tag
+  pub framing : Framing
 
--- the addresses have 48 bits
+-- the addresses have 48 bits, and the tag and a length fit their fields
 pub record IsEthernet (e : Ethernet) : Type 0 where
   pub dst : e.dst < 2 ^ 48
   pub src : e.src < 2 ^ 48
   pub tag : IsTagOrNone e.tag
+  pub framing : IsFraming e.framing
 
 -- a tag is type 0x8100 and two bytes
 abbrev pub spell_tag : Option Tag → List ℕ
 spell_tag None = []
 spell_tag (Some t) = big_bytes 2 0x8100 ++ big_bytes 2 (t.pcp * 0x2000 + t.mark * 0x1000 + t.id)
 
--- a packet of Ethernet II: both addresses, the tag, the type and the payload
+-- an LLC header, of both access points 0xaa and control 3, and a SNAP header, of organization 0 and the type
+abbrev pub spell_snap : ℕ → List ℕ
+spell_snap kind = big_bytes 1 0xaa ++ big_bytes 1 0xaa ++ big_bytes 1 3 ++ big_bytes 3 0 ++ big_bytes 2 kind
+
+-- the type alone, or a length and the header with the type
+abbrev pub spell_type : Framing → ℕ → List ℕ
+spell_type EthernetTwo kind = big_bytes 2 kind
+spell_type (Snap size) kind = big_bytes 2 size ++ spell_snap kind
+
+-- a packet: both addresses, the tag, the type and the payload
 unfoldable pub spell_ethernet : Ethernet → ℕ → List ℕ → List ℕ
-spell_ethernet e kind payload = big_bytes 6 e.dst ++ big_bytes 6 e.src ++ spell_tag e.tag ++ big_bytes 2 kind ++ payload
+spell_ethernet e kind payload = big_bytes 6 e.dst ++ big_bytes 6 e.src ++ spell_tag e.tag ++ spell_type e.framing kind ++ payload
 
 -- without a tag the VLAN is 0xffff (section 5.2.3)
 abbrev pub vlan_of : Option Tag → ℕ
@@ -91,8 +112,8 @@ spell_segment (Tcp src dst) = big_bytes 2 src ++ big_bytes 2 dst
 spell_segment (Udp src dst) = big_bytes 2 src ++ big_bytes 2 dst
 spell_segment (Icmp kind code) = big_bytes 1 kind ++ big_bytes 1 code
 
--- an IPv4 header without options: six bits of service and two that aren't matched, two flags that say nothing of fragments,
--- the protocol, the addresses, and four fields that aren't read
+-- an IPv4 header: six bits of service and two that aren't matched, two flags that say nothing of fragments, the protocol,
+-- the addresses, the bytes of the options, and four fields that aren't read, the total length among them
 pub record Ipv4 : Type 0 where
   pub service : ℕ
   pub congestion : ℕ
@@ -104,8 +125,9 @@ pub record Ipv4 : Type 0 where
   pub checksum : ℕ
   pub src : ℕ
   pub dst : ℕ
+  pub options : List ℕ
 
--- the fields that are read lie in their bits
+-- the fields that are read lie in their bits, and the options are whole words of four bytes, ten words at most
 pub record IsIpv4 (p : Ipv4) : Type 0 where
   pub service : p.service < 64
   pub congestion : p.congestion < 4
@@ -113,14 +135,25 @@ pub record IsIpv4 (p : Ipv4) : Type 0 where
   pub proto : p.proto < 256
   pub src : p.src < 2 ^ 32
   pub dst : p.dst < 2 ^ 32
+  pub words : length p.options % 4 ≡ 0
+  pub most : length p.options ≤ 40
 
--- the 20 bytes of the header and what is behind them; the fragment is the flag for more and the offset, 14 bits
-unfoldable pub spell_ipv4 : Ipv4 → ℕ → List ℕ → List ℕ
-spell_ipv4 p fragment behind =
-    big_bytes 1 0x45 ++ big_bytes 1 (p.service * 4 + p.congestion) ++ big_bytes 2 p.total_len
+-- how many words of four bytes the header has: five, and those of the options
+abbrev pub header_words : Ipv4 → ℕ
+header_words p = 5 + length p.options / 4
+
+-- 20 bytes, of which the first has the version and the header's length in words, and then the options; the fragment is the
+-- flag for more and the offset, 14 bits
+abbrev pub spell_ipv4_header : Ipv4 → ℕ → List ℕ
+spell_ipv4_header p fragment =
+    big_bytes 1 (4 * 16 + header_words p) ++ big_bytes 1 (p.service * 4 + p.congestion) ++ big_bytes 2 p.total_len
     ++ big_bytes 2 p.ident ++ big_bytes 2 (p.flags * 0x4000 + fragment)
     ++ big_bytes 1 p.ttl ++ big_bytes 1 p.proto ++ big_bytes 2 p.checksum
-    ++ big_bytes 4 p.src ++ big_bytes 4 p.dst ++ behind
+    ++ big_bytes 4 p.src ++ big_bytes 4 p.dst ++ p.options
+
+-- the header and what is behind it
+unfoldable pub spell_ipv4 : Ipv4 → ℕ → List ℕ → List ℕ
+spell_ipv4 p fragment behind = spell_ipv4_header p fragment ++ behind
 
 -- the header of an IPv4 packet with two transport fields
 abbrev pub ipv4_header : ℕ → Ethernet → Ipv4 → ℕ → ℕ → Header
