@@ -8,6 +8,7 @@ pub mod Steps
 pub mod AddressRanges
 pub mod SoundPatterns
 pub mod Sound
+pub mod Keys
 pub mod Faults
 pub mod Refusals
 pub mod Appending

@@ -33,9 +33,11 @@ pub fn named_key_is_the_least_unknown()
     ensures unknown { (this : SectionView) (key : List ℕ) → (known_keys this ≡ Err (UnknownKey (place_of this key))) ↔ IsLeastUnknown this.part this.members key }
 {}
 
-/// A fault that the table of a slice or of a rule has stands at a key of this table, with its index; or,
-/// of a rule, at the rule's number.
+/// A fault that the table of a slice or of a rule has names this table, with its index, and a key: one
+/// that such a table may have and this one lacks, one that it may have and has, or one that it has and
+/// may not have. Or, of a rule, it has the rule's number: with a field whose key is in the table, or for a
+/// slice where the table has `write` or `read`.
 pub fn fault_stands_in_its_table()
-    ensures slice { (index : ℕ) (ms : Members) (fault : ReadFault) → slice_of index (table ms) ≡ Err fault → StandsIn part.Slice index fault }
-    ensures rule { (slices : List Slice) (index : ℕ) (ms : Members) (fault : ReadFault) → rule_of slices index (table ms) ≡ Err fault → StandsIn part.Rule index fault }
+    ensures slice { (index : ℕ) (ms : Members) (fault : ReadFault) → slice_of index (table ms) ≡ Err fault → StandsIn part.Slice index ms fault }
+    ensures rule { (slices : List Slice) (index : ℕ) (ms : Members) (fault : ReadFault) → rule_of slices index (table ms) ≡ Err fault → StandsIn part.Rule index ms fault }
 {}
