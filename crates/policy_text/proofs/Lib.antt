@@ -19,3 +19,5 @@ pub mod PrintedReaders
 pub mod PrintedTables
 pub mod PrintedPolicy
 pub mod Named
+pub mod WrittenHex
+pub mod WrittenDecimal

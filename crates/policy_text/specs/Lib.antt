@@ -7,3 +7,4 @@ pub mod Documents
 pub mod Views
 pub mod Printing
 pub mod Firsts
+pub mod Written

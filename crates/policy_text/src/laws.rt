@@ -11,6 +11,7 @@ ghost use Rattle.policy_text.specs.Firsts.{AreReadAs, IsFirstRefused, StandsIn, 
 ghost use Rattle.policy_text.specs.Reading.{SectionView, place_of, known_keys};
 ghost use Rattle.policy_text.specs.Rules.{rule_of, rules_from};
 ghost use Rattle.policy_text.specs.Slices.{slice_of, slices_from};
+ghost use Rattle.policy_text.specs.Written.{DatapathIdsAreAsWritten, HardwareAddressesAreAsWritten, PrefixesAreAsWritten};
 
 /// Slices are read exactly where each item is one, in order; else the fault is that of the first item
 /// that is none, read at its own index.
@@ -40,4 +41,13 @@ pub fn named_key_is_the_least_unknown()
 pub fn fault_stands_in_its_table()
     ensures slice { (index : ℕ) (ms : Members) (fault : ReadFault) → slice_of index (table ms) ≡ Err fault → StandsIn part.Slice index ms fault }
     ensures rule { (slices : List Slice) (index : ℕ) (ms : Members) (fault : ReadFault) → rule_of slices index (table ms) ≡ Err fault → StandsIn part.Rule index ms fault }
+{}
+
+/// Network addresses, hardware addresses and datapath ids are read exactly where the text is the one that
+/// is printed for an address with its leading bits, or for a number: no leading zero, no digit in upper
+/// case, and nothing before or behind. All 32 leading bits may be left out.
+pub fn addresses_are_as_written()
+    ensures prefix { PrefixesAreAsWritten }
+    ensures hardware { HardwareAddressesAreAsWritten }
+    ensures datapath { DatapathIdsAreAsWritten }
 {}
