@@ -21,3 +21,4 @@ pub mod PrintedPolicy
 pub mod Named
 pub mod WrittenHex
 pub mod WrittenDecimal
+pub mod Readers

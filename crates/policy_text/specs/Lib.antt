@@ -8,3 +8,4 @@ pub mod Views
 pub mod Printing
 pub mod Firsts
 pub mod Written
+pub mod Readers
