@@ -2,7 +2,6 @@
 use Rattle.std.proofs.Common.{ℕ, List, [], ◌∷◌, Bool, true, false, cond, Option, Some, None, IfSome, is_some, ◌≡◌, ◌⊎◌, inl, inr, refl, Result, Ok, Err, IfErr, codes}
 use Rattle.toml.specs.Data.{Data, Members, get_member}
 use Rattle.flowspace.specs.declared.fault.Field.{Field}
-use Rattle.flowspace.specs.declared.fault.Field.TheVariants.{Read}
 use Rattle.flowspace.specs.declared.fault.PolicyFault.TheVariants.{UnknownSlice}
 use Rattle.flowspace.specs.declared.slices.Slice.{Slice}
 use Rattle.policy_text.specs.declared.fault.Place.{Place}
@@ -141,9 +140,9 @@ no_improper_has : (P : ReadFault → Type 0) (index : ℕ) (ms : Members) (o : O
 no_improper_has P index ms None h there = tt
 no_improper_has P index ms (Some field) h there = h.improper field there
 
-either_there : (ms : Members) (different : Bool) (o : Option Field) → (different ≡ false → IsKey ms (codes "read")) → IfSome o (λ field. IsKey ms (field_key field)) → IfSome (cond different o (Some Read)) (λ field. IsKey ms (field_key field))
-either_there ms true o read fields = fields
-either_there ms false o read fields = read refl
+either_there : (ms : Members) (different : Bool) (o : Option Field) (other : Field) → (different ≡ false → IsKey ms (field_key other)) → IfSome o (λ field. IsKey ms (field_key field)) → IfSome (cond different o (Some other)) (λ field. IsKey ms (field_key field))
+either_there ms true o other same fields = fields
+either_there ms false o other same fields = same refl
 
 from_has : (P : ReadFault → Type 0) (slices : List Slice) (index : ℕ) (ms : Members) (t : RuleText) → OfRule P index ms → TextThere ms t → Has P (rule_from slices index t)
 unfolding rule_from
@@ -151,7 +150,7 @@ from_has P slices index ms t h there =
     bind_has P (writer_of slices index t.write) _ (writer_has P slices index ms t.write h there.write) (λ _.
     bind_has_after P (slots_of slices index t.read) _ (slots_has P slices index ms t.read h there.read) (λ slots e.
     bind_has P (proper index slots t.pattern) _
-    (no_improper_has P index ms _ h (either_there ms (are_different slots) (first_improper t.pattern) (λ same. same_slots_there slices index t.read slots (IsKey ms (codes "read")) e same there.read) (improper_there ms t.pattern there.pattern)))
+    (no_improper_has P index ms _ h (either_there ms (are_different slots) (first_improper t.pattern) _ (λ same. same_slots_there slices index t.read slots (IsKey ms (codes "read")) e same there.read) (improper_there ms t.pattern there.pattern)))
     (λ _. tt)))
 
 pub rule_has : (P : ReadFault → Type 0) (slices : List Slice) (index : ℕ) (ms : Members) → OfKeys P (rule_section index ms) → OfRule P index ms → Has P (rule_in slices (rule_section index ms))
