@@ -11,11 +11,11 @@ use Rattle.of10_model.specs.Meet.{◌>>=◌}
 use Rattle.policy_text.specs.Addresses.{hex_digit, pair_at, has_colons, six_pairs, digits_at, octet_of, octet_at, after, dotted_at, bits_of, bits_after, leading_bits, prefix}
 use Rattle.policy_text.specs.Reading.{numeral, addresses}
 
-bind_some : {A B : Type 0} (o : Option A) (f : A → Option B) (y : B) → (o >>= f) ≡ Some y → (x : A) × (o ≡ Some x) × (f x ≡ Some y)
+pub bind_some : {A B : Type 0} (o : Option A) (f : A → Option B) (y : B) → (o >>= f) ≡ Some y → (x : A) × (o ≡ Some x) × (f x ≡ Some y)
 bind_some None f y e = absurd cc
 bind_some (Some x) f y e = (x, refl, e)
 
-map_some : {A B : Type 0} (f : A → B) (o : Option A) (y : B) → option_map f o ≡ Some y → (x : A) × (o ≡ Some x) × (f x ≡ y)
+pub map_some : {A B : Type 0} (f : A → B) (o : Option A) (y : B) → option_map f o ≡ Some y → (x : A) × (o ≡ Some x) × (f x ≡ y)
 map_some f None y e = absurd cc
 map_some f (Some x) y e = (x, refl, cc)
 
@@ -26,7 +26,7 @@ digit_cases true high c n is_low is_high e = let same : c - 48 ≡ n = cc in ome
 digit_cases false true c n is_low is_high e = let same : c - 87 ≡ n = cc in omega (arith, is_high refl, same)
 digit_cases false false c n is_low is_high e = absurd cc
 
-hex_digit_below : (c n : ℕ) → hex_digit c ≡ Some n → n < 16
+pub hex_digit_below : (c n : ℕ) → hex_digit c ≡ Some n → n < 16
 hex_digit_below c n e =
     digit_cases (nat_le 48 c && nat_le c 57) (nat_le 97 c && nat_le c 102) c n
     (λ h. leb-true _ _ (and_parts (nat_le 48 c) (nat_le c 57) h).1)
@@ -66,14 +66,14 @@ hardware_below (table x) n e = absurd cc
 
 -- ---- decimal
 
-octet_below : (text : List ℕ) (n : ℕ × List ℕ) → octet_at text ≡ Some n → n.0 ≤ 255
+pub octet_below : (text : List ℕ) (n : ℕ × List ℕ) → octet_at text ≡ Some n → n.0 ≤ 255
 unfolding octet_at
 octet_below text n e =
     let a = bind_some (digits_at text) octet_of n e in
     let k = cond_some (nat_le a.0.0 255) a.0 n a.2 in
     subst (λ (m : ℕ × List ℕ). m.0 ≤ 255) k.1 (leb-true _ _ k.0)
 
-dotted_below : (text : List ℕ) (n : ℕ × List ℕ) → dotted_at text ≡ Some n → n.0 < 2 ^ 32
+pub dotted_below : (text : List ℕ) (n : ℕ × List ℕ) → dotted_at text ≡ Some n → n.0 < 2 ^ 32
 unfolding dotted_at
 dotted_below text n e =
     let a = bind_some (octet_at text) _ n e in
@@ -95,7 +95,7 @@ bits_of_range n bits e =
     let inner = and_parts (nat_le 1 n.0) (nat_le n.0 32) outer.0 in
     subst (λ m. (1 ≤ m) × (m ≤ 32)) k.1 (leb-true _ _ inner.0, leb-true _ _ inner.1)
 
-bits_after_range : (text : List ℕ) (bits : ℕ) → bits_after text ≡ Some bits → (1 ≤ bits) × (bits ≤ 32)
+pub bits_after_range : (text : List ℕ) (bits : ℕ) → bits_after text ≡ Some bits → (1 ≤ bits) × (bits ≤ 32)
 bits_after_range [] bits e = let same : 32 ≡ bits = cc in subst (λ m. (1 ≤ m) × (m ≤ 32)) same (omega arith, omega arith)
 bits_after_range (c ∷ rest) bits e =
     let a = bind_some (after 47 (c ∷ rest) >>= octet_at) bits_of bits e in

@@ -4,7 +4,6 @@ use Rattle.std.proofs.lemmas.Option.{same_Some}
 use Rattle.toml.specs.Data.{Data, table, Items, no_items, item, get_item, Members}
 use Rattle.flowspace.specs.declared.rules.Rule.{Rule}
 use Rattle.flowspace.specs.declared.slices.Slice.{Slice}
-use Rattle.policy_text.specs.declared.fault.Part.{Part}
 use Rattle.policy_text.specs.declared.fault.Part.TheVariants as part
 use Rattle.policy_text.specs.declared.fault.ReadFault.{ReadFault}
 use Rattle.policy_text.specs.Firsts.{AreReadAs, IsFirstRefused, StandsIn}
@@ -132,26 +131,30 @@ rules_refused slices items fault =
 
 -- ---- where a fault stands
 
-stands : (kind : Part) (index : ℕ) (ms : Members) → OfKeys (StandsIn kind index) (record { part = kind; index = index; members = ms })
-stands kind index ms = record {
-  missing = λ key. (refl, refl);
-  bad_value = λ key. (refl, refl);
-  unknown = λ key. (refl, refl);
+slice_keys : (index : ℕ) (ms : Members) → OfKeys (StandsIn part.Slice index ms) (slice_section index ms)
+slice_keys index ms = record {
+  known = λ key known. record { missing = λ not_there. (refl, refl, known, not_there); bad_value = λ there. (refl, refl, known, there) };
+  unknown = λ key unknown there. (refl, refl, unknown, there);
 }
 
-stands_by_number : (index : ℕ) → OfRule (StandsIn part.Rule index) index
-stands_by_number index = record {
-  no_slice = (refl, refl);
-  improper = λ field. (refl, refl);
+rule_keys : (index : ℕ) (ms : Members) → OfKeys (StandsIn part.Rule index ms) (rule_section index ms)
+rule_keys index ms = record {
+  known = λ key known. record { missing = λ not_there. (refl, refl, known, not_there); bad_value = λ there. (refl, refl, known, there) };
+  unknown = λ key unknown there. (refl, refl, unknown, there);
+}
+
+by_number : (index : ℕ) (ms : Members) → OfRule (StandsIn part.Rule index ms) index ms
+by_number index ms = record {
+  no_slice = λ there. (refl, refl, there);
+  improper = λ field there. (refl, refl, there);
 }
 
 of_fault : (P : ReadFault → Type 0) {A : Type 0} (r : Result A ReadFault) (fault : ReadFault) → Has P r → r ≡ Err fault → P fault
 of_fault P r fault h e = rw e at h
 
-pub slice_stands : (index : ℕ) (ms : Members) (fault : ReadFault) → slice_of index (table ms) ≡ Err fault → StandsIn part.Slice index fault
-slice_stands index ms fault e =
-    of_fault (StandsIn part.Slice index) (slice_of index (table ms)) fault (slice_has (StandsIn part.Slice index) (slice_section index ms) (stands part.Slice index ms)) e
+pub slice_stands : (index : ℕ) (ms : Members) (fault : ReadFault) → slice_of index (table ms) ≡ Err fault → StandsIn part.Slice index ms fault
+slice_stands index ms fault e = of_fault (StandsIn part.Slice index ms) (slice_of index (table ms)) fault (slice_has (StandsIn part.Slice index ms) index ms (slice_keys index ms)) e
 
-pub rule_stands : (slices : List Slice) (index : ℕ) (ms : Members) (fault : ReadFault) → rule_of slices index (table ms) ≡ Err fault → StandsIn part.Rule index fault
+pub rule_stands : (slices : List Slice) (index : ℕ) (ms : Members) (fault : ReadFault) → rule_of slices index (table ms) ≡ Err fault → StandsIn part.Rule index ms fault
 rule_stands slices index ms fault e =
-    of_fault (StandsIn part.Rule index) (rule_of slices index (table ms)) fault (rule_has (StandsIn part.Rule index) slices (rule_section index ms) (stands part.Rule index ms) (stands_by_number index)) e
+    of_fault (StandsIn part.Rule index ms) (rule_of slices index (table ms)) fault (rule_has (StandsIn part.Rule index ms) slices index ms (rule_keys index ms) (by_number index ms)) e

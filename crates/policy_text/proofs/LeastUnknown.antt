@@ -34,7 +34,7 @@ same : (a b : List ℕ) → below a b ≡ false → below b a ≡ false → a �
 same a b h k = same_of a b (slice_cmp nat_cmp a b) (slice_cmp nat_cmp b a) refl (nat_list_cmp_total.antisymm b a) h k
 
 -- what is named where there is a key
-abbrev IsNamed : Part → Members → Option (List ℕ) → Type 0
+abbrev pub IsNamed : Part → Members → Option (List ℕ) → Type 0
 IsNamed part ms None = AreKnown part ms
 IsNamed part ms (Some key) = IsLeastUnknown part ms key
 
@@ -82,7 +82,7 @@ named_unknown part key d rest (Some least_key) unknown n =
       | inr not_less ↦ rw not_less (in_front part key d rest unknown (λ other there other_unknown. ranks.chain other least_key key (n.least other there other_unknown) not_less))
     ]
 
-named : (part : Part) (ms : Members) → IsNamed part ms (least (unknown_keys part ms))
+pub named : (part : Part) (ms : Members) → IsNamed part ms (least (unknown_keys part ms))
 named part no_members = λ key there. absurd there
 named part (member key d rest) =
     elim (cases_Bool (is_known part key)) [

@@ -8,6 +8,7 @@ pub mod Steps
 pub mod AddressRanges
 pub mod SoundPatterns
 pub mod Sound
+pub mod Keys
 pub mod Faults
 pub mod Refusals
 pub mod Appending
@@ -18,3 +19,6 @@ pub mod PrintedReaders
 pub mod PrintedTables
 pub mod PrintedPolicy
 pub mod Named
+pub mod WrittenHex
+pub mod WrittenDecimal
+pub mod Readers

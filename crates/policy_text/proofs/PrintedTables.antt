@@ -1,5 +1,5 @@
 -- The tables that are printed for slices and rules are read as them.
-use Rattle.std.proofs.Common.{◌≡◌, ◌≢◌, inl, inr, ℕ, suc, ◌%◌, ◌^◌, ◌<◌, ◌≤◌, ◌==◌, Bool, true, false, not, ◌&&◌, cond, le-leb, eq-eqb, eqb-true, IsTrue, List, [], ◌∷◌, ◌++◌, length, map, get_or, AllPairs, Option, Some, None, IsSome, IfSome, is_some, option_map, option_and_then, unwrap_or, Result, Ok, codes, refl, sym, ap, ◌∙◌, arith}
+use Rattle.std.proofs.Common.{◌≡◌, ◌≢◌, inl, inr, ℕ, suc, ◌%◌, ◌^◌, ◌<◌, ◌≤◌, ◌==◌, Bool, true, false, not, ◌&&◌, le-leb, eq-eqb, eqb-true, IsTrue, List, [], ◌∷◌, ◌++◌, length, map, get_or, AllPairs, Option, Some, None, IsSome, IfSome, is_some, option_map, option_and_then, unwrap_or, Result, Ok, codes, refl, sym, ap, ◌∙◌, arith}
 use Rattle.std.specs.List.{AllByRecursion}
 use Rattle.std.proofs.lemmas.Bool.{cases_Bool}
 use Rattle.std.proofs.lemmas.List.Sums.{list_all-from_AllPass}
@@ -7,7 +7,6 @@ use Rattle.toml.specs.Data.{Data, string}
 use Rattle.toml.specs.View.{items_of}
 use Rattle.of10_model.specs.declared.pattern.Prefix.{Prefix}
 use Rattle.of10_model.specs.Normal.{has_vlan, has_network, has_service, has_ports, IsBelow, IsService, IsPrefix}
-use Rattle.flowspace.specs.declared.fault.Field.TheVariants.{Read}
 use Rattle.flowspace.specs.declared.rules.Rule.{Rule}
 use Rattle.flowspace.specs.declared.slices.Slice.{Slice}
 use Rattle.flowspace.specs.Rules.{IsInPort, IsVlan, IsPlainRule}
@@ -242,7 +241,7 @@ none_improper r plain =
     refl
 
 proper_back : (index : ℕ) (slots : List ℕ) (r : Rule) → IsPlainRule r → are_different slots ≡ true → proper index slots r.pattern ≡ Ok tt
-proper_back index slots r plain different = ap (no_improper index) (ap (λ b. cond b (first_improper r.pattern) (Some Read)) different ∙ none_improper r plain)
+proper_back index slots r plain different = rw different (ap (no_improper index) (none_improper r plain))
 
 -- ---- the rule
 

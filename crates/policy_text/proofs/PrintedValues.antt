@@ -122,10 +122,10 @@ unfolding octet_at
 octet_back n rest lt none = ap (λ o. o >>= octet_of) (digits_back n rest lt none) ∙ is_octet n rest (omega arith)
 
 -- a step of a reading
-steps : {A B : Type 0} (o : Option A) (f : A → Option B) (x : A) (r : Option B) → o ≡ Some x → f x ≡ r → (o >>= f) ≡ r
+pub steps : {A B : Type 0} (o : Option A) (f : A → Option B) (x : A) (r : Option B) → o ≡ Some x → f x ≡ r → (o >>= f) ≡ r
 steps o f x r e h = ap (λ q. q >>= f) e ∙ h
 
-dotted_back : (n : ℕ) (rest : List ℕ) → n < 2 ^ 32 → digit_at rest ≡ None → dotted_at (dotted_text n ++ rest) ≡ Some (n, rest)
+pub dotted_back : (n : ℕ) (rest : List ℕ) → n < 2 ^ 32 → digit_at rest ≡ None → dotted_at (dotted_text n ++ rest) ≡ Some (n, rest)
 unfolding dotted_at
 dotted_back n rest lt none =
     let a = n / 2 ^ 24 % 256 in
@@ -147,7 +147,7 @@ dotted_back n rest lt none =
 cut_same : (value k : ℕ) → value % 2 ^ k ≡ 0 → value / 2 ^ k * 2 ^ k ≡ value
 cut_same value k low = let whole = mod-add-div' value (2 ^ k) in omega (arith, whole, low)
 
-bits_back : (bits : ℕ) → 1 ≤ bits → bits ≤ 32 → bits_after (47 ∷ decimal bits) ≡ Some bits
+pub bits_back : (bits : ℕ) → 1 ≤ bits → bits ≤ 32 → bits_after (47 ∷ decimal bits) ≡ Some bits
 bits_back bits some few =
     let read : octet_at (decimal bits) ≡ Some (bits, []) = ap octet_at (sym (append-nil (decimal bits))) ∙ octet_back bits [] (omega arith) refl in
     rw read (rw (le-leb 1 bits some, le-leb bits 32 few) refl)

@@ -1,6 +1,6 @@
 -- No reading is refused for want of memory.
 use Rattle.std.proofs.Common.{◌≢◌, ℕ, suc, List, Result, Ok, Err, IfErr, codes, unwrap_or}
-use Rattle.toml.specs.Data.{Data, string, integer, float, boolean, datetime, array, table, Items, no_items, item}
+use Rattle.toml.specs.Data.{Data, string, integer, float, boolean, datetime, array, table, Items, no_items, item, Members}
 use Rattle.flowspace.specs.declared.fault.PolicyFault.TheVariants as policy
 use Rattle.flowspace.specs.declared.slices.Slice.{Slice}
 use Rattle.flowspace.specs.Policies.{PolicyView}
@@ -11,7 +11,7 @@ use Rattle.policy_text.specs.Reading.{Gives, SectionView, known_keys, required, 
 use Rattle.policy_text.specs.Slices.{slice_section, slice_of, slices_from}
 use Rattle.policy_text.specs.Rules.{rule_section, rule_of, rules_from}
 use Rattle.policy_text.specs.Documents.{parts_in}
-use Rattle.policy_text.proofs.Faults.{Has, bind_has, OfKeys, required_has, optional_has, known_has, slice_has, OfRule, rule_has}
+use Rattle.policy_text.proofs.Faults.{Has, bind_has, OfKey, OfKeys, required_has, optional_has, known_has, slice_has, OfRule, rule_has}
 
 -- the fault isn't a refusal for want of memory
 abbrev IsOwn : ReadFault → Type 0
@@ -20,21 +20,26 @@ IsOwn fault = fault ≢ Refused policy.Memory
 abbrev HasOwn : {A : Type 0} → Result A ReadFault → Type 0
 HasOwn r = Has IsOwn r
 
-keys_own : (this : SectionView) → OfKeys IsOwn this
-keys_own this = record {
-  missing = λ key e. absurd cc;
-  bad_value = λ key e. absurd cc;
-  unknown = λ key e. absurd cc;
+key_own : (this : SectionView) (key : List ℕ) → OfKey IsOwn this key
+key_own this key = record {
+  missing = λ _ e. absurd cc;
+  bad_value = λ _ e. absurd cc;
 }
 
-rule_own : (index : ℕ) → OfRule IsOwn index
-rule_own index = record {
-  no_slice = λ e. absurd cc;
-  improper = λ field e. absurd cc;
+keys_own : (this : SectionView) → OfKeys IsOwn this
+keys_own this = record {
+  known = λ key _. key_own this key;
+  unknown = λ key _ _ e. absurd cc;
+}
+
+rule_own : (index : ℕ) (ms : Members) → OfRule IsOwn index ms
+rule_own index ms = record {
+  no_slice = λ _ e. absurd cc;
+  improper = λ field _ e. absurd cc;
 }
 
 slice_of_own : (index : ℕ) (d : Data) → HasOwn (slice_of index d)
-slice_of_own index (table ms) = slice_has IsOwn (slice_section index ms) (keys_own (slice_section index ms))
+slice_of_own index (table ms) = slice_has IsOwn index ms (keys_own (slice_section index ms))
 slice_of_own index (string x) = λ e. absurd cc
 slice_of_own index (integer x) = λ e. absurd cc
 slice_of_own index (float x) = λ e. absurd cc
@@ -47,7 +52,7 @@ slices_own index no_items = tt
 slices_own index (item d ds) = bind_has IsOwn (slice_of index d) _ (slice_of_own index d) (λ _. bind_has IsOwn (slices_from (suc index) ds) _ (slices_own (suc index) ds) (λ _. tt))
 
 rule_of_own : (slices : List Slice) (index : ℕ) (d : Data) → HasOwn (rule_of slices index d)
-rule_of_own slices index (table ms) = rule_has IsOwn slices (rule_section index ms) (keys_own (rule_section index ms)) (rule_own index)
+rule_of_own slices index (table ms) = rule_has IsOwn slices index ms (keys_own (rule_section index ms)) (rule_own index ms)
 rule_of_own slices index (string x) = λ e. absurd cc
 rule_of_own slices index (integer x) = λ e. absurd cc
 rule_of_own slices index (float x) = λ e. absurd cc
@@ -64,10 +69,10 @@ rules_own slices index (item d ds) = bind_has IsOwn (rule_of slices index d) _ (
 parts_own : (this : SectionView) → HasOwn (parts_in this)
 unfolding parts_in
 parts_own this =
-    bind_has IsOwn (required (number (Between 1 1)) this (codes "version")) _ (required_has IsOwn (number (Between 1 1)) this (codes "version") (keys_own this)) (λ _.
+    bind_has IsOwn (required (number (Between 1 1)) this (codes "version")) _ (required_has IsOwn (number (Between 1 1)) this (codes "version") (key_own this (codes "version"))) (λ _.
     bind_has IsOwn (known_keys this) _ (known_has IsOwn this (keys_own this)) (λ _.
-    bind_has IsOwn (required some_tables this (codes "slice")) _ (required_has IsOwn some_tables this (codes "slice") (keys_own this)) (λ items.
-    bind_has IsOwn (optional tables this (codes "rule")) _ (optional_has IsOwn tables this (codes "rule") (keys_own this)) (λ others.
+    bind_has IsOwn (required some_tables this (codes "slice")) _ (required_has IsOwn some_tables this (codes "slice") (key_own this (codes "slice"))) (λ items.
+    bind_has IsOwn (optional tables this (codes "rule")) _ (optional_has IsOwn tables this (codes "rule") (key_own this (codes "rule"))) (λ others.
     bind_has IsOwn (slices_from 0 items) _ (slices_own 0 items) (λ slices.
     bind_has IsOwn (rules_from slices 0 (unwrap_or others no_items)) _ (rules_own slices 0 (unwrap_or others no_items)) (λ _. tt))))))
 

@@ -9,7 +9,6 @@ use Rattle.toml.specs.Text.{has_items, are_tables}
 use Rattle.of10_model.specs.declared.pattern.Pattern.{Pattern}
 use Rattle.of10_model.specs.Normal.{has_vlan, has_network, has_service, has_ports}
 use Rattle.flowspace.specs.declared.fault.Field.{Field}
-use Rattle.flowspace.specs.declared.fault.Field.TheVariants.{Read}
 use Rattle.flowspace.specs.declared.rules.Rule.{Rule}
 use Rattle.flowspace.specs.declared.slices.Slice.{Slice}
 use Rattle.flowspace.specs.Policies.{PolicyView}
@@ -107,12 +106,12 @@ no_improper_is : (index : ℕ) (o : Option Field) (u : Unit {0}) → no_improper
 no_improper_is index None u e = refl
 no_improper_is index (Some field) u e = absurd cc
 
-proper_cases : (b : Bool) (o : Option Field) → cond b o (Some Read) ≡ None → o ≡ None
-proper_cases true o e = e
-proper_cases false o e = absurd cc
+proper_cases : (b : Bool) (o : Option Field) (field : Field) → cond b o (Some field) ≡ None → o ≡ None
+proper_cases true o field e = e
+proper_cases false o field e = absurd cc
 
 pub proper_is : (index : ℕ) (slots : List ℕ) (m : Pattern) (u : Unit {0}) → proper index slots m ≡ Ok u → first_improper m ≡ None
-proper_is index slots m u e = proper_cases (are_different slots) (first_improper m) (no_improper_is index _ u e)
+proper_is index slots m u e = proper_cases (are_different slots) (first_improper m) _ (no_improper_is index _ u e)
 
 pub text_sound : (this : SectionView) (t : RuleText) → rule_text_in this ≡ Ok t → IsWritten t.pattern
 unfolding rule_text_in

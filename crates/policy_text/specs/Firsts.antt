@@ -1,8 +1,10 @@
--- Which fault of a policy text is its first: of items in order, and of keys. All of it is this proxy's own rule.
-use Rattle.std.specs.Prelude.{◌≡◌, ◌⊎◌, ℕ, ◌<◌, true, false, List, slice_get, Option, Some, None, Result, Ok, Err, ⊤}
+-- Which fault of a policy text is its first, of items in order and of keys, and where it stands. All of it is this proxy's own rule.
+use Rattle.std.specs.Prelude.{◌≡◌, ◌⊎◌, ℕ, ◌<◌, true, false, List, slice_get, Option, Some, None, Result, Ok, Err, ⊤, codes}
 use Rattle.std.specs.Ordering.{nat_cmp, is_lt}
 use Rattle.std.specs.Cmp.Lexicographic.{slice_cmp}
 use Rattle.toml.specs.Data.{Data, Items, get_item, Members, no_members, member}
+use Rattle.flowspace.specs.declared.fault.Field.{Field}
+use Rattle.flowspace.specs.declared.fault.Field.TheVariants.{Read, InPort, DlSrc, DlDst, DlVlan, DlVlanPcp, DlType, NwTos, NwProto, NwSrc, NwDst, TpSrc, TpDst}
 use Rattle.flowspace.specs.declared.fault.PolicyFault.TheVariants.{UnknownSlice}
 use Rattle.policy_text.specs.declared.fault.Part.{Part}
 use Rattle.policy_text.specs.declared.fault.Part.TheVariants.{Rule}
@@ -31,16 +33,6 @@ pub record IsFirstRefused {A : Type 0} (read : ℕ → Data → Result A ReadFau
   pub fault_is : read index refused ≡ Err fault
   pub earlier : (i : ℕ) (d : Data) → i < index → get_item i items ≡ Some d → (x : A) × (read i d ≡ Ok x)
 
--- a fault that stands in the table of this part and index: at one of its keys, or, of a rule, by its number
-abbrev pub StandsIn : Part → ℕ → ReadFault → Type 0
-StandsIn part index NotToml = ⊥
-StandsIn part index (Missing at) = (at.part ≡ part) × (at.index ≡ index)
-StandsIn part index (BadValue at) = (at.part ≡ part) × (at.index ≡ index)
-StandsIn part index (UnknownKey at) = (at.part ≡ part) × (at.index ≡ index)
-StandsIn part index (Improper rule field) = (part ≡ Rule) × (rule ≡ index)
-StandsIn part index (Refused fault) = (part ≡ Rule) × (fault ≡ UnknownSlice index)
-StandsIn part index Memory = ⊥
-
 -- ---- keys
 
 -- a key of a table
@@ -57,3 +49,33 @@ pub record IsLeastUnknown (part : Part) (ms : Members) (key : List ℕ) : Type 0
   pub is_there : IsKey ms key
   pub unknown : is_known part key ≡ false
   pub least : (other : List ℕ) → IsKey ms other → is_known part other ≡ false → is_lt (slice_cmp nat_cmp other key) ≡ false
+
+-- ---- where a fault stands
+
+-- the key under which a rule's field stands
+abbrev pub field_key : Field → List ℕ
+field_key Read = codes "read"
+field_key InPort = codes "in_port"
+field_key DlSrc = codes "dl_src"
+field_key DlDst = codes "dl_dst"
+field_key DlVlan = codes "dl_vlan"
+field_key DlVlanPcp = codes "dl_vlan_pcp"
+field_key DlType = codes "dl_type"
+field_key NwTos = codes "nw_tos"
+field_key NwProto = codes "nw_proto"
+field_key NwSrc = codes "nw_src"
+field_key NwDst = codes "nw_dst"
+field_key TpSrc = codes "tp_src"
+field_key TpDst = codes "tp_dst"
+
+-- a fault that stands in the table of this part and index with these members. It names a key that such a table may have and this one
+-- lacks, one that it has, or one that it has and none may have; or, of a rule, its number: with a field whose key is there, or for a
+-- slice where there are names to write or to read.
+abbrev pub StandsIn : Part → ℕ → Members → ReadFault → Type 0
+StandsIn part index ms NotToml = ⊥
+StandsIn part index ms (Missing at) = (at.part ≡ part) × (at.index ≡ index) × (is_known part at.key ≡ true) × (IsKey ms at.key → ⊥)
+StandsIn part index ms (BadValue at) = (at.part ≡ part) × (at.index ≡ index) × (is_known part at.key ≡ true) × IsKey ms at.key
+StandsIn part index ms (UnknownKey at) = (at.part ≡ part) × (at.index ≡ index) × (is_known part at.key ≡ false) × IsKey ms at.key
+StandsIn part index ms (Improper rule field) = (part ≡ Rule) × (rule ≡ index) × IsKey ms (field_key field)
+StandsIn part index ms (Refused fault) = (part ≡ Rule) × (fault ≡ UnknownSlice index) × (IsKey ms (codes "write") ⊎ IsKey ms (codes "read"))
+StandsIn part index ms Memory = ⊥

@@ -7,3 +7,5 @@ pub mod Documents
 pub mod Views
 pub mod Printing
 pub mod Firsts
+pub mod Written
+pub mod Readers

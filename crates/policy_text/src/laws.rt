@@ -1,7 +1,9 @@
 //! Laws of the definitions. Each function's contract is the law; its body does nothing.
 
-ghost use Rattle.std.specs.Prelude.{ℕ, List, ◌≡◌, ◌↔◌, Ok, Err};
+ghost use Rattle.std.specs.Prelude.{ℕ, ◌^◌, ◌<◌, nat_eq, true, List, ◌≡◌, ◌↔◌, Ok, Err};
+ghost use Rattle.std.specs.List.{list_any};
 ghost use Rattle.toml.specs.Data.{Items, Members, table};
+ghost use Rattle.of10_model.specs.Normal.{bit};
 ghost use Rattle.flowspace.specs.declared.rules.Rule.{Rule};
 ghost use Rattle.flowspace.specs.declared.slices.Slice.{Slice};
 ghost use Rattle.policy_text.specs.declared.fault.Part.TheVariants as part;
@@ -9,8 +11,10 @@ ghost use Rattle.policy_text.specs.declared.fault.ReadFault.{ReadFault};
 ghost use Rattle.policy_text.specs.declared.fault.ReadFault.TheVariants.{UnknownKey};
 ghost use Rattle.policy_text.specs.Firsts.{AreReadAs, IsFirstRefused, StandsIn, AreKnown, IsLeastUnknown};
 ghost use Rattle.policy_text.specs.Reading.{SectionView, place_of, known_keys};
-ghost use Rattle.policy_text.specs.Rules.{rule_of, rules_from};
+ghost use Rattle.policy_text.specs.Readers.{IsNamedSlot};
+ghost use Rattle.policy_text.specs.Rules.{bits_below, RuleText, rule_from, rule_of, rules_from};
 ghost use Rattle.policy_text.specs.Slices.{slice_of, slices_from};
+ghost use Rattle.policy_text.specs.Written.{DatapathIdsAreAsWritten, HardwareAddressesAreAsWritten, PrefixesAreAsWritten};
 
 /// Slices are read exactly where each item is one, in order; else the fault is that of the first item
 /// that is none, read at its own index.
@@ -33,9 +37,29 @@ pub fn named_key_is_the_least_unknown()
     ensures unknown { (this : SectionView) (key : List ℕ) → (known_keys this ≡ Err (UnknownKey (place_of this key))) ↔ IsLeastUnknown this.part this.members key }
 {}
 
-/// A fault that the table of a slice or of a rule has stands at a key of this table, with its index; or,
-/// of a rule, at the rule's number.
+/// A fault that the table of a slice or of a rule has names this table, with its index, and a key: one
+/// that such a table may have and this one lacks, one that it may have and has, or one that it has and
+/// may not have. Or, of a rule, it has the rule's number: with a field whose key is in the table, or for a
+/// slice where the table has `write` or `read`.
 pub fn fault_stands_in_its_table()
-    ensures slice { (index : ℕ) (ms : Members) (fault : ReadFault) → slice_of index (table ms) ≡ Err fault → StandsIn part.Slice index fault }
-    ensures rule { (slices : List Slice) (index : ℕ) (ms : Members) (fault : ReadFault) → rule_of slices index (table ms) ≡ Err fault → StandsIn part.Rule index fault }
+    ensures slice { (index : ℕ) (ms : Members) (fault : ReadFault) → slice_of index (table ms) ≡ Err fault → StandsIn part.Slice index ms fault }
+    ensures rule { (slices : List Slice) (index : ℕ) (ms : Members) (fault : ReadFault) → rule_of slices index (table ms) ≡ Err fault → StandsIn part.Rule index ms fault }
+{}
+
+/// Network addresses, hardware addresses and datapath ids are read exactly where the text is the one that
+/// is printed for an address with its leading bits, or for a number: no leading zero, no digit in upper
+/// case, and nothing before or behind. All 32 leading bits may be left out.
+pub fn addresses_are_as_written()
+    ensures prefix { PrefixesAreAsWritten }
+    ensures hardware { HardwareAddressesAreAsWritten }
+    ensures datapath { DatapathIdsAreAsWritten }
+{}
+
+/// The readers of a rule are the slots that its names say, below 32: of the bits of a list of slots bit k
+/// is set exactly where k is among them, and no bit from 32 on; of a rule that is read bit k is set exactly
+/// where some name under `read` is that of the slice at slot k.
+pub fn readers_are_the_named_slots()
+    ensures bits { (slots : List ℕ) (k : ℕ) → k < 32 → bit (bits_below 32 slots) k ≡ list_any (nat_eq k) slots }
+    ensures limit { (slots : List ℕ) → bits_below 32 slots < 2 ^ 32 }
+    ensures rule { (slices : List Slice) (index : ℕ) (said : RuleText) (rule : Rule) (k : ℕ) → rule_from slices index said ≡ Ok rule → k < 32 → (bit rule.readers k ≡ true) ↔ IsNamedSlot slices said.read k }
 {}
