@@ -11,11 +11,11 @@ use Rattle.policy_text.specs.declared.values.Numbers.TheVariants.{UpTo, Between,
 use Rattle.policy_text.specs.declared.values.Numerals.TheVariants.{Datapath, Hardware}
 use Rattle.policy_text.specs.declared.values.Texts.TheVariants.{Name, Controller, Any}
 use Rattle.of10_model.specs.Results.{◌>>=◌}
-use Rattle.policy_text.specs.Firsts.{IsKey, field_key}
+use Rattle.policy_text.specs.Firsts.{IsKey, field_key, is_needed, has_form}
 use Rattle.policy_text.specs.Reading.{SectionView, place_of, is_known, least, unknown_keys, no_unknown, known_keys, formed, demanded, allowed, required, optional, number, numeral, addresses, text, text_list}
 use Rattle.policy_text.specs.Slices.{slice_section, slice_in}
 use Rattle.policy_text.specs.Rules.{link_in, pattern_in, first_improper, slot_of, named, writer_of, slots_of, are_different, no_improper, proper, RuleText, names_under, rule_text_in, rule_from, rule_section, rule_in}
-use Rattle.policy_text.proofs.Keys.{is_there, not_there, IsFor, for_any, TextThere, text_there, same_slots_there, improper_there}
+use Rattle.policy_text.proofs.Keys.{not_there, IsFor, for_any, TextThere, text_there, same_slots_there, improper_there}
 use Rattle.policy_text.proofs.LeastUnknown.{IsNamed, named as named_least}
 
 -- the fault of a reading, where it has one, is of this kind
@@ -30,35 +30,38 @@ pub bind_has_after : (P : ReadFault → Type 0) {A B : Type 0} (r : Result A Rea
 bind_has_after P (Ok x) f own more = more x refl
 bind_has_after P (Err fault) f own more = own
 
--- each fault of one key of a table is of this kind
-pub record OfKey (P : ReadFault → Type 0) (this : SectionView) (key : List ℕ) : Type 0 where
-  pub missing : (IsKey this.members key → ⊥) → P (Missing (place_of this key))
-  pub bad_value : IsKey this.members key → P (BadValue (place_of this key))
+-- a fault of the value under a key, where it isn't of this form, is of this kind
+abbrev pub OfValue : (ReadFault → Type 0) → SectionView → List ℕ → (Data → Bool) → Type 0
+OfValue P this key form = (d : Data) → get_member key this.members ≡ Some d → form d ≡ false → P (BadValue (place_of this key))
+
+-- a fault for want of a key is of this kind
+abbrev pub OfMissing : (ReadFault → Type 0) → SectionView → List ℕ → Type 0
+OfMissing P this key = (IsKey this.members key → ⊥) → P (Missing (place_of this key))
 
 -- each fault of a table's keys is of this kind
 pub record OfKeys (P : ReadFault → Type 0) (this : SectionView) : Type 0 where
-  pub known : (key : List ℕ) → is_known this.part key ≡ true → OfKey P this key
+  pub needed : (key : List ℕ) → is_needed this.part key ≡ true → OfMissing P this key
+  pub known : (key : List ℕ) → is_known this.part key ≡ true → OfValue P this key (has_form this.part key)
   pub unknown : (key : List ℕ) → is_known this.part key ≡ false → IsKey this.members key → P (UnknownKey (place_of this key))
 
-formed_has : (P : ReadFault → Type 0) {A : Type 0} (at : Place) (o : Option A) → P (BadValue at) → Has P (formed at o)
-formed_has P at None bad = bad
+formed_has : (P : ReadFault → Type 0) {A : Type 0} (at : Place) (o : Option A) → (is_some o ≡ false → P (BadValue at)) → Has P (formed at o)
+formed_has P at None bad = bad refl
 formed_has P at (Some x) bad = tt
 
-demanded_has : (P : ReadFault → Type 0) {A : Type 0} (read : Data → Option A) (this : SectionView) (key : List ℕ) (o : Option Data) → get_member key this.members ≡ o → OfKey P this key
+demanded_has : (P : ReadFault → Type 0) {A : Type 0} (read : Data → Option A) (this : SectionView) (key : List ℕ) (o : Option Data) → get_member key this.members ≡ o → OfMissing P this key → OfValue P this key (λ d. is_some (read d))
     → Has P (demanded read (place_of this key) o)
-demanded_has P read this key None e h = h.missing (not_there key this.members e)
-demanded_has P read this key (Some d) e h = formed_has P (place_of this key) (read d) (h.bad_value (is_there key this.members d e))
+demanded_has P read this key None e m h = m (not_there key this.members e)
+demanded_has P read this key (Some d) e m h = formed_has P (place_of this key) (read d) (h d e)
 
-allowed_has : (P : ReadFault → Type 0) {A : Type 0} (read : Data → Option A) (this : SectionView) (key : List ℕ) (o : Option Data) → get_member key this.members ≡ o → OfKey P this key
+allowed_has : (P : ReadFault → Type 0) {A : Type 0} (read : Data → Option A) (this : SectionView) (key : List ℕ) (o : Option Data) → get_member key this.members ≡ o → OfValue P this key (λ d. is_some (read d))
     → Has P (allowed read (place_of this key) o)
 allowed_has P read this key None e h = tt
-allowed_has P read this key (Some d) e h =
-    bind_has P (formed (place_of this key) (read d)) (λ x. Ok (Some x)) (formed_has P (place_of this key) (read d) (h.bad_value (is_there key this.members d e))) (λ x. tt)
+allowed_has P read this key (Some d) e h = bind_has P (formed (place_of this key) (read d)) (λ x. Ok (Some x)) (formed_has P (place_of this key) (read d) (h d e)) (λ x. tt)
 
-pub required_has : (P : ReadFault → Type 0) {A : Type 0} (read : Data → Option A) (this : SectionView) (key : List ℕ) → OfKey P this key → Has P (required read this key)
-required_has P read this key h = demanded_has P read this key (get_member key this.members) refl h
+pub required_has : (P : ReadFault → Type 0) {A : Type 0} (read : Data → Option A) (this : SectionView) (key : List ℕ) → OfMissing P this key → OfValue P this key (λ d. is_some (read d)) → Has P (required read this key)
+required_has P read this key m h = demanded_has P read this key (get_member key this.members) refl m h
 
-pub optional_has : (P : ReadFault → Type 0) {A : Type 0} (read : Data → Option A) (this : SectionView) (key : List ℕ) → OfKey P this key → Has P (optional read this key)
+pub optional_has : (P : ReadFault → Type 0) {A : Type 0} (read : Data → Option A) (this : SectionView) (key : List ℕ) → OfValue P this key (λ d. is_some (read d)) → Has P (optional read this key)
 optional_has P read this key h = allowed_has P read this key (get_member key this.members) refl h
 
 no_unknown_has : (P : ReadFault → Type 0) (this : SectionView) (o : Option (List ℕ)) → IsNamed this.part this.members o → OfKeys P this → Has P (no_unknown this o)
@@ -75,8 +78,8 @@ unfolding slice_in
 slice_has P index ms h =
     let this = slice_section index ms in
     bind_has P (known_keys this) _ (known_has P this h) (λ _.
-    bind_has P (required (text Name) this (codes "name")) _ (required_has P (text Name) this (codes "name") (h.known (codes "name") refl)) (λ _.
-    bind_has P (required (text Controller) this (codes "controller")) _ (required_has P (text Controller) this (codes "controller") (h.known (codes "controller") refl)) (λ _.
+    bind_has P (required (text Name) this (codes "name")) _ (required_has P (text Name) this (codes "name") (h.needed (codes "name") refl) (h.known (codes "name") refl)) (λ _.
+    bind_has P (required (text Controller) this (codes "controller")) _ (required_has P (text Controller) this (codes "controller") (h.needed (codes "controller") refl) (h.known (codes "controller") refl)) (λ _.
     bind_has P (optional (number (Between 1 1000000)) this (codes "rate")) _ (optional_has P (number (Between 1 1000000)) this (codes "rate") (h.known (codes "rate") refl)) (λ _.
     bind_has P (optional (number (Between 1 1000000)) this (codes "burst")) _ (optional_has P (number (Between 1 1000000)) this (codes "burst") (h.known (codes "burst") refl)) (λ _.
     bind_has P (optional (number (UpTo 4096)) this (codes "quota")) _ (optional_has P (number (UpTo 4096)) this (codes "quota") (h.known (codes "quota") refl)) (λ _. tt))))))
@@ -112,7 +115,7 @@ text_has P index ms h =
     let this = rule_section index ms in
     bind_has P (known_keys this) _ (known_has P this h) (λ _.
     bind_has P (optional (numeral Datapath) this (codes "switch")) _ (optional_has P (numeral Datapath) this (codes "switch") (h.known (codes "switch") refl)) (λ _.
-    bind_has P (required (number (UpTo 0xffffffff)) this (codes "priority")) _ (required_has P (number (UpTo 0xffffffff)) this (codes "priority") (h.known (codes "priority") refl)) (λ _.
+    bind_has P (required (number (UpTo 0xffffffff)) this (codes "priority")) _ (required_has P (number (UpTo 0xffffffff)) this (codes "priority") (h.needed (codes "priority") refl) (h.known (codes "priority") refl)) (λ _.
     bind_has P (optional (text Any) this (codes "write")) _ (optional_has P (text Any) this (codes "write") (h.known (codes "write") refl)) (λ _.
     bind_has P (names_under this (codes "read")) _ (bind_has P (optional text_list this (codes "read")) _ (optional_has P text_list this (codes "read") (h.known (codes "read") refl)) (λ _. tt)) (λ _.
     bind_has P (pattern_in this) _ (pattern_has P index ms h) (λ _. tt))))))

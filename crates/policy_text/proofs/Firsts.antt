@@ -133,13 +133,15 @@ rules_refused slices items fault =
 
 slice_keys : (index : ℕ) (ms : Members) → OfKeys (StandsIn part.Slice index ms) (slice_section index ms)
 slice_keys index ms = record {
-  known = λ key known. record { missing = λ not_there. (refl, refl, known, not_there); bad_value = λ there. (refl, refl, known, there) };
+  needed = λ key needed not_there. (refl, refl, needed, not_there);
+  known = λ key known d there bad. (refl, refl, known, (d, there, bad));
   unknown = λ key unknown there. (refl, refl, unknown, there);
 }
 
 rule_keys : (index : ℕ) (ms : Members) → OfKeys (StandsIn part.Rule index ms) (rule_section index ms)
 rule_keys index ms = record {
-  known = λ key known. record { missing = λ not_there. (refl, refl, known, not_there); bad_value = λ there. (refl, refl, known, there) };
+  needed = λ key needed not_there. (refl, refl, needed, not_there);
+  known = λ key known d there bad. (refl, refl, known, (d, there, bad));
   unknown = λ key unknown there. (refl, refl, unknown, there);
 }
 

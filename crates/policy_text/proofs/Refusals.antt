@@ -1,5 +1,5 @@
 -- No reading is refused for want of memory.
-use Rattle.std.proofs.Common.{◌≢◌, ℕ, suc, List, Result, Ok, Err, IfErr, codes, unwrap_or}
+use Rattle.std.proofs.Common.{◌≢◌, ℕ, suc, Bool, is_some, List, Result, Ok, Err, IfErr, codes, unwrap_or}
 use Rattle.toml.specs.Data.{Data, string, integer, float, boolean, datetime, array, table, Items, no_items, item, Members}
 use Rattle.flowspace.specs.declared.fault.PolicyFault.TheVariants as policy
 use Rattle.flowspace.specs.declared.slices.Slice.{Slice}
@@ -7,11 +7,12 @@ use Rattle.flowspace.specs.Policies.{PolicyView}
 use Rattle.policy_text.specs.declared.fault.ReadFault.{ReadFault}
 use Rattle.policy_text.specs.declared.fault.ReadFault.TheVariants.{NotToml, Missing, BadValue, UnknownKey, Improper, Refused, Memory}
 use Rattle.policy_text.specs.declared.values.Numbers.TheVariants.{Between}
+use Rattle.policy_text.specs.Firsts.{has_form}
 use Rattle.policy_text.specs.Reading.{Gives, SectionView, known_keys, required, optional, number, tables, some_tables}
 use Rattle.policy_text.specs.Slices.{slice_section, slice_of, slices_from}
 use Rattle.policy_text.specs.Rules.{rule_section, rule_of, rules_from}
 use Rattle.policy_text.specs.Documents.{parts_in}
-use Rattle.policy_text.proofs.Faults.{Has, bind_has, OfKey, OfKeys, required_has, optional_has, known_has, slice_has, OfRule, rule_has}
+use Rattle.policy_text.proofs.Faults.{Has, bind_has, OfValue, OfMissing, OfKeys, required_has, optional_has, known_has, slice_has, OfRule, rule_has}
 
 -- the fault isn't a refusal for want of memory
 abbrev IsOwn : ReadFault → Type 0
@@ -20,15 +21,16 @@ IsOwn fault = fault ≢ Refused policy.Memory
 abbrev HasOwn : {A : Type 0} → Result A ReadFault → Type 0
 HasOwn r = Has IsOwn r
 
-key_own : (this : SectionView) (key : List ℕ) → OfKey IsOwn this key
-key_own this key = record {
-  missing = λ _ e. absurd cc;
-  bad_value = λ _ e. absurd cc;
-}
+missing_own : (this : SectionView) (key : List ℕ) → OfMissing IsOwn this key
+missing_own this key = λ _ e. absurd cc
+
+value_own : (this : SectionView) (key : List ℕ) (form : Data → Bool) → OfValue IsOwn this key form
+value_own this key form = λ _ _ _ e. absurd cc
 
 keys_own : (this : SectionView) → OfKeys IsOwn this
 keys_own this = record {
-  known = λ key _. key_own this key;
+  needed = λ key _. missing_own this key;
+  known = λ key _. value_own this key (has_form this.part key);
   unknown = λ key _ _ e. absurd cc;
 }
 
@@ -69,10 +71,10 @@ rules_own slices index (item d ds) = bind_has IsOwn (rule_of slices index d) _ (
 parts_own : (this : SectionView) → HasOwn (parts_in this)
 unfolding parts_in
 parts_own this =
-    bind_has IsOwn (required (number (Between 1 1)) this (codes "version")) _ (required_has IsOwn (number (Between 1 1)) this (codes "version") (key_own this (codes "version"))) (λ _.
+    bind_has IsOwn (required (number (Between 1 1)) this (codes "version")) _ (required_has IsOwn (number (Between 1 1)) this (codes "version") (missing_own this (codes "version")) (value_own this (codes "version") (λ d. is_some (number (Between 1 1) d)))) (λ _.
     bind_has IsOwn (known_keys this) _ (known_has IsOwn this (keys_own this)) (λ _.
-    bind_has IsOwn (required some_tables this (codes "slice")) _ (required_has IsOwn some_tables this (codes "slice") (key_own this (codes "slice"))) (λ items.
-    bind_has IsOwn (optional tables this (codes "rule")) _ (optional_has IsOwn tables this (codes "rule") (key_own this (codes "rule"))) (λ others.
+    bind_has IsOwn (required some_tables this (codes "slice")) _ (required_has IsOwn some_tables this (codes "slice") (missing_own this (codes "slice")) (value_own this (codes "slice") (λ d. is_some (some_tables d)))) (λ items.
+    bind_has IsOwn (optional tables this (codes "rule")) _ (optional_has IsOwn tables this (codes "rule") (value_own this (codes "rule") (λ d. is_some (tables d)))) (λ others.
     bind_has IsOwn (slices_from 0 items) _ (slices_own 0 items) (λ slices.
     bind_has IsOwn (rules_from slices 0 (unwrap_or others no_items)) _ (rules_own slices 0 (unwrap_or others no_items)) (λ _. tt))))))
 

@@ -1,16 +1,20 @@
 -- Which fault of a policy text is its first, of items in order and of keys, and where it stands. All of it is this proxy's own rule.
-use Rattle.std.specs.Prelude.{◌≡◌, ◌⊎◌, ℕ, ◌<◌, true, false, List, slice_get, Option, Some, None, Result, Ok, Err, ⊤, codes}
+use Rattle.std.specs.Prelude.{◌≡◌, ◌⊎◌, ℕ, ◌<◌, ◌||◌, Bool, true, false, if◌then◌else◌, bytes_eq, is_some, List, slice_get, Option, Some, None, Result, Ok, Err, ⊤, codes}
 use Rattle.std.specs.Ordering.{nat_cmp, is_lt}
 use Rattle.std.specs.Cmp.Lexicographic.{slice_cmp}
-use Rattle.toml.specs.Data.{Data, Items, get_item, Members, no_members, member}
+use Rattle.toml.specs.Data.{Data, Items, get_item, Members, no_members, member, get_member}
 use Rattle.flowspace.specs.declared.fault.Field.{Field}
 use Rattle.flowspace.specs.declared.fault.Field.TheVariants.{Read, InPort, DlSrc, DlDst, DlVlan, DlVlanPcp, DlType, NwTos, NwProto, NwSrc, NwDst, TpSrc, TpDst}
 use Rattle.flowspace.specs.declared.fault.PolicyFault.TheVariants.{UnknownSlice}
 use Rattle.policy_text.specs.declared.fault.Part.{Part}
-use Rattle.policy_text.specs.declared.fault.Part.TheVariants.{Rule}
+use Rattle.policy_text.specs.declared.fault.Part.TheVariants.{Top, Slice, Rule}
 use Rattle.policy_text.specs.declared.fault.ReadFault.{ReadFault}
 use Rattle.policy_text.specs.declared.fault.ReadFault.TheVariants.{NotToml, Missing, BadValue, UnknownKey, Improper, Refused, Memory}
-use Rattle.policy_text.specs.Reading.{is_known}
+use Rattle.policy_text.specs.declared.values.Numbers.TheVariants as numbers
+use Rattle.policy_text.specs.declared.values.Numbers.TheVariants.{UpTo, Between, Vlan, Service}
+use Rattle.policy_text.specs.declared.values.Numerals.TheVariants.{Datapath, Hardware}
+use Rattle.policy_text.specs.declared.values.Texts.TheVariants.{Name, Controller, Any}
+use Rattle.policy_text.specs.Reading.{is_known, number, numeral, addresses, text, text_list, tables, some_tables}
 
 -- ---- items in order
 
@@ -68,13 +72,63 @@ field_key NwDst = codes "nw_dst"
 field_key TpSrc = codes "tp_src"
 field_key TpDst = codes "tp_dst"
 
--- a fault that stands in the table of this part and index with these members. It names a key that such a table may have and this one
--- lacks, one that it has, or one that it has and none may have; or, of a rule, its number: with a field whose key is there, or for a
--- slice where there are names to write or to read.
+-- a key that such a table must have
+abbrev pub is_needed : Part → List ℕ → Bool
+is_needed Top key = bytes_eq key (codes "version") || bytes_eq key (codes "slice")
+is_needed Slice key = bytes_eq key (codes "name") || bytes_eq key (codes "controller")
+is_needed Rule key = bytes_eq key (codes "priority")
+
+-- a value of the form that the whole text has under a key
+abbrev pub has_top_form : List ℕ → Data → Bool
+has_top_form key d =
+    if bytes_eq key (codes "version") then is_some (number (Between 1 1) d)
+    else if bytes_eq key (codes "slice") then is_some (some_tables d)
+    else is_some (tables d)
+
+-- a value of the form that a slice has under a key
+abbrev pub has_slice_form : List ℕ → Data → Bool
+has_slice_form key d =
+    if bytes_eq key (codes "name") then is_some (text Name d)
+    else if bytes_eq key (codes "controller") then is_some (text Controller d)
+    else if bytes_eq key (codes "quota") then is_some (number (UpTo 4096) d)
+    else is_some (number (Between 1 1000000) d)
+
+-- a value of the form that a rule has under a key of its match
+abbrev pub has_match_form : List ℕ → Data → Bool
+has_match_form key d =
+    if bytes_eq key (codes "in_port") then is_some (number numbers.InPort d)
+    else if bytes_eq key (codes "dl_src") || bytes_eq key (codes "dl_dst") then is_some (numeral Hardware d)
+    else if bytes_eq key (codes "dl_vlan") then is_some (number Vlan d)
+    else if bytes_eq key (codes "dl_vlan_pcp") then is_some (number (UpTo 7) d)
+    else if bytes_eq key (codes "nw_tos") then is_some (number Service d)
+    else if bytes_eq key (codes "nw_proto") then is_some (number (UpTo 255) d)
+    else if bytes_eq key (codes "nw_src") || bytes_eq key (codes "nw_dst") then is_some (addresses d)
+    else is_some (number (UpTo 0xffff) d)
+
+-- a value of the form that a rule has under a key
+abbrev pub has_rule_form : List ℕ → Data → Bool
+has_rule_form key d =
+    if bytes_eq key (codes "switch") then is_some (numeral Datapath d)
+    else if bytes_eq key (codes "priority") then is_some (number (UpTo 0xffffffff) d)
+    else if bytes_eq key (codes "write") then is_some (text Any d)
+    else if bytes_eq key (codes "read") then is_some (text_list d)
+    else has_match_form key d
+
+-- a value of the form that such a table has under a key
+abbrev pub has_form : Part → List ℕ → Data → Bool
+has_form Top key d = has_top_form key d
+has_form Slice key d = has_slice_form key d
+has_form Rule key d = has_rule_form key d
+
+-- the value under a key is of another form than such a table has there
+abbrev pub HasBadValue : Part → Members → List ℕ → Type 0
+HasBadValue part ms key = (d : Data) × (get_member key ms ≡ Some d) × (has_form part key d ≡ false)
+
+-- a fault of this table: at a key that it needs and lacks, a known one whose value is bad, or an unknown one; or, of a rule, by its number, with a field or names that are there
 abbrev pub StandsIn : Part → ℕ → Members → ReadFault → Type 0
 StandsIn part index ms NotToml = ⊥
-StandsIn part index ms (Missing at) = (at.part ≡ part) × (at.index ≡ index) × (is_known part at.key ≡ true) × (IsKey ms at.key → ⊥)
-StandsIn part index ms (BadValue at) = (at.part ≡ part) × (at.index ≡ index) × (is_known part at.key ≡ true) × IsKey ms at.key
+StandsIn part index ms (Missing at) = (at.part ≡ part) × (at.index ≡ index) × (is_needed part at.key ≡ true) × (IsKey ms at.key → ⊥)
+StandsIn part index ms (BadValue at) = (at.part ≡ part) × (at.index ≡ index) × (is_known part at.key ≡ true) × HasBadValue part ms at.key
 StandsIn part index ms (UnknownKey at) = (at.part ≡ part) × (at.index ≡ index) × (is_known part at.key ≡ false) × IsKey ms at.key
 StandsIn part index ms (Improper rule field) = (part ≡ Rule) × (rule ≡ index) × IsKey ms (field_key field)
 StandsIn part index ms (Refused fault) = (part ≡ Rule) × (fault ≡ UnknownSlice index) × (IsKey ms (codes "write") ⊎ IsKey ms (codes "read"))
