@@ -3,13 +3,12 @@ use Rattle.std.specs.Prelude.{ℕ, List, [], ◌∷◌, ◌++◌, length, codes,
 use Rattle.flowspace.specs.declared.fault.What.{What}
 use Rattle.flowspace.specs.declared.fault.What.TheVariants as what
 use Rattle.flowspace.specs.declared.fault.Field.{Field}
-use Rattle.flowspace.specs.declared.fault.Field.TheVariants.{Read, InPort, DlSrc, DlDst, DlVlan, DlVlanPcp, DlType, NwTos, NwProto, NwSrc, NwDst, TpSrc, TpDst}
 use Rattle.flowspace.specs.declared.fault.PolicyFault.{PolicyFault}
 use Rattle.flowspace.specs.declared.fault.PolicyFault.TheVariants as refusal
 use Rattle.flowspace.specs.Policies.{PolicyView}
 use Rattle.policy_text.specs.declared.fault.ReadFault.{ReadFault}
 use Rattle.policy_text.specs.declared.fault.ReadFault.TheVariants as reading
-use Rattle.policy_text.specs.Places.{place_text}
+use Rattle.policy_text.specs.Places.{field_key, place_text}
 use Rattle.recording.specs.declared.fault.RecordingFault.{RecordingFault}
 use Rattle.recording.specs.declared.fault.RecordingFault.TheVariants as recording
 use Rattle.fv_report.specs.declared.lack.Lack.{Lack}
@@ -35,23 +34,8 @@ what_text what.Slices = codes "slices"
 what_text what.Rules = codes "rules"
 what_text what.Writes = codes "write rules"
 
-abbrev pub field_text : Field → List ℕ
-field_text Read = codes "read"
-field_text InPort = codes "in_port"
-field_text DlSrc = codes "dl_src"
-field_text DlDst = codes "dl_dst"
-field_text DlVlan = codes "dl_vlan"
-field_text DlVlanPcp = codes "dl_vlan_pcp"
-field_text DlType = codes "dl_type"
-field_text NwTos = codes "nw_tos"
-field_text NwProto = codes "nw_proto"
-field_text NwSrc = codes "nw_src"
-field_text NwDst = codes "nw_dst"
-field_text TpSrc = codes "tp_src"
-field_text TpDst = codes "tp_dst"
-
 abbrev pub improper_text : ℕ → Field → List ℕ
-improper_text rule field = codes "rule " ++ decimal rule ++ codes " improper " ++ field_text field
+improper_text rule field = codes "rule " ++ decimal rule ++ codes " improper " ++ field_key field
 
 abbrev pub refusal_text : PolicyFault → List ℕ
 refusal_text (refusal.TooMany what count) = codes "too many " ++ what_text what ++ codes " " ++ decimal count

@@ -3,8 +3,8 @@
 
 ghost use Rattle.std.specs.Prelude.{◌≡◌, ◌≤◌, ◌++◌, ℕ, List, codes, decimal, OnOk, OnErr};
 ghost use Rattle.fv_base.specs.Told.{appended, IsPrefix, Rose};
-ghost use Rattle.policy_text.specs.Places.{place_text};
-ghost use Rattle.fv_cli.specs.Lines.{piece_text, whole_text, what_text, field_text, improper_text, refusal_text, reading_text, policy_line, recording_line, lack_line, accepted_line};
+ghost use Rattle.policy_text.specs.Places.{field_key, place_text};
+ghost use Rattle.fv_cli.specs.Lines.{piece_text, whole_text, what_text, improper_text, refusal_text, reading_text, policy_line, recording_line, lack_line, accepted_line};
 
 use crate::base::{Failed, Sink, put_all};
 use flowspace::{Field, Policy, PolicyFault, What};
@@ -63,7 +63,7 @@ fn what(what: What) -> &'static str
 }
 
 fn field(field: Field) -> &'static str
-    ensures { result.now ≡ field_text field }
+    ensures { result.now ≡ field_key field }
 {
     match field {
         Field::Read => "read",

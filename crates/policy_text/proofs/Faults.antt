@@ -11,7 +11,8 @@ use Rattle.policy_text.specs.declared.values.Numbers.TheVariants.{UpTo, Between,
 use Rattle.policy_text.specs.declared.values.Numerals.TheVariants.{Datapath, Hardware}
 use Rattle.policy_text.specs.declared.values.Texts.TheVariants.{Name, Controller, Any}
 use Rattle.of10_model.specs.Results.{◌>>=◌}
-use Rattle.policy_text.specs.Firsts.{IsKey, field_key, is_needed, has_form}
+use Rattle.policy_text.specs.Firsts.{IsKey, is_needed, has_form}
+use Rattle.policy_text.specs.Places.{field_key}
 use Rattle.policy_text.specs.Reading.{SectionView, place_of, is_known, least, unknown_keys, no_unknown, known_keys, formed, demanded, allowed, required, optional, number, numeral, addresses, text, text_list}
 use Rattle.policy_text.specs.Slices.{slice_section, slice_in}
 use Rattle.policy_text.specs.Rules.{link_in, pattern_in, first_improper, slot_of, named, writer_of, slots_of, are_different, no_improper, proper, RuleText, names_under, rule_text_in, rule_from, rule_section, rule_in}

@@ -15,7 +15,8 @@ use Rattle.flowspace.specs.declared.slices.Slice.{Slice}
 use Rattle.policy_text.specs.declared.values.Numbers.TheVariants.{UpTo, InPort, Vlan, Service}
 use Rattle.policy_text.specs.declared.values.Numerals.TheVariants.{Datapath, Hardware}
 use Rattle.policy_text.specs.declared.values.Texts.TheVariants.{Any}
-use Rattle.policy_text.specs.Firsts.{IsKey, field_key}
+use Rattle.policy_text.specs.Firsts.{IsKey}
+use Rattle.policy_text.specs.Places.{field_key}
 use Rattle.policy_text.specs.Reading.{SectionView, place_of, allowed, known_keys, required, optional, number, numeral, addresses, text, text_list}
 use Rattle.policy_text.specs.Rules.{LinkView, link_in, joined, pattern_in, first_improper, slots_of, are_different, RuleText, names_under, rule_text_in}
 

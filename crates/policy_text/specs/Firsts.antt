@@ -3,8 +3,6 @@ use Rattle.std.specs.Prelude.{◌≡◌, ◌⊎◌, ℕ, ◌<◌, ◌||◌, Bool
 use Rattle.std.specs.Ordering.{nat_cmp, is_lt}
 use Rattle.std.specs.Cmp.Lexicographic.{slice_cmp}
 use Rattle.toml.specs.Data.{Data, Items, get_item, Members, no_members, member, get_member}
-use Rattle.flowspace.specs.declared.fault.Field.{Field}
-use Rattle.flowspace.specs.declared.fault.Field.TheVariants.{Read, InPort, DlSrc, DlDst, DlVlan, DlVlanPcp, DlType, NwTos, NwProto, NwSrc, NwDst, TpSrc, TpDst}
 use Rattle.flowspace.specs.declared.fault.PolicyFault.TheVariants.{UnknownSlice}
 use Rattle.policy_text.specs.declared.fault.Part.{Part}
 use Rattle.policy_text.specs.declared.fault.Part.TheVariants.{Top, Slice, Rule}
@@ -14,6 +12,7 @@ use Rattle.policy_text.specs.declared.values.Numbers.TheVariants as numbers
 use Rattle.policy_text.specs.declared.values.Numbers.TheVariants.{UpTo, Between, Vlan, Service}
 use Rattle.policy_text.specs.declared.values.Numerals.TheVariants.{Datapath, Hardware}
 use Rattle.policy_text.specs.declared.values.Texts.TheVariants.{Name, Controller, Any}
+use Rattle.policy_text.specs.Places.{field_key}
 use Rattle.policy_text.specs.Reading.{is_known, number, numeral, addresses, text, text_list, tables, some_tables}
 
 -- ---- items in order
@@ -55,22 +54,6 @@ pub record IsLeastUnknown (part : Part) (ms : Members) (key : List ℕ) : Type 0
   pub least : (other : List ℕ) → IsKey ms other → is_known part other ≡ false → is_lt (slice_cmp nat_cmp other key) ≡ false
 
 -- ---- where a fault stands
-
--- the key under which a rule's field stands
-abbrev pub field_key : Field → List ℕ
-field_key Read = codes "read"
-field_key InPort = codes "in_port"
-field_key DlSrc = codes "dl_src"
-field_key DlDst = codes "dl_dst"
-field_key DlVlan = codes "dl_vlan"
-field_key DlVlanPcp = codes "dl_vlan_pcp"
-field_key DlType = codes "dl_type"
-field_key NwTos = codes "nw_tos"
-field_key NwProto = codes "nw_proto"
-field_key NwSrc = codes "nw_src"
-field_key NwDst = codes "nw_dst"
-field_key TpSrc = codes "tp_src"
-field_key TpDst = codes "tp_dst"
 
 -- a key that such a table must have
 abbrev pub is_needed : Part → List ℕ → Bool

@@ -1,5 +1,7 @@
 -- The places of a policy text, as they are printed. The form is this proxy's own rule.
 use Rattle.std.specs.Prelude.{ℕ, List, [], ◌++◌, codes, decimal}
+use Rattle.flowspace.specs.declared.fault.Field.{Field}
+use Rattle.flowspace.specs.declared.fault.Field.TheVariants.{Read, InPort, DlSrc, DlDst, DlVlan, DlVlanPcp, DlType, NwTos, NwProto, NwSrc, NwDst, TpSrc, TpDst}
 use Rattle.policy_text.specs.declared.fault.Part.{Part}
 use Rattle.policy_text.specs.declared.fault.Part.TheVariants.{Top, Slice, Rule}
 use Rattle.policy_text.specs.declared.fault.Place.{Place}
@@ -13,3 +15,19 @@ part_text Rule index = (codes "rule." ++ decimal index) ++ codes "."
 -- the key behind it
 abbrev pub place_text : Place → List ℕ
 place_text place = part_text place.part place.index ++ place.key
+
+-- the key under which a rule's field stands
+abbrev pub field_key : Field → List ℕ
+field_key Read = codes "read"
+field_key InPort = codes "in_port"
+field_key DlSrc = codes "dl_src"
+field_key DlDst = codes "dl_dst"
+field_key DlVlan = codes "dl_vlan"
+field_key DlVlanPcp = codes "dl_vlan_pcp"
+field_key DlType = codes "dl_type"
+field_key NwTos = codes "nw_tos"
+field_key NwProto = codes "nw_proto"
+field_key NwSrc = codes "nw_src"
+field_key NwDst = codes "nw_dst"
+field_key TpSrc = codes "tp_src"
+field_key TpDst = codes "tp_dst"

@@ -269,9 +269,10 @@ impl Desk {
     }
 
     /// One event. `AllocError` leaves what the desk stands for as it was, though memory that was taken may
-    /// stay, and the event isn't counted. It comes only for what takes memory: the switch's up, a message of
-    /// it that may be answered or passed on, and the up or a message of a slice that can be greeted or heard.
-    /// After `Ended` nothing more changes.
+    /// stay, and the event isn't counted. It comes only for the switch's up; for a message of the switch,
+    /// before it has told what it is one that tells that or asks for an echo, and then any of a good length;
+    /// and from then on for the up of a slice of the policy, and for a message of one that is up. After
+    /// `Ended` nothing more changes.
     pub fn step(&mut self, alloc: Global, timed: Timed) -> Result<Verdict, AllocError>
         ensures { Steps self.old timed result self.new }
     {
