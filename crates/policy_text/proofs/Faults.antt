@@ -11,7 +11,7 @@ use Rattle.policy_text.specs.declared.values.Numbers.TheVariants.{UpTo, Between,
 use Rattle.policy_text.specs.declared.values.Numerals.TheVariants.{Datapath, Hardware}
 use Rattle.policy_text.specs.declared.values.Texts.TheVariants.{Name, Controller, Any}
 use Rattle.of10_model.specs.Results.{◌>>=◌}
-use Rattle.policy_text.specs.Firsts.{IsKey, is_needed, has_form}
+use Rattle.policy_text.specs.Firsts.{IsKey, IsLeastUnknown, is_needed, has_form}
 use Rattle.policy_text.specs.Places.{field_key}
 use Rattle.policy_text.specs.Reading.{SectionView, place_of, is_known, least, unknown_keys, no_unknown, known_keys, formed, demanded, allowed, required, optional, number, numeral, addresses, text, text_list}
 use Rattle.policy_text.specs.Slices.{slice_section, slice_in}
@@ -43,7 +43,7 @@ OfMissing P this key = (IsKey this.members key → ⊥) → P (Missing (place_of
 pub record OfKeys (P : ReadFault → Type 0) (this : SectionView) : Type 0 where
   pub needed : (key : List ℕ) → is_needed this.part key ≡ true → OfMissing P this key
   pub known : (key : List ℕ) → is_known this.part key ≡ true → OfValue P this key (has_form this.part key)
-  pub unknown : (key : List ℕ) → is_known this.part key ≡ false → IsKey this.members key → P (UnknownKey (place_of this key))
+  pub unknown : (key : List ℕ) → IsLeastUnknown this.part this.members key → P (UnknownKey (place_of this key))
 
 formed_has : (P : ReadFault → Type 0) {A : Type 0} (at : Place) (o : Option A) → (is_some o ≡ false → P (BadValue at)) → Has P (formed at o)
 formed_has P at None bad = bad refl
@@ -67,7 +67,7 @@ optional_has P read this key h = allowed_has P read this key (get_member key thi
 
 no_unknown_has : (P : ReadFault → Type 0) (this : SectionView) (o : Option (List ℕ)) → IsNamed this.part this.members o → OfKeys P this → Has P (no_unknown this o)
 no_unknown_has P this None n h = tt
-no_unknown_has P this (Some key) n h = h.unknown key n.unknown n.is_there
+no_unknown_has P this (Some key) n h = h.unknown key n
 
 pub known_has : (P : ReadFault → Type 0) (this : SectionView) → OfKeys P this → Has P (known_keys this)
 known_has P this h = no_unknown_has P this (least (unknown_keys this.part this.members)) (named_least this.part this.members) h

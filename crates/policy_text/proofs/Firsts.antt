@@ -135,14 +135,14 @@ slice_keys : (index : ℕ) (ms : Members) → OfKeys (StandsIn part.Slice index 
 slice_keys index ms = record {
   needed = λ key needed not_there. (refl, refl, needed, not_there);
   known = λ key known d there bad. (refl, refl, known, (d, there, bad));
-  unknown = λ key unknown there. (refl, refl, unknown, there);
+  unknown = λ key least. (refl, refl, least);
 }
 
 rule_keys : (index : ℕ) (ms : Members) → OfKeys (StandsIn part.Rule index ms) (rule_section index ms)
 rule_keys index ms = record {
   needed = λ key needed not_there. (refl, refl, needed, not_there);
   known = λ key known d there bad. (refl, refl, known, (d, there, bad));
-  unknown = λ key unknown there. (refl, refl, unknown, there);
+  unknown = λ key least. (refl, refl, least);
 }
 
 by_number : (index : ℕ) (ms : Members) → OfRule (StandsIn part.Rule index ms) index ms

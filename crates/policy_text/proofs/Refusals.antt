@@ -31,7 +31,7 @@ keys_own : (this : SectionView) → OfKeys IsOwn this
 keys_own this = record {
   needed = λ key _. missing_own this key;
   known = λ key _. value_own this key (has_form this.part key);
-  unknown = λ key _ _ e. absurd cc;
+  unknown = λ key _ e. absurd cc;
 }
 
 rule_own : (index : ℕ) (ms : Members) → OfRule IsOwn index ms

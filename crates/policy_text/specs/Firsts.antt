@@ -107,12 +107,12 @@ has_form Rule key d = has_rule_form key d
 abbrev pub HasBadValue : Part → Members → List ℕ → Type 0
 HasBadValue part ms key = (d : Data) × (get_member key ms ≡ Some d) × (has_form part key d ≡ false)
 
--- a fault of this table: at a key that it needs and lacks, a known one whose value is bad, or an unknown one; or, of a rule, by its number, with a field or names that are there
+-- a fault of this table: at a key that it needs and lacks, a known one whose value is bad, or the least unknown one; or, of a rule, by its number, with a field or names that are there
 abbrev pub StandsIn : Part → ℕ → Members → ReadFault → Type 0
 StandsIn part index ms NotToml = ⊥
 StandsIn part index ms (Missing at) = (at.part ≡ part) × (at.index ≡ index) × (is_needed part at.key ≡ true) × (IsKey ms at.key → ⊥)
 StandsIn part index ms (BadValue at) = (at.part ≡ part) × (at.index ≡ index) × (is_known part at.key ≡ true) × HasBadValue part ms at.key
-StandsIn part index ms (UnknownKey at) = (at.part ≡ part) × (at.index ≡ index) × (is_known part at.key ≡ false) × IsKey ms at.key
+StandsIn part index ms (UnknownKey at) = (at.part ≡ part) × (at.index ≡ index) × IsLeastUnknown part ms at.key
 StandsIn part index ms (Improper rule field) = (part ≡ Rule) × (rule ≡ index) × IsKey ms (field_key field)
 StandsIn part index ms (Refused fault) = (part ≡ Rule) × (fault ≡ UnknownSlice index) × (IsKey ms (codes "write") ⊎ IsKey ms (codes "read"))
 StandsIn part index ms Memory = ⊥

@@ -39,7 +39,7 @@ pub fn named_key_is_the_least_unknown()
 
 /// A fault that the table of a slice or of a rule has names this table, with its index, and a key: one
 /// that such a table needs and this one lacks, one that it may have and whose value here is of another form
-/// than such a table has there, or one that it has and may not have. Or, of a rule, it has the rule's
+/// than such a table has there, or the least that it has and may not have. Or, of a rule, it has the rule's
 /// number: with a field whose key is in the table, or for a slice where the table has `write` or `read`.
 pub fn fault_stands_in_its_table()
     ensures slice { (index : ℕ) (ms : Members) (fault : ReadFault) → slice_of index (table ms) ≡ Err fault → StandsIn part.Slice index ms fault }
