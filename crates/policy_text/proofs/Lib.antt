@@ -2,7 +2,6 @@ pub mod Loop
 pub mod Powers
 pub mod LeastKey
 pub mod LeastUnknown
-pub mod Firsts
 pub mod Documents
 pub mod Steps
 pub mod AddressRanges
@@ -19,6 +18,3 @@ pub mod PrintedReaders
 pub mod PrintedTables
 pub mod PrintedPolicy
 pub mod Named
-pub mod WrittenHex
-pub mod WrittenDecimal
-pub mod Readers

@@ -7,5 +7,3 @@ pub mod Documents
 pub mod Views
 pub mod Printing
 pub mod Firsts
-pub mod Written
-pub mod Readers

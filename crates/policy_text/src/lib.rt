@@ -5,7 +5,6 @@
 mod addresses;
 mod document;
 mod fault;
-pub mod laws;
 mod names;
 mod pattern;
 mod printing;

@@ -10,7 +10,7 @@ use Rattle.of10_model.specs.Normal.{bit}
 use Rattle.of10_model.proofs.Results.{bind_ok, ok_is}
 use Rattle.flowspace.specs.declared.rules.Rule.{Rule}
 use Rattle.flowspace.specs.declared.slices.Slice.{Slice}
-use Rattle.policy_text.specs.Readers.{IsNamedSlot}
+use Rattle.policy_laws.specs.Readers.{IsNamedSlot}
 use Rattle.policy_text.specs.Rules.{slot_of, named, writer_of, slots_of, bits_below, proper, RuleText, rule_from}
 
 -- ---- bits

@@ -1,5 +1,5 @@
-use Rattle.policy_text.proofs.Readers.{bits_are, bits_below_limit, readers_named}
-use Rattle.policy_text.proofs.laws.readers_are_the_named_slots.Goals as goal
+use Rattle.policy_laws.proofs.Readers.{bits_are, bits_below_limit, readers_named}
+use Rattle.policy_laws.proofs.laws.readers_are_the_named_slots.Goals as goal
 
 pub returns : goal.returns
 returns c = record {

@@ -11,10 +11,10 @@ ghost use Rattle.policy_text.specs.declared.fault.ReadFault.{ReadFault};
 ghost use Rattle.policy_text.specs.declared.fault.ReadFault.TheVariants.{UnknownKey};
 ghost use Rattle.policy_text.specs.Firsts.{AreReadAs, IsFirstRefused, StandsIn, AreKnown, IsLeastUnknown};
 ghost use Rattle.policy_text.specs.Reading.{SectionView, place_of, known_keys};
-ghost use Rattle.policy_text.specs.Readers.{IsNamedSlot};
+ghost use Rattle.policy_laws.specs.Readers.{IsNamedSlot};
 ghost use Rattle.policy_text.specs.Rules.{bits_below, RuleText, rule_from, rule_of, rules_from};
 ghost use Rattle.policy_text.specs.Slices.{slice_of, slices_from};
-ghost use Rattle.policy_text.specs.Written.{DatapathIdsAreAsWritten, HardwareAddressesAreAsWritten, PrefixesAreAsWritten};
+ghost use Rattle.policy_laws.specs.Written.{DatapathIdsAreAsWritten, HardwareAddressesAreAsWritten, PrefixesAreAsWritten};
 
 /// Slices are read exactly where each item is one, in order; else the fault is that of the first item
 /// that is none, read at its own index.

@@ -1,5 +1,5 @@
-use Rattle.policy_text.proofs.Firsts.{rules_read, rules_refused}
-use Rattle.policy_text.proofs.laws.refused_rule_is_the_first.Goals as goal
+use Rattle.policy_laws.proofs.Firsts.{rules_read, rules_refused}
+use Rattle.policy_laws.proofs.laws.refused_rule_is_the_first.Goals as goal
 
 pub returns : goal.returns
 returns c = record {

@@ -1,5 +1,5 @@
-use Rattle.policy_text.proofs.Firsts.{slices_read, slices_refused}
-use Rattle.policy_text.proofs.laws.refused_slice_is_the_first.Goals as goal
+use Rattle.policy_laws.proofs.Firsts.{slices_read, slices_refused}
+use Rattle.policy_laws.proofs.laws.refused_slice_is_the_first.Goals as goal
 
 pub returns : goal.returns
 returns c = record {

@@ -1,5 +1,5 @@
 use Rattle.policy_text.proofs.LeastUnknown.{all_known, least_is_named}
-use Rattle.policy_text.proofs.laws.named_key_is_the_least_unknown.Goals as goal
+use Rattle.policy_laws.proofs.laws.named_key_is_the_least_unknown.Goals as goal
 
 pub returns : goal.returns
 returns c = record {

@@ -1,5 +1,5 @@
-use Rattle.policy_text.proofs.Firsts.{slice_stands, rule_stands}
-use Rattle.policy_text.proofs.laws.fault_stands_in_its_table.Goals as goal
+use Rattle.policy_laws.proofs.Firsts.{slice_stands, rule_stands}
+use Rattle.policy_laws.proofs.laws.fault_stands_in_its_table.Goals as goal
 
 pub returns : goal.returns
 returns c = record {

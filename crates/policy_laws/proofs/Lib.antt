@@ -1,0 +1,4 @@
+pub mod Firsts
+pub mod WrittenHex
+pub mod WrittenDecimal
+pub mod Readers
