@@ -13,9 +13,13 @@ name = \"bob\"
 controller = \"127.0.0.1:6634\"
 ";
 
-const INLINE: &str = "version = 1
+const BEFORE_RULES: &str = "version = 1
 slice = [{ name = 'alice', controller = 'c' }, { name = 'bob', controller = 'c' }]
-";
+rule = [";
+
+const BEFORE_A_RULE: &str = "version = 1
+slice = [{ name = 'alice', controller = 'c' }, { name = 'bob', controller = 'c' }]
+rule = [{ ";
 
 fn fault_text(alloc: Global, fault: ReadFault) -> Result<String, AllocError> {
     let mut text = String::new(alloc);
@@ -36,6 +40,27 @@ fn told(alloc: Global, text: &str) -> Result<String, AllocError> {
         Ok(policy) => format!(in alloc; "ok {} {}", policy.slices().len(), policy.rules().len()),
         Err(fault) => fault_text(alloc, fault),
     }
+}
+
+/// The first row that is told otherwise, with what is told; nothing where none is. Each line is a row: what is
+/// said, between the text before and the one behind it, and what is to be told.
+fn told_otherwise(
+    alloc: Global,
+    before: &str,
+    rows: &str,
+    behind: &str,
+) -> Result<String, AllocError> {
+    for row in rows.lines() {
+        let Some((said, wanted)) = row.split_once(" => ") else {
+            return format!(in alloc; "no row: {row}");
+        };
+        let text = format!(in alloc; "{before}{said}{behind}")?;
+        let answer = told(alloc, text.as_str())?;
+        if answer.as_str() != wanted {
+            return format!(in alloc; "{said}: {answer}");
+        }
+    }
+    Ok(String::new(alloc))
 }
 
 #[test]
@@ -69,225 +94,105 @@ fn whole_texts(rt: HostRuntime) -> Result<(), Fail> {
     Ok(())
 }
 
+/// Fields of a second slice, and what is told of the text.
+const SLICE_ROWS: &str = "\
+name = 'a-1_z', controller = 'c' => ok 2 0
+name = 'aaaaaaaaaaaaaaaaaaaaaaaaaaaaaaaa', controller = 'c' => ok 2 0
+name = 'aaaaaaaaaaaaaaaaaaaaaaaaaaaaaaaaa', controller = 'c' => bad value slice.1.name
+name = '', controller = 'c' => bad value slice.1.name
+name = 'Bob', controller = 'c' => bad value slice.1.name
+name = 7, controller = '' => bad value slice.1.name
+controller = '' => missing slice.1.name
+name = 'b', controller = '' => bad value slice.1.controller
+name = 'b', rate = 0 => missing slice.1.controller
+name = 'b', controller = 'c', zone = 1, z = 1, Z = 1 => unknown key slice.1.Z
+name = 'b', controller = 'c', rate = 0 => bad value slice.1.rate
+name = 'b', controller = 'c', rate = 1000000 => ok 2 0
+name = 'b', controller = 'c', rate = 1000001, burst = 0 => bad value slice.1.rate
+name = 'b', controller = 'c', burst = 0 => bad value slice.1.burst
+name = 'b', controller = 'c', burst = 1, quota = 0 => ok 2 0
+name = 'b', controller = 'c', quota = 4096 => ok 2 0
+name = 'b', controller = 'c', quota = 4097 => bad value slice.1.quota
+name = 'b', controller = 'c', quota = -1 => bad value slice.1.quota
+name = 'a', controller = 'c' => DuplicateSlice(1)
+";
+
 #[test]
 fn slices_by_their_fields(rt: HostRuntime) -> Result<(), Fail> {
-    for (slice, wanted) in [
-        ("name = 'a-1_z', controller = 'c'", "ok 2 0"),
-        (
-            "name = 'aaaaaaaaaaaaaaaaaaaaaaaaaaaaaaaa', controller = 'c'",
-            "ok 2 0",
-        ),
-        (
-            "name = 'aaaaaaaaaaaaaaaaaaaaaaaaaaaaaaaaa', controller = 'c'",
-            "bad value slice.1.name",
-        ),
-        ("name = '', controller = 'c'", "bad value slice.1.name"),
-        ("name = 'Bob', controller = 'c'", "bad value slice.1.name"),
-        ("name = 7, controller = ''", "bad value slice.1.name"),
-        ("controller = ''", "missing slice.1.name"),
-        (
-            "name = 'b', controller = ''",
-            "bad value slice.1.controller",
-        ),
-        ("name = 'b', rate = 0", "missing slice.1.controller"),
-        (
-            "name = 'b', controller = 'c', zone = 1, z = 1, Z = 1",
-            "unknown key slice.1.Z",
-        ),
-        (
-            "name = 'b', controller = 'c', rate = 0",
-            "bad value slice.1.rate",
-        ),
-        ("name = 'b', controller = 'c', rate = 1000000", "ok 2 0"),
-        (
-            "name = 'b', controller = 'c', rate = 1000001, burst = 0",
-            "bad value slice.1.rate",
-        ),
-        (
-            "name = 'b', controller = 'c', burst = 0",
-            "bad value slice.1.burst",
-        ),
-        (
-            "name = 'b', controller = 'c', burst = 1, quota = 0",
-            "ok 2 0",
-        ),
-        ("name = 'b', controller = 'c', quota = 4096", "ok 2 0"),
-        (
-            "name = 'b', controller = 'c', quota = 4097",
-            "bad value slice.1.quota",
-        ),
-        (
-            "name = 'b', controller = 'c', quota = -1",
-            "bad value slice.1.quota",
-        ),
-        ("name = 'a', controller = 'c'", "DuplicateSlice(1)"),
-    ] {
-        let text = format!(in rt.alloc();
-            "version = 1\nslice = [{{ name = 'a', controller = 'c' }}, {{ {slice} }}]\n"
-        )?;
-        let answer = told(rt.alloc(), text.as_str())?;
-        assert_eq!(rt; answer.as_str(), wanted, "at {slice}");
-    }
+    let otherwise = told_otherwise(
+        rt.alloc(),
+        "version = 1\nslice = [{ name = 'a', controller = 'c' }, { ",
+        SLICE_ROWS,
+        " }]\n",
+    )?;
+    assert_eq!(rt; otherwise.as_str(), "");
     Ok(())
 }
 
+/// Fields of the one rule of alice and bob, and what is told of the text.
+const RULE_ROWS: &str = "\
+write = 'carol' => missing rule.0.priority
+priority = 4294967295 => ok 2 1
+priority = 4294967296 => bad value rule.0.priority
+priority = -1, priorty = 5 => unknown key rule.0.priorty
+priority = 1, switch = '00000000000000af' => ok 2 1
+priority = 1, switch = '00000000000000aF' => bad value rule.0.switch
+priority = 1, switch = '0000000000000af' => bad value rule.0.switch
+priority = 1, switch = 175 => bad value rule.0.switch
+priority = 1, write = 1 => bad value rule.0.write
+priority = 1, write = 'carol' => UnknownSlice(0)
+priority = 1, write = '' => UnknownSlice(0)
+priority = 1, read = 'bob' => bad value rule.0.read
+priority = 1, read = ['bob', 1] => bad value rule.0.read
+priority = 1, read = ['bob', 'Carol'] => UnknownSlice(0)
+priority = 1, read = ['bob', 'alice'] => ok 2 1
+priority = 1, read = ['bob', 'alice', 'bob'], tp_src = 1 => improper 0 Read
+priority = 1, read = ['bob', 'bob', 'carol'] => UnknownSlice(0)
+priority = 1, write = 'bob', read = ['bob'] => Improper(0, Read)
+priority = 1, write = 'carol', in_port = 65281 => bad value rule.0.in_port
+priority = 1, in_port = 65280 => ok 2 1
+priority = 1, in_port = 65534 => ok 2 1
+priority = 1, in_port = 65535 => bad value rule.0.in_port
+priority = 1, dl_src = '00:00:5e:00:53:01', dl_dst = 'ff:ff:ff:ff:ff:ff' => ok 2 1
+priority = 1, dl_src = '00:00:5E:00:53:01' => bad value rule.0.dl_src
+priority = 1, dl_src = '00:00:5e:00:53' => bad value rule.0.dl_src
+priority = 1, dl_dst = '00-00-5e-00-53-01' => bad value rule.0.dl_dst
+priority = 1, dl_vlan = 4095 => ok 2 1
+priority = 1, dl_vlan = 4096 => bad value rule.0.dl_vlan
+priority = 1, dl_vlan = 65535 => ok 2 1
+priority = 1, dl_vlan = 0, dl_vlan_pcp = 7 => ok 2 1
+priority = 1, dl_vlan = 0, dl_vlan_pcp = 8 => bad value rule.0.dl_vlan_pcp
+priority = 1, dl_vlan = 65535, dl_vlan_pcp = 0 => improper 0 DlVlanPcp
+priority = 1, dl_type = 65535 => ok 2 1
+priority = 1, dl_type = 65536 => bad value rule.0.dl_type
+priority = 1, dl_type = 2048, nw_tos = 252 => ok 2 1
+priority = 1, dl_type = 2048, nw_tos = 3 => bad value rule.0.nw_tos
+priority = 1, dl_type = 2048, nw_tos = 256 => bad value rule.0.nw_tos
+priority = 1, dl_type = 2054, nw_tos = 4 => improper 0 NwTos
+priority = 1, dl_type = 2054, nw_proto = 255 => ok 2 1
+priority = 1, dl_type = 2048, nw_proto = 256 => bad value rule.0.nw_proto
+priority = 1, nw_proto = 6, tp_dst = 80 => improper 0 NwProto
+priority = 1, dl_type = 2054, nw_src = '10.0.0.1', nw_dst = '255.255.255.255/32' => ok 2 1
+priority = 1, dl_type = 2048, nw_src = '10.1.2.3/1', nw_dst = '0.0.0.0' => ok 2 1
+priority = 1, dl_type = 2048, nw_src = '10.0.0.0/0' => bad value rule.0.nw_src
+priority = 1, dl_type = 2048, nw_src = '10.0.0.0/33' => bad value rule.0.nw_src
+priority = 1, dl_type = 2048, nw_src = '10.0.0.0/08' => bad value rule.0.nw_src
+priority = 1, dl_type = 2048, nw_dst = '10.0.0.256' => bad value rule.0.nw_dst
+priority = 1, dl_type = 2048, nw_dst = '10.0.0.01' => bad value rule.0.nw_dst
+priority = 1, dl_type = 2048, nw_dst = '10.0.0' => bad value rule.0.nw_dst
+priority = 1, dl_type = 2048, nw_dst = '10.0.0.1 ' => bad value rule.0.nw_dst
+priority = 1, nw_src = '10.0.0.1' => improper 0 NwSrc
+priority = 1, dl_type = 34525, nw_dst = '10.0.0.1' => improper 0 NwDst
+priority = 1, dl_type = 2048, nw_proto = 17, tp_src = 0, tp_dst = 65535 => ok 2 1
+priority = 1, dl_type = 2048, nw_proto = 1, tp_src = 65536 => bad value rule.0.tp_src
+priority = 1, dl_type = 2048, nw_proto = 47, tp_src = 0 => improper 0 TpSrc
+priority = 1, dl_type = 2048, tp_dst = 80 => improper 0 TpDst
+";
+
 #[test]
 fn rules_by_their_fields(rt: HostRuntime) -> Result<(), Fail> {
-    for (rule, wanted) in [
-        ("write = 'carol'", "missing rule.0.priority"),
-        ("priority = 4294967295", "ok 2 1"),
-        ("priority = 4294967296", "bad value rule.0.priority"),
-        ("priority = -1, priorty = 5", "unknown key rule.0.priorty"),
-        ("priority = 1, switch = '00000000000000af'", "ok 2 1"),
-        (
-            "priority = 1, switch = '00000000000000aF'",
-            "bad value rule.0.switch",
-        ),
-        (
-            "priority = 1, switch = '0000000000000af'",
-            "bad value rule.0.switch",
-        ),
-        ("priority = 1, switch = 175", "bad value rule.0.switch"),
-        ("priority = 1, write = 1", "bad value rule.0.write"),
-        ("priority = 1, write = 'carol'", "UnknownSlice(0)"),
-        ("priority = 1, write = ''", "UnknownSlice(0)"),
-        ("priority = 1, read = 'bob'", "bad value rule.0.read"),
-        ("priority = 1, read = ['bob', 1]", "bad value rule.0.read"),
-        ("priority = 1, read = ['bob', 'Carol']", "UnknownSlice(0)"),
-        ("priority = 1, read = ['bob', 'alice']", "ok 2 1"),
-        (
-            "priority = 1, read = ['bob', 'alice', 'bob'], tp_src = 1",
-            "improper 0 Read",
-        ),
-        (
-            "priority = 1, read = ['bob', 'bob', 'carol']",
-            "UnknownSlice(0)",
-        ),
-        (
-            "priority = 1, write = 'bob', read = ['bob']",
-            "Improper(0, Read)",
-        ),
-        (
-            "priority = 1, write = 'carol', in_port = 65281",
-            "bad value rule.0.in_port",
-        ),
-        ("priority = 1, in_port = 65280", "ok 2 1"),
-        ("priority = 1, in_port = 65534", "ok 2 1"),
-        ("priority = 1, in_port = 65535", "bad value rule.0.in_port"),
-        (
-            "priority = 1, dl_src = '00:00:5e:00:53:01', dl_dst = 'ff:ff:ff:ff:ff:ff'",
-            "ok 2 1",
-        ),
-        (
-            "priority = 1, dl_src = '00:00:5E:00:53:01'",
-            "bad value rule.0.dl_src",
-        ),
-        (
-            "priority = 1, dl_src = '00:00:5e:00:53'",
-            "bad value rule.0.dl_src",
-        ),
-        (
-            "priority = 1, dl_dst = '00-00-5e-00-53-01'",
-            "bad value rule.0.dl_dst",
-        ),
-        ("priority = 1, dl_vlan = 4095", "ok 2 1"),
-        ("priority = 1, dl_vlan = 4096", "bad value rule.0.dl_vlan"),
-        ("priority = 1, dl_vlan = 65535", "ok 2 1"),
-        ("priority = 1, dl_vlan = 0, dl_vlan_pcp = 7", "ok 2 1"),
-        (
-            "priority = 1, dl_vlan = 0, dl_vlan_pcp = 8",
-            "bad value rule.0.dl_vlan_pcp",
-        ),
-        (
-            "priority = 1, dl_vlan = 65535, dl_vlan_pcp = 0",
-            "improper 0 DlVlanPcp",
-        ),
-        ("priority = 1, dl_type = 65535", "ok 2 1"),
-        ("priority = 1, dl_type = 65536", "bad value rule.0.dl_type"),
-        ("priority = 1, dl_type = 2048, nw_tos = 252", "ok 2 1"),
-        (
-            "priority = 1, dl_type = 2048, nw_tos = 3",
-            "bad value rule.0.nw_tos",
-        ),
-        (
-            "priority = 1, dl_type = 2048, nw_tos = 256",
-            "bad value rule.0.nw_tos",
-        ),
-        (
-            "priority = 1, dl_type = 2054, nw_tos = 4",
-            "improper 0 NwTos",
-        ),
-        ("priority = 1, dl_type = 2054, nw_proto = 255", "ok 2 1"),
-        (
-            "priority = 1, dl_type = 2048, nw_proto = 256",
-            "bad value rule.0.nw_proto",
-        ),
-        (
-            "priority = 1, nw_proto = 6, tp_dst = 80",
-            "improper 0 NwProto",
-        ),
-        (
-            "priority = 1, dl_type = 2054, nw_src = '10.0.0.1', nw_dst = '255.255.255.255/32'",
-            "ok 2 1",
-        ),
-        (
-            "priority = 1, dl_type = 2048, nw_src = '10.1.2.3/1', nw_dst = '0.0.0.0'",
-            "ok 2 1",
-        ),
-        (
-            "priority = 1, dl_type = 2048, nw_src = '10.0.0.0/0'",
-            "bad value rule.0.nw_src",
-        ),
-        (
-            "priority = 1, dl_type = 2048, nw_src = '10.0.0.0/33'",
-            "bad value rule.0.nw_src",
-        ),
-        (
-            "priority = 1, dl_type = 2048, nw_src = '10.0.0.0/08'",
-            "bad value rule.0.nw_src",
-        ),
-        (
-            "priority = 1, dl_type = 2048, nw_dst = '10.0.0.256'",
-            "bad value rule.0.nw_dst",
-        ),
-        (
-            "priority = 1, dl_type = 2048, nw_dst = '10.0.0.01'",
-            "bad value rule.0.nw_dst",
-        ),
-        (
-            "priority = 1, dl_type = 2048, nw_dst = '10.0.0'",
-            "bad value rule.0.nw_dst",
-        ),
-        (
-            "priority = 1, dl_type = 2048, nw_dst = '10.0.0.1 '",
-            "bad value rule.0.nw_dst",
-        ),
-        ("priority = 1, nw_src = '10.0.0.1'", "improper 0 NwSrc"),
-        (
-            "priority = 1, dl_type = 34525, nw_dst = '10.0.0.1'",
-            "improper 0 NwDst",
-        ),
-        (
-            "priority = 1, dl_type = 2048, nw_proto = 17, tp_src = 0, tp_dst = 65535",
-            "ok 2 1",
-        ),
-        (
-            "priority = 1, dl_type = 2048, nw_proto = 1, tp_src = 65536",
-            "bad value rule.0.tp_src",
-        ),
-        (
-            "priority = 1, dl_type = 2048, nw_proto = 47, tp_src = 0",
-            "improper 0 TpSrc",
-        ),
-        (
-            "priority = 1, dl_type = 2048, tp_dst = 80",
-            "improper 0 TpDst",
-        ),
-    ] {
-        let text = format!(in rt.alloc(); "{INLINE}rule = [{{ {rule} }}]\n")?;
-        let answer = told(rt.alloc(), text.as_str())?;
-        assert_eq!(rt; answer.as_str(), wanted, "at {rule}");
-    }
+    let otherwise = told_otherwise(rt.alloc(), BEFORE_A_RULE, RULE_ROWS, " }]\n")?;
+    assert_eq!(rt; otherwise.as_str(), "");
     Ok(())
 }
 
@@ -404,34 +309,19 @@ fn every_field(rt: HostRuntime) -> Result<(), Fail> {
     Ok(())
 }
 
+/// Rules of alice and bob, and what is told of the text.
+const RULES_ROWS: &str = "\
+{ priority = 9, write = 'carol' }, { x = 1 } => UnknownSlice(0)
+{ priority = 9, tp_dst = 1 }, { x = 1 } => improper 0 TpDst
+{ priority = 9, write = 'bob', read = ['bob'] }, { x = 1 } => unknown key rule.1.x
+{ priority = 100, write = 'alice', dl_type = 2048 }, { priority = 50, write = 'bob' } => Overlap(0, 1)
+{ priority = 100, write = 'alice', dl_type = 2048, nw_proto = 6, tp_dst = 80 }, { priority = 200, read = ['bob'] } => Overlap(1, 0)
+";
+
 #[test]
 fn the_first_fault_counts(rt: HostRuntime) -> Result<(), Fail> {
-    for (rules, wanted) in [
-        (
-            "{ priority = 9, write = 'carol' }, { x = 1 }",
-            "UnknownSlice(0)",
-        ),
-        (
-            "{ priority = 9, tp_dst = 1 }, { x = 1 }",
-            "improper 0 TpDst",
-        ),
-        (
-            "{ priority = 9, write = 'bob', read = ['bob'] }, { x = 1 }",
-            "unknown key rule.1.x",
-        ),
-        (
-            "{ priority = 100, write = 'alice', dl_type = 2048 }, { priority = 50, write = 'bob' }",
-            "Overlap(0, 1)",
-        ),
-        (
-            "{ priority = 100, write = 'alice', dl_type = 2048, nw_proto = 6, tp_dst = 80 }, { priority = 200, read = ['bob'] }",
-            "Overlap(1, 0)",
-        ),
-    ] {
-        let text = format!(in rt.alloc(); "{INLINE}rule = [{rules}]\n")?;
-        let answer = told(rt.alloc(), text.as_str())?;
-        assert_eq!(rt; answer.as_str(), wanted, "at {rules}");
-    }
+    let otherwise = told_otherwise(rt.alloc(), BEFORE_RULES, RULES_ROWS, "]\n")?;
+    assert_eq!(rt; otherwise.as_str(), "");
     let text =
         "version = 1\nslice = [{ name = 'a', controller = 'c' }, { name = 'a', rate = 0 }]\nrule = [{}]\n";
     let answer = told(rt.alloc(), text)?;
