@@ -25,8 +25,11 @@ fn desk(alloc: Global) -> Result<Desk, Fail> {
     Ok(Desk::new(alloc, policy(alloc, &[alice, bob])?))
 }
 
-fn step(alloc: Global, desk: &mut Desk, event: Event) -> Result<Verdict, AllocError> {
-    desk.step(alloc, Timed { event, moment: 0 })
+/// The desk takes an event, and nothing is to be closed.
+fn go(rt: &impl Abort, alloc: Global, desk: &mut Desk, event: Event) -> Result<(), Fail> {
+    let verdict = desk.step(alloc, Timed { event, moment: 0 })?;
+    assert_eq!(rt; verdict, Verdict::Go);
+    Ok(())
 }
 
 /// What the switch tells of itself.
@@ -41,11 +44,9 @@ fn features(alloc: Global) -> Result<Frame, AllocError> {
 
 /// The switch is up and has told what it is, and the slice at slot 0 is up.
 fn open(rt: &impl Abort, alloc: Global, desk: &mut Desk) -> Result<(), Fail> {
-    assert_eq!(rt; step(alloc, desk, Event::SwitchUp)?, Verdict::Go);
-    let told = features(alloc)?;
-    assert_eq!(rt; step(alloc, desk, Event::SwitchMsg(told))?, Verdict::Go);
-    assert_eq!(rt; step(alloc, desk, Event::SliceUp(0))?, Verdict::Go);
-    Ok(())
+    go(rt, alloc, desk, Event::SwitchUp)?;
+    go(rt, alloc, desk, Event::SwitchMsg(features(alloc)?))?;
+    go(rt, alloc, desk, Event::SliceUp(0))
 }
 
 /// The oldest message for a destination is this one.
@@ -58,31 +59,35 @@ fn expect_message(rt: &impl Abort, desk: &mut Desk, dest: Dest, expected: &Frame
     }
 }
 
+/// No message waits for a destination.
+fn expect_nothing(rt: &impl Abort, desk: &mut Desk, dest: Dest) {
+    assert!(rt; matches!(desk.take(dest), Taken::Nothing));
+}
+
 fn hello(alloc: Global) -> Result<Frame, AllocError> {
     message(alloc, 0, 0, &[])
 }
+
+/// What a switch is sent when it comes up and has told what it is, a message a line.
+const TO_OPENED: &str = "\
+01000008ff000000
+01050008ff000001
+0109000cff0000020000ffff
+010e0048ff000003003820ff000000000000000000000000000000000000000000000000000000000000000000000000\
+00000000000000000003000000000000ffffffffffff0000
+01120008ff000004
+";
 
 #[test]
 fn a_packet_goes_to_its_writer_alone(rt: HostRuntime) -> Result<(), Fail> {
     let alloc = rt.alloc();
     let mut desk = desk(alloc)?;
     open(&rt, alloc, &mut desk)?;
-    assert_eq!(rt; step(alloc, &mut desk, Event::SliceUp(1))?, Verdict::Go);
-    let lane: [&[&str]; 5] = [
-        &["01000008ff000000"],
-        &["01050008ff000001"],
-        &["0109000cff0000020000ffff"],
-        &[
-            "010e0048ff000003",
-            "003820ff000000000000000000000000000000000000000000000000000000000000000000000000",
-            "00000000000000000003000000000000ffffffffffff0000",
-        ],
-        &["01120008ff000004"],
-    ];
-    for pieces in lane {
-        expect_message(&rt, &mut desk, Dest::Switch, &frame(alloc, pieces)?);
+    go(&rt, alloc, &mut desk, Event::SliceUp(1))?;
+    for message in TO_OPENED.lines() {
+        expect_message(&rt, &mut desk, Dest::Switch, &frame(alloc, &[message])?);
     }
-    assert!(rt; matches!(desk.take(Dest::Switch), Taken::Nothing));
+    expect_nothing(&rt, &mut desk, Dest::Switch);
     let packet = frame(
         alloc,
         &[
@@ -93,15 +98,12 @@ fn a_packet_goes_to_its_writer_alone(rt: HostRuntime) -> Result<(), Fail> {
         ],
     )?;
     let told = packet.copy(alloc)?;
-    assert_eq!(rt;
-        step(alloc, &mut desk, Event::SwitchMsg(packet))?,
-        Verdict::Go
-    );
+    go(&rt, alloc, &mut desk, Event::SwitchMsg(packet))?;
     expect_message(&rt, &mut desk, Dest::Slice(0), &hello(alloc)?);
     expect_message(&rt, &mut desk, Dest::Slice(0), &told);
-    assert!(rt; matches!(desk.take(Dest::Slice(0)), Taken::Nothing));
+    expect_nothing(&rt, &mut desk, Dest::Slice(0));
     expect_message(&rt, &mut desk, Dest::Slice(1), &hello(alloc)?);
-    assert!(rt; matches!(desk.take(Dest::Slice(1)), Taken::Nothing));
+    expect_nothing(&rt, &mut desk, Dest::Slice(1));
     assert!(rt; matches!(desk.take(Dest::Slice(2)), Taken::Ended));
     Ok(())
 }
@@ -114,12 +116,8 @@ fn second_features_open_nothing(rt: HostRuntime) -> Result<(), Fail> {
     for _message in 0..5 {
         assert!(rt; matches!(desk.take(Dest::Switch), Taken::Message(_)));
     }
-    let again = features(alloc)?;
-    assert_eq!(rt;
-        step(alloc, &mut desk, Event::SwitchMsg(again))?,
-        Verdict::Go
-    );
-    assert!(rt; matches!(desk.take(Dest::Switch), Taken::Nothing));
+    go(&rt, alloc, &mut desk, Event::SwitchMsg(features(alloc)?))?;
+    expect_nothing(&rt, &mut desk, Dest::Switch);
     Ok(())
 }
 
@@ -131,10 +129,7 @@ fn the_65th_of_the_longest_replies_chokes(rt: HostRuntime) -> Result<(), Fail> {
     let body = vec![in alloc; 0; 65527]?;
     for xid in 0..65 {
         let asked = message(alloc, 2, xid, &body)?;
-        assert_eq!(rt;
-            step(alloc, &mut desk, Event::SliceMsg(0, asked))?,
-            Verdict::Go
-        );
+        go(&rt, alloc, &mut desk, Event::SliceMsg(0, asked))?;
     }
     expect_message(&rt, &mut desk, Dest::Slice(0), &hello(alloc)?);
     for xid in 0..64 {
@@ -142,10 +137,10 @@ fn the_65th_of_the_longest_replies_chokes(rt: HostRuntime) -> Result<(), Fail> {
         expect_message(&rt, &mut desk, Dest::Slice(0), &reply);
     }
     assert!(rt; matches!(desk.take(Dest::Slice(0)), Taken::Choked));
-    assert_eq!(rt; step(alloc, &mut desk, Event::SliceDown(0))?, Verdict::Go);
+    go(&rt, alloc, &mut desk, Event::SliceDown(0))?;
     assert!(rt; matches!(desk.take(Dest::Slice(0)), Taken::Ended));
-    assert_eq!(rt; step(alloc, &mut desk, Event::SliceUp(0))?, Verdict::Go);
+    go(&rt, alloc, &mut desk, Event::SliceUp(0))?;
     expect_message(&rt, &mut desk, Dest::Slice(0), &hello(alloc)?);
-    assert!(rt; matches!(desk.take(Dest::Slice(0)), Taken::Nothing));
+    expect_nothing(&rt, &mut desk, Dest::Slice(0));
     Ok(())
 }
