@@ -68,14 +68,15 @@ fn ending_of(refused: &WordsRefused) -> Ending
     }
 }
 
-fn start(rt: &HostRuntime) -> u8 {
+/// Runs with the words of the program, over its own streams.
+fn start(rt: &HostRuntime) -> ExitCode {
     let mut err = Stream::new(rt.stderr());
-    match words(rt) {
+    ExitCode::from(match words(rt) {
         Ok(words) => answer(rt, &words, rt.stdout(), &mut err),
         Err(refused) => end(&mut err, &ending_of(&refused)),
-    }
+    })
 }
 
 fn main(rt: HostRuntime) -> ExitCode {
-    ExitCode::from(start(&rt))
+    start(&rt)
 }
