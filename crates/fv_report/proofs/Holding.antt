@@ -24,8 +24,9 @@ use Rattle.answer_bounds.proofs.Fitting.{answers_fit}
 use Rattle.proxy_core.specs.declared.parts.Desk.{Desk}
 use Rattle.proxy_core.proofs.Acting.{either_empty}
 use Rattle.proxy_core.specs.Desks.{Takes, Steps}
-use Rattle.fv_report.specs.Holding.{waiting, Holds, nothing, IsQuiet, with_waiting, from_slot, After}
+use Rattle.fv_report.specs.Holding.{waiting, Holds, nothing, IsQuiet, with_waiting, After}
 use Rattle.fv_report.specs.Taking.{message_taken, is_nothing}
+use Rattle.fv_report.proofs.Slices.{from_slot}
 
 -- ---- what waits, said otherwise
 

@@ -15,7 +15,7 @@ use Rattle.desk_words.specs.Built as built
 use Rattle.desk_words.specs.Built.{is_unbuilt_of_switch, is_unbuilt_of_slice, unbuilt_in, lack_of, first_lack}
 use Rattle.fv_report.specs.declared.streams.Streams.{Streams}
 use Rattle.fv_report.specs.Streams.{AreFresh, Restarts, TookFrame, connection, StreamsStand}
-use Rattle.fv_report.specs.Lacks.{is_unbuilt, FoundIn, FindsIn, FindsInBytes, FindsAtSlot, FindsAt, AllFresh, AllStream, lack_at, lack_seen}
+use Rattle.fv_report.specs.Lacks.{is_unbuilt, FoundIn, FindsIn, FindsInBytes, FindsAtSlot, FindsAt, AllFresh, lack_at, lack_seen}
 use Rattle.fv_report.proofs.Streaming.{next_left, nothing_left}
 use Rattle.fv_report.proofs.Recorded.{frames_fed, streams_fresh, streams_up, streams_heard, streams_slice_up, streams_slice_heard, stream_by, set_get}
 use Rattle.fv_report.proofs.Running.{streams_other}
@@ -116,6 +116,11 @@ each_more P [] new each own zero x is = subst P (same_Some new x is) own
 each_more P [] new each own (suc at) x is = absurd (none-some x is)
 each_more P (first ∷ others) new each own zero x is = each 0 x is
 each_more P (first ∷ others) new each own (suc at) x is = each_more P others new (λ k y g. each (suc k) y g) own at x is
+
+-- the streams of all switches after records, the newest first
+pub record AllStream (slices : ℕ) (before : List Told) (switches : List Streams) : Type 0 where
+  pub count : length switches ≡ 16
+  pub each : (number : ℕ) (streams : Streams) → slice_get switches number ≡ Some streams → StreamsStand slices number before streams
 
 -- the streams after a record of a switch
 streams_among : (slices : ℕ) (r : Told) (before : List Told) (switches : List Streams) (new : Streams) → StreamsStand slices r.switch (r ∷ before) new → AllStream slices before switches → AllStream slices (r ∷ before) (set switches r.switch new)

@@ -1,7 +1,7 @@
 pub mod Writing
 pub mod Draining
-pub mod Holding
 pub mod Slices
+pub mod Holding
 pub mod Turning
 pub mod Streaming
 pub mod Playing

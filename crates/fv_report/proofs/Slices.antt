@@ -1,5 +1,5 @@
 -- The lines for the slices, one slot after another.
-use Rattle.std.proofs.Common.{◌≡◌, ◌+◌, ℕ, ltb, false, List, ◌++◌, drop, length, refl, sym, ap, ◌∙◌, append_assoc, subst, Option, Some, slice_get, arith}
+use Rattle.std.proofs.Common.{◌≡◌, ◌+◌, ℕ, ltb, false, if◌then◌else◌, List, [], ◌++◌, drop, length, refl, sym, ap, ◌∙◌, append_assoc, subst, Option, Some, slice_get, arith}
 use Rattle.std.proofs.lemmas.List.{append-nil, drop_more, drop_all}
 use Rattle.std.proofs.lemmas.Option.{slice_get_within, get_or_from_slice_get}
 use Rattle.std.proofs.lemmas.Bool.Decides.{nat_tests}
@@ -7,8 +7,11 @@ use Rattle.fv_base.specs.Told.{appended}
 use Rattle.flowspace.specs.declared.slices.Slice.{Slice}
 use Rattle.desk_words.specs.Reports.{Place, slice_lines, lines_by_slot}
 use Rattle.fv_report.specs.Writing.{WrotePart}
-use Rattle.fv_report.specs.Holding.{from_slot}
 use Rattle.fv_report.proofs.Writing.{both, part_of_first, part_of_second}
+
+-- for the slices from a slot on as before, for those below it nothing
+abbrev pub from_slot : ℕ → (ℕ → List (List ℕ)) → ℕ → List (List ℕ)
+from_slot slot slices other = if ltb other slot then [] else slices other
 
 not_below : (at : ℕ) → ltb at at ≡ false
 not_below at = grind (arith, nat_tests)

@@ -1,5 +1,5 @@
 -- What a desk of a recording stands for: a history, and the messages that wait (this proxy's own rule).
-use Rattle.std.specs.Prelude.{ℕ, ◌≡◌, ◌==◌, ltb, Bool, true, false, if◌then◌else◌, List, [], ◌∷◌}
+use Rattle.std.specs.Prelude.{ℕ, ◌≡◌, ◌==◌, Bool, true, false, if◌then◌else◌, List, [], ◌∷◌}
 use Rattle.flowspace.specs.Policies.{PolicyView}
 use Rattle.outbox.specs.Queues.{Queue}
 use Rattle.desk_words.specs.declared.event.Timed.{Timed}
@@ -32,10 +32,6 @@ IsQuiet policy h desk = Holds policy h nothing [] desk
 -- for one slice so much waits, for the others as before
 abbrev pub with_waiting : ℕ → List (List ℕ) → (ℕ → List (List ℕ)) → ℕ → List (List ℕ)
 with_waiting slot messages slices other = if slot == other then messages else slices other
-
--- for the slices from a slot on as before, for those below it nothing
-abbrev pub from_slot : ℕ → (ℕ → List (List ℕ)) → ℕ → List (List ℕ)
-from_slot slot slices other = if ltb other slot then [] else slices other
 
 -- after an event: it is taken in and what it makes waits, or nothing more comes of the history
 abbrev pub After : PolicyView → List Timed → Timed → Bool → Desk → Type 0

@@ -48,11 +48,6 @@ pub record AllFresh (slices : ℕ) (switches : List Streams) : Type 0 where
   pub count : length switches ≡ 16
   pub each : (number : ℕ) (streams : Streams) → slice_get switches number ≡ Some streams → AreFresh slices streams
 
--- the streams of all switches after records, the newest first
-pub record AllStream (slices : ℕ) (before : List Told) (switches : List Streams) : Type 0 where
-  pub count : length switches ≡ 16
-  pub each : (number : ℕ) (streams : Streams) → slice_get switches number ≡ Some streams → StreamsStand slices number before streams
-
 -- what is told of a message that isn't built
 abbrev pub lack_at : Item → ℕ → Lack
 lack_at item kind = record { kind = kind; at = head_place item }

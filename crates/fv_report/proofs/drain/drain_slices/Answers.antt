@@ -4,10 +4,10 @@ use Rattle.std.proofs.lemmas.Option.{slice_get_read}
 use Rattle.flowspace.specs.declared.slices.Slice.{Slice}
 use Rattle.desk_words.specs.Reports.{lines_by_slot}
 use Rattle.fv_report.specs.Lines.{place_of}
-use Rattle.fv_report.specs.Holding.{Holds, from_slot}
+use Rattle.fv_report.specs.Holding.{Holds}
 use Rattle.fv_report.proofs.Holding.{holds_next, holds_none}
 use Rattle.fv_report.proofs.Writing.{at_fault, fault_after}
-use Rattle.fv_report.proofs.Slices.{slot_more, slot_part, slots_done}
+use Rattle.fv_report.proofs.Slices.{from_slot, slot_more, slot_part, slots_done}
 use Rattle.fv_report.proofs.drain.drain_slices.Goals as goal
 
 pub returns-in_err-drain_slice-clause-writes : goal.returns-in_err-drain_slice-clause-writes

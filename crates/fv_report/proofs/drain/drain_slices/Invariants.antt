@@ -3,7 +3,8 @@ use Rattle.fv_base.specs.Told.{appended}
 use Rattle.desk_words.specs.declared.event.Timed.{Timed}
 use Rattle.desk_words.specs.Reports.{lines_by_slot}
 use Rattle.fv_report.specs.Lines.{place_of}
-use Rattle.fv_report.specs.Holding.{Holds, from_slot}
+use Rattle.fv_report.specs.Holding.{Holds}
+use Rattle.fv_report.proofs.Slices.{from_slot}
 use Rattle.fv_report.proofs.drain.drain_slices.Given as goal
 
 abbrev pub invariant-loop-slot : goal.invariant-loop-slot
