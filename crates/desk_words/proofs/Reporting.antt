@@ -4,6 +4,7 @@ use Rattle.std.specs.List.{flat_map, enumerate_from, range_with_len}
 use Rattle.std.proofs.lemmas.List.{length-map}
 use Rattle.std.proofs.lemmas.List.Concat.{flat_map-append}
 use Rattle.std.proofs.lemmas.List.FromFn.{length-enumerate_from}
+use Rattle.std.proofs.Math.Seq.{take-append_seam}
 use Rattle.flowspace.specs.declared.slices.Slice.{Slice}
 use Rattle.flowspace.specs.Policies.{PolicyView}
 use Rattle.recording.specs.Recordings.{Told}
@@ -12,7 +13,7 @@ use Rattle.desk_words.specs.Sent.{sent_by, lane_by}
 use Rattle.desk_words.specs.Verdicts.{is_over}
 use Rattle.desk_words.specs.Recorded.{next_of, next_after, history_at, events_in}
 use Rattle.desk_words.specs.Reports.{Place, lane_lines, slice_lines, lines_by_slot, name_at, close_lines, down_lines, event_lines, lines_of, last_line, report_from}
-use Rattle.desk_words.specs.Laws.{Happened, each_after, happened_in, all_happened, lines_at, HasEachEventOnce, ShowsEachSlice}
+use Rattle.desk_words.specs.Laws.{Happened, each_after, happened_in, all_happened, ComeBeforeLater, lines_at, HasEachEventOnce, ShowsEachSlice}
 use Rattle.desk_words.proofs.Making.{reverse_more}
 
 -- ---- numbered lists
@@ -69,6 +70,18 @@ next_happened policy before r later =
     (flat_map_later (λ one. happened_in policy (reverse (take one.0 (r ∷ later)) ++ before) one.1) 0 later
     ∙ flat_map_same _ _ (λ one. ap (λ (front : List Told). happened_in policy front one.1) (reverse_more r (take one.0 later) before)) (enumerate_from 0 later))
 
+happened_both : (policy : PolicyView) (before earlier later : List Told)
+    → happened_after policy before (earlier ++ later) ≡ happened_after policy before earlier ++ happened_after policy (reverse earlier ++ before) later
+happened_both policy before [] later = refl
+happened_both policy before (r ∷ rest) later =
+    let own = happened_in policy before r in
+    next_happened policy before r (rest ++ later)
+    ∙ ap (λ events. own ++ events) (happened_both policy (r ∷ before) rest later)
+    ∙ sym (append_assoc own (happened_after policy (r ∷ before) rest) (happened_after policy (reverse rest ++ r ∷ before) later))
+    ∙ ap₂ (λ (first second : List Happened). first ++ second)
+    (sym (next_happened policy before r rest))
+    (ap (λ (front : List Told). happened_after policy front later) (sym (reverse_more r rest before)))
+
 shown_both : (policy : PolicyView) (number : ℕ) (first second : List Happened) → shown policy number (first ++ second) ≡ shown policy number first ++ shown policy (number + length first) second
 shown_both policy number first second =
     ap (flat_map (lines_at policy)) (enumerate_both number first second)
@@ -99,6 +112,14 @@ from_zero n = omega arith
 
 pub from_none : (policy : PolicyView) (records : List Told) → happened_after policy [] records ≡ all_happened policy records
 from_none policy records = flat_map_same _ _ (λ one. ap (λ (front : List Told). happened_in policy front one.1) (append-nil (reverse (take one.0 records)))) (enumerate_from 0 records)
+
+pub come_before_later : (policy : PolicyView) (earlier later : List Told) → ComeBeforeLater policy earlier later
+come_before_later policy earlier later =
+    let events = all_happened policy earlier in
+    let behind = happened_after policy (reverse earlier ++ []) later in
+    let both : all_happened policy (earlier ++ later) ≡ events ++ behind =
+    sym (from_none policy (earlier ++ later)) ∙ happened_both policy [] earlier later ∙ ap (λ first. first ++ behind) (from_none policy earlier) in
+    ap (take (length events)) both ∙ take-append_seam events behind
 
 pub each_event_once : (policy : PolicyView) (records : List Told) → HasEachEventOnce policy records
 each_event_once policy records =

@@ -312,6 +312,11 @@ happened_in policy before r = each_after r.switch (history_at policy r before) (
 abbrev pub all_happened : PolicyView → List Told → List Happened
 all_happened policy records = flat_map (λ one. happened_in policy (reverse (take one.0 records)) one.1) (enumerate_from 0 records)
 
+-- the events of a recording's first records are the first of all its events, whatever records come behind them
+abbrev pub ComeBeforeLater : PolicyView → List Told → List Told → Type 0
+ComeBeforeLater policy earlier later =
+    take (length (all_happened policy earlier)) (all_happened policy (earlier ++ later)) ≡ all_happened policy earlier
+
 -- the lines of an event at its number
 abbrev pub lines_at : PolicyView → ℕ × Happened → List ℕ
 lines_at policy one = event_lines policy (record { number = one.0; switch = one.1.switch }) one.1.history one.1.timed

@@ -11,7 +11,7 @@ ghost use Rattle.desk_words.specs.declared.answer.Verdict.{Verdict};
 ghost use Rattle.desk_words.specs.Operations.{Operation, IsLegal, queue_of, lane_of};
 ghost use Rattle.desk_words.specs.Reports.{Place};
 ghost use Rattle.desk_words.specs.Built.{Lack, first_lack};
-ghost use Rattle.desk_words.specs.Laws.{IsPhaseByEvents, IsAlone, AreAlike, IsErasable, IsBlindBefore, IsSilentUntilUp, IsDownAfterDown, IsUpByEvents, sent_since, taken_since, lane_since, lane_taken_since, AreInOrder, SliceWaits, LaneWaits, AreCompletedOnce, SeesItsSwitch, AreKnownInOrder, AreKnownAsTold, MakesTheFirst, GetsTheFirst, ComeAtTheirSwitch, HasEachEventOnce, ShowsEachSlice, IsToldAsAlone, AreBuilt, IsFirstLack};
+ghost use Rattle.desk_words.specs.Laws.{IsPhaseByEvents, IsAlone, AreAlike, IsErasable, IsBlindBefore, IsSilentUntilUp, IsDownAfterDown, IsUpByEvents, sent_since, taken_since, lane_since, lane_taken_since, AreInOrder, SliceWaits, LaneWaits, AreCompletedOnce, SeesItsSwitch, AreKnownInOrder, AreKnownAsTold, MakesTheFirst, GetsTheFirst, ComeAtTheirSwitch, ComeBeforeLater, HasEachEventOnce, ShowsEachSlice, IsToldAsAlone, AreBuilt, IsFirstLack};
 
 /// The switch's connection has ended where, after it came, it went or a message of a bad length came; the
 /// opening is the first FEATURES_REPLY between.
@@ -93,6 +93,12 @@ pub fn record_makes_the_first()
 pub fn events_come_at_their_switch()
     ensures order { (h events : List Timed) → GetsTheFirst h events }
     ensures place { (policy : PolicyView) (r : Told) (before : List Told) → ComeAtTheirSwitch policy r before }
+{}
+
+/// The events of the first records of a recording, each with its switch and the history before it, are the
+/// first of all its events, whatever records come behind them.
+pub fn earlier_records_have_the_first_events()
+    ensures { (policy : PolicyView) (earlier later : List Told) → ComeBeforeLater policy earlier later }
 {}
 
 /// A report is the lines of all events of its recording, each at its number and after the history of its
