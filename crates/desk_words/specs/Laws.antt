@@ -26,6 +26,7 @@ use Rattle.desk_words.specs.Openings.{features_told, status_told, phase_of, open
 use Rattle.desk_words.specs.Histories.{is_slot, settings_at, own_ports, own_features, side_start, side_of, view_of, is_open, is_slice_up}
 use Rattle.desk_words.specs.Sent.{sent_by, sent, lane_by}
 use Rattle.desk_words.specs.Verdicts.{is_fresh, is_ended, is_over, is_switch_up}
+use Rattle.desk_words.specs.Wants.{may_want}
 use Rattle.desk_words.specs.Operations.{Operation, Step, Take, takes_in, events_of, empties_slice, ends, slice_limit, lane_limit, is_slice, is_switch, queue_of, lane_of}
 use Rattle.desk_words.specs.Recorded.{is_same_stream, begins_stream, stream_before, timed_at, happenings, next_of, next_after, history_of, history_at, events_in, completed}
 use Rattle.desk_words.specs.Reports.{Place, lane_lines, slice_lines, name_at, close_lines, down_lines, event_lines, last_line, report}
@@ -357,6 +358,12 @@ abbrev pub IsToldAsAlone : PolicyView → ℕ → ℕ → List Told → Type 0
 IsToldAsAlone policy slot switch records =
     let h = history_of policy switch (reverse records) in
     told_over policy slot (since_up switch (all_happened policy records)) ≡ alone (settings_at policy slot (opening_of h)) (view_of policy slot h)
+
+-- ---- want of memory
+
+-- for an event after a history no memory may be wanted
+abbrev pub WantsNone : PolicyView → List Timed → Timed → Type 0
+WantsNone policy h timed = may_want policy h timed ≡ false
 
 -- ---- what isn't built
 

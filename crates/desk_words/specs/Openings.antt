@@ -11,7 +11,7 @@ use Rattle.of10_port.specs.PortStatus.{read_port_status}
 use Rattle.flowspace.specs.declared.rules.Rule.{Rule}
 use Rattle.flowspace.specs.Order.{rules_on}
 use Rattle.flowspace.specs.Policies.{PolicyView}
-use Rattle.port_view.specs.KnownPorts.{first_known, changed}
+use Rattle.port_view.specs.KnownPorts.{first_known, is_kept, changed}
 use Rattle.desk_words.specs.declared.event.Event.{Event}
 use Rattle.desk_words.specs.declared.event.Event.TheVariants.{SwitchUp, SwitchMsg, SwitchDown}
 use Rattle.desk_words.specs.declared.event.Timed.{Timed}
@@ -94,6 +94,15 @@ known_after phase known event = known
 abbrev pub known_of : List Timed → List (List ℕ)
 known_of [] = []
 known_of (timed ∷ h) = known_after (phase_of h) (known_of h) timed.event
+
+-- the change of a port, where there is one and it is kept beside the ports that are known
+abbrev pub kept_beside : List (List ℕ) → Option PortStatus → Option PortStatus
+kept_beside known None = None
+kept_beside known (Some status) = if is_kept status known then Some status else None
+
+-- what a message tells of a port and is kept
+abbrev pub status_kept : List (List ℕ) → List ℕ → Option PortStatus
+status_kept known message = kept_beside known (status_told message)
 
 -- ---- all that is known of a switch
 

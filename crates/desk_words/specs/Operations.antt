@@ -16,7 +16,8 @@ use Rattle.desk_words.specs.declared.phase.Phase.{Phase}
 use Rattle.desk_words.specs.Openings.{phase_after, phase_of}
 use Rattle.desk_words.specs.Histories.{is_slot, is_open, is_slice_up}
 use Rattle.desk_words.specs.Sent.{sent_by, lane_by}
-use Rattle.desk_words.specs.Verdicts.{is_fresh, is_ended, verdict, may_want}
+use Rattle.desk_words.specs.Verdicts.{is_fresh, is_ended, verdict}
+use Rattle.desk_words.specs.Wants.{may_want}
 
 -- an operation with its reply
 pub data Operation : Type 0 where
@@ -133,7 +134,7 @@ take_reply policy before dest =
 -- a reply to a step is right: the verdict on its event, or want of memory where memory may be wanted for it
 abbrev pub IsReply : PolicyView → List Operation → Timed → Result Verdict AllocError → Type 0
 IsReply policy before timed (Ok answered) = answered ≡ verdict policy (events_of before) timed
-IsReply policy before timed (Err fault) = IsTrue (may_want policy (events_of before) timed.event)
+IsReply policy before timed (Err fault) = IsTrue (may_want policy (events_of before) timed)
 
 -- a list of operations is legal where each reply is right by those before it
 abbrev pub IsLegal : PolicyView → List Operation → Type 0

@@ -1,8 +1,5 @@
 -- What a desk answers to an event (this proxy's own rule).
-use Rattle.std.specs.Prelude.{ℕ, ◌^◌, ◌||◌, ◌&&◌, not, leb, Bool, true, false, if◌then◌else◌, List, ◌∷◌, length, is_some}
-use Rattle.of10_ctl.specs.declared.kind.TheConstants.{ECHO_REQUEST}
-use Rattle.of10_ctl.specs.Frames.{is_bad}
-use Rattle.of10_ctl.specs.Kinds.{is_of}
+use Rattle.std.specs.Prelude.{ℕ, ◌^◌, ◌||◌, ◌&&◌, not, leb, Bool, true, false, if◌then◌else◌, List, ◌∷◌, length}
 use Rattle.flowspace.specs.Policies.{PolicyView}
 use Rattle.desk_words.specs.declared.event.Event.{Event}
 use Rattle.desk_words.specs.declared.event.Event.TheVariants.{SwitchUp, SwitchMsg, SwitchDown, SliceUp, SliceMsg, SliceDown}
@@ -11,8 +8,8 @@ use Rattle.desk_words.specs.declared.phase.Phase.{Phase}
 use Rattle.desk_words.specs.declared.phase.Phase.TheVariants.{Fresh, Begun, Opened, Ended}
 use Rattle.desk_words.specs.declared.answer.Verdict.{Verdict}
 use Rattle.desk_words.specs.declared.answer.Verdict.TheVariants as verdicts
-use Rattle.desk_words.specs.Openings.{features_told, phase_of}
-use Rattle.desk_words.specs.Histories.{is_slot, is_open, is_slice_up}
+use Rattle.desk_words.specs.Openings.{phase_of}
+use Rattle.desk_words.specs.Histories.{is_slot, is_slice_up}
 
 -- the switch hasn't connected
 abbrev pub is_fresh : Phase → Bool
@@ -65,23 +62,3 @@ closes policy h timed = is_closing policy (phase_of h) (λ slot. is_slice_up pol
 -- what is answered to an event after a history
 abbrev pub verdict : PolicyView → List Timed → Timed → Verdict
 verdict policy h timed = if is_over h then verdicts.Ended else if closes policy h timed then verdicts.Close else verdicts.Go
-
--- ---- want of memory
-
--- memory may be wanted for a message of a switch that has told what it is, and before that for one that tells it or asks for an echo; but for none of a bad length
-abbrev pub may_want_told : Phase → List ℕ → Bool
-may_want_told Begun message = is_some (features_told message) || is_of ECHO_REQUEST message
-may_want_told Opened message = not (is_bad message)
-may_want_told phase message = false
-
--- memory may be wanted for an event, where the switch's connection is in a phase and those of the slices are so up: the switch's up and such a message of it, and once it has told what it is the up of a slice of the policy and a message of one that is up. For a down none is wanted
-abbrev pub may_want_in : PolicyView → Phase → (ℕ → Bool) → Event → Bool
-may_want_in policy phase slice_up SwitchUp = true
-may_want_in policy phase slice_up (SwitchMsg message) = may_want_told phase message
-may_want_in policy phase slice_up (SliceUp slot) = is_open phase && is_slot policy slot
-may_want_in policy phase slice_up (SliceMsg slot message) = is_slot policy slot && slice_up slot
-may_want_in policy phase slice_up event = false
-
--- the same of an event after a history, of which more may come
-abbrev pub may_want : PolicyView → List Timed → Event → Bool
-may_want policy h event = not (is_over h) && may_want_in policy (phase_of h) (λ slot. is_slice_up policy slot h) event

@@ -11,5 +11,6 @@ mod Operating
 mod Events
 mod Sliced
 mod Switched
+mod Effects
 mod Wanting
 mod Taking

@@ -27,7 +27,7 @@ over_is p ops desk b s is = sym (ap₂ (λ (phase : Phase) (n : ℕ). is_ended p
 
 -- memory ran out
 pub refused : (p : PolicyView) (ops : List Operation) (timed : Timed) (fault : AllocError) (old new : Desk) → DeskStands p ops old → (is_ended old.phase || leb (2 ^ 60) old.events) ≡ false
-    → Stays old new → new.events ≡ old.events → MayWant old timed.event → Replied p ops timed (Err fault) new
+    → Stays old new → new.events ≡ old.events → MayWant old timed → Replied p ops timed (Err fault) new
 refused p ops timed fault old new s is stays same wants =
     let h = events_of ops in
     let on = over_is p ops old false s is in

@@ -85,6 +85,14 @@ queue_read slot at session queue here has read =
     let q = in_queues session slot has in
     slice_get_read session.queues.items (length session.queues.items) at queue refl (omega (arith, q, here)) read
 
+-- the state that was read at a place
+pub state_read : (slot at : ℕ) (session : Session) (read : SliceState) → at ≡ slot → has_slot session slot ≡ true → read ≡ get_or session.states.items at read
+    → (state : SliceState) → slice_get session.states.items slot ≡ Some state → read ≡ state
+state_read slot at session read here has is state g =
+    let s = in_states session slot has in
+    same_Some _ _ (sym (slice_get_read session.states.items (length session.states.items) at read refl (omega (arith, s, here)) is)
+    ∙ subst (λ (k : ℕ). slice_get session.states.items k ≡ Some state) (sym here) g)
+
 -- what was at a place, where the state and the queue were read there
 pub placed_here : (slot at : ℕ) (Becomes : SliceState → Kept → SliceState → Kept → Type 0) (old new : Session) (a x : SliceState) (b y : Kept) → at ≡ slot → has_slot old slot ≡ true
     → new.policy ≡ old.policy → new.features ≡ old.features → new.ports ≡ old.ports

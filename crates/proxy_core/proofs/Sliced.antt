@@ -151,7 +151,7 @@ went old new a b slot moment there_ was policy phase lane now is at =
 -- ---- a message of it, where it is up
 
 -- what the slice is told of its switch is what it saw
-sees : (p : PolicyView) (switch : Switch) (sides : ℕ → Side) (qs : ℕ → Queue) (a : Session) (slot : ℕ) → Coherent p switch sides → SessionStands p switch sides qs a → is_slot p slot ≡ true → is_up (sides slot).sight.view ≡ true
+pub sees : (p : PolicyView) (switch : Switch) (sides : ℕ → Side) (qs : ℕ → Queue) (a : Session) (slot : ℕ) → Coherent p switch sides → SessionStands p switch sides qs a → is_slot p slot ≡ true → is_up (sides slot).sight.view ≡ true
     → Sees (settings_at p slot switch.features) (sides slot).sight.view a.policy a.ports a.features slot
 sees p switch sides qs a slot fit s here up =
     let saw = fit.seen a.features s.told slot here in
@@ -188,7 +188,7 @@ hears_slot p switch sides qs slot moment message on lane new_lane x y z w opened
           (sym (append-nil (answer_to (settings_at p slot switch.features) (sides slot).sight.view (Msg message moment)).to_slice)) (heard.to_slice slice_limit (qs slot) one.queue_stands),
     )
 
-put_heard : (p : PolicyView) (switch : Switch) (sides : ℕ → Side) (slot moment : ℕ) (message : List ℕ) → switch.phase ≡ Opened → is_slot p slot ≡ true → is_up (sides slot).sight.view ≡ true
+pub put_heard : (p : PolicyView) (switch : Switch) (sides : ℕ → Side) (slot moment : ℕ) (message : List ℕ) → switch.phase ≡ Opened → is_slot p slot ≡ true → is_up (sides slot).sight.view ≡ true
     → put_with p slot switch (sides slot) (record { event = SliceMsg slot message; moment = moment })
     ≡ map (rendered (sides slot).sight.came) (answer_to (settings_at p slot switch.features) (sides slot).sight.view (Msg message moment)).to_switch
 put_heard p switch sides slot moment message opened here up =

@@ -1,7 +1,7 @@
 -- A desk after a message of the switch.
-use Rattle.std.proofs.Common.{◌≡◌, ℕ, ◌&&◌, not, Bool, true, false, if◌then◌else◌, List, [], ◌∷◌, length, slice_get, refl, ap, ap₂, subst, sym, ◌∙◌, true≢false, inl, inr, ◌⊎◌, Option, Some, None, Result, Ok, Err, OnErr, IfOk, arith}
-use Rattle.std.specs.Prelude.{ltb}
-use Rattle.std.proofs.lemmas.Bool.{ltb-true}
+use Rattle.std.proofs.Common.{◌≡◌, ◌<◌, ℕ, ◌&&◌, not, Bool, true, false, if◌then◌else◌, List, [], ◌∷◌, length, slice_get, refl, ap, ap₂, subst, sym, ◌∙◌, true≢false, inl, inr, ◌⊎◌, Option, Some, None, Result, Ok, Err, OnErr, IfOk, arith}
+use Rattle.std.specs.Prelude.{ltb, is_some}
+use Rattle.std.proofs.lemmas.Bool.{ltb-true, or_left, or_right}
 use Rattle.std.proofs.lemmas.Option.{none-some}
 use Rattle.of10_ctl.specs.Frames.{is_bad}
 use Rattle.of10_port.specs.declared.features.Features.{Features}
@@ -18,20 +18,22 @@ use Rattle.desk_words.specs.declared.event.Event.TheVariants.{SwitchMsg}
 use Rattle.desk_words.specs.declared.event.Timed.{Timed}
 use Rattle.desk_words.specs.declared.phase.Phase.{Phase}
 use Rattle.desk_words.specs.declared.phase.Phase.TheVariants.{Fresh, Begun, Opened, Ended}
-use Rattle.desk_words.specs.Openings.{features_told, status_told, phase_after, opening_after, known_after, Switch, switch_after}
-use Rattle.desk_words.specs.Histories.{Side, message_items}
+use Rattle.desk_words.specs.Openings.{features_told, status_told, kept_beside, status_kept, phase_after, opening_after, known_after, Switch, switch_after}
+use Rattle.desk_words.specs.Histories.{Side, message_items, is_open}
 use Rattle.desk_words.specs.Sent.{preparation, echo_for, lane_in, put_with}
 use Rattle.desk_words.specs.Verdicts.{is_fresh, is_ended, is_closing}
+use Rattle.desk_words.specs.Wants.{is_any, is_answered, is_port_kept}
 use Rattle.desk_words.specs.Operations.{slice_limit, lane_limit}
 use Rattle.switch_side.specs.declared.dispatch.Dispatch.{Dispatch}
-use Rattle.switch_side.specs.Dispatches.{Surrounds, AllStand, IsDispatch, told_at, sent_from, kept_beside, status_kept}
+use Rattle.switch_side.specs.Dispatches.{Surrounds, AllStand, IsDispatch, told_at, sent_from}
 use Rattle.switch_side.proofs.Standing.{stands_still}
 use Rattle.proxy_core.specs.declared.parts.Session.{Session}
 use Rattle.proxy_core.specs.declared.parts.Desk.{Desk}
 use Rattle.proxy_core.specs.Slots.{HasOnly, HasMore}
-use Rattle.proxy_core.specs.Handing.{AreSame, AreHanded, kept_by}
+use Rattle.proxy_core.specs.Handing.{HasRoomForAll, AreSame, AreHanded, kept_by}
 use Rattle.proxy_core.specs.Desks.{SessionStands, Opens, Body, is_before, Coherent, sides_after, up_after, queues_after, Acted, Acts, ActsIn, Ends, PassesOn}
-use Rattle.proxy_core.specs.Opening.{Begins, CarriedOut, Carries, CountsHeader, StandsOn}
+use Rattle.proxy_core.specs.Opening.{Begins, CarriedOut, Carries, HasDispatch, StandsOn}
+use Rattle.proxy_core.proofs.Effects.{some_room, some_full, lane_answered, all_answered}
 use Rattle.proxy_core.proofs.Lists.{there, within}
 use Rattle.proxy_core.proofs.Standing.{items_opened, session_becomes, session_goes, queue_there}
 use Rattle.proxy_core.proofs.Handed.{slot_sent}
@@ -188,10 +190,10 @@ ports_kept : (known : List (List ℕ)) (told : Option PortStatus) → (elim told
 ports_kept known None = refl
 ports_kept known (Some status) = by_answer status known (kept_of status known) refl
 
-surrounds : (p : PolicyView) (switch : Switch) (sides : ℕ → Side) (qs : ℕ → Queue) (session : Session) → SessionStands p switch sides qs session → switch.phase ≡ Opened → Surrounds p switch session.policy session.ports
+pub surrounds : (p : PolicyView) (switch : Switch) (sides : ℕ → Side) (qs : ℕ → Queue) (session : Session) → SessionStands p switch sides qs session → switch.phase ≡ Opened → Surrounds p switch session.policy session.ports
 surrounds p switch sides qs session s open_ = record { opened = open_; slices = s.slices; rules = s.rules; known = s.known }
 
-all_stand : (p : PolicyView) (switch : Switch) (sides : ℕ → Side) (qs : ℕ → Queue) (session : Session) → SessionStands p switch sides qs session → AllStand p switch sides session.states.items
+pub all_stand : (p : PolicyView) (switch : Switch) (sides : ℕ → Side) (qs : ℕ → Queue) (session : Session) → SessionStands p switch sides qs session → AllStand p switch sides session.states.items
 all_stand p switch sides qs session s slot state g = (queue_there p switch sides qs session slot state s g).2.state_stands
 
 -- the session after it
@@ -243,12 +245,30 @@ pub closed_bad : (moment : ℕ) (message : List ℕ) (old : Session) (p : Policy
 closed_bad moment message old p switch sides qs d open_ s dispatched goes =
     sym (dispatched p switch sides moment (surrounds p switch sides qs old s open_) (all_stand p switch sides qs old s)).close ∙ goes
 
--- a message after which the connection goes on counts its header
-pub goes_good : (message : List ℕ) (old : Session) (d : Dispatch)
-    → ((p : PolicyView) (switch : Switch) (sides : ℕ → Side) (moment : ℕ) → Surrounds p switch old.policy old.ports → AllStand p switch sides old.states.items → IsDispatch p switch sides moment message d)
-    → d.close ≡ false → CountsHeader message old
-goes_good message old d dispatched goes p switch sides qs open_ s =
-    sym (dispatched p switch sides 0 (surrounds p switch sides qs old s open_) (all_stand p switch sides qs old s)).close ∙ goes
+-- something follows from a message that has the switch sent something
+pub lane_follows : (room : ℕ) (message : List ℕ) (old : Session) (d : Dispatch) → ((p : PolicyView) (switch : Switch) (sides : ℕ → Side) (moment : ℕ) → Surrounds p switch old.policy old.ports → AllStand p switch sides old.states.items → IsDispatch p switch sides moment message d)
+    → room < length d.to_switch.items → (moment : ℕ) → HasDispatch moment message old
+lane_follows room message old d dispatched more moment p switch sides qs open_ s =
+    let is = dispatched p switch sides moment (surrounds p switch sides qs old s open_) (all_stand p switch sides qs old s) in
+    or_left (is_answered p switch sides (told_at moment message)) (is_port_kept switch (SwitchMsg message))
+    (lane_answered p switch sides (told_at moment message)
+    (ap (λ (k : Phase). is_any (lane_in (λ i. put_with p i switch (sides i) (told_at moment message)) k (SwitchMsg message))) open_ ∙ ap is_any (sym is.to_switch) ∙ some_room room (length d.to_switch.items) more))
+
+-- and from one that has slices sent something
+pub slices_follow : (message : List ℕ) (queues : List Kept) (old : Session) (d : Dispatch) → ((p : PolicyView) (switch : Switch) (sides : ℕ → Side) (moment : ℕ) → Surrounds p switch old.policy old.ports → AllStand p switch sides old.states.items → IsDispatch p switch sides moment message d)
+    → ¬ HasRoomForAll d.to_slices.items queues → (moment : ℕ) → HasDispatch moment message old
+slices_follow message queues old d dispatched full moment p switch sides qs open_ s =
+    let is = dispatched p switch sides moment (surrounds p switch sides qs old s open_) (all_stand p switch sides qs old s) in
+    or_left (is_answered p switch sides (told_at moment message)) (is_port_kept switch (SwitchMsg message))
+    (all_answered p switch sides (told_at moment message) (ap is_any (sym is.to_slices) ∙ some_full d.to_slices.items queues full))
+
+-- and from one that tells of a port what is kept
+pub port_follows : (message : List ℕ) (old : Session) (d : Dispatch) → ((p : PolicyView) (switch : Switch) (sides : ℕ → Side) (moment : ℕ) → Surrounds p switch old.policy old.ports → AllStand p switch sides old.states.items → IsDispatch p switch sides moment message d)
+    → is_some d.port ≡ true → (moment : ℕ) → HasDispatch moment message old
+port_follows message old d dispatched kept moment p switch sides qs open_ s =
+    let is = dispatched p switch sides moment (surrounds p switch sides qs old s open_) (all_stand p switch sides qs old s) in
+    or_right (is_answered p switch sides (told_at moment message)) (is_port_kept switch (SwitchMsg message))
+    (ap₂ (λ (k : Phase) (told : Option PortStatus). is_open k && is_some told) open_ (sym is.port) ∙ kept)
 
 -- ---- the desk hands a message on
 

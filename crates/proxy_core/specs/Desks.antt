@@ -22,7 +22,8 @@ use Rattle.desk_words.specs.declared.answer.Verdict.{Verdict}
 use Rattle.desk_words.specs.Openings.{rules_of, phase_after, Switch as Known, switch_after, switch_of}
 use Rattle.desk_words.specs.Histories.{is_slot, settings_at, Side, side_start, items_of, with_shown, side_of, is_open}
 use Rattle.desk_words.specs.Sent.{sent_with, put_with, lane_in, echo_for}
-use Rattle.desk_words.specs.Verdicts.{is_ended, is_closing, may_want_in}
+use Rattle.desk_words.specs.Verdicts.{is_ended, is_closing}
+use Rattle.desk_words.specs.Wants.{may_want_after}
 use Rattle.desk_words.specs.Operations.{Operation, Step, Take, events_of, slice_limit, lane_limit, empties, is_ending, is_slice, is_switch, queue_of, lane_of, waiting_in, silence, take_reply, IsReply}
 use Rattle.desk_words.specs.Laws.{HasSeen}
 use Rattle.proxy_core.specs.declared.parts.Session.{Session}
@@ -121,10 +122,10 @@ ActsIn phase old timed go new =
     → Coherent policy switch sides → Body policy switch sides qs ql old → switch.phase ≡ phase → Acted policy switch sides qs ql timed go new
 
 -- memory may be wanted for an event, by all that a desk stands for while the switch's connection hasn't ended
-abbrev pub MayWant : Desk → Event → Type 0
-MayWant desk event =
+abbrev pub MayWant : Desk → Timed → Type 0
+MayWant desk timed =
     (policy : PolicyView) (switch : Known) (sides : ℕ → Side) (qs : ℕ → Queue) (ql : Queue)
-    → Coherent policy switch sides → Body policy switch sides qs ql desk → is_ended switch.phase ≡ false → IsTrue (may_want_in policy switch.phase (up_now switch sides) event)
+    → Coherent policy switch sides → Body policy switch sides qs ql desk → is_ended switch.phase ≡ false → IsTrue (may_want_after policy switch sides timed)
 
 -- the switch's connection ended, and nothing waits for it
 pub record Ends (old new : Desk) : Type 0 where

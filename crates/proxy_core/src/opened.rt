@@ -1,6 +1,6 @@
 //! How a session begins, and what a message of the switch brings to it.
 
-ghost use Rattle.std.specs.Prelude.{ℕ, ◌≡◌, ◌≤◌, List, [], ◌∷◌, length, IfOk, OnOk, OnErr, All};
+ghost use Rattle.std.specs.Prelude.{ℕ, ◌≡◌, ◌≤◌, List, [], ◌∷◌, length, is_some, IsTrue, IfOk, OnOk, OnErr, All};
 ghost use Rattle.flowspace.specs.Slices.{IsPlainSlice};
 ghost use Rattle.proxy_core.specs.Opening.{AreFresh, AreEmpty, Begins};
 ghost use Rattle.proxy_core.specs.Handing.{HasRoomAt, HasRoomForAll, HaveRoom, AreSame, AreHanded, kept_by};
@@ -96,6 +96,7 @@ pub(crate) fn make_rooms(
 pub(crate) fn keep(ports: &mut PortView, told: Option<PortStatus>) -> Result<(), AllocError>
     ensures ok { OnOk result (ports.new ≡ kept_by told ports.old) }
     ensures err { OnErr result (ports.new ≡ ports.old) }
+    ensures memory { OnErr result (IsTrue (is_some told)) }
 {
     if let Some(status) = told {
         ports.take_status(&status)?;

@@ -1,8 +1,9 @@
 //! What events make of a session.
 
-ghost use Rattle.std.specs.Prelude.{ℕ, ◌≡◌, true, false, IfOk, OnOk, OnErr, IsTrue};
-ghost use Rattle.proxy_core.specs.Slots.{Comes, Hears, Keeps, SameQueue};
-ghost use Rattle.proxy_core.specs.Opening.{has_slot, is_up_at, AtSlot, Goes, Carries, CountsHeader, StandsOn};
+ghost use Rattle.std.specs.Prelude.{ℕ, ◌≡◌, true, false, slice_get, Some, IfOk, OnOk, OnErr, IsTrue};
+ghost use Rattle.flow_book.specs.declared.state.SliceState.{SliceState};
+ghost use Rattle.proxy_core.specs.Slots.{Comes, HasEffect, Hears, Keeps, SameQueue};
+ghost use Rattle.proxy_core.specs.Opening.{has_slot, is_up_at, AtSlot, Goes, Carries, HasDispatch, StandsOn};
 
 use crate::lane::{make_room, push_all};
 use crate::opened::{hand_out, keep, make_rooms};
@@ -71,6 +72,7 @@ impl Session {
         ensures err { OnErr result (AtSlot slot Keeps self.old self.new) }
         ensures lane { OnErr result (SameQueue lane.old lane.new) }
         ensures memory { OnErr result (IsTrue (is_up_at self.old slot)) }
+        ensures effect { OnErr result ((state : SliceState) → slice_get self.old.states.items slot ≡ Some state → HasEffect self.old.policy self.old.ports self.old.features slot frame.now moment state) }
     {
         if !self.is_up(slot) {
             return Ok(false);
@@ -100,7 +102,7 @@ impl Session {
         ensures ok { IfOk result (λ on. (moment : ℕ) → Carries moment frame.now on self.old lane.old self.new lane.new) }
         ensures err { OnErr result (StandsOn self.old self.new) }
         ensures lane { OnErr result (SameQueue lane.old lane.new) }
-        ensures memory { OnErr result (CountsHeader frame.now self.old) }
+        ensures memory { OnErr result ((moment : ℕ) → HasDispatch moment frame.now self.old) }
     {
         if self.states.len() != self.policy.slices().len() {
             return Ok(false);

@@ -3,7 +3,7 @@
 ghost use Rattle.std.specs.Prelude.{ℕ, OnOk, OnErr, IfOk};
 ghost use Rattle.outbox.specs.Queues.{Queue, no_messages, QueueStands};
 ghost use Rattle.slice_words.specs.Items.{Down};
-ghost use Rattle.proxy_core.specs.Slots.{Comes, Hears, IsSeen, Keeps, SameQueue};
+ghost use Rattle.proxy_core.specs.Slots.{Comes, HasEffect, Hears, IsSeen, Keeps, SameQueue};
 
 use crate::lane::{make_room, push_all};
 use flow_book::SliceState;
@@ -58,6 +58,7 @@ pub(crate) fn hear(
     ensures ok { IfOk result (λ on. Hears policy.now ports.now features.now slot frame.now moment on state.old queue.old lane.old state.new queue.new lane.new) }
     ensures err { OnErr result (Keeps state.old queue.old state.new queue.new) }
     ensures lane { OnErr result (SameQueue lane.old lane.new) }
+    ensures memory { OnErr result (HasEffect policy.now ports.now features.now slot frame.now moment state.old) }
 {
     let reaction = react(alloc, policy, ports, features, state, slot, frame, moment)?;
     make_room(queue, reaction.to_slice.len())?;

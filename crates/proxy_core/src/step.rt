@@ -7,7 +7,9 @@ ghost use Rattle.of10_ctl.specs.Kinds.{is_of};
 ghost use Rattle.desk_words.specs.declared.event.Event.TheVariants.{SwitchUp, SwitchMsg, SwitchDown, SliceUp, SliceMsg, SliceDown};
 ghost use Rattle.desk_words.specs.declared.phase.Phase.TheVariants.{Begun, Opened};
 ghost use Rattle.desk_words.specs.Openings.{features_told, phase_after};
-ghost use Rattle.desk_words.specs.Verdicts.{is_ended, may_want_told};
+ghost use Rattle.desk_words.specs.Sent.{begun_lane};
+ghost use Rattle.desk_words.specs.Verdicts.{is_ended};
+ghost use Rattle.desk_words.specs.Wants.{is_any};
 ghost use Rattle.desk_words.specs.declared.answer.Verdict.TheVariants.{Go, Close};
 ghost use Rattle.proxy_core.specs.Desks.{Acts, ActsIn, MayWant, Stays, Ends, PassesOn, is_begun_with, DeskStands, Steps};
 
@@ -125,7 +127,7 @@ impl Desk {
     fn hear_first(&mut self, alloc: Global, frame: &Frame) -> Result<bool, AllocError>
         ensures ok { IfOk result (λ go. (moment : ℕ) → ActsIn Begun self.old (record { event = SwitchMsg frame.now; moment = moment }) go self.new) }
         ensures err { OnErr result (Stays self.old self.new) }
-        ensures memory { OnErr result (IsTrue (may_want_told Begun frame.now)) }
+        ensures memory { OnErr result (IsTrue (is_any (begun_lane frame.now))) }
         ensures events { self.new.events ≡ self.old.events }
     {
         if frame.bad_length() {
@@ -142,7 +144,7 @@ impl Desk {
     fn pass_on(&mut self, alloc: Global, frame: &Frame) -> Result<bool, AllocError>
         ensures ok { IfOk result (λ go. (moment : ℕ) → PassesOn moment frame.now go self.old self.new) }
         ensures err { OnErr result (Stays self.old self.new) }
-        ensures memory { OnErr result (MayWant self.old (SwitchMsg frame.now)) }
+        ensures memory { OnErr result ((moment : ℕ) → MayWant self.old (record { event = SwitchMsg frame.now; moment = moment })) }
         ensures events { self.new.events ≡ self.old.events }
     {
         match &mut self.session {
@@ -155,7 +157,7 @@ impl Desk {
     fn hear_later(&mut self, alloc: Global, frame: &Frame) -> Result<bool, AllocError>
         ensures ok { IfOk result (λ go. (moment : ℕ) → ActsIn Opened self.old (record { event = SwitchMsg frame.now; moment = moment }) go self.new) }
         ensures err { OnErr result (Stays self.old self.new) }
-        ensures memory { OnErr result (MayWant self.old (SwitchMsg frame.now)) }
+        ensures memory { OnErr result ((moment : ℕ) → MayWant self.old (record { event = SwitchMsg frame.now; moment = moment })) }
         ensures events { self.new.events ≡ self.old.events }
     {
         if !self.pass_on(alloc, frame)? {
@@ -169,7 +171,7 @@ impl Desk {
     fn hear_switch(&mut self, alloc: Global, frame: &Frame) -> Result<bool, AllocError>
         ensures ok { IfOk result (λ go. (moment : ℕ) → Acts self.old (record { event = SwitchMsg frame.now; moment = moment }) go self.new) }
         ensures err { OnErr result (Stays self.old self.new) }
-        ensures memory { OnErr result (MayWant self.old (SwitchMsg frame.now)) }
+        ensures memory { OnErr result ((moment : ℕ) → MayWant self.old (record { event = SwitchMsg frame.now; moment = moment })) }
         ensures events { self.new.events ≡ self.old.events }
     {
         match self.phase {
@@ -197,7 +199,7 @@ impl Desk {
     fn greet_slice(&mut self, alloc: Global, slot: u8) -> Result<bool, AllocError>
         ensures ok { IfOk result (λ go. (moment : ℕ) → Acts self.old (record { event = SliceUp slot; moment = moment }) go self.new) }
         ensures err { OnErr result (Stays self.old self.new) }
-        ensures memory { OnErr result (MayWant self.old (SliceUp slot)) }
+        ensures memory { OnErr result ((moment : ℕ) → MayWant self.old (record { event = SliceUp slot; moment = moment })) }
         ensures events { self.new.events ≡ self.old.events }
     {
         match &mut self.session {
@@ -216,7 +218,7 @@ impl Desk {
     ) -> Result<bool, AllocError>
         ensures ok { IfOk result (λ go. Acts self.old (record { event = SliceMsg slot frame.now; moment = moment }) go self.new) }
         ensures err { OnErr result (Stays self.old self.new) }
-        ensures memory { OnErr result (MayWant self.old (SliceMsg slot frame.now)) }
+        ensures memory { OnErr result (MayWant self.old (record { event = SliceMsg slot frame.now; moment = moment })) }
         ensures events { self.new.events ≡ self.old.events }
     {
         match &mut self.session {
@@ -247,7 +249,7 @@ impl Desk {
     fn act(&mut self, alloc: Global, timed: Timed) -> Result<bool, AllocError>
         ensures ok { IfOk result (λ go. Acts self.old timed go self.new) }
         ensures err { OnErr result (Stays self.old self.new) }
-        ensures memory { OnErr result (MayWant self.old timed.event) }
+        ensures memory { OnErr result (MayWant self.old timed) }
         ensures events { self.new.events ≡ self.old.events }
     {
         let Timed { event, moment } = timed;
@@ -269,10 +271,9 @@ impl Desk {
     }
 
     /// One event. `AllocError` leaves what the desk stands for as it was, though memory that was taken may
-    /// stay, and the event isn't counted. It comes only for the switch's up; for a message of the switch,
-    /// before it has told what it is one that tells that or asks for an echo, and then any of a good length;
-    /// and from then on for the up of a slice of the policy, and for a message of one that is up. After
-    /// `Ended` nothing more changes.
+    /// stay, and the event isn't counted. It comes only where the event has something sent, to the switch or
+    /// to a slice, or tells of a port what is kept, or is a packet-out or a flow-mod of a slice that is up,
+    /// whose actions are read. After `Ended` nothing more changes.
     pub fn step(&mut self, alloc: Global, timed: Timed) -> Result<Verdict, AllocError>
         ensures { Steps self.old timed result self.new }
     {

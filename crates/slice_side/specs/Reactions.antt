@@ -1,15 +1,11 @@
 -- What a slice's message makes of the slice's state, and what is answered (this proxy's own rule).
-use Rattle.std.specs.Prelude.{ℕ, ◌≡◌, ◌+◌, ◌||◌, ◌&&◌, leb, Bool, true, false, List, [], ◌∷◌, length, map, filter, take, drop, is_ok, Some}
-use Rattle.of10_model.specs.Normal.{number_at}
-use Rattle.of10_action.specs.Reading.{action_at}
-use Rattle.of10_ctl.specs.declared.kind.TheConstants.{PACKET_OUT, FLOW_MOD}
-use Rattle.of10_flow.specs.PacketOuts.{begins_well}
+use Rattle.std.specs.Prelude.{ℕ, ◌≡◌, ◌||◌, leb, Bool, true, false, List, [], ◌∷◌, length, map, filter, Some}
 use Rattle.of10_port.specs.declared.features.Features.{Features}
 use Rattle.flowspace.specs.declared.rules.Rule.{Rule}
 use Rattle.flowspace.specs.Rules.{is_written_by}
 use Rattle.flowspace.specs.Policies.{SwitchView}
 use Rattle.port_view.specs.SlicePorts.{ports_of_slice, features_with}
-use Rattle.slice_words.specs.Messages.{is_kind, is_dismissing, is_setting, miss_send_len_of}
+use Rattle.slice_words.specs.Messages.{is_dismissing, is_setting, miss_send_len_of, has_actions}
 use Rattle.slice_words.specs.Items.{Settings, Sight, Item, Msg, is_up, miss_send_len, features_in, known_ports}
 use Rattle.slice_words.specs.Answers.{Answer}
 use Rattle.slice_words.specs.Alone.{answer_to, rendered}
@@ -59,18 +55,6 @@ pub record IsReaction (s : Settings) (sight : Sight) (item : Item) (r : Reaction
 -- the answer has a message to the slice
 abbrev pub has_reply : Answer → Bool
 has_reply answer = leb 1 (length answer.to_slice)
-
--- a packet-out is long enough for its actions, of which the first, where there is one, is right (OpenFlow 1.0.0, section 5.3.6)
-abbrev pub begins_packet_out : List ℕ → Bool
-begins_packet_out message = leb (16 + number_at message 14 2) (length message) && begins_well (take (number_at message 14 2) (drop 16 message))
-
--- a flow-mod is long enough for its fields, and behind them stands an action that is right (section 5.3.3)
-abbrev pub begins_flow_mod : List ℕ → Bool
-begins_flow_mod message = leb 72 (length message) && is_ok (action_at (drop 72 message))
-
--- a packet-out or a flow-mod whose actions, or packet, are read into memory
-abbrev pub has_actions : List ℕ → Bool
-has_actions message = (is_kind PACKET_OUT message && begins_packet_out message) || (is_kind FLOW_MOD message && begins_flow_mod message)
 
 -- a message is replied to, or its actions are read
 abbrev pub is_heeded : Settings → List Item → List ℕ → ℕ → Bool

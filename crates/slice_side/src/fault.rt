@@ -8,8 +8,7 @@ ghost use Rattle.of10_ctl.specs.Frames.{is_bad};
 ghost use Rattle.of10_flow.specs.PacketOuts.{read_packet_out};
 ghost use Rattle.of10_flow.specs.FlowMods.{read_flow_mod};
 ghost use Rattle.of10_stats.specs.Requests.{read_request};
-ghost use Rattle.slice_words.specs.Messages.{version_of, sized, fault_in, form_fault};
-ghost use Rattle.slice_side.specs.Reactions.{begins_packet_out, begins_flow_mod, has_actions};
+ghost use Rattle.slice_words.specs.Messages.{version_of, sized, fault_in, form_fault, begins_packet_out, begins_flow_mod, has_actions};
 
 use of10_action::{DecodeFault, WireFault};
 use of10_ctl::Frame;

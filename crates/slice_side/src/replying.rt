@@ -2,10 +2,10 @@
 
 ghost use Rattle.std.specs.Prelude.{ℕ, ◌≡◌, ◌≤◌, ◌||◌, false, length, List, IfOk, OnErr, IsTrue, Some, option_to_list, true};
 ghost use Rattle.of10_ctl.specs.Frames.{is_bad};
-ghost use Rattle.slice_words.specs.Messages.{version_of, is_kind, is_from_controller};
+ghost use Rattle.slice_words.specs.Messages.{version_of, is_kind, is_from_controller, has_actions};
 ghost use Rattle.slice_words.specs.Items.{Settings, Item};
 ghost use Rattle.slice_words.specs.Answers.{Past, error_for, hello_answer, config_reply, setting_answer, local_answer, formed_answer, message_answer};
-ghost use Rattle.slice_side.specs.Reactions.{Shown, has_reply, has_actions};
+ghost use Rattle.slice_side.specs.Reactions.{Shown, has_reply};
 
 use crate::fault::form_fault;
 use flowspace::SwitchPolicy;

@@ -1,11 +1,12 @@
 -- What a controller's message to its slice is, by its bytes (OpenFlow 1.0.0, section 5).
-use Rattle.std.specs.Prelude.{ℕ, ◌==◌, ◌||◌, ◌&&◌, leb, Bool, if◌then◌else◌, List, length, slice_index, Option, Some, None, Result, Ok, Err}
+use Rattle.std.specs.Prelude.{ℕ, ◌==◌, ◌+◌, ◌||◌, ◌&&◌, leb, Bool, if◌then◌else◌, List, length, take, drop, slice_index, is_ok, Option, Some, None, Result, Ok, Err}
 use Rattle.of10_model.specs.Normal.{number_at}
 use Rattle.of10_action.specs.declared.fault.WireFault.{WireFault}
 use Rattle.of10_action.specs.declared.fault.WireFault.TheVariants.{Length}
+use Rattle.of10_action.specs.Reading.{action_at}
 use Rattle.of10_ctl.specs.declared.kind.TheConstants.{HELLO, FEATURES_REQUEST, GET_CONFIG_REQUEST, SET_CONFIG, PACKET_OUT, FLOW_MOD, STATS_REQUEST, BARRIER_REQUEST, QUEUE_GET_CONFIG_REQUEST}
 use Rattle.of10_ctl.specs.Frames.{is_bad}
-use Rattle.of10_flow.specs.PacketOuts.{read_packet_out}
+use Rattle.of10_flow.specs.PacketOuts.{read_packet_out, begins_well}
 use Rattle.of10_flow.specs.FlowMods.{read_flow_mod}
 use Rattle.of10_stats.specs.Requests.{read_request}
 
@@ -57,6 +58,20 @@ form_fault message =
     else if is_kind FLOW_MOD message then fault_in (read_flow_mod message)
     else if is_kind STATS_REQUEST message then fault_in (read_request message)
     else None
+
+-- ---- messages that are read into memory
+
+-- a packet-out is long enough for its actions, of which the first, where there is one, is right (section 5.3.6)
+abbrev pub begins_packet_out : List ℕ → Bool
+begins_packet_out message = leb (16 + number_at message 14 2) (length message) && begins_well (take (number_at message 14 2) (drop 16 message))
+
+-- a flow-mod is long enough for its fields, and behind them stands an action that is right (section 5.3.3)
+abbrev pub begins_flow_mod : List ℕ → Bool
+begins_flow_mod message = leb 72 (length message) && is_ok (action_at (drop 72 message))
+
+-- a packet-out or a flow-mod whose actions, or packet, are read into memory
+abbrev pub has_actions : List ℕ → Bool
+has_actions message = (is_kind PACKET_OUT message && begins_packet_out message) || (is_kind FLOW_MOD message && begins_flow_mod message)
 
 -- ---- how a controller sets its slice (section 5.3.2)
 

@@ -18,12 +18,12 @@ use Rattle.slice_words.specs.Answers.{packet_told}
 use Rattle.slice_words.specs.Alone.{sent_for}
 use Rattle.desk_words.specs.declared.phase.Phase.TheVariants.{Opened}
 use Rattle.of10_ctl.specs.Kinds.{is_of}
-use Rattle.desk_words.specs.Openings.{well_formed, status_told, rules_of, Switch}
+use Rattle.desk_words.specs.Openings.{well_formed, status_told, kept_beside, status_kept, rules_of, Switch}
 use Rattle.desk_words.specs.Histories.{is_slot, settings_at, Side, handed, header_in, shares_of, is_plain, packet_items, status_items, message_items, phase_items}
 use Rattle.port_view.specs.KnownPorts.{is_kept}
 use Rattle.desk_words.specs.Sent.{sent_with}
 use Rattle.desk_words.proofs.Seen.{no_kind}
-use Rattle.switch_side.specs.Dispatches.{kept_beside, status_kept, told_at}
+use Rattle.switch_side.specs.Dispatches.{told_at}
 use Rattle.switch_side.specs.Carrying.{unnumbered, once, packet_for, status_for}
 
 -- ---- packets

@@ -3,6 +3,7 @@ use Rattle.std.proofs.Common.{◌≡◌, ℕ, zero, suc, ◌+◌, ◌<◌, Bool,
 use Rattle.std.proofs.lemmas.Option.{slice_get_within}
 use Rattle.std.proofs.lemmas.Bool.{lt-ltb}
 use Rattle.of10_ctl.specs.declared.kind.TheConstants.{PACKET_IN}
+use Rattle.of10_model.specs.Header.{Header}
 use Rattle.of10_flow.specs.declared.packet_in.PacketIn.{PacketIn}
 use Rattle.of10_flow.specs.PacketIns.{read_packet_in, spell_packet_in}
 use Rattle.of10_port.specs.declared.status.PortStatus.{PortStatus}
@@ -16,10 +17,10 @@ use Rattle.slice_words.specs.Items.{is_own_port}
 use Rattle.desk_words.specs.declared.event.Timed.{Timed}
 use Rattle.desk_words.specs.declared.phase.Phase.TheVariants.{Opened}
 use Rattle.of10_ctl.specs.Kinds.{is_of}
-use Rattle.desk_words.specs.Openings.{well_formed, rules_of, Switch}
+use Rattle.desk_words.specs.Openings.{well_formed, status_kept, rules_of, Switch}
 use Rattle.desk_words.specs.Histories.{settings_at, Side, header_in, is_plain}
 use Rattle.desk_words.specs.Sent.{sent_with}
-use Rattle.switch_side.specs.Dispatches.{addressed, sent_from, status_kept, told_at, AllStand}
+use Rattle.switch_side.specs.Dispatches.{addressed, sent_from, told_at, AllStand}
 use Rattle.switch_side.specs.Carrying.{unnumbered, packet_for, said_from, packet_told, port_told, message_told}
 use Rattle.switch_side.proofs.OwnPorts.{has_port-own}
 use Rattle.switch_side.proofs.Slots.{say_status, say_found, say, slot_sent}
@@ -41,6 +42,12 @@ said_packet : (rules : List Rule) (states : List SliceState) (packet : PacketIn)
     ≡ (if plain then said_from (packet_for (writer_of rules (header_in packet)) (readers_of rules (header_in packet)) (spell_packet_in (unnumbered packet))) 0 states else [])
 said_packet rules states packet true = refl
 said_packet rules states packet false = said_none 0 states
+
+-- a packet that is plain is told to those that the first rule of its header names
+pub plain_told : (rules : List Rule) (states : List SliceState) (packet : PacketIn) (header : Header) (writer : Option ℕ) (readers : ℕ)
+    → is_plain packet ≡ true → header ≡ header_in packet → writer ≡ writer_of rules header → readers ≡ readers_of rules header
+    → said_from (packet_for writer readers (spell_packet_in (unnumbered packet))) 0 states ≡ packet_told rules states packet
+plain_told rules states packet header writer readers plain head writes reads = rw (plain, writes, reads, head) refl
 
 said_found : (rules : List Rule) (states : List SliceState) (found : Option PacketIn)
     → said_from (say_found rules found) 0 states ≡ elim found [ None ↦ [] | Some packet ↦ packet_told rules states packet ]

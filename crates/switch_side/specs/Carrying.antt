@@ -1,5 +1,5 @@
 -- The same by who is up, in place of what each slice sees. The parts of the code are proved by this.
-use Rattle.std.specs.Prelude.{ℕ, ◌&&◌, ◌+◌, Bool, false, if◌then◌else◌, List, [], ◌∷◌, ◌++◌, Option, Some, None}
+use Rattle.std.specs.Prelude.{ℕ, ◌&&◌, ◌||◌, ◌+◌, Bool, false, if◌then◌else◌, List, [], ◌∷◌, ◌++◌, Option, Some, None, is_some}
 use Rattle.of10_model.specs.Normal.{is_value, bit}
 use Rattle.of10_ctl.specs.declared.kind.TheConstants.{PACKET_IN}
 use Rattle.of10_ctl.specs.Frames.{is_bad}
@@ -14,11 +14,12 @@ use Rattle.flowspace.specs.Order.{writer_of, readers_of}
 use Rattle.flowspace.specs.Owners.{has_port}
 use Rattle.flow_book.specs.declared.state.SliceState.{SliceState}
 use Rattle.of10_ctl.specs.Kinds.{is_of}
-use Rattle.desk_words.specs.Openings.{well_formed}
+use Rattle.desk_words.specs.Openings.{well_formed, status_kept}
 use Rattle.desk_words.specs.Histories.{header_in, is_plain}
 use Rattle.desk_words.specs.Sent.{echo_for}
+use Rattle.desk_words.specs.Wants.{is_any}
 use Rattle.switch_side.specs.declared.dispatch.Dispatch.{Dispatch}
-use Rattle.switch_side.specs.Dispatches.{addressed, status_kept}
+use Rattle.switch_side.specs.Dispatches.{addressed}
 
 -- what a dispatch carries
 pub record Carried : Type 0 where
@@ -29,6 +30,10 @@ pub record Carried : Type 0 where
 
 abbrev pub carried : Dispatch → Carried
 carried d = record { messages = d.to_slices.items; replies = d.to_switch.items; status = d.port; ends = d.close }
+
+-- it carries something: a message for a slice or for the switch, or the change of a port
+abbrev pub carries_any : Carried → Bool
+carries_any c = is_any c.messages || is_any c.replies || is_some c.status
 
 -- ---- one slice
 

@@ -6,8 +6,8 @@ ghost use Rattle.flowspace.specs.Policies.{PolicyView};
 ghost use Rattle.slice_words.specs.Messages.{xid_of};
 ghost use Rattle.desk_words.specs.Openings.{Switch};
 ghost use Rattle.desk_words.specs.Histories.{Side};
-ghost use Rattle.switch_side.specs.Dispatches.{Surrounds, AllStand, IsDispatch, is_told};
-ghost use Rattle.switch_side.specs.Carrying.{carried, telling, carried_for};
+ghost use Rattle.switch_side.specs.Dispatches.{Surrounds, AllStand, IsDispatch, told_at, has_dispatch};
+ghost use Rattle.switch_side.specs.Carrying.{carried, telling, carried_for, carries_any};
 
 use crate::dispatch::Dispatch;
 use crate::packets::packet_in;
@@ -40,7 +40,7 @@ fn dispatch(
     requires few { length states.now ≤ 32 }
     requires frame { IsFrame frame.now }
     ensures value { IfOk result (λ d. carried d ≡ carried_for policy.now.rules ports.now states.now frame.now) }
-    ensures memory { OnErr result (IsTrue (is_told ports.now frame.now)) }
+    ensures memory { OnErr result (IsTrue (carries_any (carried_for policy.now.rules ports.now states.now frame.now))) }
 {
     if frame.bad_length() {
         Ok(Dispatch::closing(alloc))
@@ -59,8 +59,7 @@ fn dispatch(
 /// policy. Nothing is changed: `port` is still to be taken in by the known ports, and no state changes. A
 /// message whose length doesn't count its header ends the connection; one that isn't of version 1, isn't
 /// well formed, or says nothing to anybody, as a packet that is buffered or a probe, is dropped. Memory can
-/// be wanting only for an ECHO_REQUEST, for a PACKET_IN that is well formed and neither buffered nor a
-/// probe, and for what is told of a port and is kept; for these two also where no slice is to hear of it.
+/// be wanting only where there is a reply, a message for a slice, or a change of a port that is kept.
 pub fn react(
     alloc: Global,
     policy: &SwitchPolicy,
@@ -70,7 +69,7 @@ pub fn react(
 ) -> Result<Dispatch, AllocError>
     requires { length states.now ≡ length policy.now.slices }
     ensures dispatch { (p : PolicyView) (switch : Switch) (sides : ℕ → Side) (moment : ℕ) → Surrounds p switch policy.now ports.now → AllStand p switch sides states.now → IfOk result (IsDispatch p switch sides moment frame.now) }
-    ensures memory { OnErr result (IsTrue (is_told ports.now frame.now)) }
+    ensures memory { (p : PolicyView) (switch : Switch) (sides : ℕ → Side) (moment : ℕ) → Surrounds p switch policy.now ports.now → AllStand p switch sides states.now → OnErr result (IsTrue (has_dispatch p switch sides (told_at moment frame.now))) }
 {
     // A policy has at most 32 slices, and a frame at most 65,535 bytes.
     let (_slices, _bytes) = (policy.slices(), frame.as_slice());

@@ -3,11 +3,11 @@
 ghost use Rattle.std.specs.Prelude.{◌≡◌, ◌+◌, ◌≤◌, ◌++◌, [], ◌∷◌, length, IfOk, IsTrue, OnOk, OnErr, None};
 ghost use Rattle.of10_model.specs.Normal.{is_value, bit};
 ghost use Rattle.of10_ctl.specs.Kinds.{IsOf};
-ghost use Rattle.of10_flow.specs.PacketIns.{packet_of, read_packet_in, spell_packet_in};
+ghost use Rattle.of10_flow.specs.PacketIns.{packet_of, spell_packet_in};
 ghost use Rattle.flowspace.specs.Order.{writer_of, readers_of};
-ghost use Rattle.desk_words.specs.Openings.{well_formed};
 ghost use Rattle.desk_words.specs.Histories.{is_plain};
-ghost use Rattle.switch_side.specs.Dispatches.{addressed, is_for_slices};
+ghost use Rattle.desk_words.specs.Wants.{is_any};
+ghost use Rattle.switch_side.specs.Dispatches.{addressed};
 ghost use Rattle.switch_side.specs.Carrying.{carried, telling, packet_for, said_from, packet_told, packet_in_told};
 
 use crate::dispatch::Dispatch;
@@ -85,7 +85,8 @@ fn put_for_slice(
     audience: &Audience,
 ) -> Result<(), AllocError>
     requires { 18 + length packet.now.payload.now ≤ 65535 }
-    ensures { OnOk result (to_slices.new.items ≡ to_slices.old.items ++ addressed slot (packet_for audience.now.writer audience.now.readers (spell_packet_in (packet_of packet.now)) slot state.now.up)) }
+    ensures value { OnOk result (to_slices.new.items ≡ to_slices.old.items ++ addressed slot (packet_for audience.now.writer audience.now.readers (spell_packet_in (packet_of packet.now)) slot state.now.up)) }
+    ensures memory { OnErr result (IsTrue (is_any (packet_for audience.now.writer audience.now.readers (spell_packet_in (packet_of packet.now)) slot state.now.up))) }
 {
     if !state.up {
         return Ok(());
@@ -107,7 +108,8 @@ fn put_for_all(
 ) -> Result<Vec<(u8, Frame)>, AllocError>
     requires few { length states.now ≤ 32 }
     requires fits { 18 + length packet.now.payload.now ≤ 65535 }
-    ensures { IfOk result (λ v. v.items ≡ said_from (packet_for audience.now.writer audience.now.readers (spell_packet_in (packet_of packet.now))) 0 states.now) }
+    ensures value { IfOk result (λ v. v.items ≡ said_from (packet_for audience.now.writer audience.now.readers (spell_packet_in (packet_of packet.now))) 0 states.now) }
+    ensures memory { OnErr result (IsTrue (is_any (said_from (packet_for audience.now.writer audience.now.readers (spell_packet_in (packet_of packet.now))) 0 states.now))) }
 {
     let mut to_slices = Vec::new(alloc);
     for (place, state) in states.iter().enumerate() {
@@ -134,7 +136,7 @@ fn handed(
     requires few { length states.now ≤ 32 }
     requires fits { 18 + length packet.now.payload.now ≤ 65535 }
     ensures value { IfOk result (λ v. v.items ≡ packet_told policy.now.rules states.now (packet_of packet.now)) }
-    ensures memory { OnErr result (IsTrue (is_plain (packet_of packet.now))) }
+    ensures memory { OnErr result (IsTrue (is_any (packet_told policy.now.rules states.now (packet_of packet.now)))) }
 {
     if !is_plain(packet) {
         return Ok(Vec::new(alloc));
@@ -159,7 +161,7 @@ pub(crate) fn packet_in(
     requires kind { IsOf 10 frame.now }
     requires few { length states.now ≤ 32 }
     ensures value { IfOk result (λ d. carried d ≡ telling (packet_in_told policy.now.rules states.now frame.now) None) }
-    ensures memory { OnErr result (IsTrue (is_for_slices (well_formed (read_packet_in frame.now)))) }
+    ensures memory { OnErr result (IsTrue (is_any (packet_in_told policy.now.rules states.now frame.now))) }
 {
     match PacketInView::decode(frame) {
         Ok(packet) => {

@@ -3,7 +3,8 @@
 ghost use Rattle.std.specs.Prelude.{◌≡◌, ◌≤◌, ◌++◌, length, is_some, IfOk, IsTrue, OnOk, OnErr};
 ghost use Rattle.of10_ctl.specs.Kinds.{IsOf};
 ghost use Rattle.of10_port.specs.PortStatus.{spell_port_status};
-ghost use Rattle.switch_side.specs.Dispatches.{addressed, status_kept};
+ghost use Rattle.desk_words.specs.Openings.{status_kept};
+ghost use Rattle.switch_side.specs.Dispatches.{addressed};
 ghost use Rattle.switch_side.specs.Carrying.{carried, telling, once, status_for, said_from, port_told};
 ghost use Rattle.switch_side.specs.Sharing.{HasNoted, HaveNoted, AreSlotsWith};
 

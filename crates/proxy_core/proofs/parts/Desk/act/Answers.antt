@@ -2,7 +2,7 @@ use Rattle.std.proofs.lemmas.Result.{IfOk-weaker, on_err_weaker}
 use Rattle.desk_words.specs.declared.event.Event.TheVariants.{SwitchUp, SwitchMsg, SwitchDown, SliceUp, SliceMsg, SliceDown}
 use Rattle.proxy_core.proofs.Switched.{at_event}
 use Rattle.std.proofs.Common.{refl}
-use Rattle.proxy_core.proofs.Wanting.{err_any, at_wants}
+use Rattle.proxy_core.proofs.Wanting.{err_any, at_wants, greeting_wants}
 use Rattle.proxy_core.proofs.parts.Desk.act.Goals as goal
 
 pub returns-in-SwitchUp-clause-ok : goal.returns-in-SwitchUp-clause-ok
@@ -30,14 +30,14 @@ returns-in-SliceDown-clause-ok c =
     at_event c.args.self.now c.lose_slice.new.self c.args.timed (SliceDown c.in-SliceDown.slot) c.lose_slice.result c.in-SliceDown.is (c.lose_slice.ensures.acts c.args.timed.moment)
 
 pub returns-in-SwitchUp-clause-memory : goal.returns-in-SwitchUp-clause-memory
-returns-in-SwitchUp-clause-memory c = err_any c.greet.result (at_wants c.args.self.now SwitchUp c.args.timed.event c.in-SwitchUp.is (λ p switch sides qs ql fit body on. refl))
+returns-in-SwitchUp-clause-memory c = err_any c.greet.result (at_wants c.args.self.now c.args.timed SwitchUp c.in-SwitchUp.is (greeting_wants c.args.self.now c.args.timed.moment))
 
 pub returns-in-SwitchMsg-clause-memory : goal.returns-in-SwitchMsg-clause-memory
-returns-in-SwitchMsg-clause-memory c = on_err_weaker c.hear_switch.result (at_wants c.args.self.now (SwitchMsg c.in-SwitchMsg.frame) c.args.timed.event c.in-SwitchMsg.is) c.hear_switch.ensures.memory
+returns-in-SwitchMsg-clause-memory c = on_err_weaker c.hear_switch.result (λ wants. at_wants c.args.self.now c.args.timed (SwitchMsg c.in-SwitchMsg.frame) c.in-SwitchMsg.is (wants c.args.timed.moment)) c.hear_switch.ensures.memory
 
 pub returns-in-SliceUp-clause-memory : goal.returns-in-SliceUp-clause-memory
-returns-in-SliceUp-clause-memory c = on_err_weaker c.greet_slice.result (at_wants c.args.self.now (SliceUp c.in-SliceUp.slot) c.args.timed.event c.in-SliceUp.is) c.greet_slice.ensures.memory
+returns-in-SliceUp-clause-memory c = on_err_weaker c.greet_slice.result (λ wants. at_wants c.args.self.now c.args.timed (SliceUp c.in-SliceUp.slot) c.in-SliceUp.is (wants c.args.timed.moment)) c.greet_slice.ensures.memory
 
 pub returns-in-SliceMsg-clause-memory : goal.returns-in-SliceMsg-clause-memory
 returns-in-SliceMsg-clause-memory c =
-    on_err_weaker c.hear_slice.result (at_wants c.args.self.now (SliceMsg c.in-SliceMsg.slot c.in-SliceMsg.frame) c.args.timed.event c.in-SliceMsg.is) c.hear_slice.ensures.memory
+    on_err_weaker c.hear_slice.result (at_wants c.args.self.now c.args.timed (SliceMsg c.in-SliceMsg.slot c.in-SliceMsg.frame) c.in-SliceMsg.is) c.hear_slice.ensures.memory

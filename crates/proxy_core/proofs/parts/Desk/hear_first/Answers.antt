@@ -19,4 +19,4 @@ pub returns-in-Some-clause-memory : goal.returns-in-Some-clause-memory
 returns-in-Some-clause-memory c = err_any c.open.result (opening_wants c.args.frame.now _ _ c.in_ok-features.ensures.value c.in-Some.is)
 
 pub returns-in-None-clause-memory : goal.returns-in-None-clause-memory
-returns-in-None-clause-memory c = on_err_weaker c.answer_echo.result (echo_wants c.args.frame.now) c.answer_echo.ensures.memory
+returns-in-None-clause-memory c = on_err_weaker c.answer_echo.result (echo_wants c.args.frame.now _ c.in_ok-features.ensures.value c.in-None.is) c.answer_echo.ensures.memory

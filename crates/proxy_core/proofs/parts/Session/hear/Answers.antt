@@ -1,7 +1,8 @@
-use Rattle.std.proofs.Common.{refl, sym, ◌∙◌}
+use Rattle.std.proofs.Common.{refl, sym, subst, ◌∙◌}
 use Rattle.std.proofs.lemmas.Result.{on_err_weaker, IfOk-weaker}
-use Rattle.proxy_core.specs.Slots.{Keeps, Hears}
-use Rattle.proxy_core.proofs.Rooms.{placed_here, there_up}
+use Rattle.flow_book.specs.declared.state.SliceState.{SliceState}
+use Rattle.proxy_core.specs.Slots.{HasEffect, Keeps, Hears}
+use Rattle.proxy_core.proofs.Rooms.{placed_here, state_read, there_up}
 use Rattle.proxy_core.proofs.Wanting.{err_any}
 use Rattle.proxy_core.proofs.parts.Session.hear.Goals as goal
 
@@ -20,3 +21,10 @@ returns-clause-up c =
 
 pub returns-clause-memory : goal.returns-clause-memory
 returns-clause-memory c = err_any c.hear.result (sym c.is_up.ensures ∙ c.if-not-is_up.false)
+
+pub returns-clause-effect : goal.returns-clause-effect
+returns-clause-effect c =
+    let old = c.args.self.now in
+    let there = there_up old c.args.slot (sym c.is_up.ensures ∙ c.if-not-is_up.false) in
+    on_err_weaker c.hear.result (λ effect state at. subst (λ (k : SliceState). HasEffect old.policy old.ports old.features c.args.slot c.args.frame.now c.args.moment k)
+    (state_read c.args.slot c.from-at.result old c.index_mut.result.now c.from-at.ensures there c.index_mut.ensures.value state at) effect) c.hear.ensures.memory
