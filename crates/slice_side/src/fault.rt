@@ -3,6 +3,7 @@
 ghost use Rattle.std.specs.Prelude.{◌≡◌, IfOk, OnErr, IsTrue, Result, Err, false};
 ghost use Rattle.of10_action.specs.declared.fault.DecodeFault.TheVariants.{Memory};
 ghost use Rattle.of10_action.specs.Reading.{Gives};
+ghost use Rattle.of10_ctl.specs.declared.kind.TheConstants.{PACKET_OUT, FLOW_MOD, STATS_REQUEST};
 ghost use Rattle.of10_ctl.specs.Kinds.{IsOf};
 ghost use Rattle.of10_ctl.specs.Frames.{is_bad};
 ghost use Rattle.of10_flow.specs.PacketOuts.{read_packet_out};
@@ -45,7 +46,7 @@ fn fault_told<T: Drop>(read: Result<T, DecodeFault>) -> Result<Option<WireFault>
 }
 
 fn in_packet_out(alloc: Global, frame: &Frame) -> Result<Option<WireFault>, AllocError>
-    requires { IsOf 13 frame.now }
+    requires { IsOf PACKET_OUT frame.now }
     ensures fault { IfOk result (λ fault. fault ≡ fault_in (read_packet_out frame.now)) }
     ensures memory { OnErr result (IsTrue (begins_packet_out frame.now)) }
 {
@@ -53,7 +54,7 @@ fn in_packet_out(alloc: Global, frame: &Frame) -> Result<Option<WireFault>, Allo
 }
 
 fn in_flow_mod(alloc: Global, frame: &Frame) -> Result<Option<WireFault>, AllocError>
-    requires { IsOf 14 frame.now }
+    requires { IsOf FLOW_MOD frame.now }
     ensures fault { IfOk result (λ fault. fault ≡ fault_in (read_flow_mod frame.now)) }
     ensures memory { OnErr result (IsTrue (begins_flow_mod frame.now)) }
 {
@@ -61,7 +62,7 @@ fn in_flow_mod(alloc: Global, frame: &Frame) -> Result<Option<WireFault>, AllocE
 }
 
 fn in_request(frame: &Frame) -> Option<WireFault>
-    requires { IsOf 16 frame.now }
+    requires { IsOf STATS_REQUEST frame.now }
     ensures { result ≡ fault_in (read_request frame.now) }
 {
     match StatsRequest::decode(frame) {

@@ -11,8 +11,9 @@ use crate::fault::form_fault;
 use flowspace::SwitchPolicy;
 use of10_action::code;
 use of10_ctl::kind::{
-    ECHO_REPLY, ECHO_REQUEST, ERROR, FEATURES_REQUEST, GET_CONFIG_REPLY, GET_CONFIG_REQUEST, HELLO,
-    PORT_MOD, SET_CONFIG, VENDOR,
+    BARRIER_REQUEST, ECHO_REPLY, ECHO_REQUEST, ERROR, FEATURES_REQUEST, GET_CONFIG_REPLY,
+    GET_CONFIG_REQUEST, HELLO, PACKET_OUT, PORT_MOD, QUEUE_GET_CONFIG_REQUEST, SET_CONFIG,
+    STATS_REQUEST, VENDOR,
 };
 use of10_ctl::{Frame, begin, error_frame, message};
 use of10_model::wire::{put_u16, u16_at};
@@ -74,7 +75,15 @@ fn hello(alloc: Global, frame: &Frame) -> Result<Option<Frame>, AllocError>
 fn is_from_controller(kind: u8) -> bool
     ensures { result ≡ is_from_controller kind }
 {
-    kind <= 5 || kind == 7 || kind == 9 || (13 <= kind && kind <= 16) || kind == 18 || kind == 20
+    matches!(
+        kind,
+        HELLO..=FEATURES_REQUEST
+            | GET_CONFIG_REQUEST
+            | SET_CONFIG
+            | PACKET_OUT..=STATS_REQUEST
+            | BARRIER_REQUEST
+            | QUEUE_GET_CONFIG_REQUEST
+    )
 }
 
 /// The reply to GET_CONFIG_REQUEST (OpenFlow 1.0.0, section 5.3.2).

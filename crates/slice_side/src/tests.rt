@@ -9,7 +9,6 @@ use of10_port::Features;
 use port_view::PortView;
 use samples::{frame, rule, switch_policy, tcp, three_ports};
 use std::alloc::{AllocError, Global};
-use std::process::Abort;
 use std::test::Fail;
 
 /// A switch with three ports and its own, and one slice on it.
@@ -54,109 +53,54 @@ impl Bench {
     }
 }
 
-fn expect(rt: &impl Abort, reaction: &Reaction, reply: Option<&Frame>, close: bool, index: usize) {
-    let replies = usize::from(reply.is_some());
-    assert_eq!(rt; reaction.to_slice.len(), replies, "case {index}");
-    if let (Some(told), Some(reply)) = (reaction.to_slice.first(), reply) {
-        assert_eq!(rt; told.as_slice(), reply.as_slice(), "case {index}");
+/// Whether the connection stays or ends, and then each message to the controller.
+fn told(alloc: Global, reaction: &Reaction) -> Result<String, AllocError> {
+    let mut text = String::from_str(alloc, if reaction.close { "ends" } else { "stays" })?;
+    for message in &reaction.to_slice {
+        text.push_str(" ")?;
+        for byte in message.as_slice() {
+            write!(text, "{byte:02x}")?;
+        }
     }
-    assert!(rt; reaction.to_switch.is_empty(), "case {index}");
-    assert_eq!(rt; reaction.close, close, "case {index}");
+    Ok(text)
 }
+
+/// What the controller sends, and what `told` says of the answer.
+const ANSWER_ROWS: &str = "\
+0102000700000005 => ends 0101001400000005000100060102000700000005
+0000000800000009 => ends 0101000c0000000900000000
+0400000800000009 => stays
+0402000800000007 => stays 0101001400000007000100000402000800000007
+0116000800000001 => stays 0101001400000001000100010116000800000001
+010a000800000001 => stays 010100140000000100010001010a000800000001
+0101000900000001ff => stays
+0103000800000001 => stays
+01040008000000aa => stays 01010014000000aa0001000301040008000000aa
+010f000800000007 => stays 010100140000000700010005010f000800000007
+0105000900000001ff => stays 0101001500000001000100060105000900000001ff
+0109000800000001 => stays 0101001400000001000100060109000800000001
+0110000800000001 => stays 0101001400000001000100060110000800000001
+0110000c0000000100060000 => stays 0101001800000001000100020110000c0000000100060000
+0110000c00000001ffff0000 => stays 0101001800000001000100030110000c00000001ffff0000
+010d001800000001ffffffffffff00090000000800020000 => stays 010100240000000100010006010d001800000001ffffffffffff00090000000800020000
+0109000c0000000300010080 => stays 0101001800000003000100050109000c0000000300010080
+0109000c0000000100000080 => stays
+0102000c00000004aabbccdd => stays 0103000c00000004aabbccdd
+0107000800000002 => stays 0108000c0000000200000080
+0112000800000002 => stays
+0114000c0000000200010000 => stays
+";
 
 #[test]
 fn each_message_is_answered_by_its_first_line(rt: HostRuntime) -> Result<(), Fail> {
     let alloc = rt.alloc();
     let bench = set_up(alloc)?;
-    // what the controller sends, what it gets, and whether its connection ends
-    let table: [(&str, &str, bool); 22] = [
-        (
-            "0102000700000005",
-            "0101001400000005000100060102000700000005",
-            true,
-        ),
-        ("0000000800000009", "0101000c0000000900000000", true),
-        ("0400000800000009", "", false),
-        (
-            "0402000800000007",
-            "0101001400000007000100000402000800000007",
-            false,
-        ),
-        (
-            "0116000800000001",
-            "0101001400000001000100010116000800000001",
-            false,
-        ),
-        (
-            "010a000800000001",
-            "010100140000000100010001010a000800000001",
-            false,
-        ),
-        ("0101000900000001ff", "", false),
-        ("0103000800000001", "", false),
-        (
-            "01040008000000aa",
-            "01010014000000aa0001000301040008000000aa",
-            false,
-        ),
-        (
-            "010f000800000007",
-            "010100140000000700010005010f000800000007",
-            false,
-        ),
-        (
-            "0105000900000001ff",
-            "0101001500000001000100060105000900000001ff",
-            false,
-        ),
-        (
-            "0109000800000001",
-            "0101001400000001000100060109000800000001",
-            false,
-        ),
-        (
-            "0110000800000001",
-            "0101001400000001000100060110000800000001",
-            false,
-        ),
-        (
-            "0110000c0000000100060000",
-            "0101001800000001000100020110000c0000000100060000",
-            false,
-        ),
-        (
-            "0110000c00000001ffff0000",
-            "0101001800000001000100030110000c00000001ffff0000",
-            false,
-        ),
-        (
-            "010d001800000001ffffffffffff00090000000800020000",
-            "010100240000000100010006010d001800000001ffffffffffff00090000000800020000",
-            false,
-        ),
-        (
-            "0109000c0000000300010080",
-            "0101001800000003000100050109000c0000000300010080",
-            false,
-        ),
-        ("0109000c0000000100000080", "", false),
-        (
-            "0102000c00000004aabbccdd",
-            "0103000c00000004aabbccdd",
-            false,
-        ),
-        ("0107000800000002", "0108000c0000000200000080", false),
-        ("0112000800000002", "", false),
-        ("0114000c0000000200010000", "", false),
-    ];
-    for (index, (message, reply, close)) in table.iter().enumerate() {
-        let message = frame(alloc, &[*message])?;
-        let reaction = bench.hear(alloc, &message, 0)?;
-        let reply = match reply.is_empty() {
-            true => None,
-            false => Some(frame(alloc, &[*reply])?),
-        };
-        expect(&rt, &reaction, reply.as_ref(), *close, index);
+    for row in ANSWER_ROWS.lines() {
+        let (message, wanted) = row.split_once(" => ").ok_or("a row has two sides")?;
+        let reaction = bench.hear(alloc, &frame(alloc, &[message])?, 0)?;
+        let answer = told(alloc, &reaction)?;
+        assert_eq!(rt; answer.as_str(), wanted, "at {message}");
+        assert!(rt; reaction.to_switch.is_empty(), "at {message}");
     }
     Ok(())
 }
