@@ -2,7 +2,7 @@ mod given;
 
 use crate::{Dispatch, react};
 use flow_book::SliceState;
-use flowspace::SwitchPolicy;
+use flowspace::{Rule, SwitchPolicy};
 use given::{ports, states};
 use of10_ctl::Frame;
 use samples::{frame, rule, switch_policy, tcp};
@@ -34,11 +34,51 @@ fn answer(
     react(alloc, policy, &ports(alloc)?, states, message)
 }
 
-fn expect_frames(rt: &impl Abort, frames: &[Frame], expected: &[Frame], index: usize) {
-    assert_eq!(rt; frames.len(), expected.len(), "case {index}");
-    for (frame, other) in frames.iter().zip(expected) {
-        assert_eq!(rt; frame.as_slice(), other.as_slice(), "case {index}");
+fn push_digits(text: &mut String, message: &Frame) -> Result<(), AllocError> {
+    for byte in message.as_slice() {
+        write!(text, "{byte:02x}")?;
     }
+    Ok(())
+}
+
+/// Whether the switch's connection stays or ends, what it and each slot is told, and the port that changes.
+fn told(alloc: Global, dispatch: &Dispatch) -> Result<String, AllocError> {
+    let mut text = String::from_str(alloc, if dispatch.close { "ends" } else { "stays" })?;
+    for message in &dispatch.to_switch {
+        text.push_str(", switch: ")?;
+        push_digits(&mut text, message)?;
+    }
+    for (slot, message) in &dispatch.to_slices {
+        write!(text, ", slot {slot}: ")?;
+        push_digits(&mut text, message)?;
+    }
+    if let Some(status) = &dispatch.port {
+        write!(text, ", port {}", status.port.number())?;
+    }
+    Ok(text)
+}
+
+/// The same digits, with each packet `[tcp ..]` to a port and each `[port]` without its number written out.
+fn written_out(alloc: Global, digits: &str) -> Result<String, AllocError> {
+    let digits = digits.replace(alloc, "[port]", PORT)?;
+    let digits = digits.as_str().replace(alloc, "[tcp ", BEFORE_PORT)?;
+    digits.as_str().replace(alloc, "]", BEHIND_PORT)
+}
+
+/// The first row that is told otherwise, with what is told; nothing where none is. Each line is a row: what
+/// the switch sends, and what is to be told.
+fn told_otherwise(alloc: Global, rules: &[Rule], rows: &str) -> Result<String, Fail> {
+    let policy = switch_policy(alloc, rules)?;
+    let states = states(alloc, &policy, [true, true])?;
+    for row in rows.lines() {
+        let (sent, wanted) = row.split_once(" => ").ok_or("a row has two sides")?;
+        let message = frame(alloc, &[written_out(alloc, sent)?.as_str()])?;
+        let answer = told(alloc, &answer(alloc, &policy, &states, &message)?)?;
+        if answer.as_str() != written_out(alloc, wanted)?.as_str() {
+            return Ok(format!(in alloc; "{sent}: {answer}")?);
+        }
+    }
+    Ok(String::new(alloc))
 }
 
 /// The same message for these slots.
@@ -50,134 +90,47 @@ fn expect_slots(rt: &impl Abort, dispatch: &Dispatch, slots: &[u8], message: &Fr
     }
 }
 
+/// What the switch sends, and who is told what.
+const MESSAGE_ROWS: &str = "\
+010a004800000063ffffffff003600010000[tcp 0050] => stays, slot 0: 010a004800000000ffffffff003600010000[tcp 0050]
+010a004800000063ffffffff00ff000201ee[tcp 0016] => stays, slot 1: 010a004800000000ffffffff00ff00020100[tcp 0016]
+010a004800000063ffffffff003600020000[tcp 0050] => stays
+010c00400000000702000000000000000002[port] => stays, slot 1: 010c00400000000002000000000000000002[port], port 2
+010c00400000000701ffffffffffffff0001[port] => stays, slot 0: 010c00400000000001000000000000000001[port], slot 1: 010c00400000000001000000000000000001[port], port 1
+010c00400000000701000000000000000009[port] => stays
+010c0010000000070200000000000000 => stays
+";
+
 #[test]
 fn each_message_goes_where_it_concerns_somebody(rt: HostRuntime) -> Result<(), Fail> {
-    let alloc = rt.alloc();
     let rules = [
         rule(100, &tcp(Some(1), 80), 0, 0),
         rule(50, &tcp(None, 22), 1, 0),
     ];
-    let policy = switch_policy(alloc, &rules)?;
-    let states = states(alloc, &policy, [true, true])?;
-    // what the switch sends, the slots that are told and what, and the number of a port that changes
-    let table: [(&[&str], &[u8], &[&str], Option<u16>); 7] = [
-        (
-            &[
-                "010a004800000063ffffffff003600010000",
-                BEFORE_PORT,
-                "0050",
-                BEHIND_PORT,
-            ],
-            &[0],
-            &[
-                "010a004800000000ffffffff003600010000",
-                BEFORE_PORT,
-                "0050",
-                BEHIND_PORT,
-            ],
-            None,
-        ),
-        (
-            &[
-                "010a004800000063ffffffff00ff000201ee",
-                BEFORE_PORT,
-                "0016",
-                BEHIND_PORT,
-            ],
-            &[1],
-            &[
-                "010a004800000000ffffffff00ff00020100",
-                BEFORE_PORT,
-                "0016",
-                BEHIND_PORT,
-            ],
-            None,
-        ),
-        (
-            &[
-                "010a004800000063ffffffff003600020000",
-                BEFORE_PORT,
-                "0050",
-                BEHIND_PORT,
-            ],
-            &[],
-            &["0100000800000000"],
-            None,
-        ),
-        (
-            &["010c004000000007", "0200000000000000", "0002", PORT],
-            &[1],
-            &["010c004000000000", "0200000000000000", "0002", PORT],
-            Some(2),
-        ),
-        (
-            &["010c004000000007", "01ffffffffffffff", "0001", PORT],
-            &[0, 1],
-            &["010c004000000000", "0100000000000000", "0001", PORT],
-            Some(1),
-        ),
-        (
-            &["010c004000000007", "0100000000000000", "0009", PORT],
-            &[],
-            &["0100000800000000"],
-            None,
-        ),
-        (
-            &["010c001000000007", "0200000000000000"],
-            &[],
-            &["0100000800000000"],
-            None,
-        ),
-    ];
-    for (index, (message, slots, told, changed)) in table.iter().enumerate() {
-        let dispatch = answer(alloc, &policy, &states, &frame(alloc, message)?)?;
-        expect_slots(&rt, &dispatch, slots, &frame(alloc, told)?, index);
-        let number = dispatch.port.map(|status| status.port.number());
-        assert_eq!(rt; number, *changed, "case {index}");
-        assert!(rt;
-            dispatch.to_switch.is_empty() && !dispatch.close,
-            "case {index}"
-        );
-    }
+    let otherwise = told_otherwise(rt.alloc(), &rules, MESSAGE_ROWS)?;
+    assert_eq!(rt; otherwise.as_str(), "");
     Ok(())
 }
 
+/// What the switch sends, and what it is told.
+const SWITCH_ROWS: &str = "\
+0102000c00000004aabbccdd => stays, switch: 0103000c00000004aabbccdd
+0402000c00000004aabbccdd => stays
+0103000c00000004aabbccdd => stays
+0102000700000005 => ends
+0402000000000005 => ends
+0100000800000000 => stays
+0108000c000000090000ffff => stays
+";
+
 #[test]
 fn the_switch_is_answered_itself(rt: HostRuntime) -> Result<(), Fail> {
-    let alloc = rt.alloc();
     let rules = [
         rule(100, &tcp(None, 80), 0, 0),
         rule(50, &tcp(None, 22), 1, 0),
     ];
-    let policy = switch_policy(alloc, &rules)?;
-    let states = states(alloc, &policy, [true, true])?;
-    // what the switch sends, what it is sent, and whether its connection ends
-    let table: [(&str, &str, bool); 7] = [
-        (
-            "0102000c00000004aabbccdd",
-            "0103000c00000004aabbccdd",
-            false,
-        ),
-        ("0402000c00000004aabbccdd", "", false),
-        ("0103000c00000004aabbccdd", "", false),
-        ("0102000700000005", "", true),
-        ("0402000000000005", "", true),
-        ("0100000800000000", "", false),
-        ("0108000c000000090000ffff", "", false),
-    ];
-    for (index, (message, reply, close)) in table.iter().enumerate() {
-        let dispatch = answer(alloc, &policy, &states, &frame(alloc, &[message])?)?;
-        let mut expected = Vec::new(alloc);
-        if !reply.is_empty() {
-            expected.push(frame(alloc, &[reply])?)?;
-        }
-        expect_frames(&rt, &dispatch.to_switch, &expected, index);
-        assert_eq!(rt; dispatch.close, *close, "case {index}");
-        assert!(rt;
-            dispatch.to_slices.is_empty() && dispatch.port.is_none(),
-            "case {index}"
-        );
-    }
+    let otherwise = told_otherwise(rt.alloc(), &rules, SWITCH_ROWS)?;
+    assert_eq!(rt; otherwise.as_str(), "");
     Ok(())
 }
 
