@@ -1,4 +1,5 @@
 use super::*;
+use std::alloc::{AllocError, Global};
 use std::test::Fail;
 use wire_samples::bytes;
 
@@ -23,180 +24,121 @@ const SLICE_GONE: &str = "05000100000000000000000000000000";
 /// Three bytes of the slice in slot 1 for switch 0.
 const SLICE_TALKS: &str = "04000100000000030000000000000000616263";
 
+/// The digits that a word stands for: those of what it names, else the word itself.
+fn digits_of(word: &str) -> &str {
+    match word {
+        "nothing" => "",
+        "begin" => BEGIN,
+        "up" => UP,
+        "other-up" => OTHER_UP,
+        "down" => DOWN,
+        "slice" => SLICE,
+        "slice-gone" => SLICE_GONE,
+        "slice-talks" => SLICE_TALKS,
+        digits => digits,
+    }
+}
+
+/// The file that the words stand for, one behind the other.
+fn file_of(alloc: Global, words: &str) -> Result<Vec<u8>, AllocError> {
+    let mut pieces = Vec::new(alloc);
+    for word in words.split(' ') {
+        pieces.push(digits_of(word))?;
+    }
+    bytes(alloc, &pieces)
+}
+
+fn told(alloc: Global, words: &str, slices: u8) -> Result<String, AllocError> {
+    let file = file_of(alloc, words)?;
+    match items(alloc, &file, slices) {
+        Ok(found) => format!(in alloc; "{} records", found.len()),
+        Err(fault) => format!(in alloc; "{fault:?}"),
+    }
+}
+
+/// The first row that is told otherwise, with what is told; nothing where none is. Each line is a row, the words
+/// of a file and the fault that is to be found in it, or begins with # and says what the rows below it show.
+fn told_otherwise(alloc: Global, rows: &str, slices: u8) -> Result<String, AllocError> {
+    for row in rows.lines() {
+        if row.starts_with('#') {
+            continue;
+        }
+        let Some((words, wanted)) = row.split_once(" => ") else {
+            return format!(in alloc; "no row: {row}");
+        };
+        let answer = told(alloc, words, slices)?;
+        if answer.as_str() != wanted {
+            return format!(in alloc; "{words}: {answer}");
+        }
+    }
+    Ok(String::new(alloc))
+}
+
+/// Files under a policy of two slices.
+const FAULT_ROWS: &str = "\
+# The eight bytes that begin the file
+nothing => Torn(0)
+46565245430000 => Torn(0)
+ffffff => Torn(0)
+4656524543000002 => Bad(0)
+0056524543000001 up => Bad(0)
+# Fewer bytes than a head has
+begin 00 => Torn(8)
+begin up 00000000000000000000 => Torn(24)
+begin 060000000000000000000000000000 => Torn(8)
+# The kind, also of a record that is cut off
+begin 06000000000000000000000000000000 => Bad(8)
+begin up 06000000000000030000000000000000 => Bad(24)
+begin up ff000000000000000000000000000000 => Bad(24)
+# The switch
+begin 00100000000000000000000000000000 => Bad(8)
+# The slot: 0 where the record is of no slice, else a slot of the policy
+begin 00000100000000000000000000000000 => Bad(8)
+begin up 01000100000000000000000000000000 => Bad(24)
+begin up 02000100000000000000000000000000 => Bad(24)
+begin up 03000200000000000000000000000000 => Bad(24)
+begin up 04000200000000000000000000000000 => Bad(24)
+begin up 05000200000000000000000000000000 => Bad(24)
+# The fourth byte
+begin 00000001000000000000000000000000 => Bad(8)
+# Bytes where the kind has none, and too many of them
+begin 0000000000000001000000000000000061 => Bad(8)
+begin up 0200000000000001000000000000000061 => Bad(24)
+begin up 0300010000000001000000000000000061 => Bad(24)
+begin up slice 0500010000000001000000000000000061 => Bad(40)
+begin up 01000000010000010000000000000000 => Bad(24)
+begin up slice 04000100010000010000000000000000 => Bad(40)
+# Fewer bytes than the length says, also of a record that doesn't fit
+begin up 01000000010000000000000000000000 => Torn(24)
+begin up 010000000000000300000000000000006162 => Torn(24)
+begin 010000000000000300000000000000006162 => Torn(8)
+# A switch comes where it isn't up, and all else of it where it is
+begin up up => NotOpen(24)
+begin 01000000000000030000000000000000616263 => NotOpen(8)
+begin down => NotOpen(8)
+begin other-up down => NotOpen(24)
+begin up down down => NotOpen(40)
+# A slice comes where it isn't up and its switch is
+begin other-up slice => NotOpen(24)
+begin up slice slice => NotOpen(40)
+# All else of a slice comes where it is up
+begin up slice-talks => NotOpen(24)
+begin up slice-gone => NotOpen(24)
+begin up slice slice-gone slice-talks => NotOpen(56)
+begin up slice 04000000000000000000000000000000 => NotOpen(40)
+# A switch that goes takes its slices with it
+begin up slice down slice-talks => NotOpen(56)
+begin up slice down up slice-talks => NotOpen(72)
+";
+
 #[test]
 fn faults_come_in_their_order_and_at_their_place(rt: HostRuntime) -> Result<(), Fail> {
-    let cases: [(u8, &[&str], RecordingFault); 42] = [
-        // The eight bytes that begin the file.
-        (2, &[], RecordingFault::Torn(0)),
-        (2, &["46565245430000"], RecordingFault::Torn(0)),
-        (2, &["ffffff"], RecordingFault::Torn(0)),
-        (2, &["4656524543000002"], RecordingFault::Bad(0)),
-        (2, &["0056524543000001", UP], RecordingFault::Bad(0)),
-        // Fewer bytes than a head has.
-        (2, &[BEGIN, "00"], RecordingFault::Torn(8)),
-        (
-            2,
-            &[BEGIN, UP, "00000000000000000000"],
-            RecordingFault::Torn(24),
-        ),
-        (
-            2,
-            &[BEGIN, "060000000000000000000000000000"],
-            RecordingFault::Torn(8),
-        ),
-        // The kind, also of a record that is cut off.
-        (
-            2,
-            &[BEGIN, "06000000000000000000000000000000"],
-            RecordingFault::Bad(8),
-        ),
-        (
-            2,
-            &[BEGIN, UP, "06000000000000030000000000000000"],
-            RecordingFault::Bad(24),
-        ),
-        (
-            2,
-            &[BEGIN, UP, "ff000000000000000000000000000000"],
-            RecordingFault::Bad(24),
-        ),
-        // The switch.
-        (
-            2,
-            &[BEGIN, "00100000000000000000000000000000"],
-            RecordingFault::Bad(8),
-        ),
-        // The slot: 0 where the record is of no slice, else a slot of the policy.
-        (
-            2,
-            &[BEGIN, "00000100000000000000000000000000"],
-            RecordingFault::Bad(8),
-        ),
-        (
-            2,
-            &[BEGIN, UP, "01000100000000000000000000000000"],
-            RecordingFault::Bad(24),
-        ),
-        (
-            2,
-            &[BEGIN, UP, "02000100000000000000000000000000"],
-            RecordingFault::Bad(24),
-        ),
-        (
-            2,
-            &[BEGIN, UP, "03000200000000000000000000000000"],
-            RecordingFault::Bad(24),
-        ),
-        (
-            2,
-            &[BEGIN, UP, "04000200000000000000000000000000"],
-            RecordingFault::Bad(24),
-        ),
-        (
-            2,
-            &[BEGIN, UP, "05000200000000000000000000000000"],
-            RecordingFault::Bad(24),
-        ),
-        (
-            0,
-            &[BEGIN, UP, "03000000000000000000000000000000"],
-            RecordingFault::Bad(24),
-        ),
-        // The fourth byte.
-        (
-            2,
-            &[BEGIN, "00000001000000000000000000000000"],
-            RecordingFault::Bad(8),
-        ),
-        // Bytes where the kind has none, and too many of them.
-        (
-            2,
-            &[BEGIN, "0000000000000001000000000000000061"],
-            RecordingFault::Bad(8),
-        ),
-        (
-            2,
-            &[BEGIN, UP, "0200000000000001000000000000000061"],
-            RecordingFault::Bad(24),
-        ),
-        (
-            2,
-            &[BEGIN, UP, "0300010000000001000000000000000061"],
-            RecordingFault::Bad(24),
-        ),
-        (
-            2,
-            &[BEGIN, UP, SLICE, "0500010000000001000000000000000061"],
-            RecordingFault::Bad(40),
-        ),
-        (
-            2,
-            &[BEGIN, UP, "01000000010000010000000000000000"],
-            RecordingFault::Bad(24),
-        ),
-        (
-            2,
-            &[BEGIN, UP, SLICE, "04000100010000010000000000000000"],
-            RecordingFault::Bad(40),
-        ),
-        // Fewer bytes than the length says, also of a record that doesn't fit.
-        (
-            2,
-            &[BEGIN, UP, "01000000010000000000000000000000"],
-            RecordingFault::Torn(24),
-        ),
-        (
-            2,
-            &[BEGIN, UP, "010000000000000300000000000000006162"],
-            RecordingFault::Torn(24),
-        ),
-        (
-            2,
-            &[BEGIN, "010000000000000300000000000000006162"],
-            RecordingFault::Torn(8),
-        ),
-        // A switch comes where it isn't up, and all else of it where it is.
-        (2, &[BEGIN, UP, UP], RecordingFault::NotOpen(24)),
-        (
-            2,
-            &[BEGIN, "01000000000000030000000000000000616263"],
-            RecordingFault::NotOpen(8),
-        ),
-        (2, &[BEGIN, DOWN], RecordingFault::NotOpen(8)),
-        (2, &[BEGIN, OTHER_UP, DOWN], RecordingFault::NotOpen(24)),
-        (2, &[BEGIN, UP, DOWN, DOWN], RecordingFault::NotOpen(40)),
-        // A slice comes where it isn't up and its switch is.
-        (2, &[BEGIN, OTHER_UP, SLICE], RecordingFault::NotOpen(24)),
-        (2, &[BEGIN, UP, SLICE, SLICE], RecordingFault::NotOpen(40)),
-        // All else of a slice comes where it is up.
-        (2, &[BEGIN, UP, SLICE_TALKS], RecordingFault::NotOpen(24)),
-        (2, &[BEGIN, UP, SLICE_GONE], RecordingFault::NotOpen(24)),
-        (
-            2,
-            &[BEGIN, UP, SLICE, SLICE_GONE, SLICE_TALKS],
-            RecordingFault::NotOpen(56),
-        ),
-        (
-            2,
-            &[BEGIN, UP, SLICE, "04000000000000000000000000000000"],
-            RecordingFault::NotOpen(40),
-        ),
-        // A switch that goes takes its slices with it.
-        (
-            2,
-            &[BEGIN, UP, SLICE, DOWN, SLICE_TALKS],
-            RecordingFault::NotOpen(56),
-        ),
-        (
-            2,
-            &[BEGIN, UP, SLICE, DOWN, UP, SLICE_TALKS],
-            RecordingFault::NotOpen(72),
-        ),
-    ];
-    for (slices, pieces, fault) in &cases {
-        let file = bytes(rt.alloc(), pieces)?;
-        assert_eq!(rt; items(rt.alloc(), &file, *slices).err(), Some(*fault));
-    }
+    let otherwise = told_otherwise(rt.alloc(), FAULT_ROWS, 2)?;
+    assert_eq!(rt; otherwise.as_str(), "");
+    // A policy of no slices has no slot.
+    let row = "begin up 03000000000000000000000000000000 => Bad(24)";
+    let otherwise = told_otherwise(rt.alloc(), row, 0)?;
+    assert_eq!(rt; otherwise.as_str(), "");
     Ok(())
 }
 
@@ -226,8 +168,15 @@ fn of_slice(kind: u8, from: usize, size: usize) -> Item {
 
 #[test]
 fn records_that_fit_are_read(rt: HostRuntime) -> Result<(), Fail> {
-    let none: [Item; 0] = [];
-    let whole_life = [
+    let alloc = rt.alloc();
+    let file = file_of(alloc, "begin")?;
+    assert!(rt; items(alloc, &file, 2)?.as_slice().is_empty());
+    let file = file_of(
+        alloc,
+        "begin up 01000000000000030102030405060708616263 slice slice-talks slice-gone slice down \
+        up slice 01000000000000000000000000000000",
+    )?;
+    let wanted = [
         of_switch(SWITCH_UP, 5, 24, 0),
         of_switch(SWITCH_BYTES, 0x0102_0304_0506_0708, 40, 3),
         of_slice(SLICE_UP, 59, 0),
@@ -239,60 +188,35 @@ fn records_that_fit_are_read(rt: HostRuntime) -> Result<(), Fail> {
         of_slice(SLICE_UP, 158, 0),
         of_switch(SWITCH_BYTES, 0, 174, 0),
     ];
-    let last_of_all = [
-        Item {
-            kind: SWITCH_UP,
-            switch: 15,
-            slot: 0,
-            moment: u64::MAX,
-            from: 24,
-            size: 0,
-        },
-        Item {
-            kind: SLICE_UP,
-            switch: 15,
-            slot: 254,
-            moment: 0,
-            from: 40,
-            size: 0,
-        },
-    ];
-    let cases: [(u8, &[&str], &[Item]); 3] = [
-        (2, &[BEGIN], &none),
-        (
-            2,
-            &[
-                BEGIN,
-                UP,
-                "01000000000000030102030405060708616263",
-                SLICE,
-                SLICE_TALKS,
-                SLICE_GONE,
-                SLICE,
-                DOWN,
-                UP,
-                SLICE,
-                "01000000000000000000000000000000",
-            ],
-            &whole_life,
-        ),
-        (
-            255,
-            &[
-                BEGIN,
-                "000f000000000000ffffffffffffffff",
-                "030ffe00000000000000000000000000",
-            ],
-            &last_of_all,
-        ),
-    ];
-    for (slices, pieces, wanted) in &cases {
-        let file = bytes(rt.alloc(), pieces)?;
-        match items(rt.alloc(), &file, *slices) {
-            Ok(found) => assert_eq!(rt; found.as_slice(), *wanted),
-            Err(fault) => assert_eq!(rt; Some(fault), None),
-        }
-    }
+    assert_eq!(rt; items(alloc, &file, 2)?.as_slice(), wanted.as_slice());
+    Ok(())
+}
+
+#[test]
+fn the_last_switch_and_the_last_slot_are_read(rt: HostRuntime) -> Result<(), Fail> {
+    let alloc = rt.alloc();
+    let file = file_of(
+        alloc,
+        "begin 000f000000000000ffffffffffffffff 030ffe00000000000000000000000000",
+    )?;
+    let switch_up = Item {
+        kind: SWITCH_UP,
+        switch: 15,
+        slot: 0,
+        moment: u64::MAX,
+        from: 24,
+        size: 0,
+    };
+    let slice_up = Item {
+        kind: SLICE_UP,
+        switch: 15,
+        slot: 254,
+        moment: 0,
+        from: 40,
+        size: 0,
+    };
+    let wanted = [switch_up, slice_up];
+    assert_eq!(rt; items(alloc, &file, 255)?.as_slice(), wanted.as_slice());
     Ok(())
 }
 
