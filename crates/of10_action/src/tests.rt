@@ -1,5 +1,3 @@
-ghost use Rattle.of10_action.specs.Actions.{HasAddress};
-
 use super::*;
 use std::alloc::Global;
 use std::test::Fail;
@@ -11,18 +9,15 @@ fn wire_fault(alloc: Global, bytes: &[u8]) -> Option<WireFault> {
     }
 }
 
-// Whether the bytes are what the action is written as, and are read as it.
-fn is_spelled(alloc: Global, action: Action, bytes: &[u8]) -> Result<bool, Fail>
-    requires { HasAddress action }
-{
-    let actions = [action];
-    let mut out = Vec::new(alloc);
-    encode_list(&actions, &mut out)?;
+// Whether the bytes are read as the action alone, and it is written as them.
+fn is_spelled(alloc: Global, action: Action, bytes: &[u8]) -> Result<bool, Fail> {
     let read = decode_list(alloc, bytes)?;
+    let mut out = Vec::new(alloc);
+    encode_list(read.as_slice(), &mut out)?;
     Ok(
-        out.as_slice() == bytes
-            && list_size(&actions) == bytes.len() as u64
-            && read.as_slice() == actions.as_slice(),
+        read.as_slice() == [action].as_slice()
+            && out.as_slice() == bytes
+            && list_size(read.as_slice()) == bytes.len() as u64,
     )
 }
 
@@ -93,60 +88,49 @@ fn each_fault_has_its_code(rt: HostRuntime) {
     assert_eq!(rt; code(WireFault::ActionVendor), (2, 2));
 }
 
+/// An action of each kind, and the bytes that spell it.
+const KINDS: [(Action, &[u8]); 12] = [
+    (
+        Action::Output {
+            port: 0xfffd,
+            max_len: 0x0102,
+        },
+        &[0, 0, 0, 8, 0xff, 0xfd, 1, 2],
+    ),
+    (Action::SetVlanVid(0x0abc), &[0, 1, 0, 8, 0x0a, 0xbc, 0, 0]),
+    (Action::SetVlanPcp(7), &[0, 2, 0, 8, 7, 0, 0, 0]),
+    (Action::StripVlan, &[0, 3, 0, 8, 0, 0, 0, 0]),
+    (
+        Action::SetDlSrc(0x0a0b_0c0d_0e0f),
+        &[
+            0, 4, 0, 16, 0x0a, 0x0b, 0x0c, 0x0d, 0x0e, 0x0f, 0, 0, 0, 0, 0, 0,
+        ],
+    ),
+    (
+        Action::SetDlDst(0xffff_ffff_fffe),
+        &[
+            0, 5, 0, 16, 0xff, 0xff, 0xff, 0xff, 0xff, 0xfe, 0, 0, 0, 0, 0, 0,
+        ],
+    ),
+    (Action::SetNwSrc(0x0a01_0203), &[0, 6, 0, 8, 10, 1, 2, 3]),
+    (Action::SetNwDst(0x0a01_0204), &[0, 7, 0, 8, 10, 1, 2, 4]),
+    (Action::SetNwTos(0xb8), &[0, 8, 0, 8, 0xb8, 0, 0, 0]),
+    (Action::SetTpSrc(80), &[0, 9, 0, 8, 0, 80, 0, 0]),
+    (Action::SetTpDst(0x1f90), &[0, 10, 0, 8, 0x1f, 0x90, 0, 0]),
+    (
+        Action::Enqueue {
+            port: 3,
+            queue: 0x0102_0304,
+        },
+        &[0, 11, 0, 16, 0, 3, 0, 0, 0, 0, 0, 0, 1, 2, 3, 4],
+    ),
+];
+
 #[test]
 fn each_kind_has_its_bytes(rt: HostRuntime) -> Result<(), Fail> {
-    let alloc = rt.alloc();
-    let output = Action::Output {
-        port: 0xfffd,
-        max_len: 0x0102,
-    };
-    assert!(rt; is_spelled(alloc, output, &[0, 0, 0, 8, 0xff, 0xfd, 1, 2])?);
-    assert!(rt;
-        is_spelled(
-            alloc,
-            Action::SetVlanVid(0x0abc),
-            &[0, 1, 0, 8, 0x0a, 0xbc, 0, 0]
-        )?
-    );
-    assert!(rt; is_spelled(alloc, Action::SetVlanPcp(7), &[0, 2, 0, 8, 7, 0, 0, 0])?);
-    assert!(rt; is_spelled(alloc, Action::StripVlan, &[0, 3, 0, 8, 0, 0, 0, 0])?);
-    let source = [
-        0, 4, 0, 16, 0x0a, 0x0b, 0x0c, 0x0d, 0x0e, 0x0f, 0, 0, 0, 0, 0, 0,
-    ];
-    assert!(rt; is_spelled(alloc, Action::SetDlSrc(0x0a0b_0c0d_0e0f), &source)?);
-    let destination = [
-        0, 5, 0, 16, 0xff, 0xff, 0xff, 0xff, 0xff, 0xfe, 0, 0, 0, 0, 0, 0,
-    ];
-    assert!(rt; is_spelled(alloc, Action::SetDlDst(0xffff_ffff_fffe), &destination)?);
-    assert!(rt;
-        is_spelled(
-            alloc,
-            Action::SetNwSrc(0x0a01_0203),
-            &[0, 6, 0, 8, 10, 1, 2, 3]
-        )?
-    );
-    assert!(rt;
-        is_spelled(
-            alloc,
-            Action::SetNwDst(0x0a01_0204),
-            &[0, 7, 0, 8, 10, 1, 2, 4]
-        )?
-    );
-    assert!(rt; is_spelled(alloc, Action::SetNwTos(0xb8), &[0, 8, 0, 8, 0xb8, 0, 0, 0])?);
-    assert!(rt; is_spelled(alloc, Action::SetTpSrc(80), &[0, 9, 0, 8, 0, 80, 0, 0])?);
-    assert!(rt;
-        is_spelled(
-            alloc,
-            Action::SetTpDst(0x1f90),
-            &[0, 10, 0, 8, 0x1f, 0x90, 0, 0]
-        )?
-    );
-    let enqueue = Action::Enqueue {
-        port: 3,
-        queue: 0x0102_0304,
-    };
-    let queued = [0, 11, 0, 16, 0, 3, 0, 0, 0, 0, 0, 0, 1, 2, 3, 4];
-    assert!(rt; is_spelled(alloc, enqueue, &queued)?);
+    for (action, bytes) in KINDS {
+        assert!(rt; is_spelled(rt.alloc(), action, bytes)?, "{action:?}");
+    }
     Ok(())
 }
 
