@@ -105,92 +105,99 @@ const TO_PORT_2: Action = Action::Output {
     max_len: 0,
 };
 
-/// Flow-mods, each with the bytes that spell it.
-fn flow_mods(alloc: Global) -> Result<[(Vec<u8>, FlowMod); 3], AllocError> {
+/// A flow-mod that adds, with the bytes that spell it.
+fn addition(alloc: Global) -> Result<(Vec<u8>, FlowMod), AllocError> {
+    let spelled = bytes(
+        alloc,
+        &[
+            "010e0050 00000000",
+            TO_TCP_80,
+            "0000000000000000 0000 003c 0000 000a ffffffff ffff 0001 0000000800020000",
+        ],
+    )?;
+    let wanted = FlowMod {
+        xid: 0,
+        pattern: to_tcp_80(),
+        cookie: 0,
+        command: ADD,
+        idle: 60,
+        hard: 0,
+        priority: 10,
+        buffer: NO_BUFFER,
+        out_port: 0xffff,
+        flags: SEND_FLOW_REM,
+        actions: Actions::of(alloc, &[TO_PORT_2])?,
+    };
+    Ok((spelled, wanted))
+}
+
+/// A flow-mod that deletes, with the bytes that spell it.
+fn deletion(alloc: Global) -> Result<(Vec<u8>, FlowMod), AllocError> {
+    let spelled = bytes(
+        alloc,
+        &[
+            "010e0048 00000001",
+            TO_TCP_80,
+            "0000000000000000 0003 0000 0000 0000 ffffffff ffff 0000",
+        ],
+    )?;
+    let wanted = FlowMod {
+        xid: 1,
+        pattern: to_tcp_80(),
+        cookie: 0,
+        command: DELETE,
+        idle: 0,
+        hard: 0,
+        priority: 0,
+        buffer: NO_BUFFER,
+        out_port: 0xffff,
+        flags: 0,
+        actions: Actions::of(alloc, &[])?,
+    };
+    Ok((spelled, wanted))
+}
+
+/// A flow-mod whose fields all differ, with the bytes that spell it.
+fn distinct_fields(alloc: Global) -> Result<(Vec<u8>, FlowMod), AllocError> {
+    let spelled = bytes(
+        alloc,
+        &[
+            "010e0060 01020304",
+            MALL,
+            "1112131415161718 2122 3132 4142 5152 61626364 7172 0006 0003000800000000 000b001000030000 0000000001020304",
+        ],
+    )?;
     let queued = Action::Enqueue {
         port: 3,
         queue: 0x01020304,
     };
-    Ok([
-        (
-            bytes(
-                alloc,
-                &[
-                    "010e0050 00000000",
-                    TO_TCP_80,
-                    "0000000000000000 0000 003c 0000 000a ffffffff ffff 0001 0000000800020000",
-                ],
-            )?,
-            FlowMod {
-                xid: 0,
-                pattern: to_tcp_80(),
-                cookie: 0,
-                command: ADD,
-                idle: 60,
-                hard: 0,
-                priority: 10,
-                buffer: NO_BUFFER,
-                out_port: 0xffff,
-                flags: SEND_FLOW_REM,
-                actions: Actions::of(alloc, &[TO_PORT_2])?,
-            },
-        ),
-        (
-            bytes(
-                alloc,
-                &[
-                    "010e0048 00000001",
-                    TO_TCP_80,
-                    "0000000000000000 0003 0000 0000 0000 ffffffff ffff 0000",
-                ],
-            )?,
-            FlowMod {
-                xid: 1,
-                pattern: to_tcp_80(),
-                cookie: 0,
-                command: DELETE,
-                idle: 0,
-                hard: 0,
-                priority: 0,
-                buffer: NO_BUFFER,
-                out_port: 0xffff,
-                flags: 0,
-                actions: Actions::of(alloc, &[])?,
-            },
-        ),
-        (
-            bytes(
-                alloc,
-                &[
-                    "010e0060 01020304",
-                    MALL,
-                    "1112131415161718 2122 3132 4142 5152 61626364 7172 0006 0003000800000000 000b001000030000 0000000001020304",
-                ],
-            )?,
-            FlowMod {
-                xid: 0x01020304,
-                pattern: Match::all(),
-                cookie: 0x1112131415161718,
-                command: 0x2122,
-                idle: 0x3132,
-                hard: 0x4142,
-                priority: 0x5152,
-                buffer: 0x61626364,
-                out_port: 0x7172,
-                flags: CHECK_OVERLAP + EMERG,
-                actions: Actions::of(alloc, &[Action::StripVlan, queued])?,
-            },
-        ),
-    ])
+    let wanted = FlowMod {
+        xid: 0x01020304,
+        pattern: Match::all(),
+        cookie: 0x1112131415161718,
+        command: 0x2122,
+        idle: 0x3132,
+        hard: 0x4142,
+        priority: 0x5152,
+        buffer: 0x61626364,
+        out_port: 0x7172,
+        flags: CHECK_OVERLAP + EMERG,
+        actions: Actions::of(alloc, &[Action::StripVlan, queued])?,
+    };
+    Ok((spelled, wanted))
 }
 
 #[test]
 fn flow_mods_are_read_and_written(rt: HostRuntime) -> Result<(), Fail> {
     let alloc = rt.alloc();
-    for (spelled, wanted) in &flow_mods(alloc)? {
+    for (spelled, wanted) in &[addition(alloc)?, deletion(alloc)?, distinct_fields(alloc)?] {
         let read = flow_mod(alloc, spelled)?;
-        assert!(rt; same_flow_mod(&read, wanted));
-        assert_eq!(rt; read.encode(alloc)?.as_slice(), spelled.as_slice());
+        assert!(rt; same_flow_mod(&read, wanted), "{read:?}");
+        assert_eq!(rt;
+            read.encode(alloc)?.as_slice(),
+            spelled.as_slice(),
+            "of {read:?}"
+        );
     }
     Ok(())
 }
