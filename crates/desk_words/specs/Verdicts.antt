@@ -2,10 +2,10 @@
 use Rattle.std.specs.Prelude.{ℕ, ◌^◌, ◌||◌, ◌&&◌, not, leb, Bool, true, false, if◌then◌else◌, List, ◌∷◌, length}
 use Rattle.flowspace.specs.Policies.{PolicyView}
 use Rattle.desk_words.specs.declared.event.Event.{Event}
-use Rattle.desk_words.specs.declared.event.Event.TheVariants.{SwitchUp, SwitchMsg, SwitchDown, SliceUp, SliceMsg, SliceDown}
+use Rattle.desk_words.specs.declared.event.Event.TheVariants.{SwitchUp, SwitchDown, SliceUp, SliceMsg, SliceDown}
 use Rattle.desk_words.specs.declared.event.Timed.{Timed}
 use Rattle.desk_words.specs.declared.phase.Phase.{Phase}
-use Rattle.desk_words.specs.declared.phase.Phase.TheVariants.{Fresh, Begun, Opened, Ended}
+use Rattle.desk_words.specs.declared.phase.Phase.TheVariants.{Fresh, Ended}
 use Rattle.desk_words.specs.declared.answer.Verdict.{Verdict}
 use Rattle.desk_words.specs.declared.answer.Verdict.TheVariants as verdicts
 use Rattle.desk_words.specs.Openings.{phase_of}
