@@ -1,5 +1,5 @@
 -- What follows from a message for which room was to be made.
-use Rattle.std.proofs.Common.{◌≡◌, ◌<◌, ◌+◌, ℕ, ◌||◌, leb, Bool, true, List, [], ◌∷◌, length, refl, ap, subst, sym, ◌∙◌, arith}
+use Rattle.std.proofs.Common.{◌≡◌, ◌<◌, ◌+◌, ℕ, leb, true, List, [], ◌∷◌, length, ap, subst, sym, ◌∙◌, arith}
 use Rattle.std.specs.List.{list_any, range_with_len}
 use Rattle.std.proofs.lemmas.Bool.{or_left, or_right, ltb-true, le-leb}
 use Rattle.std.proofs.lemmas.List.Folds.{list_any_at}

@@ -1,5 +1,5 @@
 -- For what memory may be wanted.
-use Rattle.std.proofs.Common.{◌≡◌, ◌<◌, ℕ, ◌+◌, ◌&&◌, ◌||◌, leb, Bool, true, false, if◌then◌else◌, List, [], ◌∷◌, length, drop, map, slice_get, refl, ap, ap₂, subst, sym, ◌∙◌, true≢false, append-nil, Option, Some, None, Result, Ok, Err, OnErr, arith}
+use Rattle.std.proofs.Common.{◌≡◌, ℕ, ◌&&◌, ◌||◌, leb, Bool, true, false, if◌then◌else◌, List, [], ◌∷◌, drop, slice_get, refl, ap, ap₂, subst, sym, ◌∙◌, true≢false, append-nil, Option, Some, None, Result, Ok, Err, OnErr}
 use Rattle.std.specs.Prelude.{is_some}
 use Rattle.std.proofs.lemmas.Bool.{or_left, or_right}
 use Rattle.std.proofs.lemmas.List.{length-map}
@@ -10,7 +10,7 @@ use Rattle.of10_port.specs.declared.features.Features.{Features}
 use Rattle.flowspace.specs.Policies.{PolicyView}
 use Rattle.flow_book.specs.declared.state.SliceState.{SliceState}
 use Rattle.slice_words.specs.Messages.{xid_of, has_actions}
-use Rattle.slice_words.specs.Items.{Item, Up, Msg, is_up}
+use Rattle.slice_words.specs.Items.{Item, Msg, is_up}
 use Rattle.slice_words.specs.Answers.{Answer}
 use Rattle.slice_words.specs.Alone.{answer_to, rendered, sent_for}
 use Rattle.slice_side.specs.Reactions.{has_reply}
@@ -21,7 +21,7 @@ use Rattle.desk_words.specs.declared.phase.Phase.{Phase}
 use Rattle.desk_words.specs.declared.phase.Phase.TheVariants.{Fresh, Begun, Opened, Ended}
 use Rattle.desk_words.specs.Openings.{features_told, Switch}
 use Rattle.desk_words.specs.Histories.{is_slot, settings_at, Side, is_open}
-use Rattle.desk_words.specs.Sent.{preparation, echo_for, begun_lane, lane_in, sent_with, put_with}
+use Rattle.desk_words.specs.Sent.{preparation, echo_for, begun_lane, lane_in, put_with}
 use Rattle.desk_words.specs.Verdicts.{is_ended}
 use Rattle.desk_words.specs.Wants.{is_any, is_answered, is_port_kept, is_read, may_want_after}
 use Rattle.proxy_core.specs.declared.parts.Session.{Session}

@@ -8,7 +8,6 @@ use Rattle.outbox.specs.Queues.{Queue, no_messages, push_all, without_first, Kep
 use Rattle.slice_words.specs.Items.{is_up}
 use Rattle.slice_words.specs.Standing.{SliceStands}
 use Rattle.of10_port.specs.declared.features.Features.{Features}
-use Rattle.desk_words.specs.declared.event.Event.{Event}
 use Rattle.desk_words.specs.declared.event.Event.TheVariants.{SwitchMsg}
 use Rattle.desk_words.specs.declared.event.Timed.{Timed}
 use Rattle.desk_words.specs.declared.phase.Phase.{Phase}

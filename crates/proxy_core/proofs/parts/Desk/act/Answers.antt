@@ -1,7 +1,6 @@
 use Rattle.std.proofs.lemmas.Result.{IfOk-weaker, on_err_weaker}
 use Rattle.desk_words.specs.declared.event.Event.TheVariants.{SwitchUp, SwitchMsg, SwitchDown, SliceUp, SliceMsg, SliceDown}
 use Rattle.proxy_core.proofs.Switched.{at_event}
-use Rattle.std.proofs.Common.{refl}
 use Rattle.proxy_core.proofs.Wanting.{err_any, at_wants, greeting_wants}
 use Rattle.proxy_core.proofs.parts.Desk.act.Goals as goal
 
