@@ -58,7 +58,10 @@ fn expect_part(
     (from, size, count): (usize, usize, usize),
 ) {
     let mut part = [0u8; 4];
-    assert_eq!(rt; disk.read(path, from as u64, &mut part[..size]).ok(), Some(count));
+    assert_eq!(rt;
+        disk.read(path, from as u64, &mut part[..size]).ok(),
+        Some(count)
+    );
     assert_eq!(rt; &part[..count], &text[from..from + count]);
 }
 
@@ -175,7 +178,10 @@ fn words_are_answered_with_their_status(rt: HostRuntime) -> Result<(), Fail> {
         let told = answer_to(&rt, said, size)?;
         assert_eq!(rt; told.status, status, "{said}");
         assert!(rt; told.room.starts_with(output.as_bytes()), "{said}");
-        assert!(rt; told.room[output.len()..].iter().all(|byte| *byte == 0), "{said}");
+        assert!(rt;
+            told.room[output.len()..].iter().all(|byte| *byte == 0),
+            "{said}"
+        );
         assert_eq!(rt; told.err.as_slice(), line.as_bytes(), "{said}");
     }
 
@@ -184,14 +190,16 @@ fn words_are_answered_with_their_status(rt: HostRuntime) -> Result<(), Fail> {
     Ok(())
 }
 
+const STATUSES: &str = "\
+The exit status is 0, or 1 for other words, 2 where the policy is refused, 3 where the recording is, 4 where
+a file can't be read, 5 where the output can't be written, 6 where memory runs out, 7 where a file is too
+large, and 8 where the recording needs what isn't built yet. Each status but 0 has a line on standard error.
+";
+
 #[test]
 fn texts_say_what_each_status_means(rt: HostRuntime) -> Result<(), Fail> {
-    for said in [
-        "FlowVisor for OpenFlow 1.0:",
-        "0, or 1 for other words, 2 where the policy is refused, 3 where the recording is, 4 where\na file can't be read, 5 where the output can't be written, 6 where memory runs out, 7 where a file is too\nlarge, and 8 where the recording needs what isn't built yet.",
-    ] {
-        assert!(rt; HELP.contains(said), "{said}");
-    }
+    assert!(rt; HELP.starts_with("FlowVisor for OpenFlow 1.0:"));
+    assert!(rt; HELP.ends_with(STATUSES));
     assert!(rt; VERSION.starts_with("flowvisor 0."));
     Ok(())
 }
