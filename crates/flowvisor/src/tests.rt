@@ -5,7 +5,7 @@ use crate::stream::Stream;
 use crate::texts::{HELP, VERSION};
 use fv_cli::base::{Files, LoadFault, MemorySink, Sink, load_file, put_all};
 use std::io::{BufWriter, Write};
-use std::process::{Abort, ExitCode};
+use std::process::ExitCode;
 use std::test::Fail;
 use std::{env, fs, process};
 
@@ -24,10 +24,12 @@ fn scratch_path(rt: &HostRuntime, name: &str) -> Result<String, Fail> {
 }
 
 #[test]
-fn disk_loads_whole_files(rt: HostRuntime) -> Result<(), Fail> {
+fn disk_reads_what_files_hold(rt: HostRuntime) -> Result<(), Fail> {
     let alloc = rt.alloc();
-    let path = scratch_path(&rt, "whole")?;
+    let path = scratch_path(&rt, "read")?;
+    let other = scratch_path(&rt, "other")?;
     fs::create(&rt, path.as_str())?.write_all(TEXT)?;
+    fs::create(&rt, other.as_str())?.write_all(OTHER)?;
 
     let mut disk = Disk::new(&rt);
     let bytes = load_file(alloc, &mut disk, path.as_str(), 8)
@@ -39,6 +41,35 @@ fn disk_loads_whole_files(rt: HostRuntime) -> Result<(), Fail> {
         Some(LoadFault::TooLarge)
     );
 
+    // Parts in any order: one right behind another of its file is read from the file that is open, any
+    // other from a file that is opened anew.
+    let mut part = [0u8; 4];
+    for (name, text, from, size, count) in [
+        (&path, TEXT, 4, 4, 4),
+        (&path, TEXT, 0, 2, 2),
+        (&path, TEXT, 0, 2, 2),
+        (&path, TEXT, 1, 2, 2),
+        (&path, TEXT, 3, 2, 2),
+        (&path, TEXT, 3, 2, 2),
+        (&path, TEXT, 4, 2, 2),
+        (&path, TEXT, 7, 4, 1),
+        (&path, TEXT, 8, 4, 0),
+        (&path, TEXT, 0, 4, 4),
+        (&other, OTHER, 4, 4, 4),
+        (&other, OTHER, 0, 2, 2),
+    ] {
+        assert_eq!(rt;
+            disk.read(name.as_str(), from as u64, &mut part[..size])
+                .ok(),
+            Some(count)
+        );
+        assert_eq!(rt; &part[..count], &text[from..from + count]);
+    }
+
+    // The file stays open until it is read to its end, or another is.
+    fs::remove_file(&rt, other.as_str())?;
+    assert_eq!(rt; disk.read(other.as_str(), 2, &mut part[..2]).ok(), Some(2));
+    assert_eq!(rt; &part[..2], &OTHER[2..4]);
     fs::remove_file(&rt, path.as_str())?;
     for nothing in [path.as_str(), "/"] {
         assert_eq!(rt;
@@ -46,56 +77,6 @@ fn disk_loads_whole_files(rt: HostRuntime) -> Result<(), Fail> {
             Some(LoadFault::ReadFault)
         );
     }
-    Ok(())
-}
-
-/// So many bytes are read of those asked for, and they are the file's from there on.
-fn expect_part(
-    rt: &impl Abort,
-    disk: &mut Disk,
-    path: &str,
-    text: &[u8],
-    (from, size, count): (usize, usize, usize),
-) {
-    let mut part = [0u8; 4];
-    assert_eq!(rt;
-        disk.read(path, from as u64, &mut part[..size]).ok(),
-        Some(count)
-    );
-    assert_eq!(rt; &part[..count], &text[from..from + count]);
-}
-
-#[test]
-fn disk_reads_parts_in_any_order(rt: HostRuntime) -> Result<(), Fail> {
-    let path = scratch_path(&rt, "read")?;
-    let other = scratch_path(&rt, "other")?;
-    fs::create(&rt, path.as_str())?.write_all(TEXT)?;
-    fs::create(&rt, other.as_str())?.write_all(OTHER)?;
-
-    // A part right behind another of its file is read from the file that is open, any other from a file that
-    // is opened anew.
-    let mut disk = Disk::new(&rt);
-    for part in [
-        (4, 4, 4),
-        (0, 2, 2),
-        (0, 2, 2),
-        (1, 2, 2),
-        (3, 2, 2),
-        (3, 2, 2),
-        (4, 2, 2),
-        (7, 4, 1),
-        (8, 4, 0),
-        (0, 4, 4),
-    ] {
-        expect_part(&rt, &mut disk, path.as_str(), TEXT, part);
-    }
-    expect_part(&rt, &mut disk, other.as_str(), OTHER, (4, 4, 4));
-    expect_part(&rt, &mut disk, other.as_str(), OTHER, (0, 2, 2));
-
-    // The file stays open until it is read to its end, or another is.
-    fs::remove_file(&rt, other.as_str())?;
-    expect_part(&rt, &mut disk, other.as_str(), OTHER, (2, 2, 2));
-    fs::remove_file(&rt, path.as_str())?;
     Ok(())
 }
 
@@ -120,13 +101,13 @@ fn streams_write_what_is_put(rt: HostRuntime) -> Result<(), Fail> {
     Ok(())
 }
 
-const USAGE: &str =
-    "usage: flowvisor check POLICY / replay POLICY RECORDING / gen SEED COUNT / serve POLICY LISTEN COUNT\n";
+const USAGE: &[u8] =
+    b"usage: flowvisor check POLICY / replay POLICY RECORDING / gen SEED COUNT / serve POLICY LISTEN COUNT\n";
 
 /// The words; one that begins with `@` is the path of the scratch file of that name.
-fn words(rt: &HostRuntime, said: &str) -> Result<Vec<String>, Fail> {
+fn words(rt: &HostRuntime, each: &[&str]) -> Result<Vec<String>, Fail> {
     let mut words = Vec::new(rt.alloc());
-    for word in said.split_ascii_whitespace() {
+    for word in each {
         let word = match word.strip_prefix('@') {
             Some(name) => scratch_path(rt, name)?,
             None => String::from_str(rt.alloc(), word)?,
@@ -136,23 +117,6 @@ fn words(rt: &HostRuntime, said: &str) -> Result<Vec<String>, Fail> {
     Ok(words)
 }
 
-/// What words are answered: the status, the room for the output with what was written, and what was said.
-#[derive(Drop)]
-struct Answered {
-    status: u8,
-    room: [u8; 2048],
-    err: MemorySink,
-}
-
-/// What the words are answered where there is room for so many bytes of output.
-fn answer_to(rt: &HostRuntime, said: &str, size: usize) -> Result<Answered, Fail> {
-    let words = words(rt, said)?;
-    let mut room = [0u8; 2048];
-    let mut err = MemorySink::new(rt.alloc());
-    let status = answer(rt, &words, &mut room[..size], &mut err);
-    Ok(Answered { status, room, err })
-}
-
 #[test]
 fn words_are_answered_with_their_status(rt: HostRuntime) -> Result<(), Fail> {
     let policy = scratch_path(&rt, "policy")?;
@@ -160,31 +124,59 @@ fn words_are_answered_with_their_status(rt: HostRuntime) -> Result<(), Fail> {
     fs::create(&rt, policy.as_str())?.write_all(POLICY)?;
     fs::create(&rt, recording.as_str())?.write_all(b"FVREC\0\0\x01")?;
 
-    for (said, size, status, output, line) in [
-        ("replay @policy @recording", 2048, 0, "end 0\n", ""),
-        ("replay @policy @recording", 5, 5, "end 0", "write fault\n"),
-        ("check @policy", 2048, 0, "ok 1 0\n", ""),
-        ("replay @policy @missing", 2048, 4, "", "read fault\n"),
-        ("replay @missing @recording", 2048, 4, "", "read fault\n"),
-        ("replay / @recording", 2048, 4, "", "read fault\n"),
-        ("replay @policy", 2048, 1, "", USAGE),
-        ("", 2048, 1, "", USAGE),
-        ("--help", 2048, 0, HELP, ""),
-        ("--version", 2048, 0, VERSION, ""),
-        ("--version", 9, 5, "flowvisor", "write fault\n"),
-        ("--helps", 2048, 1, "", USAGE),
-        ("--help --help", 2048, 1, "", USAGE),
+    for (each, size, status, output, line) in [
+        (
+            &["replay", "@policy", "@recording"][..],
+            2048,
+            0,
+            "end 0\n",
+            &b""[..],
+        ),
+        (
+            &["replay", "@policy", "@recording"][..],
+            5,
+            5,
+            "end 0",
+            b"write fault\n",
+        ),
+        (&["check", "@policy"][..], 2048, 0, "ok 1 0\n", b""),
+        (
+            &["replay", "@policy", "@missing"][..],
+            2048,
+            4,
+            "",
+            b"read fault\n",
+        ),
+        (
+            &["replay", "@missing", "@recording"][..],
+            2048,
+            4,
+            "",
+            b"read fault\n",
+        ),
+        (
+            &["replay", "/", "@recording"][..],
+            2048,
+            4,
+            "",
+            b"read fault\n",
+        ),
+        (&["replay", "@policy"][..], 2048, 1, "", USAGE),
+        (&[][..], 2048, 1, "", USAGE),
+        (&["--help"][..], 2048, 0, HELP, b""),
+        (&["--version"][..], 2048, 0, VERSION, b""),
+        (&["--version"][..], 9, 5, "flowvisor", b"write fault\n"),
+        (&["--helps"][..], 2048, 1, "", USAGE),
+        (&["--help", "--help"][..], 2048, 1, "", USAGE),
     ] {
-        let told = answer_to(&rt, said, size)?;
-        assert_eq!(rt; told.status, status, "{said}");
-        assert!(rt; told.room.starts_with(output.as_bytes()), "{said}");
-        assert!(rt;
-            told.room[output.len()..].iter().all(|byte| *byte == 0),
-            "{said}"
-        );
-        assert_eq!(rt; told.err.as_slice(), line.as_bytes(), "{said}");
+        let mut room = [0u8; 2048];
+        let mut err = MemorySink::new(rt.alloc());
+        let words = words(&rt, each)?;
+        assert_eq!(rt; answer(&rt, &words, &mut room[..size], &mut err), status);
+        assert!(rt; room.starts_with(output.as_bytes()));
+        assert!(rt; room[output.len()..].iter().all(|byte| *byte == 0));
+        assert_eq!(rt; err.as_slice(), line);
     }
-
     fs::remove_file(&rt, policy.as_str())?;
     fs::remove_file(&rt, recording.as_str())?;
     Ok(())
