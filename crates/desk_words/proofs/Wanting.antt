@@ -4,6 +4,7 @@ use Rattle.std.specs.List.{list_any, range_with_len}
 use Rattle.flowspace.specs.Policies.{PolicyView}
 use Rattle.slice_words.specs.Items.{Settings, Item, Down, End, is_up}
 use Rattle.slice_words.specs.Alone.{sent_for}
+use Rattle.slice_words.specs.Answers.{is_any}
 use Rattle.desk_words.specs.declared.event.Event.TheVariants.{SwitchDown, SliceDown}
 use Rattle.desk_words.specs.declared.event.Timed.{Timed}
 use Rattle.desk_words.specs.declared.phase.Phase.{Phase}
@@ -12,7 +13,7 @@ use Rattle.desk_words.specs.Openings.{Switch, switch_of}
 use Rattle.desk_words.specs.Histories.{is_slot, settings_at, Side, side_of, phase_items}
 use Rattle.desk_words.specs.Sent.{sent_with, put_with, lane_in}
 use Rattle.desk_words.specs.Verdicts.{is_over}
-use Rattle.desk_words.specs.Wants.{is_any, is_answered}
+use Rattle.desk_words.specs.Wants.{is_answered}
 use Rattle.desk_words.specs.Laws.{WantsNone}
 
 -- ---- nothing is sent
@@ -33,13 +34,15 @@ over_or_none false = refl
 
 -- ---- slices
 
-end_silent : (s : Settings) (view : List Item) (up : Bool) → is_up view ≡ up → sent_for s view (End ∷ []) ≡ []
-end_silent s view true is = rw is refl
-end_silent s view false is = rw is refl
+-- the ends of connections show nothing that is answered
 
-down_silent : (s : Settings) (view : List Item) (up : Bool) → is_up view ≡ up → sent_for s view (Down ∷ []) ≡ []
-down_silent s view true is = rw is refl
-down_silent s view false is = rw is refl
+pub end_sent : (s : Settings) (view : List Item) (up : Bool) → is_up view ≡ up → sent_for s view (End ∷ []) ≡ []
+end_sent s view true is = rw is refl
+end_sent s view false is = rw is refl
+
+pub down_sent : (s : Settings) (view : List Item) (up : Bool) → is_up view ≡ up → sent_for s view (Down ∷ []) ≡ []
+down_sent s view true is = rw is refl
+down_sent s view false is = rw is refl
 
 where_shown : (s : Settings) (view items : List Item) (shown : Bool) → sent_for s view items ≡ [] → sent_for s view (if shown then items else []) ≡ []
 where_shown s view items true silent = silent
@@ -49,14 +52,14 @@ by_phase_end : (s : Settings) (policy : PolicyView) (slot : ℕ) (switch : Switc
     → sent_for s view (phase_items policy slot switch view (record { event = SwitchDown; moment = moment }) phase) ≡ []
 by_phase_end s policy slot switch view moment Fresh = refl
 by_phase_end s policy slot switch view moment Begun = refl
-by_phase_end s policy slot switch view moment Opened = end_silent s view (is_up view) refl
+by_phase_end s policy slot switch view moment Opened = end_sent s view (is_up view) refl
 by_phase_end s policy slot switch view moment Ended = refl
 
 by_phase_down : (s : Settings) (policy : PolicyView) (slot other : ℕ) (switch : Switch) (view : List Item) (moment : ℕ) (phase : Phase)
     → sent_for s view (phase_items policy slot switch view (record { event = SliceDown other; moment = moment }) phase) ≡ []
 by_phase_down s policy slot other switch view moment Fresh = refl
 by_phase_down s policy slot other switch view moment Begun = refl
-by_phase_down s policy slot other switch view moment Opened = where_shown s view (Down ∷ []) (other == slot) (down_silent s view (is_up view) refl)
+by_phase_down s policy slot other switch view moment Opened = where_shown s view (Down ∷ []) (other == slot) (down_sent s view (is_up view) refl)
 by_phase_down s policy slot other switch view moment Ended = refl
 
 -- ---- the switch

@@ -1,9 +1,10 @@
 -- For which events a desk may want memory: those from which something follows (this proxy's own rule).
-use Rattle.std.specs.Prelude.{ℕ, ◌||◌, ◌&&◌, not, leb, Bool, false, List, length, is_some}
+use Rattle.std.specs.Prelude.{ℕ, ◌||◌, ◌&&◌, not, Bool, false, List, length, is_some}
 use Rattle.std.specs.List.{list_any, range_with_len}
 use Rattle.flowspace.specs.Policies.{PolicyView}
 use Rattle.slice_words.specs.Messages.{has_actions}
 use Rattle.slice_words.specs.Items.{is_up}
+use Rattle.slice_words.specs.Answers.{is_any}
 use Rattle.desk_words.specs.declared.event.Event.{Event}
 use Rattle.desk_words.specs.declared.event.Event.TheVariants.{SwitchMsg, SliceMsg}
 use Rattle.desk_words.specs.declared.event.Timed.{Timed}
@@ -11,10 +12,6 @@ use Rattle.desk_words.specs.Openings.{status_kept, Switch, switch_of}
 use Rattle.desk_words.specs.Histories.{Side, side_of, is_open}
 use Rattle.desk_words.specs.Sent.{sent_with, put_with, lane_in}
 use Rattle.desk_words.specs.Verdicts.{is_over}
-
--- there is one at least
-abbrev pub is_any : {A : Type 0} → List A → Bool
-is_any xs = leb 1 (length xs)
 
 -- at an event something is sent, to the switch or to a slice of the policy
 abbrev pub is_answered : PolicyView → Switch → (ℕ → Side) → Timed → Bool

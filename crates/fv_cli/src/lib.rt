@@ -9,6 +9,3 @@ pub use ending::Ending;
 pub use fv_base as base;
 pub use fv_report::{Lack, ReportFault, report};
 pub use program::offline;
-
-#[cfg(test)]
-mod tests;

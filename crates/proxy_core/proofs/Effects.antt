@@ -16,11 +16,11 @@ use Rattle.std.proofs.lemmas.Option.{none-some}
 use Rattle.outbox.specs.Queues.{Kept}
 use Rattle.slice_words.specs.Messages.{has_actions}
 use Rattle.slice_words.specs.Items.{Settings, Sight, Msg}
-use Rattle.slice_words.specs.Answers.{Answer}
+use Rattle.slice_words.specs.Answers.{Answer, is_any}
 use Rattle.slice_words.specs.Alone.{answer_to, rendered}
 use Rattle.slice_side.specs.declared.answered.Reaction.{Reaction}
 use Rattle.slice_side.specs.Reactions.{has_reply, is_heeded, IsReaction}
-use Rattle.desk_words.specs.Wants.{is_any, is_answered}
+use Rattle.desk_words.specs.Wants.{is_answered}
 use Rattle.proxy_core.specs.Slots.{has_effect}
 use Rattle.proxy_core.specs.Handing.{HasRoomForAll}
 

@@ -16,6 +16,7 @@ use Rattle.desk_words.specs.Openings.{phase_after, known_after, Switch, switch_a
 use Rattle.desk_words.specs.Histories.{is_slot, settings_at, Side, items_of, is_open}
 use Rattle.desk_words.specs.Operations.{slice_limit, empties}
 use Rattle.desk_words.proofs.Erasing.{others_items}
+use Rattle.desk_words.proofs.Wanting.{down_sent}
 use Rattle.proxy_core.specs.declared.parts.Session.{Session}
 use Rattle.proxy_core.specs.Slots.{Keeps, Comes}
 use Rattle.proxy_core.specs.Desks.{SlotStands, SessionStands, sides_after, up_after, queues_after}
@@ -111,10 +112,6 @@ comes_slot p switch sides qs slot moment a b x y opened here stands comes =
     (ap₂ (λ (a b : Bool). a && b) (eq-eqb slot slot refl) (up_comes p switch sides slot moment opened here))
     (comes.0 (settings_at p slot switch.features) (sides slot).sight stands.state_stands, comes.1 _ (qs slot) stands.queue_stands)
 
-down_sent : (up : Bool) (view : List Item) (s : Settings) → is_up view ≡ up → sent_for s view (Down ∷ []) ≡ []
-down_sent true view s is = rw is refl
-down_sent false view s is = rw is refl
-
 pub goes_slot : (p : PolicyView) (switch : Switch) (sides : ℕ → Side) (qs : ℕ → Queue) (slot moment : ℕ) (a : SliceState) (b : Kept) (x : SliceState) (y : Kept) → switch.phase ≡ Opened
     → is_slot p slot ≡ true → SlotStands p slot switch (sides slot) (qs slot) a b → Goes a b x y
     → SlotStands p slot switch (sides_after p switch sides (record { event = SliceDown slot; moment = moment }) slot) (queues_after p switch sides qs (record { event = SliceDown slot; moment = moment }) slot) x y
@@ -123,6 +120,6 @@ goes_slot p switch sides qs slot moment a b x y opened here stands goes =
     slot_after p switch sides qs timed slot (Down ∷ []) true x y
     (shown_down p switch (sides slot) slot moment opened here) (eq-eqb slot slot refl) (
       goes.0 (settings_at p slot switch.features) (sides slot).sight stands.state_stands,
-      subst (λ (m : List (List ℕ)). QueueStands slice_limit (push_all slice_limit no_messages m) y) (sym (down_sent (is_up (sides slot).sight.view) (sides slot).sight.view (settings_at p slot switch.features) refl))
+      subst (λ (m : List (List ℕ)). QueueStands slice_limit (push_all slice_limit no_messages m) y) (sym (down_sent (settings_at p slot switch.features) (sides slot).sight.view (is_up (sides slot).sight.view) refl))
           (goes.1 _ (qs slot) stands.queue_stands),
     )

@@ -13,6 +13,7 @@ use Rattle.port_view.specs.KnownPorts.{changed, kept_of}
 use Rattle.port_view.proofs.Knowing.{changed-not_kept}
 use Rattle.outbox.specs.Queues.{Queue, no_messages, push_all, Kept, QueueStands}
 use Rattle.slice_words.specs.Items.{Item, End}
+use Rattle.slice_words.specs.Answers.{is_any}
 use Rattle.desk_words.specs.declared.event.Event.{Event}
 use Rattle.desk_words.specs.declared.event.Event.TheVariants.{SwitchMsg}
 use Rattle.desk_words.specs.declared.event.Timed.{Timed}
@@ -22,7 +23,7 @@ use Rattle.desk_words.specs.Openings.{features_told, status_told, kept_beside, s
 use Rattle.desk_words.specs.Histories.{Side, message_items, is_open}
 use Rattle.desk_words.specs.Sent.{preparation, echo_for, lane_in, put_with}
 use Rattle.desk_words.specs.Verdicts.{is_fresh, is_ended, is_closing}
-use Rattle.desk_words.specs.Wants.{is_any, is_answered, is_port_kept}
+use Rattle.desk_words.specs.Wants.{is_answered, is_port_kept}
 use Rattle.desk_words.specs.Operations.{slice_limit, lane_limit}
 use Rattle.switch_side.specs.declared.dispatch.Dispatch.{Dispatch}
 use Rattle.switch_side.specs.Dispatches.{Surrounds, AllStand, IsDispatch, told_at, sent_from}

@@ -11,7 +11,7 @@ use Rattle.flowspace.specs.Policies.{PolicyView}
 use Rattle.flow_book.specs.declared.state.SliceState.{SliceState}
 use Rattle.slice_words.specs.Messages.{xid_of, has_actions}
 use Rattle.slice_words.specs.Items.{Item, Msg, is_up}
-use Rattle.slice_words.specs.Answers.{Answer}
+use Rattle.slice_words.specs.Answers.{Answer, is_any}
 use Rattle.slice_words.specs.Alone.{answer_to, rendered, sent_for}
 use Rattle.slice_side.specs.Reactions.{has_reply}
 use Rattle.desk_words.specs.declared.event.Event.{Event}
@@ -23,7 +23,7 @@ use Rattle.desk_words.specs.Openings.{features_told, Switch}
 use Rattle.desk_words.specs.Histories.{is_slot, settings_at, Side, is_open}
 use Rattle.desk_words.specs.Sent.{preparation, echo_for, begun_lane, lane_in, put_with}
 use Rattle.desk_words.specs.Verdicts.{is_ended}
-use Rattle.desk_words.specs.Wants.{is_any, is_answered, is_port_kept, is_read, may_want_after}
+use Rattle.desk_words.specs.Wants.{is_answered, is_port_kept, is_read, may_want_after}
 use Rattle.proxy_core.specs.declared.parts.Session.{Session}
 use Rattle.proxy_core.specs.declared.parts.Desk.{Desk}
 use Rattle.proxy_core.specs.Slots.{has_effect, HasEffect}

@@ -10,7 +10,7 @@ use Rattle.slice_words.specs.Items.{Settings, Sight, Item, Up, Msg}
 use Rattle.slice_words.specs.Alone.{answer_to, rendered}
 use Rattle.slice_words.specs.Standing.{SliceStands}
 use Rattle.slice_side.specs.Reactions.{with_item, Sees, is_heeded}
-use Rattle.desk_words.specs.Wants.{is_any}
+use Rattle.slice_words.specs.Answers.{is_any}
 
 -- an outbox keeps the queue that it kept
 abbrev pub SameQueue : Kept → Kept → Type 0

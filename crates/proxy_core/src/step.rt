@@ -9,7 +9,7 @@ ghost use Rattle.desk_words.specs.declared.phase.Phase.TheVariants.{Begun, Opene
 ghost use Rattle.desk_words.specs.Openings.{features_told, phase_after};
 ghost use Rattle.desk_words.specs.Sent.{begun_lane};
 ghost use Rattle.desk_words.specs.Verdicts.{is_ended};
-ghost use Rattle.desk_words.specs.Wants.{is_any};
+ghost use Rattle.slice_words.specs.Answers.{is_any};
 ghost use Rattle.desk_words.specs.declared.answer.Verdict.TheVariants.{Go, Close};
 ghost use Rattle.proxy_core.specs.Desks.{Acts, ActsIn, MayWant, Stays, Ends, PassesOn, is_begun_with, DeskStands, Steps};
 

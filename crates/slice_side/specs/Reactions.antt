@@ -1,5 +1,5 @@
 -- What a slice's message makes of the slice's state, and what is answered (this proxy's own rule).
-use Rattle.std.specs.Prelude.{ℕ, ◌≡◌, ◌||◌, leb, Bool, true, false, List, [], ◌∷◌, length, map, filter, Some}
+use Rattle.std.specs.Prelude.{ℕ, ◌≡◌, ◌||◌, Bool, true, false, List, [], ◌∷◌, map, filter, Some}
 use Rattle.of10_port.specs.declared.features.Features.{Features}
 use Rattle.flowspace.specs.declared.rules.Rule.{Rule}
 use Rattle.flowspace.specs.Rules.{is_written_by}
@@ -7,7 +7,7 @@ use Rattle.flowspace.specs.Policies.{SwitchView}
 use Rattle.port_view.specs.SlicePorts.{ports_of_slice, features_with}
 use Rattle.slice_words.specs.Messages.{is_dismissing, is_setting, miss_send_len_of, has_actions}
 use Rattle.slice_words.specs.Items.{Settings, Sight, Item, Msg, is_up, miss_send_len, features_in, known_ports}
-use Rattle.slice_words.specs.Answers.{Answer}
+use Rattle.slice_words.specs.Answers.{Answer, is_any}
 use Rattle.slice_words.specs.Alone.{answer_to, rendered}
 use Rattle.slice_side.specs.declared.answered.Reaction.{Reaction}
 use Rattle.slice_side.specs.declared.change.Change.{Change}
@@ -54,7 +54,7 @@ pub record IsReaction (s : Settings) (sight : Sight) (item : Item) (r : Reaction
 
 -- the answer has a message to the slice
 abbrev pub has_reply : Answer → Bool
-has_reply answer = leb 1 (length answer.to_slice)
+has_reply answer = is_any answer.to_slice
 
 -- a message is replied to, or its actions are read
 abbrev pub is_heeded : Settings → List Item → List ℕ → ℕ → Bool

@@ -1,5 +1,5 @@
 -- What follows for a slice from each item of its view. A later item is answered by look-ups in the view before it and in the answers given there; nothing is kept. Sections are those of OpenFlow 1.0.0; the order of refusals is this proxy's own rule.
-use Rattle.std.specs.Prelude.{ℕ, ◌-◌, ◌%◌, ◌^◌, ◌==◌, not, Bool, true, false, if◌then◌else◌, List, [], ◌∷◌, ◌++◌, length, take, drop, Option, Some, None}
+use Rattle.std.specs.Prelude.{ℕ, ◌-◌, ◌%◌, ◌^◌, ◌==◌, not, Bool, true, false, if◌then◌else◌, List, [], ◌∷◌, ◌++◌, leb, length, take, drop, Option, Some, None}
 use Rattle.byteorder.specs.Endian.{big_bytes}
 use Rattle.of10_action.specs.Faults.{class_and_code}
 use Rattle.of10_ctl.specs.declared.kind.TheConstants.{HELLO, ERROR, ECHO_REQUEST, ECHO_REPLY, VENDOR, FEATURES_REQUEST, GET_CONFIG_REQUEST, GET_CONFIG_REPLY, SET_CONFIG, PORT_MOD}
@@ -30,6 +30,10 @@ pub record Answer : Type 0 where
 pub record Past : Type 0 where
   pub item : Item
   pub answer : Answer
+
+-- there is one at least
+abbrev pub is_any : {A : Type 0} → List A → Bool
+is_any xs = leb 1 (length xs)
 
 -- nothing follows
 abbrev pub silence : Answer

@@ -7,7 +7,7 @@ use Rattle.desk_words.specs.declared.event.Event.TheVariants.{SwitchMsg}
 use Rattle.desk_words.specs.Openings.{status_kept, rules_of, Switch}
 use Rattle.desk_words.specs.Histories.{Side, is_open}
 use Rattle.desk_words.specs.Sent.{sent_with, put_with, echo_for, lane_in}
-use Rattle.desk_words.specs.Wants.{is_any}
+use Rattle.slice_words.specs.Answers.{is_any}
 use Rattle.switch_side.specs.declared.dispatch.Dispatch.{Dispatch}
 use Rattle.switch_side.specs.Dispatches.{Surrounds, AllStand, sent_from, told_at, IsDispatch, has_dispatch}
 use Rattle.switch_side.specs.Carrying.{Carried, carried, carried_for, carries_any, message_told}

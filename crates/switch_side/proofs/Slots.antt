@@ -23,6 +23,7 @@ use Rattle.desk_words.specs.Histories.{is_slot, settings_at, Side, handed, heade
 use Rattle.port_view.specs.KnownPorts.{is_kept}
 use Rattle.desk_words.specs.Sent.{sent_with}
 use Rattle.desk_words.proofs.Seen.{no_kind}
+use Rattle.desk_words.proofs.Wanting.{end_sent}
 use Rattle.switch_side.specs.Dispatches.{told_at}
 use Rattle.switch_side.specs.Carrying.{unnumbered, once, packet_for, status_for}
 
@@ -100,11 +101,6 @@ by_kind s rules known slot view true None told own = refl
 by_kind s rules known slot view true (Some packet) told own = packet_sent s rules slot view packet
 by_kind s rules known slot view false found None own = refl
 by_kind s rules known slot view false found (Some status) own = by_kept s rules slot view status (is_kept status known) (own (port_number status.port))
-
--- the end shows nothing that is answered
-pub end_sent : (s : Settings) (view : List Item) (up : Bool) → is_up view ≡ up → sent_for s view (End ∷ []) ≡ []
-end_sent s view true is = rw is refl
-end_sent s view false is = rw is refl
 
 -- a message of a bad length is of no type
 pub bad_is_none : (kind : ℕ) (message : List ℕ) → is_bad message ≡ true → is_of kind message ≡ false

@@ -9,7 +9,7 @@ use Rattle.desk_words.specs.declared.event.Timed.{Timed}
 use Rattle.desk_words.specs.Openings.{Switch}
 use Rattle.desk_words.specs.Histories.{Side}
 use Rattle.desk_words.specs.Sent.{sent_with}
-use Rattle.desk_words.specs.Wants.{is_any}
+use Rattle.slice_words.specs.Answers.{is_any}
 use Rattle.switch_side.specs.Dispatches.{addressed, sent_from}
 
 -- ---- lists

@@ -17,7 +17,7 @@ use Rattle.of10_ctl.specs.Kinds.{is_of}
 use Rattle.desk_words.specs.Openings.{well_formed, status_kept}
 use Rattle.desk_words.specs.Histories.{header_in, is_plain}
 use Rattle.desk_words.specs.Sent.{echo_for}
-use Rattle.desk_words.specs.Wants.{is_any}
+use Rattle.slice_words.specs.Answers.{is_any}
 use Rattle.switch_side.specs.declared.dispatch.Dispatch.{Dispatch}
 use Rattle.switch_side.specs.Dispatches.{addressed}
 

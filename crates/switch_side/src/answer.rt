@@ -69,6 +69,7 @@ pub fn react(
 ) -> Result<Dispatch, AllocError>
     requires { length states.now ≡ length policy.now.slices }
     ensures dispatch { (p : PolicyView) (switch : Switch) (sides : ℕ → Side) (moment : ℕ) → Surrounds p switch policy.now ports.now → AllStand p switch sides states.now → IfOk result (IsDispatch p switch sides moment frame.now) }
+    ensures carries { OnErr result (IsTrue (carries_any (carried_for policy.now.rules ports.now states.now frame.now))) }
     ensures memory { (p : PolicyView) (switch : Switch) (sides : ℕ → Side) (moment : ℕ) → Surrounds p switch policy.now ports.now → AllStand p switch sides states.now → OnErr result (IsTrue (has_dispatch p switch sides (told_at moment frame.now))) }
 {
     // A policy has at most 32 slices, and a frame at most 65,535 bytes.

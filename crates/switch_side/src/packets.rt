@@ -6,7 +6,7 @@ ghost use Rattle.of10_ctl.specs.Kinds.{IsOf};
 ghost use Rattle.of10_flow.specs.PacketIns.{packet_of, spell_packet_in};
 ghost use Rattle.flowspace.specs.Order.{writer_of, readers_of};
 ghost use Rattle.desk_words.specs.Histories.{is_plain};
-ghost use Rattle.desk_words.specs.Wants.{is_any};
+ghost use Rattle.slice_words.specs.Answers.{is_any};
 ghost use Rattle.switch_side.specs.Dispatches.{addressed};
 ghost use Rattle.switch_side.specs.Carrying.{carried, telling, packet_for, said_from, packet_told, packet_in_told};
 

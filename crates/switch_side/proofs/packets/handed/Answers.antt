@@ -1,6 +1,6 @@
 use Rattle.std.proofs.Common.{◌≡◌, ℕ, List, IfOk, IsTrue, OnErr, sym, subst, ◌∙◌}
 use Rattle.of10_flow.specs.PacketIns.{packet_of}
-use Rattle.desk_words.specs.Wants.{is_any}
+use Rattle.slice_words.specs.Answers.{is_any}
 use Rattle.switch_side.proofs.Told.{plain_told}
 use Rattle.switch_side.proofs.packets.handed.Goals as goal
 

@@ -1,11 +1,11 @@
-//! Streams that come byte by byte: through a framer of the test's own, and in records of one byte.
+//! A stream that comes byte by byte, through a framer of the test's own.
 
-use super::records::{Cut, Step, TO_WEB, put_record, recording_of};
+use super::records::put_record;
 use super::{
     ALICE_UP, BOB_UP, FEATURES, MAGIC, OPENING, RULES, SWITCH_UP, WEB_PACKET, WEB_REPORT,
     expect_answer, play,
 };
-use crate::base::MemorySink;
+use fv_base::MemorySink;
 use of10_ctl::{Framer, Next};
 use recording::RECORD_HEAD;
 use std::alloc::Global;
@@ -49,10 +49,6 @@ fn a_stream_cut_into_bytes_makes_the_same_report(rt: HostRuntime) -> Result<(), 
         matches!(framer.next()?, Next::NeedMore),
         "no byte is left over"
     );
-    let answer = play(alloc, RULES, &recording, MemorySink::new(alloc))?;
-    expect_answer(&rt, &answer, 0, &[OPENING, WEB_REPORT], "");
-    let steps = [Step::Opened, Step::Switch(&[TO_WEB])];
-    let recording = recording_of(alloc, Cut::Bytes, &steps)?;
     let answer = play(alloc, RULES, &recording, MemorySink::new(alloc))?;
     expect_answer(&rt, &answer, 0, &[OPENING, WEB_REPORT], "");
     Ok(())

@@ -1,14 +1,15 @@
 //! Whole calls over files and sinks in memory.
 
 mod checks;
-mod messages;
+mod names;
 mod recordings;
 mod records;
 mod sessions;
 mod streams;
+mod tables;
 
-use crate::base::{Files, MemoryFiles, MemorySink, Words};
-use crate::{offline, report};
+use fv_base::{Files, MemoryFiles, MemorySink, Words};
+use fv_cli::{offline, report};
 use recording::items;
 use std::alloc::Global;
 use std::process::Abort;
@@ -55,11 +56,6 @@ fffe0000000000000000000000000000000000000000000000000000000000000000000000000000
 const WEB_PACKET: &str = "01000000000000480000000000000000010a004800000000ffffffff003600010000\
 000000000002000000000001080045000028000000004006\
 00000a0000010a0000020400005000000000000000005002000000000000";
-
-/// The same to port 22.
-const SHELL_PACKET: &str = "01000000000000480000000000000000010a004800000000ffffffff003600010000\
-000000000002000000000001080045000028000000004006\
-00000a0000010a0000020400001600000000000000005002000000000000";
 
 /// What the switch is sent until its desk is open.
 const OPENING: &str = "\
@@ -161,35 +157,6 @@ fn the_report_of_a_recording_in_memory_is_written(rt: HostRuntime) -> Result<(),
     assert!(rt; out.as_slice().starts_with(OPENING.as_bytes()));
     assert!(rt; out.as_slice().ends_with(WEB_REPORT.as_bytes()));
     assert_eq!(rt; out.as_slice().len(), OPENING.len() + WEB_REPORT.len());
-    Ok(())
-}
-
-#[test]
-fn recordings_of_the_form_are_reported(rt: HostRuntime) -> Result<(), Fail> {
-    let alloc = rt.alloc();
-    let cases: [(&[&str], &[&str]); 5] = [
-        (&[MAGIC], &["end 0\n"]),
-        (
-            &[MAGIC, SWITCH_UP, ALICE_UP],
-            &["0 0 lane 01000008ff000000\n0 0 lane 01050008ff000001\n1 0 close alice\nend 2\n"],
-        ),
-        (
-            &[MAGIC, SWITCH_UP, FEATURES, ALICE_UP, SHELL_PACKET],
-            &[OPENING, "2 0 to alice 0100000800000000\nend 4\n"],
-        ),
-        (
-            &[MAGIC, SWITCH_UP, WEB_PACKET],
-            &["0 0 lane 01000008ff000000\n0 0 lane 01050008ff000001\nend 2\n"],
-        ),
-        (
-            &[MAGIC, SWITCH_UP, FEATURES, FEATURES],
-            &[OPENING, "end 3\n"],
-        ),
-    ];
-    for (pieces, report) in &cases {
-        let answer = replay(alloc, RULES, pieces, MemorySink::new(alloc))?;
-        expect_answer(&rt, &answer, 0, report, "");
-    }
     Ok(())
 }
 

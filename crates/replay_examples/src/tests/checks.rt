@@ -1,7 +1,7 @@
 //! Policies that are accepted, and what is said of those that aren't.
 
 use super::{RULES, WEB_RULE, call, expect_answer, policy_of};
-use crate::base::{MemoryFiles, MemorySink};
+use fv_base::{MemoryFiles, MemorySink};
 use std::alloc::Global;
 use std::process::Abort;
 use std::test::Fail;

@@ -1,0 +1,6 @@
+//! Messages of all types, spelled out as the bytes of OpenFlow 1.0.0, section 5: what the codecs read them as,
+//! and that they write the same bytes again. There are tests here alone.
+#![tactic(auto)]
+
+#[cfg(test)]
+mod tests;
