@@ -6,6 +6,7 @@ use Rattle.of10_model.specs.declared.pattern.Pattern.{Pattern}
 use Rattle.of10_model.specs.Normal.{IsNormal}
 use Rattle.of10_action.specs.declared.action.Action.{Action}
 use Rattle.of10_action.specs.Actions.{IsAction}
+use Rattle.of10_ctl.specs.declared.kind.TheConstants.{FLOW_MOD}
 use Rattle.of10_ctl.specs.Kinds.{IsOf}
 use Rattle.of10_flow.specs.declared.flow_mod.FlowMod.{FlowMod}
 use Rattle.of10_flow.specs.FlowMods.{IsFlowMod, spell_flow_mod, read_flow_mod}
@@ -66,7 +67,7 @@ message_there o paired at =
 
 -- and it is read as that
 pub read_there : (o : Order) → IsPaired o → IsInRange o → are_too_large (messages_of o) ≡ false → (at : Place o)
-    → IsOf 14 at.message × (read_flow_mod at.message ≡ Ok (flow_mod_at o at))
+    → IsOf FLOW_MOD at.message × (read_flow_mod at.message ≡ Ok (flow_mod_at o at))
 read_there o paired range small at =
     let there = message_there o paired at in
     let sent = flow_mod_at o at in
@@ -77,4 +78,4 @@ read_there o paired range small at =
     let normal : IsNormal at.piece = subst IsNormal (get_or_from_slice_get o.pieces at.number at.piece at.piece at.has_piece) (range.pieces at.number at.piece (slice_get_within o.pieces at.number at.piece at.has_piece)) in
     let all : All IsAction at.actions = subst (All IsAction) (get_or_from_slice_get o.lists at.number at.actions at.actions at.has_actions) (range.lists at.number at.actions (slice_get_within o.lists at.number at.actions at.has_actions)) in
     let ranges = is_sent o.flow_mod o.xid at.piece at.actions (buffer_at o.buffer at.number) range.flow_mod range.xid normal all (number_fits o.buffer at.number range.buffer) size in
-    (subst (IsOf 14) (sym there) (flow_mod_of sent ranges), ap read_flow_mod there ∙ flow_mod_again sent ranges)
+    (subst (IsOf FLOW_MOD) (sym there) (flow_mod_of sent ranges), ap read_flow_mod there ∙ flow_mod_again sent ranges)

@@ -10,6 +10,7 @@ use Rattle.of10_model.specs.declared.pattern.Pattern.{Pattern}
 use Rattle.of10_model.specs.Spelling.{Spell}
 use Rattle.of10_action.specs.declared.action.Action.{Action}
 use Rattle.of10_action.specs.Actions.{spelling}
+use Rattle.of10_ctl.specs.declared.kind.TheConstants.{FLOW_MOD}
 use Rattle.of10_ctl.specs.Kinds.{IsOf}
 use Rattle.of10_flow.specs.declared.flow_mod.FlowMod.{FlowMod}
 use Rattle.of10_flow.specs.FlowMods.{spell_flow_mod}
@@ -89,13 +90,13 @@ all_fit messages room i counted all = subst (λ ms. are_too_large ms ≡ false) 
 -- the first messages are made
 pub record Made (messages frames : List (List ℕ)) (i : ℕ) : Type 0 where
   pub so_far : frames ≡ take i messages
-  pub kind : All (IsOf 14) frames
+  pub kind : All (IsOf FLOW_MOD) frames
 
-pub made_more : (messages frames : List (List ℕ)) (i : ℕ) (frame : List ℕ) → Made messages frames i → i < length messages → frame ≡ get_or messages i frame → IsOf 14 frame → Made messages (frames ++ frame ∷ []) (i + 1)
+pub made_more : (messages frames : List (List ℕ)) (i : ℕ) (frame : List ℕ) → Made messages frames i → i < length messages → frame ≡ get_or messages i frame → IsOf FLOW_MOD frame → Made messages (frames ++ frame ∷ []) (i + 1)
 made_more messages frames i frame made lt is kind =
     record {
       so_far = rw (made.so_far, take_more messages i frame lt, ← is) refl;
-      kind = All-push (IsOf 14) frames frame made.kind kind;
+      kind = All-push (IsOf FLOW_MOD) frames frame made.kind kind;
     }
 
 not_above : (a b : ℕ) → nat_lt a b ≡ false → b ≤ a

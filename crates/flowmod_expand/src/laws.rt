@@ -11,6 +11,7 @@ ghost use Rattle.flowspace.specs.declared.rules.Rule.{Rule};
 ghost use Rattle.flowspace.specs.Rules.{is_written_by};
 ghost use Rattle.flowspace.specs.Policies.{IsSwitchPolicy, AreNormal};
 ghost use Rattle.flowspace.specs.Owners.{Writes, HasWriteRule, Owns};
+ghost use Rattle.of10_ctl.specs.declared.kind.TheConstants.{FLOW_MOD};
 ghost use Rattle.of10_ctl.specs.Kinds.{IsOf};
 ghost use Rattle.of10_flow.specs.FlowMods.{spell_flow_mod, read_flow_mod};
 ghost use Rattle.flowmod_expand.specs.Pieces.{pieces_of};
@@ -51,6 +52,6 @@ pub fn each_piece_has_its_message()
 
 /// The message of a piece, where they aren't too large, is a flow-mod and is read as that of the piece.
 pub fn message_is_read_again()
-    ensures kind { (o : Order) → IsPaired o → IsInRange o → are_too_large (messages_of o) ≡ false → (at : Place o) → IsOf 14 at.message }
+    ensures kind { (o : Order) → IsPaired o → IsInRange o → are_too_large (messages_of o) ≡ false → (at : Place o) → IsOf FLOW_MOD at.message }
     ensures again { (o : Order) → IsPaired o → IsInRange o → are_too_large (messages_of o) ≡ false → (at : Place o) → read_flow_mod at.message ≡ Ok (flow_mod_at o at) }
 {}

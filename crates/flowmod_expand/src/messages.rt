@@ -2,6 +2,7 @@
 
 ghost use Rattle.std.specs.Prelude.{ℕ, ◌≡◌, ◌⊎◌, ◌+◌, ◌<◌, ◌≤◌, false, List, length, All, Option, sum_by, IfOk, IfSome, IsTrue};
 ghost use Rattle.of10_model.specs.declared.pattern.Pattern.{Pattern};
+ghost use Rattle.of10_ctl.specs.declared.kind.TheConstants.{FLOW_MOD};
 ghost use Rattle.of10_ctl.specs.Kinds.{IsOf};
 ghost use Rattle.flowmod_expand.specs.Messages.{buffer_at, flow_messages, are_too_large, Gives};
 
@@ -67,7 +68,7 @@ fn messages(
     requires lists { length actions.now ≡ length pieces.now }
     requires fits { are_too_large (flow_messages m.now xid pieces.now actions.now buffer) ≡ false }
     ensures value { IfOk result (λ frames. frames.items ≡ flow_messages m.now xid pieces.now actions.now buffer) }
-    ensures kind { IfOk result (λ frames. All (IsOf 14) frames.items) }
+    ensures kind { IfOk result (λ frames. All (IsOf FLOW_MOD) frames.items) }
 {
     let mut frames = Vec::with_capacity(alloc, pieces.len())?;
     for (place, piece) in pieces.iter().enumerate() {
@@ -94,7 +95,7 @@ pub fn build(
     requires command { m.now.command ≤ 4 }
     requires place { IfSome buffer (λ own. own.0 < length pieces.now) }
     ensures exact { Gives (λ frames. frames.items) result (flow_messages m.now xid pieces.now actions.now buffer) }
-    ensures kind { IfOk result (λ frames. All (IsOf 14) frames.items) }
+    ensures kind { IfOk result (λ frames. All (IsOf FLOW_MOD) frames.items) }
     ensures sizes { IfOk result (λ frames. All (λ frame. length frame ≤ 65535) frames.items) }
     ensures together { IfOk result (λ frames. sum_by length frames.items ≤ 262144) }
 {

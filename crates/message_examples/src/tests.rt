@@ -1,6 +1,7 @@
 //! A message of each type, spelled out from the layouts of OpenFlow 1.0.0, section 5: what it is read as,
 //! and that this is written as the same bytes.
 
+ghost use Rattle.of10_ctl.specs.declared.kind.TheConstants.{FEATURES_REPLY, PACKET_IN, FLOW_REMOVED, PORT_STATUS, PACKET_OUT, FLOW_MOD, STATS_REQUEST, STATS_REPLY};
 ghost use Rattle.of10_ctl.specs.Kinds.{IsOf};
 
 use of10_ctl::kind::{
@@ -50,7 +51,7 @@ fn error(alloc: Global, frame: &Frame) -> Result<Option<Said>, Fail> {
 }
 
 fn features(alloc: Global, frame: &Frame) -> Result<Option<Said>, Fail>
-    requires { IsOf 6 frame.now }
+    requires { IsOf FEATURES_REPLY frame.now }
 {
     let Ok(said) = Features::decode(alloc, frame) else {
         return Ok(None);
@@ -64,7 +65,7 @@ fn features(alloc: Global, frame: &Frame) -> Result<Option<Said>, Fail>
 }
 
 fn packet_in(alloc: Global, frame: &Frame) -> Result<Option<Said>, Fail>
-    requires { IsOf 10 frame.now }
+    requires { IsOf PACKET_IN frame.now }
 {
     let Ok(said) = PacketIn::decode(alloc, frame) else {
         return Ok(None);
@@ -75,7 +76,7 @@ fn packet_in(alloc: Global, frame: &Frame) -> Result<Option<Said>, Fail>
 }
 
 fn flow_removed(alloc: Global, frame: &Frame) -> Result<Option<Said>, Fail>
-    requires { IsOf 11 frame.now }
+    requires { IsOf FLOW_REMOVED frame.now }
 {
     let Ok(said) = FlowRemoved::decode(frame) else {
         return Ok(None);
@@ -86,7 +87,7 @@ fn flow_removed(alloc: Global, frame: &Frame) -> Result<Option<Said>, Fail>
 }
 
 fn port_status(alloc: Global, frame: &Frame) -> Result<Option<Said>, Fail>
-    requires { IsOf 12 frame.now }
+    requires { IsOf PORT_STATUS frame.now }
 {
     let Ok(said) = PortStatus::decode(frame) else {
         return Ok(None);
@@ -97,7 +98,7 @@ fn port_status(alloc: Global, frame: &Frame) -> Result<Option<Said>, Fail>
 }
 
 fn packet_out(alloc: Global, frame: &Frame) -> Result<Option<Said>, Fail>
-    requires { IsOf 13 frame.now }
+    requires { IsOf PACKET_OUT frame.now }
 {
     let Ok(said) = PacketOut::decode(alloc, frame) else {
         return Ok(None);
@@ -108,7 +109,7 @@ fn packet_out(alloc: Global, frame: &Frame) -> Result<Option<Said>, Fail>
 }
 
 fn flow_mod(alloc: Global, frame: &Frame) -> Result<Option<Said>, Fail>
-    requires { IsOf 14 frame.now }
+    requires { IsOf FLOW_MOD frame.now }
 {
     let Ok(said) = FlowMod::decode(alloc, frame) else {
         return Ok(None);
@@ -119,7 +120,7 @@ fn flow_mod(alloc: Global, frame: &Frame) -> Result<Option<Said>, Fail>
 }
 
 fn stats_request(alloc: Global, frame: &Frame) -> Result<Option<Said>, Fail>
-    requires { IsOf 16 frame.now }
+    requires { IsOf STATS_REQUEST frame.now }
 {
     let Ok(said) = StatsRequest::decode(frame) else {
         return Ok(None);
@@ -131,7 +132,7 @@ fn stats_request(alloc: Global, frame: &Frame) -> Result<Option<Said>, Fail>
 
 /// One part of an answer, which has one flow entry.
 fn stats_reply(alloc: Global, frame: &Frame) -> Result<Option<Said>, Fail>
-    requires { IsOf 17 frame.now }
+    requires { IsOf STATS_REPLY frame.now }
 {
     let Ok(said) = part(frame) else {
         return Ok(None);

@@ -1,4 +1,5 @@
 ghost use Rattle.std.specs.Prelude.{◌≡◌, ◌+◌, ◌≤◌, IfOk, length, take, vec_capacity};
+ghost use Rattle.of10_ctl.specs.declared.kind.TheConstants.{ERROR};
 ghost use Rattle.of10_ctl.specs.Heads.{head_bytes};
 ghost use Rattle.of10_ctl.specs.Frames.{message_of, error_of};
 ghost use Rattle.of10_ctl.specs.Kinds.{IsOf};
@@ -59,7 +60,7 @@ pub fn error_frame(
     cause: &[u8],
 ) -> Result<Frame, AllocError>
     ensures value { IfOk result (λ f. f ≡ error_of xid class code cause.now) }
-    ensures kind { IfOk result (λ f. IsOf 1 f) }
+    ensures kind { IfOk result (λ f. IsOf ERROR f) }
 {
     let carried = first(cause);
     let mut bytes = begin(alloc, ERROR, xid, 4 + carried.len())?;

@@ -9,6 +9,7 @@ use Rattle.of10_model.specs.Spelling.{Spell}
 use Rattle.of10_model.proofs.Spelling.{Norm-Spell}
 use Rattle.of10_action.specs.Actions.{spelling}
 use Rattle.of10_action.proofs.Again.{actions_again}
+use Rattle.of10_ctl.specs.declared.kind.TheConstants.{PACKET_IN, FLOW_REMOVED, PACKET_OUT, FLOW_MOD}
 use Rattle.of10_ctl.specs.Kinds.{IsOf}
 use Rattle.of10_ctl.proofs.Reading.{IsOf-message}
 use Rattle.of10_flow.specs.declared.flow_mod.FlowMod.{FlowMod}
@@ -38,7 +39,7 @@ fields_again m h =
       big_number-reads_back 2 m.flags [] h.flags,
     ) refl
 
-pub flow_mod_of : (m : FlowMod) → IsFlowMod m → IsOf 14 (spell_flow_mod m)
+pub flow_mod_of : (m : FlowMod) → IsFlowMod m → IsOf FLOW_MOD (spell_flow_mod m)
 unfolding Spell spell_flow_mod
 flow_mod_of m h = IsOf-message 14 m.xid (drop 8 (spell_flow_mod m)) (omega arith)
 
@@ -49,7 +50,7 @@ flow_mod_again m h =
 
 -- ---- packet-ins
 
-pub packet_in_of : (m : PacketIn) → IsPacketIn m → IsOf 10 (spell_packet_in m)
+pub packet_in_of : (m : PacketIn) → IsPacketIn m → IsOf PACKET_IN (spell_packet_in m)
 unfolding spell_packet_in
 packet_in_of m h = IsOf-message 10 m.xid (drop 8 (spell_packet_in m)) (omega arith)
 
@@ -67,7 +68,7 @@ packet_in_again m h =
 
 -- ---- flow-removed messages
 
-pub flow_removed_of : (m : FlowRemoved) → IsFlowRemoved m → IsOf 11 (spell_flow_removed m)
+pub flow_removed_of : (m : FlowRemoved) → IsFlowRemoved m → IsOf FLOW_REMOVED (spell_flow_removed m)
 unfolding Spell spell_flow_removed
 flow_removed_of m h = IsOf-message 11 m.xid (drop 8 (spell_flow_removed m)) (omega arith)
 
@@ -89,7 +90,7 @@ flow_removed_again m h =
 
 -- ---- packet-outs
 
-pub packet_out_of : (m : PacketOut) → IsPacketOut m → IsOf 13 (spell_packet_out m)
+pub packet_out_of : (m : PacketOut) → IsPacketOut m → IsOf PACKET_OUT (spell_packet_out m)
 unfolding spell_packet_out
 packet_out_of m h = IsOf-message 13 m.xid (drop 8 (spell_packet_out m)) (omega (arith, h.fits, length-append (spelling m.actions) m.payload))
 

@@ -4,6 +4,7 @@ ghost use Rattle.byteorder.specs.Endian.{big_bytes};
 ghost use Rattle.of10_action.specs.declared.fault.DecodeFault.TheVariants.{Memory};
 ghost use Rattle.of10_action.specs.Actions.{IsAction, HasAddress, spelling};
 ghost use Rattle.of10_action.specs.Reading.{Gives, action_at};
+ghost use Rattle.of10_ctl.specs.declared.kind.TheConstants.{FLOW_MOD};
 ghost use Rattle.of10_ctl.specs.Kinds.{IsOf};
 ghost use Rattle.of10_flow.specs.FlowMods.{IsFlowMod, flow_mod_with, read_flow_mod, shown_flow_mod, spell_flow_mod};
 
@@ -125,7 +126,7 @@ impl<'a> FlowModView<'a> {
         requires addresses { All HasAddress self.now.actions.now }
         requires fits { 72 + length (spelling self.now.actions.now) ≤ 65535 }
         ensures value { IfOk result (λ f. f ≡ spell_flow_mod (shown_flow_mod self.now)) }
-        ensures kind { IfOk result (λ f. IsOf 14 f) }
+        ensures kind { IfOk result (λ f. IsOf FLOW_MOD f) }
         ensures size { IfOk result (λ f. length f ≡ 72 + length (spelling self.now.actions.now)) }
     {
         let size = list_size(self.actions) as usize;
@@ -142,7 +143,7 @@ impl FlowMod {
     /// The flow-mod that the frame is, or the first fault in it: its length where it is shorter than its
     /// fields, then what is wrong with the first action that is wrong.
     pub fn decode(alloc: Global, frame: &Frame) -> Result<FlowMod, DecodeFault>
-        requires { IsOf 14 frame.now }
+        requires { IsOf FLOW_MOD frame.now }
         ensures exact { Gives (λ m. m) result (read_flow_mod frame.now) }
         ensures range { IfOk result IsFlowMod }
         // Memory is taken for actions alone, and once the first of them is right.
@@ -175,7 +176,7 @@ impl FlowMod {
     pub fn encode(&self, alloc: Global) -> Result<Frame, AllocError>
         requires { 72 + length (spelling self.now.actions) ≤ 65535 }
         ensures value { IfOk result (λ f. f ≡ spell_flow_mod self.now) }
-        ensures kind { IfOk result (λ f. IsOf 14 f) }
+        ensures kind { IfOk result (λ f. IsOf FLOW_MOD f) }
         ensures size { IfOk result (λ f. length f ≡ 72 + length (spelling self.now.actions)) }
     {
         self.view().encode(alloc)

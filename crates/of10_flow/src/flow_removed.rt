@@ -4,6 +4,7 @@ ghost use Rattle.of10_model.specs.Spelling.{Spell};
 ghost use Rattle.of10_action.specs.declared.fault.DecodeFault.TheVariants.{Memory};
 ghost use Rattle.of10_action.specs.Actions.{padding};
 ghost use Rattle.of10_action.specs.Reading.{Gives, Reads};
+ghost use Rattle.of10_ctl.specs.declared.kind.TheConstants.{FLOW_REMOVED};
 ghost use Rattle.of10_ctl.specs.Kinds.{IsOf};
 ghost use Rattle.of10_flow.specs.FlowRemoveds.{IsFlowRemoved, read_flow_removed, spell_flow_removed};
 
@@ -79,7 +80,7 @@ fn put_counts(out: &mut Vec<u8>, idle: u16, packets: u64, bytes: u64) -> Result<
 impl FlowRemoved {
     /// The flow-removed message that the frame is, or its length where that isn't 88.
     pub fn decode(frame: &Frame) -> Result<FlowRemoved, DecodeFault>
-        requires { IsOf 11 frame.now }
+        requires { IsOf FLOW_REMOVED frame.now }
         ensures exact { Gives (λ m. m) result (read_flow_removed frame.now) }
         ensures range { IfOk result IsFlowRemoved }
         ensures never_for_memory { result ≡ Err Memory → ⊥ }
@@ -94,7 +95,7 @@ impl FlowRemoved {
     #[tactic(auto, unfolding(of10_model::specs::Spelling::Spell, crate::specs::FlowRemoveds::spell_flow_removed))]
     pub fn encode(&self, alloc: Global) -> Result<Frame, AllocError>
         ensures value { IfOk result (λ f. f ≡ spell_flow_removed self.now) }
-        ensures kind { IfOk result (λ f. IsOf 11 f) }
+        ensures kind { IfOk result (λ f. IsOf FLOW_REMOVED f) }
         ensures size { IfOk result (λ f. length f ≡ 88) }
     {
         let mut out = begin(alloc, FLOW_REMOVED, self.xid, 80)?;

@@ -2,6 +2,7 @@
 
 ghost use Rattle.std.specs.Prelude.{ℕ, List, [], ◌∷◌, ◌≡◌, Ok};
 ghost use Rattle.of10_model.specs.Padding.{AlikeBut};
+ghost use Rattle.of10_ctl.specs.declared.kind.TheConstants.{PACKET_IN, FLOW_REMOVED, PACKET_OUT, FLOW_MOD};
 ghost use Rattle.of10_ctl.specs.Kinds.{IsOf};
 ghost use Rattle.of10_flow.specs.declared.flow_mod.FlowMod.{FlowMod};
 ghost use Rattle.of10_flow.specs.declared.flow_removed.FlowRemoved.{FlowRemoved};
@@ -23,22 +24,22 @@ pub fn commands_and_flags_are_numbered()
 
 /// What is spelled as a flow-mod is one, and is read again.
 pub fn flow_mod_is_read_again()
-    ensures { (m : FlowMod) → IsFlowMod m → IsOf 14 (spell_flow_mod m) × (read_flow_mod (spell_flow_mod m) ≡ Ok m) }
+    ensures { (m : FlowMod) → IsFlowMod m → IsOf FLOW_MOD (spell_flow_mod m) × (read_flow_mod (spell_flow_mod m) ≡ Ok m) }
 {}
 
 /// What is spelled as a packet-out is one, and is read again.
 pub fn packet_out_is_read_again()
-    ensures { (m : PacketOut) → IsPacketOut m → IsOf 13 (spell_packet_out m) × (read_packet_out (spell_packet_out m) ≡ Ok m) }
+    ensures { (m : PacketOut) → IsPacketOut m → IsOf PACKET_OUT (spell_packet_out m) × (read_packet_out (spell_packet_out m) ≡ Ok m) }
 {}
 
 /// What is spelled as a packet-in is one, and is read again.
 pub fn packet_in_is_read_again()
-    ensures { (m : PacketIn) → IsPacketIn m → IsOf 10 (spell_packet_in m) × (read_packet_in (spell_packet_in m) ≡ Ok m) }
+    ensures { (m : PacketIn) → IsPacketIn m → IsOf PACKET_IN (spell_packet_in m) × (read_packet_in (spell_packet_in m) ≡ Ok m) }
 {}
 
 /// What is spelled as a flow-removed message is one, and is read again.
 pub fn flow_removed_is_read_again()
-    ensures { (m : FlowRemoved) → IsFlowRemoved m → IsOf 11 (spell_flow_removed m) × (read_flow_removed (spell_flow_removed m) ≡ Ok m) }
+    ensures { (m : FlowRemoved) → IsFlowRemoved m → IsOf FLOW_REMOVED (spell_flow_removed m) × (read_flow_removed (spell_flow_removed m) ≡ Ok m) }
 {}
 
 /// The padding of a packet-in says nothing: packet-ins alike but for byte 17 are read alike (OpenFlow 1.0.0,

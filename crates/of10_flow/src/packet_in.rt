@@ -3,6 +3,7 @@ ghost use Rattle.byteorder.specs.Endian.{big_bytes};
 ghost use Rattle.of10_action.specs.declared.fault.DecodeFault.TheVariants.{Memory};
 ghost use Rattle.of10_action.specs.Actions.{padding};
 ghost use Rattle.of10_action.specs.Reading.{Gives, Reads};
+ghost use Rattle.of10_ctl.specs.declared.kind.TheConstants.{PACKET_IN};
 ghost use Rattle.of10_ctl.specs.Kinds.{IsOf};
 ghost use Rattle.of10_flow.specs.PacketIns.{IsPacketIn, packet_of, read_packet_in, spell_packet_in};
 
@@ -81,7 +82,7 @@ fn put_cause(out: &mut Vec<u8>, in_port: u16, reason: u8) -> Result<(), AllocErr
 impl<'a> PacketInView<'a> {
     /// The packet-in that the frame is, or its length where it is shorter than its fields. Takes no memory.
     pub fn decode(frame: &'a Frame) -> Result<PacketInView<'a>, WireFault>
-        requires { IsOf 10 frame.now }
+        requires { IsOf PACKET_IN frame.now }
         ensures exact { Reads packet_of result (read_packet_in frame.now) }
         ensures range { IfOk result (λ view. IsPacketIn (packet_of view)) }
         ensures size { IfOk result (λ view. length frame.now ≡ 18 + length view.payload.now) }
@@ -94,7 +95,7 @@ impl<'a> PacketInView<'a> {
     pub fn encode(&self, alloc: Global) -> Result<Frame, AllocError>
         requires { 18 + length self.now.payload.now ≤ 65535 }
         ensures value { IfOk result (λ f. f ≡ spell_packet_in (packet_of self.now)) }
-        ensures kind { IfOk result (λ f. IsOf 10 f) }
+        ensures kind { IfOk result (λ f. IsOf PACKET_IN f) }
         ensures size { IfOk result (λ f. length f ≡ 18 + length self.now.payload.now) }
     {
         let mut out = begin(alloc, PACKET_IN, self.xid, 10 + self.payload.len())?;
@@ -122,7 +123,7 @@ impl<'a> PacketInView<'a> {
 impl PacketIn {
     /// The packet-in that the frame is, or its length where it is shorter than its fields.
     pub fn decode(alloc: Global, frame: &Frame) -> Result<PacketIn, DecodeFault>
-        requires { IsOf 10 frame.now }
+        requires { IsOf PACKET_IN frame.now }
         ensures exact { Gives (λ m. m) result (read_packet_in frame.now) }
         ensures range { IfOk result IsPacketIn }
         ensures memory { result ≡ Err Memory → 18 ≤ length frame.now }
@@ -151,7 +152,7 @@ impl PacketIn {
     pub fn encode(&self, alloc: Global) -> Result<Frame, AllocError>
         requires { 18 + length self.now.payload ≤ 65535 }
         ensures value { IfOk result (λ f. f ≡ spell_packet_in self.now) }
-        ensures kind { IfOk result (λ f. IsOf 10 f) }
+        ensures kind { IfOk result (λ f. IsOf PACKET_IN f) }
         ensures size { IfOk result (λ f. length f ≡ 18 + length self.now.payload) }
     {
         self.view().encode(alloc)

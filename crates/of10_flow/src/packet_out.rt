@@ -3,6 +3,7 @@ ghost use Rattle.of10_model.specs.Normal.{number_at};
 ghost use Rattle.of10_action.specs.declared.fault.DecodeFault.TheVariants.{Memory};
 ghost use Rattle.of10_action.specs.Actions.{spelling};
 ghost use Rattle.of10_action.specs.Reading.{Gives};
+ghost use Rattle.of10_ctl.specs.declared.kind.TheConstants.{PACKET_OUT};
 ghost use Rattle.of10_ctl.specs.Kinds.{IsOf};
 ghost use Rattle.of10_flow.specs.PacketOuts.{IsPacketOut, begins_well, read_packet_out, spell_packet_out};
 
@@ -56,7 +57,7 @@ impl PacketOut {
     /// The packet-out that the frame is, or the first fault in it: its length where it is shorter than
     /// its fields or than fields and actions, then what is wrong with the first action that is wrong.
     pub fn decode(alloc: Global, frame: &Frame) -> Result<PacketOut, DecodeFault>
-        requires { IsOf 13 frame.now }
+        requires { IsOf PACKET_OUT frame.now }
         ensures exact { Gives (λ m. m) result (read_packet_out frame.now) }
         ensures range { IfOk result IsPacketOut }
         // Memory is taken for actions and the packet, and only where the first action, if there is one, is right.
@@ -70,7 +71,7 @@ impl PacketOut {
     pub fn encode(&self, alloc: Global) -> Result<Frame, AllocError>
         requires { 16 + length (spelling self.now.actions) + length self.now.payload ≤ 65535 }
         ensures value { IfOk result (λ f. f ≡ spell_packet_out self.now) }
-        ensures kind { IfOk result (λ f. IsOf 13 f) }
+        ensures kind { IfOk result (λ f. IsOf PACKET_OUT f) }
         ensures size { IfOk result (λ f. length f ≡ 16 + length (spelling self.now.actions) + length self.now.payload) }
     {
         let actions = self.actions.as_slice();

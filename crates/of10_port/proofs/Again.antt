@@ -5,6 +5,7 @@ use Rattle.std.proofs.lemmas.List.{length-append}
 use Rattle.byteorder.specs.Numbers.{big_number-reads_back}
 use Rattle.of10_model.specs.Normal.{number_at}
 use Rattle.of10_action.specs.Actions.{padding}
+use Rattle.of10_ctl.specs.declared.kind.TheConstants.{FEATURES_REPLY, PORT_STATUS}
 use Rattle.of10_ctl.specs.Kinds.{IsOf}
 use Rattle.of10_ctl.proofs.Reading.{IsOf-message, length-message}
 use Rattle.of10_port.specs.declared.features.Features.{Features}
@@ -23,7 +24,7 @@ length-body f long =
     let whole = length-append (features_front f) (port_bytes f.ports) in
     omega (arith, front, whole, long)
 
-pub IsOf-features : (f : Features) (xid : ℕ) → length (port_bytes f.ports) ≡ 48 * length f.ports → length f.ports ≤ 1364 → IsOf 6 (spell_features f xid)
+pub IsOf-features : (f : Features) (xid : ℕ) → length (port_bytes f.ports) ≡ 48 * length f.ports → length f.ports ≤ 1364 → IsOf FEATURES_REPLY (spell_features f xid)
 unfolding spell_features
 IsOf-features f xid long few =
     IsOf-message 6 xid (features_front f ++ port_bytes f.ports) (omega (arith, length-body f long))
@@ -59,7 +60,7 @@ features_again f xid h =
 
 -- ---- changes of ports
 
-pub IsOf-port_status : (s : PortStatus) (xid : ℕ) → IsPort s.port → IsOf 12 (spell_port_status s xid)
+pub IsOf-port_status : (s : PortStatus) (xid : ℕ) → IsPort s.port → IsOf PORT_STATUS (spell_port_status s xid)
 unfolding spell_port_status
 IsOf-port_status s xid size =
     IsOf-message 12 xid ((s.reason ∷ []) ++ padding 7 ++ s.port) (omega arith)

@@ -1,6 +1,7 @@
 ghost use Rattle.std.specs.Prelude.{◌≡◌, ◌++◌, ◌*◌, ◌≤◌, IsTrue, IfOk, OnOk, length};
 ghost use Rattle.of10_action.specs.Reading.{Gives};
 ghost use Rattle.of10_action.specs.declared.fault.DecodeFault.TheVariants.{Memory};
+ghost use Rattle.of10_ctl.specs.declared.kind.TheConstants.{FEATURES_REPLY};
 ghost use Rattle.of10_ctl.specs.Kinds.{IsOf};
 ghost use Rattle.of10_port.specs.Ports.{port_bytes};
 ghost use Rattle.of10_port.specs.Features.{IsFeatures, features_front, has_whole_ports, spell_features, read_features};
@@ -47,7 +48,7 @@ impl Features {
     /// 1.0.0, section 5.3.1).
     #[tactic(auto, unfolding(crate::specs::Features::read_features))]
     pub fn decode(alloc: Global, frame: &Frame) -> Result<Features, DecodeFault>
-        requires { IsOf 6 frame.now }
+        requires { IsOf FEATURES_REPLY frame.now }
         ensures exact { Gives (λ x. x) result (read_features frame.now) }
         ensures range { IfOk result (λ f. IsFeatures f) }
         ensures memory { result ≡ Err Memory → IsTrue (has_whole_ports frame.now) }
@@ -73,7 +74,7 @@ impl Features {
     pub fn encode(&self, alloc: Global, xid: u32) -> Result<Frame, AllocError>
         requires { length self.now.ports ≤ 1364 }
         ensures value { IfOk result (λ f. f ≡ spell_features self.now xid) }
-        ensures kind { IfOk result (λ f. IsOf 6 f) }
+        ensures kind { IfOk result (λ f. IsOf FEATURES_REPLY f) }
     {
         Ok(Frame::of(self.spelled(alloc, xid)?))
     }

@@ -2,6 +2,7 @@
 
 ghost use Rattle.std.specs.Prelude.{ℕ, List, [], ◌∷◌, ◌≡◌, Ok};
 ghost use Rattle.of10_model.specs.Padding.{AlikeBut};
+ghost use Rattle.of10_ctl.specs.declared.kind.TheConstants.{FEATURES_REPLY, PORT_STATUS};
 ghost use Rattle.of10_ctl.specs.Kinds.{IsOf};
 ghost use Rattle.of10_port.specs.declared.features.Features.{Features};
 ghost use Rattle.of10_port.specs.declared.status.PortStatus.{PortStatus};
@@ -19,13 +20,13 @@ pub fn ports_are_numbered()
 
 /// What is spelled of a switch's features is a FEATURES_REPLY, and is read as the same features.
 pub fn features_are_read_again()
-    ensures kind { (f : Features) (xid : ℕ) → IsFeatures f → IsOf 6 (spell_features f xid) }
+    ensures kind { (f : Features) (xid : ℕ) → IsFeatures f → IsOf FEATURES_REPLY (spell_features f xid) }
     ensures again { (f : Features) (xid : ℕ) → IsFeatures f → read_features (spell_features f xid) ≡ Ok f }
 {}
 
 /// What is spelled of a port's change is a PORT_STATUS, and is read as the same change.
 pub fn port_status_is_read_again()
-    ensures kind { (s : PortStatus) (xid : ℕ) → IsPortStatus s → IsOf 12 (spell_port_status s xid) }
+    ensures kind { (s : PortStatus) (xid : ℕ) → IsPortStatus s → IsOf PORT_STATUS (spell_port_status s xid) }
     ensures again { (s : PortStatus) (xid : ℕ) → IsPortStatus s → read_port_status (spell_port_status s xid) ≡ Ok s }
 {}
 

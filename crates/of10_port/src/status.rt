@@ -1,5 +1,6 @@
 ghost use Rattle.std.specs.Prelude.{◌≡◌, IfOk};
 ghost use Rattle.of10_action.specs.Reading.{Reads};
+ghost use Rattle.of10_ctl.specs.declared.kind.TheConstants.{PORT_STATUS};
 ghost use Rattle.of10_ctl.specs.Kinds.{IsOf};
 ghost use Rattle.of10_port.specs.PortStatus.{IsPortStatus, spell_port_status, read_port_status};
 
@@ -24,7 +25,7 @@ impl PortStatus {
     /// What the message says; `Length` where it doesn't have 64 bytes (OpenFlow 1.0.0, section 5.4.3).
     #[tactic(auto, unfolding(crate::specs::PortStatus::read_port_status))]
     pub fn decode(frame: &Frame) -> Result<PortStatus, WireFault>
-        requires { IsOf 12 frame.now }
+        requires { IsOf PORT_STATUS frame.now }
         ensures exact { Reads (λ x. x) result (read_port_status frame.now) }
         ensures range { IfOk result (λ s. IsPortStatus s) }
     {
@@ -44,7 +45,7 @@ impl PortStatus {
     #[tactic(auto, using(crate::proofs::Written::status_written))]
     pub fn encode(&self, alloc: Global, xid: u32) -> Result<Frame, AllocError>
         ensures value { IfOk result (λ f. f ≡ spell_port_status self.now xid) }
-        ensures kind { IfOk result (λ f. IsOf 12 f) }
+        ensures kind { IfOk result (λ f. IsOf PORT_STATUS f) }
     {
         let mut bytes = begin(alloc, PORT_STATUS, xid, SIZE - 8)?;
         bytes.extend_from_slice(&[self.reason, 0, 0, 0, 0, 0, 0, 0])?;

@@ -6,6 +6,7 @@ use Rattle.byteorder.specs.Numbers.{big_number-reads_back}
 use Rattle.of10_model.specs.Normal.{number_at, match_at}
 use Rattle.of10_model.specs.Spelling.{Spell}
 use Rattle.of10_model.proofs.Spelling.{Norm-Spell}
+use Rattle.of10_ctl.specs.declared.kind.TheConstants.{STATS_REQUEST}
 use Rattle.of10_ctl.specs.Kinds.{IsOf}
 use Rattle.of10_ctl.proofs.Reading.{IsOf-message}
 use Rattle.of10_stats.specs.declared.request.StatsRequest.{StatsRequest}
@@ -22,7 +23,7 @@ small_body Table = omega arith
 small_body (Port port) = omega arith
 small_body (Queue port queue) = omega arith
 
-pub IsOf-request : (r : StatsRequest) (xid : ℕ) → IsOf 16 (spell_request r xid)
+pub IsOf-request : (r : StatsRequest) (xid : ℕ) → IsOf STATS_REQUEST (spell_request r xid)
 unfolding spell_request
 IsOf-request r xid =
     let long = length-request_body r in

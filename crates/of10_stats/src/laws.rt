@@ -3,6 +3,7 @@
 ghost use Rattle.std.specs.Prelude.{ℕ, List, ◌≡◌, ◌≤◌, ◌↔◌, Ok, Some, length, take};
 ghost use Rattle.of10_model.specs.Normal.{number_at};
 ghost use Rattle.of10_model.specs.Padding.{AlikeBut};
+ghost use Rattle.of10_ctl.specs.declared.kind.TheConstants.{STATS_REQUEST};
 ghost use Rattle.of10_ctl.specs.Kinds.{IsOf};
 ghost use Rattle.of10_stats.specs.declared.request.StatsRequest.{StatsRequest};
 ghost use Rattle.of10_stats.specs.Requests.{IsRequest, spell_request, read_request};
@@ -10,7 +11,7 @@ ghost use Rattle.of10_stats.specs.Replies.{IsEntry, entry_size_of};
 
 /// What is spelled of a request is a STATS_REQUEST, and is read as the same request.
 pub fn request_is_read_again()
-    ensures kind { (r : StatsRequest) (xid : ℕ) → IsRequest r → IsOf 16 (spell_request r xid) }
+    ensures kind { (r : StatsRequest) (xid : ℕ) → IsRequest r → IsOf STATS_REQUEST (spell_request r xid) }
     ensures again { (r : StatsRequest) (xid : ℕ) → IsRequest r → read_request (spell_request r xid) ≡ Ok r }
 {}
 

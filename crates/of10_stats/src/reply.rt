@@ -1,5 +1,6 @@
 ghost use Rattle.std.specs.Prelude.{◌≡◌, ◌%◌, ◌==◌, ◌≤◌, IfOk, length};
 ghost use Rattle.of10_action.specs.Reading.{Reads};
+ghost use Rattle.of10_ctl.specs.declared.kind.TheConstants.{STATS_REPLY};
 ghost use Rattle.of10_ctl.specs.Kinds.{IsOf};
 ghost use Rattle.of10_stats.specs.Replies.{part_of};
 
@@ -31,7 +32,7 @@ fn has_more(flags: u16) -> bool
 /// 1.0.0, section 5.3.5).
 #[tactic(auto, unfolding(crate::specs::Replies::part_of))]
 pub fn part(frame: &Frame) -> Result<StatsPart, WireFault>
-    requires { IsOf 17 frame.now }
+    requires { IsOf STATS_REPLY frame.now }
     ensures exact { Reads (λ x. x) result (part_of frame.now) }
     ensures inside { IfOk result (λ p. p.from ≤ length frame.now) }
 {

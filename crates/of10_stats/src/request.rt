@@ -1,5 +1,6 @@
 ghost use Rattle.std.specs.Prelude.{◌≡◌, ◌+◌, ◌≤◌, ◌++◌, IfOk, OnOk, length};
 ghost use Rattle.of10_action.specs.Reading.{Reads};
+ghost use Rattle.of10_ctl.specs.declared.kind.TheConstants.{STATS_REQUEST};
 ghost use Rattle.of10_ctl.specs.Kinds.{IsOf};
 ghost use Rattle.of10_stats.specs.Requests.{IsRequest, body_size, flow_body, kind_of, read_request, request_body, request_of, spell_request};
 
@@ -98,7 +99,7 @@ impl StatsRequest {
     /// of statistics has (OpenFlow 1.0.0, section 5.3.5).
     #[tactic(auto, unfolding(crate::specs::Requests::read_request))]
     pub fn decode(frame: &Frame) -> Result<StatsRequest, WireFault>
-        requires { IsOf 16 frame.now }
+        requires { IsOf STATS_REQUEST frame.now }
         ensures exact { Reads (λ x. x) result (read_request frame.now) }
         ensures range { IfOk result (λ r. IsRequest r) }
     {
@@ -123,7 +124,7 @@ impl StatsRequest {
     /// The message that asks this, of version 1 and without flags (OpenFlow 1.0.0, section 5.3.5).
     pub fn encode(&self, alloc: Global, xid: u32) -> Result<Frame, AllocError>
         ensures value { IfOk result (λ f. f ≡ spell_request self.now xid) }
-        ensures kind { IfOk result (λ f. IsOf 16 f) }
+        ensures kind { IfOk result (λ f. IsOf STATS_REQUEST f) }
     {
         Ok(Frame::of(self.spelled(alloc, xid)?))
     }

@@ -1,4 +1,5 @@
 ghost use Rattle.std.specs.Prelude.{ℕ, ◌≡◌, ◌≤◌, List, [], ◌∷◌, length, IfOk, OnOk, OnErr, IsTrue};
+ghost use Rattle.of10_ctl.specs.declared.kind.TheConstants.{FEATURES_REPLY};
 ghost use Rattle.of10_ctl.specs.Kinds.{IsOf};
 ghost use Rattle.of10_port.specs.declared.features.Features.{Features as FeaturesView};
 ghost use Rattle.of10_port.specs.declared.status.PortStatus.{PortStatus as StatusView};
@@ -119,7 +120,7 @@ impl PortView {
         xid: u32,
     ) -> Result<Frame, AllocError>
         ensures value { IfOk result (λ f. f ≡ spell_features (features_with of.now (ports_of_slice policy.now.rules slot self.now)) xid) }
-        ensures kind { IfOk result (λ f. IsOf 6 f) }
+        ensures kind { IfOk result (λ f. IsOf FEATURES_REPLY f) }
         ensures answer { (features : FeaturesView) (statuses : List StatusView) → PortsStand features statuses self.now → IfOk result (λ f. f ≡ spell_features (features_with of.now (ports_of_slice policy.now.rules slot (known_of features statuses))) xid) }
     {
         let shown = Features {

@@ -82,7 +82,7 @@ pub(crate) fn preparation(alloc: Global) -> Result<Vec<Frame>, AllocError>
 }
 
 fn reply(alloc: Global, frame: &Frame) -> Result<Vec<Frame>, AllocError>
-    requires { IsOf 2 frame.now }
+    requires { IsOf ECHO_REQUEST frame.now }
     ensures { IfOk result (λ v. v.items ≡ echo_for frame.now) }
 {
     let mut messages = Vec::new(alloc);

@@ -2,6 +2,7 @@
 use Rattle.std.proofs.Common.{◌≡◌, ℕ, ◌≤◌, ◌==◌, ◌||◌, Bool, true, false, if◌then◌else◌, List, length, refl, sym, ap, ◌∙◌, Option, Some, None, arith, true≢false, eqb-true}
 use Rattle.of10_action.specs.declared.fault.WireFault.{WireFault}
 use Rattle.slice_words.specs.Messages.{is_kind, kind_of, sized, form_fault}
+use Rattle.of10_ctl.specs.declared.kind.TheConstants.{SET_CONFIG}
 
 abbrev is_some_fault : Option WireFault → Bool
 is_some_fault None = false
@@ -20,7 +21,7 @@ by_kind : (kind : ℕ) (one other rest : Option WireFault) → kind ≡ 9
 by_kind kind one other rest is = rw is refl
 
 -- a SET_CONFIG of a good form has its 12 bytes
-pub setting_sized : (message : List ℕ) → form_fault message ≡ None → is_kind 9 message ≡ true → 12 ≤ length message
+pub setting_sized : (message : List ℕ) → form_fault message ≡ None → is_kind SET_CONFIG message ≡ true → 12 ≤ length message
 unfolding form_fault
 setting_sized message fine is =
     let kind = eqb-true (kind_of message) 9 is in

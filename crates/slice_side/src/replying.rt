@@ -1,6 +1,7 @@
 //! What is answered to a message, line by line.
 
 ghost use Rattle.std.specs.Prelude.{ℕ, ◌≡◌, ◌≤◌, ◌||◌, false, length, List, IfOk, OnErr, IsTrue, Some, option_to_list, true};
+ghost use Rattle.of10_ctl.specs.declared.kind.TheConstants.{SET_CONFIG};
 ghost use Rattle.of10_ctl.specs.Frames.{is_bad};
 ghost use Rattle.slice_words.specs.Messages.{version_of, is_kind, is_from_controller, has_actions};
 ghost use Rattle.slice_words.specs.Items.{Settings, Item};
@@ -112,7 +113,7 @@ fn setting(alloc: Global, frame: &Frame) -> Result<Option<Frame>, AllocError>
 /// 1.0.0, sections 5.5, 5.3.1 and 5.3.2).
 #[tactic(auto, unfolding(slice_words::specs::Answers::local_answer))]
 fn local(alloc: Global, around: &Around<'_>, frame: &Frame) -> Result<Option<Frame>, AllocError>
-    requires { is_kind 9 frame.now ≡ true → 12 ≤ length frame.now }
+    requires { is_kind SET_CONFIG frame.now ≡ true → 12 ≤ length frame.now }
     ensures reply { (s : Settings) (view : List Item) (past : List Past) (moment : ℕ) → Shown view around.now.policy.now.rules around.now.ports.now around.now.features.now around.now.slot around.now.miss_send_len → IfOk result (λ reply. option_to_list reply ≡ (local_answer s view past moment frame.now).to_slice) }
     ensures memory { (s : Settings) (view : List Item) (past : List Past) (moment : ℕ) → Shown view around.now.policy.now.rules around.now.ports.now around.now.features.now around.now.slot around.now.miss_send_len → OnErr result (IsTrue (has_reply (local_answer s view past moment frame.now))) }
 {

@@ -1,5 +1,5 @@
 ghost use Rattle.std.specs.Prelude.{ℕ, ◌≡◌, ◌≤◌, ◌∷◌, [], length, IsTrue, IfOk, OnErr, drop};
-ghost use Rattle.of10_ctl.specs.declared.kind.TheConstants.{ECHO_REPLY};
+ghost use Rattle.of10_ctl.specs.declared.kind.TheConstants.{ECHO_REQUEST, ECHO_REPLY};
 ghost use Rattle.of10_ctl.specs.Frames.{IsFrame, message_of};
 ghost use Rattle.of10_ctl.specs.Kinds.{IsOf};
 ghost use Rattle.flowspace.specs.Policies.{PolicyView};
@@ -21,7 +21,7 @@ use std::alloc::{AllocError, Global};
 
 /// The reply to an ECHO_REQUEST (OpenFlow 1.0.0, section 5.5).
 fn echo(alloc: Global, frame: &Frame) -> Result<Dispatch, AllocError>
-    requires { IsOf 2 frame.now }
+    requires { IsOf ECHO_REQUEST frame.now }
     ensures { IfOk result (λ d. carried d ≡ record (telling [] None) { replies = message_of ECHO_REPLY (xid_of frame.now) (drop 8 frame.now) ∷ [] }) }
 {
     let reply = message(alloc, ECHO_REPLY, frame.head().xid, frame.body())?;

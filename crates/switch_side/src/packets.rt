@@ -2,6 +2,7 @@
 
 ghost use Rattle.std.specs.Prelude.{◌≡◌, ◌+◌, ◌≤◌, ◌++◌, [], ◌∷◌, length, IfOk, IsTrue, OnOk, OnErr, None};
 ghost use Rattle.of10_model.specs.Normal.{is_value, bit};
+ghost use Rattle.of10_ctl.specs.declared.kind.TheConstants.{PACKET_IN};
 ghost use Rattle.of10_ctl.specs.Kinds.{IsOf};
 ghost use Rattle.of10_flow.specs.PacketIns.{packet_of, spell_packet_in};
 ghost use Rattle.flowspace.specs.Order.{writer_of, readers_of};
@@ -158,7 +159,7 @@ pub(crate) fn packet_in(
     states: &[SliceState],
     frame: &Frame,
 ) -> Result<Dispatch, AllocError>
-    requires kind { IsOf 10 frame.now }
+    requires kind { IsOf PACKET_IN frame.now }
     requires few { length states.now ≤ 32 }
     ensures value { IfOk result (λ d. carried d ≡ telling (packet_in_told policy.now.rules states.now frame.now) None) }
     ensures memory { OnErr result (IsTrue (is_any (packet_in_told policy.now.rules states.now frame.now))) }

@@ -1,6 +1,7 @@
 //! Ports that come, go or change (OpenFlow 1.0.0, section 5.4.3).
 
 ghost use Rattle.std.specs.Prelude.{◌≡◌, ◌≤◌, ◌++◌, length, is_some, IfOk, IsTrue, OnOk, OnErr};
+ghost use Rattle.of10_ctl.specs.declared.kind.TheConstants.{PORT_STATUS};
 ghost use Rattle.of10_ctl.specs.Kinds.{IsOf};
 ghost use Rattle.of10_port.specs.PortStatus.{spell_port_status};
 ghost use Rattle.desk_words.specs.Openings.{status_kept};
@@ -88,7 +89,7 @@ fn put_for_all(
 
 /// What a PORT_STATUS tells, where the known ports would keep it.
 fn kept(ports: &PortView, frame: &Frame) -> Option<PortStatus>
-    requires { IsOf 12 frame.now }
+    requires { IsOf PORT_STATUS frame.now }
     ensures { result ≡ status_kept ports.now frame.now }
 {
     match PortStatus::decode(frame) {
@@ -105,7 +106,7 @@ pub(crate) fn port_status(
     states: &[SliceState],
     frame: &Frame,
 ) -> Result<Dispatch, AllocError>
-    requires kind { IsOf 12 frame.now }
+    requires kind { IsOf PORT_STATUS frame.now }
     requires few { length states.now ≤ 32 }
     ensures value { IfOk result (λ d. carried d ≡ telling (port_told policy.now.rules states.now (status_kept ports.now frame.now)) (status_kept ports.now frame.now)) }
     ensures memory { OnErr result (IsTrue (is_some (status_kept ports.now frame.now))) }
