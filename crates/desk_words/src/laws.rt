@@ -58,8 +58,8 @@ pub fn up_by_events()
 /// are, in this order, all that it was sent since; nothing was dropped unless the queue is choked. What a step
 /// sends waits where there is room for it and the queue isn't choked.
 pub fn messages_are_taken_in_order()
-    ensures slices { (policy : PolicyView) (slot : ℕ) (ops : List Operation) → IsLegal policy ops → AreInOrder (sent_since policy slot ops) (taken_since policy slot ops) (queue_of policy slot ops) }
-    ensures lane { (policy : PolicyView) (ops : List Operation) → IsLegal policy ops → AreInOrder (lane_since policy ops) (lane_taken_since policy ops) (lane_of policy ops) }
+    ensures slices { (policy : PolicyView) (slot : ℕ) (operations : List Operation) → IsLegal policy operations → AreInOrder (sent_since policy slot operations) (taken_since policy slot operations) (queue_of policy slot operations) }
+    ensures lane { (policy : PolicyView) (operations : List Operation) → IsLegal policy operations → AreInOrder (lane_since policy operations) (lane_taken_since policy operations) (lane_of policy operations) }
     ensures slices_wait { (policy : PolicyView) (slot : ℕ) (before : List Operation) (timed : Timed) (reply : Result Verdict AllocError) → SliceWaits policy slot before timed reply }
     ensures lane_waits { (policy : PolicyView) (before : List Operation) (timed : Timed) (reply : Result Verdict AllocError) → LaneWaits policy before timed reply }
 {}

@@ -58,25 +58,25 @@ overlap_fault before later = option_map (λ earlier. Overlap earlier.place later
 
 -- what is looked for before the rules are put in order: too many slices or rules, a name twice, along the rules a slot that isn't there or a writer who reads, and along the slots too many written rules
 abbrev pub faults_before_order : List Slice → List Rule → List (Option PolicyFault)
-faults_before_order ss rs =
-    excess Slices 32 (length ss)
-    ∷ excess Rules 2048 (length rs)
-    ∷ first_along name_fault [] ss
-    ∷ first_along (rule_fault (length ss)) [] rs
-    ∷ first_along (writes_fault rs) [] ss
+faults_before_order slices rules =
+    excess Slices 32 (length slices)
+    ∷ excess Rules 2048 (length rules)
+    ∷ first_along name_fault [] slices
+    ∷ first_along (rule_fault (length slices)) [] rules
+    ∷ first_along (writes_fault rules) [] slices
     ∷ []
 
 -- the first fault of these
 abbrev pub fault_before_order : List Slice → List Rule → Option PolicyFault
-fault_before_order ss rs = first_of_faults (faults_before_order ss rs)
+fault_before_order slices rules = first_of_faults (faults_before_order slices rules)
 
 -- the first fault of slices and rules: one of these, or along rule order an overlap
 unfoldable pub fault_of : List Slice → List Rule → Option PolicyFault
-fault_of ss rs = first_of_faults (faults_before_order ss rs ++ first_along overlap_fault [] (filed_in_order rs) ∷ [])
+fault_of slices rules = first_of_faults (faults_before_order slices rules ++ first_along overlap_fault [] (filed_in_order rules) ∷ [])
 
 -- the policy that slices and rules make, or their first fault
 abbrev pub load_of : List Slice → List Rule → Result PolicyView PolicyFault
-load_of ss rs = elim (fault_of ss rs) [ None ↦ Ok (record { slices = ss; rules = rs }) | Some fault ↦ Err fault ]
+load_of slices rules = elim (fault_of slices rules) [ None ↦ Ok (record { slices = slices; rules = rules }) | Some fault ↦ Err fault ]
 
 -- a call answers what it should, or want of memory
 abbrev pub Gives : {A : Type 0} → Result A PolicyFault → Result A PolicyFault → Type 0

@@ -32,7 +32,7 @@ use Rattle.fv_report.proofs.Slices.{from_slot}
 
 pub holds_same : (p : PolicyView) (h : List Timed) (a b : ℕ → List (List ℕ)) (lane : List (List ℕ)) (desk : Desk) → ((slot : ℕ) → a slot ≡ b slot) → Holds p h a lane desk → Holds p h b lane desk
 holds_same p h a b lane desk same holds = record {
-  ops = holds.ops;
+  operations = holds.operations;
   stands = holds.stands;
   events = holds.events;
   queues = λ slot. holds.queues slot ∙ ap waiting (same slot);
@@ -63,14 +63,14 @@ taken_first (message ∷ later) a b c = refl
 pub take_lane : (p : PolicyView) (h : List Timed) (slices : ℕ → List (List ℕ)) (lane : List (List ℕ)) (old new : Desk) (taken : Taken) → Takes old Switch taken new → Holds p h slices lane old
     → (message_taken taken ≡ slice_get lane 0) × Holds p h slices (drop 1 lane) new
 take_lane p h slices lane old new taken takes holds =
-    let answered = takes p holds.ops holds.stands in
+    let answered = takes p holds.operations holds.stands in
     let first : message_taken taken ≡ slice_get lane 0 =
     ap message_taken answered.right
-    ∙ ap (λ (q : Queue). message_taken (elim q.pending [ [] ↦ empty_reply p (events_of holds.ops) Switch q.choked | message ∷ later ↦ Message message ])) holds.lane_queue
-    ∙ taken_first lane (is_ended (phase_of (events_of holds.ops))) (is_fresh (phase_of (events_of holds.ops))) false in (
+    ∙ ap (λ (q : Queue). message_taken (elim q.pending [ [] ↦ empty_reply p (events_of holds.operations) Switch q.choked | message ∷ later ↦ Message message ])) holds.lane_queue
+    ∙ taken_first lane (is_ended (phase_of (events_of holds.operations))) (is_fresh (phase_of (events_of holds.operations))) false in (
       first,
       record {
-        ops = Take Switch taken ∷ holds.ops;
+        operations = Take Switch taken ∷ holds.operations;
         stands = answered.stands;
         events = holds.events;
         queues = holds.queues;
@@ -89,19 +89,19 @@ own_queue slot messages others b q own is = subst (λ (k : Bool). q ≡ waiting 
 pub take_slice : (p : PolicyView) (h : List Timed) (slot : ℕ) (slices : ℕ → List (List ℕ)) (messages lane : List (List ℕ)) (old new : Desk) (taken : Taken) → Takes old (Slice slot) taken new
     → Holds p h (with_waiting slot messages slices) lane old → (message_taken taken ≡ slice_get messages 0) × Holds p h (with_waiting slot (drop 1 messages) slices) lane new
 take_slice p h slot slices messages lane old new taken takes holds =
-    let answered = takes p holds.ops holds.stands in
-    let evs = events_of holds.ops in
-    let own : queue_of p slot holds.ops ≡ waiting messages = own_queue slot messages (slices slot) (slot == slot) (queue_of p slot holds.ops) (eq-eqb slot slot refl) (holds.queues slot) in
+    let answered = takes p holds.operations holds.stands in
+    let evs = events_of holds.operations in
+    let own : queue_of p slot holds.operations ≡ waiting messages = own_queue slot messages (slices slot) (slot == slot) (queue_of p slot holds.operations) (eq-eqb slot slot refl) (holds.queues slot) in
     let first : message_taken taken ≡ slice_get messages 0 =
     ap message_taken answered.right
     ∙ ap (λ (q : Queue). message_taken (elim q.pending [ [] ↦ empty_reply p evs (Slice slot) q.choked | message ∷ later ↦ Message message ])) own
     ∙ taken_first messages (is_ended (phase_of evs) || not (is_slot p slot) || (is_open (phase_of evs) && not (is_slice_up p slot evs))) (not (is_open (phase_of evs))) false in (
       first,
       record {
-        ops = Take (Slice slot) taken ∷ holds.ops;
+        operations = Take (Slice slot) taken ∷ holds.operations;
         stands = answered.stands;
         events = holds.events;
-        queues = λ other. queue_less (slot == other) (queue_of p other holds.ops) messages (slices other) (holds.queues other);
+        queues = λ other. queue_less (slot == other) (queue_of p other holds.operations) messages (slices other) (holds.queues other);
         lane_queue = holds.lane_queue;
       },
     )
@@ -127,8 +127,8 @@ up_when Opened false false none = refl
 -- whether a slice is up
 pub ask_up : (p : PolicyView) (h : List Timed) (slot : ℕ) (old new : Desk) (taken : Taken) → Takes old (Slice slot) taken new → IsQuiet p h old → is_nothing taken ≡ is_slice_up p slot h
 ask_up p h slot old new taken takes quiet =
-    let answered = takes p quiet.ops quiet.stands in
-    let evs = events_of quiet.ops in
+    let answered = takes p quiet.operations quiet.stands in
+    let evs = events_of quiet.operations in
     ap is_nothing answered.right
     ∙ ap (λ (q : Queue). is_nothing (elim q.pending [ [] ↦ empty_reply p evs (Slice slot) q.choked | message ∷ later ↦ Message message ])) (quiet.queues slot)
     ∙ up_when (phase_of evs) (is_slot p slot) (is_up (view_of p slot evs)) (not_up p slot evs)
@@ -152,26 +152,26 @@ verdict_on v false b unlike is = refl
 -- an event that isn't taken in
 pub step_over : (p : PolicyView) (h : List Timed) (timed : Timed) (old new : Desk) → Steps old timed (Ok verdicts.Ended) new → IsQuiet p h old → After p h timed false new
 step_over p h timed old new steps quiet =
-    let replied = steps p quiet.ops quiet.stands in
-    let evs = events_of quiet.ops in (
+    let replied = steps p quiet.operations quiet.stands in
+    let evs = events_of quiet.operations in (
       subst (λ events. is_over events ≡ true) quiet.events (verdict_over (is_over evs) (closes p evs timed) replied.right),
-      record { ops = Step timed (Ok verdicts.Ended) ∷ quiet.ops; stands = replied.stands; events = quiet.events; queues = quiet.queues; lane_queue = quiet.lane_queue },
+      record { operations = Step timed (Ok verdicts.Ended) ∷ quiet.operations; stands = replied.stands; events = quiet.events; queues = quiet.queues; lane_queue = quiet.lane_queue },
     )
 
 -- an event that is taken in
 step_in : (p : PolicyView) (h : List Timed) (timed : Timed) (old new : Desk) (v : Verdict) → takes_in (Ok v) ≡ true → Steps old timed (Ok v) new → IsQuiet p h old → AreFramed h → IsFramed timed.event → After p h timed true new
 step_in p h timed old new v takes steps quiet framed one =
-    let replied = steps p quiet.ops quiet.stands in
-    let evs = events_of quiet.ops in
+    let replied = steps p quiet.operations quiet.stands in
+    let evs = events_of quiet.operations in
     let fits = answers_fit p evs timed (subst AreFramed (sym quiet.events) framed) one in
     subst (λ events. After p events timed true new) quiet.events (
       verdict_on v (is_over evs) (closes p evs timed) (λ e. true≢false (sym takes ∙ ap (λ (w : Verdict). takes_in (Ok w)) e)) replied.right,
       record {
-        ops = Step timed (Ok v) ∷ quiet.ops;
+        operations = Step timed (Ok v) ∷ quiet.operations;
         stands = replied.stands;
         events = rw takes refl;
-        queues = λ slot. rw takes (all_wait slice_limit (empties_slice p slot evs timed) (queue_of p slot quiet.ops) (sent_by p slot evs timed) (quiet.queues slot) (fits.slices slot));
-        lane_queue = rw takes (all_wait lane_limit (ends evs timed) (lane_of p quiet.ops) (lane_by p evs timed) quiet.lane_queue fits.lane);
+        queues = λ slot. rw takes (all_wait slice_limit (empties_slice p slot evs timed) (queue_of p slot quiet.operations) (sent_by p slot evs timed) (quiet.queues slot) (fits.slices slot));
+        lane_queue = rw takes (all_wait lane_limit (ends evs timed) (lane_of p quiet.operations) (lane_by p evs timed) quiet.lane_queue fits.lane);
       },
     )
 
@@ -204,9 +204,9 @@ none_waits false q messages beyond is = beyond refl
 -- all slots were emptied
 pub holds_none : (p : PolicyView) (h : List Timed) (slices : ℕ → List (List ℕ)) (lane : List (List ℕ)) (desk : Desk) → Holds p h (from_slot (length p.slices) slices) lane desk → Holds p h nothing lane desk
 holds_none p h slices lane desk holds = record {
-  ops = holds.ops;
+  operations = holds.operations;
   stands = holds.stands;
   events = holds.events;
-  queues = λ slot. none_waits (is_slot p slot) (queue_of p slot holds.ops) (slices slot) (holds.stands.body.beyond slot) (holds.queues slot);
+  queues = λ slot. none_waits (is_slot p slot) (queue_of p slot holds.operations) (slices slot) (holds.stands.body.beyond slot) (holds.queues slot);
   lane_queue = holds.lane_queue;
 }

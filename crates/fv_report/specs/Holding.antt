@@ -15,11 +15,11 @@ waiting messages = record { pending = messages; choked = false }
 
 -- a desk of a policy took this history in, and so much waits for each slice and for the switch
 pub record Holds (policy : PolicyView) (h : List Timed) (slices : ℕ → List (List ℕ)) (lane : List (List ℕ)) (desk : Desk) : Type 0 where
-  pub ops : List Operation
-  pub stands : DeskStands policy ops desk
-  pub events : events_of ops ≡ h
-  pub queues : (slot : ℕ) → queue_of policy slot ops ≡ waiting (slices slot)
-  pub lane_queue : lane_of policy ops ≡ waiting lane
+  pub operations : List Operation
+  pub stands : DeskStands policy operations desk
+  pub events : events_of operations ≡ h
+  pub queues : (slot : ℕ) → queue_of policy slot operations ≡ waiting (slices slot)
+  pub lane_queue : lane_of policy operations ≡ waiting lane
 
 -- nothing waits
 abbrev pub nothing : ℕ → List (List ℕ)

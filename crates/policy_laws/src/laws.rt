@@ -42,8 +42,8 @@ pub fn named_key_is_the_least_unknown()
 /// than such a table has there, or the least that it has and may not have. Or, of a rule, it has the rule's
 /// number: with a field whose key is in the table, or for a slice where the table has `write` or `read`.
 pub fn fault_stands_in_its_table()
-    ensures slice { (index : ℕ) (ms : Members) (fault : ReadFault) → slice_of index (table ms) ≡ Err fault → StandsIn part.Slice index ms fault }
-    ensures rule { (slices : List Slice) (index : ℕ) (ms : Members) (fault : ReadFault) → rule_of slices index (table ms) ≡ Err fault → StandsIn part.Rule index ms fault }
+    ensures slice { (index : ℕ) (members : Members) (fault : ReadFault) → slice_of index (table members) ≡ Err fault → StandsIn part.Slice index members fault }
+    ensures rule { (slices : List Slice) (index : ℕ) (members : Members) (fault : ReadFault) → rule_of slices index (table members) ≡ Err fault → StandsIn part.Rule index members fault }
 {}
 
 /// Network addresses, hardware addresses and datapath ids are read exactly where the text is the one that

@@ -19,7 +19,7 @@ use Rattle.policy_text.specs.Rules.{rules_from}
 
 -- the table of the whole text
 abbrev pub top : Members → SectionView
-top ms = record { part = part.Top; index = 0; members = ms }
+top members = record { part = part.Top; index = 0; members = members }
 
 -- the slices and the rules of a table
 unfoldable pub parts_in : SectionView → Result PolicyView ReadFault
@@ -39,7 +39,7 @@ document_of bytes = if is_utf8 bytes then parse_document bytes else None
 -- the slices and the rules of a text's table, where the text is one
 abbrev pub parts_of : Option Members → Result PolicyView ReadFault
 parts_of None = Err NotToml
-parts_of (Some ms) = parts_in (top ms)
+parts_of (Some members) = parts_in (top members)
 
 -- what `Policy::load` asks of slices and rules
 pub record ArePlain (p : PolicyView) : Type 0 where

@@ -45,13 +45,13 @@ IsKey (member k d rest) key = (k ≡ key) ⊎ IsKey rest key
 
 -- each key is one that such a table may have
 abbrev pub AreKnown : Part → Members → Type 0
-AreKnown part ms = (key : List ℕ) → IsKey ms key → is_known part key ≡ true
+AreKnown part members = (key : List ℕ) → IsKey members key → is_known part key ≡ true
 
 -- a key that such a table may not have, and no such key is below it, byte by byte
-pub record IsLeastUnknown (part : Part) (ms : Members) (key : List ℕ) : Type 0 where
-  pub is_there : IsKey ms key
+pub record IsLeastUnknown (part : Part) (members : Members) (key : List ℕ) : Type 0 where
+  pub is_there : IsKey members key
   pub unknown : is_known part key ≡ false
-  pub least : (other : List ℕ) → IsKey ms other → is_known part other ≡ false → is_lt (slice_cmp nat_cmp other key) ≡ false
+  pub least : (other : List ℕ) → IsKey members other → is_known part other ≡ false → is_lt (slice_cmp nat_cmp other key) ≡ false
 
 -- ---- where a fault stands
 
@@ -105,14 +105,14 @@ has_form Rule key d = has_rule_form key d
 
 -- the value under a key is of another form than such a table has there
 abbrev pub HasBadValue : Part → Members → List ℕ → Type 0
-HasBadValue part ms key = (d : Data) × (get_member key ms ≡ Some d) × (has_form part key d ≡ false)
+HasBadValue part members key = (d : Data) × (get_member key members ≡ Some d) × (has_form part key d ≡ false)
 
 -- a fault of this table: at a key that it needs and lacks, a known one whose value is bad, or the least unknown one; or, of a rule, by its number, with a field or names that are there
 abbrev pub StandsIn : Part → ℕ → Members → ReadFault → Type 0
-StandsIn part index ms NotToml = ⊥
-StandsIn part index ms (Missing at) = (at.part ≡ part) × (at.index ≡ index) × (is_needed part at.key ≡ true) × (IsKey ms at.key → ⊥)
-StandsIn part index ms (BadValue at) = (at.part ≡ part) × (at.index ≡ index) × (is_known part at.key ≡ true) × HasBadValue part ms at.key
-StandsIn part index ms (UnknownKey at) = (at.part ≡ part) × (at.index ≡ index) × IsLeastUnknown part ms at.key
-StandsIn part index ms (Improper rule field) = (part ≡ Rule) × (rule ≡ index) × IsKey ms (field_key field)
-StandsIn part index ms (Refused fault) = (part ≡ Rule) × (fault ≡ UnknownSlice index) × (IsKey ms (codes "write") ⊎ IsKey ms (codes "read"))
-StandsIn part index ms Memory = ⊥
+StandsIn part index members NotToml = ⊥
+StandsIn part index members (Missing at) = (at.part ≡ part) × (at.index ≡ index) × (is_needed part at.key ≡ true) × (IsKey members at.key → ⊥)
+StandsIn part index members (BadValue at) = (at.part ≡ part) × (at.index ≡ index) × (is_known part at.key ≡ true) × HasBadValue part members at.key
+StandsIn part index members (UnknownKey at) = (at.part ≡ part) × (at.index ≡ index) × IsLeastUnknown part members at.key
+StandsIn part index members (Improper rule field) = (part ≡ Rule) × (rule ≡ index) × IsKey members (field_key field)
+StandsIn part index members (Refused fault) = (part ≡ Rule) × (fault ≡ UnknownSlice index) × (IsKey members (codes "write") ⊎ IsKey members (codes "read"))
+StandsIn part index members Memory = ⊥

@@ -122,7 +122,7 @@ bits_below (suc k) slots = if list_any (nat_eq k) slots then bits_below k slots 
 
 -- a rule's table
 abbrev pub rule_section : ℕ → Members → SectionView
-rule_section index ms = record { part = part.Rule; index = index; members = ms }
+rule_section index members = record { part = part.Rule; index = index; members = members }
 
 -- a rule that has an improper field is at fault
 abbrev pub no_improper : ℕ → Option Field → Result (Unit {0}) ReadFault
@@ -170,7 +170,7 @@ rule_in slices this = rule_text_in this >>= rule_from slices this.index
 
 -- the rule of an item; one that is no table is a fault of the array
 abbrev pub rule_of : List Slice → ℕ → Data → Result Rule ReadFault
-rule_of slices index (table ms) = rule_in slices (rule_section index ms)
+rule_of slices index (table members) = rule_in slices (rule_section index members)
 rule_of slices index d = Err (BadValue (record { part = part.Top; index = 0; key = codes "rule" }))
 
 -- the rules of the items from an index on

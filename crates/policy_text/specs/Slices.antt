@@ -12,7 +12,7 @@ use Rattle.policy_text.specs.Reading.{SectionView, known_keys, required, optiona
 
 -- a slice's table
 abbrev pub slice_section : ℕ → Members → SectionView
-slice_section index ms = record { part = part.Slice; index = index; members = ms }
+slice_section index members = record { part = part.Slice; index = index; members = members }
 
 -- the slice of a table
 unfoldable pub slice_in : SectionView → Result Slice ReadFault
@@ -27,7 +27,7 @@ slice_in this = do
 
 -- the slice of an item; one that is no table is a fault of the array
 abbrev pub slice_of : ℕ → Data → Result Slice ReadFault
-slice_of index (table ms) = slice_in (slice_section index ms)
+slice_of index (table members) = slice_in (slice_section index members)
 slice_of index d = Err (BadValue (record { part = part.Top; index = 0; key = codes "slice" }))
 
 -- the slices of the items from an index on

@@ -37,7 +37,7 @@ pub record SlotStands (policy : PolicyView) (slot : ℕ) (switch : Known) (side 
   pub queue_stands : QueueStands slice_limit q queue
 
 -- the switch told these features first, its policy and its ports are so known, and each slot stands
-pub record SessionStands (policy : PolicyView) (switch : Known) (sides : ℕ → Side) (qs : ℕ → Queue) (session : Session) : Type 0 where
+pub record SessionStands (policy : PolicyView) (switch : Known) (sides : ℕ → Side) (queues : ℕ → Queue) (session : Session) : Type 0 where
   pub told : switch.features ≡ Some session.features
   pub slices : session.policy.slices ≡ policy.slices
   pub rules : session.policy.rules ≡ rules_of policy switch.features
@@ -45,20 +45,20 @@ pub record SessionStands (policy : PolicyView) (switch : Known) (sides : ℕ →
   pub states_count : length session.states.items ≡ length policy.slices
   pub queues_count : length session.queues.items ≡ length policy.slices
   pub each : (slot : ℕ) (state : SliceState) (queue : Kept) → slice_get session.states.items slot ≡ Some state → slice_get session.queues.items slot ≡ Some queue
-      → SlotStands policy slot switch (sides slot) (qs slot) state queue
+      → SlotStands policy slot switch (sides slot) (queues slot) state queue
 
 -- there is no session before the switch has told what it is, and nothing waits for a slice
 abbrev pub Opens : PolicyView → Known → (ℕ → Side) → (ℕ → Queue) → Option Session → Type 0
-Opens policy switch sides qs None = (switch.features ≡ None) × ((slot : ℕ) → qs slot ≡ no_messages)
-Opens policy switch sides qs (Some session) = SessionStands policy switch sides qs session
+Opens policy switch sides queues None = (switch.features ≡ None) × ((slot : ℕ) → queues slot ≡ no_messages)
+Opens policy switch sides queues (Some session) = SessionStands policy switch sides queues session
 
 -- all of a desk but its count of events
-pub record Body (policy : PolicyView) (switch : Known) (sides : ℕ → Side) (qs : ℕ → Queue) (ql : Queue) (desk : Desk) : Type 0 where
+pub record Body (policy : PolicyView) (switch : Known) (sides : ℕ → Side) (queues : ℕ → Queue) (lane_queue : Queue) (desk : Desk) : Type 0 where
   pub same_policy : desk.policy ≡ policy
   pub phase : desk.phase ≡ switch.phase
-  pub lane : QueueStands lane_limit ql desk.lane
-  pub opens : Opens policy switch sides qs desk.session
-  pub beyond : (slot : ℕ) → is_slot policy slot ≡ false → qs slot ≡ no_messages
+  pub lane : QueueStands lane_limit lane_queue desk.lane
+  pub opens : Opens policy switch sides queues desk.session
+  pub beyond : (slot : ℕ) → is_slot policy slot ≡ false → queues slot ≡ no_messages
 
 -- ---- what holds of every history
 
@@ -91,40 +91,40 @@ up_after policy switch sides timed slot = is_open (phase_after switch.phase time
 
 -- what waits for each slice after it
 abbrev pub queues_after : PolicyView → Known → (ℕ → Side) → (ℕ → Queue) → Timed → ℕ → Queue
-queues_after policy switch sides qs timed slot =
-    push_all slice_limit (if empties slot (up_after policy switch sides timed slot) timed.event then no_messages else qs slot) (sent_with policy slot switch (sides slot) timed)
+queues_after policy switch sides queues timed slot =
+    push_all slice_limit (if empties slot (up_after policy switch sides timed slot) timed.event then no_messages else queues slot) (sent_with policy slot switch (sides slot) timed)
 
 -- what waits for the switch after it
 abbrev pub lane_after : PolicyView → Known → (ℕ → Side) → Queue → Timed → Queue
-lane_after policy switch sides ql timed =
-    push_all lane_limit (if is_ending switch.phase timed.event then no_messages else ql) (lane_in (λ slot. put_with policy slot switch (sides slot) timed) switch.phase timed.event)
+lane_after policy switch sides lane_queue timed =
+    push_all lane_limit (if is_ending switch.phase timed.event then no_messages else lane_queue) (lane_in (λ slot. put_with policy slot switch (sides slot) timed) switch.phase timed.event)
 
 -- whether an event closes its connection
 abbrev pub closes_now : PolicyView → Known → (ℕ → Side) → Timed → Bool
 closes_now policy switch sides timed = is_closing policy switch.phase (up_after policy switch sides timed) (phase_after switch.phase timed.event) timed.event
 
 -- a desk after an event, and whether the connection goes on that the event came from
-pub record Acted (policy : PolicyView) (switch : Known) (sides : ℕ → Side) (qs : ℕ → Queue) (ql : Queue) (timed : Timed) (go : Bool) (desk : Desk) : Type 0 where
-  pub body : Body policy (switch_after switch timed.event) (sides_after policy switch sides timed) (queues_after policy switch sides qs timed) (lane_after policy switch sides ql timed) desk
+pub record Acted (policy : PolicyView) (switch : Known) (sides : ℕ → Side) (queues : ℕ → Queue) (lane_queue : Queue) (timed : Timed) (go : Bool) (desk : Desk) : Type 0 where
+  pub body : Body policy (switch_after switch timed.event) (sides_after policy switch sides timed) (queues_after policy switch sides queues timed) (lane_after policy switch sides lane_queue timed) desk
   pub goes_on : go ≡ not (closes_now policy switch sides timed)
 
 -- what the desk stood for before an event, it stands for with the event after it
 abbrev pub Acts : Desk → Timed → Bool → Desk → Type 0
 Acts old timed go new =
-    (policy : PolicyView) (switch : Known) (sides : ℕ → Side) (qs : ℕ → Queue) (ql : Queue)
-    → Coherent policy switch sides → Body policy switch sides qs ql old → is_ended switch.phase ≡ false → Acted policy switch sides qs ql timed go new
+    (policy : PolicyView) (switch : Known) (sides : ℕ → Side) (queues : ℕ → Queue) (lane_queue : Queue)
+    → Coherent policy switch sides → Body policy switch sides queues lane_queue old → is_ended switch.phase ≡ false → Acted policy switch sides queues lane_queue timed go new
 
 -- the same where the switch's connection is in a phase
 abbrev pub ActsIn : Phase → Desk → Timed → Bool → Desk → Type 0
 ActsIn phase old timed go new =
-    (policy : PolicyView) (switch : Known) (sides : ℕ → Side) (qs : ℕ → Queue) (ql : Queue)
-    → Coherent policy switch sides → Body policy switch sides qs ql old → switch.phase ≡ phase → Acted policy switch sides qs ql timed go new
+    (policy : PolicyView) (switch : Known) (sides : ℕ → Side) (queues : ℕ → Queue) (lane_queue : Queue)
+    → Coherent policy switch sides → Body policy switch sides queues lane_queue old → switch.phase ≡ phase → Acted policy switch sides queues lane_queue timed go new
 
 -- memory may be wanted for an event, by all that a desk stands for while the switch's connection hasn't ended
 abbrev pub MayWant : Desk → Timed → Type 0
 MayWant desk timed =
-    (policy : PolicyView) (switch : Known) (sides : ℕ → Side) (qs : ℕ → Queue) (ql : Queue)
-    → Coherent policy switch sides → Body policy switch sides qs ql desk → is_ended switch.phase ≡ false → IsTrue (may_want_after policy switch sides timed)
+    (policy : PolicyView) (switch : Known) (sides : ℕ → Side) (queues : ℕ → Queue) (lane_queue : Queue)
+    → Coherent policy switch sides → Body policy switch sides queues lane_queue desk → is_ended switch.phase ≡ false → IsTrue (may_want_after policy switch sides timed)
 
 -- the switch's connection ended, and nothing waits for it
 pub record Ends (old new : Desk) : Type 0 where
@@ -135,17 +135,17 @@ pub record Ends (old new : Desk) : Type 0 where
 
 -- a message of the switch went to the session, or has a bad length and so nothing changed yet
 abbrev pub PassedOn : PolicyView → Known → (ℕ → Side) → (ℕ → Queue) → Timed → List ℕ → Bool → Desk → Desk → Type 0
-PassedOn policy switch sides qs timed message true old new =
+PassedOn policy switch sides queues timed message true old new =
     (is_bad message ≡ false) × (new.policy ≡ old.policy) × (new.phase ≡ old.phase)
-    × Opens policy (switch_after switch timed.event) (sides_after policy switch sides timed) (queues_after policy switch sides qs timed) new.session
+    × Opens policy (switch_after switch timed.event) (sides_after policy switch sides timed) (queues_after policy switch sides queues timed) new.session
     × HasMore (echo_for message) old.lane new.lane
-PassedOn policy switch sides qs timed message false old new = (is_bad message ≡ true) × (new ≡ old)
+PassedOn policy switch sides queues timed message false old new = (is_bad message ≡ true) × (new ≡ old)
 
 abbrev pub PassesOn : ℕ → List ℕ → Bool → Desk → Desk → Type 0
 PassesOn moment message go old new =
-    (policy : PolicyView) (switch : Known) (sides : ℕ → Side) (qs : ℕ → Queue) (ql : Queue)
-    → Coherent policy switch sides → Body policy switch sides qs ql old → switch.phase ≡ Opened
-    → PassedOn policy switch sides qs (record { event = SwitchMsg message; moment = moment }) message go old new
+    (policy : PolicyView) (switch : Known) (sides : ℕ → Side) (queues : ℕ → Queue) (lane_queue : Queue)
+    → Coherent policy switch sides → Body policy switch sides queues lane_queue old → switch.phase ≡ Opened
+    → PassedOn policy switch sides queues (record { event = SwitchMsg message; moment = moment }) message go old new
 
 -- the switch has connected and not told what it is, and the policy has a slice at the slot
 abbrev pub is_begun : Phase → Bool
@@ -159,19 +159,19 @@ is_begun_with phase policy slot = is_begun phase && is_slot policy slot
 
 -- what waits after the first message of a destination was taken
 abbrev pub queues_less : Dest → (ℕ → Queue) → ℕ → Queue
-queues_less dest qs slot = if is_slice slot dest then without_first (qs slot) else qs slot
+queues_less dest queues slot = if is_slice slot dest then without_first (queues slot) else queues slot
 
 abbrev pub lane_less : Dest → Queue → Queue
-lane_less dest ql = if is_switch dest then without_first ql else ql
+lane_less dest lane_queue = if is_switch dest then without_first lane_queue else lane_queue
 
 -- the first message that waits for a destination was taken
-pub record TookNext (policy : PolicyView) (switch : Known) (sides : ℕ → Side) (qs : ℕ → Queue) (ql : Queue) (dest : Dest) (next : Option (List ℕ)) (desk : Desk) : Type 0 where
-  pub first : next ≡ slice_get (waiting_in dest qs ql).pending 0
-  pub body : Body policy switch sides (queues_less dest qs) (lane_less dest ql) desk
+pub record TookNext (policy : PolicyView) (switch : Known) (sides : ℕ → Side) (queues : ℕ → Queue) (lane_queue : Queue) (dest : Dest) (next : Option (List ℕ)) (desk : Desk) : Type 0 where
+  pub first : next ≡ slice_get (waiting_in dest queues lane_queue).pending 0
+  pub body : Body policy switch sides (queues_less dest queues) (lane_less dest lane_queue) desk
 
 abbrev pub TakesNext : Desk → Dest → Option (List ℕ) → Desk → Type 0
 TakesNext old dest next new =
-    (policy : PolicyView) (switch : Known) (sides : ℕ → Side) (qs : ℕ → Queue) (ql : Queue) → Body policy switch sides qs ql old → TookNext policy switch sides qs ql dest next new
+    (policy : PolicyView) (switch : Known) (sides : ℕ → Side) (queues : ℕ → Queue) (lane_queue : Queue) → Body policy switch sides queues lane_queue old → TookNext policy switch sides queues lane_queue dest next new
 
 -- what is said of a slice before the switch has told what it is
 abbrev pub silence_before : PolicyView → ℕ → Taken
@@ -180,8 +180,8 @@ silence_before policy slot = if is_slot policy slot then NotOpen else takens.End
 -- what there is to say of a destination for which nothing waits, by all that a desk stands for
 abbrev pub IsSilence : Desk → Dest → Taken → Type 0
 IsSilence desk dest taken =
-    (policy : PolicyView) (switch : Known) (sides : ℕ → Side) (qs : ℕ → Queue) (ql : Queue)
-    → Coherent policy switch sides → Body policy switch sides qs ql desk → taken ≡ silence policy switch.phase (up_now switch sides) dest (waiting_in dest qs ql).choked
+    (policy : PolicyView) (switch : Known) (sides : ℕ → Side) (queues : ℕ → Queue) (lane_queue : Queue)
+    → Coherent policy switch sides → Body policy switch sides queues lane_queue desk → taken ≡ silence policy switch.phase (up_now switch sides) dest (waiting_in dest queues lane_queue).choked
 
 abbrev pub is_message : Taken → Bool
 is_message (Message message) = true
@@ -198,7 +198,7 @@ left (Slice slot) desk = pending_at slot desk.session
 
 -- what the desk stood for it stands for still
 abbrev pub Stays : Desk → Desk → Type 0
-Stays old new = (policy : PolicyView) (switch : Known) (sides : ℕ → Side) (qs : ℕ → Queue) (ql : Queue) → Body policy switch sides qs ql old → Body policy switch sides qs ql new
+Stays old new = (policy : PolicyView) (switch : Known) (sides : ℕ → Side) (queues : ℕ → Queue) (lane_queue : Queue) → Body policy switch sides queues lane_queue old → Body policy switch sides queues lane_queue new
 
 -- ---- operations
 

@@ -62,26 +62,26 @@ silence_at slot session =
 
 -- a message of the switch was carried out, or has a bad length and so nothing changed yet
 abbrev pub CarriedOut : PolicyView → Switch → (ℕ → Side) → (ℕ → Queue) → ℕ → List ℕ → Bool → Session → Kept → Session → Kept → Type 0
-CarriedOut policy switch sides qs moment message true old lane new new_lane =
+CarriedOut policy switch sides queues moment message true old lane new new_lane =
     (is_bad message ≡ false)
-    × SessionStands policy (switch_after switch (SwitchMsg message)) (sides_after policy switch sides (told_at moment message)) (queues_after policy switch sides qs (told_at moment message)) new
+    × SessionStands policy (switch_after switch (SwitchMsg message)) (sides_after policy switch sides (told_at moment message)) (queues_after policy switch sides queues (told_at moment message)) new
     × HasMore (echo_for message) lane new_lane
-CarriedOut policy switch sides qs moment message false old lane new new_lane = (is_bad message ≡ true) × (new ≡ old) × (new_lane ≡ lane)
+CarriedOut policy switch sides queues moment message false old lane new new_lane = (is_bad message ≡ true) × (new ≡ old) × (new_lane ≡ lane)
 
 -- what a session that has told what it is makes of a message of the switch
 abbrev pub Carries : ℕ → List ℕ → Bool → Session → Kept → Session → Kept → Type 0
 Carries moment message on old lane new new_lane =
-    (policy : PolicyView) (switch : Switch) (sides : ℕ → Side) (qs : ℕ → Queue) → switch.phase ≡ Opened → SessionStands policy switch sides qs old
-    → CarriedOut policy switch sides qs moment message on old lane new new_lane
+    (policy : PolicyView) (switch : Switch) (sides : ℕ → Side) (queues : ℕ → Queue) → switch.phase ≡ Opened → SessionStands policy switch sides queues old
+    → CarriedOut policy switch sides queues moment message on old lane new new_lane
 
 -- something follows from a message of the switch, by all that a session stands for once the switch has told what it is
 abbrev pub HasDispatch : ℕ → List ℕ → Session → Type 0
 HasDispatch moment message session =
-    (policy : PolicyView) (switch : Switch) (sides : ℕ → Side) (qs : ℕ → Queue) → switch.phase ≡ Opened → SessionStands policy switch sides qs session → IsTrue (has_dispatch policy switch sides (told_at moment message))
+    (policy : PolicyView) (switch : Switch) (sides : ℕ → Side) (queues : ℕ → Queue) → switch.phase ≡ Opened → SessionStands policy switch sides queues session → IsTrue (has_dispatch policy switch sides (told_at moment message))
 
 -- what a session stood for it stands for still
 abbrev pub StandsOn : Session → Session → Type 0
-StandsOn old new = (policy : PolicyView) (switch : Switch) (sides : ℕ → Side) (qs : ℕ → Queue) → SessionStands policy switch sides qs old → SessionStands policy switch sides qs new
+StandsOn old new = (policy : PolicyView) (switch : Switch) (sides : ℕ → Side) (queues : ℕ → Queue) → SessionStands policy switch sides queues old → SessionStands policy switch sides queues new
 
 -- ---- the opening
 

@@ -273,7 +273,7 @@ impl Desk {
     /// One event. `AllocError` leaves what the desk stands for as it was, though memory that was taken may
     /// stay, and the event isn't counted. It comes only where the event has something sent, to the switch or
     /// to a slice, or tells of a port what is kept, or is a packet-out or a flow-mod of a slice that is up,
-    /// whose actions are read. After `Ended` nothing more changes.
+    /// whose actions, or packet, are read. After `Ended` nothing more changes.
     pub fn step(&mut self, alloc: Global, timed: Timed) -> Result<Verdict, AllocError>
         ensures { Steps self.old timed result self.new }
     {
