@@ -10,7 +10,7 @@ use Rattle.of10_model.specs.Meet.{◌>>=◌}
 use Rattle.policy_text.specs.Addresses.{digit_at, with_digit_in, with_digit, digits_at, octet_of, octet_at, after, dotted_at, bits_of, bits_after, leading_bits, prefix}
 use Rattle.policy_text.specs.Printing.{dotted_text}
 use Rattle.policy_laws.specs.Written.{IsPrefixText, PrefixesAreAsWritten}
-use Rattle.policy_text.proofs.AddressRanges.{bind_some, map_some, octet_below, dotted_below, bits_after_range}
+use Rattle.policy_text.proofs.AddressRanges.{bind_some, map_some, octet_below, octets_read, dotted_below, bits_after_range}
 use Rattle.policy_text.proofs.PrintedValues.{steps, dotted_back, bits_back}
 
 abbrev Read : Type 0
@@ -108,34 +108,22 @@ four_written a b c d text a_rest b_text b_rest c_text c_rest d_text rest ha hb h
     chain (decimal a) (decimal b) (decimal c) (decimal d) text a_rest b_text b_rest c_text c_rest d_text rest h1 h2 h3 h4 h5 h6 h7
     ∙ ap (λ (t : List ℕ). t ++ rest) (dotted_made a b c d ha hb hc hd)
 
-as_read : (text : List ℕ) (made n : Read) → Some made ≡ Some n → text ≡ dotted_text made.0 ++ made.1 → text ≡ dotted_text n.0 ++ n.1
-as_read text made n e h = subst (λ (m : Read). text ≡ dotted_text m.0 ++ m.1) (same_Some made n e) h
-
 dotted_written : (text : List ℕ) (n : Read) → dotted_at text ≡ Some n → text ≡ dotted_text n.0 ++ n.1
-unfolding dotted_at
 dotted_written text n e =
-    let a = bind_some (octet_at text) _ n e in
-    let ra = bind_some (after 46 a.0.1) _ n a.2 in
-    let b = bind_some (octet_at ra.0) _ n ra.2 in
-    let rb = bind_some (after 46 b.0.1) _ n b.2 in
-    let c = bind_some (octet_at rb.0) _ n rb.2 in
-    let rc = bind_some (after 46 c.0.1) _ n c.2 in
-    let d = bind_some (octet_at rc.0) _ n rc.2 in
-    let made : Read = (((a.0.0 * 256 + b.0.0) * 256 + c.0.0) * 256 + d.0.0, d.0.1) in
-    let octets =
-    four_written a.0.0 b.0.0 c.0.0 d.0.0 text a.0.1 ra.0 b.0.1 rb.0 c.0.1 rc.0 d.0.1
-    (octet_below text a.0 a.1)
-    (octet_below ra.0 b.0 b.1)
-    (octet_below rb.0 c.0 c.1)
-    (octet_below rc.0 d.0 d.1)
-    (octet_written text a.0 a.1)
-    (after_written 46 a.0.1 ra.0 ra.1)
-    (octet_written ra.0 b.0 b.1)
-    (after_written 46 b.0.1 rb.0 rb.1)
-    (octet_written rb.0 c.0 c.1)
-    (after_written 46 c.0.1 rc.0 rc.1)
-    (octet_written rc.0 d.0 d.1) in
-    as_read text made n d.2 octets
+    let o = octets_read text n e in
+    subst (λ (m : Read). text ≡ dotted_text m.0 ++ m.1) o.whole
+    (four_written o.first.0 o.second.0 o.third.0 o.fourth.0 text o.first.1 o.behind_first o.second.1 o.behind_second o.third.1 o.behind_third o.fourth.1
+    (octet_below text o.first o.first_is)
+    (octet_below o.behind_first o.second o.second_is)
+    (octet_below o.behind_second o.third o.third_is)
+    (octet_below o.behind_third o.fourth o.fourth_is)
+    (octet_written text o.first o.first_is)
+    (after_written 46 o.first.1 o.behind_first o.first_dot)
+    (octet_written o.behind_first o.second o.second_is)
+    (after_written 46 o.second.1 o.behind_second o.second_dot)
+    (octet_written o.behind_second o.third o.third_is)
+    (after_written 46 o.third.1 o.behind_third o.third_dot)
+    (octet_written o.behind_third o.fourth o.fourth_is))
 
 -- ---- how many leading bits
 

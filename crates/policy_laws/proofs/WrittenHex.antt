@@ -6,7 +6,7 @@ use Rattle.std.proofs.lemmas.Option.{same_Some}
 use Rattle.policy_text.specs.Addresses.{hex_digit, hex_after, datapath_id, pair_at, has_colons, six_pairs, hardware_address}
 use Rattle.policy_text.specs.Printing.{hex_glyph, hex_text, pair_text, hardware_text}
 use Rattle.policy_laws.specs.Written.{HardwareAddressesAreAsWritten, DatapathIdsAreAsWritten}
-use Rattle.policy_text.proofs.AddressRanges.{bind_some, map_some, hex_digit_below}
+use Rattle.policy_text.proofs.AddressRanges.{bind_some, map_some, hex_digit_below, six_pairs_read}
 use Rattle.policy_text.proofs.PrintedValues.{datapath_back, hardware_back}
 
 -- ---- digits
@@ -109,7 +109,6 @@ numbered a b c d f g n ha hb hc hd hf hg same =
     rw (na, nb, nc, nd, nf, ng) refl
 
 hardware_written : (text : List ℕ) (n : ℕ) → hardware_address text ≡ Some n → (n < 2 ^ 48) × (text ≡ hardware_text n)
-unfolding six_pairs
 hardware_written text n e =
     let whole = when_is (has_colons text) (six_pairs text) n e in
     let s = λ (i : ℕ). slice_index text i == 58 in
@@ -118,21 +117,17 @@ hardware_written text n e =
     let c8 = and_parts (length text == 17 && s 2 && s 5) (s 8) c11.0 in
     let c5 = and_parts (length text == 17 && s 2) (s 5) c8.0 in
     let c2 = and_parts (length text == 17) (s 2) c5.0 in
-    let a = bind_some (pair_at text 0) _ n whole.1 in
-    let b = bind_some (pair_at text 3) _ n a.2 in
-    let c = bind_some (pair_at text 6) _ n b.2 in
-    let d = bind_some (pair_at text 9) _ n c.2 in
-    let f = bind_some (pair_at text 12) _ n d.2 in
-    let g = bind_some (pair_at text 15) _ n f.2 in
-    let pa = pair_written text 0 a.0 a.1 in
-    let pb = pair_written text 3 b.0 b.1 in
-    let pc = pair_written text 6 c.0 c.1 in
-    let pd = pair_written text 9 d.0 d.1 in
-    let pf = pair_written text 12 f.0 f.1 in
-    let pg = pair_written text 15 g.0 g.1 in
-    let same = same_Some (((((a.0 * 256 + b.0) * 256 + c.0) * 256 + d.0) * 256 + f.0) * 256 + g.0) n g.2 in
-    let bytes = spelled text a.0 b.0 c.0 d.0 f.0 g.0 (eqb-true _ _ c2.0) (eqb-true _ _ c2.1) (eqb-true _ _ c5.1) (eqb-true _ _ c8.1) (eqb-true _ _ c11.1) (eqb-true _ _ c14.1) pa pb pc pd pf pg in
-    (omega (arith, pa.below, pb.below, pc.below, pd.below, pf.below, pg.below, same), bytes ∙ numbered a.0 b.0 c.0 d.0 f.0 g.0 n pa.below pb.below pc.below pd.below pf.below pg.below same)
+    let p = six_pairs_read text n whole.1 in
+    let pa = pair_written text 0 p.first p.first_is in
+    let pb = pair_written text 3 p.second p.second_is in
+    let pc = pair_written text 6 p.third p.third_is in
+    let pd = pair_written text 9 p.fourth p.fourth_is in
+    let pf = pair_written text 12 p.fifth p.fifth_is in
+    let pg = pair_written text 15 p.sixth p.sixth_is in
+    let bytes = spelled text p.first p.second p.third p.fourth p.fifth p.sixth (eqb-true _ _ c2.0) (eqb-true _ _ c2.1) (eqb-true _ _ c5.1) (eqb-true _ _ c8.1) (eqb-true _ _ c11.1) (eqb-true _ _ c14.1) pa pb pc pd pf pg in (
+      omega (arith, pa.below, pb.below, pc.below, pd.below, pf.below, pg.below, p.whole),
+      bytes ∙ numbered p.first p.second p.third p.fourth p.fifth p.sixth n pa.below pb.below pc.below pd.below pf.below pg.below p.whole,
+    )
 
 pub hardware_addresses : HardwareAddressesAreAsWritten
 hardware_addresses text n = (hardware_written text n, λ h. ap hardware_address h.1 ∙ hardware_back n h.0)

@@ -39,17 +39,52 @@ pair_below text at n e =
     let b = map_some (λ low. a.0 * 16 + low) (hex_digit (slice_index text (at + 1))) n a.2 in
     omega (arith, hex_digit_below (slice_index text at) a.0 a.1, hex_digit_below (slice_index text (at + 1)) b.0 b.1, b.2)
 
-six_pairs_below : (text : List ℕ) (n : ℕ) → six_pairs text ≡ Some n → n < 2 ^ 48
+-- six numbers, each of two digits at its place, make a number
+pub record IsOfPairs (text : List ℕ) (n : ℕ) : Type 0 where
+  pub first : ℕ
+  pub second : ℕ
+  pub third : ℕ
+  pub fourth : ℕ
+  pub fifth : ℕ
+  pub sixth : ℕ
+  pub first_is : pair_at text 0 ≡ Some first
+  pub second_is : pair_at text 3 ≡ Some second
+  pub third_is : pair_at text 6 ≡ Some third
+  pub fourth_is : pair_at text 9 ≡ Some fourth
+  pub fifth_is : pair_at text 12 ≡ Some fifth
+  pub sixth_is : pair_at text 15 ≡ Some sixth
+  pub whole : ((((first * 256 + second) * 256 + third) * 256 + fourth) * 256 + fifth) * 256 + sixth ≡ n
+
+pub six_pairs_read : (text : List ℕ) (n : ℕ) → six_pairs text ≡ Some n → IsOfPairs text n
 unfolding six_pairs
-six_pairs_below text n e =
+six_pairs_read text n e =
     let a = bind_some (pair_at text 0) _ n e in
     let b = bind_some (pair_at text 3) _ n a.2 in
     let c = bind_some (pair_at text 6) _ n b.2 in
     let d = bind_some (pair_at text 9) _ n c.2 in
     let f = bind_some (pair_at text 12) _ n d.2 in
     let g = bind_some (pair_at text 15) _ n f.2 in
-    let same = same_Some (((((a.0 * 256 + b.0) * 256 + c.0) * 256 + d.0) * 256 + f.0) * 256 + g.0) n g.2 in
-    omega (arith, pair_below text 0 a.0 a.1, pair_below text 3 b.0 b.1, pair_below text 6 c.0 c.1, pair_below text 9 d.0 d.1, pair_below text 12 f.0 f.1, pair_below text 15 g.0 g.1, same)
+    record {
+      first = a.0;
+      second = b.0;
+      third = c.0;
+      fourth = d.0;
+      fifth = f.0;
+      sixth = g.0;
+      first_is = a.1;
+      second_is = b.1;
+      third_is = c.1;
+      fourth_is = d.1;
+      fifth_is = f.1;
+      sixth_is = g.1;
+      whole = same_Some (((((a.0 * 256 + b.0) * 256 + c.0) * 256 + d.0) * 256 + f.0) * 256 + g.0) n g.2;
+    }
+
+six_pairs_below : (text : List ℕ) (n : ℕ) → six_pairs text ≡ Some n → n < 2 ^ 48
+six_pairs_below text n e =
+    let p = six_pairs_read text n e in
+    let pairs : (at k : ℕ) → pair_at text at ≡ Some k → k < 256 = pair_below text in
+    omega (arith, pairs 0 p.first p.first_is, pairs 3 p.second p.second_is, pairs 6 p.third p.third_is, pairs 9 p.fourth p.fourth_is, pairs 12 p.fifth p.fifth_is, pairs 15 p.sixth p.sixth_is, p.whole)
 
 hardware_cases : (b : Bool) (text : List ℕ) (n : ℕ) → cond b (six_pairs text) None ≡ Some n → n < 2 ^ 48
 hardware_cases true text n e = six_pairs_below text n e
@@ -73,9 +108,27 @@ octet_below text n e =
     let k = cond_some (nat_le a.0.0 255) a.0 n a.2 in
     subst (λ (m : ℕ × List ℕ). m.0 ≤ 255) k.1 (leb-true _ _ k.0)
 
-pub dotted_below : (text : List ℕ) (n : ℕ × List ℕ) → dotted_at text ≡ Some n → n.0 < 2 ^ 32
+-- four octets with dots between them make a number, and so much of the text is left; where each octet ends, and what follows its dot
+pub record IsOfOctets (text : List ℕ) (n : ℕ × List ℕ) : Type 0 where
+  pub first : ℕ × List ℕ
+  pub behind_first : List ℕ
+  pub second : ℕ × List ℕ
+  pub behind_second : List ℕ
+  pub third : ℕ × List ℕ
+  pub behind_third : List ℕ
+  pub fourth : ℕ × List ℕ
+  pub first_is : octet_at text ≡ Some first
+  pub first_dot : after 46 first.1 ≡ Some behind_first
+  pub second_is : octet_at behind_first ≡ Some second
+  pub second_dot : after 46 second.1 ≡ Some behind_second
+  pub third_is : octet_at behind_second ≡ Some third
+  pub third_dot : after 46 third.1 ≡ Some behind_third
+  pub fourth_is : octet_at behind_third ≡ Some fourth
+  pub whole : (((first.0 * 256 + second.0) * 256 + third.0) * 256 + fourth.0, fourth.1) ≡ n
+
+pub octets_read : (text : List ℕ) (n : ℕ × List ℕ) → dotted_at text ≡ Some n → IsOfOctets text n
 unfolding dotted_at
-dotted_below text n e =
+octets_read text n e =
     let a = bind_some (octet_at text) _ n e in
     let ra = bind_some (after 46 a.0.1) _ n a.2 in
     let b = bind_some (octet_at ra.0) _ n ra.2 in
@@ -84,9 +137,29 @@ dotted_below text n e =
     let rc = bind_some (after 46 c.0.1) _ n c.2 in
     let d = bind_some (octet_at rc.0) _ n rc.2 in
     let made : ℕ × List ℕ = (((a.0.0 * 256 + b.0.0) * 256 + c.0.0) * 256 + d.0.0, d.0.1) in
-    let same = same_Some made n d.2 in
-    let first : made.0 ≡ n.0 = ap (λ (m : ℕ × List ℕ). m.0) same in
-    omega (arith, octet_below text a.0 a.1, octet_below ra.0 b.0 b.1, octet_below rb.0 c.0 c.1, octet_below rc.0 d.0 d.1, first)
+    record {
+      first = a.0;
+      behind_first = ra.0;
+      second = b.0;
+      behind_second = rb.0;
+      third = c.0;
+      behind_third = rc.0;
+      fourth = d.0;
+      first_is = a.1;
+      first_dot = ra.1;
+      second_is = b.1;
+      second_dot = rb.1;
+      third_is = c.1;
+      third_dot = rc.1;
+      fourth_is = d.1;
+      whole = same_Some made n d.2;
+    }
+
+pub dotted_below : (text : List ℕ) (n : ℕ × List ℕ) → dotted_at text ≡ Some n → n.0 < 2 ^ 32
+dotted_below text n e =
+    let o = octets_read text n e in
+    let value : ((o.first.0 * 256 + o.second.0) * 256 + o.third.0) * 256 + o.fourth.0 ≡ n.0 = ap (λ (m : ℕ × List ℕ). m.0) o.whole in
+    omega (arith, octet_below text o.first o.first_is, octet_below o.behind_first o.second o.second_is, octet_below o.behind_second o.third o.third_is, octet_below o.behind_third o.fourth o.fourth_is, value)
 
 bits_of_range : (n : ℕ × List ℕ) (bits : ℕ) → bits_of n ≡ Some bits → (1 ≤ bits) × (bits ≤ 32)
 bits_of_range n bits e =

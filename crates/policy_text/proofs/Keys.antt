@@ -12,13 +12,13 @@ use Rattle.of10_model.proofs.Results.{bind_ok, ok_is}
 use Rattle.flowspace.specs.declared.fault.Field.{Field}
 use Rattle.flowspace.specs.declared.fault.Field.TheVariants.{DlVlanPcp, NwTos, NwProto, NwSrc, NwDst, TpSrc, TpDst}
 use Rattle.flowspace.specs.declared.slices.Slice.{Slice}
-use Rattle.policy_text.specs.declared.values.Numbers.TheVariants.{UpTo, InPort, Vlan, Service}
-use Rattle.policy_text.specs.declared.values.Numerals.TheVariants.{Datapath, Hardware}
+use Rattle.policy_text.specs.declared.values.Numbers.TheVariants.{UpTo, Service}
 use Rattle.policy_text.specs.declared.values.Texts.TheVariants.{Any}
 use Rattle.policy_text.specs.Firsts.{IsKey}
 use Rattle.policy_text.specs.Places.{field_key}
-use Rattle.policy_text.specs.Reading.{SectionView, place_of, allowed, known_keys, required, optional, number, numeral, addresses, text, text_list}
-use Rattle.policy_text.specs.Rules.{LinkView, link_in, joined, pattern_in, first_improper, slots_of, are_different, RuleText, names_under, rule_text_in}
+use Rattle.policy_text.specs.Reading.{SectionView, place_of, allowed, optional, number, addresses, text, text_list}
+use Rattle.policy_text.specs.Rules.{first_improper, slots_of, are_different, RuleText, names_under, rule_text_in}
+use Rattle.policy_text.proofs.RuleParts.{PatternRead, pattern_read, rule_read}
 
 -- ---- look-ups
 
@@ -88,38 +88,16 @@ pub record FieldsThere (IsIn : List ℕ → Type 0) (m : Pattern) : Type 0 where
   pub tp_src : is_some m.tp_src ≡ true → IsIn (codes "tp_src")
   pub tp_dst : is_some m.tp_dst ≡ true → IsIn (codes "tp_dst")
 
-link_there : (this : SectionView) (l : LinkView) → link_in this ≡ Ok l → is_some l.dl_vlan_pcp ≡ true → IsKey this.members (codes "dl_vlan_pcp")
-unfolding link_in
-link_there this l e =
-    let a = bind_ok (optional (number InPort) this (codes "in_port")) _ l e in
-    let b = bind_ok (optional (numeral Hardware) this (codes "dl_src")) _ l a.2 in
-    let c = bind_ok (optional (numeral Hardware) this (codes "dl_dst")) _ l b.2 in
-    let d = bind_ok (optional (number Vlan) this (codes "dl_vlan")) _ l c.2 in
-    let f = bind_ok (optional (number (UpTo 7)) this (codes "dl_vlan_pcp")) _ l d.2 in
-    let g = bind_ok (optional (number (UpTo 0xffff)) this (codes "dl_type")) _ l f.2 in
-    let made : LinkView = record { in_port = a.0; dl_src = b.0; dl_dst = c.0; dl_vlan = d.0; dl_vlan_pcp = f.0; dl_type = g.0 } in
-    subst (λ (x : LinkView). is_some x.dl_vlan_pcp ≡ true → IsKey this.members (codes "dl_vlan_pcp")) (ok_is made l g.2) (optional_there (number (UpTo 7)) this (codes "dl_vlan_pcp") f.0 f.1)
-
-fields_there : (this : SectionView) (m : Pattern) → pattern_in this ≡ Ok m → FieldsThere (IsKey this.members) m
-unfolding pattern_in
-fields_there this m e =
-    let link = bind_ok (link_in this) _ m e in
-    let a = bind_ok (optional (number Service) this (codes "nw_tos")) _ m link.2 in
-    let b = bind_ok (optional (number (UpTo 255)) this (codes "nw_proto")) _ m a.2 in
-    let c = bind_ok (optional addresses this (codes "nw_src")) _ m b.2 in
-    let d = bind_ok (optional addresses this (codes "nw_dst")) _ m c.2 in
-    let f = bind_ok (optional (number (UpTo 0xffff)) this (codes "tp_src")) _ m d.2 in
-    let g = bind_ok (optional (number (UpTo 0xffff)) this (codes "tp_dst")) _ m f.2 in
-    let made : Pattern = joined link.0 a.0 b.0 c.0 d.0 f.0 g.0 in
-    subst (FieldsThere (IsKey this.members)) (ok_is made m g.2) (record {
-      dl_vlan_pcp = link_there this link.0 link.1;
-      nw_tos = optional_there (number Service) this (codes "nw_tos") a.0 a.1;
-      nw_proto = optional_there (number (UpTo 255)) this (codes "nw_proto") b.0 b.1;
-      nw_src = optional_there addresses this (codes "nw_src") c.0 c.1;
-      nw_dst = optional_there addresses this (codes "nw_dst") d.0 d.1;
-      tp_src = optional_there (number (UpTo 0xffff)) this (codes "tp_src") f.0 f.1;
-      tp_dst = optional_there (number (UpTo 0xffff)) this (codes "tp_dst") g.0 g.1;
-    })
+fields_there : (this : SectionView) (m : Pattern) → PatternRead this m → FieldsThere (IsKey this.members) m
+fields_there this m read = record {
+  dl_vlan_pcp = optional_there (number (UpTo 7)) this (codes "dl_vlan_pcp") m.dl_vlan_pcp read.dl_vlan_pcp;
+  nw_tos = optional_there (number Service) this (codes "nw_tos") m.nw_tos read.nw_tos;
+  nw_proto = optional_there (number (UpTo 255)) this (codes "nw_proto") m.nw_proto read.nw_proto;
+  nw_src = optional_there addresses this (codes "nw_src") m.nw_src read.nw_src;
+  nw_dst = optional_there addresses this (codes "nw_dst") m.nw_dst read.nw_dst;
+  tp_src = optional_there (number (UpTo 0xffff)) this (codes "tp_src") m.tp_src read.tp_src;
+  tp_dst = optional_there (number (UpTo 0xffff)) this (codes "tp_dst") m.tp_dst read.tp_dst;
+}
 
 -- the names and those fields stand in the table
 pub record TextThere (ms : Members) (t : RuleText) : Type 0 where
@@ -128,20 +106,13 @@ pub record TextThere (ms : Members) (t : RuleText) : Type 0 where
   pub pattern : FieldsThere (IsKey ms) t.pattern
 
 pub text_there : (this : SectionView) (t : RuleText) → rule_text_in this ≡ Ok t → TextThere this.members t
-unfolding rule_text_in
 text_there this t e =
-    let k = bind_ok (known_keys this) _ t e in
-    let a = bind_ok (optional (numeral Datapath) this (codes "switch")) _ t k.2 in
-    let b = bind_ok (required (number (UpTo 0xffffffff)) this (codes "priority")) _ t a.2 in
-    let c = bind_ok (optional (text Any) this (codes "write")) _ t b.2 in
-    let d = bind_ok (names_under this (codes "read")) _ t c.2 in
-    let f = bind_ok (pattern_in this) _ t d.2 in
-    let made : RuleText = record { switch = a.0; priority = b.0; write = c.0; read = d.0; pattern = f.0 } in
-    subst (TextThere this.members) (ok_is made t f.2) (record {
-      write = optional_there (text Any) this (codes "write") c.0 c.1;
-      read = under_there this (codes "read") d.0 d.1;
-      pattern = fields_there this f.0 f.1;
-    })
+    let read = rule_read this t e in
+    record {
+      write = optional_there (text Any) this (codes "write") t.write read.write;
+      read = under_there this (codes "read") t.read read.read;
+      pattern = fields_there this t.pattern (pattern_read this t.pattern read.pattern);
+    }
 
 -- slots of which two are the same came from names
 pub same_slots_there : (slices : List Slice) (index : ℕ) (names : List (List ℕ)) (slots : List ℕ) (K : Type 0) → slots_of slices index names ≡ Ok slots → are_different slots ≡ false → IsFor names K → K

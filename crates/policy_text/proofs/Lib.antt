@@ -5,6 +5,7 @@ pub mod LeastUnknown
 pub mod Documents
 pub mod Steps
 pub mod AddressRanges
+pub mod RuleParts
 pub mod SoundPatterns
 pub mod Sound
 pub mod Keys

@@ -15,15 +15,15 @@ use Rattle.flowspace.specs.Policies.{PolicyView}
 use Rattle.flowspace.specs.Rules.{IsPlainRule}
 use Rattle.flowspace.specs.Slices.{is_name_byte, IsPlainSlice}
 use Rattle.policy_text.specs.declared.values.Numbers.TheVariants.{UpTo, Between}
-use Rattle.policy_text.specs.declared.values.Numerals.TheVariants.{Datapath}
-use Rattle.policy_text.specs.declared.values.Texts.TheVariants.{Name, Controller, Any}
-use Rattle.policy_text.specs.Reading.{SectionView, known_keys, required, optional, is_number, number, is_text, text, numeral, tables, some_tables}
+use Rattle.policy_text.specs.declared.values.Texts.TheVariants.{Name, Controller}
+use Rattle.policy_text.specs.Reading.{SectionView, known_keys, required, optional, is_number, number, is_text, text, tables, some_tables}
 use Rattle.policy_text.specs.Slices.{slice_section, slice_in, slice_of, slices_from}
-use Rattle.policy_text.specs.Rules.{pattern_in, first_improper, are_different, bits_below, writer_of, slots_of, no_improper, proper, RuleText, names_under, rule_text_in, rule_from, rule_section, rule_in, rule_of, rules_from}
+use Rattle.policy_text.specs.Rules.{first_improper, are_different, bits_below, writer_of, slots_of, no_improper, proper, RuleText, rule_text_in, rule_from, rule_section, rule_in, rule_of, rules_from}
 use Rattle.policy_text.specs.Documents.{top, parts_in, parts_of, ArePlain}
 use Rattle.std.proofs.lemmas.Option.{cond_some}
 use Rattle.of10_model.proofs.Results.{bind_ok, bind_is, ok_is}
 use Rattle.policy_text.proofs.Steps.{optional_holds, required_holds, number_is, text_is}
+use Rattle.policy_text.proofs.RuleParts.{rule_read}
 use Rattle.policy_text.proofs.SoundPatterns.{IsWritten, pattern_sound, meaningful, needed_is}
 
 -- ---- slices
@@ -114,16 +114,7 @@ pub proper_is : (index : ℕ) (slots : List ℕ) (m : Pattern) (u : Unit {0}) �
 proper_is index slots m u e = proper_cases (are_different slots) (first_improper m) _ (no_improper_is index _ u e)
 
 pub text_sound : (this : SectionView) (t : RuleText) → rule_text_in this ≡ Ok t → IsWritten t.pattern
-unfolding rule_text_in
-text_sound this t e =
-    let k = bind_ok (known_keys this) _ t e in
-    let a = bind_ok (optional (numeral Datapath) this (codes "switch")) _ t k.2 in
-    let b = bind_ok (required (number (UpTo 0xffffffff)) this (codes "priority")) _ t a.2 in
-    let c = bind_ok (optional (text Any) this (codes "write")) _ t b.2 in
-    let d = bind_ok (names_under this (codes "read")) _ t c.2 in
-    let f = bind_ok (pattern_in this) _ t d.2 in
-    let made : RuleText = record { switch = a.0; priority = b.0; write = c.0; read = d.0; pattern = f.0 } in
-    subst (λ (x : RuleText). IsWritten x.pattern) (ok_is made t f.2) (pattern_sound this f.0 f.1)
+text_sound this t e = pattern_sound this t.pattern (rule_read this t e).pattern
 
 -- the rule of what a table says, from its parts
 pub rule_from_is : (slices : List Slice) (index : ℕ) (t : RuleText) (writer : Option ℕ) (slots : List ℕ) (u : Unit {0}) → writer_of slices index t.write ≡ Ok writer → slots_of slices index t.read ≡ Ok slots

@@ -1,5 +1,5 @@
 -- The match that a text says is a normal one, and constrains a field only where the field means something.
-use Rattle.std.proofs.Common.{◌≡◌, inl, inr, ℕ, ◌<◌, ◌%◌, ◌^◌, ◌==◌, Bool, true, false, not, ◌&&◌, cond, nat_le, leb-true, eqb-true, true≢false, IsTrue, List, Option, Some, None, IsSome, IfSome, is_some, Ok, codes, refl, sym, subst, arith}
+use Rattle.std.proofs.Common.{◌≡◌, inl, inr, ℕ, ◌<◌, ◌%◌, ◌^◌, ◌==◌, Bool, true, false, not, ◌&&◌, cond, nat_le, leb-true, eqb-true, true≢false, IsTrue, List, Option, Some, None, IsSome, IfSome, is_some, Ok, codes, refl, sym, arith}
 use Rattle.std.proofs.lemmas.Bool.{and_parts, or_cases}
 use Rattle.of10_model.specs.declared.pattern.Prefix.{Prefix}
 use Rattle.of10_model.specs.declared.pattern.Pattern.{Pattern}
@@ -12,8 +12,8 @@ use Rattle.flowspace.proofs.Owning.{IsInPort-is_in_port}
 use Rattle.policy_text.specs.declared.values.Numbers.TheVariants.{UpTo, InPort, Vlan, Service}
 use Rattle.policy_text.specs.declared.values.Numerals.TheVariants.{Hardware}
 use Rattle.policy_text.specs.Reading.{SectionView, optional, is_number, number, numeral, addresses}
-use Rattle.policy_text.specs.Rules.{LinkView, link_in, joined, pattern_in, first_improper}
-use Rattle.of10_model.proofs.Results.{bind_ok, ok_is}
+use Rattle.policy_text.specs.Rules.{pattern_in, first_improper}
+use Rattle.policy_text.proofs.RuleParts.{pattern_read}
 use Rattle.policy_text.proofs.Steps.{optional_holds, number_is}
 use Rattle.policy_text.proofs.AddressRanges.{hardware_below, addresses_range}
 
@@ -62,33 +62,6 @@ hardware_read this key o e = below (2 ^ 48) o (optional_holds (λ n. n < 2 ^ 48)
 prefix_read : (this : SectionView) (key : List ℕ) (o : Option Prefix) → optional addresses this key ≡ Ok o → IsPrefix o
 prefix_read this key o e = prefixes o (optional_holds (λ p. IsPrefix (Some p)) addresses addresses_range this key o e)
 
-record IsLink (l : LinkView) : Type 0 where
-  pub in_port : IfSome l.in_port IsInPort
-  pub dl_src : IsBelow (2 ^ 48) l.dl_src
-  pub dl_dst : IsBelow (2 ^ 48) l.dl_dst
-  pub dl_vlan : IfSome l.dl_vlan IsVlan
-  pub dl_vlan_pcp : IsBelow 8 l.dl_vlan_pcp
-  pub dl_type : IsBelow (2 ^ 16) l.dl_type
-
-link_sound : (this : SectionView) (l : LinkView) → link_in this ≡ Ok l → IsLink l
-unfolding link_in
-link_sound this l e =
-    let a = bind_ok (optional (number InPort) this (codes "in_port")) _ l e in
-    let b = bind_ok (optional (numeral Hardware) this (codes "dl_src")) _ l a.2 in
-    let c = bind_ok (optional (numeral Hardware) this (codes "dl_dst")) _ l b.2 in
-    let d = bind_ok (optional (number Vlan) this (codes "dl_vlan")) _ l c.2 in
-    let f = bind_ok (optional (number (UpTo 7)) this (codes "dl_vlan_pcp")) _ l d.2 in
-    let g = bind_ok (optional (number (UpTo 0xffff)) this (codes "dl_type")) _ l f.2 in
-    let made : LinkView = record { in_port = a.0; dl_src = b.0; dl_dst = c.0; dl_vlan = d.0; dl_vlan_pcp = f.0; dl_type = g.0 } in
-    subst IsLink (ok_is made l g.2) (record {
-      in_port = optional_holds IsInPort (number InPort) (λ x n r. IsInPort-is_in_port n (number_is InPort x n r)) this (codes "in_port") a.0 a.1;
-      dl_src = hardware_read this (codes "dl_src") b.0 b.1;
-      dl_dst = hardware_read this (codes "dl_dst") c.0 c.1;
-      dl_vlan = optional_holds IsVlan (number Vlan) (λ x n r. vlan_is n (number_is Vlan x n r)) this (codes "dl_vlan") d.0 d.1;
-      dl_vlan_pcp = number_below 7 8 (omega arith) this (codes "dl_vlan_pcp") f.0 f.1;
-      dl_type = number_below 0xffff (2 ^ 16) (omega arith) this (codes "dl_type") g.0 g.1;
-    })
-
 -- a match in range, whose port and VLAN a rule may have
 pub record IsWritten (m : Pattern) : Type 0 where
   pub range : IsInRange m
@@ -96,35 +69,28 @@ pub record IsWritten (m : Pattern) : Type 0 where
   pub dl_vlan : IfSome m.dl_vlan IsVlan
 
 pub pattern_sound : (this : SectionView) (m : Pattern) → pattern_in this ≡ Ok m → IsWritten m
-unfolding pattern_in
 pattern_sound this m e =
-    let link = bind_ok (link_in this) _ m e in
-    let a = bind_ok (optional (number Service) this (codes "nw_tos")) _ m link.2 in
-    let b = bind_ok (optional (number (UpTo 255)) this (codes "nw_proto")) _ m a.2 in
-    let c = bind_ok (optional addresses this (codes "nw_src")) _ m b.2 in
-    let d = bind_ok (optional addresses this (codes "nw_dst")) _ m c.2 in
-    let f = bind_ok (optional (number (UpTo 0xffff)) this (codes "tp_src")) _ m d.2 in
-    let g = bind_ok (optional (number (UpTo 0xffff)) this (codes "tp_dst")) _ m f.2 in
-    let made : Pattern = joined link.0 a.0 b.0 c.0 d.0 f.0 g.0 in
-    let sound = link_sound this link.0 link.1 in
-    subst IsWritten (ok_is made m g.2) (record {
+    let read = pattern_read this m e in
+    let in_port = optional_holds IsInPort (number InPort) (λ x n r. IsInPort-is_in_port n (number_is InPort x n r)) this (codes "in_port") m.in_port read.in_port in
+    let dl_vlan = optional_holds IsVlan (number Vlan) (λ x n r. vlan_is n (number_is Vlan x n r)) this (codes "dl_vlan") m.dl_vlan read.dl_vlan in
+    record {
       range = record {
-        in_port = in_ports link.0.in_port sound.in_port;
-        dl_src = sound.dl_src;
-        dl_dst = sound.dl_dst;
-        dl_vlan = vlans link.0.dl_vlan sound.dl_vlan;
-        dl_vlan_pcp = sound.dl_vlan_pcp;
-        dl_type = sound.dl_type;
-        nw_tos = services a.0 (optional_holds (λ n. IsService (Some n)) (number Service) (λ x n r. service_is n (number_is Service x n r)) this (codes "nw_tos") a.0 a.1);
-        nw_proto = number_below 255 256 (omega arith) this (codes "nw_proto") b.0 b.1;
-        nw_src = prefix_read this (codes "nw_src") c.0 c.1;
-        nw_dst = prefix_read this (codes "nw_dst") d.0 d.1;
-        tp_src = number_below 0xffff (2 ^ 16) (omega arith) this (codes "tp_src") f.0 f.1;
-        tp_dst = number_below 0xffff (2 ^ 16) (omega arith) this (codes "tp_dst") g.0 g.1;
+        in_port = in_ports m.in_port in_port;
+        dl_src = hardware_read this (codes "dl_src") m.dl_src read.dl_src;
+        dl_dst = hardware_read this (codes "dl_dst") m.dl_dst read.dl_dst;
+        dl_vlan = vlans m.dl_vlan dl_vlan;
+        dl_vlan_pcp = number_below 7 8 (omega arith) this (codes "dl_vlan_pcp") m.dl_vlan_pcp read.dl_vlan_pcp;
+        dl_type = number_below 0xffff (2 ^ 16) (omega arith) this (codes "dl_type") m.dl_type read.dl_type;
+        nw_tos = services m.nw_tos (optional_holds (λ n. IsService (Some n)) (number Service) (λ x n r. service_is n (number_is Service x n r)) this (codes "nw_tos") m.nw_tos read.nw_tos);
+        nw_proto = number_below 255 256 (omega arith) this (codes "nw_proto") m.nw_proto read.nw_proto;
+        nw_src = prefix_read this (codes "nw_src") m.nw_src read.nw_src;
+        nw_dst = prefix_read this (codes "nw_dst") m.nw_dst read.nw_dst;
+        tp_src = number_below 0xffff (2 ^ 16) (omega arith) this (codes "tp_src") m.tp_src read.tp_src;
+        tp_dst = number_below 0xffff (2 ^ 16) (omega arith) this (codes "tp_dst") m.tp_dst read.tp_dst;
       };
-      in_port = sound.in_port;
-      dl_vlan = sound.dl_vlan;
-    })
+      in_port = in_port;
+      dl_vlan = dl_vlan;
+    }
 
 -- ---- fields that mean something
 

@@ -109,10 +109,10 @@ HasBadValue part members key = (d : Data) × (get_member key members ≡ Some d)
 
 -- a fault of this table: at a key that it needs and lacks, a known one whose value is bad, or the least unknown one; or, of a rule, by its number, with a field or names that are there
 abbrev pub StandsIn : Part → ℕ → Members → ReadFault → Type 0
-StandsIn part index members NotToml = ⊥
+StandsIn part index _ NotToml = ⊥
 StandsIn part index members (Missing at) = (at.part ≡ part) × (at.index ≡ index) × (is_needed part at.key ≡ true) × (IsKey members at.key → ⊥)
 StandsIn part index members (BadValue at) = (at.part ≡ part) × (at.index ≡ index) × (is_known part at.key ≡ true) × HasBadValue part members at.key
 StandsIn part index members (UnknownKey at) = (at.part ≡ part) × (at.index ≡ index) × IsLeastUnknown part members at.key
 StandsIn part index members (Improper rule field) = (part ≡ Rule) × (rule ≡ index) × IsKey members (field_key field)
 StandsIn part index members (Refused fault) = (part ≡ Rule) × (fault ≡ UnknownSlice index) × (IsKey members (codes "write") ⊎ IsKey members (codes "read"))
-StandsIn part index members Memory = ⊥
+StandsIn part index _ Memory = ⊥
