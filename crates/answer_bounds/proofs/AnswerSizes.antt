@@ -1,9 +1,9 @@
 -- What is answered to an item is at most one message, and no more is put for the switch. A new kind of answer is a case more of `answer_size`.
-use Rattle.std.proofs.Common.{ℕ, ◌+◌, ◌-◌, ◌^◌, ◌%◌, ◌==◌, ◌≤◌, Bool, true, false, if◌then◌else◌, List, [], ◌∷◌, map, length, take, drop, arith}
+use Rattle.std.proofs.Common.{ℕ, ◌+◌, ◌-◌, ◌^◌, ◌%◌, ◌==◌, ◌≤◌, Bool, true, false, if◌then◌else◌, List, [], ◌∷◌, map, length, take, arith}
 use Rattle.std.specs.List.{All}
 use Rattle.std.proofs.lemmas.List.{map-append, length-take}
-use Rattle.of10_ctl.specs.declared.kind.TheConstants.{HELLO, ECHO_REPLY}
-use Rattle.of10_ctl.specs.Frames.{message_of, error_of}
+use Rattle.of10_ctl.specs.declared.kind.TheConstants.{HELLO}
+use Rattle.of10_ctl.specs.Frames.{message_of, error_of, echo_reply_to}
 use Rattle.of10_flow.specs.declared.protocol.TheConstants.{NO_BUFFER}
 use Rattle.of10_port.specs.Ports.{IsPort}
 use Rattle.of10_port.specs.Features.{spell_features}
@@ -56,7 +56,7 @@ message_size s view past moment message short ports = message_holds (λ (ends : 
   old = small_dismissal (error_of (xid_of message) no_common_version.0 no_common_version.1 []) (short-error (xid_of message) no_common_version.0 no_common_version.1 []);
   nothing = small_silence;
   refuses = λ fault. small_refused fault message;
-  echoes = small_told (message_of ECHO_REPLY (xid_of message) (drop 8 message)) (short-echo (xid_of message) message short);
+  echoes = small_told (echo_reply_to message) (short-echo message short);
   tells_features = λ features. small_told (spell_features (features_with features (known_ports view)) (xid_of message)) (short-features (features_with features (known_ports view)) (xid_of message) ports.whole ports.few);
   tells_configuration = small_told (config_reply (miss_send_len view) message) (short-config (xid_of message) (miss_send_len view));
 })

@@ -1,12 +1,11 @@
 -- What the switch is sent at one event is at most three messages.
-use Rattle.std.proofs.Common.{ℕ, List, [], ◌∷◌, ◌++◌, drop, Option, Some, None, arith}
+use Rattle.std.proofs.Common.{ℕ, List, [], ◌∷◌, ◌++◌, Option, Some, None, arith}
 use Rattle.byteorder.specs.Endian.{big_bytes}
 use Rattle.of10_model.specs.Spelling.{Spell}
-use Rattle.of10_ctl.specs.declared.kind.TheConstants.{HELLO, ECHO_REQUEST, ECHO_REPLY, FEATURES_REQUEST, SET_CONFIG, BARRIER_REQUEST}
-use Rattle.of10_ctl.specs.Frames.{message_of}
+use Rattle.of10_ctl.specs.declared.kind.TheConstants.{HELLO, ECHO_REQUEST, FEATURES_REQUEST, SET_CONFIG, BARRIER_REQUEST}
+use Rattle.of10_ctl.specs.Frames.{message_of, echo_reply_to}
 use Rattle.of10_flow.specs.FlowMods.{spell_flow_mod}
 use Rattle.of10_port.specs.declared.features.Features.{Features}
-use Rattle.slice_words.specs.Messages.{xid_of}
 use Rattle.slice_words.proofs.AnswerKinds.{either}
 use Rattle.desk_words.specs.declared.event.Event.{Event}
 use Rattle.desk_words.specs.declared.event.Event.TheVariants.{SwitchUp, SwitchMsg, SwitchDown, SliceUp, SliceMsg, SliceDown}
@@ -40,9 +39,9 @@ few_preparation =
 
 few_echo : (message : List ℕ) → IsShort message → AreFew 3 (echo_for message)
 few_echo message short =
-    let reply = message_of ECHO_REPLY (xid_of message) (drop 8 message) in
+    let reply = echo_reply_to message in
     either (AreFew 3) (is_of ECHO_REQUEST message) (reply ∷ []) []
-    (few-more 1 3 (reply ∷ []) (omega arith) (few-one reply (short-echo (xid_of message) message short))) (few-none 3)
+    (few-more 1 3 (reply ∷ []) (omega arith) (few-one reply (short-echo message short))) (few-none 3)
 
 few_begun : (message : List ℕ) (told : Option Features) → IsShort message → AreFew 3 (elim told [ None ↦ echo_for message | Some features ↦ preparation ])
 few_begun message None short = few_echo message short

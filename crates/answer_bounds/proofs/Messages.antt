@@ -5,8 +5,9 @@ use Rattle.std.proofs.lemmas.List.{length-append, length-take, length-drop}
 use Rattle.std.proofs.lemmas.List.Elements.{All-nil, All-cons, All-head, All-tail, All-append}
 use Rattle.std.proofs.lemmas.List.Sums.{sum_by-cons}
 use Rattle.byteorder.specs.Endian.{big_bytes}
+use Rattle.of10_model.specs.Normal.{number_at}
 use Rattle.of10_ctl.specs.declared.kind.TheConstants.{ECHO_REPLY, GET_CONFIG_REPLY}
-use Rattle.of10_ctl.specs.Frames.{message_of, error_of}
+use Rattle.of10_ctl.specs.Frames.{message_of, error_of, echo_reply_to}
 use Rattle.of10_ctl.proofs.Reading.{length-message}
 use Rattle.of10_flow.specs.declared.packet_in.PacketIn.{PacketIn}
 use Rattle.of10_flow.specs.PacketIns.{spell_packet_in}
@@ -62,10 +63,10 @@ pub short-message : (kind xid : ℕ) (body : List ℕ) → length body ≤ 65527
 short-message kind xid body small = omega (arith, length-message kind xid body)
 
 -- an echo's reply is as long as the request
-pub short-echo : (xid : ℕ) (message : List ℕ) → IsShort message → IsShort (message_of ECHO_REPLY xid (drop 8 message))
-short-echo xid message short =
+pub short-echo : (message : List ℕ) → IsShort message → IsShort (echo_reply_to message)
+short-echo message short =
     let rest = length-drop 8 message in
-    short-message ECHO_REPLY xid (drop 8 message) (omega arith)
+    short-message ECHO_REPLY (number_at message 4 4) (drop 8 message) (omega arith)
 
 pub short-config : (xid wanted : ℕ) → IsShort (message_of GET_CONFIG_REPLY xid (big_bytes 2 0 ++ big_bytes 2 wanted))
 short-config xid wanted = short-message GET_CONFIG_REPLY xid (big_bytes 2 0 ++ big_bytes 2 wanted) (omega arith)

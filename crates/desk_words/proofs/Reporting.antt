@@ -107,7 +107,7 @@ report_shown policy number before (r ∷ later) =
     ∙ ap₂ (λ (a b : List ℕ). a ++ b) both (ap last_line last)
     ∙ ap (λ (events : List Happened). shown policy number events ++ last_line (number + length events)) (sym (next_happened policy before r later))
 
-from_zero : (n : ℕ) → 0 + n ≡ n
+pub from_zero : (n : ℕ) → 0 + n ≡ n
 from_zero n = omega arith
 
 pub from_none : (policy : PolicyView) (records : List Told) → happened_after policy [] records ≡ all_happened policy records
@@ -129,10 +129,10 @@ each_event_once policy records =
 
 -- ---- the lines for the slices
 
-at_once : (n : ℕ) → n ≡ n + 0
+pub at_once : (n : ℕ) → n ≡ n + 0
 at_once n = omega arith
 
-one_further : (n k : ℕ) → n + 1 + k ≡ n + suc k
+pub one_further : (n k : ℕ) → n + 1 + k ≡ n + suc k
 one_further n k = omega arith
 
 -- the slices from a slot on, where the slices of the policy have these there

@@ -1,14 +1,13 @@
 -- What a desk sends at an event: to the slices the answers to what they see, and to the switch, in its lane, messages of the proxy's own or of a slice (this proxy's own rule).
-use Rattle.std.specs.Prelude.{ℕ, if◌then◌else◌, List, [], ◌∷◌, ◌++◌, map, drop, Some, None}
+use Rattle.std.specs.Prelude.{ℕ, if◌then◌else◌, List, [], ◌∷◌, ◌++◌, map, Some, None}
 use Rattle.byteorder.specs.Endian.{big_bytes}
 use Rattle.of10_model.specs.Exact.{all_free}
-use Rattle.of10_ctl.specs.declared.kind.TheConstants.{HELLO, ECHO_REQUEST, ECHO_REPLY, FEATURES_REQUEST, SET_CONFIG, BARRIER_REQUEST}
-use Rattle.of10_ctl.specs.Frames.{message_of}
+use Rattle.of10_ctl.specs.declared.kind.TheConstants.{HELLO, ECHO_REQUEST, FEATURES_REQUEST, SET_CONFIG, BARRIER_REQUEST}
+use Rattle.of10_ctl.specs.Frames.{message_of, echo_reply_to}
 use Rattle.of10_flow.specs.declared.protocol.TheConstants.{NO_BUFFER, DELETE}
 use Rattle.of10_flow.specs.FlowMods.{spell_flow_mod}
 use Rattle.of10_port.specs.declared.protocol.TheConstants.{NONE}
 use Rattle.flowspace.specs.Policies.{PolicyView}
-use Rattle.slice_words.specs.Messages.{xid_of}
 use Rattle.slice_words.specs.Alone.{rendered, sent_for, put_for}
 use Rattle.desk_words.specs.declared.event.Event.{Event}
 use Rattle.desk_words.specs.declared.event.Event.TheVariants.{SwitchUp, SwitchMsg, SliceMsg}
@@ -66,7 +65,7 @@ preparation = whole_packets ∷ clearing ∷ message_of BARRIER_REQUEST 0xff0000
 
 -- a switch that asks whether this proxy is there is answered (section 5.5)
 abbrev pub echo_for : List ℕ → List (List ℕ)
-echo_for message = if is_of ECHO_REQUEST message then message_of ECHO_REPLY (xid_of message) (drop 8 message) ∷ [] else []
+echo_for message = if is_of ECHO_REQUEST message then echo_reply_to message ∷ [] else []
 
 -- what a switch is sent for a message that came before it told what it is
 abbrev pub begun_lane : List ℕ → List (List ℕ)

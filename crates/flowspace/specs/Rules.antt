@@ -1,5 +1,5 @@
 -- Rules: where they hold, which values they may have, and when two of them have a header in common. This is the proxy's own rule; the numbers of ports and VLANs are the standard's.
-use Rattle.std.specs.Prelude.{ℕ, ◌≡◌, ◌≤◌, ◌⊎◌, ◌==◌, ◌&&◌, nat_lt, not, Bool, true, false, IsTrue, IsSome, IfSome, Option, Some, None}
+use Rattle.std.specs.Prelude.{ℕ, ◌≡◌, ◌≤◌, ◌⊎◌, ◌==◌, ◌&&◌, ◌||◌, leb, nat_lt, not, Bool, true, false, IsTrue, IsSome, IfSome, Option, Some, None}
 use Rattle.of10_model.specs.Header.{Header, IsHeader}
 use Rattle.of10_model.specs.Pattern.{Has}
 use Rattle.of10_model.specs.Normal.{is_value, bit, has_vlan, has_network, has_service, has_ports}
@@ -26,6 +26,10 @@ IsInPort port = (port ≤ 0xff00) ⊎ (port ≡ 0xfffe)
 -- a VLAN number of 12 bits, or the mark of an untagged packet (OpenFlow 1.0.0, section 5.2.3)
 abbrev pub IsVlan : ℕ → Type 0
 IsVlan vlan = (vlan ≤ 4095) ⊎ (vlan ≡ 0xffff)
+
+-- the same as a test
+abbrev pub is_vlan : ℕ → Bool
+is_vlan vlan = leb vlan 4095 || vlan == 0xffff
 
 -- a rule is plain where its in_port and dl_vlan are such, and its match constrains a field only where that field means something
 pub record IsPlainRule (r : Rule) : Type 0 where

@@ -1,11 +1,11 @@
 ghost use Rattle.std.specs.Prelude.{◌≡◌, IfSome, IsSome, IsTrue};
 ghost use Rattle.of10_model.specs.Normal.{bit, has_network, has_ports, has_service, has_vlan};
-ghost use Rattle.flowspace.specs.Rules.{holds, is_written_by, IsInPort, IsVlan, IsPlainRule};
+ghost use Rattle.flowspace.specs.Rules.{holds, is_written_by, IsInPort, IsVlan, is_vlan, IsPlainRule};
 
 use crate::owners::is_in_port;
 use of10_match::{Match, has_network, has_ports, has_service, has_vlan};
 use of10_model::Pattern;
-use of10_model::protocol::UNTAGGED;
+use of10_model::protocol::{LAST_VLAN, UNTAGGED};
 
 /// Who may write the headers of a match, and who is shown their packets.
 #[derive(Clone, Copy, Debug, PartialEq, Eq)]
@@ -21,17 +21,20 @@ pub struct Rule {
     pub readers: u32,
 }
 
-/// The greatest number of a VLAN, which has 12 bits.
-const LAST_VLAN: u16 = 4095;
+/// Whether packets can have the VLAN: a number of 12 bits, or the mark of packets without a tag (OpenFlow
+/// 1.0.0, section 5.2.3).
+pub fn is_vlan(vlan: u16) -> bool
+    ensures { result ≡ is_vlan vlan }
+{
+    vlan <= LAST_VLAN || vlan == UNTAGGED
+}
 
 /// Whether the port of entry and the VLAN, where they are given, are such that packets have them.
 fn has_link(m: &Pattern) -> bool
     ensures plain { IsTrue result → IfSome m.now.in_port IsInPort × IfSome m.now.dl_vlan IsVlan }
     ensures only { IfSome m.now.in_port IsInPort → IfSome m.now.dl_vlan IsVlan → IsTrue result }
 {
-    m.in_port.is_none_or(|port| is_in_port(port))
-        && m.dl_vlan
-            .is_none_or(|vlan| vlan <= LAST_VLAN || vlan == UNTAGGED)
+    m.in_port.is_none_or(|port| is_in_port(port)) && m.dl_vlan.is_none_or(|vlan| is_vlan(vlan))
 }
 
 /// Whether a VLAN priority is given only with a VLAN, and a type of service only for IPv4.

@@ -18,6 +18,7 @@ use Rattle.desk_words.specs.Recorded.{timed_at, happens, next_of, next_after, ha
 use Rattle.desk_words.specs.Reports as report
 use Rattle.desk_words.specs.Reports.{event_lines, lines_of}
 use Rattle.proxy_core.specs.declared.parts.Desk.{Desk}
+use Rattle.desk_words.proofs.Reporting.{at_once, one_further}
 use Rattle.fv_report.specs.declared.line.Place.{Place}
 use Rattle.fv_report.specs.Lines.{place_of}
 use Rattle.fv_report.specs.Writing.{WrotePart}
@@ -77,9 +78,6 @@ played_one p timed h place (Ok later) before after desk is written quiet framed 
 played_one p timed h place (Err fault) before after desk is written quiet framed one number switch =
     failed_one p timed h place (Err fault) before after desk is refl (part_of_all (event_lines p (place_of place) h timed) before after written)
 
-no_more : (n : ℕ) → n ≡ n + 0
-no_more n = omega arith
-
 -- ---- events one after another
 
 -- the first and the others
@@ -92,16 +90,13 @@ next_after_both : (h first second : List Timed) → next_after h (first ++ secon
 next_after_both h [] second = refl
 next_after_both h (timed ∷ first) second = next_after_both (next_of h timed) first second
 
-further : (n : ℕ) (k : ℕ) → n + 1 + k ≡ n + suc k
-further n k = omega arith
-
 lines_both : (p : PolicyView) (number switch : ℕ) (h first second : List Timed)
     → lines_of p (record { number = number; switch = switch }) h (first ++ second) ≡ lines_of p (record { number = number; switch = switch }) h first ++ lines_of p (record { number = number + length first; switch = switch }) (next_after h first) second
-lines_both p number switch h [] second = ap (λ (n : ℕ). lines_of p (record { number = n; switch = switch }) h second) (no_more number)
+lines_both p number switch h [] second = ap (λ (n : ℕ). lines_of p (record { number = n; switch = switch }) h second) (at_once number)
 lines_both p number switch h (timed ∷ first) second =
     let place : report.Place = record { number = number; switch = switch } in
     ap (λ text. event_lines p place h timed ++ text) (lines_both p (number + 1) switch (next_of h timed) first second)
-    ∙ ap (λ (n : ℕ). event_lines p place h timed ++ (lines_of p (record { number = number + 1; switch = switch }) (next_of h timed) first ++ lines_of p (record { number = n; switch = switch }) (next_after (next_of h timed) first) second)) (further number (length first))
+    ∙ ap (λ (n : ℕ). event_lines p place h timed ++ (lines_of p (record { number = number + 1; switch = switch }) (next_of h timed) first ++ lines_of p (record { number = n; switch = switch }) (next_after (next_of h timed) first) second)) (one_further number (length first))
     ∙ sym (append_assoc (event_lines p place h timed) (lines_of p (record { number = number + 1; switch = switch }) (next_of h timed) first) (lines_of p (record { number = number + suc (length first); switch = switch }) (next_after (next_of h timed) first) second))
 
 -- ---- the frames of a connection
@@ -218,7 +213,7 @@ hearing_all p moment from first_place place first all fed before now desk framer
       plays = record {
         writes = s.written ∙ ap (appended before) (sym (append-nil s.done) ∙ ap (λ (e : List Timed). s.done ++ lines_of p (place_of place) s.h e) (sym empty) ∙ s.lines);
         played = record {
-          number = no_more place.number ∙ ap (λ (e : List Timed). place.number + length e) (sym empty) ∙ s.number;
+          number = at_once place.number ∙ ap (λ (e : List Timed). place.number + length e) (sym empty) ∙ s.number;
           switch = s.switch;
           quiet = subst (λ (e : List Timed). IsQuiet p e desk) (ap (next_after s.h) (sym empty) ∙ s.next) s.quiet;
           framed = subst AreFramed (ap (next_after s.h) (sym empty) ∙ s.next) s.framed;

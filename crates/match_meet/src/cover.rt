@@ -5,7 +5,7 @@ ghost use Rattle.of10_model.specs.Header.{Header, IsHeader};
 ghost use Rattle.of10_model.specs.Pattern.{Has};
 ghost use Rattle.of10_model.specs.Normal.{is_value, IsInRange};
 ghost use Rattle.of10_action.specs.Actions.{HasAddress};
-ghost use Rattle.match_meet.specs.Rewriting.{rewritten, cover_of, names_tcp_or_udp, whole};
+ghost use Rattle.match_meet.specs.Rewriting.{rewritten, cover_of, names_tcp_or_udp};
 
 use crate::rewriting::{service_bits, vlan_number, vlan_priority};
 use of10_action::Action;
@@ -43,15 +43,6 @@ fn where_tcp_or_udp(m: &Pattern, changed: Pattern) -> Pattern
     ensures { result ≡ (if names_tcp_or_udp m.now then changed else m.now) }
 {
     if names_tcp_or_udp(m) { changed } else { *m }
-}
-
-fn whole(address: u32) -> Option<Prefix>
-    ensures { result ≡ whole address }
-{
-    Some(Prefix {
-        bits: 32,
-        value: address,
-    })
 }
 
 /// The priority behind a VLAN that is set: 0 where packets had no tag before.
@@ -93,14 +84,14 @@ fn without_vlan(m: &Pattern) -> Pattern
 fn from_address(m: &Pattern, address: u32) -> Pattern
     ensures { result ≡ cover_of m.now (Action.SetNwSrc address) }
 {
-    let nw_src = whole(address);
+    let nw_src = Some(Prefix::whole(address));
     where_ipv4(m, Pattern { nw_src, ..*m })
 }
 
 fn to_address(m: &Pattern, address: u32) -> Pattern
     ensures { result ≡ cover_of m.now (Action.SetNwDst address) }
 {
-    let nw_dst = whole(address);
+    let nw_dst = Some(Prefix::whole(address));
     where_ipv4(m, Pattern { nw_dst, ..*m })
 }
 

@@ -12,7 +12,7 @@ mod messages;
 pub use frame::{Frame, is_frame};
 pub use framer::{Framer, Next};
 pub use head::Head;
-pub use messages::{begin, error_frame, message};
+pub use messages::{begin, echo_reply, error_frame, message};
 
 #[cfg(test)]
 mod tests;

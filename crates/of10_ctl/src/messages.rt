@@ -1,11 +1,11 @@
 ghost use Rattle.std.specs.Prelude.{◌≡◌, ◌+◌, ◌≤◌, IfOk, length, take, vec_capacity};
-ghost use Rattle.of10_ctl.specs.declared.kind.TheConstants.{ERROR};
+ghost use Rattle.of10_ctl.specs.declared.kind.TheConstants.{ERROR, ECHO_REPLY};
 ghost use Rattle.of10_ctl.specs.Heads.{head_bytes};
-ghost use Rattle.of10_ctl.specs.Frames.{message_of, error_of};
+ghost use Rattle.of10_ctl.specs.Frames.{message_of, error_of, echo_reply_to};
 ghost use Rattle.of10_ctl.specs.Kinds.{IsOf};
 
 use crate::frame::{Frame, HEADER};
-use crate::kind::ERROR;
+use crate::kind::{ECHO_REPLY, ERROR};
 use of10_model::wire::{put_u16, put_u32};
 use std::alloc::{AllocError, Global};
 
@@ -35,6 +35,14 @@ pub fn message(alloc: Global, kind: u8, xid: u32, body: &[u8]) -> Result<Frame, 
     let mut bytes = begin(alloc, kind, xid, body.len())?;
     bytes.extend_from_slice(body)?;
     Ok(Frame::of(bytes))
+}
+
+/// The reply to an ECHO_REQUEST, with its transaction and its body (OpenFlow 1.0.0, section 5.5).
+pub fn echo_reply(alloc: Global, request: &Frame) -> Result<Frame, AllocError>
+    ensures value { IfOk result (λ f. f ≡ echo_reply_to request.now) }
+    ensures kind { IfOk result (λ f. IsOf ECHO_REPLY f) }
+{
+    message(alloc, ECHO_REPLY, request.head().xid, request.body())
 }
 
 /// What an error message carries of the message at fault.

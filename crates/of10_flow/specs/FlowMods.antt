@@ -10,6 +10,7 @@ use Rattle.of10_action.specs.declared.fault.WireFault.TheVariants.{Length}
 use Rattle.of10_action.specs.Actions.{IsAction, spelling}
 use Rattle.of10_model.specs.Results.{◌>>=◌}
 use Rattle.of10_action.specs.Reading.{read_all}
+use Rattle.of10_ctl.specs.declared.kind.TheConstants.{FLOW_MOD}
 use Rattle.of10_ctl.specs.Frames.{message_of}
 use Rattle.of10_flow.specs.declared.flow_mod.FlowMod.{FlowMod}
 use Rattle.of10_flow.specs.declared.flow_mod.FlowModView.{FlowModView}
@@ -49,7 +50,7 @@ pub record IsFlowMod (m : FlowMod) : Type 0 where
 -- the bytes of a flow-mod: the match, eight numbers and the actions (section 5.3.3)
 unfoldable pub spell_flow_mod : FlowMod → List ℕ
 spell_flow_mod m =
-    message_of 14 m.xid (Spell m.pattern ++ big_bytes 8 m.cookie ++ big_bytes 2 m.command ++ big_bytes 2 m.idle ++ big_bytes 2 m.hard
+    message_of FLOW_MOD m.xid (Spell m.pattern ++ big_bytes 8 m.cookie ++ big_bytes 2 m.command ++ big_bytes 2 m.idle ++ big_bytes 2 m.hard
     ++ big_bytes 2 m.priority ++ big_bytes 4 m.buffer ++ big_bytes 2 m.out_port ++ big_bytes 2 m.flags ++ spelling m.actions)
 
 -- the fields of a flow-mod at their places, the match in normal form, with these actions (section 5.3.3)

@@ -6,6 +6,7 @@ use Rattle.of10_model.specs.Spelling.{Spell}
 use Rattle.of10_action.specs.declared.fault.WireFault.{WireFault}
 use Rattle.of10_action.specs.declared.fault.WireFault.TheVariants.{Length}
 use Rattle.of10_action.specs.Actions.{padding}
+use Rattle.of10_ctl.specs.declared.kind.TheConstants.{FLOW_REMOVED}
 use Rattle.of10_ctl.specs.Frames.{message_of}
 use Rattle.of10_flow.specs.declared.flow_removed.FlowRemoved.{FlowRemoved}
 
@@ -25,7 +26,7 @@ pub record IsFlowRemoved (m : FlowRemoved) : Type 0 where
 -- the 88 bytes of a flow-removed message: the match and eight numbers, padding zero (section 5.4.2)
 unfoldable pub spell_flow_removed : FlowRemoved → List ℕ
 spell_flow_removed m =
-    message_of 11 m.xid (Spell m.pattern ++ big_bytes 8 m.cookie ++ big_bytes 2 m.priority ++ big_bytes 1 m.reason ++ padding 1
+    message_of FLOW_REMOVED m.xid (Spell m.pattern ++ big_bytes 8 m.cookie ++ big_bytes 2 m.priority ++ big_bytes 1 m.reason ++ padding 1
     ++ big_bytes 4 m.seconds ++ big_bytes 4 m.nanos ++ big_bytes 2 m.idle ++ padding 2 ++ big_bytes 8 m.packets ++ big_bytes 8 m.bytes)
 
 -- what the bytes of a flow-removed message say, its match in normal form and padding disregarded; it has 88 bytes and no other length (section 5.4.2)

@@ -5,6 +5,7 @@ use Rattle.of10_model.specs.Normal.{number_at}
 use Rattle.of10_action.specs.declared.fault.WireFault.{WireFault}
 use Rattle.of10_action.specs.declared.fault.WireFault.TheVariants.{Length}
 use Rattle.of10_action.specs.Actions.{padding}
+use Rattle.of10_ctl.specs.declared.kind.TheConstants.{PACKET_IN}
 use Rattle.of10_ctl.specs.Frames.{message_of}
 use Rattle.of10_flow.specs.declared.packet_in.PacketIn.{PacketIn}
 use Rattle.of10_flow.specs.declared.packet_in.PacketInView.{PacketInView}
@@ -25,7 +26,7 @@ pub record IsPacketIn (m : PacketIn) : Type 0 where
 -- the bytes of a packet-in: four numbers, a byte of padding and the packet's bytes (section 5.4.1)
 unfoldable pub spell_packet_in : PacketIn → List ℕ
 spell_packet_in m =
-    message_of 10 m.xid (big_bytes 4 m.buffer ++ big_bytes 2 m.total_len ++ big_bytes 2 m.in_port ++ big_bytes 1 m.reason ++ padding 1 ++ m.payload)
+    message_of PACKET_IN m.xid (big_bytes 4 m.buffer ++ big_bytes 2 m.total_len ++ big_bytes 2 m.in_port ++ big_bytes 1 m.reason ++ padding 1 ++ m.payload)
 
 -- what the bytes of a packet-in say, padding disregarded; one shorter than its fields has no such length (section 5.4.1)
 unfoldable pub read_packet_in : List ℕ → Result PacketIn WireFault

@@ -8,6 +8,7 @@ use Rattle.of10_action.specs.declared.fault.WireFault.TheVariants.{Length}
 use Rattle.of10_action.specs.Actions.{IsAction, spelling}
 use Rattle.of10_model.specs.Results.{◌>>=◌}
 use Rattle.of10_action.specs.Reading.{action_at, read_all}
+use Rattle.of10_ctl.specs.declared.kind.TheConstants.{PACKET_OUT}
 use Rattle.of10_ctl.specs.Frames.{message_of}
 use Rattle.of10_flow.specs.declared.packet_out.PacketOut.{PacketOut}
 
@@ -22,7 +23,7 @@ pub record IsPacketOut (m : PacketOut) : Type 0 where
 -- the bytes of a packet-out: buffer, port, the length of the actions, the actions and the packet (section 5.3.6)
 unfoldable pub spell_packet_out : PacketOut → List ℕ
 spell_packet_out m =
-    message_of 13 m.xid (big_bytes 4 m.buffer ++ big_bytes 2 m.in_port ++ big_bytes 2 (length (spelling m.actions)) ++ spelling m.actions ++ m.payload)
+    message_of PACKET_OUT m.xid (big_bytes 4 m.buffer ++ big_bytes 2 m.in_port ++ big_bytes 2 (length (spelling m.actions)) ++ spelling m.actions ++ m.payload)
 
 -- what the bytes of a packet-out say, or the first fault: shorter than its fields, or than its fields and its actions, then the actions' faults (section 5.3.6)
 unfoldable pub read_packet_out : List ℕ → Result PacketOut WireFault

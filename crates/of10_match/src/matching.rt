@@ -83,15 +83,6 @@ fn holds(m: &Pattern, h: &Header12) -> bool
         && meets_u16(m.tp_dst, h.tp_dst)
 }
 
-fn whole(address: u32) -> Option<Prefix>
-    ensures { result ≡ Some (record { bits = 32; value = address }) }
-{
-    Some(Prefix {
-        bits: 32,
-        value: address,
-    })
-}
-
 /// The constraints that allow this header alone.
 pub fn exact_pattern(h: &Header12) -> Pattern
     ensures value { result ≡ exact_of h.now }
@@ -106,8 +97,8 @@ pub fn exact_pattern(h: &Header12) -> Pattern
         dl_type: Some(h.dl_type),
         nw_tos: Some(h.nw_tos),
         nw_proto: Some(h.nw_proto),
-        nw_src: whole(h.nw_src),
-        nw_dst: whole(h.nw_dst),
+        nw_src: Some(Prefix::whole(h.nw_src)),
+        nw_dst: Some(Prefix::whole(h.nw_dst)),
         tp_src: Some(h.tp_src),
         tp_dst: Some(h.tp_dst),
     }

@@ -10,6 +10,18 @@ pub struct Prefix {
     pub value: u32,
 }
 
+impl Prefix {
+    /// One address alone.
+    pub fn whole(address: u32) -> Prefix
+        ensures { result ≡ record { bits = 32; value = address } }
+    {
+        Prefix {
+            bits: 32,
+            value: address,
+        }
+    }
+}
+
 /// A match as twelve constraints, one for each header field: `None` is any value, `Some` that value
 /// alone, and for a network address the addresses with that prefix (OpenFlow 1.0.0, section 3.1).
 #[derive(Clone, Copy, Debug, PartialEq, Eq)]

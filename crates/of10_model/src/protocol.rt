@@ -4,6 +4,9 @@
 /// The VLAN of a packet without a tag.
 pub const UNTAGGED: u16 = 0xffff;
 
+/// The greatest VLAN, a number of 12 bits.
+pub const LAST_VLAN: u16 = 4095;
+
 /// Ethernet types.
 pub const IPV4: u16 = 0x0800;
 

@@ -6,6 +6,7 @@ use Rattle.of10_model.specs.Normal.{number_at}
 use Rattle.of10_action.specs.Actions.{padding}
 use Rattle.of10_action.specs.declared.fault.WireFault.{WireFault}
 use Rattle.of10_action.specs.declared.fault.WireFault.TheVariants.{Length}
+use Rattle.of10_ctl.specs.declared.kind.TheConstants.{FEATURES_REPLY}
 use Rattle.of10_ctl.specs.Frames.{message_of}
 use Rattle.of10_port.specs.declared.features.Features.{Features}
 use Rattle.of10_port.specs.Ports.{IsPort, port_bytes, ports_in}
@@ -28,7 +29,7 @@ features_front f =
 
 -- the message, padding zero (section 5.3.1)
 unfoldable pub spell_features : Features → ℕ → List ℕ
-spell_features f xid = message_of 6 xid (features_front f ++ port_bytes f.ports)
+spell_features f xid = message_of FEATURES_REPLY xid (features_front f ++ port_bytes f.ports)
 
 -- the message has its front and whole ports (section 5.3.1)
 abbrev pub has_whole_ports : List ℕ → Bool

@@ -3,6 +3,7 @@ use Rattle.std.specs.Prelude.{ℕ, ◌<◌, ◌^◌, ◌==◌, if◌then◌else�
 use Rattle.of10_action.specs.Actions.{padding}
 use Rattle.of10_action.specs.declared.fault.WireFault.{WireFault}
 use Rattle.of10_action.specs.declared.fault.WireFault.TheVariants.{Length}
+use Rattle.of10_ctl.specs.declared.kind.TheConstants.{PORT_STATUS}
 use Rattle.of10_ctl.specs.Frames.{message_of}
 use Rattle.of10_port.specs.declared.status.PortStatus.{PortStatus}
 use Rattle.of10_port.specs.Ports.{IsPort}
@@ -14,7 +15,7 @@ pub record IsPortStatus (s : PortStatus) : Type 0 where
 
 -- the message: the reason, zero padding and the port (section 5.4.3)
 unfoldable pub spell_port_status : PortStatus → ℕ → List ℕ
-spell_port_status s xid = message_of 12 xid ((s.reason ∷ []) ++ padding 7 ++ s.port)
+spell_port_status s xid = message_of PORT_STATUS xid ((s.reason ∷ []) ++ padding 7 ++ s.port)
 
 -- what the message says, padding disregarded, or that it has no such length (section 5.4.3)
 unfoldable pub read_port_status : List ℕ → Result PortStatus WireFault

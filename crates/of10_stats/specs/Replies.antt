@@ -5,6 +5,7 @@ use Rattle.of10_model.specs.Normal.{number_at, match_at}
 use Rattle.of10_action.specs.declared.fault.WireFault.{WireFault}
 use Rattle.of10_action.specs.declared.fault.WireFault.TheVariants.{Length}
 use Rattle.of10_stats.specs.declared.reply.StatsPart.{StatsPart}
+use Rattle.of10_stats.specs.declared.protocol.TheConstants.{PORT, QUEUE}
 
 -- the type of statistics, whether more parts follow, and that the body begins behind the flags (section 5.3.5)
 unfoldable pub part_of : List ℕ → Result StatsPart WireFault
@@ -51,4 +52,4 @@ flow_of entry = (match_at entry 4, number_at entry 72 8, number_at entry 80 8)
 
 -- an entry of a port or of a queue, which begins with the port's number (section 5.3.5)
 abbrev pub IsPortEntry : List ℕ → Type 0
-IsPortEntry entry = IsEntry 4 entry ⊎ IsEntry 5 entry
+IsPortEntry entry = IsEntry PORT entry ⊎ IsEntry QUEUE entry

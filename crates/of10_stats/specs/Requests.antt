@@ -7,6 +7,7 @@ use Rattle.of10_model.specs.Spelling.{Spell}
 use Rattle.of10_action.specs.Actions.{padding}
 use Rattle.of10_action.specs.declared.fault.WireFault.{WireFault}
 use Rattle.of10_action.specs.declared.fault.WireFault.TheVariants.{Length, StatKind, StatVendor}
+use Rattle.of10_ctl.specs.declared.kind.TheConstants.{STATS_REQUEST}
 use Rattle.of10_ctl.specs.Frames.{message_of}
 use Rattle.of10_stats.specs.declared.request.StatsRequest.{StatsRequest}
 use Rattle.of10_stats.specs.declared.request.StatsRequest.TheVariants.{Desc, Flow, Aggregate, Table, Port, Queue}
@@ -46,7 +47,7 @@ request_body (Queue port queue) = big_bytes 2 port ++ padding 2 ++ big_bytes 4 q
 
 -- the message: its type of statistics, no flags, and what it asks (section 5.3.5)
 unfoldable pub spell_request : StatsRequest → ℕ → List ℕ
-spell_request r xid = message_of 16 xid (big_bytes 2 (kind_of r) ++ big_bytes 2 0 ++ request_body r)
+spell_request r xid = message_of STATS_REQUEST xid (big_bytes 2 (kind_of r) ++ big_bytes 2 0 ++ request_body r)
 
 -- ---- reading
 

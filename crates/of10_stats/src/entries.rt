@@ -1,5 +1,6 @@
 ghost use Rattle.std.specs.Prelude.{◌≡◌, ◌≤◌, ◌<◌, ℕ, length, take, IfSome, IfNone};
 ghost use Rattle.of10_model.specs.Normal.{number_at};
+ghost use Rattle.of10_stats.specs.declared.protocol.TheConstants.{FLOW};
 ghost use Rattle.of10_stats.specs.Replies.{IsEntry, IsPortEntry, entry_size_of, flow_length, flow_of, length_of};
 
 use crate::protocol::{AGGREGATE, DESC, FLOW, PORT, QUEUE, TABLE};
@@ -70,7 +71,7 @@ pub fn entry_size(kind: u16, rest: &[u8]) -> Option<usize>
 /// The match of a flow entry, and how many packets and bytes it had (OpenFlow 1.0.0, section 5.3.5).
 #[tactic(auto, using(crate::proofs::Sizes::flow_is_long))]
 pub fn flow_entry(entry: &[u8]) -> (Match, u64, u64)
-    requires { IsEntry 1 entry.now }
+    requires { IsEntry FLOW entry.now }
     ensures { result ≡ flow_of entry.now }
 {
     (

@@ -22,7 +22,7 @@ use Rattle.policy_text.proofs.RuleParts.{PatternRead, pattern_read, rule_read}
 
 -- ---- look-ups
 
-equal_is : (a b : List ℕ) → slice_cmp nat_cmp a b ≡ Equal → a ≡ b
+pub equal_is : (a b : List ℕ) → slice_cmp nat_cmp a b ≡ Equal → a ≡ b
 equal_is a b e = (bytes_eq-Decides a b).0 (sym (is_eq-slice_cmp a b) ∙ ap is_eq e)
 
 there_by : (key other : List ℕ) (o : Ordering) (rest : Members) (d e : Data) → slice_cmp nat_cmp key other ≡ o → get_member key (member other d rest) ≡ Some e → (get_member key rest ≡ Some e → IsKey rest key) → (other ≡ key) ⊎ IsKey rest key

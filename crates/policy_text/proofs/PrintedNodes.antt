@@ -1,5 +1,5 @@
 -- What the printed lines of a table do to the nodes, and what stands under its keys afterwards.
-use Rattle.std.proofs.Common.{◌≡◌, ℕ, Bool, true, false, not, ◌&&◌, cond, List, [], ◌∷◌, ◌++◌, ◌⊎◌, subst, true≢false, map, append_assoc, Option, Some, None, option_map, option_and_then, Ordering, Less, Equal, Greater, nat_cmp, is_eq, refl, sym, ap, ◌∙◌, inl, inr}
+use Rattle.std.proofs.Common.{◌≡◌, ℕ, Bool, true, false, not, ◌&&◌, cond, List, [], ◌∷◌, ◌++◌, ◌⊎◌, subst, true≢false, map, append_assoc, Option, Some, None, option_map, option_and_then, Ordering, Less, Equal, Greater, nat_cmp, refl, sym, ap, ◌∙◌, inl, inr}
 use Rattle.std.specs.Cmp.Lexicographic.{slice_cmp, bytes_decides, texts_ties}
 use Rattle.std.proofs.lemmas.Bool.{cases_Bool, and_parts}
 use Rattle.std.proofs.lemmas.List.{append-nil}
@@ -12,6 +12,7 @@ use Rattle.toml.proofs.ReadLines.{run}
 use Rattle.policy_text.specs.declared.fault.Part.{Part}
 use Rattle.policy_text.specs.Reading.{is_known, unknown_keys}
 use Rattle.policy_text.specs.Printing.{Entry}
+use Rattle.policy_text.proofs.Keys.{equal_is}
 
 -- ---- entries as lines, and as nodes
 
@@ -42,9 +43,6 @@ are_apart (entry ∷ rest) = is_apart entry.0 rest && are_apart rest
 
 -- ---- one insertion
 
-same_text : (a b : List ℕ) → slice_cmp nat_cmp a b ≡ Equal → a ≡ b
-same_text a b e = (bytes_decides a b).0 (texts_ties a b ∙ ap is_eq e)
-
 three : (o : Ordering) → (o ≡ Less) ⊎ (o ≡ Equal) ⊎ (o ≡ Greater)
 three Less = inl refl
 three Equal = inr (inl refl)
@@ -58,7 +56,7 @@ other_key key other x (node l y ns) e =
       | inl less ↦ rw (less, e) refl
       | inr more ↦ elim more [
         | inl tie ↦
-            let apart : same_key key l ≡ false = subst (λ k. same_key key k ≡ false) (same_text other l tie) e in
+            let apart : same_key key l ≡ false = subst (λ k. same_key key k ≡ false) (equal_is other l tie) e in
             rw (tie, apart) refl
         | inr greater ↦ rw (greater, other_key key other x ns e) refl
       ]

@@ -1,5 +1,5 @@
 -- The match that a text says is a normal one, and constrains a field only where the field means something.
-use Rattle.std.proofs.Common.{◌≡◌, inl, inr, ℕ, ◌<◌, ◌%◌, ◌^◌, ◌==◌, Bool, true, false, not, ◌&&◌, cond, nat_le, leb-true, eqb-true, true≢false, IsTrue, List, Option, Some, None, IsSome, IfSome, is_some, Ok, codes, refl, sym, arith}
+use Rattle.std.proofs.Common.{◌≡◌, inl, inr, ℕ, ◌<◌, ◌%◌, ◌^◌, ◌==◌, Bool, true, false, not, ◌&&◌, cond, leb, nat_le, leb-true, eqb-true, true≢false, IsTrue, List, Option, Some, None, IsSome, IfSome, is_some, Ok, codes, refl, sym, arith}
 use Rattle.std.proofs.lemmas.Bool.{and_parts, or_cases}
 use Rattle.of10_model.specs.declared.pattern.Prefix.{Prefix}
 use Rattle.of10_model.specs.declared.pattern.Pattern.{Pattern}
@@ -20,7 +20,7 @@ use Rattle.policy_text.proofs.AddressRanges.{hardware_below, addresses_range}
 -- ---- ranges
 
 vlan_is : (n : ℕ) → is_number Vlan n ≡ true → IsVlan n
-vlan_is n e = elim (or_cases (nat_le n 4095) (n == 0xffff) e) [ inl low ↦ inl (leb-true _ _ low) | inr mark ↦ inr (eqb-true _ _ mark) ]
+vlan_is n e = elim (or_cases (leb n 4095) (n == 0xffff) e) [ inl low ↦ inl (leb-true _ _ low) | inr mark ↦ inr (eqb-true _ _ mark) ]
 
 service_is : (n : ℕ) → is_number Service n ≡ true → IsService (Some n)
 service_is n e =

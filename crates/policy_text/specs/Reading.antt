@@ -5,6 +5,7 @@ use Rattle.std.specs.Ordering.{nat_cmp, is_lt}
 use Rattle.std.specs.Cmp.Lexicographic.{slice_cmp}
 use Rattle.toml.specs.Data.{Data, string, integer, array, Items, no_items, item, Members, no_members, member, get_member}
 use Rattle.toml.specs.Text.{are_tables, has_items}
+use Rattle.flowspace.specs.Rules.{is_vlan}
 use Rattle.flowspace.specs.Owners.{is_in_port}
 use Rattle.flowspace.specs.Slices.{is_name_byte}
 use Rattle.of10_model.specs.declared.pattern.Prefix.{Prefix}
@@ -143,7 +144,7 @@ abbrev pub is_number : Numbers → ℕ → Bool
 is_number (UpTo high) n = nat_le n high
 is_number (Between low high) n = nat_le low n && nat_le n high
 is_number InPort n = is_in_port n
-is_number Vlan n = nat_le n 4095 || n == 0xffff
+is_number Vlan n = is_vlan n
 is_number Service n = nat_le n 252 && n % 4 == 0
 
 -- the greatest of them

@@ -6,8 +6,8 @@ ghost use Rattle.toml.specs.View.{items_view, view};
 ghost use Rattle.policy_text.specs.Reading.{addresses, each_text, greatest, is_name, is_number, is_text, number, numeral, numeral_of, some_tables, tables, text, text_list};
 
 use crate::addresses::{datapath_id, hardware_address, prefix};
-use flowspace::has_name_bytes;
 use flowspace::limits::{CONTROLLER_BYTES, NAME_BYTES};
+use flowspace::{has_name_bytes, is_in_port, is_vlan};
 use of10_model::Prefix;
 use std::alloc::{AllocError, Global};
 use toml::Value;
@@ -52,8 +52,8 @@ fn is_number(numbers: Numbers, n: u32) -> bool
     match numbers {
         Numbers::UpTo(high) => n <= high,
         Numbers::Between(low, high) => low <= n && n <= high,
-        Numbers::InPort => n <= 0xff00 || n == 0xfffe,
-        Numbers::Vlan => n <= 4095 || n == 0xffff,
+        Numbers::InPort => u16::try_from(n).is_ok_and(|port| is_in_port(port)),
+        Numbers::Vlan => u16::try_from(n).is_ok_and(|vlan| is_vlan(vlan)),
         Numbers::Service => n <= 252 && n % 4 == 0,
     }
 }

@@ -1,5 +1,5 @@
 -- What follows from a message for which room was to be made.
-use Rattle.std.proofs.Common.{◌≡◌, ◌<◌, ◌+◌, ℕ, leb, true, List, [], ◌∷◌, length, ap, subst, sym, ◌∙◌, arith}
+use Rattle.std.proofs.Common.{◌≡◌, ◌<◌, ℕ, leb, true, List, [], ◌∷◌, length, ap, subst, sym, ◌∙◌, arith}
 use Rattle.std.specs.List.{list_any, range_with_len}
 use Rattle.std.proofs.lemmas.Bool.{or_left, or_right, ltb-true, le-leb}
 use Rattle.std.proofs.lemmas.List.Folds.{list_any_at}
@@ -20,6 +20,7 @@ use Rattle.slice_words.specs.Answers.{Answer, is_any}
 use Rattle.slice_words.specs.Alone.{answer_to, rendered}
 use Rattle.slice_side.specs.declared.answered.Reaction.{Reaction}
 use Rattle.slice_side.specs.Reactions.{has_reply, is_heeded, IsReaction}
+use Rattle.desk_words.proofs.Reporting.{from_zero}
 use Rattle.desk_words.specs.Wants.{is_answered}
 use Rattle.proxy_core.specs.Slots.{has_effect}
 use Rattle.proxy_core.specs.Handing.{HasRoomForAll}
@@ -52,9 +53,6 @@ pub lane_answered : (p : PolicyView) (switch : Switch) (sides : ℕ → Side) (t
 lane_answered p switch sides timed any =
     or_left (is_any (lane_in (λ slot. put_with p slot switch (sides slot) timed) switch.phase timed.event))
     (list_any (λ slot. is_any (sent_with p slot switch (sides slot) timed)) (range_with_len 0 (length p.slices))) any
-
-from_zero : (n : ℕ) → 0 + n ≡ n
-from_zero n = omega arith
 
 pub slot_answered : (p : PolicyView) (switch : Switch) (sides : ℕ → Side) (timed : Timed) (slot : ℕ) → is_slot p slot ≡ true → is_any (sent_with p slot switch (sides slot) timed) ≡ true
     → is_answered p switch sides timed ≡ true

@@ -5,8 +5,8 @@ use Rattle.std.proofs.lemmas.Bool.{eq-eqb, ne_eqb}
 use Rattle.flowspace.specs.Policies.{PolicyView}
 use Rattle.flow_book.specs.declared.state.SliceState.{SliceState}
 use Rattle.outbox.specs.Queues.{Queue, no_messages, push_all, Kept, QueueStands}
-use Rattle.slice_words.specs.Items.{Settings, Item, Up, Down, Msg, is_up}
-use Rattle.slice_words.specs.Alone.{sent_for, with_items}
+use Rattle.slice_words.specs.Items.{Item, Up, Down, Msg, is_up}
+use Rattle.slice_words.specs.Alone.{with_items}
 use Rattle.slice_words.specs.Standing.{SliceStands}
 use Rattle.desk_words.specs.declared.event.Event.TheVariants.{SliceUp, SliceMsg, SliceDown}
 use Rattle.desk_words.specs.declared.event.Timed.{Timed}

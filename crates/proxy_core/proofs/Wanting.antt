@@ -1,15 +1,15 @@
 -- For what memory may be wanted.
-use Rattle.std.proofs.Common.{◌≡◌, ℕ, ◌&&◌, ◌||◌, leb, Bool, true, false, if◌then◌else◌, List, [], ◌∷◌, drop, slice_get, refl, ap, ap₂, subst, sym, ◌∙◌, true≢false, append-nil, Option, Some, None, Result, Ok, Err, OnErr}
+use Rattle.std.proofs.Common.{◌≡◌, ℕ, ◌&&◌, ◌||◌, leb, Bool, true, false, if◌then◌else◌, List, [], ◌∷◌, slice_get, refl, ap, ap₂, subst, sym, ◌∙◌, true≢false, append-nil, Option, Some, None, Result, Ok, Err, OnErr}
 use Rattle.std.specs.Prelude.{is_some}
 use Rattle.std.proofs.lemmas.Bool.{or_left, or_right}
 use Rattle.std.proofs.lemmas.List.{length-map}
-use Rattle.of10_ctl.specs.declared.kind.TheConstants.{ECHO_REQUEST, ECHO_REPLY}
-use Rattle.of10_ctl.specs.Frames.{message_of}
+use Rattle.of10_ctl.specs.declared.kind.TheConstants.{ECHO_REQUEST}
+use Rattle.of10_ctl.specs.Frames.{echo_reply_to}
 use Rattle.of10_ctl.specs.Kinds.{is_of}
 use Rattle.of10_port.specs.declared.features.Features.{Features}
 use Rattle.flowspace.specs.Policies.{PolicyView}
 use Rattle.flow_book.specs.declared.state.SliceState.{SliceState}
-use Rattle.slice_words.specs.Messages.{xid_of, has_actions}
+use Rattle.slice_words.specs.Messages.{has_actions}
 use Rattle.slice_words.specs.Items.{Item, Msg, is_up}
 use Rattle.slice_words.specs.Answers.{Answer, is_any}
 use Rattle.slice_words.specs.Alone.{answer_to, rendered, sent_for}
@@ -63,7 +63,7 @@ greeting_wants desk moment p switch sides qs ql fit body on =
 -- ---- a message of a switch that hasn't told what it is
 
 echo_sent : (message : List ℕ) → is_of ECHO_REQUEST message ≡ true → is_any (echo_for message) ≡ true
-echo_sent message is = ap (λ (b : Bool). is_any (if b then message_of ECHO_REPLY (xid_of message) (drop 8 message) ∷ [] else [])) is
+echo_sent message is = ap (λ (b : Bool). is_any (if b then echo_reply_to message ∷ [] else [])) is
 
 pub echo_wants : (message : List ℕ) (told : Option Features) → told ≡ features_told message → told ≡ None → is_of ECHO_REQUEST message ≡ true → is_any (begun_lane message) ≡ true
 echo_wants message told tells none is =

@@ -208,24 +208,24 @@ Shrinks dest (Message message) old new = left dest new < left dest old
 Shrinks dest taken old new = Unit {0}
 
 -- a desk stands for a policy and a list of operations: what is known of the switch, what each slice sees and how many events there were is what their events say, and what waits is what they left
-pub record DeskStands (policy : PolicyView) (ops : List Operation) (desk : Desk) : Type 0 where
-  pub body : Body policy (switch_of (events_of ops)) (λ slot. side_of policy slot (events_of ops)) (λ slot. queue_of policy slot ops) (lane_of policy ops) desk
-  pub events : desk.events ≡ length (events_of ops)
+pub record DeskStands (policy : PolicyView) (operations : List Operation) (desk : Desk) : Type 0 where
+  pub body : Body policy (switch_of (events_of operations)) (λ slot. side_of policy slot (events_of operations)) (λ slot. queue_of policy slot operations) (lane_of policy operations) desk
+  pub events : desk.events ≡ length (events_of operations)
 
 -- the reply to a step is right, and the desk stands for the list with it
-pub record Replied (policy : PolicyView) (ops : List Operation) (timed : Timed) (reply : Result Verdict AllocError) (desk : Desk) : Type 0 where
-  pub right : IsReply policy ops timed reply
-  pub stands : DeskStands policy (Step timed reply ∷ ops) desk
+pub record Replied (policy : PolicyView) (operations : List Operation) (timed : Timed) (reply : Result Verdict AllocError) (desk : Desk) : Type 0 where
+  pub right : IsReply policy operations timed reply
+  pub stands : DeskStands policy (Step timed reply ∷ operations) desk
 
 -- what is taken is what waits first, or why there is nothing, and the desk stands for the list with it
-pub record Answered (policy : PolicyView) (ops : List Operation) (dest : Dest) (taken : Taken) (desk : Desk) : Type 0 where
-  pub right : taken ≡ take_reply policy ops dest
-  pub stands : DeskStands policy (Take dest taken ∷ ops) desk
+pub record Answered (policy : PolicyView) (operations : List Operation) (dest : Dest) (taken : Taken) (desk : Desk) : Type 0 where
+  pub right : taken ≡ take_reply policy operations dest
+  pub stands : DeskStands policy (Take dest taken ∷ operations) desk
 
 -- for every list that a desk stands for, a step of this event is answered rightly and leaves the desk standing
 abbrev pub Steps : Desk → Timed → Result Verdict AllocError → Desk → Type 0
-Steps old timed reply new = (policy : PolicyView) (ops : List Operation) → DeskStands policy ops old → Replied policy ops timed reply new
+Steps old timed reply new = (policy : PolicyView) (operations : List Operation) → DeskStands policy operations old → Replied policy operations timed reply new
 
 -- the same of a take
 abbrev pub Takes : Desk → Dest → Taken → Desk → Type 0
-Takes old dest taken new = (policy : PolicyView) (ops : List Operation) → DeskStands policy ops old → Answered policy ops dest taken new
+Takes old dest taken new = (policy : PolicyView) (operations : List Operation) → DeskStands policy operations old → Answered policy operations dest taken new

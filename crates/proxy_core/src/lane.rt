@@ -8,10 +8,8 @@ ghost use Rattle.desk_words.specs.Sent.{greeting, whole_packets, clearing, prepa
 ghost use Rattle.proxy_core.specs.Slots.{HasMore};
 
 use of10_action::Actions;
-use of10_ctl::kind::{
-    BARRIER_REQUEST, ECHO_REPLY, ECHO_REQUEST, FEATURES_REQUEST, HELLO, SET_CONFIG,
-};
-use of10_ctl::{Frame, message};
+use of10_ctl::kind::{BARRIER_REQUEST, ECHO_REQUEST, FEATURES_REQUEST, HELLO, SET_CONFIG};
+use of10_ctl::{Frame, echo_reply, message};
 use of10_flow::FlowMod;
 use of10_flow::protocol::{DELETE, NO_BUFFER};
 use of10_match::Match;
@@ -86,7 +84,7 @@ fn reply(alloc: Global, frame: &Frame) -> Result<Vec<Frame>, AllocError>
     ensures { IfOk result (λ v. v.items ≡ echo_for frame.now) }
 {
     let mut messages = Vec::new(alloc);
-    messages.push(message(alloc, ECHO_REPLY, frame.head().xid, frame.body())?)?;
+    messages.push(echo_reply(alloc, frame)?)?;
     Ok(messages)
 }
 

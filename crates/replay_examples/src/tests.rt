@@ -10,6 +10,7 @@ mod tables;
 
 use fv_base::{Files, MemoryFiles, MemorySink, Words};
 use fv_cli::{offline, report};
+use names::written_out;
 use recording::items;
 use std::alloc::Global;
 use std::process::Abort;
@@ -38,39 +39,18 @@ const RULES: &[&str] = &[WEB_RULE, SHELL_RULE];
 
 const MAGIC: &str = "4656524543000001";
 
-const SWITCH_UP: &str = "00000000000000000000000000000000";
-
-const ALICE_UP: &str = "03000000000000000000000000000000";
-
-const BOB_UP: &str = "03000100000000000000000000000000";
-
-/// The switch's features, with four ports.
-const FEATURES: &str =
-    "01000000000000e00000000000000000010600e0ff00000100000000000000a100000100010000000000000000000fff\
-000100000000000000000000000000000000000000000000000000000000000000000000000000000000000000000000\
-000200000000000000000000000000000000000000000000000000000000000000000000000000000000000000000000\
-000300000000000000000000000000000000000000000000000000000000000000000000000000000000000000000000\
-fffe00000000000000000000000000000000000000000000000000000000000000000000000000000000000000000000";
-
-/// A packet-in of 54 bytes at port 1 that isn't buffered: TCP to port 80.
-const WEB_PACKET: &str = "01000000000000480000000000000000010a004800000000ffffffff003600010000\
-000000000002000000000001080045000028000000004006\
-00000a0000010a0000020400005000000000000000005002000000000000";
-
-/// What the switch is sent until its desk is open.
-const OPENING: &str = "\
-0 0 lane 01000008ff000000
-0 0 lane 01050008ff000001
-1 0 lane 0109000cff0000020000ffff
-1 0 lane 010e0048ff000003003820ff00000000000000000000000000000000000000000000000000000000000000000000000000000000000000000003000000000000ffffffffffff0000
-1 0 lane 01120008ff000004
-";
+/// A recording, record by record: the switch comes and tells its features, alice and bob come, and a packet comes.
+const WEB_RECORDING: &str = "\
+4656524543000001\
+00000000000000000000000000000000\
+01000000000000e00000000000000000+FEATURES+\
+03000000000000000000000000000000\
+03000100000000000000000000000000\
+01000000000000480000000000000000+TO_WEB";
 
 const WEB_REPORT: &str = "\
-2 0 to alice 0100000800000000
-3 0 to bob 0100000800000000
-4 0 to alice 010a004800000000ffffffff003600010000000000000002000000000001080045000028000000004006\
-00000a0000010a0000020400005000000000000000005002000000000000
+OPENED+
+4 0 to alice +TO_WEB+
 end 5
 ";
 
@@ -116,31 +96,28 @@ fn play(alloc: Global, rules: &[&str], recording: &[u8], out: MemorySink) -> Res
     call(alloc, &["replay", "policy", "recording"], &mut files, out)
 }
 
-/// A replay of these records.
-fn replay(alloc: Global, rules: &[&str], pieces: &[&str], out: MemorySink) -> Result<Answer, Fail> {
-    play(alloc, rules, &bytes(alloc, pieces)?, out)
-}
-
-fn expect_answer(rt: &impl Abort, answer: &Answer, status: u8, out: &[&str], err: &str) {
-    assert_eq!(rt; answer.status, status, "status");
-    let mut rest = answer.out.as_slice();
-    for piece in out {
-        assert!(rt; rest.starts_with(piece.as_bytes()), "output before {piece}");
-        rest = &rest[piece.len()..];
-    }
-    assert!(rt; rest.is_empty(), "output ends");
-    assert_eq!(rt; answer.err.as_slice(), err.as_bytes(), "error line");
+/// The answer has this status, this output and this error line.
+fn expect_answer(rt: &impl Abort, answer: &Answer, expected: (u8, &str, &str), about: &str) {
+    let (status, out, err) = expected;
+    assert_eq!(rt; answer.status, status, "status: {about}");
+    assert_eq!(rt; answer.out.as_slice(), out.as_bytes(), "output: {about}");
+    assert_eq!(rt;
+        answer.err.as_slice(),
+        err.as_bytes(),
+        "error line: {about}"
+    );
 }
 
 #[test]
 fn a_packet_reaches_the_slice_that_owns_its_port(rt: HostRuntime) -> Result<(), Fail> {
     let alloc = rt.alloc();
-    let pieces = [MAGIC, SWITCH_UP, FEATURES, ALICE_UP, BOB_UP, WEB_PACKET];
-    let answer = replay(alloc, RULES, &pieces, MemorySink::new(alloc))?;
-    expect_answer(&rt, &answer, 0, &[OPENING, WEB_REPORT], "");
+    let recording = bytes(alloc, &[written_out(alloc, WEB_RECORDING)?.as_str()])?;
+    let report = written_out(alloc, WEB_REPORT)?;
+    let answer = play(alloc, RULES, &recording, MemorySink::new(alloc))?;
+    expect_answer(&rt, &answer, (0, report.as_str(), ""), "");
     let slow = MemorySink::with_plan(alloc, 7, Vec::new(alloc));
-    let answer = replay(alloc, RULES, &pieces, slow)?;
-    expect_answer(&rt, &answer, 0, &[OPENING, WEB_REPORT], "");
+    let answer = play(alloc, RULES, &recording, slow)?;
+    expect_answer(&rt, &answer, (0, report.as_str(), ""), "a slow sink");
     Ok(())
 }
 
@@ -148,31 +125,23 @@ fn a_packet_reaches_the_slice_that_owns_its_port(rt: HostRuntime) -> Result<(), 
 fn the_report_of_a_recording_in_memory_is_written(rt: HostRuntime) -> Result<(), Fail> {
     let alloc = rt.alloc();
     let policy = policy_text::read(alloc, policy_of(alloc, RULES)?.as_bytes())?;
-    let pieces = [MAGIC, SWITCH_UP, FEATURES, ALICE_UP, BOB_UP, WEB_PACKET];
-    let recording = bytes(alloc, &pieces)?;
+    let recording = bytes(alloc, &[written_out(alloc, WEB_RECORDING)?.as_str()])?;
     let mut out = MemorySink::new(alloc);
     let records = items(alloc, &recording, policy.slices().len() as u8)?;
     assert_eq!(rt; records.len(), 5);
     assert!(rt; report(alloc, &policy, &recording, &mut out).is_ok());
-    assert!(rt; out.as_slice().starts_with(OPENING.as_bytes()));
-    assert!(rt; out.as_slice().ends_with(WEB_REPORT.as_bytes()));
-    assert_eq!(rt; out.as_slice().len(), OPENING.len() + WEB_REPORT.len());
+    assert_eq!(rt; out.as_slice(), written_out(alloc, WEB_REPORT)?.as_bytes());
     Ok(())
 }
 
 #[test]
 fn a_sink_that_fails_ends_the_report_at_a_line(rt: HostRuntime) -> Result<(), Fail> {
     let alloc = rt.alloc();
-    let pieces = [MAGIC, SWITCH_UP, FEATURES, ALICE_UP, BOB_UP, WEB_PACKET];
+    let recording = bytes(alloc, &[written_out(alloc, WEB_RECORDING)?.as_str()])?;
     let failing = MemorySink::with_plan(alloc, usize::MAX, vec![in alloc; 1]?);
-    let answer = replay(alloc, RULES, &pieces, failing)?;
-    expect_answer(
-        &rt,
-        &answer,
-        5,
-        &["0 0 lane 01000008ff000000\n"],
-        "write fault\n",
-    );
+    let answer = play(alloc, RULES, &recording, failing)?;
+    let first = "0 0 lane 01000008ff000000\n";
+    expect_answer(&rt, &answer, (5, first, "write fault\n"), "");
     assert_eq!(rt; answer.out.faults(), 1);
     Ok(())
 }
@@ -193,7 +162,7 @@ fn words_without_a_form_are_answered_by_the_usage(rt: HostRuntime) -> Result<(),
     for words in &cases {
         let mut files = MemoryFiles::new(alloc);
         let answer = call(alloc, words, &mut files, MemorySink::new(alloc))?;
-        expect_answer(&rt, &answer, 1, &[], usage);
+        expect_answer(&rt, &answer, (1, "", usage), "");
     }
     Ok(())
 }
@@ -204,12 +173,13 @@ fn a_missing_file_is_a_read_fault(rt: HostRuntime) -> Result<(), Fail> {
     let words = ["replay", "policy", "recording"];
     let mut files = MemoryFiles::new(alloc);
     let answer = call(alloc, &words, &mut files, MemorySink::new(alloc))?;
-    expect_answer(&rt, &answer, 4, &[], "read fault\n");
+    expect_answer(&rt, &answer, (4, "", "read fault\n"), "no policy");
     assert_eq!(rt; files.faults("policy"), 1);
     let mut files = MemoryFiles::new(alloc);
     files.add("policy", policy_of(alloc, RULES)?.as_bytes())?;
     let answer = call(alloc, &words, &mut files, MemorySink::new(alloc))?;
-    expect_answer(&rt, &answer, 4, &[], "read fault\n");
+    expect_answer(&rt, &answer, (4, "", "read fault\n"), "no recording");
+    assert_eq!(rt; (files.faults("policy"), files.faults("recording")), (0, 1));
     Ok(())
 }
 
@@ -221,10 +191,15 @@ fn a_policy_past_its_limit_is_too_large(rt: HostRuntime) -> Result<(), Fail> {
     let mut files = MemoryFiles::new(alloc);
     files.add("policy", &blanks)?;
     let answer = call(alloc, &words, &mut files, MemorySink::new(alloc))?;
-    expect_answer(&rt, &answer, 7, &[], "too large\n");
+    expect_answer(&rt, &answer, (7, "", "too large\n"), "one byte too many");
     let mut files = MemoryFiles::new(alloc);
     files.add("policy", &blanks[1..])?;
     let answer = call(alloc, &words, &mut files, MemorySink::new(alloc))?;
-    expect_answer(&rt, &answer, 2, &[], "policy: missing version\n");
+    expect_answer(
+        &rt,
+        &answer,
+        (2, "", "policy: missing version\n"),
+        "just as many",
+    );
     Ok(())
 }

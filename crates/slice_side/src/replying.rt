@@ -16,7 +16,7 @@ use of10_ctl::kind::{
     GET_CONFIG_REQUEST, HELLO, PACKET_OUT, PORT_MOD, QUEUE_GET_CONFIG_REQUEST, SET_CONFIG,
     STATS_REQUEST, VENDOR,
 };
-use of10_ctl::{Frame, begin, error_frame, message};
+use of10_ctl::{Frame, begin, echo_reply, error_frame};
 use of10_model::wire::{put_u16, u16_at};
 use of10_port::Features;
 use port_view::PortView;
@@ -118,9 +118,8 @@ fn local(alloc: Global, around: &Around<'_>, frame: &Frame) -> Result<Option<Fra
     ensures memory { (s : Settings) (view : List Item) (past : List Past) (moment : ℕ) → Shown view around.now.policy.now.rules around.now.ports.now around.now.features.now around.now.slot around.now.miss_send_len → OnErr result (IsTrue (has_reply (local_answer s view past moment frame.now))) }
 {
     let head = frame.head();
-    let bytes = frame.as_slice();
     match head.kind {
-        ECHO_REQUEST => Ok(Some(message(alloc, ECHO_REPLY, head.xid, &bytes[8..])?)),
+        ECHO_REQUEST => Ok(Some(echo_reply(alloc, frame)?)),
         FEATURES_REQUEST => Ok(Some(
             around.ports.features_for(
                 alloc,

@@ -1,9 +1,9 @@
 -- What holds of each kind of answer to a message holds of the answer. What follows from a message that is sent on is a kind more.
-use Rattle.std.proofs.Common.{ℕ, ◌==◌, ◌||◌, ◌&&◌, not, Bool, true, false, if◌then◌else◌, List, [], ◌∷◌, drop, Option, Some, None}
+use Rattle.std.proofs.Common.{ℕ, ◌==◌, ◌||◌, ◌&&◌, not, Bool, true, false, if◌then◌else◌, List, [], ◌∷◌, Option, Some, None}
 use Rattle.of10_action.specs.declared.fault.WireFault.{WireFault}
 use Rattle.of10_action.specs.Faults.{class_and_code}
 use Rattle.of10_ctl.specs.declared.kind.TheConstants.{HELLO, ERROR, ECHO_REQUEST, ECHO_REPLY, VENDOR, FEATURES_REQUEST, GET_CONFIG_REQUEST, SET_CONFIG, PORT_MOD}
-use Rattle.of10_ctl.specs.Frames.{is_bad, message_of, error_of}
+use Rattle.of10_ctl.specs.Frames.{is_bad, error_of, echo_reply_to}
 use Rattle.of10_port.specs.declared.features.Features.{Features}
 use Rattle.of10_port.specs.Features.{spell_features}
 use Rattle.port_view.specs.SlicePorts.{features_with}
@@ -17,7 +17,7 @@ pub record HoldsOfEach (P : Bool → Answer → Type 0) (view : List Item) (mess
   pub old : P true (dismissal (error_of (xid_of message) no_common_version.0 no_common_version.1 [] ∷ []))
   pub nothing : P false silence
   pub refuses : (fault : ℕ × ℕ) → P false (refused fault message)
-  pub echoes : P false (answered (message_of ECHO_REPLY (xid_of message) (drop 8 message) ∷ []))
+  pub echoes : P false (answered (echo_reply_to message ∷ []))
   pub tells_features : (features : Features) → P false (answered (spell_features (features_with features (known_ports view)) (xid_of message) ∷ []))
   pub tells_configuration : P false (answered (config_reply (miss_send_len view) message ∷ []))
 
@@ -29,7 +29,7 @@ by_ending P view message ends goes_on = record {
   old = ends (error_of (xid_of message) no_common_version.0 no_common_version.1 [] ∷ []);
   nothing = goes_on [];
   refuses = λ fault. goes_on (error_for fault message ∷ []);
-  echoes = goes_on (message_of ECHO_REPLY (xid_of message) (drop 8 message) ∷ []);
+  echoes = goes_on (echo_reply_to message ∷ []);
   tells_features = λ features. goes_on (spell_features (features_with features (known_ports view)) (xid_of message) ∷ []);
   tells_configuration = goes_on (config_reply (miss_send_len view) message ∷ []);
 }

@@ -1,9 +1,9 @@
 -- What follows for a slice from each item of its view. A later item is answered by look-ups in the view before it and in the answers given there; nothing is kept. Sections are those of OpenFlow 1.0.0; the order of refusals is this proxy's own rule.
-use Rattle.std.specs.Prelude.{ℕ, ◌-◌, ◌%◌, ◌^◌, ◌==◌, not, Bool, true, false, if◌then◌else◌, List, [], ◌∷◌, ◌++◌, leb, length, take, drop, Option, Some, None}
+use Rattle.std.specs.Prelude.{ℕ, ◌-◌, ◌%◌, ◌^◌, ◌==◌, not, Bool, true, false, if◌then◌else◌, List, [], ◌∷◌, ◌++◌, leb, length, take, Option, Some, None}
 use Rattle.byteorder.specs.Endian.{big_bytes}
 use Rattle.of10_action.specs.Faults.{class_and_code}
 use Rattle.of10_ctl.specs.declared.kind.TheConstants.{HELLO, ERROR, ECHO_REQUEST, ECHO_REPLY, VENDOR, FEATURES_REQUEST, GET_CONFIG_REQUEST, GET_CONFIG_REPLY, SET_CONFIG, PORT_MOD}
-use Rattle.of10_ctl.specs.Frames.{is_bad, message_of, error_of}
+use Rattle.of10_ctl.specs.Frames.{is_bad, message_of, error_of, echo_reply_to}
 use Rattle.of10_flow.specs.declared.protocol.TheConstants.{NO_BUFFER}
 use Rattle.of10_flow.specs.PacketIns.{spell_packet_in}
 use Rattle.of10_port.specs.Features.{spell_features}
@@ -106,7 +106,7 @@ forwarded_answer s view past moment message = silence
 -- messages of a good form: this proxy answers echoes (section 5.5), features and configuration itself
 unfoldable pub local_answer : Settings → List Item → List Past → ℕ → List ℕ → Answer
 local_answer s view past moment message =
-    if is_kind ECHO_REQUEST message then told (message_of ECHO_REPLY (xid_of message) (drop 8 message) ∷ [])
+    if is_kind ECHO_REQUEST message then told (echo_reply_to message ∷ [])
     else if is_kind FEATURES_REQUEST message then features_answer view message
     else if is_kind GET_CONFIG_REQUEST message then told (config_reply (miss_send_len view) message ∷ [])
     else if is_kind SET_CONFIG message then setting_answer message

@@ -1,9 +1,8 @@
-ghost use Rattle.std.specs.Prelude.{ℕ, ◌≡◌, ◌≤◌, ◌∷◌, [], length, IsTrue, IfOk, OnErr, drop};
-ghost use Rattle.of10_ctl.specs.declared.kind.TheConstants.{ECHO_REQUEST, ECHO_REPLY};
-ghost use Rattle.of10_ctl.specs.Frames.{IsFrame, message_of};
+ghost use Rattle.std.specs.Prelude.{ℕ, ◌≡◌, ◌≤◌, ◌∷◌, [], length, IsTrue, IfOk, OnErr};
+ghost use Rattle.of10_ctl.specs.declared.kind.TheConstants.{ECHO_REQUEST};
+ghost use Rattle.of10_ctl.specs.Frames.{IsFrame, echo_reply_to};
 ghost use Rattle.of10_ctl.specs.Kinds.{IsOf};
 ghost use Rattle.flowspace.specs.Policies.{PolicyView};
-ghost use Rattle.slice_words.specs.Messages.{xid_of};
 ghost use Rattle.desk_words.specs.Openings.{Switch};
 ghost use Rattle.desk_words.specs.Histories.{Side};
 ghost use Rattle.switch_side.specs.Dispatches.{Surrounds, AllStand, IsDispatch, told_at, has_dispatch};
@@ -14,18 +13,17 @@ use crate::packets::packet_in;
 use crate::ports::port_status;
 use flow_book::SliceState;
 use flowspace::SwitchPolicy;
-use of10_ctl::kind::{ECHO_REPLY, ECHO_REQUEST, PACKET_IN, PORT_STATUS};
-use of10_ctl::{Frame, message};
+use of10_ctl::kind::{ECHO_REQUEST, PACKET_IN, PORT_STATUS};
+use of10_ctl::{Frame, echo_reply};
 use port_view::PortView;
 use std::alloc::{AllocError, Global};
 
 /// The reply to an ECHO_REQUEST (OpenFlow 1.0.0, section 5.5).
 fn echo(alloc: Global, frame: &Frame) -> Result<Dispatch, AllocError>
     requires { IsOf ECHO_REQUEST frame.now }
-    ensures { IfOk result (λ d. carried d ≡ record (telling [] None) { replies = message_of ECHO_REPLY (xid_of frame.now) (drop 8 frame.now) ∷ [] }) }
+    ensures { IfOk result (λ d. carried d ≡ record (telling [] None) { replies = echo_reply_to frame.now ∷ [] }) }
 {
-    let reply = message(alloc, ECHO_REPLY, frame.head().xid, frame.body())?;
-    Dispatch::replying(alloc, reply)
+    Dispatch::replying(alloc, echo_reply(alloc, frame)?)
 }
 
 /// What follows, by the type of the message. Types that a switch doesn't send are dropped like those that

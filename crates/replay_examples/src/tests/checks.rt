@@ -74,12 +74,11 @@ fn expect_check(
     text: &str,
     expected: (u8, &str, &str),
 ) -> Result<(), Fail> {
-    let (status, out, err) = expected;
     let mut files = MemoryFiles::new(alloc);
     files.add("policy", text.as_bytes())?;
     let words = ["check", "policy"];
     let answer = call(alloc, &words, &mut files, MemorySink::new(alloc))?;
-    expect_answer(rt, &answer, status, &[out], err);
+    expect_answer(rt, &answer, expected, text);
     Ok(())
 }
 

@@ -24,7 +24,7 @@ const LOCAL_PORT: &str =
 
 /// What the switch says it is: a FEATURES_REPLY with four ports.
 const FEATURES: &str =
-    "010600e0ff00000100000000000000a100000100010000000000000000000fff+PORT_1+PORT_2+PORT_3+LOCAL_PORT";
+    "010600e0ff00000100000000000000a100000100010000000000000000000fff+PORT_1+PORT_2+PORT_3+LOCAL_PORT+";
 
 /// Another switch's features: one port is told of twice, and one number is reserved.
 const OTHER_FEATURES: &str =
@@ -39,7 +39,7 @@ const WEB: &str = "000000000002000000000001080045000028000000004006\
 00000a0000010a0000020400005000000000000000005002000000000000";
 
 /// A packet-in of 54 bytes at port 1 that isn't buffered: TCP to port 80, which is alice's.
-const TO_WEB: &str = "010a004800000000ffffffff003600010000+WEB";
+const TO_WEB: &str = "010a004800000000ffffffff003600010000+WEB+";
 
 /// The same to port 22, which is bob's.
 const TO_SHELL: &str =

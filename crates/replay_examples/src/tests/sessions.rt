@@ -28,6 +28,13 @@ end 2
 0 0 lane 01050008ff000001
 end 2
 
+# A packet reaches the slice that owns its port.
+> opened
+> switch +TO_WEB
+OPENED
+4 0 to alice +TO_WEB
+end 5
+
 # A packet for a slice whose controller is away reaches nobody.
 > switch up
 > switch +FEATURES

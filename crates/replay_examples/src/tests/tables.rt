@@ -1,5 +1,5 @@
 //! Tables of recordings and what is said of each. A table has parts, between which a blank line stands; in a part
-//! each line that begins with `> ` is a step of the recording, each other line is to be put out, and a line that
+//! each line that begins with `>` is a step of the recording, each other line is to be put out, and a line that
 //! begins with `#` says what the part shows.
 
 use super::names::written_out;
@@ -13,23 +13,31 @@ use std::test::Fail;
 /// A part of a table, as far as it is read.
 #[derive(Drop)]
 struct Part {
+    /// What it shows.
+    about: String,
     recording: Maker,
     lines: String,
 }
 
 impl Part {
     fn new(alloc: Global, cut: Cut) -> Result<Part, Fail> {
+        let about = String::new(alloc);
         let recording = Maker::new(alloc, cut)?;
         let lines = String::new(alloc);
-        Ok(Part { recording, lines })
+        Ok(Part {
+            about,
+            recording,
+            lines,
+        })
     }
 
     fn put_line(&mut self, alloc: Global, line: &str) -> Result<(), Fail> {
         if line.starts_with('#') {
+            self.about.push_str(line)?;
             return Ok(());
         }
-        match line.split_once("> ") {
-            Some((_, step)) => self.recording.put_step(alloc, step)?,
+        match line.strip_prefix('>') {
+            Some(step) => self.recording.put_step(alloc, step.trim_start())?,
             None => {
                 self.lines.push_str(written_out(alloc, line)?.as_str())?;
                 self.lines.push_str("\n")?;
@@ -49,11 +57,12 @@ impl Part {
         let recording = self.recording.bytes.as_slice();
         let answer = play(alloc, rules, recording, MemorySink::new(alloc))?;
         let lines = self.lines.as_str();
-        if status == 0 {
-            expect_answer(rt, &answer, 0, &[lines], "");
+        let (out, err) = if status == 0 {
+            (lines, "")
         } else {
-            expect_answer(rt, &answer, status, &[], lines);
-        }
+            ("", lines)
+        };
+        expect_answer(rt, &answer, (status, out, err), self.about.as_str());
         Ok(())
     }
 }
