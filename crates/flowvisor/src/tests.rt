@@ -24,12 +24,10 @@ fn scratch_path(rt: &HostRuntime, name: &str) -> Result<String, Fail> {
 }
 
 #[test]
-fn disk_reads_what_files_hold(rt: HostRuntime) -> Result<(), Fail> {
+fn disk_loads_whole_files(rt: HostRuntime) -> Result<(), Fail> {
     let alloc = rt.alloc();
-    let path = scratch_path(&rt, "read")?;
-    let other = scratch_path(&rt, "other")?;
+    let path = scratch_path(&rt, "whole")?;
     fs::create(&rt, path.as_str())?.write_all(TEXT)?;
-    fs::create(&rt, other.as_str())?.write_all(OTHER)?;
 
     let mut disk = Disk::new(&rt);
     let bytes = load_file(alloc, &mut disk, path.as_str(), 8)
@@ -41,35 +39,6 @@ fn disk_reads_what_files_hold(rt: HostRuntime) -> Result<(), Fail> {
         Some(LoadFault::TooLarge)
     );
 
-    // Parts in any order: one right behind another of its file is read from the file that is open, any
-    // other from a file that is opened anew.
-    let mut part = [0u8; 4];
-    for (name, text, from, size, count) in [
-        (&path, TEXT, 4, 4, 4),
-        (&path, TEXT, 0, 2, 2),
-        (&path, TEXT, 0, 2, 2),
-        (&path, TEXT, 1, 2, 2),
-        (&path, TEXT, 3, 2, 2),
-        (&path, TEXT, 3, 2, 2),
-        (&path, TEXT, 4, 2, 2),
-        (&path, TEXT, 7, 4, 1),
-        (&path, TEXT, 8, 4, 0),
-        (&path, TEXT, 0, 4, 4),
-        (&other, OTHER, 4, 4, 4),
-        (&other, OTHER, 0, 2, 2),
-    ] {
-        assert_eq!(rt;
-            disk.read(name.as_str(), from as u64, &mut part[..size])
-                .ok(),
-            Some(count)
-        );
-        assert_eq!(rt; &part[..count], &text[from..from + count]);
-    }
-
-    // The file stays open until it is read to its end, or another is.
-    fs::remove_file(&rt, other.as_str())?;
-    assert_eq!(rt; disk.read(other.as_str(), 2, &mut part[..2]).ok(), Some(2));
-    assert_eq!(rt; &part[..2], &OTHER[2..4]);
     fs::remove_file(&rt, path.as_str())?;
     for nothing in [path.as_str(), "/"] {
         assert_eq!(rt;
@@ -77,6 +46,56 @@ fn disk_reads_what_files_hold(rt: HostRuntime) -> Result<(), Fail> {
             Some(LoadFault::ReadFault)
         );
     }
+    Ok(())
+}
+
+/// Parts that are read one after the other of a file with `TEXT`: from where, how many bytes, and how many come.
+/// One right behind the one before is read from the file that is open, any other from a file that is opened anew.
+const PARTS: [(u64, usize, usize); 10] = [
+    (4, 4, 4),
+    (0, 2, 2),
+    (0, 2, 2),
+    (1, 2, 2),
+    (3, 2, 2),
+    (3, 2, 2),
+    (4, 2, 2),
+    (7, 4, 1),
+    (8, 4, 0),
+    (0, 4, 4),
+];
+
+#[test]
+fn disk_reads_parts_in_any_order(rt: HostRuntime) -> Result<(), Fail> {
+    let path = scratch_path(&rt, "read")?;
+    let other = scratch_path(&rt, "other")?;
+    fs::create(&rt, path.as_str())?.write_all(TEXT)?;
+    fs::create(&rt, other.as_str())?.write_all(OTHER)?;
+
+    let mut disk = Disk::new(&rt);
+    let mut part = [0u8; 4];
+    for (from, size, count) in PARTS {
+        let part = &mut part[..size.min(4)];
+        assert_eq!(rt;
+            disk.read(path.as_str(), from, part).ok(),
+            Some(count),
+            "from {from}"
+        );
+        let there = TEXT.iter().skip(from as usize);
+        assert!(rt;
+            part.iter().zip(there).all(|(read, byte)| read == byte),
+            "from {from}"
+        );
+    }
+    assert_eq!(rt; disk.read(other.as_str(), 4, &mut part[..4]).ok(), Some(4));
+    assert_eq!(rt; &part[..4], &OTHER[4..8]);
+    assert_eq!(rt; disk.read(other.as_str(), 0, &mut part[..2]).ok(), Some(2));
+    assert_eq!(rt; &part[..2], &OTHER[..2]);
+
+    // The file stays open until it is read to its end, or another is.
+    fs::remove_file(&rt, other.as_str())?;
+    assert_eq!(rt; disk.read(other.as_str(), 2, &mut part[..2]).ok(), Some(2));
+    assert_eq!(rt; &part[..2], &OTHER[2..4]);
+    fs::remove_file(&rt, path.as_str())?;
     Ok(())
 }
 
@@ -101,13 +120,13 @@ fn streams_write_what_is_put(rt: HostRuntime) -> Result<(), Fail> {
     Ok(())
 }
 
-const USAGE: &[u8] =
-    b"usage: flowvisor check POLICY / replay POLICY RECORDING / gen SEED COUNT / serve POLICY LISTEN COUNT\n";
+const USAGE: &str =
+    "usage: flowvisor check POLICY / replay POLICY RECORDING / gen SEED COUNT / serve POLICY LISTEN COUNT\n";
 
 /// The words; one that begins with `@` is the path of the scratch file of that name.
-fn words(rt: &HostRuntime, each: &[&str]) -> Result<Vec<String>, Fail> {
+fn words(rt: &HostRuntime, said: &str) -> Result<Vec<String>, Fail> {
     let mut words = Vec::new(rt.alloc());
-    for word in each {
+    for word in said.split_ascii_whitespace() {
         let word = match word.strip_prefix('@') {
             Some(name) => scratch_path(rt, name)?,
             None => String::from_str(rt.alloc(), word)?,
@@ -117,65 +136,42 @@ fn words(rt: &HostRuntime, each: &[&str]) -> Result<Vec<String>, Fail> {
     Ok(words)
 }
 
+/// What is said, how many bytes of output there is room for, and what is answered: the status, the output, and
+/// the line on the error stream.
+const ANSWERS: [(&str, usize, u8, &str, &str); 13] = [
+    ("replay @policy @recording", 2048, 0, "end 0\n", ""),
+    ("replay @policy @recording", 5, 5, "end 0", "write fault\n"),
+    ("check @policy", 2048, 0, "ok 1 0\n", ""),
+    ("replay @policy @missing", 2048, 4, "", "read fault\n"),
+    ("replay @missing @recording", 2048, 4, "", "read fault\n"),
+    ("replay / @recording", 2048, 4, "", "read fault\n"),
+    ("replay @policy", 2048, 1, "", USAGE),
+    ("", 2048, 1, "", USAGE),
+    ("--help", 2048, 0, HELP, ""),
+    ("--version", 2048, 0, VERSION, ""),
+    ("--version", 9, 5, "flowvisor", "write fault\n"),
+    ("--helps", 2048, 1, "", USAGE),
+    ("--help --help", 2048, 1, "", USAGE),
+];
+
 #[test]
 fn words_are_answered_with_their_status(rt: HostRuntime) -> Result<(), Fail> {
     let policy = scratch_path(&rt, "policy")?;
     let recording = scratch_path(&rt, "recording")?;
     fs::create(&rt, policy.as_str())?.write_all(POLICY)?;
     fs::create(&rt, recording.as_str())?.write_all(b"FVREC\0\0\x01")?;
-
-    for (each, size, status, output, line) in [
-        (
-            &["replay", "@policy", "@recording"][..],
-            2048,
-            0,
-            "end 0\n",
-            &b""[..],
-        ),
-        (
-            &["replay", "@policy", "@recording"][..],
-            5,
-            5,
-            "end 0",
-            b"write fault\n",
-        ),
-        (&["check", "@policy"][..], 2048, 0, "ok 1 0\n", b""),
-        (
-            &["replay", "@policy", "@missing"][..],
-            2048,
-            4,
-            "",
-            b"read fault\n",
-        ),
-        (
-            &["replay", "@missing", "@recording"][..],
-            2048,
-            4,
-            "",
-            b"read fault\n",
-        ),
-        (
-            &["replay", "/", "@recording"][..],
-            2048,
-            4,
-            "",
-            b"read fault\n",
-        ),
-        (&["replay", "@policy"][..], 2048, 1, "", USAGE),
-        (&[][..], 2048, 1, "", USAGE),
-        (&["--help"][..], 2048, 0, HELP, b""),
-        (&["--version"][..], 2048, 0, VERSION, b""),
-        (&["--version"][..], 9, 5, "flowvisor", b"write fault\n"),
-        (&["--helps"][..], 2048, 1, "", USAGE),
-        (&["--help", "--help"][..], 2048, 1, "", USAGE),
-    ] {
+    for (said, size, status, output, line) in ANSWERS {
+        let words = words(&rt, said)?;
         let mut room = [0u8; 2048];
         let mut err = MemorySink::new(rt.alloc());
-        let words = words(&rt, each)?;
-        assert_eq!(rt; answer(&rt, &words, &mut room[..size], &mut err), status);
-        assert!(rt; room.starts_with(output.as_bytes()));
-        assert!(rt; room[output.len()..].iter().all(|byte| *byte == 0));
-        assert_eq!(rt; err.as_slice(), line);
+        let answered = answer(&rt, &words, &mut room[..size.min(2048)], &mut err);
+        assert_eq!(rt; answered, status, "{said}");
+        assert!(rt; room.starts_with(output.as_bytes()), "{said}");
+        assert!(rt;
+            room.iter().skip(output.len()).all(|byte| *byte == 0),
+            "{said}"
+        );
+        assert_eq!(rt; err.as_slice(), line.as_bytes(), "{said}");
     }
     fs::remove_file(&rt, policy.as_str())?;
     fs::remove_file(&rt, recording.as_str())?;
