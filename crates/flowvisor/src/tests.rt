@@ -49,19 +49,20 @@ fn disk_loads_whole_files(rt: HostRuntime) -> Result<(), Fail> {
     Ok(())
 }
 
-/// Parts that are read one after the other of a file with `TEXT`: from where, how many bytes, and how many come.
-/// One right behind the one before is read from the file that is open, any other from a file that is opened anew.
-const PARTS: [(u64, usize, usize); 10] = [
-    (4, 4, 4),
-    (0, 2, 2),
-    (0, 2, 2),
-    (1, 2, 2),
-    (3, 2, 2),
-    (3, 2, 2),
-    (4, 2, 2),
-    (7, 4, 1),
-    (8, 4, 0),
-    (0, 4, 4),
+/// Parts of two bytes that are read one after the other of a file with `TEXT`: from where, and how many come. One
+/// right behind the one before is read from the file that is open, any other from a file that is opened anew.
+const PARTS: [(u64, usize); 11] = [
+    (4, 2),
+    (6, 2),
+    (0, 2),
+    (0, 2),
+    (1, 2),
+    (3, 2),
+    (3, 2),
+    (4, 2),
+    (7, 1),
+    (8, 0),
+    (0, 2),
 ];
 
 #[test]
@@ -72,11 +73,10 @@ fn disk_reads_parts_in_any_order(rt: HostRuntime) -> Result<(), Fail> {
     fs::create(&rt, other.as_str())?.write_all(OTHER)?;
 
     let mut disk = Disk::new(&rt);
-    let mut part = [0u8; 4];
-    for (from, size, count) in PARTS {
-        let part = &mut part[..size.min(4)];
+    let mut part = [0u8; 2];
+    for (from, count) in PARTS {
         assert_eq!(rt;
-            disk.read(path.as_str(), from, part).ok(),
+            disk.read(path.as_str(), from, &mut part).ok(),
             Some(count),
             "from {from}"
         );
@@ -86,15 +86,15 @@ fn disk_reads_parts_in_any_order(rt: HostRuntime) -> Result<(), Fail> {
             "from {from}"
         );
     }
-    assert_eq!(rt; disk.read(other.as_str(), 4, &mut part[..4]).ok(), Some(4));
-    assert_eq!(rt; &part[..4], &OTHER[4..8]);
-    assert_eq!(rt; disk.read(other.as_str(), 0, &mut part[..2]).ok(), Some(2));
-    assert_eq!(rt; &part[..2], &OTHER[..2]);
+    for (from, bytes) in [(4, b"2n"), (0, b"1s")] {
+        assert_eq!(rt; disk.read(other.as_str(), from, &mut part).ok(), Some(2));
+        assert_eq!(rt; &part, bytes);
+    }
 
     // The file stays open until it is read to its end, or another is.
     fs::remove_file(&rt, other.as_str())?;
-    assert_eq!(rt; disk.read(other.as_str(), 2, &mut part[..2]).ok(), Some(2));
-    assert_eq!(rt; &part[..2], &OTHER[2..4]);
+    assert_eq!(rt; disk.read(other.as_str(), 2, &mut part).ok(), Some(2));
+    assert_eq!(rt; &part, b"t\n");
     fs::remove_file(&rt, path.as_str())?;
     Ok(())
 }
