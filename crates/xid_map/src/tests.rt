@@ -102,13 +102,16 @@ fn finds_as_the_list_of_all_requests(rt: HostRuntime) -> Result<(), Fail> {
         let sought = 0x0500_0000 + (other % 0x0100_0000) as u32;
         let answer = listed(&requests, sought);
         assert_eq!(rt; map.find(sought), answer, "at {step}");
-        let is_marked = answer.is_some_and(|request| request.failed || request.done);
-        hits = hits.saturating_add(u32::from(is_marked));
+        if answer.is_some_and(|request| request.failed || request.done) {
+            hits = hits.saturating_add(1);
+        }
         wraps = wraps.saturating_add(u32::from(requests.len() > 4096));
     }
     assert!(rt; hits > 100, "{hits} of the requests found were marked");
-    assert!(rt; forgets > 0, "{forgets} times all were forgotten");
-    assert!(rt; wraps > 2_000, "{wraps} times there were 4,097");
+    assert!(rt;
+        forgets > 0 && wraps > 2_000,
+        "{forgets} forgotten, {wraps} with 4,097"
+    );
     Ok(())
 }
 
