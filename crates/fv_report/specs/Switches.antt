@@ -9,7 +9,7 @@ use Rattle.answer_bounds.specs.Bounds.{AreFramed}
 use Rattle.desk_words.specs.declared.answer.Dest.{Dest}
 use Rattle.desk_words.specs.declared.answer.Dest.TheVariants.{Switch as ToSwitch, Slice}
 use Rattle.proxy_core.specs.declared.parts.Desk.{Desk}
-use Rattle.desk_words.specs.Recorded.{told_by, stream_before, history_of, history_at, events_in}
+use Rattle.desk_words.specs.Recorded.{stream_before, history_of, history_at, events_in}
 use Rattle.desk_words.specs.Reports.{lines_of}
 use Rattle.fv_report.specs.declared.switch.Switch.{Switch}
 use Rattle.fv_report.specs.Writing.{Wrote}
