@@ -1,4 +1,2 @@
 pub mod Firsts
-pub mod WrittenHex
-pub mod WrittenDecimal
 pub mod Readers

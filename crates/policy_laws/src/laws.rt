@@ -14,7 +14,6 @@ ghost use Rattle.policy_text.specs.Reading.{SectionView, place_of, known_keys};
 ghost use Rattle.policy_laws.specs.Readers.{IsNamedSlot};
 ghost use Rattle.policy_text.specs.Rules.{bits_below, RuleText, rule_from, rule_of, rules_from};
 ghost use Rattle.policy_text.specs.Slices.{slice_of, slices_from};
-ghost use Rattle.policy_laws.specs.Written.{DatapathIdsAreAsWritten, HardwareAddressesAreAsWritten, PrefixesAreAsWritten};
 
 /// Slices are read exactly where each item is one, in order; else the fault is that of the first item
 /// that is none, read at its own index.
@@ -44,15 +43,6 @@ pub fn named_key_is_the_least_unknown()
 pub fn fault_stands_in_its_table()
     ensures slice { (index : ℕ) (members : Members) (fault : ReadFault) → slice_of index (table members) ≡ Err fault → StandsIn part.Slice index members fault }
     ensures rule { (slices : List Slice) (index : ℕ) (members : Members) (fault : ReadFault) → rule_of slices index (table members) ≡ Err fault → StandsIn part.Rule index members fault }
-{}
-
-/// Network addresses, hardware addresses and datapath ids are read exactly where the text is the one that
-/// is printed for an address with its leading bits, or for a number: no leading zero, no digit in upper
-/// case, and nothing before or behind. All 32 leading bits may be left out.
-pub fn addresses_are_as_written()
-    ensures prefix { PrefixesAreAsWritten }
-    ensures hardware { HardwareAddressesAreAsWritten }
-    ensures datapath { DatapathIdsAreAsWritten }
 {}
 
 /// The readers of a rule are the slots that its names say, below 32: of the bits of a list of slots bit k

@@ -1,5 +1,5 @@
-//! Laws of what a policy's text says: which fault is its first and where it stands, which texts are addresses,
-//! and which slices are a rule's readers.
+//! Laws of what a policy's text says: which fault is its first and where it stands, and which slices are a
+//! rule's readers.
 #![tactic(auto)]
 
 pub mod laws;

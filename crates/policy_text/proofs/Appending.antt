@@ -1,7 +1,7 @@
 -- Entries that are written one after the other.
-use Rattle.std.proofs.Common.{◌≡◌, ℕ, zero, suc, ◌*◌, ◌-◌, ◌/◌, ◌%◌, ◌^◌, ◌<◌, List, [], ◌∷◌, ◌++◌, refl, sym, ◌∙◌, append_assoc, arith}
+use Rattle.std.proofs.Common.{◌≡◌, ℕ, List, [], ◌∷◌, ◌++◌, sym, ◌∙◌, append_assoc}
 use Rattle.std.proofs.lemmas.List.{append-nil}
-use Rattle.policy_text.specs.Printing.{Entry, entry_text, entries_text, hex_glyph, hex_text}
+use Rattle.policy_text.specs.Printing.{Entry, entry_text, entries_text}
 
 -- the entries after what was written before
 abbrev pub after : List ℕ → List Entry → List ℕ
@@ -11,12 +11,6 @@ after front (entry ∷ rest) = after (front ++ entry_text entry) rest
 pub after_all : (front : List ℕ) (entries : List Entry) → after front entries ≡ front ++ entries_text entries
 after_all front [] = sym (append-nil front)
 after_all front (entry ∷ rest) = after_all (front ++ entry_text entry) rest ∙ append_assoc front (entry_text entry) (entries_text rest)
-
--- the next hex digit
-pub hex_more : (k n : ℕ) → 0 < k → hex_text k n ≡ hex_glyph (n / 2 ^ (4 * (k - 1)) % 16) ∷ hex_text (k - 1) n
-unfolding hex_text
-hex_more zero n some = absurd (omega arith)
-hex_more (suc k) n some = let less : suc k - 1 ≡ k = omega arith in rw less refl
 
 pub four_parts : (front a b c d : List ℕ) → (((front ++ a) ++ b) ++ c) ++ d ≡ front ++ (a ++ (b ++ (c ++ d)))
 four_parts front a b c d = append_assoc ((front ++ a) ++ b) c d ∙ append_assoc (front ++ a) b (c ++ d) ∙ append_assoc front a (b ++ (c ++ d))

@@ -1,10 +1,8 @@
 pub mod Loop
-pub mod Powers
 pub mod LeastKey
 pub mod LeastUnknown
 pub mod Documents
 pub mod Steps
-pub mod AddressRanges
 pub mod RuleParts
 pub mod SoundPatterns
 pub mod Sound
@@ -12,7 +10,6 @@ pub mod Keys
 pub mod Faults
 pub mod Refusals
 pub mod Appending
-pub mod PrintedValues
 pub mod PrintedNodes
 pub mod PrintedLines
 pub mod PrintedReaders

@@ -21,7 +21,8 @@ use Rattle.policy_text.specs.declared.values.Numbers.TheVariants.{Between}
 use Rattle.policy_text.specs.Slices.{slices_from}
 use Rattle.policy_text.specs.Rules.{rules_from}
 use Rattle.policy_text.specs.Documents.{top, parts_in, document_of, parts_of, loaded, policy_of}
-use Rattle.policy_text.specs.Printing.{Entry, unless_default, slice_entries, hex_text, hardware_text, prefix_text, number_value, text_value, name_at, names_in, names, own_entries, link_entries, network_entries, items_text, entry_text, entries_text, slice_text, rule_text, slices_text, rules_text, text_of, IsHeld}
+use Rattle.address_text.specs.Texts.{hex_text, hardware_text, prefix_text}
+use Rattle.policy_text.specs.Printing.{Entry, unless_default, slice_entries, number_value, text_value, name_at, names_in, names, own_entries, link_entries, network_entries, items_text, entry_text, entries_text, slice_text, rule_text, slices_text, rules_text, text_of, IsHeld}
 use Rattle.of10_model.proofs.Results.{bind_is}
 use Rattle.policy_text.proofs.PrintedNodes.{table_of, EachApart}
 use Rattle.policy_text.proofs.PrintedLines.{IsWritten, AreWritten, EachWritten, tables_text, document_text, said, parsed}

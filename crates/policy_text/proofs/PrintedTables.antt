@@ -25,11 +25,12 @@ use Rattle.of10_model.proofs.Results.{bind_is}
 use Rattle.policy_text.specs.Reading.{SectionView, place_of, least, no_unknown, known_keys, formed, demanded, allowed, required, optional, when, is_number, number, is_text, text, each_text, text_list, numeral, addresses}
 use Rattle.policy_text.specs.Slices.{slice_in, slice_of, slices_from}
 use Rattle.policy_text.specs.Rules.{link_in, pattern_in, first_improper, slot_of, named, writer_of, are_different, bits_below, no_improper, proper, RuleText, names_under, rule_text_in, rule_from, rule_in, rule_of, rules_from}
-use Rattle.policy_text.specs.Printing.{Entry, unless_default, slice_entries, hex_text, hardware_text, prefix_text, number_value, text_value, name_at, names_in, names, own_entries, link_entries, network_entries, IsHeld}
+use Rattle.address_text.specs.Texts.{hex_text, hardware_text, prefix_text}
+use Rattle.policy_text.specs.Printing.{Entry, unless_default, slice_entries, number_value, text_value, name_at, names_in, names, own_entries, link_entries, network_entries, IsHeld}
 use Rattle.policy_text.proofs.Sound.{rule_from_is}
 use Rattle.policy_text.proofs.PrintedNodes.{are_apart, found, members_from, get_entry, all_known, known_entries, table_of}
 use Rattle.policy_text.proofs.PrintedReaders.{slot_back, name_at_back, readers_back}
-use Rattle.policy_text.proofs.PrintedValues.{datapath_back, hardware_back, prefix_back}
+use Rattle.address_text.proofs.Printed.{datapath_back, hardware_back, prefix_back}
 
 -- ---- one key
 

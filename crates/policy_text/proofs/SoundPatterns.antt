@@ -1,11 +1,13 @@
 -- The match that a text says is a normal one, and constrains a field only where the field means something.
 use Rattle.std.proofs.Common.{◌≡◌, inl, inr, ℕ, ◌<◌, ◌%◌, ◌^◌, ◌==◌, Bool, true, false, not, ◌&&◌, cond, leb, nat_le, leb-true, eqb-true, true≢false, IsTrue, List, Option, Some, None, IsSome, IfSome, is_some, Ok, codes, refl, sym, arith}
 use Rattle.std.proofs.lemmas.Bool.{and_parts, or_cases}
+use Rattle.toml.specs.Data.{Data, string, integer, float, boolean, datetime, array, table}
 use Rattle.of10_model.specs.declared.pattern.Prefix.{Prefix}
 use Rattle.of10_model.specs.declared.pattern.Pattern.{Pattern}
 use Rattle.of10_model.specs.Normal.{is_given, is_whole, is_exact, has_vlan, has_network, has_service, has_ports, kept, kept_prefix, IsBelow, IsService, IsPrefix, IsInRange, IsNormal}
 use Rattle.of10_model.proofs.NormalFields.{applied_same}
 use Rattle.of10_model.proofs.Twelve.{each_true}
+use Rattle.address_text.proofs.Ranges.{hardware_below, prefix_range}
 use Rattle.flowspace.specs.declared.fault.Field.{Field}
 use Rattle.flowspace.specs.Rules.{IsInPort, IsVlan}
 use Rattle.flowspace.proofs.Owning.{IsInPort-is_in_port}
@@ -15,9 +17,26 @@ use Rattle.policy_text.specs.Reading.{SectionView, optional, is_number, number, 
 use Rattle.policy_text.specs.Rules.{pattern_in, first_improper}
 use Rattle.policy_text.proofs.RuleParts.{pattern_read}
 use Rattle.policy_text.proofs.Steps.{optional_holds, number_is}
-use Rattle.policy_text.proofs.AddressRanges.{hardware_below, addresses_range}
 
 -- ---- ranges
+
+hardware_range : (d : Data) (n : ℕ) → numeral Hardware d ≡ Some n → n < 2 ^ 48
+hardware_range (string s) n e = hardware_below s n e
+hardware_range (integer x) n e = absurd cc
+hardware_range (float x) n e = absurd cc
+hardware_range (boolean x) n e = absurd cc
+hardware_range (datetime x) n e = absurd cc
+hardware_range (array x) n e = absurd cc
+hardware_range (table x) n e = absurd cc
+
+addresses_range : (d : Data) (p : Prefix) → addresses d ≡ Some p → IsPrefix (Some p)
+addresses_range (string s) p e = prefix_range s p e
+addresses_range (integer x) p e = absurd cc
+addresses_range (float x) p e = absurd cc
+addresses_range (boolean x) p e = absurd cc
+addresses_range (datetime x) p e = absurd cc
+addresses_range (array x) p e = absurd cc
+addresses_range (table x) p e = absurd cc
 
 vlan_is : (n : ℕ) → is_number Vlan n ≡ true → IsVlan n
 vlan_is n e = elim (or_cases (leb n 4095) (n == 0xffff) e) [ inl low ↦ inl (leb-true _ _ low) | inr mark ↦ inr (eqb-true _ _ mark) ]
@@ -57,7 +76,7 @@ number_below : (high limit : ℕ) → high < limit → (this : SectionView) (key
 number_below high limit lt this key o e = below limit o (optional_holds (λ n. n < limit) (number (UpTo high)) (λ d n r. up_to high limit n lt (number_is (UpTo high) d n r)) this key o e)
 
 hardware_read : (this : SectionView) (key : List ℕ) (o : Option ℕ) → optional (numeral Hardware) this key ≡ Ok o → IsBelow (2 ^ 48) o
-hardware_read this key o e = below (2 ^ 48) o (optional_holds (λ n. n < 2 ^ 48) (numeral Hardware) hardware_below this key o e)
+hardware_read this key o e = below (2 ^ 48) o (optional_holds (λ n. n < 2 ^ 48) (numeral Hardware) hardware_range this key o e)
 
 prefix_read : (this : SectionView) (key : List ℕ) (o : Option Prefix) → optional addresses this key ≡ Ok o → IsPrefix o
 prefix_read this key o e = prefixes o (optional_holds (λ p. IsPrefix (Some p)) addresses addresses_range this key o e)

@@ -1,5 +1,4 @@
 pub mod Places
-pub mod Addresses
 pub mod Reading
 pub mod Slices
 pub mod Rules

@@ -1,44 +1,15 @@
 -- The text that is printed for a policy. All of it is this proxy's own rule.
-use Rattle.std.specs.Prelude.{ℕ, zero, suc, pos, ◌+◌, ◌*◌, ◌/◌, ◌%◌, ◌^◌, ◌==◌, ◌<◌, nat_lt, Bool, true, false, List, [], ◌∷◌, ◌++◌, map, slice_get, Option, Some, None, IfSome, option_map, option_and_then, codes, decimal, if◌then◌else◌}
+use Rattle.std.specs.Prelude.{ℕ, pos, ◌/◌, ◌%◌, ◌^◌, ◌==◌, ◌<◌, Bool, true, false, List, [], ◌∷◌, ◌++◌, map, slice_get, Option, Some, None, IfSome, option_map, option_and_then, codes, decimal, if◌then◌else◌}
 use Rattle.toml_writer.specs.Text.{string_text}
 use Rattle.toml.specs.Data.{Data, string, integer, array, Items, no_items, item}
 use Rattle.toml.specs.Text.{before_item}
 use Rattle.toml.specs.View.{items_of}
-use Rattle.of10_model.specs.declared.pattern.Prefix.{Prefix}
 use Rattle.of10_model.specs.declared.pattern.Pattern.{Pattern}
 use Rattle.of10_model.specs.Normal.{IsNormal}
+use Rattle.address_text.specs.Texts.{hex_text, hardware_text, prefix_text}
 use Rattle.flowspace.specs.declared.rules.Rule.{Rule}
 use Rattle.flowspace.specs.declared.slices.Slice.{Slice}
 use Rattle.flowspace.specs.Policies.{PolicyView}
-
--- ---- identifiers and addresses
-
--- a hex digit, in lower case
-abbrev pub hex_glyph : ℕ → ℕ
-hex_glyph n = if nat_lt n 10 then 48 + n else 87 + n
-
--- so many of a number's last hex digits
-unfoldable pub hex_text : ℕ → ℕ → List ℕ
-hex_text zero n = []
-hex_text (suc k) n = hex_glyph (n / 2 ^ (4 * k) % 16) ∷ hex_text k n
-
--- two hex digits
-abbrev pub pair_text : ℕ → List ℕ
-pair_text n = hex_glyph (n / 16 % 16) ∷ hex_glyph (n % 16) ∷ []
-
--- six pairs of hex digits with colons between them
-unfoldable pub hardware_text : ℕ → List ℕ
-hardware_text n =
-    pair_text (n / 2 ^ 40 % 256) ++ (58 ∷ pair_text (n / 2 ^ 32 % 256) ++ (58 ∷ pair_text (n / 2 ^ 24 % 256)
-    ++ (58 ∷ pair_text (n / 2 ^ 16 % 256) ++ (58 ∷ pair_text (n / 2 ^ 8 % 256) ++ (58 ∷ pair_text (n % 256))))))
-
--- four octets with dots between them
-abbrev pub dotted_text : ℕ → List ℕ
-dotted_text n = decimal (n / 2 ^ 24 % 256) ++ (46 ∷ decimal (n / 2 ^ 16 % 256) ++ (46 ∷ decimal (n / 2 ^ 8 % 256) ++ (46 ∷ decimal (n % 256))))
-
--- an address, and how many of its leading bits count where that isn't all
-unfoldable pub prefix_text : Prefix → List ℕ
-prefix_text p = dotted_text p.value ++ (if p.bits == 32 then [] else 47 ∷ decimal p.bits)
 
 -- ---- fields
 

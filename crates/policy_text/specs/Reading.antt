@@ -10,7 +10,7 @@ use Rattle.flowspace.specs.Owners.{is_in_port}
 use Rattle.flowspace.specs.Slices.{is_name_byte}
 use Rattle.of10_model.specs.declared.pattern.Prefix.{Prefix}
 use Rattle.of10_model.specs.Results.{◌>>=◌}
-use Rattle.policy_text.specs.Addresses.{datapath_id, hardware_address, prefix}
+use Rattle.address_text.specs.Addresses.{datapath_id, hardware_address, prefix}
 use Rattle.policy_text.specs.declared.fault.Part.{Part}
 use Rattle.policy_text.specs.declared.fault.Part.TheVariants.{Top, Slice, Rule}
 use Rattle.policy_text.specs.declared.fault.Place.{Place}

@@ -2,7 +2,6 @@
 //! rule.
 #![tactic(auto)]
 
-mod addresses;
 mod document;
 mod fault;
 mod names;
@@ -16,6 +15,3 @@ mod values;
 pub use document::read;
 pub use fault::{Part, Place, ReadFault};
 pub use printing::print;
-
-#[cfg(test)]
-mod tests;

@@ -5,11 +5,13 @@ ghost use Rattle.toml.specs.Data.{string};
 ghost use Rattle.toml.specs.View.{items_of};
 ghost use Rattle.toml_writer.specs.Text.{string_text};
 ghost use Rattle.std.specs.List.{AllByRecursion};
+ghost use Rattle.address_text.specs.Texts.{hardware_text, hex_text, prefix_text};
 ghost use Rattle.flowspace.specs.Policies.{IsPolicy};
 ghost use Rattle.policy_text.specs.Documents.{document_of, policy_of};
-ghost use Rattle.policy_text.specs.Printing.{IsHeld, entries_text, entry_text, hardware_text, hex_glyph, hex_text, items_text, link_entries, name_at, names, names_in, network_entries, number_value, own_entries, pair_text, prefix_text, rule_text, rules_text, slice_text, slices_text, text_of, text_value, unless_default};
+ghost use Rattle.policy_text.specs.Printing.{IsHeld, entries_text, entry_text, items_text, link_entries, name_at, names, names_in, network_entries, number_value, own_entries, rule_text, rules_text, slice_text, slices_text, text_of, text_value, unless_default};
 
 use crate::slices::{BURST, QUOTA, RATE};
+use address_text::{datapath_text, hardware_text, prefix_text};
 use flowspace::{Policy, Rule, Slice};
 use of10_action::Bytes;
 use of10_model::{Pattern, Prefix};
@@ -27,85 +29,6 @@ impl fmt::Display for Quoted<'_> {
         toml_writer::write_string(f, self.0)
     }
 }
-
-// ---- identifiers and addresses
-
-fn hex_glyph(n: u64) -> u8
-    requires { n < 16 }
-    ensures value { result ≡ hex_glyph n }
-    ensures ascii { result < 128 }
-{
-    if n < 10 { 48 + n as u8 } else { 87 + n as u8 }
-}
-
-fn push_byte(out: &mut String, byte: u8) -> Result<(), AllocError>
-    requires { byte < 128 }
-    ensures { OnOk result (string_bytes out.new ≡ string_bytes out.old ++ byte ∷ []) }
-{
-    out.push(char::from(byte))
-}
-
-#[tactic(auto, unfolding(crate::specs::Printing::hex_text))]
-fn push_hex(out: &mut String, n: u64) -> Result<(), AllocError>
-    ensures { OnOk result (string_bytes out.new ≡ string_bytes out.old ++ hex_text 16 n) }
-{
-    let mut left = 16u32;
-    while left > 0 {
-        left -= 1;
-        push_byte(out, hex_glyph((n >> (4 * left)) % 16))?;
-    }
-    Ok(())
-}
-
-fn push_pair(out: &mut String, n: u64) -> Result<(), AllocError>
-    ensures { OnOk result (string_bytes out.new ≡ string_bytes out.old ++ pair_text n) }
-{
-    push_byte(out, hex_glyph((n / 16) % 16))?;
-    push_byte(out, hex_glyph(n % 16))
-}
-
-fn hex_of(alloc: Global, n: u64) -> Result<String, AllocError>
-    ensures { IfOk result (λ s. string_bytes s ≡ hex_text 16 n) }
-{
-    let mut text = String::with_capacity(alloc, 16)?;
-    push_hex(&mut text, n)?;
-    Ok(text)
-}
-
-#[tactic(auto, unfolding(crate::specs::Printing::hardware_text))]
-fn hardware_of(alloc: Global, n: u64) -> Result<String, AllocError>
-    ensures { IfOk result (λ s. string_bytes s ≡ hardware_text n) }
-{
-    let mut text = String::with_capacity(alloc, 17)?;
-    push_pair(&mut text, n / 0x100_0000_0000 % 256)?;
-    text.push_str(":")?;
-    push_pair(&mut text, n / 0x1_0000_0000 % 256)?;
-    text.push_str(":")?;
-    push_pair(&mut text, n / 0x100_0000 % 256)?;
-    text.push_str(":")?;
-    push_pair(&mut text, n / 0x1_0000 % 256)?;
-    text.push_str(":")?;
-    push_pair(&mut text, n / 0x100 % 256)?;
-    text.push_str(":")?;
-    push_pair(&mut text, n % 256)?;
-    Ok(text)
-}
-
-#[tactic(auto, unfolding(crate::specs::Printing::prefix_text))]
-fn prefix_of(alloc: Global, p: &Prefix) -> Result<String, AllocError>
-    ensures { IfOk result (λ s. string_bytes s ≡ prefix_text p.now) }
-{
-    let (a, b) = (p.value / 0x100_0000 % 256, p.value / 0x1_0000 % 256);
-    let (c, d) = (p.value / 0x100 % 256, p.value % 256);
-    let bits = p.bits;
-    let mut text = format!(in alloc; "{a}.{b}.{c}.{d}")?;
-    if bits != 32 {
-        write!(text, "/{bits}")?;
-    }
-    Ok(text)
-}
-
-// ---- entries
 
 #[tactic(auto, unfolding(crate::specs::Printing::entry_text))]
 fn put_number(out: &mut String, key: &str, n: Option<u32>) -> Result<(), AllocError>
@@ -198,7 +121,7 @@ fn put_datapath(
 {
     match n {
         None => put_text(out, key, None),
-        Some(n) => put_text(out, key, Some(hex_of(alloc, n)?.as_str())),
+        Some(n) => put_text(out, key, Some(datapath_text(alloc, n)?.as_str())),
     }
 }
 
@@ -212,7 +135,7 @@ fn put_hardware(
 {
     match n {
         None => put_text(out, key, None),
-        Some(n) => put_text(out, key, Some(hardware_of(alloc, n)?.as_str())),
+        Some(n) => put_text(out, key, Some(hardware_text(alloc, n)?.as_str())),
     }
 }
 
@@ -226,7 +149,7 @@ fn put_prefix(
 {
     match p {
         None => put_text(out, key, None),
-        Some(p) => put_text(out, key, Some(prefix_of(alloc, &p)?.as_str())),
+        Some(p) => put_text(out, key, Some(prefix_text(alloc, &p)?.as_str())),
     }
 }
 

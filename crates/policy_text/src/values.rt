@@ -5,7 +5,7 @@ ghost use Rattle.toml.specs.Text.{are_tables, has_items};
 ghost use Rattle.toml.specs.View.{items_view, view};
 ghost use Rattle.policy_text.specs.Reading.{addresses, each_text, greatest, is_name, is_number, is_text, number, numeral, numeral_of, some_tables, tables, text, text_list};
 
-use crate::addresses::{datapath_id, hardware_address, prefix};
+use address_text::{datapath_id, hardware_address, prefix};
 use flowspace::limits::{CONTROLLER_BYTES, NAME_BYTES};
 use flowspace::{has_name_bytes, is_in_port, is_vlan};
 use of10_model::Prefix;

@@ -3,11 +3,11 @@ use Rattle.std.proofs.Common.{◌≡◌, ℕ, ◌+◌, ◌-◌, ◌*◌, ◌/◌
 use Rattle.std.proofs.lemmas.Bool.{and_parts, lt-ltb, le-ltb}
 use Rattle.std.proofs.lemmas.Nat.{shr-shr}
 use Rattle.std.proofs.lemmas.Option.{same_Some}
-use Rattle.policy_text.specs.Addresses.{hex_digit, hex_after, datapath_id, pair_at, has_colons, six_pairs, hardware_address}
-use Rattle.policy_text.specs.Printing.{hex_glyph, hex_text, pair_text, hardware_text}
-use Rattle.policy_laws.specs.Written.{HardwareAddressesAreAsWritten, DatapathIdsAreAsWritten}
-use Rattle.policy_text.proofs.AddressRanges.{bind_some, map_some, hex_digit_below, six_pairs_read}
-use Rattle.policy_text.proofs.PrintedValues.{datapath_back, hardware_back}
+use Rattle.address_text.specs.Addresses.{hex_digit, hex_after, datapath_id, pair_at, has_colons, six_pairs, hardware_address}
+use Rattle.address_text.specs.Texts.{hex_glyph, hex_text, pair_text, hardware_text}
+use Rattle.address_text.specs.Written.{HardwareAddressesAreAsWritten, DatapathIdsAreAsWritten}
+use Rattle.address_text.proofs.Ranges.{bind_some, map_some, hex_digit_below, six_pairs_read}
+use Rattle.address_text.proofs.Printed.{datapath_back, hardware_back}
 
 -- ---- digits
 

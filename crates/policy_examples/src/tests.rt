@@ -1,6 +1,6 @@
-use crate::{ReadFault, print, read};
 use flowspace::Policy;
 use of10_model::{Pattern, Prefix};
+use policy_text::{ReadFault, print, read};
 use std::alloc::{AllocError, Global};
 use std::test::Fail;
 

@@ -1,7 +1,7 @@
-//! Addresses and identifiers as they are written in a policy text.
+//! Identifiers and addresses that texts name.
 
 ghost use Rattle.std.specs.Prelude.{◌≡◌, ◌≤◌, ◌<◌, ◌+◌, ◌*◌, IfSome, length, option_map, true};
-ghost use Rattle.policy_text.specs.Addresses.{after, bits_after, bits_of, datapath_id, digit_at, digits_at, dotted_at, hardware_address, has_colons, hex_after, hex_digit, leading_bits, octet_at, pair_at, prefix, six_pairs, with_digit};
+ghost use Rattle.address_text.specs.Addresses.{after, bits_after, bits_of, datapath_id, digit_at, digits_at, dotted_at, hardware_address, has_colons, hex_after, hex_digit, leading_bits, octet_at, pair_at, prefix, six_pairs, with_digit};
 
 use of10_model::{Prefix, without_low_bits};
 

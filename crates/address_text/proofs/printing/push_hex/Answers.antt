@@ -1,6 +1,6 @@
 use Rattle.std.proofs.Common.{◌++◌, ◌∙◌, ap, sym, arith, append_assoc, string_bytes}
-use Rattle.policy_text.proofs.Appending.{hex_more}
-use Rattle.policy_text.proofs.printing.push_hex.Goals as goal
+use Rattle.address_text.proofs.Appending.{hex_more}
+use Rattle.address_text.proofs.printing.push_hex.Goals as goal
 
 pub loop-left-preserved : goal.loop-left-preserved
 loop-left-preserved c =

@@ -1,6 +1,6 @@
 use Rattle.std.proofs.Common.{arith}
-use Rattle.policy_text.proofs.Powers.{within_word}
-use Rattle.policy_text.proofs.addresses.hex_number.Goals as goal
+use Rattle.address_text.proofs.Powers.{within_word}
+use Rattle.address_text.proofs.reading.hex_number.Goals as goal
 
 pub overflow_mul-number : goal.overflow_mul-number
 overflow_mul-number c = omega (arith, within_word c.loop-c.number c.loop-c.c-index 0 (omega arith) c.loop-c.invariant.1 (omega arith))

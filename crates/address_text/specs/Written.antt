@@ -1,8 +1,8 @@
 -- Which texts are identifiers and addresses, in the words of what is printed. The forms are this proxy's own rule.
 use Rattle.std.specs.Prelude.{◌≡◌, ◌⊎◌, ◌↔◌, ℕ, ◌^◌, ◌≤◌, ◌<◌, List, ◌∷◌, ◌++◌, Some, decimal}
 use Rattle.of10_model.specs.declared.pattern.Prefix.{Prefix}
-use Rattle.policy_text.specs.Addresses.{datapath_id, hardware_address, leading_bits, prefix}
-use Rattle.policy_text.specs.Printing.{dotted_text, hardware_text, hex_text}
+use Rattle.address_text.specs.Addresses.{datapath_id, hardware_address, leading_bits, prefix}
+use Rattle.address_text.specs.Texts.{dotted_text, hardware_text, hex_text}
 
 -- a text of an address: with a slash and how many of its leading bits count, or without where all do
 pub record IsPrefixText (text : List ℕ) (p : Prefix) : Type 0 where

@@ -3,13 +3,10 @@ use Rattle.std.proofs.Common.{◌≡◌, ℕ, ◌+◌, ◌-◌, ◌*◌, ◌/◌
 use Rattle.std.proofs.Math.Nat.{div-mul-le_self, mul-mod_left}
 use Rattle.std.proofs.lemmas.Bool.{and_parts}
 use Rattle.std.proofs.lemmas.Option.{same_Some, cond_some}
-use Rattle.toml.specs.Data.{Data, string, integer, float, boolean, datetime, array, table}
 use Rattle.of10_model.specs.declared.pattern.Prefix.{Prefix}
 use Rattle.of10_model.specs.Normal.{IsPrefix}
-use Rattle.policy_text.specs.declared.values.Numerals.TheVariants.{Hardware}
 use Rattle.of10_model.specs.Meet.{◌>>=◌}
-use Rattle.policy_text.specs.Addresses.{hex_digit, pair_at, has_colons, six_pairs, digits_at, octet_of, octet_at, after, dotted_at, bits_of, bits_after, leading_bits, prefix}
-use Rattle.policy_text.specs.Reading.{numeral, addresses}
+use Rattle.address_text.specs.Addresses.{hex_digit, pair_at, has_colons, six_pairs, hardware_address, digits_at, octet_of, octet_at, after, dotted_at, bits_of, bits_after, leading_bits, prefix}
 
 pub bind_some : {A B : Type 0} (o : Option A) (f : A → Option B) (y : B) → (o >>= f) ≡ Some y → (x : A) × (o ≡ Some x) × (f x ≡ Some y)
 bind_some None f y e = absurd cc
@@ -90,14 +87,8 @@ hardware_cases : (b : Bool) (text : List ℕ) (n : ℕ) → cond b (six_pairs te
 hardware_cases true text n e = six_pairs_below text n e
 hardware_cases false text n e = absurd cc
 
-pub hardware_below : (d : Data) (n : ℕ) → numeral Hardware d ≡ Some n → n < 2 ^ 48
-hardware_below (string s) n e = hardware_cases (has_colons s) s n e
-hardware_below (integer x) n e = absurd cc
-hardware_below (float x) n e = absurd cc
-hardware_below (boolean x) n e = absurd cc
-hardware_below (datetime x) n e = absurd cc
-hardware_below (array x) n e = absurd cc
-hardware_below (table x) n e = absurd cc
+pub hardware_below : (text : List ℕ) (n : ℕ) → hardware_address text ≡ Some n → n < 2 ^ 48
+hardware_below text n e = hardware_cases (has_colons text) text n e
 
 -- ---- decimal
 
@@ -179,19 +170,10 @@ IsPrefix-leading address bits below some few =
     let cut = div-mul-le_self address (2 ^ (32 - bits)) in
     (some, few, omega (arith, cut), mul-mod_left (address / 2 ^ (32 - bits)) (2 ^ (32 - bits)))
 
-prefix_range : (text : List ℕ) (p : Prefix) → prefix text ≡ Some p → IsPrefix (Some p)
+pub prefix_range : (text : List ℕ) (p : Prefix) → prefix text ≡ Some p → IsPrefix (Some p)
 unfolding prefix
 prefix_range text p e =
     let a = bind_some (dotted_at text) (λ address. option_map (leading_bits address.0) (bits_after address.1)) p e in
     let b = map_some (leading_bits a.0.0) (bits_after a.0.1) p a.2 in
     let range = bits_after_range a.0.1 b.0 b.1 in
     subst (λ q. IsPrefix (Some q)) b.2 (IsPrefix-leading a.0.0 b.0 (dotted_below text a.0 a.1) range.0 range.1)
-
-pub addresses_range : (d : Data) (p : Prefix) → addresses d ≡ Some p → IsPrefix (Some p)
-addresses_range (string s) p e = prefix_range s p e
-addresses_range (integer x) p e = absurd cc
-addresses_range (float x) p e = absurd cc
-addresses_range (boolean x) p e = absurd cc
-addresses_range (datetime x) p e = absurd cc
-addresses_range (array x) p e = absurd cc
-addresses_range (table x) p e = absurd cc

@@ -1,0 +1,3 @@
+pub mod Addresses
+pub mod Texts
+pub mod Written

@@ -1,0 +1,5 @@
+//! Texts of policies: what they are read as or refused with, and what is printed. There are tests here alone.
+#![tactic(auto)]
+
+#[cfg(test)]
+mod tests;
