@@ -86,12 +86,13 @@ fn disk_reads_parts_in_any_order(rt: HostRuntime) -> Result<(), Fail> {
             "from {from}"
         );
     }
-    for (from, bytes) in [(4, b"2n"), (0, b"1s")] {
+    // The other file is read first from where the one before was read to.
+    for (from, bytes) in [(2, b"t\n"), (4, b"2n"), (0, b"1s")] {
         assert_eq!(rt; disk.read(other.as_str(), from, &mut part).ok(), Some(2));
         assert_eq!(rt; &part, bytes);
     }
 
-    // The file stays open until it is read to its end, or another is.
+    // The file stays open until another one is read.
     fs::remove_file(&rt, other.as_str())?;
     assert_eq!(rt; disk.read(other.as_str(), 2, &mut part).ok(), Some(2));
     assert_eq!(rt; &part, b"t\n");

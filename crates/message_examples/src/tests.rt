@@ -1,5 +1,5 @@
 //! A message of each type, spelled out from the layouts of OpenFlow 1.0.0, section 5: what it is read as,
-//! and that this is written as the same bytes.
+//! and, but for STATS_REPLY, which no call writes, that this is written as the same bytes.
 
 ghost use Rattle.of10_ctl.specs.declared.kind.TheConstants.{FEATURES_REPLY, PACKET_IN, FLOW_REMOVED, PORT_STATUS, PACKET_OUT, FLOW_MOD, STATS_REQUEST, STATS_REPLY};
 ghost use Rattle.of10_ctl.specs.Kinds.{IsOf};

@@ -1,5 +1,5 @@
 -- For what memory may be wanted.
-use Rattle.std.proofs.Common.{◌≡◌, ℕ, ◌&&◌, ◌||◌, leb, Bool, true, false, if◌then◌else◌, List, [], ◌∷◌, slice_get, refl, ap, ap₂, subst, sym, ◌∙◌, true≢false, append-nil, Option, Some, None, Result, Ok, Err, OnErr}
+use Rattle.std.proofs.Common.{◌≡◌, ℕ, ◌&&◌, ◌||◌, leb, Bool, true, false, if◌then◌else◌, List, [], ◌∷◌, slice_get, refl, ap, ap₂, subst, sym, ◌∙◌, true≢false, append-nil, Option, Some, None}
 use Rattle.std.specs.Prelude.{is_some}
 use Rattle.std.proofs.lemmas.Bool.{or_left, or_right}
 use Rattle.std.proofs.lemmas.List.{length-map}
@@ -35,11 +35,6 @@ use Rattle.proxy_core.proofs.Standing.{slots_are, slot_there}
 use Rattle.proxy_core.proofs.Acting.{is_opened}
 use Rattle.proxy_core.proofs.Slices.{shown_up, shown_msg}
 use Rattle.proxy_core.proofs.Sliced.{stands_in, sees, put_heard, up_state}
-
--- what holds anyhow holds of an error
-pub err_any : {T E P : Type 0} (r : Result T E) → P → OnErr r P
-err_any (Ok x) p = tt
-err_any (Err e) p = p
 
 -- ---- something is sent
 

@@ -138,11 +138,17 @@ fn the_report_of_a_recording_in_memory_is_written(rt: HostRuntime) -> Result<(),
 fn a_sink_that_fails_ends_the_report_at_a_line(rt: HostRuntime) -> Result<(), Fail> {
     let alloc = rt.alloc();
     let recording = bytes(alloc, &[written_out(alloc, WEB_RECORDING)?.as_str()])?;
-    let failing = MemorySink::with_plan(alloc, usize::MAX, vec![in alloc; 1]?);
-    let answer = play(alloc, RULES, &recording, failing)?;
-    let first = "0 0 lane 01000008ff000000\n";
-    expect_answer(&rt, &answer, (5, first, "write fault\n"), "");
-    assert_eq!(rt; answer.out.faults(), 1);
+    let report = written_out(alloc, WEB_REPORT)?;
+    let mut before = String::new(alloc);
+    for (puts, line) in report.as_str().lines().enumerate() {
+        let failing = MemorySink::with_plan(alloc, usize::MAX, vec![in alloc; puts as u64]?);
+        let answer = play(alloc, RULES, &recording, failing)?;
+        let expected = (5, before.as_str(), "write fault\n");
+        expect_answer(&rt, &answer, expected, line);
+        assert_eq!(rt; answer.out.faults(), 1);
+        write!(before, "{line}\n")?;
+    }
+    assert_eq!(rt; before.as_str(), report.as_str());
     Ok(())
 }
 

@@ -1,7 +1,8 @@
 use Rattle.std.proofs.lemmas.Result.{IfOk-weaker, on_err_weaker}
 use Rattle.desk_words.specs.declared.event.Event.TheVariants.{SwitchUp, SwitchMsg, SwitchDown, SliceUp, SliceMsg, SliceDown}
 use Rattle.proxy_core.proofs.Switched.{at_event}
-use Rattle.proxy_core.proofs.Wanting.{err_any, at_wants, greeting_wants}
+use Rattle.of10_ctl.proofs.Standing.{on_err}
+use Rattle.proxy_core.proofs.Wanting.{at_wants, greeting_wants}
 use Rattle.proxy_core.proofs.parts.Desk.act.Goals as goal
 
 pub returns-in-SwitchUp-clause-ok : goal.returns-in-SwitchUp-clause-ok
@@ -29,7 +30,7 @@ returns-in-SliceDown-clause-ok c =
     at_event c.args.self.now c.lose_slice.new.self c.args.timed (SliceDown c.in-SliceDown.slot) c.lose_slice.result c.in-SliceDown.is (c.lose_slice.ensures.acts c.args.timed.moment)
 
 pub returns-in-SwitchUp-clause-memory : goal.returns-in-SwitchUp-clause-memory
-returns-in-SwitchUp-clause-memory c = err_any c.greet.result (at_wants c.args.self.now c.args.timed SwitchUp c.in-SwitchUp.is (greeting_wants c.args.self.now c.args.timed.moment))
+returns-in-SwitchUp-clause-memory c = on_err c.greet.result (at_wants c.args.self.now c.args.timed SwitchUp c.in-SwitchUp.is (greeting_wants c.args.self.now c.args.timed.moment))
 
 pub returns-in-SwitchMsg-clause-memory : goal.returns-in-SwitchMsg-clause-memory
 returns-in-SwitchMsg-clause-memory c = on_err_weaker c.hear_switch.result (λ wants. at_wants c.args.self.now c.args.timed (SwitchMsg c.in-SwitchMsg.frame) c.in-SwitchMsg.is (wants c.args.timed.moment)) c.hear_switch.ensures.memory

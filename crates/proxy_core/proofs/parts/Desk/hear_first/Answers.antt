@@ -1,7 +1,8 @@
 use Rattle.std.proofs.Common.{sym, ◌∙◌}
 use Rattle.std.proofs.lemmas.Result.{IfOk-weaker, on_err_weaker, err_from_is_err_and}
 use Rattle.proxy_core.proofs.Switched.{begun_ends}
-use Rattle.proxy_core.proofs.Wanting.{err_any, echo_wants, opening_wants, told_wants}
+use Rattle.of10_ctl.proofs.Standing.{on_err}
+use Rattle.proxy_core.proofs.Wanting.{echo_wants, opening_wants, told_wants}
 use Rattle.proxy_core.proofs.parts.Desk.hear_first.Goals as goal
 
 pub returns-then-bad_length-clause-ok : goal.returns-then-bad_length-clause-ok
@@ -16,7 +17,7 @@ returns-in_err-features-clause-memory c =
     rw p.1 (told_wants c.args.frame.now c.in_err-features.ensures.memory)
 
 pub returns-in-Some-clause-memory : goal.returns-in-Some-clause-memory
-returns-in-Some-clause-memory c = err_any c.open.result (opening_wants c.args.frame.now _ _ c.in_ok-features.ensures.value c.in-Some.is)
+returns-in-Some-clause-memory c = on_err c.open.result (opening_wants c.args.frame.now _ _ c.in_ok-features.ensures.value c.in-Some.is)
 
 pub returns-in-None-clause-memory : goal.returns-in-None-clause-memory
 returns-in-None-clause-memory c = on_err_weaker c.answer_echo.result (echo_wants c.args.frame.now _ c.in_ok-features.ensures.value c.in-None.is) c.answer_echo.ensures.memory

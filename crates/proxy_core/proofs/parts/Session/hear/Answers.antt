@@ -3,7 +3,7 @@ use Rattle.std.proofs.lemmas.Result.{on_err_weaker, IfOk-weaker}
 use Rattle.flow_book.specs.declared.state.SliceState.{SliceState}
 use Rattle.proxy_core.specs.Slots.{HasEffect, Keeps, Hears}
 use Rattle.proxy_core.proofs.Rooms.{placed_here, state_read, there_up}
-use Rattle.proxy_core.proofs.Wanting.{err_any}
+use Rattle.of10_ctl.proofs.Standing.{on_err}
 use Rattle.proxy_core.proofs.parts.Session.hear.Goals as goal
 
 pub returns-clause-err : goal.returns-clause-err
@@ -20,7 +20,7 @@ returns-clause-up c =
     c.index_mut.result.now c.hear.new.state c.index_mut-2.result.now c.hear.new.queue c.from-at.ensures there refl refl refl refl refl c.index_mut.ensures.value c.index_mut-2.ensures.value hears) c.hear.ensures.ok
 
 pub returns-clause-memory : goal.returns-clause-memory
-returns-clause-memory c = err_any c.hear.result (sym c.is_up.ensures ∙ c.if-not-is_up.false)
+returns-clause-memory c = on_err c.hear.result (sym c.is_up.ensures ∙ c.if-not-is_up.false)
 
 pub returns-clause-effect : goal.returns-clause-effect
 returns-clause-effect c =
