@@ -1,4 +1,4 @@
--- Addresses and identifiers as they are written in a policy text. The forms are this proxy's own rule.
+-- Identifiers and addresses that texts name. The forms are this proxy's own rule.
 use Rattle.std.specs.Prelude.{ℕ, ◌+◌, ◌-◌, ◌*◌, ◌/◌, ◌^◌, ◌==◌, ◌&&◌, nat_le, Bool, List, [], ◌∷◌, length, slice_index, Option, Some, None, option_map, if◌then◌else◌}
 use Rattle.of10_model.specs.declared.pattern.Prefix.{Prefix}
 use Rattle.of10_model.specs.Meet.{◌>>=◌}

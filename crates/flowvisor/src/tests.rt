@@ -92,7 +92,7 @@ fn disk_reads_parts_in_any_order(rt: HostRuntime) -> Result<(), Fail> {
         assert_eq!(rt; &part, bytes);
     }
 
-    // The file stays open until another one is read.
+    // A file stays open for a read that goes on, though its name is gone.
     fs::remove_file(&rt, other.as_str())?;
     assert_eq!(rt; disk.read(other.as_str(), 2, &mut part).ok(), Some(2));
     assert_eq!(rt; &part, b"t\n");

@@ -1,6 +1,6 @@
 //! Printing a policy.
 
-ghost use Rattle.std.specs.Prelude.{◌≡◌, false, ◌++◌, ◌∷◌, [], ◌<◌, ◌^◌, Ok, Some, IfOk, IfSome, OnOk, map, option_and_then, option_map, string_bytes};
+ghost use Rattle.std.specs.Prelude.{◌≡◌, false, ◌++◌, ◌<◌, ◌^◌, Ok, Some, IfOk, IfSome, OnOk, map, option_and_then, option_map, string_bytes};
 ghost use Rattle.toml.specs.Data.{string};
 ghost use Rattle.toml.specs.View.{items_of};
 ghost use Rattle.toml_writer.specs.Text.{string_text};

@@ -108,7 +108,10 @@ fn finds_as_the_list_of_all_requests(rt: HostRuntime) -> Result<(), Fail> {
         wraps = wraps.saturating_add(u32::from(requests.len() > 4096));
     }
     assert!(rt; hits > 100, "{hits} of the requests found were marked");
-    assert!(rt; forgets > 0 && wraps > 2_000, "{forgets}, {wraps}");
+    assert!(rt;
+        forgets > 0 && wraps > 2_000,
+        "forgets {forgets}, wraps {wraps}"
+    );
     Ok(())
 }
 
