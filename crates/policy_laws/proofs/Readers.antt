@@ -1,6 +1,6 @@
 -- Which slices a rule's readers are.
 use Rattle.std.proofs.Common.{◌≡◌, ◌↔◌, ◌⊎◌, inl, inr, ℕ, zero, suc, ◌+◌, ◌-◌, ◌/◌, ◌^◌, ◌<◌, ◌||◌, Bool, true, false, cond, true≢false, nat_eq, eqb-true, List, [], ◌∷◌, Option, Some, None, Ok, refl, sym, ap, ◌∙◌, arith}
-use Rattle.std.specs.List.{list_any}
+use Rattle.std.specs.List.{Any, list_any}
 use Rattle.std.proofs.Math.Nat.{add-div_right, add-mul-div_right, add-mul-mod_self_right, div-eq_of_lt, pow-suc}
 use Rattle.std.proofs.lemmas.Bool.{cases_lt, or_cases}
 use Rattle.std.proofs.lemmas.Bool.Decides.{nat_tests}
@@ -48,7 +48,7 @@ bits_are (suc n) k slots lt =
 
 -- ---- names
 
-named_is : (index : ℕ) (o : Option ℕ) (slot : ℕ) → named index o ≡ Ok slot → o ≡ Some slot
+pub named_is : (index : ℕ) (o : Option ℕ) (slot : ℕ) → named index o ≡ Ok slot → o ≡ Some slot
 named_is index None slot e = absurd cc
 named_is index (Some x) slot e = ap Some (ok_is x slot e)
 
@@ -57,13 +57,20 @@ either_true true b h = refl
 either_true false b (inl h) = absurd (true≢false (sym h))
 either_true false b (inr h) = h
 
-is_itself : (k slot : ℕ) → slot ≡ k → nat_eq k slot ≡ true
+pub is_itself : (k slot : ℕ) → slot ≡ k → nat_eq k slot ≡ true
 is_itself k slot e = grind (arith, nat_tests)
+
+pub later : {X : Type 0} (P : X → Type 0) (x : X) (xs : List X) → Any P xs → Any P (x ∷ xs)
+later P x xs h = (suc h.0, h.1, omega (arith, h.2), h.3, h.4)
+
+first_or_later : {X : Type 0} (P : X → Type 0) (x : X) (xs : List X) → Any P (x ∷ xs) → P x ⊎ Any P xs
+first_or_later P x xs (zero, y, lt, at, p) = inl (rw at p)
+first_or_later P x xs (suc k, y, lt, at, p) = inr (k, y, omega (arith, lt), at, p)
 
 slots_named : (slices : List Slice) (index : ℕ) (names : List (List ℕ)) (slots : List ℕ) (k : ℕ) → slots_of slices index names ≡ Ok slots → (list_any (nat_eq k) slots ≡ true) ↔ IsNamedSlot slices names k
 slots_named slices index [] slots k e =
     let none = ok_is [] slots e in
-    (λ h. absurd (true≢false (sym h ∙ ap (list_any (nat_eq k)) (sym none))), λ h. absurd h)
+    (λ h. absurd (true≢false (sym h ∙ ap (list_any (nat_eq k)) (sym none))), λ h. absurd (omega (arith, h.2)))
 slots_named slices index (name ∷ names) slots k e =
     let a = bind_ok (named index (slot_of slices name)) _ slots e in
     let b = bind_ok (slots_of slices index names) _ slots a.2 in
@@ -71,10 +78,10 @@ slots_named slices index (name ∷ names) slots k e =
     let first = named_is index (slot_of slices name) a.0 a.1 in
     let more = slots_named slices index names b.0 k b.1 in (
       λ h. elim (or_cases (nat_eq k a.0) (list_any (nat_eq k) b.0) (ap (list_any (nat_eq k)) made ∙ h)) [
-        | inl here ↦ inl (first ∙ ap Some (sym (eqb-true k a.0 here)))
-        | inr there ↦ inr (more.0 there)
+        | inl here ↦ (0, name, omega arith, refl, first ∙ ap Some (sym (eqb-true k a.0 here)))
+        | inr there ↦ later (λ other. slot_of slices other ≡ Some k) name names (more.0 there)
       ],
-      λ h. ap (list_any (nat_eq k)) (sym made) ∙ either_true (nat_eq k a.0) (list_any (nat_eq k) b.0) (elim h [
+      λ h. ap (list_any (nat_eq k)) (sym made) ∙ either_true (nat_eq k a.0) (list_any (nat_eq k) b.0) (elim (first_or_later (λ other. slot_of slices other ≡ Some k) name names h) [
         | inl here ↦ inl (is_itself k a.0 (same_Some a.0 k (sym first ∙ here)))
         | inr there ↦ inr (more.1 there)
       ]),

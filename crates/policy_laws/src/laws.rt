@@ -1,6 +1,6 @@
 //! Laws of the definitions. Each function's contract is the law; its body does nothing.
 
-ghost use Rattle.std.specs.Prelude.{ℕ, ◌^◌, ◌<◌, nat_eq, true, List, ◌≡◌, ◌↔◌, Ok, Err};
+ghost use Rattle.std.specs.Prelude.{ℕ, ◌^◌, ◌<◌, nat_eq, true, List, map, ◌≡◌, ◌↔◌, Some, Ok, Err};
 ghost use Rattle.std.specs.List.{list_any};
 ghost use Rattle.toml.specs.Data.{Items, Members, table};
 ghost use Rattle.of10_model.specs.Normal.{bit};
@@ -8,11 +8,13 @@ ghost use Rattle.flowspace.specs.declared.rules.Rule.{Rule};
 ghost use Rattle.flowspace.specs.declared.slices.Slice.{Slice};
 ghost use Rattle.policy_text.specs.declared.fault.Part.TheVariants as part;
 ghost use Rattle.policy_text.specs.declared.fault.ReadFault.{ReadFault};
-ghost use Rattle.policy_text.specs.declared.fault.ReadFault.TheVariants.{UnknownKey};
+ghost use Rattle.flowspace.specs.declared.fault.PolicyFault.TheVariants.{UnknownSlice};
+ghost use Rattle.flowspace.specs.declared.fault.Field.TheVariants.{Read};
+ghost use Rattle.policy_text.specs.declared.fault.ReadFault.TheVariants.{Improper, Refused, UnknownKey};
 ghost use Rattle.policy_text.specs.Firsts.{AreReadAs, IsFirstRefused, StandsIn, AreKnown, IsLeastUnknown};
 ghost use Rattle.policy_text.specs.Reading.{SectionView, place_of, known_keys};
-ghost use Rattle.policy_laws.specs.Readers.{IsNamedSlot};
-ghost use Rattle.policy_text.specs.Rules.{bits_below, RuleText, rule_from, rule_of, rules_from};
+ghost use Rattle.policy_laws.specs.Readers.{IsNamedSlot, NamesNoSlice, NamesSlices, NamesTwice, names_in};
+ghost use Rattle.policy_text.specs.Rules.{bits_below, RuleText, rule_from, rule_of, rules_from, slot_of, slots_of};
 ghost use Rattle.policy_text.specs.Slices.{slice_of, slices_from};
 
 /// Slices are read exactly where each item is one, in order; else the fault is that of the first item
@@ -52,4 +54,13 @@ pub fn readers_are_the_named_slots()
     ensures bits { (slots : List ℕ) (k : ℕ) → k < 32 → bit (bits_below 32 slots) k ≡ list_any (nat_eq k) slots }
     ensures limit { (slots : List ℕ) → bits_below 32 slots < 2 ^ 32 }
     ensures rule { (slices : List Slice) (index : ℕ) (said : RuleText) (rule : Rule) (k : ℕ) → rule_from slices index said ≡ Ok rule → k < 32 → (bit rule.readers k ≡ true) ↔ IsNamedSlot slices said.read k }
+{}
+
+/// The slots of names are those of the slices with these names, in order. A rule is refused for a name that
+/// no slice has exactly where there is one under its `write` or `read`, and for an improper `read` exactly
+/// where all its names are slices' and two under `read` are of one slot.
+pub fn names_are_of_slices()
+    ensures slots { (slices : List Slice) (index : ℕ) (names : List (List ℕ)) (slots : List ℕ) → (slots_of slices index names ≡ Ok slots) ↔ (map (slot_of slices) names ≡ map Some slots) }
+    ensures missing { (slices : List Slice) (index : ℕ) (said : RuleText) → (rule_from slices index said ≡ Err (Refused (UnknownSlice index))) ↔ NamesNoSlice slices (names_in said) }
+    ensures repeated { (slices : List Slice) (index : ℕ) (said : RuleText) → (rule_from slices index said ≡ Err (Improper index Read)) ↔ (NamesSlices slices (names_in said) × NamesTwice slices said.read) }
 {}
