@@ -31,8 +31,10 @@ def path_of(usage):
 
 def numbers_of(usage, *defaults):
     """The numbers that the words are, and the defaults of those that are left out."""
-    given = [int(word) for word in words_of(usage)[: len(defaults)]]
-    return *given, *defaults[len(given) :]
+    words = words_of(usage)
+    if len(words) > len(defaults) or not all(word.isdecimal() for word in words):
+        sys.exit(usage)
+    return *map(int, words), *defaults[len(words) :]
 
 
 def record_head(kind, moment, length, slot=0, switch=0):
