@@ -13,7 +13,8 @@ use Rattle.slice_words.specs.Messages.{xid_of}
 use Rattle.slice_words.specs.Items.{Settings, Share, Writer, Reader, Probe, Packet, Item, Opened, Up, Down, Msg, Lost, Handed, Removed, Status, Fault, Barrier, Queues, Entry, Last, End, is_up, miss_send_len, buffered_count, known_ports}
 use Rattle.slice_words.specs.Answers.{Answer, Past, silence, told, dismissal, error_for, refused, no_common_version, bad_length, config_reply, packet_message, packet_told, message_answer, answer}
 use Rattle.slice_words.specs.Alone.{rendered, played, answer_to, sent_for, put_for}
-use Rattle.slice_words.proofs.AnswerKinds.{either, message_holds}
+use Rattle.of10_model.proofs.Results.{either}
+use Rattle.slice_words.proofs.AnswerKinds.{message_holds}
 use Rattle.answer_bounds.specs.Bounds.{AreFew}
 use Rattle.answer_bounds.proofs.Messages.{IsShort, few-none, few-one, few-next, short-message, short-echo, short-config, short-error, short-features, short-status, short-packet}
 

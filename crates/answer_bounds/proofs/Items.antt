@@ -15,7 +15,7 @@ use Rattle.flowspace.specs.Order.{writer_of, readers_of}
 use Rattle.flowspace.specs.Policies.{PolicyView}
 use Rattle.slice_words.specs.Items.{Settings, is_own_port, Share, Writer, Reader, Item, Up, Down, Msg, Status, End, is_up}
 use Rattle.slice_words.specs.Items as items
-use Rattle.slice_words.proofs.AnswerKinds.{either}
+use Rattle.of10_model.proofs.Results.{either}
 use Rattle.desk_words.specs.declared.event.Event.{Event}
 use Rattle.desk_words.specs.declared.event.Event.TheVariants.{SwitchUp, SwitchMsg, SwitchDown, SliceUp, SliceMsg, SliceDown}
 use Rattle.desk_words.specs.declared.event.Timed.{Timed}

@@ -22,7 +22,7 @@ use Rattle.port_view.specs.KnownPorts.{is_of_number, ports_below, ports_above, w
 use Rattle.port_view.specs.SlicePorts.{ports_of_slice}
 use Rattle.port_view.proofs.Knowing.{cases_kept, changed-kept, changed-not_kept}
 use Rattle.slice_words.specs.Items.{Item, known_ports}
-use Rattle.slice_words.proofs.AnswerKinds.{either}
+use Rattle.of10_model.proofs.Results.{either}
 use Rattle.desk_words.specs.declared.event.Event.{Event}
 use Rattle.desk_words.specs.declared.event.Event.TheVariants.{SwitchUp, SwitchMsg, SwitchDown, SliceUp, SliceMsg, SliceDown}
 use Rattle.desk_words.specs.declared.event.Timed.{Timed}

@@ -2,7 +2,7 @@
 use Rattle.std.proofs.Common.{◌≡◌, ℕ, ◌==◌, ◌&&◌, ◌||◌, Bool, true, false, cond, if◌then◌else◌, List, [], ◌∷◌, ◌++◌, map, refl, ap, ap₂, sym, ◌∙◌, append-nil, true≢false, Option, Some, None, inl, inr, ◌⊎◌}
 use Rattle.std.proofs.lemmas.Bool.{eq-eqb, or_parts}
 use Rattle.std.specs.List.{filter, list_any}
-use Rattle.of10_model.proofs.Results.{either_none}
+use Rattle.of10_model.proofs.Results.{either, either_none}
 use Rattle.of10_ctl.specs.declared.kind.TheConstants.{PACKET_IN}
 use Rattle.of10_ctl.specs.Frames.{is_bad}
 use Rattle.of10_flow.specs.declared.packet_in.PacketIn.{PacketIn}
@@ -15,7 +15,6 @@ use Rattle.flowspace.specs.Policies.{PolicyView}
 use Rattle.slice_words.specs.Items.{Settings, is_own_port, Share, Item, Opened as Told, Up, Down, Msg, Lost, Handed, Removed, Status, Fault, Barrier, Queues, Entry, Last, End, is_up, is_forgetting}
 use Rattle.slice_words.specs.Alone.{with_items, sent_for}
 use Rattle.slice_words.specs.Laws.{is_coming, is_last_up}
-use Rattle.slice_words.proofs.AnswerKinds.{either}
 use Rattle.slice_words.proofs.Joining.{silent, last_up}
 use Rattle.desk_words.specs.declared.event.Event.{Event}
 use Rattle.desk_words.specs.declared.event.Event.TheVariants.{SwitchUp, SwitchMsg, SwitchDown, SliceUp, SliceMsg, SliceDown}

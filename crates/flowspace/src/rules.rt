@@ -4,8 +4,8 @@ ghost use Rattle.flowspace.specs.Rules.{holds, is_written_by, IsInPort, IsVlan, 
 
 use crate::owners::is_in_port;
 use of10_match::{Match, has_network, has_ports, has_service, has_vlan};
-use of10_model::Pattern;
 use of10_model::protocol::{LAST_VLAN, UNTAGGED};
+use of10_model::{Pattern, has_bit};
 
 /// Who may write the headers of a match, and who is shown their packets.
 #[derive(Clone, Copy, Debug, PartialEq, Eq)]
@@ -97,5 +97,5 @@ pub fn is_written_by(rule: &Rule, slot: usize) -> bool
 pub fn has_slot(slots: u32, slot: u8) -> bool
     ensures { result ≡ bit slots slot }
 {
-    slot < 32 && (slots >> slot) & 1 == 1
+    slot < 32 && has_bit(slots, u32::from(slot))
 }

@@ -1,5 +1,5 @@
 -- A packet that is spelled from its fields is given these.
-use Rattle.std.proofs.Common.{◌≡◌, ℕ, ◌==◌, ◌||◌, ◌+◌, ◌*◌, ◌/◌, ◌%◌, ◌^◌, ◌<◌, ◌≤◌, leb, Bool, true, false, List, [], ◌∷◌, ◌++◌, length, drop, slice_index, Option, Some, None, refl, ap, ◌∙◌, arith}
+use Rattle.std.proofs.Common.{◌≡◌, ◌≢◌, ℕ, ◌==◌, ◌||◌, ◌+◌, ◌*◌, ◌/◌, ◌%◌, ◌^◌, ◌<◌, ◌≤◌, leb, Bool, true, false, List, [], ◌∷◌, ◌++◌, length, drop, slice_index, Option, Some, None, refl, ap, ◌∙◌, arith}
 use Rattle.std.proofs.Math.Nat.{mod-eq_of_lt}
 use Rattle.std.proofs.Math.Seq.{drop-append_seam, drop-append-add}
 use Rattle.std.proofs.lemmas.Bool.{le-leb, lt-leb, leb-true, leb-false, ne_eqb}
@@ -170,6 +170,10 @@ segment_transport (Segment.Icmp kind code) rest fits =
     let second : code % 256 ≡ code = mod-eq_of_lt fits.1 in
     rw (le-leb 2 (length (spell_segment (Segment.Icmp kind code) ++ rest)) (omega arith), first, second) refl
 
+other_transport : (proto : ℕ) (behind : List ℕ) → proto ≢ 1 → proto ≢ 6 → proto ≢ 17 → transport_at proto behind 0 ≡ no_transport
+unfolding transport_at
+other_transport proto behind icmp tcp udp = rw (ne_eqb proto 1 icmp, ne_eqb proto 6 tcp, ne_eqb proto 17 udp) refl
+
 whole_transport : (p : Ipv4) (behind : List ℕ) → IsIpv4 p → transport_of (spell_ipv4 p 0 behind) ≡ transport_at p.proto behind 0
 unfolding spell_ipv4 transport_of
 whole_transport p behind h =
@@ -234,6 +238,12 @@ pub whole_ipv4 : (in_port : ℕ) (e : Ethernet) (p : Ipv4) (s : Segment) (rest :
 whole_ipv4 in_port e p s rest h ip fits proto =
     let payload = spell_ipv4 p 0 (spell_segment s ++ rest) in
     header_again in_port e 0x0800 payload _ h ipv4_type (ipv4_network payload ∙ ipv4_again p 0 (spell_segment s ++ rest) _ ip (whole_transport p (spell_segment s ++ rest) ip ∙ ap (λ n. transport_at n (spell_segment s ++ rest) 0) proto ∙ segment_transport s rest fits))
+
+pub other_ipv4 : (in_port : ℕ) (e : Ethernet) (p : Ipv4) (behind : List ℕ) → IsEthernet e → IsIpv4 p → p.proto ≢ 1 → p.proto ≢ 6 → p.proto ≢ 17
+    → header_of_packet in_port (spell_ethernet e 0x0800 (spell_ipv4 p 0 behind)) ≡ ipv4_header in_port e p 0 0
+other_ipv4 in_port e p behind h ip icmp tcp udp =
+    let payload = spell_ipv4 p 0 behind in
+    header_again in_port e 0x0800 payload _ h ipv4_type (ipv4_network payload ∙ ipv4_again p 0 behind no_transport ip (whole_transport p behind ip ∙ other_transport p.proto behind icmp tcp udp))
 
 pub fragment_ipv4 : (in_port : ℕ) (e : Ethernet) (p : Ipv4) (fragment : ℕ) (behind : List ℕ) → IsEthernet e → IsIpv4 p → 0 < fragment → fragment < 0x4000
     → header_of_packet in_port (spell_ethernet e 0x0800 (spell_ipv4 p fragment behind)) ≡ ipv4_header in_port e p 0 0

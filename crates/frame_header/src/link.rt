@@ -4,6 +4,7 @@ ghost use Rattle.std.specs.Prelude.{◌≡◌, ◌/◌, ◌%◌, ◌<◌, ◌≤
 ghost use Rattle.frame_header.specs.Links.{field_at, typed, unread, untagged, tagged_link, link_of};
 
 use of10_model::protocol::UNTAGGED;
+use of10_model::vlan_number;
 use of10_model::wire::{u16_at, u48_at};
 
 /// The type of a packet without one, in 802.3 without SNAP.
@@ -43,12 +44,6 @@ pub fn address_at(bytes: &[u8], at: usize) -> u64
     } else {
         0
     }
-}
-
-fn low_twelve(tag: u16) -> u16
-    ensures { result ≡ tag % 0x1000 }
-{
-    tag & 0x0fff
 }
 
 fn high_three(tag: u16) -> u8
@@ -91,7 +86,7 @@ fn tagged_link(rest: &[u8]) -> LinkLayer<'_>
     let tag = u16_at(rest, 0);
     let TypedPayload { kind, payload } = typed(u16_at(rest, 2), &rest[4..]);
     LinkLayer {
-        vlan: low_twelve(tag),
+        vlan: vlan_number(tag),
         pcp: high_three(tag),
         kind,
         payload,

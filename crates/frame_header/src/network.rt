@@ -4,6 +4,7 @@ ghost use Rattle.std.specs.Prelude.{◌≡◌, ◌*◌, ◌/◌, ◌%◌, ◌≤
 ghost use Rattle.frame_header.specs.Networks.{transport_at, header_length, is_unfragmented, transport_of, ipv4_of, arp_of, network_of};
 
 use of10_model::protocol::{ARP, ICMP, IPV4, TCP, UDP};
+use of10_model::service_bits;
 use of10_model::wire::{u16_at, u32_at};
 
 /// What is matched of a transport header: two ports, or ICMP's type and code.
@@ -44,13 +45,6 @@ fn header_length(packet: &[u8]) -> usize
     ensures most { result ≤ 60 }
 {
     usize::from(packet[0] & 0x0f) * 4
-}
-
-fn without_low_two(byte: u8) -> u8
-    ensures value { result ≡ byte / 4 * 4 }
-    ensures low { result % 4 ≡ 0 }
-{
-    byte & 0xfc
 }
 
 // Neither the fragment's offset nor its flag for more is set.
@@ -101,7 +95,7 @@ fn ipv4_of(packet: &[u8]) -> Network
     }
     let Transport { tp_src, tp_dst } = transport_of(packet);
     Network {
-        nw_tos: without_low_two(packet[1]),
+        nw_tos: service_bits(packet[1]),
         nw_proto: packet[9],
         nw_src: u32_at(packet, 12),
         nw_dst: u32_at(packet, 16),

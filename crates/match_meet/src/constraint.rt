@@ -2,7 +2,7 @@
 
 ghost use Rattle.std.specs.Prelude.{◌≡◌, is_none};
 ghost use Rattle.of10_model.specs.Normal.{IsPrefix};
-ghost use Rattle.of10_model.specs.Meet.{both, both_prefix, begins_as};
+ghost use Rattle.of10_model.specs.Meet.{both, both_prefix};
 ghost use Rattle.of10_model.specs.Inclusion.{covers, covers_prefix};
 
 use of10_model::Prefix;
@@ -39,15 +39,6 @@ pub fn both_u64(a: Option<u64>, b: Option<u64>) -> Option<Option<u64>>
     }
 }
 
-/// Whether the address begins as the prefix does.
-fn begins_as(prefix: &Prefix, address: u32) -> bool
-    requires { IsPrefix (Some prefix.now) }
-    ensures { result ≡ begins_as prefix.now address }
-{
-    let ignored = 32 - prefix.bits;
-    address >> ignored == prefix.value >> ignored
-}
-
 /// The longer prefix, where it begins as the shorter one does.
 pub fn both_prefix(a: Option<Prefix>, b: Option<Prefix>) -> Option<Option<Prefix>>
     requires first { IsPrefix a }
@@ -59,9 +50,9 @@ pub fn both_prefix(a: Option<Prefix>, b: Option<Prefix>) -> Option<Option<Prefix
         (prefix, None) => Some(prefix),
         (Some(p), Some(q)) => {
             if p.bits <= q.bits {
-                begins_as(&p, q.value).then_some(b)
+                p.begins(q.value).then_some(b)
             } else {
-                begins_as(&q, p.value).then_some(a)
+                q.begins(p.value).then_some(a)
             }
         }
     }
@@ -95,9 +86,9 @@ pub fn differ_prefix(a: Option<Prefix>, b: Option<Prefix>) -> bool
     match (a, b) {
         (Some(p), Some(q)) => {
             if p.bits <= q.bits {
-                !begins_as(&p, q.value)
+                !p.begins(q.value)
             } else {
-                !begins_as(&q, p.value)
+                !q.begins(p.value)
             }
         }
         _ => false,
@@ -132,6 +123,6 @@ pub fn covers_prefix(a: Option<Prefix>, b: Option<Prefix>) -> bool
     match (a, b) {
         (None, _) => true,
         (Some(_), None) => false,
-        (Some(p), Some(q)) => p.bits <= q.bits && begins_as(&p, q.value),
+        (Some(p), Some(q)) => p.bits <= q.bits && p.begins(q.value),
     }
 }

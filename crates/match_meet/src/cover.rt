@@ -7,16 +7,15 @@ ghost use Rattle.of10_model.specs.Normal.{is_value, IsInRange};
 ghost use Rattle.of10_action.specs.Actions.{HasAddress};
 ghost use Rattle.match_meet.specs.Rewriting.{rewritten, cover_of, names_tcp_or_udp};
 
-use crate::rewriting::{service_bits, vlan_number, vlan_priority};
 use of10_action::Action;
-use of10_match::Match;
-use of10_model::protocol::{IPV4, TCP, UDP, UNTAGGED};
-use of10_model::{Pattern, Prefix};
+use of10_match::{Match, has_service};
+use of10_model::protocol::{TCP, UDP, UNTAGGED};
+use of10_model::{Pattern, Prefix, service_bits, vlan_number, vlan_priority};
 
 fn names_ipv4(m: &Pattern) -> bool
     ensures { result ≡ is_value 0x0800 m.now.dl_type }
 {
-    m.dl_type.is_some_and(|number| number == IPV4)
+    has_service(m.dl_type)
 }
 
 fn names_tcp_or_udp(m: &Pattern) -> bool

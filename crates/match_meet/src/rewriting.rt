@@ -1,33 +1,13 @@
 //! What actions make of headers (OpenFlow 1.0.0, sections 3.3 and 5.2.4).
 
-ghost use Rattle.std.specs.Prelude.{◌≡◌, ◌*◌, ◌/◌, ◌%◌, if◌then◌else◌};
+ghost use Rattle.std.specs.Prelude.{◌≡◌, if◌then◌else◌};
 ghost use Rattle.of10_action.specs.Actions.{HasAddress};
 ghost use Rattle.match_meet.specs.Rewriting.{rewritten, is_ipv4, is_tcp_or_udp};
 
 use of10_action::Action;
 use of10_match::Header12;
 use of10_model::protocol::{IPV4, TCP, UDP, UNTAGGED};
-
-/// A VLAN number has 12 bits.
-pub fn vlan_number(vlan: u16) -> u16
-    ensures { result ≡ vlan % 4096 }
-{
-    vlan & 0xfff
-}
-
-/// A VLAN priority has three bits.
-pub fn vlan_priority(priority: u8) -> u8
-    ensures { result ≡ priority % 8 }
-{
-    priority & 7
-}
-
-/// A type of service has the six high bits.
-pub fn service_bits(service: u8) -> u8
-    ensures { result ≡ service / 4 * 4 }
-{
-    service & 0xfc
-}
+use of10_model::{service_bits, vlan_number, vlan_priority};
 
 fn where_ipv4(h: &Header12, changed: Header12) -> Header12
     ensures { result ≡ (if is_ipv4 h.now then changed else h.now) }

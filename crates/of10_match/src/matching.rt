@@ -56,10 +56,7 @@ fn meets_prefix(constraint: Option<Prefix>, address: u32) -> bool
 {
     match constraint {
         None => true,
-        Some(prefix) => {
-            let ignored = 32 - prefix.bits;
-            address >> ignored == prefix.value >> ignored
-        }
+        Some(prefix) => prefix.begins(address),
     }
 }
 

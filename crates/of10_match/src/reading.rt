@@ -1,23 +1,16 @@
 //! What the 40 bytes of a match spell (OpenFlow 1.0.0, section 5.2.3).
 
-ghost use Rattle.std.specs.Prelude.{◌≡◌, ◌<◌, ◌*◌, ◌/◌, ◌%◌, ◌^◌, if◌then◌else◌};
+ghost use Rattle.std.specs.Prelude.{◌≡◌, ◌<◌, ◌/◌, ◌%◌, ◌^◌, if◌then◌else◌};
 ghost use Rattle.of10_model.specs.Normal.{bit, leading, spelled};
 
 use of10_model::wire::{u8_at, u16_at, u32_at, u48_at};
-use of10_model::{Pattern, Prefix, without_low_bits};
-
-fn is_freed(word: u32, place: u32) -> bool
-    requires { place < 32 }
-    ensures { result ≡ bit word place }
-{
-    (word >> place) & 1 == 1
-}
+use of10_model::{Pattern, Prefix, has_bit, service_bits, vlan_priority, without_low_bits};
 
 fn unless_freed<T: Copy>(word: u32, place: u32, value: T) -> Option<T>
     requires { place < 32 }
     ensures { result ≡ (if bit word place then None else Some value) }
 {
-    if is_freed(word, place) {
+    if has_bit(word, place) {
         None
     } else {
         Some(value)
@@ -46,18 +39,6 @@ fn prefix(word: u32, place: u32, address: u32) -> Option<Prefix>
     }
 }
 
-fn priority(byte: u8) -> u8
-    ensures { result ≡ byte % 8 }
-{
-    byte & 7
-}
-
-fn service(byte: u8) -> u8
-    ensures { result ≡ byte / 4 * 4 }
-{
-    byte & 0xfc
-}
-
 /// The twelve constraints as the bytes spell them.
 #[tactic(auto, unfolding(of10_model::specs::Normal::spelled))]
 pub fn read(bytes: &[u8; 40]) -> Pattern
@@ -69,9 +50,9 @@ pub fn read(bytes: &[u8; 40]) -> Pattern
         dl_src: unless_freed(word, 2, u48_at(bytes, 6)),
         dl_dst: unless_freed(word, 3, u48_at(bytes, 12)),
         dl_vlan: unless_freed(word, 1, u16_at(bytes, 18)),
-        dl_vlan_pcp: unless_freed(word, 20, priority(u8_at(bytes, 20))),
+        dl_vlan_pcp: unless_freed(word, 20, vlan_priority(u8_at(bytes, 20))),
         dl_type: unless_freed(word, 4, u16_at(bytes, 22)),
-        nw_tos: unless_freed(word, 21, service(u8_at(bytes, 24))),
+        nw_tos: unless_freed(word, 21, service_bits(u8_at(bytes, 24))),
         nw_proto: unless_freed(word, 5, u8_at(bytes, 25)),
         nw_src: prefix(word, 8, u32_at(bytes, 28)),
         nw_dst: prefix(word, 14, u32_at(bytes, 32)),

@@ -8,21 +8,7 @@ ghost use Rattle.of10_model.specs.Spelling.{freed, ignored, number_or_zero, addr
 use of10_model::wire::{set_u16, set_u32, set_u48};
 use of10_model::{Pattern, Prefix};
 
-fn freed_u8(constraint: Option<u8>) -> u32
-    ensures value { result ≡ freed constraint }
-    ensures small { result ≤ 1 }
-{
-    if constraint.is_none() { 1 } else { 0 }
-}
-
-fn freed_u16(constraint: Option<u16>) -> u32
-    ensures value { result ≡ freed constraint }
-    ensures small { result ≤ 1 }
-{
-    if constraint.is_none() { 1 } else { 0 }
-}
-
-fn freed_u64(constraint: Option<u64>) -> u32
+fn freed<T: Copy>(constraint: Option<T>) -> u32
     ensures value { result ≡ freed constraint }
     ensures small { result ≤ 1 }
 {
@@ -46,18 +32,18 @@ fn word(m: &Pattern) -> u32
     requires destination { IsPrefix m.now.nw_dst }
     ensures { result ≡ wildcards m.now }
 {
-    freed_u16(m.in_port)
-        + 0x2 * freed_u16(m.dl_vlan)
-        + 0x4 * freed_u64(m.dl_src)
-        + 0x8 * freed_u64(m.dl_dst)
-        + 0x10 * freed_u16(m.dl_type)
-        + 0x20 * freed_u8(m.nw_proto)
-        + 0x40 * freed_u16(m.tp_src)
-        + 0x80 * freed_u16(m.tp_dst)
+    freed(m.in_port)
+        + 0x2 * freed(m.dl_vlan)
+        + 0x4 * freed(m.dl_src)
+        + 0x8 * freed(m.dl_dst)
+        + 0x10 * freed(m.dl_type)
+        + 0x20 * freed(m.nw_proto)
+        + 0x40 * freed(m.tp_src)
+        + 0x80 * freed(m.tp_dst)
         + 0x100 * ignored_count(m.nw_src)
         + 0x4000 * ignored_count(m.nw_dst)
-        + 0x10_0000 * freed_u8(m.dl_vlan_pcp)
-        + 0x20_0000 * freed_u8(m.nw_tos)
+        + 0x10_0000 * freed(m.dl_vlan_pcp)
+        + 0x20_0000 * freed(m.nw_tos)
 }
 
 // Each of these writes a field's number, or zero where the field is free, behind the bytes before it.

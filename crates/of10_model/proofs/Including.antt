@@ -6,9 +6,8 @@ use Rattle.std.proofs.Math.Nat.{two-pow-succ}
 use Rattle.of10_model.specs.declared.pattern.Prefix.{Prefix}
 use Rattle.of10_model.specs.declared.pattern.Pattern.{Pattern}
 use Rattle.of10_model.specs.Header.{Header, IsHeader}
-use Rattle.of10_model.specs.Pattern.{Meets, MeetsPrefix, Has}
+use Rattle.of10_model.specs.Pattern.{Meets, MeetsPrefix, Has, begins_as}
 use Rattle.of10_model.specs.Normal.{IsBelow, IsService, IsPrefix, IsInRange, IsNormal}
-use Rattle.of10_model.specs.Meet.{begins_as}
 use Rattle.of10_model.specs.Inclusion.{Includes, covers, covers_prefix, includes_of, any_in_port}
 use Rattle.of10_model.proofs.Twelve.{each_true, true_of_each}
 use Rattle.of10_model.proofs.Applied.{same_parts, same_fields}

@@ -5,7 +5,8 @@ use Rattle.std.proofs.lemmas.Option.{same_Some, cond_some}
 use Rattle.of10_model.specs.declared.pattern.Prefix.{Prefix}
 use Rattle.of10_model.specs.declared.pattern.Pattern.{Pattern}
 use Rattle.of10_model.specs.Normal.{is_value, is_given, is_whole, is_exact, has_vlan, has_network, has_service, has_ports, IsBelow, IsService, IsPrefix, IsInRange, IsNormal}
-use Rattle.of10_model.specs.Meet.{both, begins_as, both_prefix, meet_of}
+use Rattle.of10_model.specs.Pattern.{begins_as}
+use Rattle.of10_model.specs.Meet.{both, both_prefix, meet_of}
 use Rattle.of10_model.proofs.Twelve.{AllTrue, each_true, true_of_each}
 use Rattle.of10_model.proofs.Meeting.{meet_fields}
 use Rattle.of10_model.proofs.Applied.{kept_or, zero_address}

@@ -5,8 +5,8 @@ use Rattle.std.proofs.lemmas.Bool.{leb-true, leb-false, true≢false}
 use Rattle.of10_model.specs.declared.pattern.Prefix.{Prefix}
 use Rattle.of10_model.specs.declared.pattern.Pattern.{Pattern}
 use Rattle.of10_model.specs.Header.{Header}
-use Rattle.of10_model.specs.Pattern.{Meets, MeetsPrefix, Has}
-use Rattle.of10_model.specs.Meet.{both, begins_as, both_prefix, ◌>>=◌, meet_of}
+use Rattle.of10_model.specs.Pattern.{Meets, MeetsPrefix, Has, begins_as}
+use Rattle.of10_model.specs.Meet.{both, both_prefix, ◌>>=◌, meet_of}
 
 -- ---- one field
 

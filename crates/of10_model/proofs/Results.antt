@@ -22,6 +22,9 @@ bind_ok (Err fault) f y e = absurd cc
 pub bind_is : {A B E : Type 0} (r : Result A E) (f : A → Result B E) (x : A) (y : Result B E) → r ≡ Ok x → f x ≡ y → (r >>= f) ≡ y
 bind_is r f x y e h = ap (λ q. q >>= f) e ∙ h
 
+pub bind_fails : {A B E : Type 0} (r : Result A E) (f : A → Result B E) (fault : E) → r ≡ Err fault → (r >>= f) ≡ Err fault
+bind_fails r f fault e = ap (λ q. q >>= f) e
+
 pub bind_err : {A B E : Type 0} (r : Result A E) (f : A → Result B E) (fault : E) → (r >>= f) ≡ Err fault → (r ≡ Err fault) ⊎ ((x : A) × (r ≡ Ok x) × (f x ≡ Err fault))
 bind_err (Ok x) f fault e = inr (x, refl, e)
 bind_err (Err other) f fault e = inl (let h = e in cc)
@@ -46,6 +49,11 @@ others_wrong (Err other) x fault e = cc
 pub unless : {A : Type 0} (test : Bool) (x y z : A) → (test ≡ false → y ≡ z) → cond test x y ≡ cond test x z
 unless true x y z h = refl
 unless false x y z h = h refl
+
+-- what holds of both holds of either
+pub either : {A : Type 0} (P : A → Type 0) (b : Bool) (x y : A) → P x → P y → P (cond b x y)
+either P true x y one other = one
+either P false x y one other = other
 
 pub either_none : {A : Type 0} (b : Bool) (xs : List A) → xs ≡ [] → cond b xs [] ≡ []
 either_none true xs none = none

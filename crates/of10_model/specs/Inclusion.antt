@@ -3,8 +3,7 @@ use Rattle.std.specs.Prelude.{ℕ, ◌==◌, ◌&&◌, leb, Bool, true, false, O
 use Rattle.of10_model.specs.declared.pattern.Prefix.{Prefix}
 use Rattle.of10_model.specs.declared.pattern.Pattern.{Pattern}
 use Rattle.of10_model.specs.Header.{Header, IsHeader}
-use Rattle.of10_model.specs.Pattern.{Has}
-use Rattle.of10_model.specs.Meet.{begins_as}
+use Rattle.of10_model.specs.Pattern.{Has, begins_as}
 
 -- each header of b is in a
 abbrev pub Includes : Pattern → Pattern → Type 0

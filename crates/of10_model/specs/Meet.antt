@@ -1,19 +1,15 @@
 -- The headers in both of two matches, as a match.
-use Rattle.std.specs.Prelude.{ℕ, ◌==◌, ◌-◌, ◌/◌, ◌^◌, leb, Bool, true, false, if◌then◌else◌, Option, Some, None}
+use Rattle.std.specs.Prelude.{ℕ, ◌==◌, leb, Bool, true, false, if◌then◌else◌, Option, Some, None}
 use Rattle.of10_model.specs.declared.pattern.Prefix.{Prefix}
 use Rattle.of10_model.specs.declared.pattern.Pattern.{Pattern}
 use Rattle.of10_model.specs.Header.{Header, IsHeader}
-use Rattle.of10_model.specs.Pattern.{Has}
+use Rattle.of10_model.specs.Pattern.{Has, begins_as}
 
 -- what two constraints allow together: none where no value meets both
 abbrev pub both : Option ℕ → Option ℕ → Option (Option ℕ)
 both None d = Some d
 both (Some v) None = Some (Some v)
 both (Some v) (Some w) = if v == w then Some (Some v) else None
-
--- an address begins as a prefix does
-abbrev pub begins_as : Prefix → ℕ → Bool
-begins_as p x = x / 2 ^ (32 - p.bits) == p.value / 2 ^ (32 - p.bits)
 
 -- what two prefixes allow together: the longer one, where it begins as the shorter
 abbrev pub both_prefix : Option Prefix → Option Prefix → Option (Option Prefix)

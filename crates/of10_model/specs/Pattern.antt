@@ -36,10 +36,14 @@ abbrev pub meets : Option ℕ → ℕ → Bool
 meets None x = true
 meets (Some v) x = x == v
 
+-- an address begins as a prefix does
+abbrev pub begins_as : Prefix → ℕ → Bool
+begins_as p x = x / 2 ^ (32 - p.bits) == p.value / 2 ^ (32 - p.bits)
+
 -- whether a prefix holds of an address
 abbrev pub meets_prefix : Option Prefix → ℕ → Bool
 meets_prefix None x = true
-meets_prefix (Some p) x = x / 2 ^ (32 - p.bits) == p.value / 2 ^ (32 - p.bits)
+meets_prefix (Some p) x = begins_as p x
 
 -- whether a header is in a match: each constraint holds of its field
 unfoldable pub has : Pattern → Header → Bool

@@ -5,7 +5,7 @@ use Rattle.of10_model.specs.declared.pattern.Prefix.{Prefix}
 use Rattle.of10_model.specs.declared.pattern.Pattern.{Pattern}
 
 -- a field's wildcard bit: set where the field is free
-abbrev pub freed : Option ℕ → ℕ
+abbrev pub freed : {A : Type 0} → Option A → ℕ
 freed None = 1
 freed (Some v) = 0
 

@@ -1,5 +1,6 @@
 ghost use Rattle.std.specs.Prelude.{◌≡◌, ◌<◌, ◌*◌, ◌/◌, ◌^◌};
-ghost use Rattle.of10_model.specs.Normal.{is_exact, is_whole};
+ghost use Rattle.of10_model.specs.Normal.{IsPrefix, is_exact, is_whole};
+ghost use Rattle.of10_model.specs.Pattern.{begins_as};
 
 /// The leading bits of a network address (OpenFlow 1.0.0, section 5.2.3: a count of ignored bits).
 #[derive(Clone, Copy, Debug, PartialEq, Eq)]
@@ -19,6 +20,15 @@ impl Prefix {
             bits: 32,
             value: address,
         }
+    }
+
+    /// Whether an address begins as the prefix does.
+    pub fn begins(&self, address: u32) -> bool
+        requires { IsPrefix (Some self.now) }
+        ensures { result ≡ begins_as self.now address }
+    {
+        let ignored = 32 - self.bits;
+        address >> ignored == self.value >> ignored
     }
 }
 

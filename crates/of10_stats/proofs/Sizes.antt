@@ -5,15 +5,12 @@ use Rattle.std.proofs.lemmas.Bool.{leb-true, le-leb, lt-leb}
 use Rattle.std.proofs.lemmas.List.{length-take-le}
 use Rattle.byteorder.specs.Numbers.{big_from-take}
 use Rattle.of10_model.specs.Normal.{number_at}
+use Rattle.of10_model.proofs.Results.{either}
 use Rattle.of10_stats.specs.Replies.{flow_length, fixed_length, length_of, IsEntry, IsPortEntry, within, entry_size_of}
 
 -- no entry is shorter than 24 bytes
 abbrev IsLong : Option ℕ → Type 0
 IsLong o = IfSome o (λ n. 24 ≤ n)
-
-either : (b : Bool) (o p : Option ℕ) → IsLong o → IsLong p → IsLong (if b then o else p)
-either true o p h g = h
-either false o p h g = g
 
 long_size : (size : ℕ) (b : Bool) → leb 88 size ≡ b → IsLong (if b then Some size else None)
 long_size size true e = let h = leb-true 88 size e in omega (arith, h)
@@ -25,8 +22,8 @@ long_flow bytes = long_size (number_at bytes 0 2) (leb 88 (number_at bytes 0 2))
 long : (kind : ℕ) (bytes : List ℕ) → IsLong (length_of kind bytes)
 unfolding length_of
 long kind bytes =
-    either (kind == 1) (flow_length bytes) (fixed_length kind) (long_flow bytes)
-    (either (kind == 0) _ _ (omega arith) (either (kind == 2) _ _ (omega arith) (either (kind == 3) _ _ (omega arith) (either (kind == 4) _ _ (omega arith) (either (kind == 5) _ _ (omega arith) tt)))))
+    either IsLong (kind == 1) (flow_length bytes) (fixed_length kind) (long_flow bytes)
+    (either IsLong (kind == 0) _ _ (omega arith) (either IsLong (kind == 2) _ _ (omega arith) (either IsLong (kind == 3) _ _ (omega arith) (either IsLong (kind == 4) _ _ (omega arith) (either IsLong (kind == 5) _ _ (omega arith) tt)))))
 
 long_some : (o : Option ℕ) (n : ℕ) → IsLong o → o ≡ Some n → 24 ≤ n
 long_some None n h e = absurd cc

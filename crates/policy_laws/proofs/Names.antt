@@ -7,7 +7,7 @@ use Rattle.std.proofs.lemmas.List.Folds.{Any-from_list_any, list_any_at}
 use Rattle.std.proofs.lemmas.Option.{same_Some}
 use Rattle.of10_model.specs.declared.pattern.Pattern.{Pattern}
 use Rattle.of10_model.specs.Results.{◌>>=◌}
-use Rattle.of10_model.proofs.Results.{bind_is, bind_ok, ok_is}
+use Rattle.of10_model.proofs.Results.{bind_fails, bind_is, bind_ok, ok_is}
 use Rattle.flowspace.specs.declared.fault.PolicyFault.TheVariants.{UnknownSlice}
 use Rattle.flowspace.specs.declared.rules.Rule.{Rule}
 use Rattle.flowspace.specs.declared.slices.Slice.{Slice}
@@ -67,9 +67,6 @@ one_more slices name names here others (suc k) d lt = others k d (omega (arith, 
 
 apart : (slices : List Slice) (names : List (List ℕ)) → NamesSlices slices names → NamesNoSlice slices names → ⊥
 apart slices names known h = known h.0 h.1 h.2 (ap (slot_of slices) h.3 ∙ h.4)
-
-bind_fails : {A B E : Type 0} (r : Result A E) (f : A → Result B E) (fault : E) → r ≡ Err fault → (r >>= f) ≡ Err fault
-bind_fails r f fault e = ap (λ q. q >>= f) e
 
 -- the names under `read`: one is of no slice, or all are slices' and have their slots
 abbrev ReadersAre : List Slice → ℕ → List (List ℕ) → Type 0

@@ -1,5 +1,6 @@
 -- What holds of each kind of answer to a message holds of the answer. What follows from a message that is sent on is a kind more.
 use Rattle.std.proofs.Common.{ℕ, ◌==◌, ◌||◌, ◌&&◌, not, Bool, true, false, if◌then◌else◌, List, [], ◌∷◌, Option, Some, None}
+use Rattle.of10_model.proofs.Results.{either}
 use Rattle.of10_action.specs.declared.fault.WireFault.{WireFault}
 use Rattle.of10_action.specs.Faults.{class_and_code}
 use Rattle.of10_ctl.specs.declared.kind.TheConstants.{HELLO, ERROR, ECHO_REQUEST, ECHO_REPLY, VENDOR, FEATURES_REQUEST, GET_CONFIG_REQUEST, SET_CONFIG, PORT_MOD}
@@ -33,10 +34,6 @@ by_ending P view message ends goes_on = record {
   tells_features = λ features. goes_on (spell_features (features_with features (known_ports view)) (xid_of message) ∷ []);
   tells_configuration = goes_on (config_reply (miss_send_len view) message ∷ []);
 }
-
-pub either : {A : Type 0} (P : A → Type 0) (b : Bool) (some others : A) → P some → P others → P (if b then some else others)
-either P true some others a b = a
-either P false some others a b = b
 
 abbrev features_for : Option Features → List Item → List ℕ → Answer
 features_for told view message = elim told [ None ↦ silence | Some features ↦ answered (spell_features (features_with features (known_ports view)) (xid_of message) ∷ []) ]
