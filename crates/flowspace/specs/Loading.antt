@@ -2,6 +2,7 @@
 use Rattle.std.specs.Prelude.{ℕ, ◌≡◌, ◌+◌, ◌^◌, ◌⊎◌, ◌&&◌, nat_lt, if◌then◌else◌, List, [], ◌∷◌, ◌++◌, length, find, count_by, bytes_eq, Option, Some, None, option_map, Result, Ok, Err}
 use Rattle.std.specs.List.{list_any}
 use Rattle.std.specs.Option.{option_or}
+use Rattle.of10_model.specs.Results.{Answers}
 use Rattle.flowspace.specs.declared.fault.What.{What}
 use Rattle.flowspace.specs.declared.fault.What.TheVariants.{Slices, Rules, Writes}
 use Rattle.flowspace.specs.declared.fault.Field.TheVariants.{Read}
@@ -80,5 +81,4 @@ load_of slices rules = elim (fault_of slices rules) [ None ↦ Ok (record { slic
 
 -- a call answers what it should, or want of memory
 abbrev pub Gives : {A : Type 0} → Result A PolicyFault → Result A PolicyFault → Type 0
-Gives (Ok x) said = said ≡ Ok x
-Gives (Err fault) said = (fault ≡ Memory) ⊎ (said ≡ Err fault)
+Gives called said = Answers (λ fault told. (fault ≡ Memory) ⊎ (told ≡ Err fault)) (λ x. x) called said

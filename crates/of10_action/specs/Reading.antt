@@ -1,7 +1,7 @@
 -- Reading a list of actions from front to back, with the first fault that is met (OpenFlow 1.0.0, sections 5.2.4 and 5.4.4).
 use Rattle.std.specs.Prelude.{◌≡◌, ℕ, zero, suc, ◌%◌, ◌==◌, ◌||◌, not, nat_lt, if◌then◌else◌, List, [], ◌∷◌, ◌++◌, ◌≤◌, length, drop, slice_index, Result, Ok, Err}
 use Rattle.of10_model.specs.Normal.{number_at}
-use Rattle.of10_model.specs.Results.{◌>>=◌}
+use Rattle.of10_model.specs.Results.{◌>>=◌, Answers}
 use Rattle.of10_action.specs.declared.action.Action.{Action}
 use Rattle.of10_action.specs.declared.action.Action.TheVariants.{Output, SetVlanVid, SetVlanPcp, StripVlan, SetDlSrc, SetDlDst, SetNwSrc, SetNwDst, SetNwTos, SetTpSrc, SetTpDst, Enqueue}
 use Rattle.of10_action.specs.declared.fault.WireFault.{WireFault}
@@ -17,13 +17,11 @@ Fails (faults.Wire fault) read = read ≡ Err fault
 
 -- a call answers what a reading gives, its value seen by view, unless memory ran out
 abbrev pub Gives : {X Y : Type 0} → (X → Y) → Result X DecodeFault → Result Y WireFault → Type 0
-Gives view (Ok x) read = read ≡ Ok (view x)
-Gives view (Err fault) read = Fails fault read
+Gives view called read = Answers Fails view called read
 
 -- a reader that takes no memory, seen by view, answers what a reading gives
 abbrev pub Reads : {X Y : Type 0} → (X → Y) → Result X WireFault → Result Y WireFault → Type 0
-Reads view (Ok x) read = read ≡ Ok (view x)
-Reads view (Err fault) read = read ≡ Err fault
+Reads view called read = Answers (λ fault told. told ≡ Err fault) view called read
 
 -- the kind and the length of the first action, or what is wrong with them, in the order of the tests
 unfoldable pub head_at : List ℕ → Result (ℕ × ℕ) WireFault

@@ -1,5 +1,5 @@
 -- Which rules are refused for the names in them.
-use Rattle.std.proofs.Common.{◌≡◌, ◌≢◌, ◌↔◌, ◌⊎◌, inl, inr, ℕ, zero, suc, ◌<◌, ◌&&◌, not, Bool, true, false, cond, true≢false, ◌%◌, nat_eq, eqb-true, List, [], ◌∷◌, map, length, slice_index, slice_index_or, Option, Some, None, Result, Ok, Err, refl, sym, ap, ◌∙◌, arith}
+use Rattle.std.proofs.Common.{◌≡◌, ◌≢◌, ◌↔◌, ◌⊎◌, inl, inr, ℕ, zero, suc, ◌<◌, ◌&&◌, not, Bool, true, false, cond, true≢false, ◌%◌, nat_eq, eqb-true, List, [], ◌∷◌, map, length, slice_index, slice_index_or, Option, Some, None, Ok, Err, refl, sym, ap, ◌∙◌, arith}
 use Rattle.std.specs.List.{list_any}
 use Rattle.std.proofs.lemmas.Bool.{cases_Bool}
 use Rattle.std.proofs.lemmas.List.{get_or-map, get_or_read_under, length-map}
@@ -9,13 +9,13 @@ use Rattle.of10_model.specs.declared.pattern.Pattern.{Pattern}
 use Rattle.of10_model.specs.Results.{◌>>=◌}
 use Rattle.of10_model.proofs.Results.{bind_fails, bind_is, bind_ok, ok_is}
 use Rattle.flowspace.specs.declared.fault.PolicyFault.TheVariants.{UnknownSlice}
-use Rattle.flowspace.specs.declared.rules.Rule.{Rule}
 use Rattle.flowspace.specs.declared.slices.Slice.{Slice}
 use Rattle.flowspace.specs.declared.fault.Field.{Field}
 use Rattle.flowspace.specs.declared.fault.Field.TheVariants.{DlVlanPcp, NwTos, NwProto, NwSrc, NwDst, TpSrc, TpDst, Read}
 use Rattle.policy_text.specs.declared.fault.ReadFault.{ReadFault}
 use Rattle.policy_text.specs.declared.fault.ReadFault.TheVariants.{Improper, Refused}
-use Rattle.policy_text.specs.Rules.{slot_of, named, writer_of, slots_of, are_different, bits_below, first_improper, no_improper, proper, RuleText, rule_from}
+use Rattle.policy_text.specs.Rules.{slot_of, named, writer_of, slots_of, are_different, first_improper, no_improper, proper, RuleText, rule_from}
+use Rattle.policy_text.proofs.Sound.{rule_with}
 use Rattle.policy_laws.proofs.Readers.{named_is, is_itself, later}
 use Rattle.policy_laws.specs.Readers.{with_writer, names_in, NamesNoSlice, NamesSlices, NamesTwice}
 
@@ -103,9 +103,6 @@ writer_is slices index (Some name) names =
     ]
 
 -- a rule: one of its names is of no slice, or all are slices' and the rule is what its slots make of it
-abbrev rule_with : RuleText → Option ℕ → List ℕ → Rule
-rule_with said writer slots = record { switch = said.switch; priority = said.priority; pattern = said.pattern; writer = writer; readers = bits_below 32 slots }
-
 abbrev RuleIs : List Slice → ℕ → RuleText → Type 0
 RuleIs slices index said = (NamesNoSlice slices (names_in said) × (rule_from slices index said ≡ Err (unknown index)))
     ⊎ ((writer : Option ℕ) × (slots : List ℕ) × NamesSlices slices (names_in said) × (slots_of slices index said.read ≡ Ok slots) × (rule_from slices index said ≡ (proper index slots said.pattern >>= λ fits. Ok (rule_with said writer slots))))

@@ -11,7 +11,8 @@ use Rattle.of10_model.proofs.Results.{bind_ok, ok_is}
 use Rattle.flowspace.specs.declared.rules.Rule.{Rule}
 use Rattle.flowspace.specs.declared.slices.Slice.{Slice}
 use Rattle.policy_laws.specs.Readers.{IsNamedSlot}
-use Rattle.policy_text.specs.Rules.{slot_of, named, writer_of, slots_of, bits_below, proper, RuleText, rule_from}
+use Rattle.policy_text.specs.Rules.{slot_of, named, slots_of, bits_below, RuleText, rule_from}
+use Rattle.policy_text.proofs.Sound.{rule_from_parts}
 
 -- ---- bits
 
@@ -87,18 +88,9 @@ slots_named slices index (name ∷ names) slots k e =
       ]),
     )
 
-readers_of : (slices : List Slice) (index : ℕ) (t : RuleText) (r : Rule) → rule_from slices index t ≡ Ok r → (slots : List ℕ) × (slots_of slices index t.read ≡ Ok slots) × (bits_below 32 slots ≡ r.readers)
-unfolding rule_from
-readers_of slices index t r e =
-    let a = bind_ok (writer_of slices index t.write) _ r e in
-    let b = bind_ok (slots_of slices index t.read) _ r a.2 in
-    let c = bind_ok (proper index b.0 t.pattern) _ r b.2 in
-    let made : Rule = record { switch = t.switch; priority = t.priority; pattern = t.pattern; writer = a.0; readers = bits_below 32 b.0 } in
-    (b.0, b.1, ap (λ (x : Rule). x.readers) (ok_is made r c.2))
-
 pub readers_named : (slices : List Slice) (index : ℕ) (t : RuleText) (r : Rule) (k : ℕ) → rule_from slices index t ≡ Ok r → k < 32 → (bit r.readers k ≡ true) ↔ IsNamedSlot slices t.read k
 readers_named slices index t r k e lt =
-    let w = readers_of slices index t r e in
-    let same : bit r.readers k ≡ list_any (nat_eq k) w.0 = ap (λ n. bit n k) (sym w.2) ∙ bits_are 32 k w.0 lt in
-    let named = slots_named slices index t.read w.0 k w.1 in
+    let parts = rule_from_parts slices index t r e in
+    let same : bit r.readers k ≡ list_any (nat_eq k) parts.1 = ap (λ (rule : Rule). bit rule.readers k) (sym parts.4) ∙ bits_are 32 k parts.1 lt in
+    let named = slots_named slices index t.read parts.1 k parts.2 in
     (λ h. named.0 (sym same ∙ h), λ h. same ∙ named.1 h)

@@ -116,23 +116,33 @@ proper_is index slots m u e = proper_cases (are_different slots) (first_improper
 pub text_sound : (this : SectionView) (t : RuleText) → rule_text_in this ≡ Ok t → IsWritten t.pattern
 text_sound this t e = pattern_sound this t.pattern (rule_read this t e).pattern
 
+-- the rule of what a table says, with its writer and its readers
+abbrev pub rule_with : RuleText → Option ℕ → List ℕ → Rule
+rule_with t writer slots = record { switch = t.switch; priority = t.priority; pattern = t.pattern; writer = writer; readers = bits_below 32 slots }
+
 -- the rule of what a table says, from its parts
 pub rule_from_is : (slices : List Slice) (index : ℕ) (t : RuleText) (writer : Option ℕ) (slots : List ℕ) (u : Unit {0}) → writer_of slices index t.write ≡ Ok writer → slots_of slices index t.read ≡ Ok slots
-    → proper index slots t.pattern ≡ Ok u → rule_from slices index t ≡ Ok (record { switch = t.switch; priority = t.priority; pattern = t.pattern; writer = writer; readers = bits_below 32 slots })
+    → proper index slots t.pattern ≡ Ok u → rule_from slices index t ≡ Ok (rule_with t writer slots)
 unfolding rule_from
 rule_from_is slices index t writer slots u a b c =
     bind_is (writer_of slices index t.write) _ writer _ a (bind_is (slots_of slices index t.read) _ slots _ b (bind_is (proper index slots t.pattern) _ u _ c refl))
 
-from_sound : (slices : List Slice) (index : ℕ) (t : RuleText) (r : Rule) → IsWritten t.pattern → rule_from slices index t ≡ Ok r → IsPlainRule r
+-- the parts that a rule was made from
+pub rule_from_parts : (slices : List Slice) (index : ℕ) (t : RuleText) (r : Rule) → rule_from slices index t ≡ Ok r
+    → (writer : Option ℕ) × (slots : List ℕ) × (slots_of slices index t.read ≡ Ok slots) × (first_improper t.pattern ≡ None) × (rule_with t writer slots ≡ r)
 unfolding rule_from
-from_sound slices index t r written e =
+rule_from_parts slices index t r e =
     let a = bind_ok (writer_of slices index t.write) _ r e in
     let b = bind_ok (slots_of slices index t.read) _ r a.2 in
     let c = bind_ok (proper index b.0 t.pattern) _ r b.2 in
+    (a.0, b.0, b.1, proper_is index b.0 t.pattern c.0 c.1, ok_is (rule_with t a.0 b.0) r c.2)
+
+from_sound : (slices : List Slice) (index : ℕ) (t : RuleText) (r : Rule) → IsWritten t.pattern → rule_from slices index t ≡ Ok r → IsPlainRule r
+from_sound slices index t r written e =
+    let parts = rule_from_parts slices index t r e in
     let m = t.pattern in
-    let means = meaningful m (proper_is index b.0 m c.0 c.1) in
-    let made : Rule = record { switch = t.switch; priority = t.priority; pattern = m; writer = a.0; readers = bits_below 32 b.0 } in
-    subst IsPlainRule (ok_is made r c.2) (record {
+    let means = meaningful m parts.3 in
+    subst IsPlainRule parts.4 (record {
       in_port = written.in_port;
       dl_vlan = written.dl_vlan;
       dl_vlan_pcp = needed_is m.dl_vlan_pcp (has_vlan m.dl_vlan) means.dl_vlan_pcp;

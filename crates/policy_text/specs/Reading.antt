@@ -9,7 +9,7 @@ use Rattle.flowspace.specs.Rules.{is_vlan}
 use Rattle.flowspace.specs.Owners.{is_in_port}
 use Rattle.flowspace.specs.Slices.{is_name_byte}
 use Rattle.of10_model.specs.declared.pattern.Prefix.{Prefix}
-use Rattle.of10_model.specs.Results.{◌>>=◌}
+use Rattle.of10_model.specs.Results.{◌>>=◌, Answers}
 use Rattle.address_text.specs.Addresses.{datapath_id, hardware_address, prefix}
 use Rattle.policy_text.specs.declared.fault.Part.{Part}
 use Rattle.policy_text.specs.declared.fault.Part.TheVariants.{Top, Slice, Rule}
@@ -35,8 +35,7 @@ Fails Memory read = Unit {0}
 
 -- a call answers what a reading gives, its value seen by view, unless memory ran out
 abbrev pub Gives : {X Y : Type 0} → (X → Y) → Result X ReadFault → Result Y ReadFault → Type 0
-Gives view (Ok x) read = read ≡ Ok (view x)
-Gives view (Err fault) read = Fails fault read
+Gives view called read = Answers Fails view called read
 
 -- ---- tables and their keys
 

@@ -3,7 +3,7 @@ use Rattle.std.specs.Prelude.{◌≡◌, ℕ, zero, suc, ◌+◌, ◌-◌, ◌<�
 use Rattle.std.specs.List.{flat_map}
 use Rattle.byteorder.specs.Endian.{big_bytes}
 use Rattle.of10_model.specs.Normal.{number_at}
-use Rattle.of10_model.specs.Results.{◌>>=◌}
+use Rattle.of10_model.specs.Results.{◌>>=◌, Answers}
 use Rattle.recording.specs.declared.item.Item.{Item}
 use Rattle.recording.specs.declared.fault.RecordingFault.{RecordingFault}
 use Rattle.recording.specs.declared.fault.RecordingFault.TheVariants.{Torn, Bad, NotOpen, Memory}
@@ -17,8 +17,7 @@ Fails (NotOpen at) read = read ≡ Err (NotOpen at)
 
 -- a call answers what a reading gives, its value seen by view, unless memory ran out
 abbrev pub Gives : {X Y : Type 0} → (X → Y) → Result X RecordingFault → Result Y RecordingFault → Type 0
-Gives view (Ok x) read = read ≡ Ok (view x)
-Gives view (Err fault) read = Fails fault read
+Gives view called read = Answers Fails view called read
 
 -- ---- the kinds of records
 

@@ -1,10 +1,11 @@
 -- What a controller's message to its slice is, by its bytes (OpenFlow 1.0.0, section 5).
-use Rattle.std.specs.Prelude.{ℕ, ◌==◌, ◌+◌, ◌||◌, ◌&&◌, leb, Bool, if◌then◌else◌, List, length, take, drop, slice_index, is_ok, Option, Some, None, Result, Ok, Err}
+use Rattle.std.specs.Prelude.{ℕ, ◌==◌, ◌+◌, ◌||◌, ◌&&◌, leb, Bool, if◌then◌else◌, List, length, take, drop, is_ok, Option, Some, None, Result, Ok, Err}
 use Rattle.of10_model.specs.Normal.{number_at}
 use Rattle.of10_action.specs.declared.fault.WireFault.{WireFault}
 use Rattle.of10_action.specs.declared.fault.WireFault.TheVariants.{Length}
 use Rattle.of10_action.specs.Reading.{action_at}
 use Rattle.of10_ctl.specs.declared.kind.TheConstants.{HELLO, FEATURES_REQUEST, GET_CONFIG_REQUEST, SET_CONFIG, PACKET_OUT, FLOW_MOD, STATS_REQUEST, BARRIER_REQUEST, QUEUE_GET_CONFIG_REQUEST}
+use Rattle.of10_ctl.specs.Heads.{head_of}
 use Rattle.of10_ctl.specs.Frames.{is_bad}
 use Rattle.of10_flow.specs.PacketOuts.{read_packet_out, begins_well}
 use Rattle.of10_flow.specs.FlowMods.{read_flow_mod}
@@ -14,15 +15,15 @@ use Rattle.of10_stats.specs.Requests.{read_request}
 
 -- the version of OpenFlow that the sender speaks
 abbrev pub version_of : List ℕ → ℕ
-version_of message = slice_index message 0
+version_of message = (head_of message).version
 
 -- the type of a message
 abbrev pub kind_of : List ℕ → ℕ
-kind_of message = slice_index message 1
+kind_of message = (head_of message).kind
 
 -- the transaction id, which an answer repeats
 abbrev pub xid_of : List ℕ → ℕ
-xid_of message = number_at message 4 4
+xid_of message = (head_of message).xid
 
 -- a message of a type (section 5.1)
 abbrev pub is_kind : ℕ → List ℕ → Bool
@@ -36,7 +37,9 @@ is_dismissing message = is_bad message || (is_kind HELLO message && version_of m
 
 -- the types of messages that a controller may send (section 5.1)
 abbrev pub is_from_controller : ℕ → Bool
-is_from_controller kind = leb kind 5 || kind == 7 || kind == 9 || (leb 13 kind && leb kind 16) || kind == 18 || kind == 20
+is_from_controller kind =
+    leb kind FEATURES_REQUEST || kind == GET_CONFIG_REQUEST || kind == SET_CONFIG || (leb PACKET_OUT kind && leb kind STATS_REQUEST)
+    || kind == BARRIER_REQUEST || kind == QUEUE_GET_CONFIG_REQUEST
 
 -- ---- the form of a message
 
