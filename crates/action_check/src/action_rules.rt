@@ -13,18 +13,15 @@ use flowspace::{Rule, SwitchPolicy, is_written_by};
 use match_meet::{includes, includes_aside};
 use of10_action::Action;
 use of10_match::{Header12, Match};
-use of10_model::protocol::LAST_VLAN;
+use of10_model::protocol::{LAST_VLAN, LAST_VLAN_PRIORITY};
 use of10_port::protocol::{ALL, CONTROLLER, FLOOD, IN_PORT, TABLE};
-
-/// The greatest priority of a tag.
-const MAX_PRIORITY: u8 = 7;
 
 fn argument_fits(action: &Action) -> bool
     ensures { result ≡ argument_fits action.now }
 {
     match *action {
         Action::SetVlanVid(vlan) => vlan <= LAST_VLAN,
-        Action::SetVlanPcp(priority) => priority <= MAX_PRIORITY,
+        Action::SetVlanPcp(priority) => priority <= LAST_VLAN_PRIORITY,
         _ => true,
     }
 }

@@ -9,7 +9,8 @@ use Rattle.std.proofs.lemmas.List.{append-nil}
 use Rattle.of10_model.specs.declared.pattern.Prefix.{Prefix}
 use Rattle.of10_model.specs.Normal.{IsPrefix}
 use Rattle.of10_model.specs.Meet.{◌>>=◌}
-use Rattle.address_text.specs.Addresses.{hex_digit, hex_after, datapath_id, pair_at, six_pairs, hardware_address, digit_at, with_digit, digits_at, octet_of, octet_at, dotted_at, bits_after, leading_bits, prefix}
+use Rattle.of10_model.specs.Pattern.{leading_bits}
+use Rattle.address_text.specs.Addresses.{hex_digit, hex_after, datapath_id, pair_at, six_pairs, hardware_address, digit_at, with_digit, digits_at, octet_of, octet_at, dotted_at, bits_after, prefix}
 use Rattle.address_text.specs.Texts.{hex_glyph, hex_text, hardware_text, dotted_text, prefix_text}
 
 -- ---- hex

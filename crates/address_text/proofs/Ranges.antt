@@ -6,7 +6,8 @@ use Rattle.std.proofs.lemmas.Option.{same_Some, cond_some}
 use Rattle.of10_model.specs.declared.pattern.Prefix.{Prefix}
 use Rattle.of10_model.specs.Normal.{IsPrefix}
 use Rattle.of10_model.specs.Meet.{◌>>=◌}
-use Rattle.address_text.specs.Addresses.{hex_digit, pair_at, has_colons, six_pairs, hardware_address, digits_at, octet_of, octet_at, after, dotted_at, bits_of, bits_after, leading_bits, prefix}
+use Rattle.of10_model.specs.Pattern.{leading_bits}
+use Rattle.address_text.specs.Addresses.{hex_digit, pair_at, has_colons, six_pairs, hardware_address, digits_at, octet_of, octet_at, after, dotted_at, bits_of, bits_after, prefix}
 
 pub bind_some : {A B : Type 0} (o : Option A) (f : A → Option B) (y : B) → (o >>= f) ≡ Some y → (x : A) × (o ≡ Some x) × (f x ≡ Some y)
 bind_some None f y e = absurd cc

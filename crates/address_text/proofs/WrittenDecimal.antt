@@ -7,7 +7,8 @@ use Rattle.std.proofs.lemmas.List.{append-nil, nil_from_length}
 use Rattle.std.proofs.lemmas.Option.{same_Some, cond_some}
 use Rattle.of10_model.specs.declared.pattern.Prefix.{Prefix}
 use Rattle.of10_model.specs.Meet.{◌>>=◌}
-use Rattle.address_text.specs.Addresses.{digit_at, with_digit_in, with_digit, digits_at, octet_of, octet_at, after, dotted_at, bits_of, bits_after, leading_bits, prefix}
+use Rattle.of10_model.specs.Pattern.{leading_bits}
+use Rattle.address_text.specs.Addresses.{digit_at, with_digit_in, with_digit, digits_at, octet_of, octet_at, after, dotted_at, bits_of, bits_after, prefix}
 use Rattle.address_text.specs.Texts.{dotted_text}
 use Rattle.address_text.specs.Written.{IsPrefixText, PrefixesAreAsWritten}
 use Rattle.address_text.proofs.Ranges.{bind_some, map_some, octet_below, octets_read, dotted_below, bits_after_range}

@@ -1,6 +1,7 @@
 -- Identifiers and addresses that texts name. The forms are this proxy's own rule.
-use Rattle.std.specs.Prelude.{ℕ, ◌+◌, ◌-◌, ◌*◌, ◌/◌, ◌^◌, ◌==◌, ◌&&◌, nat_le, Bool, List, [], ◌∷◌, length, slice_index, Option, Some, None, option_map, if◌then◌else◌}
+use Rattle.std.specs.Prelude.{ℕ, ◌+◌, ◌-◌, ◌*◌, ◌==◌, ◌&&◌, nat_le, Bool, List, [], ◌∷◌, length, slice_index, Option, Some, None, option_map, if◌then◌else◌}
 use Rattle.of10_model.specs.declared.pattern.Prefix.{Prefix}
+use Rattle.of10_model.specs.Pattern.{leading_bits}
 use Rattle.of10_model.specs.Meet.{◌>>=◌}
 
 -- ---- hex
@@ -96,10 +97,6 @@ bits_of n = if nat_le 1 n.0 && nat_le n.0 32 && length n.1 == 0 then Some n.0 el
 abbrev pub bits_after : List ℕ → Option ℕ
 bits_after [] = Some 32
 bits_after (c ∷ rest) = after 47 (c ∷ rest) >>= octet_at >>= bits_of
-
--- the addresses with the same leading bits
-abbrev pub leading_bits : ℕ → ℕ → Prefix
-leading_bits address bits = record { bits = bits; value = address / 2 ^ (32 - bits) * 2 ^ (32 - bits) }
 
 -- a network address, or the addresses with its leading bits
 unfoldable pub prefix : List ℕ → Option Prefix

@@ -1,7 +1,8 @@
 -- Which texts are identifiers and addresses, in the words of what is printed. The forms are this proxy's own rule.
 use Rattle.std.specs.Prelude.{◌≡◌, ◌⊎◌, ◌↔◌, ℕ, ◌^◌, ◌≤◌, ◌<◌, List, ◌∷◌, ◌++◌, Some, decimal}
 use Rattle.of10_model.specs.declared.pattern.Prefix.{Prefix}
-use Rattle.address_text.specs.Addresses.{datapath_id, hardware_address, leading_bits, prefix}
+use Rattle.of10_model.specs.Pattern.{leading_bits}
+use Rattle.address_text.specs.Addresses.{datapath_id, hardware_address, prefix}
 use Rattle.address_text.specs.Texts.{dotted_text, hardware_text, hex_text}
 
 -- a text of an address: with a slash and how many of its leading bits count, or without where all do

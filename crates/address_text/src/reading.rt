@@ -1,9 +1,9 @@
 //! Identifiers and addresses that texts name.
 
 ghost use Rattle.std.specs.Prelude.{◌≡◌, ◌≤◌, ◌<◌, ◌+◌, ◌*◌, IfSome, length, option_map, true};
-ghost use Rattle.address_text.specs.Addresses.{after, bits_after, bits_of, datapath_id, digit_at, digits_at, dotted_at, hardware_address, has_colons, hex_after, hex_digit, leading_bits, octet_at, pair_at, prefix, six_pairs, with_digit};
+ghost use Rattle.address_text.specs.Addresses.{after, bits_after, bits_of, datapath_id, digit_at, digits_at, dotted_at, hardware_address, has_colons, hex_after, hex_digit, octet_at, pair_at, prefix, six_pairs, with_digit};
 
-use of10_model::{Prefix, without_low_bits};
+use of10_model::Prefix;
 
 // ---- hex
 
@@ -177,17 +177,6 @@ fn bits_after(text: &[u8]) -> Option<u8>
     bits_of(number, rest)
 }
 
-fn leading_bits(address: u32, bits: u8) -> Prefix
-    requires { (1 ≤ bits) × (bits ≤ 32) }
-    ensures { result ≡ leading_bits address bits }
-{
-    let ignored = 32 - bits;
-    Prefix {
-        bits,
-        value: without_low_bits(address, ignored),
-    }
-}
-
 /// The addresses that `a.b.c.d` or `a.b.c.d/n` names; the low bits are disregarded.
 #[tactic(auto, unfolding(crate::specs::Addresses::prefix))]
 pub fn prefix(text: &[u8]) -> Option<Prefix>
@@ -195,5 +184,5 @@ pub fn prefix(text: &[u8]) -> Option<Prefix>
 {
     let (address, rest) = dotted_at(text)?;
     let bits = bits_after(rest)?;
-    Some(leading_bits(address, bits))
+    Some(Prefix::leading(address, bits))
 }

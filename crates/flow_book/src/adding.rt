@@ -16,19 +16,6 @@ use of10_match::Match;
 /// fewer the moves are cheaper than the comparisons of a sort.
 const MANY: usize = 64;
 
-/// Appends the entry, for which there is room.
-fn push(fresh: &mut Vec<Entry>, entry: Entry)
-    requires { vec_len fresh.old < vec_capacity fresh.old }
-    ensures items { fresh.new.items ≡ fresh.old.items ++ entry ∷ [] }
-    ensures len { vec_len fresh.new ≡ vec_len fresh.old + 1 }
-    ensures capacity { vec_capacity fresh.old ≤ vec_capacity fresh.new }
-{
-    match fresh.push(entry) {
-        Ok(()) => {}
-        Err(_) => unreachable!(),
-    }
-}
-
 /// Collects entries for the pieces that the flow-mod books while they aren't booked. There is room for
 /// them.
 pub(crate) fn gather(
@@ -51,15 +38,12 @@ pub(crate) fn gather(
     for piece in pieces {
         if is_newcomer(entries, command, piece, priority) {
             let pattern = *piece;
-            push(
-                fresh,
-                Entry::new(Booked {
-                    pattern,
-                    priority,
-                    asked,
-                    number,
-                }),
-            );
+            fresh.push_reserved(Entry::new(Booked {
+                pattern,
+                priority,
+                asked,
+                number,
+            }));
         }
     }
 }

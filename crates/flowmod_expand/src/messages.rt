@@ -11,18 +11,12 @@ use crate::sending::{sent_actions, sent_for};
 use of10_action::{Actions, list_size};
 use of10_ctl::Frame;
 use of10_flow::FlowMod;
-use of10_flow::protocol::NO_BUFFER;
+use of10_flow::protocol::{FIELDS, MOST_ACTIONS, NO_BUFFER};
 use of10_match::Match;
 use std::alloc::{AllocError, Global};
 
 /// Bytes that all messages of one flow-mod may have together.
 const EXPANSION: u64 = 262_144;
-
-/// Bytes of a flow-mod before its actions (OpenFlow 1.0.0, section 5.3.3).
-const FIELDS: u64 = 72;
-
-/// Bytes of actions that fit into a message, whose length is below 65,536 (OpenFlow 1.0.0, section 5.1).
-const MOST_ACTIONS: u64 = 65_535 - FIELDS;
 
 fn buffer_at(buffer: Option<(u32, u32)>, place: usize) -> u32
     ensures { result ≡ buffer_at buffer place }

@@ -17,7 +17,7 @@ mod text;
 
 pub use fault::{Field, PolicyFault, What};
 pub use order::rules_stand_in_order;
-pub use owners::is_in_port;
+pub use owners::{is_in_port, takes_from};
 pub use policy::Policy;
 pub use rules::{Rule, has_slot, is_vlan, is_written_by};
 pub use slices::{Slice, has_name_bytes};

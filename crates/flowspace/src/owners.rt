@@ -2,6 +2,7 @@
 
 ghost use Rattle.std.specs.Prelude.{◌≡◌, find, option_map};
 ghost use Rattle.std.specs.List.{list_any};
+ghost use Rattle.of10_model.specs.Pattern.{meets};
 ghost use Rattle.flowspace.specs.Owners.{is_owned_by, owner_of_match, is_in_port, is_rule_at, has_port};
 
 use crate::rules::{Rule, is_written_by};
@@ -36,14 +37,21 @@ pub fn is_in_port(port: u16) -> bool
     port <= MAX || port == LOCAL
 }
 
+/// Whether the rule has packets that come in by the port: its match leaves the port free or names it.
+pub fn takes_from(rule: &Rule, port: u16) -> bool
+    ensures { result ≡ meets rule.now.pattern.in_port port }
+{
+    let in_port = rule.pattern.pattern().in_port;
+    in_port.is_none_or(|own| port == own)
+}
+
 fn is_rule_at(rule: &Rule, slot: u8, port: u16) -> bool
     ensures { result ≡ is_rule_at slot port rule.now }
 {
-    is_written_by(rule, usize::from(slot))
-        && rule.pattern.pattern().in_port.is_none_or(|own| port == own)
+    is_written_by(rule, usize::from(slot)) && takes_from(rule, port)
 }
 
-fn takes_from(rules: &[Rule], slot: u8, port: u16) -> bool
+fn has_rule_at(rules: &[Rule], slot: u8, port: u16) -> bool
     ensures { result ≡ list_any (is_rule_at slot port) rules.now }
 {
     rules.iter().any(|rule| is_rule_at(rule, slot, port))
@@ -53,5 +61,5 @@ fn takes_from(rules: &[Rule], slot: u8, port: u16) -> bool
 pub(crate) fn has_port(rules: &[Rule], slot: u8, port: u16) -> bool
     ensures { result ≡ has_port rules.now slot port }
 {
-    is_in_port(port) && takes_from(rules, slot, port)
+    is_in_port(port) && has_rule_at(rules, slot, port)
 }

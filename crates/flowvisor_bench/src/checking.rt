@@ -4,21 +4,12 @@
 use crate::expanding::policy;
 use action_check::{Origin, check};
 use of10_action::Action;
-use of10_match::Match;
-use of10_model::wire::{set_u16, set_u32};
+use of10_port::protocol::CONTROLLER;
+use samples::tcp;
 use std::alloc::{AllocError, Global};
 
-const CONTROLLER: u16 = 0xfffd;
-
-/// The packets to the TCP port of the last rule.
-fn last_port() -> Match {
-    let mut bytes = [0; 40];
-    set_u32(&mut bytes, 0, 0x0038_204f);
-    set_u16(&mut bytes, 22, 0x0800);
-    bytes[25] = 6;
-    set_u16(&mut bytes, 38, 255);
-    Match::decode(&bytes)
-}
+/// The TCP port of the last rule.
+const LAST_PORT: u16 = 255;
 
 /// Checks so often a list with an output to a port and one to the controller, and counts the lists that
 /// are given.
@@ -26,7 +17,7 @@ pub fn give(alloc: Global, count: u64) -> Result<u64, AllocError> {
     let Some(policy) = policy(alloc)? else {
         return Ok(0);
     };
-    let origin = Origin::Piece(last_port());
+    let origin = Origin::Piece(tcp(None, LAST_PORT));
     let actions = [
         Action::SetDlDst(2),
         Action::Output {

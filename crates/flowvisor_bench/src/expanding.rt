@@ -8,6 +8,7 @@ use of10_action::{Action, Actions};
 use of10_flow::FlowMod;
 use of10_flow::protocol::{ADD, NO_BUFFER};
 use of10_match::Match;
+use of10_port::protocol::NONE;
 use policy_text::read;
 use std::alloc::{AllocError, Global};
 
@@ -67,7 +68,7 @@ fn add(alloc: Global) -> Result<FlowMod, AllocError> {
         hard: 0,
         priority: 10,
         buffer: NO_BUFFER,
-        out_port: 0xffff,
+        out_port: NONE,
         flags: 0,
         actions: Actions::of(alloc, &[])?,
     })

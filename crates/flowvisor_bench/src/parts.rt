@@ -3,8 +3,8 @@
 use flow_book::FlowBook;
 use of10_flow::protocol::{ADD, MODIFY};
 use of10_match::Match;
-use of10_model::wire::{set_u16, set_u32};
 use rate_bucket::RateBucket;
+use samples::tcp;
 use std::alloc::{AllocError, Global};
 use xid_map::{AskKind, Asked, XidMap};
 
@@ -136,16 +136,6 @@ fn ask(count: u64) -> u64 {
     found
 }
 
-/// The packets to a TCP port.
-fn to_port(port: u16) -> Match {
-    let mut bytes = [0; 40];
-    set_u32(&mut bytes, 0, 0x0038_204f);
-    set_u16(&mut bytes, 22, 0x0800);
-    bytes[25] = 6;
-    set_u16(&mut bytes, 38, port);
-    Match::decode(&bytes)
-}
-
 fn priority(port: u16) -> u16 {
     port / OF_PRIORITY
 }
@@ -159,7 +149,7 @@ fn picked(number: u64) -> u16 {
 fn matches(alloc: Global) -> Result<Vec<Match>, AllocError> {
     let mut matches = Vec::new(alloc);
     for port in 0..PORTS {
-        matches.push(to_port(port))?;
+        matches.push(tcp(None, port))?;
     }
     Ok(matches)
 }
@@ -177,7 +167,7 @@ fn add(book: &mut FlowBook, piece: &Match, priority: u16) -> Result<(), AllocErr
 fn filled(alloc: Global) -> Result<FlowBook, AllocError> {
     let mut book = FlowBook::new(alloc);
     for port in 0..BOOKED {
-        add(&mut book, &to_port(port), priority(port))?;
+        add(&mut book, &tcp(None, port), priority(port))?;
     }
     Ok(book)
 }

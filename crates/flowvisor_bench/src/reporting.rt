@@ -3,7 +3,7 @@
 use fv_base::NeverSink;
 use fv_report::report_items;
 use policy_text::read;
-use recording::{MAGIC, SLICE_UP, SWITCH_BYTES, SWITCH_UP, items};
+use recording::{SLICE_UP, SWITCH_BYTES, SWITCH_UP, add_item, begin_recording, items};
 use std::alloc::{AllocError, Global};
 
 const POLICY: &str = "\
@@ -32,41 +32,42 @@ const PACKET: [u8; 72] = [
     0, 0, 0, 0, 0, 0, 0, 0, 0x50, 2, 0, 0, 0, 0, 0, 0,
 ];
 
-/// So many of them fit the longest record, which carries 16 MiB.
-const PACKETS: u32 = 233_016;
+/// Bytes that the longest record carries.
+const LONGEST: usize = 16_777_216;
+
+/// So many packets fit it.
+const PACKETS: u64 = 233_016;
 
 /// Bytes of the shortest line that reports one: that of event 4.
 const LINE: u64 = 158;
 
-/// The head of a record of switch 0 at moment 0, which carries so many bytes.
-fn put_head(out: &mut Vec<u8>, kind: u8, size: u32) -> Result<(), AllocError> {
-    out.extend_from_slice(&[kind, 0, 0, 0])?;
-    out.extend_from_slice(&size.to_be_bytes())?;
-    out.extend_from_slice(&[0; 8])
-}
-
-/// A record with so many packets.
-fn put_packets(out: &mut Vec<u8>, count: u32) -> Result<(), AllocError> {
-    let size = count.saturating_mul(PACKET.len() as u32);
-    put_head(out, SWITCH_BYTES, size)?;
+/// So many packets.
+fn packets(alloc: Global, count: u64) -> Result<Vec<u8>, AllocError> {
+    let mut out = Vec::new(alloc);
     for _ in 0..count {
         out.extend_from_slice(&PACKET)?;
     }
-    Ok(())
+    Ok(out)
+}
+
+/// A record with bytes of the switch, or with the first of them that it may carry.
+fn put_bytes(out: &mut Vec<u8>, bytes: &[u8]) -> Result<(), AllocError> {
+    let size = bytes.len().min(LONGEST);
+    add_item(out, SWITCH_BYTES, 0, 0, 0, &bytes[..size])
 }
 
 /// The recording of so many packets, in records that are as long as may be.
 fn recording_of(alloc: Global, count: u64) -> Result<Vec<u8>, AllocError> {
     let mut out = Vec::new(alloc);
-    out.extend_from_slice(&MAGIC)?;
-    put_head(&mut out, SWITCH_UP, 0)?;
-    put_head(&mut out, SWITCH_BYTES, FEATURES.len() as u32)?;
-    out.extend_from_slice(&FEATURES)?;
-    put_head(&mut out, SLICE_UP, 0)?;
-    for _ in 0..count / u64::from(PACKETS) {
-        put_packets(&mut out, PACKETS)?;
+    begin_recording(&mut out)?;
+    add_item(&mut out, SWITCH_UP, 0, 0, 0, &[])?;
+    put_bytes(&mut out, &FEATURES)?;
+    add_item(&mut out, SLICE_UP, 0, 0, 0, &[])?;
+    let most = packets(alloc, PACKETS.min(count))?;
+    for _ in 0..count / PACKETS {
+        put_bytes(&mut out, &most)?;
     }
-    put_packets(&mut out, (count % u64::from(PACKETS)) as u32)?;
+    put_bytes(&mut out, &packets(alloc, count % PACKETS)?)?;
     Ok(out)
 }
 

@@ -2,6 +2,10 @@ ghost use Rattle.std.specs.Prelude.{◌≡◌};
 ghost use Rattle.of10_action.specs.declared.fault.DecodeFault.TheVariants.{Memory};
 ghost use Rattle.of10_action.specs.Faults.{class_and_code};
 
+use crate::error::{
+    BAD_ACTION, BAD_ACTION_LENGTH, BAD_ACTION_TYPE, BAD_ACTION_VENDOR, BAD_LENGTH, BAD_REQUEST,
+    BAD_STATISTICS, BAD_VENDOR,
+};
 use std::alloc::{AllocError, AllocFailed};
 
 /// What is wrong with the bytes of a message. Each carries the value found.
@@ -49,11 +53,11 @@ pub fn code(fault: WireFault) -> (u16, u16)
     ensures { result ≡ class_and_code fault }
 {
     match fault {
-        WireFault::Length(_) => (1, 6),
-        WireFault::StatKind(_) => (1, 2),
-        WireFault::StatVendor => (1, 3),
-        WireFault::ActionKind(_) => (2, 0),
-        WireFault::ActionLength(_) => (2, 1),
-        WireFault::ActionVendor => (2, 2),
+        WireFault::Length(_) => (BAD_REQUEST, BAD_LENGTH),
+        WireFault::StatKind(_) => (BAD_REQUEST, BAD_STATISTICS),
+        WireFault::StatVendor => (BAD_REQUEST, BAD_VENDOR),
+        WireFault::ActionKind(_) => (BAD_ACTION, BAD_ACTION_TYPE),
+        WireFault::ActionLength(_) => (BAD_ACTION, BAD_ACTION_LENGTH),
+        WireFault::ActionVendor => (BAD_ACTION, BAD_ACTION_VENDOR),
     }
 }

@@ -4,6 +4,7 @@
 mod action;
 mod decode;
 mod encode;
+pub mod error;
 mod fault;
 
 pub use action::{Action, Actions, Bytes};

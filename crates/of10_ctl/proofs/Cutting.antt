@@ -1,12 +1,12 @@
 -- How a stream is cut into frames, and what comes behind does not change the frames in front.
-use Rattle.std.proofs.Common.{◌≡◌, ℕ, zero, suc, ◌+◌, ◌-◌, ◌<◌, ◌≤◌, cond, ltb, List, [], ◌∷◌, ◌++◌, length, take, drop, refl, ap, ◌∙◌, arith}
-use Rattle.std.proofs.lemmas.Bool.{lt-ltb, le-ltb, ltb-false}
+use Rattle.std.proofs.Common.{◌≡◌, ℕ, zero, suc, ◌+◌, ◌-◌, ◌<◌, ◌≤◌, cond, ltb, List, [], ◌∷◌, ◌++◌, length, take, drop, refl, ap, ◌∙◌, inl, inr, arith}
+use Rattle.std.proofs.lemmas.Bool.{lt-ltb, le-ltb, ltb-false, cases_lt}
 use Rattle.std.proofs.lemmas.List.{length-drop, length-append, take-append-le, drop-append-le, drop-take}
 use Rattle.byteorder.specs.Endian.{big_from}
 use Rattle.byteorder.specs.Numbers.{big_from-append, big_from-take}
 use Rattle.of10_model.proofs.Results.{unless, either_none}
 use Rattle.of10_ctl.specs.Heads.{length_field}
-use Rattle.of10_ctl.specs.Frames.{is_bad}
+use Rattle.of10_ctl.specs.Frames.{is_bad, told_size}
 use Rattle.of10_ctl.specs.Streams.{frames_at, frames_of}
 
 -- the count doesn't matter once it reaches the number of bytes
@@ -84,3 +84,24 @@ first-whole bytes later good whole =
     frames-whole (bytes ++ later) (omega arith) (omega arith)
     ∙ ap (λ (n : ℕ). take n (bytes ++ later) ∷ frames_of (drop n (bytes ++ later))) same
     ∙ rw (take-append-le size bytes later whole, drop-append-le size bytes later whole, length_field-take size bytes good, le-ltb size 8 good) refl
+
+-- ---- by the size that the first frame has
+
+pub told-cut_off : (bytes : List ℕ) → 8 ≤ length bytes → length bytes < told_size bytes → frames_of bytes ≡ []
+told-cut_off bytes header few =
+    elim (cases_lt (length_field bytes) 8) [
+      | inl bad ↦ absurd (let less : length bytes < 8 = rw (lt-ltb (length_field bytes) 8 bad) at few in omega (arith, header, less))
+      | inr good ↦ frames-cut_off bytes good (rw (le-ltb (length_field bytes) 8 good) at few)
+    ]
+
+pub told-first : (bytes later : List ℕ) (size : ℕ) → told_size bytes ≡ size → 8 ≤ length bytes → size ≤ length bytes
+    → frames_of (bytes ++ later) ≡ take size bytes ∷ cond (is_bad (take size bytes)) [] (frames_of (drop size bytes ++ later))
+told-first bytes later size told header whole =
+    elim (cases_lt (length_field bytes) 8) [
+      | inl bad ↦
+          let is : 8 ≡ size = rw (lt-ltb (length_field bytes) 8 bad) at told in
+          rw (← is) (first-bad bytes later header bad)
+      | inr good ↦
+          let is : length_field bytes ≡ size = rw (le-ltb (length_field bytes) 8 good) at told in
+          rw (← is) (first-whole bytes later good (rw (← is) at whole))
+    ]

@@ -9,11 +9,15 @@ use Rattle.of10_ctl.specs.Heads.{length_field, head_bytes}
 abbrev pub is_bad : List ℕ → Bool
 is_bad bytes = nat_lt (length_field bytes) 8
 
--- as many bytes as the length field says (OpenFlow 1.0.0, section 5.1); where that is below 8, the header alone (this proxy's own rule)
+-- how many bytes a frame has: as many as its length field says (OpenFlow 1.0.0, section 5.1); where that is below 8, the header alone (this proxy's own rule)
+abbrev pub told_size : List ℕ → ℕ
+told_size bytes = if is_bad bytes then 8 else length_field bytes
+
+-- a frame: a header at least, and as many bytes as it has
 pub record IsFrame (bytes : List ℕ) : Type 0 where
   pub header : 8 ≤ length bytes
   pub small : length bytes ≤ 65535
-  pub sized : length bytes ≡ (if is_bad bytes then 8 else length_field bytes)
+  pub sized : length bytes ≡ told_size bytes
 
 -- a message of version 1: its header and its body (OpenFlow 1.0.0, section 5.1)
 abbrev pub message_of : ℕ → ℕ → List ℕ → List ℕ

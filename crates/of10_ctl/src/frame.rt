@@ -1,6 +1,6 @@
-ghost use Rattle.std.specs.Prelude.{◌≡◌, ◌↔◌, ◌<◌, ◌^◌, IsTrue, IfOk, drop, length};
+ghost use Rattle.std.specs.Prelude.{◌≡◌, ◌↔◌, ◌<◌, ◌≤◌, ◌^◌, IsTrue, IfOk, drop, length};
 ghost use Rattle.of10_ctl.specs.Heads.{head_of, length_field};
-ghost use Rattle.of10_ctl.specs.Frames.{IsFrame, is_bad};
+ghost use Rattle.of10_ctl.specs.Frames.{IsFrame, is_bad, told_size};
 ghost use Rattle.of10_ctl.specs.Kinds.{IsOf, is_of};
 
 use crate::head::Head;
@@ -16,12 +16,17 @@ pub(crate) const HEADER: u16 = 8;
 pub fn is_frame(bytes: &[u8]) -> bool
     ensures { IsTrue result ↔ IsFrame bytes.now }
 {
-    if bytes.len() < 8 || bytes.len() > 65535 {
-        return false;
-    }
-    let length = u16_at(bytes, 2);
-    let wanted = if length < HEADER { HEADER } else { length };
-    bytes.len() == usize::from(wanted)
+    bytes.len() >= 8 && bytes.len() == told_size(bytes)
+}
+
+/// How many bytes the frame has that begins with these: as many as its length field says, and the header
+/// alone where that is below 8.
+pub(crate) fn told_size(bytes: &[u8]) -> usize
+    requires { 8 ≤ length bytes.now }
+    ensures value { result ≡ told_size bytes.now }
+    ensures within { (8 ≤ result) × (result ≤ 65535) }
+{
+    usize::from(u16_at(bytes, 2).max(HEADER))
 }
 
 /// One message as it stands in a stream, 8 to 65,535 bytes; or the header alone of a message that gives

@@ -2,8 +2,7 @@ ghost use Rattle.std.specs.Prelude.{◌≡◌, ◌≤◌, ◌+◌, ◌*◌, ◌+
 ghost use Rattle.of10_ctl.specs.Frames.{IsFrame, is_bad};
 ghost use Rattle.of10_ctl.specs.Streams.{Stands, answer, frame_in, frames_of};
 
-use crate::frame::{Frame, HEADER};
-use of10_model::wire::u16_at;
+use crate::frame::{Frame, told_size};
 use std::alloc::{AllocError, Global};
 use std::marker::Model;
 
@@ -29,11 +28,7 @@ fn first_size(bytes: &[u8]) -> Option<usize>
     if bytes.len() < 8 {
         return None;
     }
-    let length = u16_at(bytes, 2);
-    if length < HEADER {
-        return Some(8);
-    }
-    let size = usize::from(length);
+    let size = told_size(bytes);
     if bytes.len() < size {
         return None;
     }

@@ -61,7 +61,7 @@ pub fn normal(m: &Pattern) -> Pattern
     let network = has_network(m.dl_type);
     let nw_proto = kept(exact, network, m.nw_proto, 0);
     let ports = has_ports(m.dl_type, nw_proto);
-    let zero = Prefix { bits: 32, value: 0 };
+    let zero = Prefix::whole(0);
     Pattern {
         dl_vlan_pcp: kept(exact, has_vlan(m.dl_vlan), m.dl_vlan_pcp, 0),
         nw_tos: kept(exact, has_service(m.dl_type), m.nw_tos, 0),

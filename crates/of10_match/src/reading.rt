@@ -4,7 +4,7 @@ ghost use Rattle.std.specs.Prelude.{◌≡◌, ◌<◌, ◌/◌, ◌%◌, ◌^�
 ghost use Rattle.of10_model.specs.Normal.{bit, leading, spelled};
 
 use of10_model::wire::{u8_at, u16_at, u32_at, u48_at};
-use of10_model::{Pattern, Prefix, has_bit, service_bits, vlan_priority, without_low_bits};
+use of10_model::{Pattern, Prefix, has_bit, service_bits, vlan_priority};
 
 fn unless_freed<T: Copy>(word: u32, place: u32, value: T) -> Option<T>
     requires { place < 32 }
@@ -32,10 +32,7 @@ fn prefix(word: u32, place: u32, address: u32) -> Option<Prefix>
     if count >= 32 {
         None
     } else {
-        Some(Prefix {
-            bits: 32 - count,
-            value: without_low_bits(address, count),
-        })
+        Some(Prefix::leading(address, 32 - count))
     }
 }
 

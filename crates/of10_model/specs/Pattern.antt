@@ -1,5 +1,5 @@
 -- Matches as sets of headers.
-use Rattle.std.specs.Prelude.{ℕ, ◌≡◌, ◌-◌, ◌/◌, ◌^◌, ◌==◌, ◌&&◌, Bool, true, Option, Some, None}
+use Rattle.std.specs.Prelude.{ℕ, ◌≡◌, ◌-◌, ◌*◌, ◌/◌, ◌^◌, ◌==◌, ◌&&◌, Bool, true, Option, Some, None}
 use Rattle.of10_model.specs.declared.pattern.Prefix.{Prefix}
 use Rattle.of10_model.specs.declared.pattern.Pattern.{Pattern}
 use Rattle.of10_model.specs.Header.{Header}
@@ -35,6 +35,10 @@ pub record Has (m : Pattern) (h : Header) : Type 0 where
 abbrev pub meets : Option ℕ → ℕ → Bool
 meets None x = true
 meets (Some v) x = x == v
+
+-- the addresses with the same leading bits
+abbrev pub leading_bits : ℕ → ℕ → Prefix
+leading_bits address bits = record { bits = bits; value = address / 2 ^ (32 - bits) * 2 ^ (32 - bits) }
 
 -- an address begins as a prefix does
 abbrev pub begins_as : Prefix → ℕ → Bool

@@ -2,7 +2,7 @@
 
 ghost use Rattle.std.specs.Prelude.{ℕ, List, [], ◌∷◌, ◌≡◌, ◌<◌, ◌↔◌, IsTrue, slice_index};
 ghost use Rattle.of10_model.specs.declared.pattern.Pattern.{Pattern};
-ghost use Rattle.of10_model.specs.declared.protocol.TheConstants.{UNTAGGED, LAST_VLAN, IPV4, ARP, ICMP, TCP, UDP};
+ghost use Rattle.of10_model.specs.declared.protocol.TheConstants.{UNTAGGED, LAST_VLAN, LAST_VLAN_PRIORITY, IPV4, ARP, ICMP, TCP, UDP};
 ghost use Rattle.of10_model.specs.Header.{Header, IsHeader};
 ghost use Rattle.of10_model.specs.Pattern.{Has, has};
 ghost use Rattle.of10_model.specs.Normal.{Norm, IsNormal};
@@ -10,12 +10,12 @@ ghost use Rattle.of10_model.specs.Spelling.{Spell};
 ghost use Rattle.of10_model.specs.Padding.{AlikeBut};
 ghost use Rattle.of10_model.specs.Same.{is_same};
 
-/// The protocols have the numbers of IEEE 802.3 and of IP; a VLAN has 12 bits, and untagged packets have the
-/// VLAN 0xffff (OpenFlow 1.0.0, section 5.2.3).
+/// The protocols have the numbers of IEEE 802.3 and of IP; a VLAN has 12 bits and its priority three, and
+/// untagged packets have the VLAN 0xffff (OpenFlow 1.0.0, section 5.2.3).
 pub fn protocols_are_numbered()
     ensures ethernet { IPV4 ∷ ARP ∷ [] ≡ 0x0800 ∷ 0x0806 ∷ [] }
     ensures ip { ICMP ∷ TCP ∷ UDP ∷ [] ≡ 1 ∷ 6 ∷ 17 ∷ [] }
-    ensures vlan { LAST_VLAN ∷ UNTAGGED ∷ [] ≡ 4095 ∷ 0xffff ∷ [] }
+    ensures vlan { LAST_VLAN ∷ LAST_VLAN_PRIORITY ∷ UNTAGGED ∷ [] ≡ 4095 ∷ 7 ∷ 0xffff ∷ [] }
 {}
 
 /// The test of membership, which computes, answers by the relation.

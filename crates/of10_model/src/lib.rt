@@ -9,4 +9,4 @@ pub mod protocol;
 pub mod wire;
 
 pub use fields::{has_bit, service_bits, vlan_number, vlan_priority};
-pub use pattern::{Pattern, Prefix, without_low_bits};
+pub use pattern::{Pattern, Prefix};

@@ -1,6 +1,6 @@
-ghost use Rattle.std.specs.Prelude.{◌≡◌, ◌<◌, ◌*◌, ◌/◌, ◌^◌};
+ghost use Rattle.std.specs.Prelude.{◌≡◌, ◌≤◌};
 ghost use Rattle.of10_model.specs.Normal.{IsPrefix, is_exact, is_whole};
-ghost use Rattle.of10_model.specs.Pattern.{begins_as};
+ghost use Rattle.of10_model.specs.Pattern.{begins_as, leading_bits};
 
 /// The leading bits of a network address (OpenFlow 1.0.0, section 5.2.3: a count of ignored bits).
 #[derive(Clone, Copy, Debug, PartialEq, Eq)]
@@ -19,6 +19,19 @@ impl Prefix {
         Prefix {
             bits: 32,
             value: address,
+        }
+    }
+
+    /// The addresses that begin as an address does in so many bits, from 1 to 32.
+    pub fn leading(address: u32, bits: u8) -> Prefix
+        requires { (1 ≤ bits) × (bits ≤ 32) }
+        ensures value { result ≡ leading_bits address bits }
+        ensures normal { IsPrefix (Some result) }
+    {
+        let ignored = 32 - bits;
+        Prefix {
+            bits,
+            value: address >> ignored << ignored,
         }
     }
 
@@ -48,14 +61,6 @@ pub struct Pattern {
     pub nw_dst: Option<Prefix>,
     pub tp_src: Option<u16>,
     pub tp_dst: Option<u16>,
-}
-
-/// The address with so many of its low bits zero.
-pub fn without_low_bits(address: u32, count: u8) -> u32
-    requires { count < 32 }
-    ensures { result ≡ address / 2 ^ count * 2 ^ count }
-{
-    address >> count << count
 }
 
 impl Prefix {

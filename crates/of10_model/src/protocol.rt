@@ -7,6 +7,9 @@ pub const UNTAGGED: u16 = 0xffff;
 /// The greatest VLAN, a number of 12 bits.
 pub const LAST_VLAN: u16 = 4095;
 
+/// The greatest VLAN priority, a number of three bits.
+pub const LAST_VLAN_PRIORITY: u8 = 7;
+
 /// Ethernet types.
 pub const IPV4: u16 = 0x0800;
 

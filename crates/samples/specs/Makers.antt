@@ -1,8 +1,9 @@
 -- What the makers make.
-use Rattle.std.specs.Prelude.{ℕ, ◌-◌, ◌*◌, ◌/◌, ◌^◌, ◌==◌, ◌||◌, if◌then◌else◌, List, [], ◌∷◌, ◌++◌, replicate, codes, Option, Some, None, is_some}
+use Rattle.std.specs.Prelude.{ℕ, ◌-◌, ◌==◌, ◌||◌, if◌then◌else◌, List, [], ◌∷◌, ◌++◌, replicate, codes, Option, Some, None, is_some}
 use Rattle.byteorder.specs.Endian.{big_bytes}
 use Rattle.of10_model.specs.declared.pattern.Prefix.{Prefix}
 use Rattle.of10_model.specs.declared.pattern.Pattern.{Pattern}
+use Rattle.of10_model.specs.Pattern.{leading_bits}
 use Rattle.flowspace.specs.declared.slices.Slice.{Slice}
 use Rattle.samples.specs.declared.matches.Packets.{Packets}
 use Rattle.of10_port.specs.declared.features.Features.{Features}
@@ -10,8 +11,7 @@ use Rattle.of10_port.specs.declared.features.Features.{Features}
 -- the addresses that begin as one does in so many bits; 33 and more are all bits
 abbrev pub prefix_of : ℕ → ℕ → Option Prefix
 prefix_of net bits =
-    let count = 32 - bits in
-    if bits == 0 then None else Some (record { bits = 32 - count; value = net / 2 ^ count * 2 ^ count })
+    if bits == 0 then None else Some (leading_bits net (32 - (32 - bits)))
 
 -- IPv4 where a network or a TCP port is given
 abbrev pub kind_of : Option Prefix → Option ℕ → Option ℕ

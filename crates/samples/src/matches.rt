@@ -5,7 +5,7 @@ ghost use Rattle.of10_model.specs.Normal.{IsPrefix};
 ghost use Rattle.samples.specs.Makers.{kind_of, packets_of, pattern_of, prefix_of, protocol_of};
 
 use of10_match::{Header12, Match};
-use of10_model::{Pattern, Prefix, without_low_bits};
+use of10_model::{Pattern, Prefix};
 
 /// Which packets a match has.
 #[derive(Clone, Copy, Debug, PartialEq, Eq)]
@@ -33,11 +33,8 @@ fn prefix(net: u32, bits: u8) -> Option<Prefix>
     if bits == 0 {
         return None;
     }
-    let count = 32_u8.saturating_sub(bits);
-    Some(Prefix {
-        bits: 32 - count,
-        value: without_low_bits(net, count),
-    })
+    let ignored = 32_u8.saturating_sub(bits);
+    Some(Prefix::leading(net, 32 - ignored))
 }
 
 fn kind(net: Option<Prefix>, tcp: Option<u16>) -> Option<u16>

@@ -11,6 +11,10 @@ ghost use Rattle.slice_side.specs.Reactions.{Shown, has_reply};
 use crate::fault::form_fault;
 use flowspace::SwitchPolicy;
 use of10_action::code;
+use of10_action::error::{
+    BAD_LENGTH, BAD_REQUEST, BAD_TYPE, BAD_VENDOR, BAD_VERSION, HELLO_FAILED, INCOMPATIBLE,
+    NOT_PERMITTED,
+};
 use of10_ctl::kind::{
     BARRIER_REQUEST, ECHO_REPLY, ECHO_REQUEST, ERROR, FEATURES_REQUEST, GET_CONFIG_REPLY,
     GET_CONFIG_REQUEST, HELLO, PACKET_OUT, PORT_MOD, QUEUE_GET_CONFIG_REQUEST, SET_CONFIG,
@@ -21,25 +25,6 @@ use of10_model::wire::{put_u16, u16_at};
 use of10_port::Features;
 use port_view::PortView;
 use std::alloc::{AllocError, Global};
-
-/// HELLO_FAILED and BAD_REQUEST (OpenFlow 1.0.0, section 5.4.4).
-const HELLO_FAILED: u16 = 0;
-
-const BAD_REQUEST: u16 = 1;
-
-/// The codes of HELLO_FAILED: no version in common.
-const INCOMPATIBLE: u16 = 0;
-
-/// The codes of BAD_REQUEST: the version, the type, the vendor, what isn't permitted, and the length.
-const BAD_VERSION: u16 = 0;
-
-const BAD_TYPE: u16 = 1;
-
-const BAD_VENDOR: u16 = 3;
-
-const NOT_PERMITTED: u16 = 5;
-
-const BAD_LENGTH: u16 = 6;
 
 /// What a slice is told of its switch.
 #[derive(Clone, Copy)]

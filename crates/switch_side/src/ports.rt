@@ -12,7 +12,7 @@ ghost use Rattle.switch_side.specs.Sharing.{HasNoted, HaveNoted, AreSlotsWith};
 use crate::dispatch::Dispatch;
 use flow_book::SliceState;
 use flowspace::limits::SLICES;
-use flowspace::{Rule, SwitchPolicy, is_in_port};
+use flowspace::{Rule, SwitchPolicy, is_in_port, takes_from};
 use of10_ctl::Frame;
 use of10_port::PortStatus;
 use port_view::{Kept, PortView};
@@ -26,7 +26,7 @@ fn note(slots: &mut [bool; SLICES], rule: &Rule, port: u16)
         return;
     };
     let place = usize::from(slot);
-    if place < SLICES && rule.pattern.pattern().in_port.is_none_or(|own| port == own) {
+    if place < SLICES && takes_from(rule, port) {
         slots[place] = true;
     }
 }
