@@ -9,7 +9,8 @@ use Rattle.recording.specs.Recordings.{Told, switch_bytes, slice_bytes}
 use Rattle.desk_words.specs.Recorded.{completed}
 use Rattle.desk_words.specs.Built.{is_unbuilt_of_switch, is_unbuilt_of_slice, unbuilt_in, Lack, lack_of, first_lack}
 use Rattle.desk_words.specs.Laws.{is_unbuilt, told_after, AreBuilt, IsFirstLack}
-use Rattle.desk_words.proofs.Making.{reverse_more}
+use Rattle.recording.proofs.Refused.{newest_first}
+use Rattle.flow_book.proofs.Counts.{find_no}
 
 -- ---- the first that passes a test
 
@@ -30,12 +31,6 @@ none_passes test [] e = refl
 none_passes test (x ∷ xs) e =
     let both = none_by (test x) x (find test xs) e in
     rw both.0 (none_passes test xs both.1)
-
-none_found : {X : Type 0} (test : X → Bool) (xs : List X) → list_any test xs ≡ false → find test xs ≡ None
-none_found test [] none = refl
-none_found test (x ∷ xs) none =
-    let both = or_parts (test x) (list_any test xs) none in
-    rw both.0 (none_found test xs both.1)
 
 first_by : {X : Type 0} (test : X → Bool) (y : X) (ys : List X) (x : X) (b : Bool) → test y ≡ b → cond b (Some y) (find test ys) ≡ Some x
     → (find test ys ≡ Some x → HasFirst test ys x) → HasFirst test (y ∷ ys) x
@@ -75,7 +70,7 @@ HasNone r before = list_any (is_unbuilt r) (completed r before) ≡ false
 -- ---- records one after another
 
 after_next : (before : List Told) (pair : Item × Told) (earlier : List (Item × Told)) → told_after before (pair ∷ earlier) ≡ told_after (pair.1 ∷ before) earlier
-after_next before pair earlier = reverse_more pair.1 (map (λ (p : Item × Told). p.1) earlier) before
+after_next before pair earlier = newest_first pair.1 (map (λ (p : Item × Told). p.1) earlier) before
 
 no_place : {X : Type 0} (earlier later : List X) (x : X) → [] ≡ earlier ++ x ∷ later → ⊥
 no_place [] later x e = cc
@@ -121,7 +116,7 @@ all_built before (pair ∷ pairs) e =
     both_built before pair pairs (none_passes (is_unbuilt pair.1) (completed pair.1 before) (sym (unbuilt_is pair.1 before) ∙ both.0)) (all_built (pair.1 ∷ before) pairs both.1)
 
 passed_over : (before : List Told) (pair : Item × Told) → HasNone pair.1 before → unbuilt_in pair.1 before ≡ None
-passed_over before pair none = unbuilt_is pair.1 before ∙ none_found (is_unbuilt pair.1) (completed pair.1 before) none
+passed_over before pair none = unbuilt_is pair.1 before ∙ find_no (is_unbuilt pair.1) (completed pair.1 before) none
 
 nothing_lacks : (before : List Told) (pairs : List (Item × Told)) → AreBuilt before pairs → first_lack before pairs ≡ None
 unfolding first_lack

@@ -1,8 +1,8 @@
 -- Which events a record makes, and what history they make.
 use Rattle.std.proofs.Common.{◌≡◌, ℕ, zero, suc, ◌<◌, ◌≤◌, ◌==◌, not, Bool, true, false, if◌then◌else◌, List, [], ◌∷◌, ◌++◌, length, map, take, reverse, refl, ap, sym, ◌∙◌, append_assoc, eq-eqb, eqb-true, true≢false, arith}
-use mathlib.Core.List.{reverse-cons}
 use Rattle.flowspace.specs.Policies.{PolicyView}
 use Rattle.recording.specs.Recordings.{Told, switch_up, switch_bytes, switch_down, slice_up, slice_bytes}
+use Rattle.recording.proofs.Refused.{newest_first}
 use Rattle.desk_words.specs.declared.event.Event.{Event}
 use Rattle.desk_words.specs.declared.event.Event.TheVariants.{SwitchUp, SwitchMsg, SwitchDown, SliceUp, SliceMsg, SliceDown}
 use Rattle.desk_words.specs.declared.event.Timed.{Timed}
@@ -106,9 +106,6 @@ makes_the_first policy r before =
 
 -- ---- what history they make
 
-pub reverse_more : {A : Type 0} (x : A) (xs ys : List A) → reverse (x ∷ xs) ++ ys ≡ reverse xs ++ (x ∷ ys)
-reverse_more x xs ys = ap (λ front. front ++ ys) (reverse-cons x xs) ∙ append_assoc (reverse xs) (x ∷ []) ys
-
 stays_over : (h events : List Timed) → is_over h ≡ true → next_after h events ≡ h
 stays_over h [] over = refl
 stays_over h (timed ∷ later) over = rw over (stays_over h later over)
@@ -117,7 +114,7 @@ still_going : (h : List Timed) (timed : Timed) (later : List Timed) (count : ℕ
     → ((k : ℕ) → k < count → is_over (reverse (take k later) ++ (timed ∷ h)) ≡ false)
     → (k : ℕ) → k < suc count → is_over (reverse (take k (timed ∷ later)) ++ h) ≡ false
 still_going h timed later count going others zero lt = going
-still_going h timed later count going others (suc k) lt = ap is_over (reverse_more timed (take k later) h) ∙ others k (omega arith)
+still_going h timed later count going others (suc k) lt = ap is_over (newest_first timed (take k later) h) ∙ others k (omega arith)
 
 gets_by : (h : List Timed) (timed : Timed) (later : List Timed) (now : Bool) → is_over h ≡ now → GetsTheFirst (timed ∷ h) later → GetsTheFirst h (timed ∷ later)
 gets_by h timed later true is others = record {
@@ -130,9 +127,9 @@ gets_by h timed later true is others = record {
 gets_by h timed later false is others = record {
   count = suc others.count;
   within = (let small = others.within in omega arith);
-  history = rw is (others.history ∙ sym (reverse_more timed (take others.count later) h));
+  history = rw is (others.history ∙ sym (newest_first timed (take others.count later) h));
   going = still_going h timed later others.count is others.going;
-  over = λ lt. ap is_over (reverse_more timed (take others.count later) h) ∙ others.over (omega arith);
+  over = λ lt. ap is_over (newest_first timed (take others.count later) h) ∙ others.over (omega arith);
 }
 
 pub gets_the_first : (h events : List Timed) → GetsTheFirst h events

@@ -1,5 +1,6 @@
 -- The phase and the opening of a history, by its events.
 use Rattle.std.proofs.Common.{◌≡◌, ◌&&◌, ◌||◌, not, Bool, true, false, if◌then◌else◌, List, [], ◌∷◌, refl, ap, sym, ◌∙◌, true≢false, is_some, Option, Some, None}
+use mathlib.Core.Bool.{or-true}
 use Rattle.std.specs.Option.{option_or}
 use Rattle.of10_ctl.specs.Frames.{is_bad}
 use Rattle.of10_port.specs.declared.features.Features.{Features}
@@ -64,13 +65,9 @@ from_opened features (SliceUp slot) = all_four true false (Some features) Opened
 from_opened features (SliceMsg slot message) = all_four true false (Some features) Opened (Some features) refl refl refl refl
 from_opened features (SliceDown slot) = all_four true false (Some features) Opened (Some features) refl refl refl refl
 
-true_or : (b : Bool) → (b || true) ≡ true
-true_or true = refl
-true_or false = refl
-
 from_ended : (told : Option Features) (event : Event) → Goes true true told Ended told event
-from_ended None event = rw (true_or (is_switch_up event)) (all_four true true None Ended None refl refl refl refl)
-from_ended (Some features) event = rw (true_or (is_switch_up event)) (all_four true true (Some features) Ended (Some features) refl refl refl refl)
+from_ended None event = rw (or-true (is_switch_up event)) (all_four true true None Ended None refl refl refl refl)
+from_ended (Some features) event = rw (or-true (is_switch_up event)) (all_four true true (Some features) Ended (Some features) refl refl refl refl)
 
 not_is : (b c : Bool) → c ≡ not b → b ≡ not c
 not_is true c is = sym (ap not is)

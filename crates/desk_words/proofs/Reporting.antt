@@ -14,7 +14,7 @@ use Rattle.desk_words.specs.Verdicts.{is_over}
 use Rattle.desk_words.specs.Recorded.{next_of, next_after, history_at, events_in}
 use Rattle.desk_words.specs.Reports.{Place, lane_lines, slice_lines, lines_by_slot, name_at, close_lines, down_lines, event_lines, lines_of, last_line, report_from}
 use Rattle.desk_words.specs.Laws.{Happened, each_after, happened_in, all_happened, ComeBeforeLater, lines_at, HasEachEventOnce, ShowsEachSlice}
-use Rattle.desk_words.proofs.Making.{reverse_more}
+use Rattle.recording.proofs.Refused.{newest_first}
 
 -- ---- numbered lists
 
@@ -68,7 +68,7 @@ pub next_happened : (policy : PolicyView) (before : List Told) (r : Told) (later
 next_happened policy before r later =
     ap (λ rest. happened_in policy before r ++ rest)
     (flat_map_later (λ one. happened_in policy (reverse (take one.0 (r ∷ later)) ++ before) one.1) 0 later
-    ∙ flat_map_same _ _ (λ one. ap (λ (front : List Told). happened_in policy front one.1) (reverse_more r (take one.0 later) before)) (enumerate_from 0 later))
+    ∙ flat_map_same _ _ (λ one. ap (λ (front : List Told). happened_in policy front one.1) (newest_first r (take one.0 later) before)) (enumerate_from 0 later))
 
 happened_both : (policy : PolicyView) (before earlier later : List Told)
     → happened_after policy before (earlier ++ later) ≡ happened_after policy before earlier ++ happened_after policy (reverse earlier ++ before) later
@@ -80,7 +80,7 @@ happened_both policy before (r ∷ rest) later =
     ∙ sym (append_assoc own (happened_after policy (r ∷ before) rest) (happened_after policy (reverse rest ++ r ∷ before) later))
     ∙ ap₂ (λ (first second : List Happened). first ++ second)
     (sym (next_happened policy before r rest))
-    (ap (λ (front : List Told). happened_after policy front later) (sym (reverse_more r rest before)))
+    (ap (λ (front : List Told). happened_after policy front later) (sym (newest_first r rest before)))
 
 shown_both : (policy : PolicyView) (number : ℕ) (first second : List Happened) → shown policy number (first ++ second) ≡ shown policy number first ++ shown policy (number + length first) second
 shown_both policy number first second =

@@ -1,7 +1,7 @@
 -- What a slice has seen of its switch: its features, and the slice's own of the known ports.
 use Rattle.std.proofs.Common.{◌≡◌, ℕ, ◌==◌, ◌&&◌, ◌≤◌, not, Bool, true, false, if◌then◌else◌, List, [], ◌∷◌, length, refl, ap, sym, ◌∙◌, true≢false, eqb-true, Option, Some, None, IfSome, subst, arith}
 use Rattle.std.specs.List.{list_any}
-use Rattle.std.proofs.lemmas.Bool.{or_parts}
+use Rattle.std.proofs.lemmas.Bool.{false_from_ne_true, or_parts}
 use Rattle.std.proofs.lemmas.Option.{none-some}
 use Rattle.of10_ctl.specs.declared.kind.TheConstants.{PACKET_IN, PORT_STATUS}
 use Rattle.of10_ctl.specs.Frames.{is_bad}
@@ -249,10 +249,6 @@ ascending h = known_holds IsAscending (record {
   still = λ message. if_any (λ status. (known : List (List ℕ)) → IsAscending known → IsAscending (changed status known)) (status_told message) IsAscending-changed;
 }) h
 
-late_of : (early : Bool) → (early ≡ true → ⊥) → early ≡ false
-late_of true never = absurd (never refl)
-late_of false never = refl
-
 -- ---- what is seen at the opening, and after it
 
 -- the opening shows the features with the slice's own ports
@@ -277,7 +273,7 @@ seen_more : (policy : PolicyView) (slot : ℕ) (h : List Timed) (timed : Timed) 
 seen_more policy slot h timed features is here before =
     let s = settings_at policy slot (Some features) in
     let same_settings : settings_at policy slot (opening_of h) ≡ s = ap (settings_at policy slot) is in
-    let late : is_early (phase_of h) ≡ false = late_of (is_early (phase_of h)) (λ early. none-some features (sym (untold h early) ∙ is)) in
+    let late : is_early (phase_of h) ≡ false = false_from_ne_true (is_early (phase_of h)) (λ early. none-some features (sym (untold h early) ∙ is)) in
     let follows = by_phase policy slot (switch_of h) (view_of policy slot h) timed (phase_of h) late (ascending h) (before.ports_known ∙ ap (λ (t : Settings). own_ports t (known_of h)) (sym same_settings)) in
     record {
       features_seen = rw here (follows.features_stay ∙ before.features_seen);

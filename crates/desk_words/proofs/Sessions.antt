@@ -16,7 +16,8 @@ use Rattle.desk_words.specs.Verdicts.{is_over, is_switch_up}
 use Rattle.desk_words.specs.Recorded.{completed, timed_at, happenings, happens, next_of, next_after, happening, history_of, history_at, events_in}
 use Rattle.desk_words.specs.Laws.{Happened, each_after, happened_in, shown_to, is_up_at, since_up, told_over, IsToldAsAlone}
 use Rattle.desk_words.proofs.Alone.{sent_alone}
-use Rattle.desk_words.proofs.Making.{reverse_more, at_their_switch}
+use Rattle.recording.proofs.Refused.{newest_first}
+use Rattle.desk_words.proofs.Making.{at_their_switch}
 use Rattle.desk_words.proofs.Reporting.{each_next, happened_after, next_happened, from_none}
 
 -- ---- what is told and what is sent
@@ -168,7 +169,7 @@ told_all policy slot switch events before (r ∷ later) told =
     ap (λ (all : List Happened). told_over policy slot (since_up switch all))
     (ap (λ (rest : List Happened). events ++ rest) (next_happened policy before r later) ∙ sym (append_assoc events (happened_in policy before r) (happened_after policy (r ∷ before) later)))
     ∙ told_all policy slot switch (events ++ happened_in policy before r) (r ∷ before) later (told_with policy slot switch events before r (r.switch == switch) refl told)
-    ∙ ap (λ (all : List Told). sent policy slot (history_of policy switch all)) (sym (reverse_more r later before))
+    ∙ ap (λ (all : List Told). sent policy slot (history_of policy switch all)) (sym (newest_first r later before))
 
 pub told_as_alone : (policy : PolicyView) (slot switch : ℕ) (records : List Told) → IsToldAsAlone policy slot switch records
 told_as_alone policy slot switch records =

@@ -1,6 +1,6 @@
 -- A slice that is down is sent nothing until it comes up.
 use Rattle.std.proofs.Common.{◌≡◌, ℕ, ◌==◌, ◌&&◌, ◌||◌, Bool, true, false, cond, if◌then◌else◌, List, [], ◌∷◌, ◌++◌, map, refl, ap, ap₂, sym, ◌∙◌, append-nil, true≢false, Option, Some, None, inl, inr, ◌⊎◌}
-use Rattle.std.proofs.lemmas.Bool.{eq-eqb, or_parts}
+use Rattle.std.proofs.lemmas.Bool.{and_right, eq-eqb, or_parts}
 use Rattle.std.specs.List.{filter, list_any}
 use Rattle.of10_model.proofs.Results.{either, either_none}
 use Rattle.of10_ctl.specs.declared.kind.TheConstants.{PACKET_IN}
@@ -23,7 +23,7 @@ use Rattle.desk_words.specs.declared.phase.Phase.{Phase}
 use Rattle.desk_words.specs.declared.phase.Phase.TheVariants.{Fresh, Begun, Opened, Ended}
 use Rattle.of10_ctl.specs.Kinds.{is_of}
 use Rattle.desk_words.specs.Openings.{well_formed, status_told, features_told, phase_after, phase_of, opening_with, opening_after, opening_of, rules_of, Switch, switch_of}
-use Rattle.desk_words.specs.Histories.{is_slot, settings_at, Side, side_of, view_of, handed, shares_of, is_plain, packet_items, status_items, message_items, opening_items, event_items, phase_items, items_of, is_open, is_slice_up}
+use Rattle.desk_words.specs.Histories.{is_slot, settings_at, Side, side_start, side_of, view_of, handed, shares_of, is_plain, packet_items, status_items, message_items, opening_items, event_items, phase_items, items_of, is_open, is_slice_up}
 use Rattle.port_view.specs.KnownPorts.{is_kept}
 use Rattle.desk_words.specs.Sent.{sent, sent_by}
 use Rattle.desk_words.specs.Laws.{is_up_of, IsSilentUntilUp, IsDownAfterDown}
@@ -184,10 +184,6 @@ down_in policy slot h Ended is down = inr is
 
 -- ---- one event, and more
 
-and_false : (a b : Bool) → b ≡ false → (a && b) ≡ false
-and_false true b is = is
-and_false false b is = refl
-
 one_silent : (policy : PolicyView) (slot : ℕ) (h : List Timed) (timed : Timed) → is_up_of slot timed ≡ false
     → (is_up (view_of policy slot h) ≡ false) ⊎ (phase_of h ≡ Ended)
     → (sent_by policy slot h timed ≡ []) × (is_slice_up policy slot (timed ∷ h) ≡ false)
@@ -196,7 +192,7 @@ one_silent policy slot h timed still (inl down) =
     let items = items_of policy slot (switch_of h) (side_of policy slot h) timed in
     let none = none_or is_coming (is_slot policy slot) (phase_items policy slot (switch_of h) view timed (phase_of h)) (none_in policy slot (switch_of h) view timed (phase_of h) still) in
     let both = silent_items (settings_at policy slot (opening_of h)) view items down none in
-    (both.0, and_false (is_open (phase_after (phase_of h) timed.event)) (is_up (with_items items view)) both.1)
+    (both.0, and_right (is_open (phase_after (phase_of h) timed.event)) (is_up (with_items items view)) both.1)
 one_silent policy slot h timed still (inr ended) =
     let items = items_of policy slot (switch_of h) (side_of policy slot h) timed in
     let none : items ≡ [] = ap (λ (phase : Phase). cond (is_slot policy slot) (phase_items policy slot (switch_of h) (view_of policy slot h) timed phase) []) ended ∙ either_none (is_slot policy slot) [] refl in (
@@ -218,9 +214,9 @@ until_up policy slot (timed ∷ later) h down none =
 -- ---- a connection that ended
 
 -- a slot that no slice has sees nothing
-pub nowhere : (policy : PolicyView) (slot : ℕ) (h : List Timed) → is_slot policy slot ≡ false → view_of policy slot h ≡ []
-nowhere policy slot [] out = refl
-nowhere policy slot (timed ∷ h) out = rw out (nowhere policy slot h out)
+pub sees_nothing : (policy : PolicyView) (slot : ℕ) (h : List Timed) → is_slot policy slot ≡ false → side_of policy slot h ≡ side_start
+sees_nothing policy slot [] out = refl
+sees_nothing policy slot (timed ∷ h) out = rw out (sees_nothing policy slot h out)
 
 down_in_view : (policy : PolicyView) (slot moment : ℕ) (switch : Switch) (view : List Item) (here : Bool) → (here ≡ false → view ≡ [])
     → is_up (with_items (cond here (event_items policy slot switch view moment (SliceDown slot)) []) view) ≡ false
@@ -232,7 +228,7 @@ down_at policy slot moment h Fresh is = rw is refl
 down_at policy slot moment h Begun is = rw is refl
 down_at policy slot moment h Ended is = rw is refl
 down_at policy slot moment h Opened is =
-    rw is (down_in_view policy slot moment (switch_of h) (view_of policy slot h) (is_slot policy slot) (nowhere policy slot h))
+    rw is (down_in_view policy slot moment (switch_of h) (view_of policy slot h) (is_slot policy slot) (λ out. ap (λ (side : Side). side.sight.view) (sees_nothing policy slot h out)))
 
 pub after_down : (policy : PolicyView) (slot moment : ℕ) (h : List Timed) → IsDownAfterDown policy slot moment h
 after_down policy slot moment h = down_at policy slot moment h (phase_of h) refl

@@ -1,17 +1,19 @@
 -- What the calls say of one pair.
-use Rattle.std.proofs.Common.{ℕ, ◌≡◌, ◌<◌, ◌==◌, ◌&&◌, ◌||◌, ◌⊎◌, not, List, [], ◌∷◌, ◌++◌, zero, suc, length, map, Bool, Option, Some, None, refl, sym, ap, subst, ◌∙◌, arith, true, false, inl, inr}
+use Rattle.std.proofs.Common.{ℕ, ◌≡◌, ◌<◌, ◌==◌, ◌&&◌, ◌||◌, ◌⊎◌, not, List, [], ◌∷◌, zero, suc, length, map, Bool, Option, Some, None, refl, sym, ap, subst, ◌∙◌, arith, true, false, inl, inr}
 use Rattle.std.specs.Prelude.{filter, find, Contains, option_map, slice_index_or}
 use Rattle.std.specs.Option.{option_or}
 use Rattle.std.specs.List.{list_any}
 use Rattle.std.proofs.lemmas.Bool.{cases_Bool, both_ways, eqb-true, eq-eqb, and_from, and_parts, or_left, or_right}
 use Rattle.std.proofs.lemmas.List.{get_or_default}
+use Rattle.std.proofs.lemmas.List.Elements.{Contains-append_right}
 use Rattle.std.proofs.lemmas.List.Folds.{list_any-append, list_any_at, find-append, Any-from_list_any}
 use Rattle.std.proofs.lemmas.Map.Views.{any-filter_same}
 use Rattle.of10_model.specs.declared.pattern.Pattern.{Pattern}
 use Rattle.of10_model.specs.Normal.{IsNormal}
+use Rattle.xid_map.proofs.Collecting.{kept_through}
 use Rattle.flow_book.specs.declared.booked.Booked.{Booked}
 use Rattle.flow_book.specs.Books.{BookCall, Added, Removed, Failed, is_pair, is_booked, includes_booked, is_newcomer, first_booked, booked_again, is_first, without, book, booking}
-use Rattle.flow_book.specs.Pairs.{BooksPiece, Books, Releases, NoneOf, IsLastBooked, IsFirstBooked}
+use Rattle.flow_book.specs.Pairs.{BooksPiece, Books, Releases, IsLastBooked, IsFirstBooked}
 use Rattle.of10_model.specs.Same.{is_same}
 use Rattle.of10_model.proofs.Same.{one-is_same, is_same-one}
 use Rattle.xid_map.proofs.Finding.{find_passes}
@@ -50,9 +52,6 @@ books_newcomer command p m earlier (inr (inl modify)) =
 books_newcomer command p m earlier (inr (inr strict)) =
     inl (or_left ((command == 0 || command == 2) && not (is_booked m p (book earlier))) (command == 1 && not (includes_booked m (book earlier)))
     (and_from (command == 0 || command == 2) (not (is_booked m p (book earlier))) (or_right (command == 0) (command == 2) (eq-eqb command 2 strict.0)) (ap not strict.1)))
-
-pub contains_later : {X : Type 0} (z : X) (zs : List X) (m : X) → Contains zs m → Contains (z ∷ zs) m
-contains_later z zs m h = (suc h.0, omega (arith, h.1), h.2)
 
 -- ---- what is found
 
@@ -115,7 +114,7 @@ module _ (m : Pattern) (p : ℕ) where
   found_fresh command (z ∷ zs) q asked number xs b e = elim (cases_Bool (is_newcomer command q xs z)) [
     | inr stays ↦
         let f = found_fresh command zs q asked number xs b (rw stays at e) in
-        record { at_priority = f.at_priority; among = contains_later z zs m f.among; comes = f.comes; so_asked = f.so_asked; so_numbered = f.so_numbered }
+        record { at_priority = f.at_priority; among = Contains-append_right (z ∷ []) zs m f.among; comes = f.comes; so_asked = f.so_asked; so_numbered = f.so_numbered }
     | inl comes ↦
         let e' : find (is_pair m p) (first_booked q asked number z ∷ map (first_booked q asked number) (filter (is_newcomer command q xs) zs)) ≡ Some b = rw comes at e in
         elim (cases_Bool (is_pair m p (first_booked q asked number z))) [
@@ -132,7 +131,7 @@ module _ (m : Pattern) (p : ℕ) where
               }
           | inr other ↦
               let f = found_fresh command zs q asked number xs b (rw other at e') in
-              record { at_priority = f.at_priority; among = contains_later z zs m f.among; comes = f.comes; so_asked = f.so_asked; so_numbered = f.so_numbered }
+              record { at_priority = f.at_priority; among = Contains-append_right (z ∷ []) zs m f.among; comes = f.comes; so_asked = f.so_asked; so_numbered = f.so_numbered }
         ]
   ]
 
@@ -355,11 +354,7 @@ module _ (m : Pattern) (p : ℕ) where
         within)
   ]
 
-  stays_through : (later earlier : List BookCall) → NoneOf (Releases m p) later earlier → is_booked m p (book earlier) ≡ true → is_booked m p (book (later ++ earlier)) ≡ true
-  stays_through [] earlier none within = within
-  stays_through (call ∷ later) earlier none within = stays_booked call (later ++ earlier) none.0 (stays_through later earlier none.1 within)
-
   pub last_is_booked : (wish : Bool) (calls : List BookCall) → IsLastBooked m p wish calls → is_booked m p (book calls) ≡ true
   last_is_booked wish calls h =
       subst (λ l. is_booked m p (book l) ≡ true) (sym h.split)
-      (stays_through h.later (Added h.command h.pieces p wish h.number ∷ h.earlier) h.not_released (booked_here h.command h.pieces wish h.number h.earlier h.books))
+      (kept_through (Releases m p) (λ l. is_booked m p (book l) ≡ true) stays_booked h.later (Added h.command h.pieces p wish h.number ∷ h.earlier) h.not_released (booked_here h.command h.pieces wish h.number h.earlier h.books))

@@ -1,8 +1,9 @@
 -- What becomes of one pair of a match and a priority, call by call. Lists of calls have the newest first.
-use Rattle.std.specs.Prelude.{ℕ, ◌≡◌, ◌≢◌, ◌⊎◌, false, Bool, List, [], ◌∷◌, ◌++◌, All, AllPairs, Contains, Some}
+use Rattle.std.specs.Prelude.{ℕ, ◌≡◌, ◌≢◌, ◌⊎◌, false, Bool, List, ◌∷◌, ◌++◌, All, AllPairs, Contains, Some}
 use Rattle.of10_model.specs.declared.pattern.Pattern.{Pattern}
 use Rattle.of10_model.specs.Normal.{IsNormal}
 use Rattle.of10_flow.specs.declared.protocol.TheConstants.{ADD, MODIFY, MODIFY_STRICT}
+use Rattle.xid_map.specs.Laws.{NoneOf}
 use Rattle.flow_book.specs.declared.booked.Booked.{Booked}
 use Rattle.flow_book.specs.Books.{BookCall, Added, Removed, Failed, is_booked, includes_booked, book, booking}
 
@@ -23,11 +24,6 @@ Releases pattern priority (Added command pieces at_priority asked number) earlie
 Releases pattern priority (Removed other at_priority) earlier = (other ≡ pattern) × (at_priority ≡ priority)
 Releases pattern priority (Failed number other at_priority) earlier =
     (other ≡ pattern) × (at_priority ≡ priority) × ((b : Booked) × (booking pattern priority earlier ≡ Some b) × (b.number ≡ number))
-
--- none of these calls, which come after earlier ones, does this
-abbrev pub NoneOf : (BookCall → List BookCall → Type 0) → List BookCall → List BookCall → Type 0
-NoneOf Does [] earlier = Unit {0}
-NoneOf Does (call ∷ later) earlier = (Does call (later ++ earlier) → ⊥) × NoneOf Does later earlier
 
 -- of the calls that book or release the pair the last one books it, and it asks so to be told of its removal
 pub record IsLastBooked (pattern : Pattern) (priority : ℕ) (wish : Bool) (calls : List BookCall) : Type 0 where

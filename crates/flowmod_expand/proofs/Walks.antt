@@ -1,7 +1,7 @@
 -- The messages of the pieces one after the other, and their sizes.
 use Rattle.std.proofs.Common.{◌≡◌, ℕ, zero, suc, ◌+◌, ◌-◌, ◌<◌, ◌≤◌, ◌⊎◌, inl, inr, Bool, true, false, nat_lt, if◌then◌else◌, List, [], ◌∷◌, ◌++◌, length, take, get_or, sum_by, All, Option, refl, sym, ◌∙◌, ap, subst, arith}
 use Rattle.std.specs.List.{list_any}
-use Rattle.std.proofs.lemmas.Bool.{lt-ltb, le-ltb, or_left, or_right, cases_lt, true≢false, or_parts}
+use Rattle.std.proofs.lemmas.Bool.{lt-ltb, le-ltb, ltb-false, or_left, or_right, cases_lt, true≢false, or_parts}
 use Rattle.std.proofs.lemmas.List.{get_or-map, length-map, take_more, take_all}
 use Rattle.std.proofs.lemmas.List.Elements.{All-nil, All-push}
 use Rattle.std.proofs.lemmas.List.Folds.{list_any_at, list_any_none}
@@ -99,23 +99,16 @@ made_more messages frames i frame made lt is kind =
       kind = All-push (IsOf FLOW_MOD) frames frame made.kind kind;
     }
 
-not_above : (a b : ℕ) → nat_lt a b ≡ false → b ≤ a
-not_above a b e =
-    elim (cases_lt a b) [
-      | inl lt ↦ absurd (true≢false (sym (lt-ltb a b lt) ∙ e))
-      | inr le ↦ le
-    ]
-
 each_within : (messages : List (List ℕ)) → list_any (λ bytes. nat_lt 65535 (length bytes)) messages ≡ false → (k : ℕ) (d : List ℕ) → k < length messages → (b : Bool) → nat_lt 65535 (length (get_or messages k d)) ≡ b → length (get_or messages k d) ≤ 65535
 each_within messages none k d lt true e = absurd (true≢false (sym (list_any_at (λ bytes. nat_lt 65535 (length bytes)) messages k d lt e) ∙ none))
-each_within messages none k d lt false e = not_above 65535 (length (get_or messages k d)) e
+each_within messages none k d lt false e = ltb-false 65535 (length (get_or messages k d)) e
 
 pub sizes_within : (messages : List (List ℕ)) → are_too_large messages ≡ false → All (λ bytes. length bytes ≤ 65535) messages
 sizes_within messages e k d lt =
     each_within messages (or_parts (nat_lt 262144 (sum_by length messages)) (list_any (λ bytes. nat_lt 65535 (length bytes)) messages) e).1 k d lt (nat_lt 65535 (length (get_or messages k d))) refl
 
 pub together_within : (messages : List (List ℕ)) → are_too_large messages ≡ false → sum_by length messages ≤ 262144
-together_within messages e = not_above 262144 (sum_by length messages) (or_parts (nat_lt 262144 (sum_by length messages)) (list_any (λ bytes. nat_lt 65535 (length bytes)) messages) e).0
+together_within messages e = ltb-false 262144 (sum_by length messages) (or_parts (nat_lt 262144 (sum_by length messages)) (list_any (λ bytes. nat_lt 65535 (length bytes)) messages) e).0
 
 -- ---- what stands at a place
 

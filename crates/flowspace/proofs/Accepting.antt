@@ -17,7 +17,7 @@ use Rattle.flowspace.specs.Slices.{IsPlainSlice}
 use Rattle.flowspace.specs.Rules.{IsPlainRule, is_written_by, is_slot, is_own_reader, is_refused, Yields}
 use Rattle.flowspace.specs.Order.{ranked, in_order, IsAccepted}
 use Rattle.flowspace.specs.Policies.{IsPolicy, AreNormal}
-use Rattle.flowspace.specs.Faults.{NamesDiffer}
+use Rattle.flowspace.specs.Faults.{NamesDiffer, IsSound}
 use Rattle.flowspace.specs.Loading.{first_of_faults, first_along, excess, name_fault, rule_fault, writes_fault, filed, filed_in_order, overlap_fault, fault_of, load_of}
 use Rattle.flowspace.proofs.Ranking.{map-ranked}
 use Rattle.flowspace.proofs.Ordering.{rank_of, IsPermutation-in_order}
@@ -69,14 +69,9 @@ pub is_slot-IfSome : (count : ℕ) (o : Option ℕ) → IfSome o (λ w. w < coun
 is_slot-IfSome count None h = refl
 is_slot-IfSome count (Some w) h = lt-ltb w count h
 
--- what a rule without a fault says
-pub record IsClear (slots : ℕ) (rule : Rule) : Type 0 where
-  pub writer_known : IfSome rule.writer (λ w. w < slots)
-  pub readers_known : rule.readers < 2 ^ slots
-  pub readers_apart : is_own_reader rule ≡ false
-
-pub IsClear-rule_fault : (slots : ℕ) (before : List Rule) (rule : Rule) → rule_fault slots before rule ≡ None → IsClear slots rule
-IsClear-rule_fault slots before rule e =
+-- a rule without a fault is sound
+IsSound-rule_fault : (slots : ℕ) (before : List Rule) (rule : Rule) → rule_fault slots before rule ≡ None → IsSound slots rule
+IsSound-rule_fault slots before rule e =
     elim (cases_Bool (is_slot slots rule.writer && nat_lt rule.readers (2 ^ slots))) [
       | inr unknown ↦ let clash = sym (cond-false _ _ _ unknown) ∙ e in absurd (cc)
       | inl known ↦
@@ -85,24 +80,20 @@ IsClear-rule_fault slots before rule e =
           elim (cases_Bool (is_own_reader rule)) [
             | inl own ↦ let clash = sym (cond-true (is_own_reader rule) _ _ own) ∙ inner in absurd (cc)
             | inr apart ↦
-                record {
-                  writer_known = IfSome-is_slot slots rule.writer parts.0;
-                  readers_known = ltb-true rule.readers (2 ^ slots) parts.1;
-                  readers_apart = apart;
-                }
+                (record { writer_known = IfSome-is_slot slots rule.writer parts.0; readers_known = ltb-true rule.readers (2 ^ slots) parts.1 }, apart)
           ]
     ]
 
-rule_fault-IsClear : (slots : ℕ) (before : List Rule) (rule : Rule) → IsClear slots rule → rule_fault slots before rule ≡ None
-rule_fault-IsClear slots before rule sound =
-    cond-true _ _ _ (and_from (is_slot slots rule.writer) (nat_lt rule.readers (2 ^ slots)) (is_slot-IfSome slots rule.writer sound.writer_known) (lt-ltb rule.readers (2 ^ slots) sound.readers_known))
-    ∙ cond-false (is_own_reader rule) _ _ sound.readers_apart
+rule_fault-IsSound : (slots : ℕ) (before : List Rule) (rule : Rule) → IsSound slots rule → rule_fault slots before rule ≡ None
+rule_fault-IsSound slots before rule sound =
+    cond-true _ _ _ (and_from (is_slot slots rule.writer) (nat_lt rule.readers (2 ^ slots)) (is_slot-IfSome slots rule.writer sound.0.writer_known) (lt-ltb rule.readers (2 ^ slots) sound.0.readers_known))
+    ∙ cond-false (is_own_reader rule) _ _ sound.1
 
-pub sound_rules : (slots : ℕ) (rs : List Rule) → first_along (rule_fault slots) [] rs ≡ None → All (IsClear slots) rs
-sound_rules slots rs e = λ k d lt. IsClear-rule_fault slots (take k rs) (get_or rs k d) (none_along (rule_fault slots) [] rs e k d lt)
+pub sound_rules : (slots : ℕ) (rs : List Rule) → first_along (rule_fault slots) [] rs ≡ None → All (IsSound slots) rs
+sound_rules slots rs e = λ k d lt. IsSound-rule_fault slots (take k rs) (get_or rs k d) (none_along (rule_fault slots) [] rs e k d lt)
 
-no_rule_fault : (slots : ℕ) (rs : List Rule) → All (IsClear slots) rs → first_along (rule_fault slots) [] rs ≡ None
-no_rule_fault slots rs sound = along_none (rule_fault slots) [] rs (λ k d lt. rule_fault-IsClear slots (take k rs) (get_or rs k d) (sound k d lt))
+no_rule_fault : (slots : ℕ) (rs : List Rule) → All (IsSound slots) rs → first_along (rule_fault slots) [] rs ≡ None
+no_rule_fault slots rs sound = along_none (rule_fault slots) [] rs (λ k d lt. rule_fault-IsSound slots (take k rs) (get_or rs k d) (sound k d lt))
 
 -- ---- rules of one slice
 
@@ -114,9 +105,9 @@ none_counted : (p : Rule → Bool) (rs : List Rule) → All (λ r. p r ≡ false
 none_counted p [] h = refl
 none_counted p (r ∷ rs) h = rw (All-head (λ r. p r ≡ false) r rs h, none_counted p rs (All-tail (λ r. p r ≡ false) r rs h)) refl
 
-pub few_writes : (ss : List Slice) (rs : List Rule) → All (IsClear (length ss)) rs → first_along (writes_fault rs) [] ss ≡ None → (slot : ℕ) → count_by (is_written_by slot) rs ≤ 256
+pub few_writes : (ss : List Slice) (rs : List Rule) → All (IsSound (length ss)) rs → first_along (writes_fault rs) [] ss ≡ None → (slot : ℕ) → count_by (is_written_by slot) rs ≤ 256
 few_writes [] rs sound e slot =
-    let none = none_counted (is_written_by slot) rs (λ k d lt. is_written_by-past 0 slot (get_or rs k d).writer (omega arith) (sound k d lt).writer_known) in omega arith
+    let none = none_counted (is_written_by slot) rs (λ k d lt. is_written_by-past 0 slot (get_or rs k d).writer (omega arith) (sound k d lt).0.writer_known) in omega arith
 few_writes (s ∷ ss) rs sound e slot =
     elim (cases_lt slot (length (s ∷ ss))) [
       | inl lt ↦
@@ -124,7 +115,7 @@ few_writes (s ∷ ss) rs sound e slot =
           let few = excess-None Writes 256 (count_by (is_written_by (length (take slot (s ∷ ss)))) rs) (none_along (writes_fault rs) [] (s ∷ ss) e slot s lt) in
           rw len at few
       | inr le ↦
-          let none = none_counted (is_written_by slot) rs (λ k d lt. is_written_by-past (length (s ∷ ss)) slot (get_or rs k d).writer le (sound k d lt).writer_known) in omega arith
+          let none = none_counted (is_written_by slot) rs (λ k d lt. is_written_by-past (length (s ∷ ss)) slot (get_or rs k d).writer le (sound k d lt).0.writer_known) in omega arith
     ]
 
 no_writes_fault : (ss : List Slice) (rs : List Rule) → ((slot : ℕ) → count_by (is_written_by slot) rs ≤ 256) → first_along (writes_fault rs) [] ss ≡ None
@@ -244,9 +235,9 @@ IsPolicy-fault_of ss rs some plain_slices plain_rules h =
         plain_slices = plain_slices;
         plain_rules = plain_rules;
         names_differ = names_differ ss clear.names;
-        writers_known = λ k d lt. (sound k d lt).writer_known;
-        readers_known = λ k d lt. (sound k d lt).readers_known;
-        readers_apart = λ k d lt. (sound k d lt).readers_apart;
+        writers_known = λ k d lt. (sound k d lt).0.writer_known;
+        readers_known = λ k d lt. (sound k d lt).0.readers_known;
+        readers_apart = λ k d lt. (sound k d lt).1;
         few_writes = few_writes ss rs sound clear.writes;
       };
       accepted = accepted_rules rs (kept_rules (filed_in_order rs) clear.overlaps);
@@ -259,11 +250,7 @@ fault_of-IsPolicy ss rs ranges h =
       few_slices = None-excess Slices 32 (length ss) h.proper.few_slices;
       few_rules = None-excess Rules 2048 (length rs) h.proper.few_rules;
       names = no_name_twice ss h.proper.names_differ;
-      sound = no_rule_fault (length ss) rs (λ k d lt. record {
-        writer_known = h.proper.writers_known k d lt;
-        readers_known = h.proper.readers_known k d lt;
-        readers_apart = h.proper.readers_apart k d lt;
-      });
+      sound = no_rule_fault (length ss) rs (λ k d lt. (record { writer_known = h.proper.writers_known k d lt; readers_known = h.proper.readers_known k d lt }, h.proper.readers_apart k d lt));
       writes = no_writes_fault ss rs h.proper.few_writes;
       overlaps = no_overlap (filed_in_order rs) (kept_filed rs ranges h.accepted);
     })

@@ -1,5 +1,5 @@
 -- The first fault in words of the slices and rules.
-use Rattle.std.proofs.Common.{◌≡◌, ◌⊎◌, ℕ, ◌<◌, ◌≤◌, ◌^◌, ◌&&◌, nat_lt, IsTrue, List, [], ◌∷◌, length, get_or, take, find, slice_get, Any, All, count_by, bytes_eq, Option, Some, None, option_map, Err, refl, sym, ◌∙◌, arith, inl, inr}
+use Rattle.std.proofs.Common.{◌≡◌, ◌⊎◌, ℕ, ◌<◌, ◌≤◌, ◌^◌, ◌&&◌, nat_lt, IsTrue, List, [], ◌∷◌, length, get_or, take, find, slice_get, Any, count_by, bytes_eq, Option, Some, None, option_map, Err, refl, sym, ◌∙◌, arith, inl, inr}
 use Rattle.std.specs.List.{list_any}
 use Rattle.std.proofs.lemmas.Bool.{cases_Bool, and_parts, and_from, cond-true, cond-false, true≢false, ltb-true, lt-ltb}
 use Rattle.std.proofs.lemmas.List.{get_or-take, length-take-le, take-take}
@@ -16,10 +16,10 @@ use Rattle.flowspace.specs.declared.fault.PolicyFault.{PolicyFault}
 use Rattle.flowspace.specs.declared.fault.PolicyFault.TheVariants.{TooMany, DuplicateSlice, UnknownSlice, Improper, Overlap}
 use Rattle.flowspace.specs.Rules.{is_written_by, is_slot, is_own_reader, is_refused}
 use Rattle.flowspace.specs.Policies.{AreNormal}
-use Rattle.flowspace.specs.Faults.{AreFew, NamesSlots, IsSound, IsFirstRepeat, IsFirstUnknown, IsFirstOwnReader, IsFirstFull, IsFirstFault}
+use Rattle.flowspace.specs.Faults.{AreFew, NamesSlots, IsFirstRepeat, IsFirstUnknown, IsFirstOwnReader, IsFirstFull, IsFirstFault}
 use Rattle.flowspace.specs.Loading.{first_of_faults, first_along, excess, name_fault, rule_fault, writes_fault, filed_in_order, overlap_fault, fault_of, load_of}
 use Rattle.flowspace.proofs.Along.{along_none, some_along}
-use Rattle.flowspace.proofs.Accepting.{excess-None, names_differ, IfSome-is_slot, is_slot-IfSome, IsClear, sound_rules, few_writes}
+use Rattle.flowspace.proofs.Accepting.{excess-None, names_differ, IfSome-is_slot, is_slot-IfSome, sound_rules, few_writes}
 use Rattle.flowspace.proofs.Overlapping.{refused_load, IsFirstOverlap-load_of}
 
 -- ---- the check that finds the fault
@@ -122,13 +122,6 @@ first_repeat ss fault e =
       rw (length-take-le at_fault.place ss within) at found.1,
     )
 
-IsSound-IsClear : (slots : ℕ) (rule : Rule) → IsClear slots rule → IsSound slots rule
-IsSound-IsClear slots rule clear =
-    (record { writer_known = clear.writer_known; readers_known = clear.readers_known }, λ own. true≢false (sym own ∙ clear.readers_apart))
-
-sound_all : (slots : ℕ) (rs : List Rule) → first_along (rule_fault slots) [] rs ≡ None → All (IsSound slots) rs
-sound_all slots rs e = λ k d lt. IsSound-IsClear slots (get_or rs k d) (sound_rules slots rs e k d lt)
-
 abbrev FirstUnsound : ℕ → List Rule → PolicyFault → ℕ → Type 0
 FirstUnsound slots rs fault place = (IsFirstUnknown slots rs place × (UnknownSlice place ≡ fault)) ⊎ (IsFirstOwnReader slots rs place × (Improper place Read ≡ fault))
 
@@ -138,7 +131,7 @@ first_unsound slots rs fault e =
     let within : at_fault.place ≤ length rs = let lt = at_fault.within in omega arith in
     let len = length-take-le at_fault.place rs within in
     let is_there = there rs at_fault.place at_fault.element at_fault.within at_fault.is_there in
-    let sound = sound_all slots (take at_fault.place rs) (fine_before (rule_fault slots) rs at_fault.place within at_fault.is_first) in (
+    let sound = sound_rules slots (take at_fault.place rs) (fine_before (rule_fault slots) rs at_fault.place within at_fault.is_first) in (
       at_fault.place,
       elim (rule_fault-Some slots (take at_fault.place rs) at_fault.element fault at_fault.has_fault) [
         | inl unknown ↦ inl (record { rule = at_fault.element; is_there = is_there; unknown = unknown.0; is_first = sound }, rw len at unknown.1)
@@ -193,13 +186,13 @@ IsFirstFault-load_of ss rs fault normal e =
                               | inr own ↦ rw (← own.1) (few, differ, own.0)
                             ]
                         | inr after_d ↦
-                            let sound = sound_all (length ss) rs after_d.0 in
+                            let sound = sound_rules (length ss) rs after_d.0 in
                             elim after_d.1 [
                               | inl w ↦ let found = first_full ss rs fault w in rw (← found.2) (few, differ, sound, found.1)
                               | inr after_e ↦
                                   let pair = first_pair rs fault after_e.1 in
                                   let overlap = IsFirstOverlap-load_of ss rs pair.0 pair.1 normal (rw (← pair.2) at e) in
-                                  rw (← pair.2) (few, differ, sound, few_writes ss rs (sound_rules (length ss) rs after_d.0) after_e.0, overlap)
+                                  rw (← pair.2) (few, differ, sound, few_writes ss rs sound after_e.0, overlap)
                             ]
                       ]
                 ]

@@ -3,12 +3,12 @@ use Rattle.std.proofs.Common.{◌≡◌, ℕ, zero, suc, ◌+◌, ◌<◌, ◌�
 use Rattle.std.proofs.lemmas.Bool.{cond-true, cond-false, cases_Bool}
 use Rattle.std.proofs.lemmas.Bool.Decides.{nat_tests}
 use Rattle.std.proofs.lemmas.List.Sorted.{IsPermutation-refl, IsPermutation-cons, IsPermutation-trans, IsPermutation-sym, IsPermutation-middle}
-use Rattle.std.proofs.lemmas.List.Elements.{filter_agree}
+use Rattle.std.proofs.lemmas.List.Elements.{All-from_recursion, filter_agree}
+use Rattle.std.proofs.lemmas.Map.Keys.{ge_from_not_lt}
+use Rattle.std.proofs.ByRecursion.{All-weaker, all_kept_by}
+use Rattle.std.specs.List.{AllByRecursion}
 use Rattle.std.specs.List.Sorted.{IsPermutation, IsSortedBy, IsStableBy, ties}
 use Rattle.flowspace.specs.Order.{placed, ranked}
-
-not_before : (m n : ℕ) → is_lt (nat_cmp m n) ≡ false → n ≤ m
-not_before m n h = grind (arith, nat_tests)
 
 tied : (m n : ℕ) → (not (is_lt (nat_cmp n m)) && not (is_lt (nat_cmp m n))) ≡ (n == m)
 tied m n = grind (arith, nat_tests)
@@ -107,8 +107,7 @@ module _ {A : Type 0} (rank : A → ℕ) where
 
   -- no rank is above n
   abbrev pub AreAtMost : ℕ → List A → Type 0
-  AreAtMost n [] = Unit {0}
-  AreAtMost n (x ∷ xs) = (rank x ≤ n) × AreAtMost n xs
+  AreAtMost n xs = AllByRecursion (λ x. rank x ≤ n) xs
 
   -- no rank is above an earlier one
   abbrev pub Falls : List A → Type 0
@@ -116,8 +115,7 @@ module _ {A : Type 0} (rank : A → ℕ) where
   Falls (x ∷ xs) = AreAtMost (rank x) xs × Falls xs
 
   AreAtMost-le : (m n : ℕ) (xs : List A) → m ≤ n → AreAtMost m xs → AreAtMost n xs
-  AreAtMost-le m n [] le h = tt
-  AreAtMost-le m n (x ∷ xs) le h = let first = h.0 in (omega arith, AreAtMost-le m n xs le h.1)
+  AreAtMost-le m n xs le h = All-weaker (λ x. rank x ≤ m) (λ x. rank x ≤ n) (λ x low. omega (arith, le, low)) xs h
 
   AreAtMost-placed : (n : ℕ) (x : A) (ys : List A) → rank x ≤ n → AreAtMost n ys → AreAtMost n (placed rank x ys)
   AreAtMost-placed n x [] le h = (le, tt)
@@ -143,15 +141,10 @@ module _ {A : Type 0} (rank : A → ℕ) where
   Falls-ranked [] = tt
   Falls-ranked (x ∷ xs) = Falls-placed x (ranked rank xs) (Falls-ranked xs)
 
-  AreAtMost-at : (n : ℕ) (xs : List A) → AreAtMost n xs → (j : ℕ) (d : A) → j < length xs → rank (get_or xs j d) ≤ n
-  AreAtMost-at n [] h j d lt = absurd (omega arith)
-  AreAtMost-at n (x ∷ xs) h zero d lt = h.0
-  AreAtMost-at n (x ∷ xs) h (suc j) d lt = AreAtMost-at n xs h.1 j d (omega arith)
-
   pub Falls-at : (xs : List A) → Falls xs → (i j : ℕ) (d : A) → i < j → j < length xs → rank (get_or xs j d) ≤ rank (get_or xs i d)
   Falls-at [] h i j d lt long = absurd (omega arith)
   Falls-at (x ∷ xs) h i zero d lt long = absurd (omega arith)
-  Falls-at (x ∷ xs) h zero (suc j) d lt long = AreAtMost-at (rank x) xs h.0 j d (omega arith)
+  Falls-at (x ∷ xs) h zero (suc j) d lt long = All-from_recursion (λ y. rank y ≤ rank x) xs h.0 j d (omega arith)
   Falls-at (x ∷ xs) h (suc i) (suc j) d lt long = Falls-at xs h.1 i j d (omega arith) (omega arith)
 
   -- from neighbours, as a sort compares them
@@ -198,19 +191,11 @@ module _ {A : Type 0} (rank : A → ℕ) where
 
   -- ---- the elements of a part
 
-  AreAtMost-filter : (n : ℕ) (p : A → Bool) (xs : List A) → AreAtMost n xs → AreAtMost n (filter p xs)
-  AreAtMost-filter n p [] h = tt
-  AreAtMost-filter n p (x ∷ xs) h =
-      elim (cases_Bool (p x)) [
-        | inl kept ↦ rw (cond-true _ _ _ kept) (h.0, AreAtMost-filter n p xs h.1)
-        | inr left ↦ rw (cond-false _ _ _ left) (AreAtMost-filter n p xs h.1)
-      ]
-
   Falls-filter : (p : A → Bool) (xs : List A) → Falls xs → Falls (filter p xs)
   Falls-filter p [] h = tt
   Falls-filter p (x ∷ xs) h =
       elim (cases_Bool (p x)) [
-        | inl kept ↦ rw (cond-true _ _ _ kept) (AreAtMost-filter (rank x) p xs h.0, Falls-filter p xs h.1)
+        | inl kept ↦ rw (cond-true _ _ _ kept) (all_kept_by p (λ y. rank y ≤ rank x) xs h.0, Falls-filter p xs h.1)
         | inr left ↦ rw (cond-false _ _ _ left) (Falls-filter p xs h.1)
       ]
 
@@ -230,7 +215,7 @@ module _ {A : Type 0} (rank : A → ℕ) where
   -- what a stable sort by descending rank makes, where each rank has an element
   pub ranked-from_sort : (example : ℕ → A) → ((p : ℕ) → rank (example p) ≡ p) → (xs sorted : List A) → IsSortedBy goes_before sorted → IsStableBy goes_before xs sorted → sorted ≡ ranked rank xs
   ranked-from_sort example ranks xs sorted up stable =
-      same_from_filters sorted (ranked rank xs) (Falls-neighbours sorted (λ k d lt. not_before _ _ (up k d (omega arith) lt)))
+      same_from_filters sorted (ranked rank xs) (Falls-neighbours sorted (λ k d lt. ge_from_not_lt _ _ (up k d (omega arith) lt)))
       (Falls-ranked xs)
       (λ p. sym (filter-tied example ranks p sorted) ∙ stable (example p) ∙ filter-tied example ranks p xs ∙ sym (filter-ranked p xs))
 

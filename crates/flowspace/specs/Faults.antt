@@ -1,5 +1,5 @@
 -- Which fault of slices and rules is the first, in words of the slices and rules themselves. All of this is the proxy's own rule.
-use Rattle.std.specs.Prelude.{ℕ, ◌≡◌, ◌≢◌, ◌<◌, ◌≤◌, ◌^◌, IsTrue, List, length, take, slice_get, All, AllPairs, Any, count_by, Some, IfSome}
+use Rattle.std.specs.Prelude.{ℕ, ◌≡◌, ◌≢◌, ◌<◌, ◌≤◌, ◌^◌, false, IsTrue, List, length, take, slice_get, All, AllPairs, Any, count_by, Some, IfSome}
 use Rattle.flowspace.specs.declared.fault.What.TheVariants.{Slices, Rules, Writes}
 use Rattle.flowspace.specs.declared.fault.Field.TheVariants.{Read}
 use Rattle.flowspace.specs.declared.fault.PolicyFault.{PolicyFault}
@@ -24,7 +24,7 @@ pub record NamesSlots (slots : ℕ) (rule : Rule) : Type 0 where
 
 -- and its writer is not among its readers
 abbrev pub IsSound : ℕ → Rule → Type 0
-IsSound slots rule = NamesSlots slots rule × (IsTrue (is_own_reader rule) → ⊥)
+IsSound slots rule = NamesSlots slots rule × (is_own_reader rule ≡ false)
 
 -- no slice writes more rules than it may
 abbrev pub WritesFew : List Rule → Type 0

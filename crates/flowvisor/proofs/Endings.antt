@@ -2,6 +2,7 @@
 use Rattle.std.proofs.Common.{◌≡◌, ℕ, ◌==◌, ◌&&◌, if◌then◌else◌, Bool, true, false, List, [], ◌∷◌, Option, None, Some, refl, sym, ap, subst, ◌∙◌, arith, inl, inr, append-nil}
 use Rattle.std.proofs.lemmas.Bool.{cases_Bool}
 use Rattle.fv_base.specs.Told.{appended, IsPrefix, Rose}
+use Rattle.fv_base.proofs.Appending.{appended_none}
 use Rattle.fv_base.specs.Words.{FormBytes, OfCheck, OfReplay, form_of}
 use Rattle.fv_cli.specs.declared.ending.Ending.{Ending}
 use Rattle.fv_cli.specs.declared.ending.Ending.TheVariants.{Done, Usage, ReadFault, WriteFault, NoMemory, NoMemoryToRun, TooLarge, PolicyRefused, RecordingRefused, NotBuilt}
@@ -10,13 +11,9 @@ use Rattle.flowvisor.specs.Asked.{Suits, EndedSo, is_of_check}
 
 -- ---- lines
 
-appended-nothing : (told : Option (List ℕ)) → appended told [] ≡ told
-appended-nothing None = refl
-appended-nothing (Some bytes) = ap (λ b. Some b) (append-nil bytes)
-
 -- nothing is put, and no count rises
 pub nothing_put : (told : Option (List ℕ)) (count : ℕ) → IsPut [] told told count count
-nothing_put told count = inl (sym (appended-nothing told), refl)
+nothing_put told count = inl (appended_none told, refl)
 
 Rose-Rose : (a b c : ℕ) → Rose a b → Rose b c → Rose a c
 Rose-Rose a b c (inl lt) (inl more) = inl (omega (arith, lt, more))
@@ -32,9 +29,9 @@ no_piece (x ∷ piece) (rest, e) = absurd (cc)
 behind_nothing : (line : List ℕ) (before between after : Option (List ℕ)) (count count_between count_after : ℕ) → IsPut [] before between count count_between
     → IsPut line between after count_between count_after → IsPut line before after count count_after
 behind_nothing line before between after count count_between count_after (inl (told, same)) put =
-    subst (λ n. IsPut line before after n count_after) same (subst (λ t. IsPut line t after count_between count_after) (told ∙ appended-nothing before) put)
+    subst (λ n. IsPut line before after n count_after) same (subst (λ t. IsPut line t after count_between count_after) (told ∙ sym (appended_none before)) put)
 behind_nothing line before between after count count_between count_after (inr (piece, prefix, told, rose)) put =
-    let same : between ≡ before = told ∙ ap (appended before) (no_piece piece prefix) ∙ appended-nothing before in
+    let same : between ≡ before = told ∙ ap (appended before) (no_piece piece prefix) ∙ sym (appended_none before) in
     let put : IsPut line before after count_between count_after = subst (λ t. IsPut line t after count_between count_after) same put in
     elim put [
       | inl whole ↦ inr (line, ([], append-nil line), whole.0, subst (λ n. Rose count n) (sym whole.1) rose)

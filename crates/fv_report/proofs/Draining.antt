@@ -7,7 +7,8 @@ use Rattle.fv_base.specs.Told.{appended}
 use Rattle.hex.specs.Hex.{encode_lower}
 use Rattle.desk_words.specs.Reports.{Place, line}
 use Rattle.fv_report.specs.Writing.{WrotePart}
-use Rattle.fv_report.proofs.Writing.{both, part_of_first, part_of_second, appended_none}
+use Rattle.fv_base.proofs.Appending.{appended_none}
+use Rattle.fv_report.proofs.Writing.{both, part_of_first, part_of_second}
 
 -- the line of one message
 abbrev pub lane_text : Place → List ℕ → List ℕ

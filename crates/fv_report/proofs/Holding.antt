@@ -15,10 +15,11 @@ use Rattle.desk_words.specs.declared.answer.Verdict.TheVariants.{Go, Close}
 use Rattle.desk_words.specs.declared.answer.Taken.{Taken}
 use Rattle.desk_words.specs.declared.answer.Taken.TheVariants.{Message, Nothing, Choked, Ended, NotOpen}
 use Rattle.desk_words.specs.Openings.{phase_of}
-use Rattle.desk_words.specs.Histories.{is_slot, is_open, is_slice_up, view_of}
+use Rattle.desk_words.specs.Histories.{is_slot, is_open, is_slice_up, Side, view_of}
 use Rattle.desk_words.specs.Verdicts.{is_ended, is_fresh, is_over, closes}
 use Rattle.desk_words.specs.Sent.{sent_by, lane_by}
 use Rattle.desk_words.specs.Operations.{Step, Take, takes_in, events_of, slice_limit, lane_limit, empties_slice, ends, queue_of, lane_of, empty_reply}
+use Rattle.desk_words.proofs.Silence.{sees_nothing}
 use Rattle.answer_bounds.specs.Bounds.{IsFramed, AreFramed}
 use Rattle.answer_bounds.proofs.Fitting.{answers_fit}
 use Rattle.proxy_core.specs.declared.parts.Desk.{Desk}
@@ -108,10 +109,6 @@ take_slice p h slot slices messages lane old new taken takes holds =
 
 -- ---- questions at a desk at which nothing waits
 
-not_up : (p : PolicyView) (slot : ℕ) (h : List Timed) → is_slot p slot ≡ false → is_up (view_of p slot h) ≡ false
-not_up p slot [] out = refl
-not_up p slot (timed ∷ h) out = rw out (not_up p slot h out)
-
 up_when : (phase : Phase) (slot up : Bool) → (slot ≡ false → up ≡ false)
     → is_nothing (if is_ended phase || not slot || (is_open phase && not (is_open phase && up)) then Ended else if not (is_open phase) then NotOpen else if false then Choked else Nothing) ≡ (is_open phase && up)
 up_when Fresh true up none = refl
@@ -131,7 +128,7 @@ ask_up p h slot old new taken takes quiet =
     let evs = events_of quiet.operations in
     ap is_nothing answered.right
     ∙ ap (λ (q : Queue). is_nothing (elim q.pending [ [] ↦ empty_reply p evs (Slice slot) q.choked | message ∷ later ↦ Message message ])) (quiet.queues slot)
-    ∙ up_when (phase_of evs) (is_slot p slot) (is_up (view_of p slot evs)) (not_up p slot evs)
+    ∙ up_when (phase_of evs) (is_slot p slot) (is_up (view_of p slot evs)) (λ out. ap (λ (side : Side). is_up side.sight.view) (sees_nothing p slot evs out))
     ∙ ap (is_slice_up p slot) quiet.events
 
 -- ---- steps

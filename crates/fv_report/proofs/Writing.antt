@@ -3,16 +3,13 @@ use Rattle.std.proofs.Common.{◌≡◌, ℕ, List, [], ◌++◌, refl, sym, ap,
 use Rattle.std.specs.Result.{IsErr}
 use Rattle.std.proofs.lemmas.List.{append-nil}
 use Rattle.fv_base.specs.Told.{appended}
+use Rattle.fv_base.proofs.Appending.{appended_none}
 use Rattle.fv_report.specs.declared.fault.ReportFault.{ReportFault}
 use Rattle.fv_report.specs.Writing.{WrotePart, Wrote, CountedFault, Counted}
 
 pub appended_twice : (told : Option (List ℕ)) (first second : List ℕ) → appended (appended told first) second ≡ appended told (first ++ second)
 appended_twice None first second = refl
 appended_twice (Some before) first second = ap Some (append_assoc before first second)
-
-pub appended_none : (told : Option (List ℕ)) → told ≡ appended told []
-appended_none None = refl
-appended_none (Some before) = ap Some (sym (append-nil before))
 
 -- two texts were written
 pub both : (before now later : Option (List ℕ)) (first second : List ℕ) → now ≡ appended before first → later ≡ appended now second → later ≡ appended before (first ++ second)

@@ -1,5 +1,4 @@
 -- Messages as they are written, one field after the other.
-use Rattle.std.specs.Prelude.{Result, Ok, Err, OnOk}
 use Rattle.std.proofs.Common.{◌≡◌, ℕ, ◌+◌, ◌*◌, List, [], ◌∷◌, ◌++◌, length, refl, sym, ap, ◌∙◌, append_assoc, arith}
 use Rattle.std.proofs.lemmas.List.{length-append}
 use Rattle.byteorder.specs.Endian.{big_bytes}
@@ -14,10 +13,6 @@ use Rattle.of10_port.specs.PortStatus.{spell_port_status}
 pub length-front : (f : Features) → length (features_front f) ≡ 24
 unfolding features_front
 length-front f = refl
-
-pub on_ok : {A E P Q : Type 0} (r : Result A E) → (P → Q) → OnOk r P → OnOk r Q
-on_ok (Ok x) f h = f h
-on_ok (Err e) f h = tt
 
 -- five pieces, put one after the other
 five : (o p q r s t : List ℕ) → ((((o ++ p) ++ q) ++ r) ++ s) ++ t ≡ o ++ (p ++ (q ++ (r ++ (s ++ t))))

@@ -1,7 +1,7 @@
 -- What the printed lines of a table do to the nodes, and what stands under its keys afterwards.
 use Rattle.std.proofs.Common.{◌≡◌, ℕ, Bool, true, false, not, ◌&&◌, cond, List, [], ◌∷◌, ◌++◌, ◌⊎◌, subst, true≢false, map, append_assoc, Option, Some, None, option_map, option_and_then, Ordering, Less, Equal, Greater, nat_cmp, refl, sym, ap, ◌∙◌, inl, inr}
 use Rattle.std.specs.Cmp.Lexicographic.{slice_cmp, bytes_decides, texts_ties}
-use Rattle.std.proofs.lemmas.Bool.{cases_Bool, and_parts}
+use Rattle.std.proofs.lemmas.Bool.{cases_Bool, and_parts, not-true}
 use Rattle.std.proofs.lemmas.List.{append-nil}
 use Rattle.toml.specs.Data.{Data, table, Items, item, Members, get_member, push_item, same_key}
 use Rattle.toml.specs.View.{items_of}
@@ -91,10 +91,6 @@ unknown_insert part key x (node l y ns) known none =
 
 -- ---- all entries
 
-not_true : (b : Bool) → not b ≡ true → b ≡ false
-not_true false h = refl
-not_true true h = absurd cc
-
 -- none of the keys is there yet
 abbrev pub AreNew : List Entry → Nodes → Type 0
 AreNew [] ns = Unit {0}
@@ -104,7 +100,7 @@ AreNew-insert : (entries : List Entry) (key : List ℕ) (x : Node) (ns : Nodes) 
 AreNew-insert [] key x ns apart new = tt
 AreNew-insert (entry ∷ rest) key x ns apart new =
     let (here, more) = and_parts (not (same_key entry.0 key)) (is_apart key rest) apart in
-    (other_key entry.0 key x ns (not_true (same_key entry.0 key) here) ∙ new.0, AreNew-insert rest key x ns more new.1)
+    (other_key entry.0 key x ns (not-true (same_key entry.0 key) here) ∙ new.0, AreNew-insert rest key x ns more new.1)
 
 pub AreNew-none : (entries : List Entry) → AreNew entries no_nodes
 AreNew-none [] = tt
@@ -125,7 +121,7 @@ found_none : (key : List ℕ) (entries : List Entry) → is_apart key entries �
 found_none key [] apart = refl
 found_none key (entry ∷ rest) apart =
     let (here, more) = and_parts (not (same_key entry.0 key)) (is_apart key rest) apart in
-    let other = other_way entry.0 key (not_true (same_key entry.0 key) here) in
+    let other = other_way entry.0 key (not-true (same_key entry.0 key) here) in
     rw other (found_none key rest more)
 
 -- what a key finds at the end

@@ -2,7 +2,7 @@
 use Rattle.std.proofs.Common.{◌≡◌, ℕ, pos, ◌<◌, ◌≤◌, ◌^◌, Bool, true, false, ◌==◌, inl, inr, IsUtf8, List, [], ◌∷◌, ◌++◌, length, map, All, Option, Some, None, IfSome, option_map, option_and_then, unwrap_or, Ok, codes, refl, sym, ap, ◌∙◌, append_assoc, arith}
 use Rattle.std.specs.List.{AllByRecursion}
 use Rattle.std.proofs.lemmas.Bool.{cases_Bool}
-use Rattle.std.proofs.lemmas.List.Elements.{All-tail, All-from_recursion}
+use Rattle.std.proofs.lemmas.List.Elements.{All-from_recursion, recursion_from_All}
 use Rattle.std.proofs.lemmas.Str.{is_utf8-from_IsUtf8}
 use Rattle.toml_writer.specs.Text.{key_text}
 use Rattle.toml.specs.Data.{string, integer, Items, no_items, item, items_depth, items_have_valid_dates}
@@ -254,10 +254,6 @@ parts_back slice rest (rule ∷ others) plain known each =
 
 -- ---- the policy
 
-each_of : {A : Type 0} (P : A → Type 0) (xs : List A) → All P xs → AllByRecursion P xs
-each_of P [] all = tt
-each_of P (x ∷ xs) all = (all 0 x (omega arith), each_of P xs (All-tail P x xs all))
-
 printable : (slices : List Slice) (rules : List Rule) → AllByRecursion IsPlainRule rules → AllByRecursion IsHeld rules → AllByRecursion (λ r. IfSome r.writer (λ w. w < length slices)) rules
     → AllByRecursion (λ r. r.readers < 2 ^ length slices) rules → AllByRecursion (IsPrintable slices) rules
 printable slices [] a b c d = tt
@@ -269,9 +265,9 @@ read_parts [] rules policy held = absurd (omega (arith, policy.proper.some_slice
 read_parts (slice ∷ rest) rules policy held =
     let slices = slice ∷ rest in
     let proper = policy.proper in
-    let plain = each_of IsPlainSlice slices proper.plain_slices in
+    let plain = recursion_from_All IsPlainSlice slices proper.plain_slices in
     let known : AreNamed slices = record { few = proper.few_slices; differ = proper.names_differ } in
-    let each = printable slices rules (each_of IsPlainRule rules proper.plain_rules) held (each_of _ rules proper.writers_known) (each_of _ rules proper.readers_known) in
+    let each = printable slices rules (recursion_from_All IsPlainRule rules proper.plain_rules) held (recursion_from_All _ rules proper.writers_known) (recursion_from_All _ rules proper.readers_known) in
     ap parts_of (parsed (slice_entries slice) (map slice_entries rest) (map (rule_entries slices) rules) (slices_apart slices) (rules_apart slices rules) (slices_written slices plain) (rules_written slices rules held))
     ∙ parts_back slice rest rules plain known each
 

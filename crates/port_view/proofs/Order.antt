@@ -1,7 +1,9 @@
 -- Lists in ascending order of a number, and their parts before a number and behind it.
 use Rattle.std.proofs.Common.{◌≡◌, ◌≢◌, ℕ, zero, suc, ◌+◌, ◌<◌, ◌≤◌, ◌==◌, ltb, not, Bool, true, false, List, [], ◌∷◌, ◌++◌, length, take, drop, get_or, filter, refl, ap, inl, inr, arith}
 use Rattle.std.specs.Prelude.{AllPairs}
-use Rattle.std.specs.List.{list_any}
+use Rattle.std.specs.List.{list_any, AllByRecursion}
+use Rattle.std.proofs.ByRecursion.{All-weaker, all_kept_by}
+use Rattle.std.proofs.lemmas.List.Elements.{All-from_recursion, recursion_from_All}
 use Rattle.std.proofs.lemmas.Bool.{lt-ltb, le-ltb, ltb-true, eq-eqb, ne_eqb, cases_Bool, or_left, or_right, or_from, cases_order}
 
 module _ {X : Type 0} (n : X → ℕ) where
@@ -53,44 +55,27 @@ module _ {X : Type 0} (n : X → ℕ) where
   -- ---- ascending lists, by their first item
 
   abbrev pub AreAbove : ℕ → List X → Type 0
-  AreAbove k [] = Unit {0}
-  AreAbove k (x ∷ xs) = (k < n x) × AreAbove k xs
+  AreAbove k xs = AllByRecursion (λ x. k < n x) xs
 
   abbrev pub Rises : List X → Type 0
   Rises [] = Unit {0}
   Rises (x ∷ xs) = AreAbove (n x) xs × Rises xs
 
-  AreAbove-each : (k : ℕ) (xs : List X) → ((m : ℕ) (d : X) → m < length xs → k < n (get_or xs m d)) → AreAbove k xs
-  AreAbove-each k [] each = tt
-  AreAbove-each k (x ∷ xs) each = (each zero x (omega arith), AreAbove-each k xs (λ m d within. each (suc m) d (omega arith)))
-
-  AreAbove-at : (k : ℕ) (xs : List X) → AreAbove k xs → (m : ℕ) (d : X) → m < length xs → k < n (get_or xs m d)
-  AreAbove-at k [] above m d within = absurd (omega arith)
-  AreAbove-at k (x ∷ xs) above zero d within = above.0
-  AreAbove-at k (x ∷ xs) above (suc m) d within = AreAbove-at k xs above.1 m d (omega arith)
-
   pub Rises-from_pairs : (xs : List X) → AllPairs (λ x y. n x < n y) xs → Rises xs
   Rises-from_pairs [] pairs = tt
   Rises-from_pairs (x ∷ xs) pairs =
-      (AreAbove-each (n x) xs (λ m d within. pairs zero (suc m) d (omega arith) (omega arith)), Rises-from_pairs xs (λ i j d lt within. pairs (suc i) (suc j) d (omega arith) (omega arith)))
+      (recursion_from_All (λ y. n x < n y) xs (λ m d within. pairs zero (suc m) d (omega arith) (omega arith)), Rises-from_pairs xs (λ i j d lt within. pairs (suc i) (suc j) d (omega arith) (omega arith)))
 
   pub pairs_from_Rises : (xs : List X) → Rises xs → AllPairs (λ x y. n x < n y) xs
   pairs_from_Rises [] rises i j d lt within = absurd (omega arith)
   pairs_from_Rises (x ∷ xs) rises i zero d lt within = absurd (omega arith)
-  pairs_from_Rises (x ∷ xs) rises zero (suc j) d lt within = AreAbove-at (n x) xs rises.0 j d (omega arith)
+  pairs_from_Rises (x ∷ xs) rises zero (suc j) d lt within = All-from_recursion (λ y. n x < n y) xs rises.0 j d (omega arith)
   pairs_from_Rises (x ∷ xs) rises (suc i) (suc j) d lt within = pairs_from_Rises xs rises.1 i j d (omega arith) (omega arith)
-
-  AreAbove-filter : (p : X → Bool) (k : ℕ) (xs : List X) → AreAbove k xs → AreAbove k (filter p xs)
-  AreAbove-filter p k [] above = tt
-  AreAbove-filter p k (x ∷ xs) above = elim (cases_Bool (p x)) [
-    | inl passes ↦ rw passes (above.0, AreAbove-filter p k xs above.1)
-    | inr stays ↦ rw stays (AreAbove-filter p k xs above.1)
-  ]
 
   pub Rises-filter : (p : X → Bool) (xs : List X) → Rises xs → Rises (filter p xs)
   Rises-filter p [] rises = tt
   Rises-filter p (x ∷ xs) rises = elim (cases_Bool (p x)) [
-    | inl passes ↦ rw passes (AreAbove-filter p (n x) xs rises.0, Rises-filter p xs rises.1)
+    | inl passes ↦ rw passes (all_kept_by p (λ y. n x < n y) xs rises.0, Rises-filter p xs rises.1)
     | inr stays ↦ rw stays (Rises-filter p xs rises.1)
   ]
 
@@ -104,19 +89,15 @@ module _ {X : Type 0} (n : X → ℕ) where
     ]
   ]
 
-  AreAbove-more : (k l : ℕ) (xs : List X) → k < l → AreAbove l xs → AreAbove k xs
-  AreAbove-more k l [] lt above = tt
-  AreAbove-more k l (x ∷ xs) lt above = let here = above.0 in (omega arith, AreAbove-more k l xs lt above.1)
-
   -- an item behind those before it
   AreAbove-with : (k : ℕ) (y : X) (front back : List X) → k < n y → AreAbove k front → AreAbove (n y) back → AreAbove k (front ++ y ∷ back)
-  AreAbove-with k y [] back lt low high = (lt, AreAbove-more k (n y) back lt high)
+  AreAbove-with k y [] back lt low high = (lt, All-weaker (λ x. n y < n x) (λ x. k < n x) (λ x above. omega (arith, lt, above)) back high)
   AreAbove-with k y (x ∷ front) back lt low high = (low.0, AreAbove-with k y front back lt low.1 high)
 
   Rises-with : (y : X) (xs back : List X) → Rises xs → AreAbove (n y) back → Rises back → Rises (before (n y) xs ++ y ∷ back)
   Rises-with y [] back rises high later = (high, later)
   Rises-with y (x ∷ xs) back rises high later = elim (cases_Bool (ltb (n x) (n y))) [
-    | inl passes ↦ rw passes (AreAbove-with (n x) y (before (n y) xs) back (ltb-true (n x) (n y) passes) (AreAbove-filter (λ z. ltb (n z) (n y)) (n x) xs rises.0) high, Rises-with y xs back rises.1 high later)
+    | inl passes ↦ rw passes (AreAbove-with (n x) y (before (n y) xs) back (ltb-true (n x) (n y) passes) (all_kept_by (λ z. ltb (n z) (n y)) (λ z. n x < n z) xs rises.0) high, Rises-with y xs back rises.1 high later)
     | inr stays ↦ rw stays (Rises-with y xs back rises.1 high later)
   ]
 

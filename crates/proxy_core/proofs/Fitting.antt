@@ -18,6 +18,7 @@ use Rattle.desk_words.specs.Histories.{is_slot, settings_at, own_ports, side_sta
 use Rattle.desk_words.proofs.Alone.{has_told, opened_told, blind}
 use Rattle.desk_words.proofs.Silence.{is_early, untold}
 use Rattle.desk_words.proofs.Seen.{seen}
+use Rattle.desk_words.proofs.Silence.{sees_nothing}
 use Rattle.switch_side.proofs.OwnPorts.{has_port-own}
 use Rattle.proxy_core.specs.Desks.{is_before, Coherent}
 use Rattle.proxy_core.proofs.Lists.{there}
@@ -31,11 +32,6 @@ before_early Ended is = is
 told_some : (told : Option Features) → has_told told ≡ true → (features : Features) × (told ≡ Some features)
 told_some None is = absurd (true≢false (sym is))
 told_some (Some features) is = (features, refl)
-
--- a slot that isn't one of the policy sees nothing
-sees_nothing : (policy : PolicyView) (slot : ℕ) (h : List Timed) → is_slot policy slot ≡ false → side_of policy slot h ≡ side_start
-sees_nothing policy slot [] out = refl
-sees_nothing policy slot (timed ∷ h) out = rw out (sees_nothing policy slot h out)
 
 -- ---- the settings of a slot of the policy
 

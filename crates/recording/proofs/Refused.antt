@@ -36,7 +36,7 @@ begun_or : (P : RecordingFault → Type 0) (b : Bool) (r : Result (List Item) Re
 begun_or P true r f fault e stops goes = goes refl e
 begun_or P false r f fault e stops goes = let is : f ≡ fault = cc in subst P is (stops refl)
 
-newest_first : (r : Item) (items before : List Item) → reverse (r ∷ items) ++ before ≡ reverse items ++ (r ∷ before)
+pub newest_first : {A : Type 0} (r : A) (items before : List A) → reverse (r ∷ items) ++ before ≡ reverse items ++ (r ∷ before)
 newest_first r items before = ap (λ l. l ++ before) (reverse-append (r ∷ []) items) ∙ append_assoc (reverse items) (r ∷ []) before
 
 behind_one : (front : List ℕ) (t : Told) (told : List Told) → front ++ flat_map spell (t ∷ told) ≡ (front ++ spell t) ++ flat_map spell told

@@ -5,7 +5,7 @@ use Rattle.std.proofs.lemmas.Bool.{cases_Bool, both_ways, eq-eqb, ne_eqb, or_par
 use Rattle.std.proofs.lemmas.Bool.Decides.{eqb_tells}
 use Rattle.std.proofs.lemmas.List.{length-take}
 use Rattle.xid_map.specs.Collections.{CollectionCall, Start, Add, Sum, Finish, EndAll, is_among, collecting, begins, since}
-use Rattle.xid_map.specs.Laws.{Ends, NoneEnds, IsCollecting, others_started, IsStarted}
+use Rattle.xid_map.specs.Laws.{Ends, NoneOf, IsCollecting, others_started, IsStarted}
 use Rattle.xid_map.proofs.Gathering.{since-goes_on}
 use Rattle.xid_map.proofs.Standing.{begins_not}
 
@@ -231,10 +231,11 @@ goes_on number (Sum other packets bytes) earlier not_ended within = within
 goes_on number (Finish other) earlier not_ended within = among_stays number other (collecting earlier) not_ended within
 goes_on number EndAll earlier not_ended within = absurd (not_ended tt)
 
-goes_on_through : (number : ℕ) (later earlier : List CollectionCall) → NoneEnds number later earlier → is_among number (collecting earlier) ≡ true
-    → is_among number (collecting (later ++ earlier)) ≡ true
-goes_on_through number [] earlier none within = within
-goes_on_through number (call ∷ later) earlier none within = goes_on number call (later ++ earlier) none.0 (goes_on_through number later earlier none.1 within)
+-- what a call keeps that doesn't do this is kept through calls of which none does
+pub kept_through : {C : Type 0} (Does : C → List C → Type 0) (Holds : List C → Type 0) → ((call : C) (before : List C) → (Does call before → ⊥) → Holds before → Holds (call ∷ before))
+    → (later earlier : List C) → NoneOf Does later earlier → Holds earlier → Holds (later ++ earlier)
+kept_through Does Holds kept [] earlier none held = held
+kept_through Does Holds kept (call ∷ later) earlier none held = kept call (later ++ earlier) none.0 (kept_through Does Holds kept later earlier none.1 held)
 
 begun : (number : ℕ) (earlier : List CollectionCall) → is_among number (collecting earlier) ≡ false → is_among number (collecting (Start number ∷ earlier)) ≡ true
 unfolding collecting
@@ -243,7 +244,7 @@ begun number earlier out = rw out (among_here number (take 7 (collecting earlier
 pub collecting-IsCollecting : (number : ℕ) (calls : List CollectionCall) → IsCollecting number calls → is_among number (collecting calls) ≡ true
 collecting-IsCollecting number calls h =
     subst (λ l. is_among number (collecting l) ≡ true) (sym h.split)
-    (goes_on_through number h.later (Start number ∷ h.earlier) h.not_ended (begun number h.earlier h.began))
+    (kept_through (Ends number) (λ calls. is_among number (collecting calls) ≡ true) (goes_on number) h.later (Start number ∷ h.earlier) h.not_ended (begun number h.earlier h.began))
 
 -- a request that collects with a call, and collected before, isn't ended by it
 not_ended_by : (number : ℕ) (call : CollectionCall) (earlier : List CollectionCall) → is_among number (collecting earlier) ≡ true → is_among number (collecting (call ∷ earlier)) ≡ true

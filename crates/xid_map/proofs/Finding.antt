@@ -2,7 +2,8 @@
 use Rattle.std.proofs.Common.{◌≡◌, ◌≢◌, ℕ, ◌+◌, ◌/◌, ◌%◌, ◌<◌, ◌↔◌, ◌||◌, if◌then◌else◌, Bool, true, false, IsTrue, List, [], ◌∷◌, ◌++◌, zero, suc, length, take, map, Contains, refl, ap, sym, subst, ◌∙◌, inl, inr, arith, add-one}
 use Rattle.std.specs.Prelude.{◌==◌, find, slice_get, Some}
 use Rattle.std.proofs.lemmas.Bool.{cases_Bool, eqb-true}
-use Rattle.std.proofs.lemmas.Bool.Decides.{eqb_tells}
+use Rattle.std.proofs.lemmas.List.Elements.{Contains-append_right}
+use Rattle.std.proofs.lemmas.Bool.Decides.{eqb_tells, same_from_decides}
 use Rattle.std.proofs.lemmas.List.{length-map}
 use Rattle.std.proofs.lemmas.Option.{slice_get_within}
 use Rattle.xid_map.specs.declared.asked.Asked.{Asked}
@@ -13,9 +14,6 @@ use Rattle.xid_map.proofs.Numbering.{behind, found-get, found-elsewhere}
 
 -- ---- calls among calls
 
-contains_more : (call : RequestCall) (later : List RequestCall) (sought : RequestCall) → Contains later sought → Contains (call ∷ later) sought
-contains_more call later sought h = (suc h.0, omega (arith, h.1), h.2)
-
 contains_rest : (call : RequestCall) (later : List RequestCall) (sought : RequestCall) → call ≢ sought → Contains (call ∷ later) sought → Contains later sought
 contains_rest call later sought apart (zero, lt, e) = absurd (apart e)
 contains_rest call later sought apart (suc k, lt, e) = (k, omega (arith, lt), e)
@@ -23,7 +21,7 @@ contains_rest call later sought apart (suc k, lt, e) = (k, omega (arith, lt), e)
 -- a call that isn't the one that is sought leaves whether that is there
 told_more : (b : Bool) (call : RequestCall) (later : List RequestCall) (sought : RequestCall) → call ≢ sought → IsTrue b ↔ Contains later sought
     → IsTrue b ↔ Contains (call ∷ later) sought
-told_more b call later sought apart h = (λ e. contains_more call later sought (h.0 e), λ c. h.1 (contains_rest call later sought apart c))
+told_more b call later sought apart h = (λ e. Contains-append_right (call ∷ []) later sought (h.0 e), λ c. h.1 (contains_rest call later sought apart c))
 
 told_here : (call : RequestCall) (later : List RequestCall) → IsTrue true ↔ Contains (call ∷ later) call
 told_here call later = (λ e. (zero, omega arith, refl), λ c. refl)
@@ -38,12 +36,6 @@ told_marked mark number other later b same h = elim (eqb_tells number other) [
 
 told_none : (sought : RequestCall) → IsTrue false ↔ Contains [] sought
 told_none sought = (λ e. cc, λ c. absurd (omega (arith, c.1)))
-
-same_told : (a b : Bool) (P : Type 0) → IsTrue a ↔ P → IsTrue b ↔ P → a ≡ b
-same_told true true P f g = refl
-same_told true false P f g = sym (g.1 (f.0 refl))
-same_told false true P f g = f.1 (g.0 refl)
-same_told false false P f g = refl
 
 issued-append : (later earlier : List RequestCall) → issued (later ++ earlier) ≡ issued later + issued earlier
 issued-append [] earlier = omega arith
@@ -129,7 +121,7 @@ standing [] asked earlier kept = record {
   done = told_none (MarkDone (issued earlier));
 }
 standing (Issue other ∷ later) asked earlier kept =
-    let h = standing later asked earlier (λ c. kept (contains_more (Issue other) later Forget c)) in
+    let h = standing later asked earlier (λ c. kept (Contains-append_right (Issue other ∷ []) later Forget c)) in
     record {
       request = h.request;
       here = get_behind _ (requests (later ++ (Issue asked ∷ earlier))) (issued later) h.request h.here;
@@ -139,7 +131,7 @@ standing (Issue other ∷ later) asked earlier kept =
       done = told_more h.request.done (Issue other) later (MarkDone h.request.number) (λ e. cc) h.done;
     }
 standing (MarkError number ∷ later) asked earlier kept =
-    let h = standing later asked earlier (λ c. kept (contains_more (MarkError number) later Forget c)) in
+    let h = standing later asked earlier (λ c. kept (Contains-append_right (MarkError number ∷ []) later Forget c)) in
     record {
       request = record h.request { failed = h.request.number == number || h.request.failed };
       here = get_map (marked with_error number) _ (issued later) h.request h.here ∙ ap (λ r. Some r) (error_set (h.request.number == number) h.request);
@@ -149,7 +141,7 @@ standing (MarkError number ∷ later) asked earlier kept =
       done = told_more h.request.done (MarkError number) later (MarkDone h.request.number) (λ e. cc) h.done;
     }
 standing (MarkDone number ∷ later) asked earlier kept =
-    let h = standing later asked earlier (λ c. kept (contains_more (MarkDone number) later Forget c)) in
+    let h = standing later asked earlier (λ c. kept (Contains-append_right (MarkDone number ∷ []) later Forget c)) in
     record {
       request = record h.request { done = h.request.number == number || h.request.done };
       here = get_map (marked with_reply number) _ (issued later) h.request h.here ∙ ap (λ r. Some r) (reply_set (h.request.number == number) h.request);
@@ -226,8 +218,8 @@ found-IsFound slot physical calls request h =
     let s = standing h.later request.asked h.earlier h.not_forgotten in
     let number : s.request.number ≡ request.number = s.same_number ∙ sym h.numbered in
     let same : s.request ≡ request = same_request s.request request number s.same_asked
-    (same_told s.request.failed request.failed _ (subst (λ n. IsTrue s.request.failed ↔ Contains h.later (MarkError n)) number s.failed) h.failed)
-    (same_told s.request.done request.done _ (subst (λ n. IsTrue s.request.done ↔ Contains h.later (MarkDone n)) number s.done) h.done) in
+    (same_from_decides s.request.failed request.failed (subst (λ n. IsTrue s.request.failed ↔ Contains h.later (MarkError n)) number s.failed) h.failed)
+    (same_from_decides s.request.done request.done (subst (λ n. IsTrue s.request.done ↔ Contains h.later (MarkDone n)) number s.done) h.done) in
     let low : physical % 16777216 ≡ issued h.earlier % 16777216 = omega (arith, h.seen, h.numbered) in
     let count : issued calls ≡ issued h.later + (issued h.earlier + 1) = ap issued h.split ∙ issued-append h.later (Issue request.asked ∷ h.earlier) in
     let place : behind (issued calls) (physical % 16777216) ≡ issued h.later = rw (count, low) (behind_later (issued h.earlier) (issued h.later) h.recent) in

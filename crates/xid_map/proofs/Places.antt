@@ -1,7 +1,7 @@
 -- Where the collection of a request stands, and what a change there does to the look-ups.
 use Rattle.std.proofs.Common.{◌≡◌, ◌≢◌, ℕ, ◌<◌, ◌≤◌, ◌++◌, Bool, true, false, List, [], ◌∷◌, zero, suc, length, take, drop, get_or, refl, ap, sym, ◌∙◌, inl, inr, arith}
 use Rattle.std.specs.Prelude.{◌==◌, nat_lt, find, position, is_some, slice_set, Option, Some, None}
-use Rattle.std.specs.List.{position_or_len}
+use Rattle.std.specs.List.{position_or_len, AllByRecursion}
 use Rattle.std.proofs.lemmas.Bool.{cases_Bool, eq-eqb, ne_eqb, ltb-true, ltb-false}
 use Rattle.std.proofs.lemmas.Option.{IfSome_then}
 use Rattle.std.proofs.lemmas.Bool.Decides.{eqb_tells}
@@ -15,8 +15,7 @@ StandsAt number (suc k) (x ∷ xs) = (x.gathered.number ≢ number) × StandsAt 
 
 -- none is of the request
 abbrev pub Nowhere : ℕ → List Collected → Type 0
-Nowhere number [] = Unit {0}
-Nowhere number (x ∷ xs) = (x.gathered.number ≢ number) × Nowhere number xs
+Nowhere number xs = AllByRecursion (λ x. x.gathered.number ≢ number) xs
 
 abbrev is_of : ℕ → Collected → Bool
 is_of number c = c.gathered.number == number

@@ -28,10 +28,10 @@ Ends number (Sum other packets bytes) earlier = ⊥
 Ends number (Finish other) earlier = other ≡ number
 Ends number EndAll earlier = Unit {0}
 
--- none of these later calls does
-abbrev pub NoneEnds : ℕ → List CollectionCall → List CollectionCall → Type 0
-NoneEnds number [] earlier = Unit {0}
-NoneEnds number (call ∷ later) earlier = (Ends number call (later ++ earlier) → ⊥) × NoneEnds number later earlier
+-- none of these calls, which come after earlier ones, does this
+abbrev pub NoneOf : {C : Type 0} → (C → List C → Type 0) → List C → List C → Type 0
+NoneOf Does [] earlier = Unit {0}
+NoneOf Does (call ∷ later) earlier = (Does call (later ++ earlier) → ⊥) × NoneOf Does later earlier
 
 -- the request was started while it didn't collect, and no call ended that since
 pub record IsCollecting (number : ℕ) (calls : List CollectionCall) : Type 0 where
@@ -39,7 +39,7 @@ pub record IsCollecting (number : ℕ) (calls : List CollectionCall) : Type 0 wh
   pub earlier : List CollectionCall
   pub split : calls ≡ later ++ (Start number ∷ earlier)
   pub began : is_among number (collecting earlier) ≡ false
-  pub not_ended : NoneEnds number later (Start number ∷ earlier)
+  pub not_ended : NoneOf (Ends number) later (Start number ∷ earlier)
 
 -- how many of these calls start another request
 abbrev pub others_started : ℕ → List CollectionCall → ℕ

@@ -4,7 +4,8 @@ use Rattle.std.proofs.lemmas.Result.{err_from_is_err_and}
 use Rattle.recording.specs.declared.item.Item.{Item}
 use Rattle.desk_words.specs.Recorded.{told_in}
 use Rattle.desk_words.specs.Reports.{report}
-use Rattle.fv_report.proofs.Writing.{at_fault, appended_none, counted_after, fault_after}
+use Rattle.fv_base.proofs.Appending.{appended_none}
+use Rattle.fv_report.proofs.Writing.{at_fault, counted_after, fault_after}
 use Rattle.fv_report.proofs.Running.{Running, running_first, running_more, running_part, running_last}
 use Rattle.fv_report.proofs.run.report_items.Goals as goal
 

@@ -3,7 +3,7 @@ use Rattle.fv_base.specs.Told.{appended}
 use Rattle.desk_words.specs.Reports.{line}
 use Rattle.fv_report.specs.Lines.{place_of}
 use Rattle.fv_report.specs.Writing.{Wrote}
-use Rattle.fv_report.proofs.Writing.{appended_none}
+use Rattle.fv_base.proofs.Appending.{appended_none}
 use Rattle.fv_report.proofs.turn.put_end.Goals as goal
 
 pub returns-then-not-has_ended-clause-writes : goal.returns-then-not-has_ended-clause-writes
