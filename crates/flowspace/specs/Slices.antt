@@ -1,10 +1,19 @@
 -- Slices, and which values they may have. All of this is the proxy's own rule.
-use Rattle.std.specs.Prelude.{ℕ, ◌≤◌, Bool, ◌||◌, ◌&&◌, ◌==◌, leb, IsTrue, length, All}
+use Rattle.std.specs.Prelude.{ℕ, ◌≤◌, Bool, ◌||◌, ◌&&◌, ◌==◌, leb, IsTrue, List, length, All}
+use Rattle.std.specs.List.{list_all}
 use Rattle.flowspace.specs.declared.slices.Slice.{Slice}
 
 -- a letter a to z, a digit, `_` or `-`
 abbrev pub is_name_byte : ℕ → Bool
 is_name_byte b = (leb 97 b && leb b 122) || (leb 48 b && leb b 57) || (b == 95) || (b == 45)
+
+-- a name is 1 to 32 letters a to z, digits, `_` and `-`
+abbrev pub is_name : List ℕ → Bool
+is_name name = (leb 1 (length name) && leb (length name) 32) && list_all is_name_byte name
+
+-- a controller's address has 1 to 255 bytes
+abbrev pub is_controller : List ℕ → Bool
+is_controller controller = leb 1 (length controller) && leb (length controller) 255
 
 -- a slice is plain where its name, its controller, its rate, its burst and its quota are within their limits
 pub record IsPlainSlice (s : Slice) : Type 0 where

@@ -10,10 +10,10 @@ pub const RULES: usize = 2048;
 pub const WRITES: usize = 256;
 
 /// Bytes of a slice's name.
-pub const NAME_BYTES: usize = 32;
+pub(crate) const NAME_BYTES: usize = 32;
 
 /// Bytes that say where a slice's controller listens.
-pub const CONTROLLER_BYTES: usize = 255;
+pub(crate) const CONTROLLER_BYTES: usize = 255;
 
 /// Messages of a slice, a second or at once.
 pub const RATE: u32 = 1_000_000;

@@ -1,6 +1,6 @@
-ghost use Rattle.std.specs.Prelude.{◌≡◌, ◌≤◌, All, IfOk, IsTrue, length};
+ghost use Rattle.std.specs.Prelude.{◌≡◌, ◌≤◌, IfOk, IsTrue};
 ghost use Rattle.std.specs.List.{list_all};
-ghost use Rattle.flowspace.specs.Slices.{is_name_byte, IsPlainSlice};
+ghost use Rattle.flowspace.specs.Slices.{is_controller, is_name, is_name_byte, IsPlainSlice};
 
 use crate::limits::{CONTROLLER_BYTES, NAME_BYTES, QUOTA, RATE};
 use crate::text::Text;
@@ -28,19 +28,24 @@ fn is_name_byte(byte: u8) -> bool
 }
 
 /// Whether a text is made of letters a to z, digits, `_` and `-`.
-pub fn has_name_bytes(text: &str) -> bool
+fn has_name_bytes(text: &str) -> bool
     ensures { result ≡ list_all is_name_byte text.now }
 {
     text.as_bytes().iter().all(|byte| is_name_byte(*byte))
 }
 
-/// Whether a text has at least one byte and at most so many.
-fn is_within(text: &str, most: usize) -> bool
-    ensures some { IsTrue result → 1 ≤ length text.now }
-    ensures short { IsTrue result → length text.now ≤ most }
-    ensures only { 1 ≤ length text.now → length text.now ≤ most → IsTrue result }
+/// Whether a slice may have this name: 1 to 32 bytes, which are letters a to z, digits, `_` and `-`.
+pub fn is_name(text: &str) -> bool
+    ensures { result ≡ is_name text.now }
 {
-    !text.is_empty() && text.len() <= most
+    1 <= text.len() && text.len() <= NAME_BYTES && has_name_bytes(text)
+}
+
+/// Whether a slice's controller may be written so: 1 to 255 bytes.
+pub fn is_controller(text: &str) -> bool
+    ensures { result ≡ is_controller text.now }
+{
+    1 <= text.len() && text.len() <= CONTROLLER_BYTES
 }
 
 /// Whether so many messages may come in a second, or at once.
@@ -50,17 +55,6 @@ fn is_rate(count: u32) -> bool
     ensures only { 1 ≤ count → count ≤ 1000000 → IsTrue result }
 {
     1 <= count && count <= RATE
-}
-
-/// Whether a slice may have this name.
-#[tactic(auto, using(crate::proofs::Naming::name_bytes_pass))]
-fn is_name(text: &str) -> bool
-    ensures some { IsTrue result → 1 ≤ length text.now }
-    ensures short { IsTrue result → length text.now ≤ 32 }
-    ensures bytes { IsTrue result → All (λ b. IsTrue (is_name_byte b)) text.now }
-    ensures only { 1 ≤ length text.now → length text.now ≤ 32 → All (λ b. IsTrue (is_name_byte b)) text.now → IsTrue result }
-{
-    is_within(text, NAME_BYTES) && has_name_bytes(text)
 }
 
 impl Slice {
@@ -75,13 +69,12 @@ impl Slice {
     }
 
     /// Whether each field is within its limits. `Policy::load` takes such slices alone.
+    #[tactic(auto, using(crate::proofs::Naming::name_from, crate::proofs::Naming::name_parts, crate::proofs::Naming::controller_from, crate::proofs::Naming::controller_parts))]
     pub fn is_plain(&self) -> bool
         ensures plain { IsTrue result → IsPlainSlice self.now }
         ensures only { IsPlainSlice self.now → IsTrue result }
     {
-        is_name(self.name.as_str())
-            && is_within(self.controller.as_str(), CONTROLLER_BYTES)
-            && self.has_numbers()
+        is_name(self.name.as_str()) && is_controller(self.controller.as_str()) && self.has_numbers()
     }
 }
 

@@ -2,7 +2,6 @@
 use Rattle.std.proofs.Common.{◌≡◌, ◌≢◌, inl, inr, ℕ, suc, ◌%◌, ◌^◌, ◌<◌, ◌≤◌, ◌==◌, Bool, true, false, not, ◌&&◌, le-leb, eq-eqb, eqb-true, IsTrue, List, [], ◌∷◌, ◌++◌, length, map, get_or, AllPairs, Option, Some, None, IsSome, IfSome, is_some, option_map, option_and_then, unwrap_or, Result, Ok, codes, refl, sym, ap, ◌∙◌, arith}
 use Rattle.std.specs.List.{AllByRecursion}
 use Rattle.std.proofs.lemmas.Bool.{cases_Bool}
-use Rattle.std.proofs.lemmas.List.Sums.{list_all-from_AllPass}
 use Rattle.toml.specs.Data.{Data, string}
 use Rattle.toml.specs.View.{items_of}
 use Rattle.of10_model.specs.declared.pattern.Prefix.{Prefix}
@@ -10,7 +9,8 @@ use Rattle.of10_model.specs.Normal.{has_vlan, has_network, has_service, has_port
 use Rattle.flowspace.specs.declared.rules.Rule.{Rule}
 use Rattle.flowspace.specs.declared.slices.Slice.{Slice}
 use Rattle.flowspace.specs.Rules.{IsInPort, IsVlan, IsPlainRule}
-use Rattle.flowspace.specs.Slices.{is_name_byte, IsPlainSlice}
+use Rattle.flowspace.specs.Slices.{IsPlainSlice}
+use Rattle.flowspace.proofs.Naming.{name_from, controller_from}
 use Rattle.flowspace.proofs.Owning.{is_in_port-IsInPort}
 use Rattle.policy_text.specs.declared.fault.Part.{Part}
 use Rattle.policy_text.specs.declared.fault.Part.TheVariants as part
@@ -84,10 +84,10 @@ between : (low high n : ℕ) → low ≤ n → n ≤ high → is_number (Between
 between low high n a b = rw (le-leb low n a, le-leb n high b) refl
 
 name_is : (s : Slice) → IsPlainSlice s → is_text Name s.name ≡ true
-name_is s plain = rw (le-leb 1 (length s.name) plain.name_some, le-leb (length s.name) 32 plain.name_short) (list_all-from_AllPass is_name_byte s.name plain.name_bytes)
+name_is s plain = name_from s.name plain.name_some plain.name_short plain.name_bytes
 
 controller_is : (s : Slice) → IsPlainSlice s → is_text Controller s.controller ≡ true
-controller_is s plain = rw (le-leb 1 (length s.controller) plain.controller_some, le-leb (length s.controller) 255 plain.controller_short) refl
+controller_is s plain = controller_from s.controller plain.controller_some plain.controller_short
 
 slice_same : (s : Slice) (rate burst quota : ℕ) → rate ≡ s.rate → burst ≡ s.burst → quota ≡ s.quota
     → (let t : Slice = record { name = s.name; controller = s.controller; rate = rate; burst = burst; quota = quota } in t) ≡ s

@@ -1,9 +1,8 @@
 -- The slices and the rules that a text says are plain.
 use Rattle.std.proofs.Common.{◌≡◌, ℕ, suc, ◌≤◌, Bool, true, false, ◌&&◌, cond, nat_le, leb-true, List, [], ◌∷◌, length, Option, Some, None, IfSome, Ok, codes, unwrap_or, refl, subst, arith}
-use Rattle.std.specs.List.{AllByRecursion, list_all}
+use Rattle.std.specs.List.{AllByRecursion}
 use Rattle.std.proofs.lemmas.Bool.{and_parts}
 use Rattle.std.proofs.lemmas.List.Elements.{All-from_recursion}
-use Rattle.std.proofs.lemmas.List.Sums.{AllPass-from_list_all}
 use Rattle.toml.specs.Data.{Data, string, integer, float, boolean, datetime, array, table, Items, no_items, item, Members}
 use Rattle.toml.specs.Text.{has_items, are_tables}
 use Rattle.of10_model.specs.declared.pattern.Pattern.{Pattern}
@@ -13,7 +12,8 @@ use Rattle.flowspace.specs.declared.rules.Rule.{Rule}
 use Rattle.flowspace.specs.declared.slices.Slice.{Slice}
 use Rattle.flowspace.specs.Policies.{PolicyView}
 use Rattle.flowspace.specs.Rules.{IsPlainRule}
-use Rattle.flowspace.specs.Slices.{is_name_byte, IsPlainSlice}
+use Rattle.flowspace.specs.Slices.{IsPlainSlice}
+use Rattle.flowspace.proofs.Naming.{name_parts, controller_parts}
 use Rattle.policy_text.specs.declared.values.Numbers.TheVariants.{UpTo, Between}
 use Rattle.policy_text.specs.declared.values.Texts.TheVariants.{Name, Controller}
 use Rattle.policy_text.specs.Reading.{SectionView, known_keys, required, optional, is_number, number, is_text, text, tables, some_tables}
@@ -59,17 +59,16 @@ slice_sound this s e =
     let made : Slice = record { name = a.0; controller = b.0; rate = unwrap_or c.0 1000; burst = unwrap_or d.0 1000; quota = unwrap_or f.0 1024 } in
     let name = required_holds (λ t. is_text Name t ≡ true) (text Name) (text_is Name) this (codes "name") a.0 a.1 in
     let controller = required_holds (λ t. is_text Controller t ≡ true) (text Controller) (text_is Controller) this (codes "controller") b.0 b.1 in
-    let (size, bytes) = and_parts (nat_le 1 (length a.0) && nat_le (length a.0) 32) (list_all is_name_byte a.0) name in
-    let (name_low, name_high) = and_parts (nat_le 1 (length a.0)) (nat_le (length a.0) 32) size in
-    let (low, high) = and_parts (nat_le 1 (length b.0)) (nat_le (length b.0) 255) controller in
+    let named = name_parts a.0 name in
+    let controlled = controller_parts b.0 controller in
     let rate = rate_read this (codes "rate") c.0 c.1 in
     let burst = rate_read this (codes "burst") d.0 d.1 in
     subst IsPlainSlice (ok_is made s f.2) (record {
-      name_some = leb-true _ _ name_low;
-      name_short = leb-true _ _ name_high;
-      name_bytes = AllPass-from_list_all is_name_byte a.0 bytes;
-      controller_some = leb-true _ _ low;
-      controller_short = leb-true _ _ high;
+      name_some = named.some;
+      name_short = named.short;
+      name_bytes = named.bytes;
+      controller_some = controlled.0;
+      controller_short = controlled.1;
       rate_some = rate.0;
       rate_limit = rate.1;
       burst_some = burst.0;

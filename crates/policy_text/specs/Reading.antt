@@ -1,13 +1,12 @@
 -- Reading a table of a policy text key by key, with the first fault that is met. All of the form is this proxy's own rule.
-use Rattle.std.specs.Prelude.{◌≡◌, ℕ, pos, ◌==◌, ◌%◌, ◌&&◌, ◌||◌, nat_le, Bool, true, List, [], ◌∷◌, length, Option, Some, None, Result, Ok, Err, if◌then◌else◌, bytes_eq, codes}
-use Rattle.std.specs.List.{list_all}
+use Rattle.std.specs.Prelude.{◌≡◌, ℕ, pos, ◌==◌, ◌%◌, ◌&&◌, ◌||◌, nat_le, Bool, true, List, [], ◌∷◌, Option, Some, None, Result, Ok, Err, if◌then◌else◌, bytes_eq, codes}
 use Rattle.std.specs.Ordering.{nat_cmp, is_lt}
 use Rattle.std.specs.Cmp.Lexicographic.{slice_cmp}
 use Rattle.toml.specs.Data.{Data, string, integer, array, Items, no_items, item, Members, no_members, member, get_member}
 use Rattle.toml.specs.Text.{are_tables, has_items}
 use Rattle.flowspace.specs.Rules.{is_vlan}
 use Rattle.flowspace.specs.Owners.{is_in_port}
-use Rattle.flowspace.specs.Slices.{is_name_byte}
+use Rattle.flowspace.specs.Slices.{is_controller, is_name}
 use Rattle.of10_model.specs.declared.pattern.Prefix.{Prefix}
 use Rattle.of10_model.specs.Results.{◌>>=◌, Answers}
 use Rattle.address_text.specs.Addresses.{datapath_id, hardware_address, prefix}
@@ -158,14 +157,6 @@ greatest Service = 252
 abbrev pub number : Numbers → Data → Option ℕ
 number numbers (integer (pos n)) = when (is_number numbers n) n
 number numbers d = None
-
--- a name is 1 to 32 letters a to z, digits, `_` and `-`
-abbrev pub is_name : List ℕ → Bool
-is_name name = (nat_le 1 (length name) && nat_le (length name) 32) && list_all is_name_byte name
-
--- a controller's address has 1 to 255 bytes
-abbrev pub is_controller : List ℕ → Bool
-is_controller controller = nat_le 1 (length controller) && nat_le (length controller) 255
 
 -- the texts that a field may have
 abbrev pub is_text : Texts → List ℕ → Bool

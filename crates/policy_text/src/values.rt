@@ -3,11 +3,10 @@
 ghost use Rattle.std.specs.Prelude.{◌≡◌, ◌≤◌, true, IfOk, IfSome, map, option_map};
 ghost use Rattle.toml.specs.Text.{are_tables, has_items};
 ghost use Rattle.toml.specs.View.{items_view, view};
-ghost use Rattle.policy_text.specs.Reading.{addresses, each_text, greatest, is_name, is_number, is_text, number, numeral, numeral_of, some_tables, tables, text, text_list};
+ghost use Rattle.policy_text.specs.Reading.{addresses, each_text, greatest, is_number, is_text, number, numeral, numeral_of, some_tables, tables, text, text_list};
 
 use address_text::{datapath_id, hardware_address, prefix};
-use flowspace::limits::{CONTROLLER_BYTES, NAME_BYTES};
-use flowspace::{has_name_bytes, is_in_port, is_vlan};
+use flowspace::{is_controller, is_in_port, is_name, is_vlan};
 use of10_model::Prefix;
 use std::alloc::{AllocError, Global};
 use toml::Value;
@@ -69,18 +68,12 @@ pub fn number(numbers: Numbers, value: &Value) -> Option<u32>
     }
 }
 
-fn is_name(text: &str) -> bool
-    ensures { result ≡ is_name text.now }
-{
-    1 <= text.len() && text.len() <= NAME_BYTES && has_name_bytes(text)
-}
-
 fn is_text(texts: Texts, text: &str) -> bool
     ensures { result ≡ is_text texts text.now }
 {
     match texts {
         Texts::Name => is_name(text),
-        Texts::Controller => 1 <= text.len() && text.len() <= CONTROLLER_BYTES,
+        Texts::Controller => is_controller(text),
         Texts::Any => true,
     }
 }
