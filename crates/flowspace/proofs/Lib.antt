@@ -10,3 +10,4 @@ pub mod Overlapping
 pub mod Owning
 pub mod Faulty
 pub mod Naming
+pub mod Improper

@@ -1,9 +1,12 @@
 -- Rules: where they hold, which values they may have, and when two of them have a header in common. This is the proxy's own rule; the numbers of ports and VLANs are the standard's.
-use Rattle.std.specs.Prelude.{ℕ, ◌≡◌, ◌≤◌, ◌⊎◌, ◌==◌, ◌&&◌, ◌||◌, leb, nat_lt, not, Bool, true, false, IsTrue, IsSome, IfSome, Option, Some, None}
+use Rattle.std.specs.Prelude.{ℕ, ◌≡◌, ◌≤◌, ◌⊎◌, ◌==◌, ◌&&◌, ◌||◌, leb, nat_lt, not, Bool, true, false, IsTrue, is_some, IsSome, IfSome, Option, Some, None, if◌then◌else◌}
 use Rattle.of10_model.specs.Header.{Header, IsHeader}
+use Rattle.of10_model.specs.declared.pattern.Pattern.{Pattern}
 use Rattle.of10_model.specs.Pattern.{Has}
 use Rattle.of10_model.specs.Normal.{is_value, bit, has_vlan, has_network, has_service, has_ports}
 use Rattle.of10_model.specs.Meet.{is_disjoint}
+use Rattle.flowspace.specs.declared.fault.Field.{Field}
+use Rattle.flowspace.specs.declared.fault.Field.TheVariants.{DlVlanPcp, NwTos, NwProto, NwSrc, NwDst, TpSrc, TpDst}
 use Rattle.flowspace.specs.declared.rules.Rule.{Rule}
 
 -- no switch named stands for each
@@ -42,6 +45,23 @@ pub record IsPlainRule (r : Rule) : Type 0 where
   pub nw_dst : IsSome r.pattern.nw_dst → IsTrue (has_network r.pattern.dl_type)
   pub tp_src : IsSome r.pattern.tp_src → IsTrue (has_ports r.pattern.dl_type r.pattern.nw_proto)
   pub tp_dst : IsSome r.pattern.tp_dst → IsTrue (has_ports r.pattern.dl_type r.pattern.nw_proto)
+
+-- ---- fields without what they need
+
+-- the first field that is given without what it needs. Which field needs which is this proxy's own rule, after OpenFlow 1.0.0,
+-- section 3.4.
+unfoldable pub first_improper : Pattern → Option Field
+first_improper m =
+    if is_some m.dl_vlan_pcp && not (has_vlan m.dl_vlan) then Some DlVlanPcp
+    else if is_some m.nw_tos && not (has_service m.dl_type) then Some NwTos
+    else if is_some m.nw_proto && not (has_network m.dl_type) then Some NwProto
+    else if is_some m.nw_src && not (has_network m.dl_type) then Some NwSrc
+    else if is_some m.nw_dst && not (has_network m.dl_type) then Some NwDst
+    else if is_some m.tp_src && not (has_ports m.dl_type m.nw_proto) then Some TpSrc
+    else if is_some m.tp_dst && not (has_ports m.dl_type m.nw_proto) then Some TpDst
+    else None
+
+-- ---- headers in two rules
 
 -- two rules share a header where both hold on a switch and the header is in both matches
 pub record Share (a b : Rule) : Type 0 where

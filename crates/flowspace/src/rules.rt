@@ -1,7 +1,8 @@
-ghost use Rattle.std.specs.Prelude.{◌≡◌, IfSome, IsSome, IsTrue};
-ghost use Rattle.of10_model.specs.Normal.{bit, has_network, has_ports, has_service, has_vlan};
-ghost use Rattle.flowspace.specs.Rules.{holds, is_written_by, IsInPort, IsVlan, is_vlan, IsPlainRule};
+ghost use Rattle.std.specs.Prelude.{◌≡◌, IfSome, IsTrue};
+ghost use Rattle.of10_model.specs.Normal.{bit};
+ghost use Rattle.flowspace.specs.Rules.{first_improper, holds, is_written_by, IsInPort, IsVlan, is_vlan, IsPlainRule};
 
+use crate::fault::Field;
 use crate::owners::is_in_port;
 use of10_match::{Match, has_network, has_ports, has_service, has_vlan};
 use of10_model::protocol::{LAST_VLAN, UNTAGGED};
@@ -37,44 +38,41 @@ fn has_link(m: &Pattern) -> bool
     m.in_port.is_none_or(|port| is_in_port(port)) && m.dl_vlan.is_none_or(|vlan| is_vlan(vlan))
 }
 
-/// Whether a VLAN priority is given only with a VLAN, and a type of service only for IPv4.
-fn has_tags_grounds(m: &Pattern) -> bool
-    ensures pcp { IsTrue result → IsSome m.now.dl_vlan_pcp → IsTrue (has_vlan m.now.dl_vlan) }
-    ensures tos { IsTrue result → IsSome m.now.nw_tos → IsTrue (has_service m.now.dl_type) }
-    ensures only { (IsSome m.now.dl_vlan_pcp → IsTrue (has_vlan m.now.dl_vlan)) → (IsSome m.now.nw_tos → IsTrue (has_service m.now.dl_type)) → IsTrue result }
+/// The first field, in the order of a match's fields, that is given without what it needs: a VLAN, or a
+/// type or protocol that has the field (OpenFlow 1.0.0, section 3.4).
+#[tactic(auto, unfolding(crate::specs::Rules::first_improper))]
+pub fn first_improper(m: &Pattern) -> Option<Field>
+    ensures { result ≡ first_improper m.now }
 {
-    (m.dl_vlan_pcp.is_none() || has_vlan(m.dl_vlan))
-        && (m.nw_tos.is_none() || has_service(m.dl_type))
-}
-
-/// Whether network fields are given only for types that have them.
-fn has_network_grounds(m: &Pattern) -> bool
-    ensures proto { IsTrue result → IsSome m.now.nw_proto → IsTrue (has_network m.now.dl_type) }
-    ensures src { IsTrue result → IsSome m.now.nw_src → IsTrue (has_network m.now.dl_type) }
-    ensures dst { IsTrue result → IsSome m.now.nw_dst → IsTrue (has_network m.now.dl_type) }
-    ensures only { (IsSome m.now.nw_proto → IsTrue (has_network m.now.dl_type)) → (IsSome m.now.nw_src → IsTrue (has_network m.now.dl_type)) → (IsSome m.now.nw_dst → IsTrue (has_network m.now.dl_type)) → IsTrue result }
-{
-    has_network(m.dl_type) || m.nw_proto.is_none() && m.nw_src.is_none() && m.nw_dst.is_none()
-}
-
-/// Whether transport ports are given only for protocols that have them.
-fn has_ports_grounds(m: &Pattern) -> bool
-    ensures src { IsTrue result → IsSome m.now.tp_src → IsTrue (has_ports m.now.dl_type m.now.nw_proto) }
-    ensures dst { IsTrue result → IsSome m.now.tp_dst → IsTrue (has_ports m.now.dl_type m.now.nw_proto) }
-    ensures only { (IsSome m.now.tp_src → IsTrue (has_ports m.now.dl_type m.now.nw_proto)) → (IsSome m.now.tp_dst → IsTrue (has_ports m.now.dl_type m.now.nw_proto)) → IsTrue result }
-{
-    has_ports(m.dl_type, m.nw_proto) || m.tp_src.is_none() && m.tp_dst.is_none()
+    if m.dl_vlan_pcp.is_some() && !has_vlan(m.dl_vlan) {
+        Some(Field::DlVlanPcp)
+    } else if m.nw_tos.is_some() && !has_service(m.dl_type) {
+        Some(Field::NwTos)
+    } else if m.nw_proto.is_some() && !has_network(m.dl_type) {
+        Some(Field::NwProto)
+    } else if m.nw_src.is_some() && !has_network(m.dl_type) {
+        Some(Field::NwSrc)
+    } else if m.nw_dst.is_some() && !has_network(m.dl_type) {
+        Some(Field::NwDst)
+    } else if m.tp_src.is_some() && !has_ports(m.dl_type, m.nw_proto) {
+        Some(Field::TpSrc)
+    } else if m.tp_dst.is_some() && !has_ports(m.dl_type, m.nw_proto) {
+        Some(Field::TpDst)
+    } else {
+        None
+    }
 }
 
 impl Rule {
     /// Whether the port of entry and the VLAN are such that packets have them, and the match constrains a
     /// field only where that field means something. `Policy::load` takes such rules alone.
+    #[tactic(auto, using(crate::proofs::Improper::plain_rule, crate::proofs::Improper::none_improper))]
     pub fn is_plain(&self) -> bool
         ensures plain { IsTrue result → IsPlainRule self.now }
         ensures only { IsPlainRule self.now → IsTrue result }
     {
         let m = self.pattern.pattern();
-        has_link(m) && has_tags_grounds(m) && has_network_grounds(m) && has_ports_grounds(m)
+        has_link(m) && first_improper(m).is_none()
     }
 }
 

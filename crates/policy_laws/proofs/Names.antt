@@ -12,9 +12,10 @@ use Rattle.flowspace.specs.declared.fault.PolicyFault.TheVariants.{UnknownSlice}
 use Rattle.flowspace.specs.declared.slices.Slice.{Slice}
 use Rattle.flowspace.specs.declared.fault.Field.{Field}
 use Rattle.flowspace.specs.declared.fault.Field.TheVariants.{DlVlanPcp, NwTos, NwProto, NwSrc, NwDst, TpSrc, TpDst, Read}
+use Rattle.flowspace.specs.Rules.{first_improper}
 use Rattle.policy_text.specs.declared.fault.ReadFault.{ReadFault}
 use Rattle.policy_text.specs.declared.fault.ReadFault.TheVariants.{Improper, Refused}
-use Rattle.policy_text.specs.Rules.{slot_of, named, writer_of, slots_of, are_different, first_improper, no_improper, proper, RuleText, rule_from}
+use Rattle.policy_text.specs.Rules.{slot_of, named, writer_of, slots_of, are_different, no_improper, proper, RuleText, rule_from}
 use Rattle.policy_text.proofs.Sound.{rule_with}
 use Rattle.policy_laws.proofs.Readers.{named_is, is_itself, later}
 use Rattle.policy_laws.specs.Readers.{with_writer, names_in, NamesNoSlice, NamesSlices, NamesTwice}

@@ -4,6 +4,7 @@ use Rattle.toml.specs.Data.{Data, Members, get_member}
 use Rattle.flowspace.specs.declared.fault.Field.{Field}
 use Rattle.flowspace.specs.declared.fault.PolicyFault.TheVariants.{UnknownSlice}
 use Rattle.flowspace.specs.declared.slices.Slice.{Slice}
+use Rattle.flowspace.specs.Rules.{first_improper}
 use Rattle.policy_text.specs.declared.fault.Place.{Place}
 use Rattle.policy_text.specs.declared.fault.ReadFault.{ReadFault}
 use Rattle.policy_text.specs.declared.fault.ReadFault.TheVariants.{Missing, BadValue, UnknownKey, Improper, Refused}
@@ -15,7 +16,7 @@ use Rattle.policy_text.specs.Firsts.{IsKey, IsLeastUnknown, is_needed, has_form}
 use Rattle.policy_text.specs.Places.{field_key}
 use Rattle.policy_text.specs.Reading.{SectionView, place_of, is_known, least, unknown_keys, no_unknown, known_keys, formed, demanded, allowed, required, optional, number, numeral, addresses, text, text_list}
 use Rattle.policy_text.specs.Slices.{slice_section, slice_in}
-use Rattle.policy_text.specs.Rules.{link_in, pattern_in, first_improper, slot_of, named, writer_of, slots_of, are_different, no_improper, proper, RuleText, names_under, rule_text_in, rule_from, rule_section, rule_in}
+use Rattle.policy_text.specs.Rules.{link_in, pattern_in, slot_of, named, writer_of, slots_of, are_different, no_improper, proper, RuleText, names_under, rule_text_in, rule_from, rule_section, rule_in}
 use Rattle.policy_text.proofs.Keys.{not_there, IsFor, for_any, TextThere, text_there, same_slots_there, improper_there}
 use Rattle.policy_text.proofs.LeastUnknown.{IsNamed, named as named_least}
 

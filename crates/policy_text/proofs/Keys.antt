@@ -12,12 +12,13 @@ use Rattle.of10_model.proofs.Results.{bind_ok, ok_is}
 use Rattle.flowspace.specs.declared.fault.Field.{Field}
 use Rattle.flowspace.specs.declared.fault.Field.TheVariants.{DlVlanPcp, NwTos, NwProto, NwSrc, NwDst, TpSrc, TpDst}
 use Rattle.flowspace.specs.declared.slices.Slice.{Slice}
+use Rattle.flowspace.specs.Rules.{first_improper}
 use Rattle.policy_text.specs.declared.values.Numbers.TheVariants.{UpTo, Service}
 use Rattle.policy_text.specs.declared.values.Texts.TheVariants.{Any}
 use Rattle.policy_text.specs.Firsts.{IsKey}
 use Rattle.policy_text.specs.Places.{field_key}
 use Rattle.policy_text.specs.Reading.{SectionView, place_of, allowed, optional, number, addresses, text, text_list}
-use Rattle.policy_text.specs.Rules.{first_improper, slots_of, are_different, RuleText, names_under, rule_text_in}
+use Rattle.policy_text.specs.Rules.{slots_of, are_different, RuleText, names_under, rule_text_in}
 use Rattle.policy_text.proofs.RuleParts.{PatternRead, pattern_read, rule_read}
 
 -- ---- look-ups

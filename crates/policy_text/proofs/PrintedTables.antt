@@ -1,15 +1,16 @@
 -- The tables that are printed for slices and rules are read as them.
-use Rattle.std.proofs.Common.{◌≡◌, ◌≢◌, inl, inr, ℕ, suc, ◌%◌, ◌^◌, ◌<◌, ◌≤◌, ◌==◌, Bool, true, false, not, ◌&&◌, le-leb, eq-eqb, eqb-true, IsTrue, List, [], ◌∷◌, ◌++◌, length, map, get_or, AllPairs, Option, Some, None, IsSome, IfSome, is_some, option_map, option_and_then, unwrap_or, Result, Ok, codes, refl, sym, ap, ◌∙◌, arith}
+use Rattle.std.proofs.Common.{◌≡◌, ◌≢◌, inl, inr, ℕ, suc, ◌%◌, ◌^◌, ◌<◌, ◌≤◌, ◌==◌, Bool, true, le-leb, eq-eqb, eqb-true, List, [], ◌∷◌, ◌++◌, length, map, get_or, AllPairs, Option, Some, None, IfSome, option_map, option_and_then, unwrap_or, Result, Ok, codes, refl, sym, ap, ◌∙◌, arith}
 use Rattle.std.specs.List.{AllByRecursion}
 use Rattle.std.proofs.lemmas.Bool.{cases_Bool}
 use Rattle.toml.specs.Data.{Data, string}
 use Rattle.toml.specs.View.{items_of}
 use Rattle.of10_model.specs.declared.pattern.Prefix.{Prefix}
-use Rattle.of10_model.specs.Normal.{has_vlan, has_network, has_service, has_ports, IsBelow, IsService, IsPrefix}
+use Rattle.of10_model.specs.Normal.{IsBelow, IsService, IsPrefix}
 use Rattle.flowspace.specs.declared.rules.Rule.{Rule}
 use Rattle.flowspace.specs.declared.slices.Slice.{Slice}
 use Rattle.flowspace.specs.Rules.{IsInPort, IsVlan, IsPlainRule}
 use Rattle.flowspace.specs.Slices.{IsPlainSlice}
+use Rattle.flowspace.proofs.Improper.{none_improper}
 use Rattle.flowspace.proofs.Naming.{name_from, controller_from}
 use Rattle.flowspace.proofs.Owning.{is_in_port-IsInPort}
 use Rattle.policy_text.specs.declared.fault.Part.{Part}
@@ -24,7 +25,7 @@ use Rattle.of10_model.specs.Results.{◌>>=◌}
 use Rattle.of10_model.proofs.Results.{bind_is}
 use Rattle.policy_text.specs.Reading.{SectionView, place_of, least, no_unknown, known_keys, formed, demanded, allowed, required, optional, when, is_number, number, is_text, text, each_text, text_list, numeral, addresses}
 use Rattle.policy_text.specs.Slices.{slice_in, slice_of, slices_from}
-use Rattle.policy_text.specs.Rules.{link_in, pattern_in, first_improper, slot_of, named, writer_of, are_different, bits_below, no_improper, proper, RuleText, names_under, rule_text_in, rule_from, rule_in, rule_of, rules_from}
+use Rattle.policy_text.specs.Rules.{link_in, pattern_in, slot_of, named, writer_of, are_different, bits_below, no_improper, proper, RuleText, names_under, rule_text_in, rule_from, rule_in, rule_of, rules_from}
 use Rattle.address_text.specs.Texts.{hex_text, hardware_text, prefix_text}
 use Rattle.policy_text.specs.Printing.{Entry, unless_default, slice_entries, number_value, text_value, name_at, names_in, names, own_entries, link_entries, network_entries, IsHeld}
 use Rattle.policy_text.proofs.Sound.{rule_from_is}
@@ -221,25 +222,6 @@ writer_back (s ∷ rest) index (Some w) known h =
     ap (writer_of slices index) (name_at_back slices w s h) ∙ bind_is (named index (slot_of slices name)) _ w _ here (ap (λ x. Ok (Some x)) small)
 
 -- ---- no improper field
-
-meant : {A : Type 0} (o : Option A) (needed : Bool) → (IsSome o → IsTrue needed) → (is_some o && not needed) ≡ false
-meant None needed h = refl
-meant (Some x) needed h = rw (h refl) refl
-
-none_improper : (r : Rule) → IsPlainRule r → first_improper r.pattern ≡ None
-unfolding first_improper
-none_improper r plain =
-    let m = r.pattern in
-    rw (
-      meant m.dl_vlan_pcp (has_vlan m.dl_vlan) plain.dl_vlan_pcp,
-      meant m.nw_tos (has_service m.dl_type) plain.nw_tos,
-      meant m.nw_proto (has_network m.dl_type) plain.nw_proto,
-      meant m.nw_src (has_network m.dl_type) plain.nw_src,
-      meant m.nw_dst (has_network m.dl_type) plain.nw_dst,
-      meant m.tp_src (has_ports m.dl_type m.nw_proto) plain.tp_src,
-      meant m.tp_dst (has_ports m.dl_type m.nw_proto) plain.tp_dst,
-    )
-    refl
 
 proper_back : (index : ℕ) (slots : List ℕ) (r : Rule) → IsPlainRule r → are_different slots ≡ true → proper index slots r.pattern ≡ Ok tt
 proper_back index slots r plain different = rw different (ap (no_improper index) (none_improper r plain))

@@ -6,25 +6,25 @@ use Rattle.std.proofs.lemmas.List.Elements.{All-from_recursion}
 use Rattle.toml.specs.Data.{Data, string, integer, float, boolean, datetime, array, table, Items, no_items, item, Members}
 use Rattle.toml.specs.Text.{has_items, are_tables}
 use Rattle.of10_model.specs.declared.pattern.Pattern.{Pattern}
-use Rattle.of10_model.specs.Normal.{has_vlan, has_network, has_service, has_ports}
 use Rattle.flowspace.specs.declared.fault.Field.{Field}
 use Rattle.flowspace.specs.declared.rules.Rule.{Rule}
 use Rattle.flowspace.specs.declared.slices.Slice.{Slice}
 use Rattle.flowspace.specs.Policies.{PolicyView}
-use Rattle.flowspace.specs.Rules.{IsPlainRule}
+use Rattle.flowspace.specs.Rules.{IsPlainRule, first_improper}
 use Rattle.flowspace.specs.Slices.{IsPlainSlice}
+use Rattle.flowspace.proofs.Improper.{plain_rule}
 use Rattle.flowspace.proofs.Naming.{name_parts, controller_parts}
 use Rattle.policy_text.specs.declared.values.Numbers.TheVariants.{UpTo, Between}
 use Rattle.policy_text.specs.declared.values.Texts.TheVariants.{Name, Controller}
 use Rattle.policy_text.specs.Reading.{SectionView, known_keys, required, optional, is_number, number, is_text, text, tables, some_tables}
 use Rattle.policy_text.specs.Slices.{slice_section, slice_in, slice_of, slices_from}
-use Rattle.policy_text.specs.Rules.{first_improper, are_different, bits_below, writer_of, slots_of, no_improper, proper, RuleText, rule_text_in, rule_from, rule_section, rule_in, rule_of, rules_from}
+use Rattle.policy_text.specs.Rules.{are_different, bits_below, writer_of, slots_of, no_improper, proper, RuleText, rule_text_in, rule_from, rule_section, rule_in, rule_of, rules_from}
 use Rattle.policy_text.specs.Documents.{top, parts_in, parts_of, ArePlain}
 use Rattle.std.proofs.lemmas.Option.{cond_some}
 use Rattle.of10_model.proofs.Results.{bind_ok, bind_is, ok_is}
 use Rattle.policy_text.proofs.Steps.{optional_holds, required_holds, number_is, text_is}
 use Rattle.policy_text.proofs.RuleParts.{rule_read}
-use Rattle.policy_text.proofs.SoundPatterns.{IsWritten, pattern_sound, meaningful, needed_is}
+use Rattle.policy_text.proofs.SoundPatterns.{IsWritten, pattern_sound}
 
 -- ---- slices
 
@@ -139,19 +139,7 @@ rule_from_parts slices index t r e =
 from_sound : (slices : List Slice) (index : ℕ) (t : RuleText) (r : Rule) → IsWritten t.pattern → rule_from slices index t ≡ Ok r → IsPlainRule r
 from_sound slices index t r written e =
     let parts = rule_from_parts slices index t r e in
-    let m = t.pattern in
-    let means = meaningful m parts.3 in
-    subst IsPlainRule parts.4 (record {
-      in_port = written.in_port;
-      dl_vlan = written.dl_vlan;
-      dl_vlan_pcp = needed_is m.dl_vlan_pcp (has_vlan m.dl_vlan) means.dl_vlan_pcp;
-      nw_tos = needed_is m.nw_tos (has_service m.dl_type) means.nw_tos;
-      nw_proto = needed_is m.nw_proto (has_network m.dl_type) means.nw_proto;
-      nw_src = needed_is m.nw_src (has_network m.dl_type) means.nw_src;
-      nw_dst = needed_is m.nw_dst (has_network m.dl_type) means.nw_dst;
-      tp_src = needed_is m.tp_src (has_ports m.dl_type m.nw_proto) means.tp_src;
-      tp_dst = needed_is m.tp_dst (has_ports m.dl_type m.nw_proto) means.tp_dst;
-    })
+    subst IsPlainRule parts.4 (plain_rule (rule_with t parts.0 parts.1) written.in_port written.dl_vlan parts.3)
 
 rule_sound : (slices : List Slice) (this : SectionView) (r : Rule) → rule_in slices this ≡ Ok r → IsPlainRule r
 rule_sound slices this r e =

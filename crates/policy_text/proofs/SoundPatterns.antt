@@ -1,5 +1,5 @@
 -- The match that a text says is a normal one, and constrains a field only where the field means something.
-use Rattle.std.proofs.Common.{◌≡◌, inl, inr, ℕ, ◌<◌, ◌%◌, ◌^◌, ◌==◌, Bool, true, false, not, ◌&&◌, cond, leb, nat_le, leb-true, eqb-true, true≢false, IsTrue, List, Option, Some, None, IsSome, IfSome, is_some, Ok, codes, refl, sym, arith}
+use Rattle.std.proofs.Common.{◌≡◌, inl, inr, ℕ, ◌<◌, ◌%◌, ◌^◌, ◌==◌, Bool, true, false, not, ◌&&◌, leb, nat_le, leb-true, eqb-true, true≢false, List, Option, Some, None, IfSome, is_some, Ok, codes, refl, sym, arith}
 use Rattle.std.proofs.lemmas.Bool.{and_parts, or_cases}
 use Rattle.toml.specs.Data.{Data, string, integer, float, boolean, datetime, array, table}
 use Rattle.of10_model.specs.declared.pattern.Prefix.{Prefix}
@@ -8,13 +8,13 @@ use Rattle.of10_model.specs.Normal.{is_given, is_whole, is_exact, has_vlan, has_
 use Rattle.of10_model.proofs.NormalFields.{applied_same}
 use Rattle.of10_model.proofs.Twelve.{each_true}
 use Rattle.address_text.proofs.Ranges.{hardware_below, prefix_range}
-use Rattle.flowspace.specs.declared.fault.Field.{Field}
-use Rattle.flowspace.specs.Rules.{IsInPort, IsVlan}
+use Rattle.flowspace.specs.Rules.{IsInPort, IsVlan, first_improper}
+use Rattle.flowspace.proofs.Improper.{meaningful}
 use Rattle.flowspace.proofs.Owning.{IsInPort-is_in_port}
 use Rattle.policy_text.specs.declared.values.Numbers.TheVariants.{UpTo, InPort, Vlan, Service}
 use Rattle.policy_text.specs.declared.values.Numerals.TheVariants.{Hardware}
 use Rattle.policy_text.specs.Reading.{SectionView, optional, is_number, number, numeral, addresses}
-use Rattle.policy_text.specs.Rules.{pattern_in, first_improper}
+use Rattle.policy_text.specs.Rules.{pattern_in}
 use Rattle.policy_text.proofs.RuleParts.{pattern_read}
 use Rattle.policy_text.proofs.Steps.{optional_holds, number_is}
 
@@ -112,37 +112,6 @@ pattern_sound this m e =
     }
 
 -- ---- fields that mean something
-
-if_none : (b : Bool) (field : Field) (o : Option Field) → cond b (Some field) o ≡ None → (b ≡ false) × (o ≡ None)
-if_none true field o e = absurd cc
-if_none false field o e = (refl, e)
-
--- no field is given without what it needs
-pub record IsMeaningful (m : Pattern) : Type 0 where
-  pub dl_vlan_pcp : (is_some m.dl_vlan_pcp && not (has_vlan m.dl_vlan)) ≡ false
-  pub nw_tos : (is_some m.nw_tos && not (has_service m.dl_type)) ≡ false
-  pub nw_proto : (is_some m.nw_proto && not (has_network m.dl_type)) ≡ false
-  pub nw_src : (is_some m.nw_src && not (has_network m.dl_type)) ≡ false
-  pub nw_dst : (is_some m.nw_dst && not (has_network m.dl_type)) ≡ false
-  pub tp_src : (is_some m.tp_src && not (has_ports m.dl_type m.nw_proto)) ≡ false
-  pub tp_dst : (is_some m.tp_dst && not (has_ports m.dl_type m.nw_proto)) ≡ false
-
-pub meaningful : (m : Pattern) → first_improper m ≡ None → IsMeaningful m
-unfolding first_improper
-meaningful m e =
-    let a = if_none (is_some m.dl_vlan_pcp && not (has_vlan m.dl_vlan)) _ _ e in
-    let b = if_none (is_some m.nw_tos && not (has_service m.dl_type)) _ _ a.1 in
-    let c = if_none (is_some m.nw_proto && not (has_network m.dl_type)) _ _ b.1 in
-    let d = if_none (is_some m.nw_src && not (has_network m.dl_type)) _ _ c.1 in
-    let f = if_none (is_some m.nw_dst && not (has_network m.dl_type)) _ _ d.1 in
-    let g = if_none (is_some m.tp_src && not (has_ports m.dl_type m.nw_proto)) _ _ f.1 in
-    let h = if_none (is_some m.tp_dst && not (has_ports m.dl_type m.nw_proto)) _ _ g.1 in
-    record { dl_vlan_pcp = a.0; nw_tos = b.0; nw_proto = c.0; nw_src = d.0; nw_dst = f.0; tp_src = g.0; tp_dst = h.0 }
-
-pub needed_is : {A : Type 0} (o : Option A) (needed : Bool) → (is_some o && not needed) ≡ false → IsSome o → IsTrue needed
-needed_is None needed e h = absurd (true≢false (sym h))
-needed_is (Some x) true e h = refl
-needed_is (Some x) false e h = absurd (true≢false e)
 
 kept_same : (exact needed : Bool) (o : Option ℕ) → (is_some o && not needed) ≡ false → (exact ≡ true → is_given o ≡ true) → kept exact needed o ≡ o
 kept_same exact true o e given = refl

@@ -1,15 +1,15 @@
 -- The rules that a policy text says. All of it is this proxy's own rule.
-use Rattle.std.specs.Prelude.{ℕ, zero, suc, ◌+◌, ◌%◌, ◌^◌, ◌&&◌, not, nat_eq, Bool, true, List, [], ◌∷◌, Option, Some, None, is_some, position, bytes_eq, Result, Ok, Err, codes, unwrap_or, if◌then◌else◌}
+use Rattle.std.specs.Prelude.{ℕ, zero, suc, ◌+◌, ◌%◌, ◌^◌, ◌&&◌, not, nat_eq, Bool, true, List, [], ◌∷◌, Option, Some, None, position, bytes_eq, Result, Ok, Err, codes, unwrap_or, if◌then◌else◌}
 use Rattle.std.specs.List.{list_any}
 use Rattle.toml.specs.Data.{Data, table, Items, no_items, item, Members}
 use Rattle.of10_model.specs.declared.pattern.Prefix.{Prefix}
 use Rattle.of10_model.specs.declared.pattern.Pattern.{Pattern}
-use Rattle.of10_model.specs.Normal.{has_vlan, has_network, has_service, has_ports}
 use Rattle.flowspace.specs.declared.fault.Field.{Field}
-use Rattle.flowspace.specs.declared.fault.Field.TheVariants.{Read, DlVlanPcp, NwTos, NwProto, NwSrc, NwDst, TpSrc, TpDst}
+use Rattle.flowspace.specs.declared.fault.Field.TheVariants.{Read}
 use Rattle.flowspace.specs.declared.fault.PolicyFault.TheVariants.{UnknownSlice}
 use Rattle.flowspace.specs.declared.rules.Rule.{Rule}
 use Rattle.flowspace.specs.declared.slices.Slice.{Slice}
+use Rattle.flowspace.specs.Rules.{first_improper}
 use Rattle.policy_text.specs.declared.fault.Part.TheVariants as part
 use Rattle.policy_text.specs.declared.fault.ReadFault.{ReadFault}
 use Rattle.policy_text.specs.declared.fault.ReadFault.TheVariants.{BadValue, Improper, Refused}
@@ -69,19 +69,6 @@ pattern_in this = do
   tp_src ← optional (number (UpTo 0xffff)) this (codes "tp_src")
   tp_dst ← optional (number (UpTo 0xffff)) this (codes "tp_dst")
   Ok (joined link nw_tos nw_proto nw_src nw_dst tp_src tp_dst)
-
--- the first field that is given without what it needs. Which field needs which is this proxy's own rule, after OpenFlow 1.0.0,
--- section 3.4.
-unfoldable pub first_improper : Pattern → Option Field
-first_improper m =
-    if is_some m.dl_vlan_pcp && not (has_vlan m.dl_vlan) then Some DlVlanPcp
-    else if is_some m.nw_tos && not (has_service m.dl_type) then Some NwTos
-    else if is_some m.nw_proto && not (has_network m.dl_type) then Some NwProto
-    else if is_some m.nw_src && not (has_network m.dl_type) then Some NwSrc
-    else if is_some m.nw_dst && not (has_network m.dl_type) then Some NwDst
-    else if is_some m.tp_src && not (has_ports m.dl_type m.nw_proto) then Some TpSrc
-    else if is_some m.tp_dst && not (has_ports m.dl_type m.nw_proto) then Some TpDst
-    else None
 
 -- ---- the names
 

@@ -1,15 +1,12 @@
 //! The match of a rule.
 
-ghost use Rattle.std.specs.Prelude.{◌≡◌};
 ghost use Rattle.policy_text.specs.Reading.{Gives};
-ghost use Rattle.policy_text.specs.Rules.{first_improper, link_in, pattern_in};
+ghost use Rattle.policy_text.specs.Rules.{link_in, pattern_in};
 ghost use Rattle.policy_text.specs.Views.{link_view, section};
 
 use crate::fault::ReadFault;
 use crate::section::Section;
 use crate::values::{Numbers, Numerals};
-use flowspace::Field;
-use of10_match::{has_network, has_ports, has_service, has_vlan};
 use of10_model::Pattern;
 
 /// The constraints on the link: where a packet came in, and its Ethernet header.
@@ -57,28 +54,4 @@ pub fn pattern_in(table: &Section<'_>) -> Result<Pattern, ReadFault>
         tp_src: table.number16(Numbers::UpTo(0xffff), "tp_src")?,
         tp_dst: table.number16(Numbers::UpTo(0xffff), "tp_dst")?,
     })
-}
-
-/// The first field that is given without what it needs.
-#[tactic(auto, unfolding(crate::specs::Rules::first_improper))]
-pub fn first_improper(m: &Pattern) -> Option<Field>
-    ensures { result ≡ first_improper m.now }
-{
-    if m.dl_vlan_pcp.is_some() && !has_vlan(m.dl_vlan) {
-        Some(Field::DlVlanPcp)
-    } else if m.nw_tos.is_some() && !has_service(m.dl_type) {
-        Some(Field::NwTos)
-    } else if m.nw_proto.is_some() && !has_network(m.dl_type) {
-        Some(Field::NwProto)
-    } else if m.nw_src.is_some() && !has_network(m.dl_type) {
-        Some(Field::NwSrc)
-    } else if m.nw_dst.is_some() && !has_network(m.dl_type) {
-        Some(Field::NwDst)
-    } else if m.tp_src.is_some() && !has_ports(m.dl_type, m.nw_proto) {
-        Some(Field::TpSrc)
-    } else if m.tp_dst.is_some() && !has_ports(m.dl_type, m.nw_proto) {
-        Some(Field::TpDst)
-    } else {
-        None
-    }
 }

@@ -9,10 +9,10 @@ ghost use Rattle.policy_text.specs.Views.{rule_text_view, section};
 
 use crate::fault::{Part, Place, ReadFault};
 use crate::names::{Names, are_different, bits, slots, writer};
-use crate::pattern::{first_improper, pattern_in};
+use crate::pattern::pattern_in;
 use crate::section::Section;
 use crate::values::{Numbers, Numerals, Texts};
-use flowspace::{Field, Rule, Text};
+use flowspace::{Field, Rule, Text, first_improper};
 use of10_match::Match;
 use of10_model::Pattern;
 use std::alloc::Global;
