@@ -1,9 +1,9 @@
 //! A table of the text, and what stands under its keys.
 
-ghost use Rattle.std.specs.Prelude.{◌≡◌, ◌<◌, ◌≤◌, ◌^◌, IfOk, IfSome, map, option_map};
+ghost use Rattle.std.specs.Prelude.{◌≡◌, ◌<◌, ◌≤◌, ◌^◌, Some, IfOk, IfSome, map, option_map};
 ghost use Rattle.toml.specs.Data.{get_member};
 ghost use Rattle.toml.specs.View.{items_view, view, table_view};
-ghost use Rattle.policy_text.specs.Reading.{Gives, addresses, greatest, is_known, is_link_key, is_network_key, known_keys, least, number, numeral, optional, place_of, required, some_tables, tables, text, text_list, unknown_keys};
+ghost use Rattle.policy_text.specs.Reading.{Gives, addresses, formed, greatest, is_known, is_link_key, is_network_key, known_keys, least, number, numeral, optional, place_of, required, some_tables, tables, text, text_list, unknown_keys};
 ghost use Rattle.policy_text.specs.Views.{section};
 
 use crate::fault::{Part, Place, ReadFault};
@@ -107,18 +107,33 @@ impl<'a> Section<'a> {
         }
     }
 
+    /// The value under a key that must be there.
+    fn needed(&self, key: &str) -> Result<&'a Value, ReadFault>
+        ensures { Gives (λ v. view v.now) result (required Some (section self.now) key.now) }
+    {
+        match member_of(self.table, key) {
+            None => Err(ReadFault::Missing(self.place(key)?)),
+            Some(value) => Ok(value),
+        }
+    }
+
+    /// What was read of the value under a key, which must be of its form.
+    fn good<T>(&self, key: &str, read: Option<T>) -> Result<T, ReadFault>
+        ensures { Gives (λ x. x) result (formed (place_of (section self.now) key.now) read) }
+    {
+        match read {
+            None => Err(ReadFault::BadValue(self.place(key)?)),
+            Some(x) => Ok(x),
+        }
+    }
+
     /// The number under a key that must be there.
     pub fn required_number(&self, numbers: Numbers, key: &str) -> Result<u32, ReadFault>
         ensures value { Gives (λ n. n) result (required (number numbers) (section self.now) key.now) }
         ensures limit { IfOk result (λ n. n ≤ greatest numbers) }
     {
-        match member_of(self.table, key) {
-            None => Err(ReadFault::Missing(self.place(key)?)),
-            Some(value) => match number(numbers, value) {
-                Some(n) => Ok(n),
-                None => Err(ReadFault::BadValue(self.place(key)?)),
-            },
-        }
+        let value = self.needed(key)?;
+        self.good(key, number(numbers, value))
     }
 
     /// The number under a key.
@@ -128,10 +143,7 @@ impl<'a> Section<'a> {
     {
         match member_of(self.table, key) {
             None => Ok(None),
-            Some(value) => match number(numbers, value) {
-                Some(n) => Ok(Some(n)),
-                None => Err(ReadFault::BadValue(self.place(key)?)),
-            },
+            Some(value) => Ok(Some(self.good(key, number(numbers, value))?)),
         }
     }
 
@@ -163,10 +175,7 @@ impl<'a> Section<'a> {
     {
         match member_of(self.table, key) {
             None => Ok(None),
-            Some(value) => match numeral(kind, value) {
-                Some(n) => Ok(Some(n)),
-                None => Err(ReadFault::BadValue(self.place(key)?)),
-            },
+            Some(value) => Ok(Some(self.good(key, numeral(kind, value))?)),
         }
     }
 
@@ -176,10 +185,7 @@ impl<'a> Section<'a> {
     {
         match member_of(self.table, key) {
             None => Ok(None),
-            Some(value) => match addresses(value) {
-                Some(prefix) => Ok(Some(prefix)),
-                None => Err(ReadFault::BadValue(self.place(key)?)),
-            },
+            Some(value) => Ok(Some(self.good(key, addresses(value))?)),
         }
     }
 
@@ -187,13 +193,8 @@ impl<'a> Section<'a> {
     pub fn required_text(&self, texts: Texts, key: &str) -> Result<&'a str, ReadFault>
         ensures { Gives (λ s. s.now) result (required (text texts) (section self.now) key.now) }
     {
-        match member_of(self.table, key) {
-            None => Err(ReadFault::Missing(self.place(key)?)),
-            Some(value) => match text(texts, value) {
-                Some(text) => Ok(text),
-                None => Err(ReadFault::BadValue(self.place(key)?)),
-            },
-        }
+        let value = self.needed(key)?;
+        self.good(key, text(texts, value))
     }
 
     /// The text under a key.
@@ -202,10 +203,7 @@ impl<'a> Section<'a> {
     {
         match member_of(self.table, key) {
             None => Ok(None),
-            Some(value) => match text(texts, value) {
-                Some(text) => Ok(Some(text)),
-                None => Err(ReadFault::BadValue(self.place(key)?)),
-            },
+            Some(value) => Ok(Some(self.good(key, text(texts, value))?)),
         }
     }
 
@@ -215,10 +213,7 @@ impl<'a> Section<'a> {
     {
         match member_of(self.table, key) {
             None => Ok(None),
-            Some(value) => match text_list(self.alloc, value)? {
-                Some(texts) => Ok(Some(texts)),
-                None => Err(ReadFault::BadValue(self.place(key)?)),
-            },
+            Some(value) => Ok(Some(self.good(key, text_list(self.alloc, value)?)?)),
         }
     }
 
@@ -228,10 +223,7 @@ impl<'a> Section<'a> {
     {
         match member_of(self.table, key) {
             None => Ok(None),
-            Some(value) => match tables(value) {
-                Some(tables) => Ok(Some(tables)),
-                None => Err(ReadFault::BadValue(self.place(key)?)),
-            },
+            Some(value) => Ok(Some(self.good(key, tables(value))?)),
         }
     }
 
@@ -239,12 +231,7 @@ impl<'a> Section<'a> {
     pub fn required_tables(&self, key: &str) -> Result<&'a [Value], ReadFault>
         ensures { Gives (λ v. items_view v.now) result (required some_tables (section self.now) key.now) }
     {
-        match member_of(self.table, key) {
-            None => Err(ReadFault::Missing(self.place(key)?)),
-            Some(value) => match some_tables(value) {
-                Some(tables) => Ok(tables),
-                None => Err(ReadFault::BadValue(self.place(key)?)),
-            },
-        }
+        let value = self.needed(key)?;
+        self.good(key, some_tables(value))
     }
 }
