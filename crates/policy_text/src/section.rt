@@ -1,9 +1,9 @@
 //! A table of the text, and what stands under its keys.
 
-ghost use Rattle.std.specs.Prelude.{◌≡◌, ◌<◌, ◌≤◌, ◌^◌, Some, IfOk, IfSome, map, option_map};
+ghost use Rattle.std.specs.Prelude.{◌≡◌, ◌<◌, ◌≤◌, ◌^◌, ◌⊎◌, Some, None, IfOk, IfErr, IfSome, map, option_map};
 ghost use Rattle.toml.specs.Data.{get_member};
 ghost use Rattle.toml.specs.View.{items_view, view, table_view};
-ghost use Rattle.policy_text.specs.Reading.{Gives, addresses, formed, greatest, is_known, is_link_key, is_network_key, known_keys, least, number, numeral, optional, place_of, required, some_tables, tables, text, text_list, unknown_keys};
+ghost use Rattle.policy_text.specs.Reading.{Gives, addresses, greatest, is_known, is_link_key, is_network_key, known_keys, least, number, numeral, optional, place_of, required, some_tables, tables, text, text_list, unknown_keys};
 ghost use Rattle.policy_text.specs.Views.{section};
 
 use crate::fault::{Part, Place, ReadFault};
@@ -107,22 +107,25 @@ impl<'a> Section<'a> {
         }
     }
 
-    /// The value under a key that must be there.
-    fn needed(&self, key: &str) -> Result<&'a Value, ReadFault>
-        ensures { Gives (λ v. view v.now) result (required Some (section self.now) key.now) }
+    /// What was read of the value under a key, which must be of its form where it is there.
+    fn good<T>(&self, key: &str, read: Option<Option<T>>) -> Result<Option<T>, ReadFault>
+        ensures value { IfOk result (λ o. option_map (λ x. Some x) o ≡ read) }
+        ensures fault { IfErr result (λ fault. (read ≡ Some None) × ((fault ≡ ReadFault.Memory) ⊎ (fault ≡ ReadFault.BadValue (place_of (section self.now) key.now)))) }
     {
-        match member_of(self.table, key) {
-            None => Err(ReadFault::Missing(self.place(key)?)),
-            Some(value) => Ok(value),
+        match read {
+            None => Ok(None),
+            Some(None) => Err(ReadFault::BadValue(self.place(key)?)),
+            Some(Some(x)) => Ok(Some(x)),
         }
     }
 
-    /// What was read of the value under a key, which must be of its form.
-    fn good<T>(&self, key: &str, read: Option<T>) -> Result<T, ReadFault>
-        ensures { Gives (λ x. x) result (formed (place_of (section self.now) key.now) read) }
+    /// What was read under a key that must be there.
+    fn needed<T>(&self, key: &str, read: Option<T>) -> Result<T, ReadFault>
+        ensures value { IfOk result (λ x. read ≡ Some x) }
+        ensures fault { IfErr result (λ fault. (read ≡ None) × ((fault ≡ ReadFault.Memory) ⊎ (fault ≡ ReadFault.Missing (place_of (section self.now) key.now)))) }
     {
         match read {
-            None => Err(ReadFault::BadValue(self.place(key)?)),
+            None => Err(ReadFault::Missing(self.place(key)?)),
             Some(x) => Ok(x),
         }
     }
@@ -132,8 +135,8 @@ impl<'a> Section<'a> {
         ensures value { Gives (λ n. n) result (required (number numbers) (section self.now) key.now) }
         ensures limit { IfOk result (λ n. n ≤ greatest numbers) }
     {
-        let value = self.needed(key)?;
-        self.good(key, number(numbers, value))
+        let read = member_of(self.table, key).map(|value| number(numbers, value));
+        self.needed(key, self.good(key, read)?)
     }
 
     /// The number under a key.
@@ -141,10 +144,10 @@ impl<'a> Section<'a> {
         ensures value { Gives (λ n. n) result (optional (number numbers) (section self.now) key.now) }
         ensures limit { IfOk result (λ o. IfSome o (λ n. n ≤ greatest numbers)) }
     {
-        match member_of(self.table, key) {
-            None => Ok(None),
-            Some(value) => Ok(Some(self.good(key, number(numbers, value))?)),
-        }
+        self.good(
+            key,
+            member_of(self.table, key).map(|value| number(numbers, value)),
+        )
     }
 
     /// The number of 16 bits under a key.
@@ -173,38 +176,38 @@ impl<'a> Section<'a> {
     pub fn numeral(&self, kind: Numerals, key: &str) -> Result<Option<u64>, ReadFault>
         ensures { Gives (λ n. n) result (optional (numeral kind) (section self.now) key.now) }
     {
-        match member_of(self.table, key) {
-            None => Ok(None),
-            Some(value) => Ok(Some(self.good(key, numeral(kind, value))?)),
-        }
+        self.good(
+            key,
+            member_of(self.table, key).map(|value| numeral(kind, value)),
+        )
     }
 
     /// The addresses under a key.
     pub fn addresses(&self, key: &str) -> Result<Option<Prefix>, ReadFault>
         ensures { Gives (λ p. p) result (optional addresses (section self.now) key.now) }
     {
-        match member_of(self.table, key) {
-            None => Ok(None),
-            Some(value) => Ok(Some(self.good(key, addresses(value))?)),
-        }
+        self.good(
+            key,
+            member_of(self.table, key).map(|value| addresses(value)),
+        )
     }
 
     /// The text under a key that must be there.
     pub fn required_text(&self, texts: Texts, key: &str) -> Result<&'a str, ReadFault>
         ensures { Gives (λ s. s.now) result (required (text texts) (section self.now) key.now) }
     {
-        let value = self.needed(key)?;
-        self.good(key, text(texts, value))
+        let read = member_of(self.table, key).map(|value| text(texts, value));
+        self.needed(key, self.good(key, read)?)
     }
 
     /// The text under a key.
     pub fn text(&self, texts: Texts, key: &str) -> Result<Option<&'a str>, ReadFault>
         ensures { Gives (option_map (λ s. s.now)) result (optional (text texts) (section self.now) key.now) }
     {
-        match member_of(self.table, key) {
-            None => Ok(None),
-            Some(value) => Ok(Some(self.good(key, text(texts, value))?)),
-        }
+        self.good(
+            key,
+            member_of(self.table, key).map(|value| text(texts, value)),
+        )
     }
 
     /// The texts of the array under a key.
@@ -213,7 +216,7 @@ impl<'a> Section<'a> {
     {
         match member_of(self.table, key) {
             None => Ok(None),
-            Some(value) => Ok(Some(self.good(key, text_list(self.alloc, value)?)?)),
+            Some(value) => self.good(key, Some(text_list(self.alloc, value)?)),
         }
     }
 
@@ -221,17 +224,14 @@ impl<'a> Section<'a> {
     pub fn tables(&self, key: &str) -> Result<Option<&'a [Value]>, ReadFault>
         ensures { Gives (option_map (λ v. items_view v.now)) result (optional tables (section self.now) key.now) }
     {
-        match member_of(self.table, key) {
-            None => Ok(None),
-            Some(value) => Ok(Some(self.good(key, tables(value))?)),
-        }
+        self.good(key, member_of(self.table, key).map(|value| tables(value)))
     }
 
     /// The tables, one or more, of the array under a key that must be there.
     pub fn required_tables(&self, key: &str) -> Result<&'a [Value], ReadFault>
         ensures { Gives (λ v. items_view v.now) result (required some_tables (section self.now) key.now) }
     {
-        let value = self.needed(key)?;
-        self.good(key, some_tables(value))
+        let read = member_of(self.table, key).map(|value| some_tables(value));
+        self.needed(key, self.good(key, read)?)
     }
 }
