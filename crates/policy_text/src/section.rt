@@ -144,10 +144,8 @@ impl<'a> Section<'a> {
         ensures value { Gives (λ n. n) result (optional (number numbers) (section self.now) key.now) }
         ensures limit { IfOk result (λ o. IfSome o (λ n. n ≤ greatest numbers)) }
     {
-        self.good(
-            key,
-            member_of(self.table, key).map(|value| number(numbers, value)),
-        )
+        let read = member_of(self.table, key).map(|value| number(numbers, value));
+        self.good(key, read)
     }
 
     /// The number of 16 bits under a key.
@@ -176,20 +174,16 @@ impl<'a> Section<'a> {
     pub fn numeral(&self, kind: Numerals, key: &str) -> Result<Option<u64>, ReadFault>
         ensures { Gives (λ n. n) result (optional (numeral kind) (section self.now) key.now) }
     {
-        self.good(
-            key,
-            member_of(self.table, key).map(|value| numeral(kind, value)),
-        )
+        let read = member_of(self.table, key).map(|value| numeral(kind, value));
+        self.good(key, read)
     }
 
     /// The addresses under a key.
     pub fn addresses(&self, key: &str) -> Result<Option<Prefix>, ReadFault>
         ensures { Gives (λ p. p) result (optional addresses (section self.now) key.now) }
     {
-        self.good(
-            key,
-            member_of(self.table, key).map(|value| addresses(value)),
-        )
+        let read = member_of(self.table, key).map(|value| addresses(value));
+        self.good(key, read)
     }
 
     /// The text under a key that must be there.
@@ -204,10 +198,8 @@ impl<'a> Section<'a> {
     pub fn text(&self, texts: Texts, key: &str) -> Result<Option<&'a str>, ReadFault>
         ensures { Gives (option_map (λ s. s.now)) result (optional (text texts) (section self.now) key.now) }
     {
-        self.good(
-            key,
-            member_of(self.table, key).map(|value| text(texts, value)),
-        )
+        let read = member_of(self.table, key).map(|value| text(texts, value));
+        self.good(key, read)
     }
 
     /// The texts of the array under a key.
@@ -224,7 +216,8 @@ impl<'a> Section<'a> {
     pub fn tables(&self, key: &str) -> Result<Option<&'a [Value]>, ReadFault>
         ensures { Gives (option_map (λ v. items_view v.now)) result (optional tables (section self.now) key.now) }
     {
-        self.good(key, member_of(self.table, key).map(|value| tables(value)))
+        let read = member_of(self.table, key).map(|value| tables(value));
+        self.good(key, read)
     }
 
     /// The tables, one or more, of the array under a key that must be there.
