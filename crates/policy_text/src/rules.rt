@@ -7,12 +7,12 @@ ghost use Rattle.policy_text.specs.Reading.{Gives};
 ghost use Rattle.policy_text.specs.Rules.{names_under, proper, rule_from, rule_in, rule_of, rule_text_in, rules_from};
 ghost use Rattle.policy_text.specs.Views.{rule_text_view, section};
 
-use crate::fault::{Part, Place, ReadFault};
+use crate::fault::{Part, ReadFault};
 use crate::names::{Names, are_different, bits, slots, writer};
 use crate::pattern::pattern_in;
 use crate::section::Section;
 use crate::values::{Numbers, Numerals, Texts};
-use flowspace::{Field, Rule, Text, first_improper};
+use flowspace::{Field, Rule, first_improper};
 use of10_match::Match;
 use of10_model::Pattern;
 use std::alloc::Global;
@@ -105,22 +105,10 @@ fn rule_of<'a>(
 ) -> Result<Rule, ReadFault>
     ensures { Gives (λ r. r) result (rule_of names.now index (view value.now)) }
 {
-    match value.as_table() {
-        Some(table) => rule_in(
-            names,
-            &Section {
-                alloc,
-                part: Part::Rule,
-                index,
-                table,
-            },
-        ),
-        None => Err(ReadFault::BadValue(Place {
-            part: Part::Top,
-            index: 0,
-            key: Text::of(alloc, "rule")?,
-        })),
-    }
+    rule_in(
+        names,
+        &Section::of(alloc, "rule", Part::Rule, index, value)?,
+    )
 }
 
 /// The rules of the items, which name these slices.

@@ -1,7 +1,7 @@
 //! A table of the text, and what stands under its keys.
 
 ghost use Rattle.std.specs.Prelude.{◌≡◌, ◌<◌, ◌≤◌, ◌^◌, ◌⊎◌, Some, None, IfOk, IfErr, IfSome, map, option_map};
-ghost use Rattle.toml.specs.Data.{get_member};
+ghost use Rattle.toml.specs.Data.{as_table, get_member};
 ghost use Rattle.toml.specs.View.{items_view, view, table_view};
 ghost use Rattle.policy_text.specs.Reading.{Gives, addresses, greatest, is_known, is_link_key, is_network_key, known_keys, least, number, numeral, optional, place_of, required, some_tables, tables, text, text_list, unknown_keys};
 ghost use Rattle.policy_text.specs.Views.{section};
@@ -87,6 +87,33 @@ fn least_unknown(part: Part, table: &Table) -> Option<&str>
 }
 
 impl<'a> Section<'a> {
+    /// The table that an item of the array under a key is.
+    pub fn of(
+        alloc: Global,
+        key: &str,
+        part: Part,
+        index: u64,
+        value: &'a Value,
+    ) -> Result<Section<'a>, ReadFault>
+        ensures table { IfOk result (λ s. as_table (view value.now) ≡ Some (section s).members) }
+        ensures which { IfOk result (λ s. (s.part ≡ part) × (s.index ≡ index)) }
+        ensures fault { IfErr result (λ fault. (as_table (view value.now) ≡ None) × ((fault ≡ ReadFault.Memory) ⊎ (fault ≡ ReadFault.BadValue (record { part = Part.Top; index = 0; key = key.now })))) }
+    {
+        match value.as_table() {
+            Some(table) => Ok(Section {
+                alloc,
+                part,
+                index,
+                table,
+            }),
+            None => Err(ReadFault::BadValue(Place {
+                part: Part::Top,
+                index: 0,
+                key: Text::of(alloc, key)?,
+            })),
+        }
+    }
+
     fn place(&self, key: &str) -> Result<Place, AllocError>
         ensures { IfOk result (λ p. p ≡ place_of (section self.now) key.now) }
     {

@@ -5,7 +5,7 @@ ghost use Rattle.policy_text.specs.Reading.{Gives};
 ghost use Rattle.policy_text.specs.Slices.{slice_in, slice_of, slices_from};
 ghost use Rattle.policy_text.specs.Views.{section};
 
-use crate::fault::{Part, Place, ReadFault};
+use crate::fault::{Part, ReadFault};
 use crate::section::Section;
 use crate::values::{Numbers, Texts};
 use flowspace::{Slice, Text, limits};
@@ -41,19 +41,7 @@ fn slice_in(table: &Section<'_>) -> Result<Slice, ReadFault>
 fn slice_of(alloc: Global, index: u64, value: &Value) -> Result<Slice, ReadFault>
     ensures { Gives (λ s. s) result (slice_of index (view value.now)) }
 {
-    match value.as_table() {
-        Some(table) => slice_in(&Section {
-            alloc,
-            part: Part::Slice,
-            index,
-            table,
-        }),
-        None => Err(ReadFault::BadValue(Place {
-            part: Part::Top,
-            index: 0,
-            key: Text::of(alloc, "slice")?,
-        })),
-    }
+    slice_in(&Section::of(alloc, "slice", Part::Slice, index, value)?)
 }
 
 /// The slices of the items.

@@ -1,8 +1,7 @@
 -- The latest moment of a view is the greatest of the moments of its items.
 use Rattle.std.proofs.Common.{◌≡◌, ◌≤◌, ◌⊎◌, ℕ, ◌<◌, true, false, leb, List, [], ◌∷◌, max, All, Contains, refl, arith, inl, inr}
 use Rattle.std.proofs.lemmas.Bool.Decides.{leb_tells}
-use Rattle.std.proofs.lemmas.List.Elements.{All-nil, All-cons, All-weaker}
-use Rattle.flow_book.proofs.Histories.{contains_later}
+use Rattle.std.proofs.lemmas.List.Elements.{All-nil, All-cons, All-weaker, Contains-append_right}
 use Rattle.rate_bucket.specs.Rates.{latest}
 use Rattle.slice_words.specs.Items.{Item, moments}
 use Rattle.slice_words.specs.Laws.{IsAtLeastEach, IsOneOrZero}
@@ -30,7 +29,7 @@ greater moment greatest = either (leb_tells moment greatest)
 one_before : (moment greatest : ℕ) (rest : List ℕ) → Contains rest greatest ⊎ ((rest ≡ []) × (greatest ≡ 0)) → (max moment greatest ≡ moment) ⊎ (max moment greatest ≡ greatest)
     → Contains (moment ∷ rest) (max moment greatest) ⊎ ((moment ∷ rest ≡ []) × (max moment greatest ≡ 0))
 one_before moment greatest rest before (inl own) = inl (rw own (0, omega arith, refl))
-one_before moment greatest rest (inl among) (inr other) = inl (rw other (contains_later moment rest greatest among))
+one_before moment greatest rest (inl among) (inr other) = inl (rw other (Contains-append_right (moment ∷ []) rest greatest among))
 one_before moment greatest rest (inr none) (inr other) = inl (0, omega arith, omega (arith, other, none.1))
 
 one_of : (asked : List ℕ) → Contains asked (latest asked) ⊎ ((asked ≡ []) × (latest asked ≡ 0))
