@@ -1,9 +1,10 @@
 -- The slices that a printed rule names are found again.
-use Rattle.std.proofs.Common.{◌≡◌, ◌≢◌, ℕ, zero, suc, ◌+◌, ◌*◌, ◌/◌, ◌%◌, ◌^◌, ◌<◌, ◌≤◌, ◌==◌, Bool, true, false, cond, nat_eq, lt-ltb, eq-eqb, eqb-true, List, [], ◌∷◌, length, get_or, AllPairs, Some, position, bytes_eq, Ok, refl, sym, ap, subst, ◌∙◌, inl, inr, arith}
+use Rattle.std.proofs.Common.{◌≡◌, ◌≢◌, ℕ, zero, suc, ◌+◌, ◌*◌, ◌/◌, ◌%◌, ◌^◌, ◌<◌, ◌≤◌, ◌==◌, Bool, true, false, cond, nat_eq, lt-ltb, eq-eqb, eqb-true, List, [], ◌∷◌, length, get_or, drop, AllPairs, Some, position, bytes_eq, Ok, refl, sym, ap, subst, ◌∙◌, inl, inr, arith}
 use Rattle.std.specs.Cmp.Lexicographic.{bytes_decides}
 use Rattle.std.specs.List.{list_any}
 use Rattle.std.proofs.Math.Nat.{div-div-eq-div-mul, zero-div, pow-succ'}
 use Rattle.std.proofs.Math.Pow.{pow_mono}
+use Rattle.std.proofs.Math.Seq.{drop-cons}
 use Rattle.std.proofs.lemmas.Grind.{pow_more}
 use Rattle.std.proofs.lemmas.Bool.{cases_Bool}
 use Rattle.std.proofs.lemmas.Bool.Decides.{nat_tests}
@@ -12,6 +13,7 @@ use Rattle.std.proofs.lemmas.Nat.{mod-pow-add}
 use Rattle.flowspace.specs.declared.slices.Slice.{Slice}
 use Rattle.policy_text.specs.Rules.{slot_of, named, slots_of, are_different, bits_below}
 use Rattle.policy_text.specs.Printing.{name_at, names_in}
+use Rattle.of10_model.specs.Normal.{bit}
 use Rattle.of10_model.proofs.Results.{bind_is}
 
 -- ---- names
@@ -149,3 +151,10 @@ readers_back slices index bits differ few lt =
     let most : 2 ^ length slices ≤ 2 ^ 32 = pow_mono few in
     let small : bits % 2 ^ 32 ≡ bits = omega (arith, lt, most) in
     record { slots = slots; found = slots_back slices index 0 bits slices stand; different = different_back 0 bits slices; whole = low_bits 32 bits slots has ∙ small }
+
+-- the names of the slices from a slot on are those from the next slot on, behind its own where its bit is set
+pub names_step : (bits slot : ℕ) (slices : List Slice) (d : Slice) → slot < length slices → names_in (bits / 2 ^ slot) (drop slot slices) ≡ cond (bit bits slot) ((get_or slices slot d).name ∷ names_in (bits / 2 ^ (slot + 1)) (drop (slot + 1) slices)) (names_in (bits / 2 ^ (slot + 1)) (drop (slot + 1) slices))
+names_step bits slot slices d lt =
+    let next : slot + 1 ≡ suc slot = omega arith in
+    let half : bits / 2 ^ (slot + 1) ≡ bits / 2 ^ slot / 2 = ap (λ p. bits / p) (pow_more 2 slot) ∙ sym (div-div-eq-div-mul bits (2 ^ slot) 2) in
+    rw (drop-cons slices slot d lt, half, next) refl

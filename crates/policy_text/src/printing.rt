@@ -6,13 +6,14 @@ ghost use Rattle.toml.specs.View.{items_of};
 ghost use Rattle.toml_writer.specs.Text.{string_text};
 ghost use Rattle.std.specs.List.{AllByRecursion};
 ghost use Rattle.address_text.specs.Texts.{hardware_text, hex_text, prefix_text};
+ghost use Rattle.of10_model.specs.Normal.{bit};
 ghost use Rattle.flowspace.specs.Policies.{IsPolicy};
 ghost use Rattle.policy_text.specs.Documents.{document_of, policy_of};
 ghost use Rattle.policy_text.specs.Printing.{IsHeld, entries_text, entry_text, items_text, link_entries, name_at, names, names_in, network_entries, number_value, own_entries, rule_text, rules_text, slice_text, slices_text, text_of, text_value, unless_default};
 
 use crate::slices::{BURST, QUOTA, RATE};
 use address_text::{datapath_text, hardware_text, prefix_text};
-use flowspace::{Policy, Rule, Slice};
+use flowspace::{Policy, Rule, Slice, has_slot};
 use of10_action::Bytes;
 use of10_model::{Pattern, Prefix};
 use std::alloc::{AllocError, Global};
@@ -177,18 +178,24 @@ fn name_at(slices: &[Slice], slot: Option<u8>) -> Option<&str>
     }
 }
 
+#[tactic(auto, using(flowspace::proofs::Bits::no_bit))]
+fn is_among(slots: u32, place: usize) -> bool
+    ensures { result ≡ bit slots place }
+{
+    match u8::try_from(place) {
+        Ok(slot) => has_slot(slots, slot),
+        Err(_) => false,
+    }
+}
+
 fn names_in(alloc: Global, bits: u32, slices: &[Slice]) -> Result<Vec<&str>, AllocError>
     ensures { IfOk result (λ v. map (λ s. s.now) v.items ≡ names_in bits slices.now) }
 {
     let mut names = Vec::new(alloc);
-    let mut left = bits;
-    let mut rest = slices;
-    while let [slice, after @ ..] = rest {
-        if left % 2 == 1 {
+    for (slot, slice) in slices.iter().enumerate() {
+        if is_among(bits, slot) {
             names.push(slice.name.as_str())?;
         }
-        left /= 2;
-        rest = after;
     }
     Ok(names)
 }
