@@ -9,24 +9,12 @@ use Rattle.policy_text.specs.declared.fault.ReadFault.{ReadFault}
 use Rattle.policy_text.specs.Firsts.{AreReadAs, IsFirstRefused, StandsIn}
 use Rattle.of10_model.specs.Results.{◌>>=◌}
 use Rattle.of10_model.proofs.Results.{bind_err, others_wrong}
+use Rattle.policy_text.specs.Reading.{reads}
 use Rattle.policy_text.specs.Rules.{rule_section, rule_of, rules_from}
 use Rattle.policy_text.specs.Slices.{slice_section, slice_of, slices_from}
 use Rattle.policy_text.proofs.Faults.{Has, OfKeys, slice_has, OfRule, rule_has}
 
 -- ---- items in order
-
--- what items are read as from an index on, each by the same reading
-abbrev reads : {A : Type 0} → (ℕ → Data → Result A ReadFault) → ℕ → Items → Result (List A) ReadFault
-reads read k no_items = Ok []
-reads read k (item d rest) = read k d >>= (λ x. reads read (suc k) rest >>= (λ xs. Ok (x ∷ xs)))
-
-slices_reads : (k : ℕ) (items : Items) → slices_from k items ≡ reads slice_of k items
-slices_reads k no_items = refl
-slices_reads k (item d rest) = rw (slices_reads (suc k) rest) refl
-
-rules_reads : (slices : List Slice) (k : ℕ) (items : Items) → rules_from slices k items ≡ reads (rule_of slices) k items
-rules_reads slices k no_items = refl
-rules_reads slices k (item d rest) = rw (rules_reads slices (suc k) rest) refl
 
 abbrev next : {A : Type 0} → (ℕ → Data → Result A ReadFault) → ℕ → Data → Result A ReadFault
 next read i d = read (suc i) d
@@ -114,20 +102,16 @@ refused_at read (item d rest) fault (suc index) refused there e h =
     reads_step read d rest ∙ rw (first.1, more) refl
 
 pub slices_read : (items : Items) (slices : List Slice) → (slices_from 0 items ≡ Ok slices) ↔ AreReadAs slice_of items slices
-slices_read items slices =
-    (λ e. read_each slice_of items slices (sym (slices_reads 0 items) ∙ e), λ h. slices_reads 0 items ∙ each_read slice_of items slices h)
+slices_read items slices = (read_each slice_of items slices, each_read slice_of items slices)
 
 pub slices_refused : (items : Items) (fault : ReadFault) → (slices_from 0 items ≡ Err fault) ↔ IsFirstRefused slice_of items fault
-slices_refused items fault =
-    (λ e. first_refused slice_of items fault (sym (slices_reads 0 items) ∙ e), λ h. slices_reads 0 items ∙ refused_at slice_of items fault h.index h.refused h.there h.fault_is h.earlier)
+slices_refused items fault = (first_refused slice_of items fault, λ h. refused_at slice_of items fault h.index h.refused h.there h.fault_is h.earlier)
 
 pub rules_read : (slices : List Slice) (items : Items) (rules : List Rule) → (rules_from slices 0 items ≡ Ok rules) ↔ AreReadAs (rule_of slices) items rules
-rules_read slices items rules =
-    (λ e. read_each (rule_of slices) items rules (sym (rules_reads slices 0 items) ∙ e), λ h. rules_reads slices 0 items ∙ each_read (rule_of slices) items rules h)
+rules_read slices items rules = (read_each (rule_of slices) items rules, each_read (rule_of slices) items rules)
 
 pub rules_refused : (slices : List Slice) (items : Items) (fault : ReadFault) → (rules_from slices 0 items ≡ Err fault) ↔ IsFirstRefused (rule_of slices) items fault
-rules_refused slices items fault =
-    (λ e. first_refused (rule_of slices) items fault (sym (rules_reads slices 0 items) ∙ e), λ h. rules_reads slices 0 items ∙ refused_at (rule_of slices) items fault h.index h.refused h.there h.fault_is h.earlier)
+rules_refused slices items fault = (first_refused (rule_of slices) items fault, λ h. refused_at (rule_of slices) items fault h.index h.refused h.there h.fault_is h.earlier)
 
 -- ---- where a fault stands
 

@@ -8,6 +8,7 @@ pub mod SoundPatterns
 pub mod Sound
 pub mod Keys
 pub mod Faults
+pub mod Arrays
 pub mod Refusals
 pub mod Appending
 pub mod PrintedNodes

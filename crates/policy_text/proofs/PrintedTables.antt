@@ -23,7 +23,7 @@ use Rattle.policy_text.specs.declared.values.Numerals.TheVariants.{Datapath, Har
 use Rattle.policy_text.specs.declared.values.Texts.TheVariants.{Name, Controller, Any}
 use Rattle.of10_model.specs.Results.{◌>>=◌}
 use Rattle.of10_model.proofs.Results.{bind_is}
-use Rattle.policy_text.specs.Reading.{SectionView, place_of, least, no_unknown, known_keys, formed, demanded, allowed, required, optional, when, is_number, number, is_text, text, each_text, text_list, numeral, addresses}
+use Rattle.policy_text.specs.Reading.{SectionView, place_of, least, no_unknown, known_keys, formed, demanded, allowed, required, optional, when, is_number, number, is_text, text, each_text, text_list, numeral, addresses, reads}
 use Rattle.policy_text.specs.Slices.{slice_in, slice_of, slices_from}
 use Rattle.policy_text.specs.Rules.{link_in, pattern_in, slot_of, named, writer_of, are_different, bits_below, no_improper, proper, RuleText, names_under, rule_text_in, rule_from, rule_in, rule_of, rules_from}
 use Rattle.address_text.specs.Texts.{hex_text, hardware_text, prefix_text}
@@ -256,11 +256,15 @@ rule_back slices index r known plain held writer readers =
 
 -- ---- all of them
 
+reads_back : {A : Type 0} (read : ℕ → Data → Result A ReadFault) (entries_of : A → List Entry) (P : A → Type 0) → ((index : ℕ) (x : A) → P x → read index (table_of (entries_of x)) ≡ Ok x)
+    → (index : ℕ) (xs : List A) → AllByRecursion P xs → reads read index (items_of (map table_of (map entries_of xs))) ≡ Ok xs
+reads_back read entries_of P each index [] holds = refl
+reads_back read entries_of P each index (x ∷ rest) holds =
+    bind_is (read index (table_of (entries_of x))) _ x _ (each index x holds.0)
+    (bind_is (reads read (suc index) (items_of (map table_of (map entries_of rest)))) _ rest _ (reads_back read entries_of P each (suc index) rest holds.1) refl)
+
 pub slices_back : (index : ℕ) (slices : List Slice) → AllByRecursion IsPlainSlice slices → slices_from index (items_of (map table_of (map slice_entries slices))) ≡ Ok slices
-slices_back index [] plain = refl
-slices_back index (s ∷ rest) plain =
-    bind_is (slice_of index (table_of (slice_entries s))) _ s _ (slice_back index s plain.0)
-    (bind_is (slices_from (suc index) (items_of (map table_of (map slice_entries rest)))) _ rest _ (slices_back (suc index) rest plain.1) refl)
+slices_back = reads_back slice_of slice_entries IsPlainSlice slice_back
 
 -- what holds of a rule that is printed
 pub record IsPrintable (slices : List Slice) (r : Rule) : Type 0 where
@@ -270,7 +274,5 @@ pub record IsPrintable (slices : List Slice) (r : Rule) : Type 0 where
   pub readers : r.readers < 2 ^ length slices
 
 pub rules_back : (slices : List Slice) (index : ℕ) (rules : List Rule) → AreNamed slices → AllByRecursion (IsPrintable slices) rules → rules_from slices index (items_of (map table_of (map (rule_entries slices) rules))) ≡ Ok rules
-rules_back slices index [] known each = refl
-rules_back slices index (r ∷ rest) known each =
-    bind_is (rule_of slices index (table_of (rule_entries slices r))) _ r _ (rule_back slices index r known each.0.plain each.0.held each.0.writer each.0.readers)
-    (bind_is (rules_from slices (suc index) (items_of (map table_of (map (rule_entries slices) rest)))) _ rest _ (rules_back slices (suc index) rest known each.1) refl)
+rules_back slices index rules known =
+    reads_back (rule_of slices) (rule_entries slices) (IsPrintable slices) (λ at r is. rule_back slices at r known is.plain is.held is.writer is.readers) index rules

@@ -1,6 +1,6 @@
 -- No reading is refused for want of memory.
-use Rattle.std.proofs.Common.{◌≢◌, ℕ, suc, Bool, is_some, List, Result, Ok, Err, IfErr, codes, unwrap_or}
-use Rattle.toml.specs.Data.{Data, string, integer, float, boolean, datetime, array, table, Items, no_items, item, Members}
+use Rattle.std.proofs.Common.{◌≢◌, ℕ, Bool, is_some, List, Result, Ok, Err, IfErr, codes, unwrap_or}
+use Rattle.toml.specs.Data.{Data, no_items, Members}
 use Rattle.flowspace.specs.declared.fault.PolicyFault.TheVariants as policy
 use Rattle.flowspace.specs.declared.slices.Slice.{Slice}
 use Rattle.flowspace.specs.Policies.{PolicyView}
@@ -12,6 +12,7 @@ use Rattle.policy_text.specs.Reading.{Gives, SectionView, known_keys, required, 
 use Rattle.policy_text.specs.Slices.{slice_section, slice_of, slices_from}
 use Rattle.policy_text.specs.Rules.{rule_section, rule_of, rules_from}
 use Rattle.policy_text.specs.Documents.{parts_in}
+use Rattle.policy_text.proofs.Arrays.{of_tables, reads_has}
 use Rattle.policy_text.proofs.Faults.{Has, bind_has, OfValue, OfMissing, OfKeys, required_has, optional_has, known_has, slice_has, OfRule, rule_has}
 
 -- the fault isn't a refusal for want of memory
@@ -41,30 +42,10 @@ rule_own index ms = record {
 }
 
 slice_of_own : (index : ℕ) (d : Data) → HasOwn (slice_of index d)
-slice_of_own index (table ms) = slice_has IsOwn index ms (keys_own (slice_section index ms))
-slice_of_own index (string x) = λ e. absurd cc
-slice_of_own index (integer x) = λ e. absurd cc
-slice_of_own index (float x) = λ e. absurd cc
-slice_of_own index (boolean x) = λ e. absurd cc
-slice_of_own index (datetime x) = λ e. absurd cc
-slice_of_own index (array x) = λ e. absurd cc
-
-slices_own : (index : ℕ) (ds : Items) → HasOwn (slices_from index ds)
-slices_own index no_items = tt
-slices_own index (item d ds) = bind_has IsOwn (slice_of index d) _ (slice_of_own index d) (λ _. bind_has IsOwn (slices_from (suc index) ds) _ (slices_own (suc index) ds) (λ _. tt))
+slice_of_own index d = of_tables HasOwn _ _ (λ ms. slice_has IsOwn index ms (keys_own (slice_section index ms))) (λ e. absurd cc) d
 
 rule_of_own : (slices : List Slice) (index : ℕ) (d : Data) → HasOwn (rule_of slices index d)
-rule_of_own slices index (table ms) = rule_has IsOwn slices index ms (keys_own (rule_section index ms)) (rule_own index ms)
-rule_of_own slices index (string x) = λ e. absurd cc
-rule_of_own slices index (integer x) = λ e. absurd cc
-rule_of_own slices index (float x) = λ e. absurd cc
-rule_of_own slices index (boolean x) = λ e. absurd cc
-rule_of_own slices index (datetime x) = λ e. absurd cc
-rule_of_own slices index (array x) = λ e. absurd cc
-
-rules_own : (slices : List Slice) (index : ℕ) (ds : Items) → HasOwn (rules_from slices index ds)
-rules_own slices index no_items = tt
-rules_own slices index (item d ds) = bind_has IsOwn (rule_of slices index d) _ (rule_of_own slices index d) (λ _. bind_has IsOwn (rules_from slices (suc index) ds) _ (rules_own slices (suc index) ds) (λ _. tt))
+rule_of_own slices index d = of_tables HasOwn _ _ (λ ms. rule_has IsOwn slices index ms (keys_own (rule_section index ms)) (rule_own index ms)) (λ e. absurd cc) d
 
 -- ---- the whole
 
@@ -75,8 +56,8 @@ parts_own this =
     bind_has IsOwn (known_keys this) _ (known_has IsOwn this (keys_own this)) (λ _.
     bind_has IsOwn (required some_tables this (codes "slice")) _ (required_has IsOwn some_tables this (codes "slice") (missing_own this (codes "slice")) (value_own this (codes "slice") (λ d. is_some (some_tables d)))) (λ items.
     bind_has IsOwn (optional tables this (codes "rule")) _ (optional_has IsOwn tables this (codes "rule") (value_own this (codes "rule") (λ d. is_some (tables d)))) (λ others.
-    bind_has IsOwn (slices_from 0 items) _ (slices_own 0 items) (λ slices.
-    bind_has IsOwn (rules_from slices 0 (unwrap_or others no_items)) _ (rules_own slices 0 (unwrap_or others no_items)) (λ _. tt))))))
+    bind_has IsOwn (slices_from 0 items) _ (reads_has IsOwn slice_of slice_of_own 0 items) (λ slices.
+    bind_has IsOwn (rules_from slices 0 (unwrap_or others no_items)) _ (reads_has IsOwn (rule_of slices) (rule_of_own slices) 0 (unwrap_or others no_items)) (λ _. tt))))))
 
 given_own : {X : Type 0} (view : X → PolicyView) (r : Result X ReadFault) (read : Result PolicyView ReadFault) → Gives view r read → HasOwn read → HasOwn r
 given_own view (Ok x) read given own = tt

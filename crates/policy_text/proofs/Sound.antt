@@ -1,5 +1,5 @@
 -- The slices and the rules that a text says are plain.
-use Rattle.std.proofs.Common.{◌≡◌, ℕ, suc, ◌≤◌, Bool, true, false, ◌&&◌, cond, nat_le, leb-true, List, [], ◌∷◌, length, Option, Some, None, IfSome, Ok, codes, unwrap_or, refl, subst, arith}
+use Rattle.std.proofs.Common.{◌≡◌, ℕ, suc, ◌≤◌, Bool, true, false, ◌&&◌, cond, nat_le, leb-true, List, ◌∷◌, length, Option, Some, None, IfSome, Ok, codes, unwrap_or, refl, subst, arith}
 use Rattle.std.specs.List.{AllByRecursion}
 use Rattle.std.proofs.lemmas.Bool.{and_parts}
 use Rattle.std.proofs.lemmas.List.Elements.{All-from_recursion}
@@ -22,6 +22,7 @@ use Rattle.policy_text.specs.Rules.{are_different, bits_below, writer_of, slots_
 use Rattle.policy_text.specs.Documents.{top, parts_in, parts_of, ArePlain}
 use Rattle.std.proofs.lemmas.Option.{cond_some}
 use Rattle.of10_model.proofs.Results.{bind_ok, bind_is, ok_is}
+use Rattle.policy_text.proofs.Arrays.{of_tables, reads_sound}
 use Rattle.policy_text.proofs.Steps.{optional_holds, required_holds, number_is, text_is}
 use Rattle.policy_text.proofs.RuleParts.{rule_read}
 use Rattle.policy_text.proofs.SoundPatterns.{IsWritten, pattern_sound}
@@ -77,20 +78,10 @@ slice_sound this s e =
     })
 
 slice_of_sound : (index : ℕ) (d : Data) (s : Slice) → slice_of index d ≡ Ok s → IsPlainSlice s
-slice_of_sound index (table ms) s e = slice_sound (slice_section index ms) s e
-slice_of_sound index (string x) s e = absurd cc
-slice_of_sound index (integer x) s e = absurd cc
-slice_of_sound index (float x) s e = absurd cc
-slice_of_sound index (boolean x) s e = absurd cc
-slice_of_sound index (datetime x) s e = absurd cc
-slice_of_sound index (array x) s e = absurd cc
+slice_of_sound index d s = of_tables (λ r. r ≡ Ok s → IsPlainSlice s) _ _ (λ ms. slice_sound (slice_section index ms) s) (λ e. absurd cc) d
 
 slices_sound : (index : ℕ) (ds : Items) (ss : List Slice) → slices_from index ds ≡ Ok ss → AllByRecursion IsPlainSlice ss
-slices_sound index no_items ss e = subst (AllByRecursion IsPlainSlice) (ok_is [] ss e) tt
-slices_sound index (item d ds) ss e =
-    let a = bind_ok (slice_of index d) _ ss e in
-    let b = bind_ok (slices_from (suc index) ds) _ ss a.2 in
-    subst (AllByRecursion IsPlainSlice) (ok_is (a.0 ∷ b.0) ss b.2) (slice_of_sound index d a.0 a.1, slices_sound (suc index) ds b.0 b.1)
+slices_sound = reads_sound IsPlainSlice slice_of slice_of_sound
 
 some_slices : (index : ℕ) (ds : Items) (ss : List Slice) → has_items ds ≡ true → slices_from index ds ≡ Ok ss → 1 ≤ length ss
 some_slices index no_items ss some e = absurd cc
@@ -147,20 +138,10 @@ rule_sound slices this r e =
     from_sound slices this.index a.0 r (text_sound this a.0 a.1) a.2
 
 rule_of_sound : (slices : List Slice) (index : ℕ) (d : Data) (r : Rule) → rule_of slices index d ≡ Ok r → IsPlainRule r
-rule_of_sound slices index (table ms) r e = rule_sound slices (rule_section index ms) r e
-rule_of_sound slices index (string x) r e = absurd cc
-rule_of_sound slices index (integer x) r e = absurd cc
-rule_of_sound slices index (float x) r e = absurd cc
-rule_of_sound slices index (boolean x) r e = absurd cc
-rule_of_sound slices index (datetime x) r e = absurd cc
-rule_of_sound slices index (array x) r e = absurd cc
+rule_of_sound slices index d r = of_tables (λ q. q ≡ Ok r → IsPlainRule r) _ _ (λ ms. rule_sound slices (rule_section index ms) r) (λ e. absurd cc) d
 
 rules_sound : (slices : List Slice) (index : ℕ) (ds : Items) (rs : List Rule) → rules_from slices index ds ≡ Ok rs → AllByRecursion IsPlainRule rs
-rules_sound slices index no_items rs e = subst (AllByRecursion IsPlainRule) (ok_is [] rs e) tt
-rules_sound slices index (item d ds) rs e =
-    let a = bind_ok (rule_of slices index d) _ rs e in
-    let b = bind_ok (rules_from slices (suc index) ds) _ rs a.2 in
-    subst (AllByRecursion IsPlainRule) (ok_is (a.0 ∷ b.0) rs b.2) (rule_of_sound slices index d a.0 a.1, rules_sound slices (suc index) ds b.0 b.1)
+rules_sound slices = reads_sound IsPlainRule (rule_of slices) (rule_of_sound slices)
 
 -- ---- the whole
 

@@ -1,8 +1,8 @@
 -- Reading a table of a policy text key by key, with the first fault that is met. All of the form is this proxy's own rule.
-use Rattle.std.specs.Prelude.{◌≡◌, ℕ, pos, ◌==◌, ◌%◌, ◌&&◌, ◌||◌, nat_le, Bool, true, List, [], ◌∷◌, Option, Some, None, Result, Ok, Err, if◌then◌else◌, bytes_eq, codes}
+use Rattle.std.specs.Prelude.{◌≡◌, ℕ, suc, pos, ◌==◌, ◌%◌, ◌&&◌, ◌||◌, nat_le, Bool, true, List, [], ◌∷◌, Option, Some, None, Result, Ok, Err, if◌then◌else◌, bytes_eq, codes}
 use Rattle.std.specs.Ordering.{nat_cmp, is_lt}
 use Rattle.std.specs.Cmp.Lexicographic.{slice_cmp}
-use Rattle.toml.specs.Data.{Data, string, integer, array, Items, no_items, item, Members, no_members, member, get_member}
+use Rattle.toml.specs.Data.{Data, string, integer, array, table, Items, no_items, item, Members, no_members, member, get_member}
 use Rattle.toml.specs.Text.{are_tables, has_items}
 use Rattle.flowspace.specs.Rules.{is_vlan}
 use Rattle.flowspace.specs.Owners.{is_in_port}
@@ -209,3 +209,18 @@ tables d = None
 abbrev pub some_tables : Data → Option Items
 some_tables (array items) = when (has_items items && are_tables items) items
 some_tables d = None
+
+-- ---- the items of an array
+
+-- what an item's table is read as; an item that is no table is a fault of the array under this key
+abbrev pub as_table : {A : Type 0} → (Members → Result A ReadFault) → List ℕ → Data → Result A ReadFault
+as_table read key (table members) = read members
+as_table read key d = Err (BadValue (record { part = Top; index = 0; key = key }))
+
+-- what items are read as from an index on, each by the same reading
+abbrev pub reads : {A : Type 0} → (ℕ → Data → Result A ReadFault) → ℕ → Items → Result (List A) ReadFault
+reads read index no_items = Ok []
+reads read index (item d rest) = do
+  first ← read index d
+  others ← reads read (suc index) rest
+  Ok (first ∷ others)

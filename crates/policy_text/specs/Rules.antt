@@ -1,7 +1,7 @@
 -- The rules that a policy text says. All of it is this proxy's own rule.
 use Rattle.std.specs.Prelude.{ℕ, zero, suc, ◌+◌, ◌%◌, ◌^◌, ◌&&◌, not, nat_eq, Bool, true, List, [], ◌∷◌, Option, Some, None, position, bytes_eq, Result, Ok, Err, codes, unwrap_or, if◌then◌else◌}
 use Rattle.std.specs.List.{list_any}
-use Rattle.toml.specs.Data.{Data, table, Items, no_items, item, Members}
+use Rattle.toml.specs.Data.{Data, Items, Members}
 use Rattle.of10_model.specs.declared.pattern.Prefix.{Prefix}
 use Rattle.of10_model.specs.declared.pattern.Pattern.{Pattern}
 use Rattle.flowspace.specs.declared.fault.Field.{Field}
@@ -12,12 +12,12 @@ use Rattle.flowspace.specs.declared.slices.Slice.{Slice}
 use Rattle.flowspace.specs.Rules.{first_improper}
 use Rattle.policy_text.specs.declared.fault.Part.TheVariants as part
 use Rattle.policy_text.specs.declared.fault.ReadFault.{ReadFault}
-use Rattle.policy_text.specs.declared.fault.ReadFault.TheVariants.{BadValue, Improper, Refused}
+use Rattle.policy_text.specs.declared.fault.ReadFault.TheVariants.{Improper, Refused}
 use Rattle.policy_text.specs.declared.values.Numbers.TheVariants.{UpTo, InPort, Vlan, Service}
 use Rattle.policy_text.specs.declared.values.Numerals.TheVariants.{Datapath, Hardware}
 use Rattle.policy_text.specs.declared.values.Texts.TheVariants.{Any}
 use Rattle.of10_model.specs.Results.{◌>>=◌}
-use Rattle.policy_text.specs.Reading.{SectionView, known_keys, required, optional, number, numeral, addresses, text, text_list}
+use Rattle.policy_text.specs.Reading.{SectionView, known_keys, required, optional, number, numeral, addresses, text, text_list, as_table, reads}
 
 -- ---- the match
 
@@ -157,13 +157,8 @@ rule_in slices this = rule_text_in this >>= rule_from slices this.index
 
 -- the rule of an item; one that is no table is a fault of the array
 abbrev pub rule_of : List Slice → ℕ → Data → Result Rule ReadFault
-rule_of slices index (table members) = rule_in slices (rule_section index members)
-rule_of slices index d = Err (BadValue (record { part = part.Top; index = 0; key = codes "rule" }))
+rule_of slices index d = as_table (λ members. rule_in slices (rule_section index members)) (codes "rule") d
 
 -- the rules of the items from an index on
 abbrev pub rules_from : List Slice → ℕ → Items → Result (List Rule) ReadFault
-rules_from slices index no_items = Ok []
-rules_from slices index (item d rest) = do
-  first ← rule_of slices index d
-  others ← rules_from slices (suc index) rest
-  Ok (first ∷ others)
+rules_from slices index items = reads (rule_of slices) index items
