@@ -1,5 +1,5 @@
 -- The text that is printed for a policy is read as the same policy.
-use Rattle.std.proofs.Common.{◌≡◌, ℕ, pos, ◌<◌, ◌≤◌, ◌^◌, Bool, true, false, ◌==◌, inl, inr, IsUtf8, List, [], ◌∷◌, ◌++◌, length, map, All, Option, Some, None, IfSome, option_map, option_and_then, unwrap_or, Ok, codes, refl, sym, ap, ◌∙◌, append_assoc, arith}
+use Rattle.std.proofs.Common.{◌≡◌, ℕ, pos, ◌<◌, ◌≤◌, ◌^◌, Bool, true, false, ◌==◌, inl, inr, IsUtf8, List, [], ◌∷◌, ◌++◌, length, map, Option, Some, None, IfSome, option_map, option_and_then, unwrap_or, Ok, codes, refl, sym, ap, ◌∙◌, append_assoc, arith}
 use Rattle.std.specs.List.{AllByRecursion}
 use Rattle.std.proofs.lemmas.Bool.{cases_Bool}
 use Rattle.std.proofs.lemmas.List.Elements.{All-from_recursion, recursion_from_All}
