@@ -22,11 +22,11 @@ glyph_cases false true c n is_low is_high e =
     rw (le-ltb n 10 (omega (arith, same, from, to))) (omega (arith, same, from, to))
 glyph_cases false false c n is_low is_high e = absurd cc
 
-both : (low high c : ℕ) → (nat_le low c && nat_le c high) ≡ true → (low ≤ c) × (c ≤ high)
-both low high c e = let (from, to) = and_parts (nat_le low c) (nat_le c high) e in (leb-true _ _ from, leb-true _ _ to)
+pub between : (low high c : ℕ) → (nat_le low c && nat_le c high) ≡ true → (low ≤ c) × (c ≤ high)
+between low high c e = let (from, to) = and_parts (nat_le low c) (nat_le c high) e in (leb-true _ _ from, leb-true _ _ to)
 
 glyph_is : (c n : ℕ) → hex_digit c ≡ Some n → c ≡ hex_glyph n
-glyph_is c n e = glyph_cases (nat_le 48 c && nat_le c 57) (nat_le 97 c && nat_le c 102) c n (both 48 57 c) (both 97 102 c) e
+glyph_is c n e = glyph_cases (nat_le 48 c && nat_le c 57) (nat_le 97 c && nat_le c 102) c n (between 48 57 c) (between 97 102 c) e
 
 when_is : {A : Type 0} (b : Bool) (o : Option A) (x : A) → cond b o None ≡ Some x → (b ≡ true) × (o ≡ Some x)
 when_is true o x e = (refl, e)

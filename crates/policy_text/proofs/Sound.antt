@@ -1,5 +1,5 @@
 -- The slices and the rules that a text says are plain.
-use Rattle.std.proofs.Common.{◌≡◌, ℕ, suc, ◌≤◌, Bool, true, false, ◌&&◌, cond, nat_le, leb-true, List, ◌∷◌, length, Option, Some, None, IfSome, Ok, codes, unwrap_or, refl, subst, arith}
+use Rattle.std.proofs.Common.{◌≡◌, ℕ, suc, ◌≤◌, Bool, true, false, ◌&&◌, cond, leb-true, List, ◌∷◌, length, Option, Some, None, IfSome, Ok, codes, unwrap_or, refl, subst, arith}
 use Rattle.std.specs.List.{AllByRecursion}
 use Rattle.std.proofs.lemmas.Bool.{and_parts}
 use Rattle.std.proofs.lemmas.List.Elements.{All-from_recursion}
@@ -16,12 +16,13 @@ use Rattle.flowspace.proofs.Improper.{plain_rule}
 use Rattle.flowspace.proofs.Naming.{name_parts, controller_parts}
 use Rattle.policy_text.specs.declared.values.Numbers.TheVariants.{UpTo, Between}
 use Rattle.policy_text.specs.declared.values.Texts.TheVariants.{Name, Controller}
-use Rattle.policy_text.specs.Reading.{SectionView, known_keys, required, optional, is_number, number, is_text, text, tables, some_tables}
+use Rattle.policy_text.specs.Reading.{SectionView, known_keys, required, optional, number, is_text, text, tables, some_tables}
 use Rattle.policy_text.specs.Slices.{slice_section, slice_in, slice_of, slices_from}
 use Rattle.policy_text.specs.Rules.{are_different, bits_below, writer_of, slots_of, no_improper, proper, RuleText, rule_text_in, rule_from, rule_section, rule_in, rule_of, rules_from}
 use Rattle.policy_text.specs.Documents.{top, parts_in, parts_of, ArePlain}
 use Rattle.std.proofs.lemmas.Option.{cond_some}
 use Rattle.of10_model.proofs.Results.{bind_ok, bind_is, ok_is}
+use Rattle.address_text.proofs.WrittenHex.{between}
 use Rattle.policy_text.proofs.Arrays.{of_tables, reads_sound}
 use Rattle.policy_text.proofs.Steps.{optional_holds, required_holds, number_is, text_is}
 use Rattle.policy_text.proofs.RuleParts.{rule_read}
@@ -32,9 +33,6 @@ use Rattle.policy_text.proofs.SoundPatterns.{IsWritten, pattern_sound}
 or_default : (P : ℕ → Type 0) (o : Option ℕ) (n : ℕ) → IfSome o P → P n → P (unwrap_or o n)
 or_default P None n h k = k
 or_default P (Some x) n h k = h
-
-between : (low high n : ℕ) → is_number (Between low high) n ≡ true → (low ≤ n) × (n ≤ high)
-between low high n e = let (a, b) = and_parts (nat_le low n) (nat_le n high) e in (leb-true _ _ a, leb-true _ _ b)
 
 rate_read : (this : SectionView) (key : List ℕ) (o : Option ℕ) → optional (number (Between 1 1000000)) this key ≡ Ok o → (1 ≤ unwrap_or o 1000) × (unwrap_or o 1000 ≤ 1000000)
 rate_read this key o e =

@@ -7,7 +7,8 @@ use Rattle.policy_text.proofs.printing.names_in.Goals.{then-is_among+in_ok-push,
 pub loop-slot-preserved : goal.loop-slot-preserved
 loop-slot-preserved c =
     let step = names_step c.args.bits c.loop-slot.slot c.args.slices.now c.index-slices-slot.result c.loop-slot-test.true in
+    let before = rw step at c.loop-slot.invariant in
     elim c.if-is_among.branch [
-      | then-is_among+in_ok-push w ↦ (let a = rw (c.is_among.ensures) at w.if-is_among.true in let b = w.in_ok-push.ensures.items in let i = rw (step) at c.loop-slot.invariant in grind (arith, common_steps))
-      | else-is_among w ↦ (let a = w.if-is_among.false in let i = rw (step) at c.loop-slot.invariant in grind (arith, common_steps))
+      | then-is_among+in_ok-push w ↦ (let pushed = w.in_ok-push.ensures.items in grind (arith, common_steps))
+      | else-is_among w ↦ grind (arith, common_steps)
     ]
