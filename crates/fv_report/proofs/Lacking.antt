@@ -17,7 +17,6 @@ use Rattle.fv_report.specs.declared.streams.Streams.{Streams}
 use Rattle.fv_report.specs.Streams.{AreFresh, Restarts, TookFrame, connection, StreamsStand}
 use Rattle.fv_report.specs.Lacks.{is_unbuilt, FoundIn, FindsIn, FindsInBytes, FindsAtSlot, FindsAt, AllFresh, lack_at, lack_seen}
 use Rattle.fv_report.proofs.Streaming.{next_left, nothing_left}
-use Rattle.proxy_core.proofs.Places.{get_more}
 use Rattle.fv_report.proofs.Recorded.{frames_fed, streams_fresh, streams_up, streams_heard, streams_slice_up, streams_slice_heard, stream_by, set_get}
 use Rattle.fv_report.proofs.Running.{streams_other}
 
@@ -113,7 +112,10 @@ lack_slice_heard slices switch slot moment bytes kind old new within same finds 
 
 -- what holds of each element and of one more holds of all
 pub each_more : {X : Type 0} (P : X → Type 0) (xs : List X) (new : X) → ((at : ℕ) (x : X) → slice_get xs at ≡ Some x → P x) → P new → (at : ℕ) (x : X) → slice_get (xs ++ new ∷ []) at ≡ Some x → P x
-each_more P xs new each own at x is = elim (get_more xs new at x is) [ inl before ↦ each at x before | inr last ↦ subst P last.1 own ]
+each_more P [] new each own zero x is = subst P (same_Some new x is) own
+each_more P [] new each own (suc at) x is = absurd (none-some x is)
+each_more P (first ∷ others) new each own zero x is = each 0 x is
+each_more P (first ∷ others) new each own (suc at) x is = each_more P others new (λ k y g. each (suc k) y g) own at x is
 
 -- the streams of all switches after records, the newest first
 pub record AllStream (slices : ℕ) (before : List Told) (switches : List Streams) : Type 0 where
