@@ -2,6 +2,7 @@
 use Rattle.std.specs.Prelude.{ℕ, ◌≡◌, ◌⊎◌, ◌==◌, if◌then◌else◌, leb, List, [], ◌∷◌, length, map, Option, Some, None, Result, Ok, Err}
 use Rattle.std.specs.List.{flat_map}
 use Rattle.std.specs.Option.{option_or}
+use Rattle.of10_model.specs.Results.{Answers}
 use Rattle.of10_action.specs.declared.action.Action.{Action}
 use Rattle.of10_action.specs.declared.action.Action.TheVariants.{Output}
 use Rattle.of10_action.specs.Actions.{spelling}
@@ -47,5 +48,4 @@ answer_of (Err code) = Err (Refused code)
 
 -- a call gives the answer, or want of memory in the place of a list
 abbrev pub Gives : Result (List Action) CheckFault → Result (List Action) CheckFault → Type 0
-Gives (Ok list) answer = answer ≡ Ok list
-Gives (Err fault) answer = (answer ≡ Err fault) ⊎ ((fault ≡ Memory) × ((list : List Action) × (answer ≡ Ok list)))
+Gives called answer = Answers (λ fault told. (told ≡ Err fault) ⊎ ((fault ≡ Memory) × ((list : List Action) × (told ≡ Ok list)))) (λ list. list) called answer

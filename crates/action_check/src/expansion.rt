@@ -5,12 +5,12 @@ ghost use Rattle.of10_action.specs.Actions.{spelling};
 ghost use Rattle.action_check.specs.Permitted.{outputs, ports_for, spread, expanded};
 
 use of10_action::{Action, list_size};
-use of10_flow::protocol::MOST_ACTIONS;
+use of10_flow::protocol::MOST_ACTION_BYTES;
 use of10_port::protocol::{ALL, FLOOD};
 use std::alloc::{AllocError, Global};
 
 /// The most bytes that the list may have: as many as a flow-mod's actions take.
-const MOST_BYTES: u128 = MOST_ACTIONS as u128;
+const MOST_BYTES: u128 = MOST_ACTION_BYTES as u128;
 
 /// Bytes of an OUTPUT (OpenFlow 1.0.0, section 5.2.4).
 const OUTPUT_BYTES: u128 = 8;

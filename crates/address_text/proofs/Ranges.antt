@@ -1,12 +1,12 @@
 -- Addresses that are written in a text lie in their ranges.
-use Rattle.std.proofs.Common.{◌≡◌, ℕ, ◌+◌, ◌-◌, ◌*◌, ◌/◌, ◌^◌, ◌<◌, ◌≤◌, ◌==◌, ◌&&◌, Bool, true, false, cond, nat_le, leb-true, List, [], ◌∷◌, length, slice_index, Option, Some, None, option_map, refl, ap, subst, arith}
-use Rattle.std.proofs.Math.Nat.{div-mul-le_self, mul-mod_left}
+use Rattle.std.proofs.Common.{◌≡◌, ℕ, ◌+◌, ◌-◌, ◌*◌, ◌^◌, ◌<◌, ◌≤◌, ◌==◌, ◌&&◌, Bool, true, false, cond, nat_le, leb-true, List, [], ◌∷◌, length, slice_index, Option, Some, None, option_map, refl, ap, subst, arith}
 use Rattle.std.proofs.lemmas.Bool.{and_parts}
 use Rattle.std.proofs.lemmas.Option.{same_Some, cond_some}
 use Rattle.of10_model.specs.declared.pattern.Prefix.{Prefix}
 use Rattle.of10_model.specs.Normal.{IsPrefix}
 use Rattle.of10_model.specs.Meet.{◌>>=◌}
 use Rattle.of10_model.specs.Pattern.{leading_bits}
+use Rattle.of10_model.proofs.Ranges.{IsPrefix-leading}
 use Rattle.address_text.specs.Addresses.{hex_digit, pair_at, has_colons, six_pairs, hardware_address, digits_at, octet_of, octet_at, after, dotted_at, bits_of, bits_after, prefix}
 
 pub bind_some : {A B : Type 0} (o : Option A) (f : A → Option B) (y : B) → (o >>= f) ≡ Some y → (x : A) × (o ≡ Some x) × (f x ≡ Some y)
@@ -165,11 +165,6 @@ bits_after_range [] bits e = let same : 32 ≡ bits = cc in subst (λ m. (1 ≤ 
 bits_after_range (c ∷ rest) bits e =
     let a = bind_some (after 47 (c ∷ rest) >>= octet_at) bits_of bits e in
     bits_of_range a.0 bits a.2
-
-IsPrefix-leading : (address bits : ℕ) → address < 2 ^ 32 → 1 ≤ bits → bits ≤ 32 → IsPrefix (Some (leading_bits address bits))
-IsPrefix-leading address bits below some few =
-    let cut = div-mul-le_self address (2 ^ (32 - bits)) in
-    (some, few, omega (arith, cut), mul-mod_left (address / 2 ^ (32 - bits)) (2 ^ (32 - bits)))
 
 pub prefix_range : (text : List ℕ) (p : Prefix) → prefix text ≡ Some p → IsPrefix (Some p)
 unfolding prefix

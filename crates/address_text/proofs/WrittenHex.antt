@@ -1,8 +1,9 @@
 -- Identifiers and hardware addresses that are read are what is printed for their numbers.
-use Rattle.std.proofs.Common.{◌≡◌, ℕ, ◌+◌, ◌-◌, ◌*◌, ◌/◌, ◌%◌, ◌^◌, ◌<◌, ◌≤◌, ◌==◌, ◌&&◌, Bool, true, false, cond, nat_le, leb-true, eqb-true, List, [], ◌∷◌, ◌++◌, length, slice_index, Option, Some, None, refl, ap, ◌∙◌, arith}
+use Rattle.std.proofs.Common.{◌≡◌, ℕ, ◌+◌, ◌-◌, ◌*◌, ◌/◌, ◌%◌, ◌^◌, ◌<◌, ◌≤◌, ◌==◌, ◌&&◌, Bool, true, false, cond, nat_le, eqb-true, List, [], ◌∷◌, ◌++◌, length, slice_index, Option, Some, None, refl, ap, ◌∙◌, arith}
 use Rattle.std.proofs.lemmas.Bool.{and_parts, lt-ltb, le-ltb}
 use Rattle.std.proofs.lemmas.Nat.{shr-shr}
 use Rattle.std.proofs.lemmas.Option.{same_Some}
+use Rattle.of10_model.proofs.Ranges.{between}
 use Rattle.address_text.specs.Addresses.{hex_digit, hex_after, datapath_id, pair_at, has_colons, six_pairs, hardware_address}
 use Rattle.address_text.specs.Texts.{hex_glyph, hex_text, pair_text, hardware_text}
 use Rattle.address_text.specs.Written.{HardwareAddressesAreAsWritten, DatapathIdsAreAsWritten}
@@ -21,9 +22,6 @@ glyph_cases false true c n is_low is_high e =
     let (from, to) = is_high refl in
     rw (le-ltb n 10 (omega (arith, same, from, to))) (omega (arith, same, from, to))
 glyph_cases false false c n is_low is_high e = absurd cc
-
-pub between : (low high c : ℕ) → (nat_le low c && nat_le c high) ≡ true → (low ≤ c) × (c ≤ high)
-between low high c e = let (from, to) = and_parts (nat_le low c) (nat_le c high) e in (leb-true _ _ from, leb-true _ _ to)
 
 glyph_is : (c n : ℕ) → hex_digit c ≡ Some n → c ≡ hex_glyph n
 glyph_is c n e = glyph_cases (nat_le 48 c && nat_le c 57) (nat_le 97 c && nat_le c 102) c n (between 48 57 c) (between 97 102 c) e

@@ -11,7 +11,7 @@ use crate::sending::{sent_actions, sent_for};
 use of10_action::{Actions, list_size};
 use of10_ctl::Frame;
 use of10_flow::FlowMod;
-use of10_flow::protocol::{FIELDS, MOST_ACTIONS, NO_BUFFER};
+use of10_flow::protocol::{FLOW_MOD_FIELDS, MOST_ACTION_BYTES, NO_BUFFER};
 use of10_match::Match;
 use std::alloc::{AllocError, Global};
 
@@ -32,7 +32,7 @@ fn is_too_large(size: u64, room: u64) -> bool
     ensures large { IsTrue result → (65535 < 72 + size) ⊎ (room < 72 + size) }
     ensures fits { result ≡ false → (72 + size ≤ 65535) × (72 + size ≤ room) }
 {
-    size > MOST_ACTIONS || FIELDS + size > room
+    size > MOST_ACTION_BYTES || FLOW_MOD_FIELDS + size > room
 }
 
 /// Whether the messages of pieces with these lists of actions are too large.
@@ -45,7 +45,7 @@ fn are_too_large(m: &FlowMod, actions: &[Actions]) -> bool
         if is_too_large(size, room) {
             return true;
         }
-        room -= FIELDS + size;
+        room -= FLOW_MOD_FIELDS + size;
     }
     false
 }

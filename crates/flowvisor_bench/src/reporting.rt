@@ -3,7 +3,7 @@
 use fv_base::NeverSink;
 use fv_report::report_items;
 use policy_text::read;
-use recording::{SLICE_UP, SWITCH_BYTES, SWITCH_UP, add_item, begin_recording, items};
+use recording::{BYTE_LIMIT, SLICE_UP, SWITCH_BYTES, SWITCH_UP, add_item, begin_recording, items};
 use std::alloc::{AllocError, Global};
 
 const POLICY: &str = "\
@@ -32,10 +32,7 @@ const PACKET: [u8; 72] = [
     0, 0, 0, 0, 0, 0, 0, 0, 0x50, 2, 0, 0, 0, 0, 0, 0,
 ];
 
-/// Bytes that the longest record carries.
-const LONGEST: usize = 16_777_216;
-
-/// So many packets fit it.
+/// So many packets fit the longest record.
 const PACKETS: u64 = 233_016;
 
 /// Bytes of the shortest line that reports one: that of event 4.
@@ -52,7 +49,7 @@ fn packets(alloc: Global, count: u64) -> Result<Vec<u8>, AllocError> {
 
 /// A record with bytes of the switch, or with the first of them that it may carry.
 fn put_bytes(out: &mut Vec<u8>, bytes: &[u8]) -> Result<(), AllocError> {
-    let size = bytes.len().min(LONGEST);
+    let size = bytes.len().min(BYTE_LIMIT as usize);
     add_item(out, SWITCH_BYTES, 0, 0, 0, &bytes[..size])
 }
 

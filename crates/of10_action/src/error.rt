@@ -1,5 +1,8 @@
 //! Classes and codes of error messages (OpenFlow 1.0.0, section 5.4.4).
 
+ghost use Rattle.std.specs.Prelude.{◌≡◌, ◌∷◌, []};
+ghost use Rattle.of10_action.specs.declared.error.TheConstants.{HELLO_FAILED, INCOMPATIBLE, BAD_REQUEST, BAD_VERSION, BAD_TYPE, BAD_STATISTICS, BAD_VENDOR, REQUEST_NOT_PERMITTED, BAD_LENGTH, BAD_ACTION, BAD_ACTION_TYPE, BAD_ACTION_LENGTH, BAD_ACTION_VENDOR};
+
 /// Class: no version in common.
 pub const HELLO_FAILED: u16 = 0;
 
@@ -22,7 +25,7 @@ pub const BAD_STATISTICS: u16 = 2;
 pub const BAD_VENDOR: u16 = 3;
 
 /// Its sender may not send it.
-pub const NOT_PERMITTED: u16 = 5;
+pub const REQUEST_NOT_PERMITTED: u16 = 5;
 
 /// Its length is wrong.
 pub const BAD_LENGTH: u16 = 6;
@@ -38,3 +41,11 @@ pub const BAD_ACTION_LENGTH: u16 = 1;
 
 /// It is of a vendor that isn't known.
 pub const BAD_ACTION_VENDOR: u16 = 2;
+
+/// The classes and the codes of each have the numbers of the standard (OpenFlow 1.0.0, section 5.4.4).
+pub fn errors_are_numbered()
+    ensures classes { HELLO_FAILED ∷ BAD_REQUEST ∷ BAD_ACTION ∷ [] ≡ 0 ∷ 1 ∷ 2 ∷ [] }
+    ensures hello { INCOMPATIBLE ≡ 0 }
+    ensures request { BAD_VERSION ∷ BAD_TYPE ∷ BAD_STATISTICS ∷ BAD_VENDOR ∷ REQUEST_NOT_PERMITTED ∷ BAD_LENGTH ∷ [] ≡ 0 ∷ 1 ∷ 2 ∷ 3 ∷ 5 ∷ 6 ∷ [] }
+    ensures action { BAD_ACTION_TYPE ∷ BAD_ACTION_LENGTH ∷ BAD_ACTION_VENDOR ∷ [] ≡ 0 ∷ 1 ∷ 2 ∷ [] }
+{}

@@ -9,7 +9,7 @@ use Rattle.of10_ctl.specs.Heads.{length_field, head_bytes}
 abbrev pub is_bad : List ℕ → Bool
 is_bad bytes = nat_lt (length_field bytes) 8
 
--- how many bytes a frame has: as many as its length field says (OpenFlow 1.0.0, section 5.1); where that is below 8, the header alone (this proxy's own rule)
+-- how many bytes a frame has: as its length field says (OpenFlow 1.0.0, section 5.1), or the header's 8 (this proxy's own rule)
 abbrev pub told_size : List ℕ → ℕ
 told_size bytes = if is_bad bytes then 8 else length_field bytes
 

@@ -8,18 +8,20 @@ ghost use Rattle.of10_flow.specs.declared.flow_mod.FlowMod.{FlowMod};
 ghost use Rattle.of10_flow.specs.declared.flow_removed.FlowRemoved.{FlowRemoved};
 ghost use Rattle.of10_flow.specs.declared.packet_in.PacketIn.{PacketIn};
 ghost use Rattle.of10_flow.specs.declared.packet_out.PacketOut.{PacketOut};
-ghost use Rattle.of10_flow.specs.declared.protocol.TheConstants.{NO_BUFFER, ADD, MODIFY, MODIFY_STRICT, DELETE, DELETE_STRICT, SEND_FLOW_REM, CHECK_OVERLAP, EMERG};
+ghost use Rattle.of10_flow.specs.declared.protocol.TheConstants.{NO_BUFFER, ADD, MODIFY, MODIFY_STRICT, DELETE, DELETE_STRICT, SEND_FLOW_REM, CHECK_OVERLAP, EMERG, FLOW_MOD_FIELDS, MOST_ACTION_BYTES};
 ghost use Rattle.of10_flow.specs.FlowMods.{IsFlowMod, spell_flow_mod, read_flow_mod};
 ghost use Rattle.of10_flow.specs.FlowRemoveds.{IsFlowRemoved, spell_flow_removed, read_flow_removed};
 ghost use Rattle.of10_flow.specs.PacketIns.{IsPacketIn, spell_packet_in, read_packet_in};
 ghost use Rattle.of10_flow.specs.PacketOuts.{IsPacketOut, spell_packet_out, read_packet_out};
 
 /// Commands of a flow-mod have the numbers 0 to 4, its flags are the three low bits, and no buffer is the
-/// greatest number (OpenFlow 1.0.0, section 5.3.3).
+/// greatest number; 72 bytes stand before its actions, and these have at most 65,463 (OpenFlow 1.0.0,
+/// sections 5.1 and 5.3.3).
 pub fn commands_and_flags_are_numbered()
     ensures commands { ADD ∷ MODIFY ∷ MODIFY_STRICT ∷ DELETE ∷ DELETE_STRICT ∷ [] ≡ 0 ∷ 1 ∷ 2 ∷ 3 ∷ 4 ∷ [] }
     ensures flags { SEND_FLOW_REM ∷ CHECK_OVERLAP ∷ EMERG ∷ [] ≡ 1 ∷ 2 ∷ 4 ∷ [] }
     ensures no_buffer { NO_BUFFER ≡ 0xffffffff }
+    ensures bytes { FLOW_MOD_FIELDS ∷ MOST_ACTION_BYTES ∷ [] ≡ 72 ∷ 65463 ∷ [] }
 {}
 
 /// What is spelled as a flow-mod is one, and is read again.

@@ -27,8 +27,8 @@ pub const CHECK_OVERLAP: u16 = 2;
 pub const EMERG: u16 = 4;
 
 /// Bytes of a flow-mod before its actions (OpenFlow 1.0.0, section 5.3.3).
-pub const FIELDS: u64 = 72;
+pub const FLOW_MOD_FIELDS: u64 = 72;
 
 /// The most bytes that a flow-mod's actions take, since its length is below 65,536 (OpenFlow 1.0.0,
 /// section 5.1).
-pub const MOST_ACTIONS: u64 = 65_535 - FIELDS;
+pub const MOST_ACTION_BYTES: u64 = 65_535 - FLOW_MOD_FIELDS;

@@ -1,12 +1,17 @@
 -- What bytes spell lies in range, and so does its normal form.
-use Rattle.std.proofs.Common.{ℕ, ◌≡◌, ◌+◌, ◌-◌, ◌*◌, ◌/◌, ◌%◌, ◌^◌, ◌<◌, Bool, true, false, if◌then◌else◌, leb, List, drop, slice_index, Option, Some, None, refl, arith}
+use Rattle.std.proofs.Common.{ℕ, ◌≡◌, ◌+◌, ◌-◌, ◌*◌, ◌/◌, ◌%◌, ◌^◌, ◌<◌, ◌≤◌, ◌&&◌, Bool, true, false, if◌then◌else◌, leb, List, drop, slice_index, Option, Some, None, refl, arith}
 use Rattle.std.proofs.Math.Nat.{div-mul-le_self, mul-mod_left}
 use Rattle.std.proofs.lemmas.List.{get_or-drop}
-use Rattle.std.proofs.lemmas.Bool.{leb-false}
+use Rattle.std.proofs.lemmas.Bool.{leb-true, leb-false, and_parts}
 use Rattle.byteorder.specs.Numbers.{big_from-lt}
 use Rattle.of10_model.specs.declared.pattern.Prefix.{Prefix}
 use Rattle.of10_model.specs.declared.pattern.Pattern.{Pattern}
+use Rattle.of10_model.specs.Pattern.{leading_bits}
 use Rattle.of10_model.specs.Normal.{bit, number_at, spelled, kept, kept_prefix, is_exact, has_vlan, has_network, has_service, has_ports, applied, IsBelow, IsService, IsPrefix, IsInRange}
+
+-- the two sides of a range
+pub between : (low high n : ℕ) → (leb low n && leb n high) ≡ true → (low ≤ n) × (n ≤ high)
+between low high n e = let (from, to) = and_parts (leb low n) (leb n high) e in (leb-true _ _ from, leb-true _ _ to)
 
 -- ---- what bytes spell
 
@@ -25,14 +30,16 @@ IsService-freed : (value : ℕ) (b : Bool) → value < 256 → IsService (if b t
 IsService-freed value true h = tt
 IsService-freed value false h = (omega arith, omega arith)
 
-IsPrefix-cut : (count address : ℕ) (b : Bool) → leb 32 count ≡ b → address < 2 ^ 32
-    → IsPrefix (if b then None else Some (record { bits = 32 - count; value = address / 2 ^ count * 2 ^ count }))
+pub IsPrefix-leading : (address bits : ℕ) → address < 2 ^ 32 → 1 ≤ bits → bits ≤ 32 → IsPrefix (Some (leading_bits address bits))
+IsPrefix-leading address bits below some few =
+    let cut = div-mul-le_self address (2 ^ (32 - bits)) in
+    (some, few, omega arith, mul-mod_left (address / 2 ^ (32 - bits)) (2 ^ (32 - bits)))
+
+IsPrefix-cut : (count address : ℕ) (b : Bool) → leb 32 count ≡ b → address < 2 ^ 32 → IsPrefix (if b then None else Some (leading_bits address (32 - count)))
 IsPrefix-cut count address true e h = tt
 IsPrefix-cut count address false e h =
     let below : count < 32 = leb-false 32 count e in
-    let whole : 32 - (32 - count) ≡ count = omega arith in
-    let cut = div-mul-le_self address (2 ^ count) in
-    (omega arith, omega arith, omega arith, rw whole (mul-mod_left (address / 2 ^ count) (2 ^ count)))
+    IsPrefix-leading address (32 - count) h (omega arith) (omega arith)
 
 pub IsInRange-spelled : (bytes : List ℕ) → ((k : ℕ) → slice_index bytes k < 256) → IsInRange (spelled bytes)
 unfolding spelled

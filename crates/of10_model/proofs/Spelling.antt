@@ -5,6 +5,7 @@ use Rattle.std.proofs.lemmas.Bool.{lt-leb}
 use Rattle.byteorder.specs.Numbers.{big_number-reads_back}
 use Rattle.of10_model.specs.declared.pattern.Prefix.{Prefix}
 use Rattle.of10_model.specs.declared.pattern.Pattern.{Pattern}
+use Rattle.of10_model.specs.Pattern.{leading_bits}
 use Rattle.of10_model.specs.Normal.{number_at, spelled, Norm, IsBelow, IsService, IsPrefix, IsInRange, IsNormal}
 use Rattle.of10_model.specs.Spelling.{freed, ignored, number_or_zero, address_or_zero, wildcards, Spell}
 use Rattle.of10_model.proofs.Applied.{same_fields}
@@ -78,7 +79,7 @@ field_again b value None e f = rw e refl
 field_again b value (Some v) e f = rw (e, f) refl
 
 prefix_again : (count address : ℕ) (c : Option Prefix) → IsPrefix c → count ≡ ignored c → address ≡ address_or_zero c
-    → (if leb 32 count then None else Some (record { bits = 32 - count; value = address / 2 ^ count * 2 ^ count })) ≡ c
+    → (if leb 32 count then None else Some (leading_bits address (32 - count))) ≡ c
 prefix_again count address None r e f = rw e refl
 prefix_again count address (Some p) r e f =
     let within = r.1 in
@@ -88,7 +89,7 @@ prefix_again count address (Some p) r e f =
     let parts = div-add-mod' p.value (2 ^ (32 - p.bits)) in
     let low = r.3 in
     let cut : p.value / 2 ^ (32 - p.bits) * 2 ^ (32 - p.bits) ≡ p.value = omega arith in
-    rw (few, is_bits, e, f, cut) refl
+    rw (few, is_bits, f, cut) refl
 
 -- ---- all of them
 

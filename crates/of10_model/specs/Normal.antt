@@ -3,6 +3,7 @@ use Rattle.std.specs.Prelude.{ℕ, ◌≡◌, ◌==◌, ◌||◌, ◌&&◌, not,
 use Rattle.byteorder.specs.Endian.{big_number}
 use Rattle.of10_model.specs.declared.pattern.Prefix.{Prefix}
 use Rattle.of10_model.specs.declared.pattern.Pattern.{Pattern}
+use Rattle.of10_model.specs.Pattern.{leading_bits}
 
 -- ---- what 40 bytes spell (OpenFlow 1.0.0, section 5.2.3)
 
@@ -18,7 +19,7 @@ unless_freed word place value = if bit word place then None else Some value
 abbrev pub leading : ℕ → ℕ → ℕ → Option Prefix
 leading word place address =
     let count = word / 2 ^ place % 64 in
-    if leb 32 count then None else Some (record { bits = 32 - count; value = address / 2 ^ count * 2 ^ count })
+    if leb 32 count then None else Some (leading_bits address (32 - count))
 
 -- the n bytes from a place, as a number
 abbrev pub number_at : List ℕ → ℕ → ℕ → ℕ

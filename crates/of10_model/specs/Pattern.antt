@@ -4,6 +4,10 @@ use Rattle.of10_model.specs.declared.pattern.Prefix.{Prefix}
 use Rattle.of10_model.specs.declared.pattern.Pattern.{Pattern}
 use Rattle.of10_model.specs.Header.{Header}
 
+-- the prefix that an address has: so many leading bits
+abbrev pub leading_bits : ℕ → ℕ → Prefix
+leading_bits address bits = record { bits = bits; value = address / 2 ^ (32 - bits) * 2 ^ (32 - bits) }
+
 -- a free constraint holds of each value, another of its own value alone
 abbrev pub Meets : Option ℕ → ℕ → Type 0
 Meets None x = Unit {0}
@@ -35,10 +39,6 @@ pub record Has (m : Pattern) (h : Header) : Type 0 where
 abbrev pub meets : Option ℕ → ℕ → Bool
 meets None x = true
 meets (Some v) x = x == v
-
--- the addresses with the same leading bits
-abbrev pub leading_bits : ℕ → ℕ → Prefix
-leading_bits address bits = record { bits = bits; value = address / 2 ^ (32 - bits) * 2 ^ (32 - bits) }
 
 -- an address begins as a prefix does
 abbrev pub begins_as : Prefix → ℕ → Bool

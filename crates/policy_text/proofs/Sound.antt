@@ -22,7 +22,7 @@ use Rattle.policy_text.specs.Rules.{are_different, bits_below, writer_of, slots_
 use Rattle.policy_text.specs.Documents.{top, parts_in, parts_of, ArePlain}
 use Rattle.std.proofs.lemmas.Option.{cond_some}
 use Rattle.of10_model.proofs.Results.{bind_ok, bind_is, ok_is}
-use Rattle.address_text.proofs.WrittenHex.{between}
+use Rattle.of10_model.proofs.Ranges.{between}
 use Rattle.policy_text.proofs.Arrays.{of_tables, reads_sound}
 use Rattle.policy_text.proofs.Steps.{optional_holds, required_holds, number_is, text_is}
 use Rattle.policy_text.proofs.RuleParts.{rule_read}

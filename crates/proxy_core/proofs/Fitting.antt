@@ -16,9 +16,8 @@ use Rattle.desk_words.specs.declared.phase.Phase.TheVariants.{Fresh, Begun, Open
 use Rattle.desk_words.specs.Openings.{rules_of, phase_of, opening_of, switch_of}
 use Rattle.desk_words.specs.Histories.{is_slot, settings_at, own_ports, side_start, side_of, is_open}
 use Rattle.desk_words.proofs.Alone.{has_told, opened_told, blind}
-use Rattle.desk_words.proofs.Silence.{is_early, untold}
+use Rattle.desk_words.proofs.Silence.{is_early, untold, sees_nothing}
 use Rattle.desk_words.proofs.Seen.{seen}
-use Rattle.desk_words.proofs.Silence.{sees_nothing}
 use Rattle.switch_side.proofs.OwnPorts.{has_port-own}
 use Rattle.proxy_core.specs.Desks.{is_before, Coherent}
 use Rattle.proxy_core.proofs.Lists.{there}

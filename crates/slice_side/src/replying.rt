@@ -13,7 +13,7 @@ use flowspace::SwitchPolicy;
 use of10_action::code;
 use of10_action::error::{
     BAD_LENGTH, BAD_REQUEST, BAD_TYPE, BAD_VENDOR, BAD_VERSION, HELLO_FAILED, INCOMPATIBLE,
-    NOT_PERMITTED,
+    REQUEST_NOT_PERMITTED,
 };
 use of10_ctl::kind::{
     BARRIER_REQUEST, ECHO_REPLY, ECHO_REQUEST, ERROR, FEATURES_REQUEST, GET_CONFIG_REPLY,
@@ -91,7 +91,7 @@ fn setting(alloc: Global, frame: &Frame) -> Result<Option<Frame>, AllocError>
     if u16_at(frame.as_slice(), 8) == 0 {
         return Ok(None);
     }
-    refused(alloc, BAD_REQUEST, NOT_PERMITTED, frame)
+    refused(alloc, BAD_REQUEST, REQUEST_NOT_PERMITTED, frame)
 }
 
 /// A message of a good form that this proxy answers itself: echoes, features and configuration (OpenFlow
@@ -161,7 +161,7 @@ pub(crate) fn reply(
     match head.kind {
         ERROR | ECHO_REPLY => Ok(None),
         VENDOR => refused(alloc, BAD_REQUEST, BAD_VENDOR, frame),
-        PORT_MOD => refused(alloc, BAD_REQUEST, NOT_PERMITTED, frame),
+        PORT_MOD => refused(alloc, BAD_REQUEST, REQUEST_NOT_PERMITTED, frame),
         _ => formed(alloc, around, frame),
     }
 }
