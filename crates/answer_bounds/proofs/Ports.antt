@@ -20,7 +20,7 @@ use Rattle.flowspace.specs.Owners.{is_in_port, has_port}
 use Rattle.flowspace.specs.Policies.{PolicyView}
 use Rattle.port_view.specs.KnownPorts.{is_of_number, ports_below, ports_above, with_port, without_port, with_told, first_known, kept_of, changed_plainly, changed}
 use Rattle.port_view.specs.SlicePorts.{ports_of_slice}
-use Rattle.port_view.proofs.Knowing.{cases_kept, changed-kept, changed-not_kept}
+use Rattle.port_view.proofs.Knowing.{by_kept}
 use Rattle.slice_words.specs.Items.{Item, known_ports}
 use Rattle.of10_model.proofs.Results.{either}
 use Rattle.desk_words.specs.declared.event.Event.{Event}
@@ -131,10 +131,7 @@ whole_plainly status known one all =
     (whole_without (port_number status.port) known all) (whole_with status.port known one all)
 
 whole_changed : (status : PortStatus) (known : List (List ℕ)) → IsWhole status → All IsPort known → All IsPort (changed status known)
-whole_changed status known one all = elim (cases_kept (kept_of status known)) [
-  | inl is ↦ rw (changed-kept status known is) (whole_plainly status known one all)
-  | inr isnt ↦ rw (changed-not_kept status known isnt) all
-]
+whole_changed status known one all = by_kept (All IsPort) status known (λ is. whole_plainly status known one all) (λ isnt. all)
 
 whole_known : (h : List Timed) → All IsPort (known_of h)
 whole_known h = known_holds (All IsPort) (record {

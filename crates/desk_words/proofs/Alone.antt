@@ -67,7 +67,7 @@ untold_before phase (Some features) event none = none
 none_begun : (policy : PolicyView) (slot : ℕ) (told : Option Features) → told ≡ None → opening_items policy slot told ≡ []
 none_begun policy slot told none = rw none refl
 
-none_in : (policy : PolicyView) (slot : ℕ) (switch : Switch) (view : List Item) (timed : Timed) (phase : Phase)
+pub none_in : (policy : PolicyView) (slot : ℕ) (switch : Switch) (view : List Item) (timed : Timed) (phase : Phase)
     → is_open phase ≡ false → opening_with phase timed.event ≡ None → phase_items policy slot switch view timed phase ≡ []
 none_in policy slot switch view timed Fresh shut none = refl
 none_in policy slot switch view timed Begun shut none = none_begun policy slot (opening_with Begun timed.event) none

@@ -84,7 +84,7 @@ frames_first (suc n) bytes later few = elim (cases_lt (length bytes) 8) [
 ]
 
 -- what is left behind the first frames is the others
-others_behind : (given all : List (List ℕ)) → AreFirst given all → given ++ drop (length given) all ≡ all
+pub others_behind : (given all : List (List ℕ)) → AreFirst given all → given ++ drop (length given) all ≡ all
 others_behind given all first =
     ap (λ (frames : List (List ℕ)). given ++ drop (length given) frames) (sym first.1)
     ∙ ap (λ (frames : List (List ℕ)). given ++ frames) (drop-append_seam given first.0) ∙ first.1

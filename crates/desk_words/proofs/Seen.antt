@@ -28,10 +28,11 @@ use Rattle.desk_words.specs.declared.phase.Phase.{Phase}
 use Rattle.desk_words.specs.declared.phase.Phase.TheVariants.{Fresh, Begun, Opened, Ended}
 use Rattle.of10_ctl.specs.Kinds.{is_of}
 use Rattle.desk_words.specs.Openings.{well_formed, features_told, status_told, phase_of, opening_after, opening_of, rules_of, known_after, known_of, Switch, switch_of}
+use Rattle.desk_words.specs.Verdicts.{is_before}
 use Rattle.desk_words.specs.Histories.{is_slot, settings_at, own_ports, own_features, packet_items, status_items, message_items, event_items, phase_items, Side, view_of}
 use Rattle.desk_words.specs.Laws.{HasSeen, SeesItsSwitch, AreKnownInOrder}
 use Rattle.desk_words.proofs.Alone.{blind}
-use Rattle.desk_words.proofs.Silence.{none_or, none_of_packet, is_early, untold}
+use Rattle.desk_words.proofs.Silence.{none_or, none_of_packet, untold}
 
 -- ---- items that tell nothing of the switch
 
@@ -185,7 +186,7 @@ by_event policy slot moment switch view (SliceDown other) order same =
 
 -- ---- histories
 
-by_phase : (policy : PolicyView) (slot : ℕ) (switch : Switch) (view : List Item) (timed : Timed) (phase : Phase) → is_early phase ≡ false
+by_phase : (policy : PolicyView) (slot : ℕ) (switch : Switch) (view : List Item) (timed : Timed) (phase : Phase) → is_before phase ≡ false
     → IsAscending switch.known → known_ports view ≡ own_ports (settings_at policy slot switch.features) switch.known
     → Follows (settings_at policy slot switch.features) view (with_items (phase_items policy slot switch view timed phase) view) (known_after phase switch.known timed.event)
 by_phase policy slot switch view timed Fresh late order same = absurd (true≢false late)
@@ -273,7 +274,7 @@ seen_more : (policy : PolicyView) (slot : ℕ) (h : List Timed) (timed : Timed) 
 seen_more policy slot h timed features is here before =
     let s = settings_at policy slot (Some features) in
     let same_settings : settings_at policy slot (opening_of h) ≡ s = ap (settings_at policy slot) is in
-    let late : is_early (phase_of h) ≡ false = false_from_ne_true (is_early (phase_of h)) (λ early. none-some features (sym (untold h early) ∙ is)) in
+    let late : is_before (phase_of h) ≡ false = false_from_ne_true (is_before (phase_of h)) (λ early. none-some features (sym (untold h early) ∙ is)) in
     let follows = by_phase policy slot (switch_of h) (view_of policy slot h) timed (phase_of h) late (ascending h) (before.ports_known ∙ ap (λ (t : Settings). own_ports t (known_of h)) (sym same_settings)) in
     record {
       features_seen = rw here (follows.features_stay ∙ before.features_seen);
@@ -320,7 +321,7 @@ few_begun : (known : List (List ℕ)) (told : Option Features) → length known 
 few_begun known None few has = few
 few_begun known (Some features) few has = first_few features has
 
-few_after : (phase : Phase) (told : Option Features) (known : List (List ℕ)) (event : Event) → (is_early phase ≡ true → told ≡ None) → length known ≤ 1364
+few_after : (phase : Phase) (told : Option Features) (known : List (List ℕ)) (event : Event) → (is_before phase ≡ true → told ≡ None) → length known ≤ 1364
     → HasFew (opening_after phase told event) → length (known_after phase known event) ≤ 1364
 few_after Fresh told known event early few has = few
 few_after Ended told known event early few has = few

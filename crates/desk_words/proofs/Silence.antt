@@ -23,6 +23,7 @@ use Rattle.desk_words.specs.declared.phase.Phase.{Phase}
 use Rattle.desk_words.specs.declared.phase.Phase.TheVariants.{Fresh, Begun, Opened, Ended}
 use Rattle.of10_ctl.specs.Kinds.{is_of}
 use Rattle.desk_words.specs.Openings.{well_formed, status_told, features_told, phase_after, phase_of, opening_with, opening_after, opening_of, rules_of, Switch, switch_of}
+use Rattle.desk_words.specs.Verdicts.{is_before}
 use Rattle.desk_words.specs.Histories.{is_slot, settings_at, Side, side_start, side_of, view_of, handed, shares_of, is_plain, packet_items, status_items, message_items, opening_items, event_items, phase_items, items_of, is_open, is_slice_up}
 use Rattle.port_view.specs.KnownPorts.{is_kept}
 use Rattle.desk_words.specs.Sent.{sent, sent_by}
@@ -137,21 +138,16 @@ none_in policy slot switch view timed Ended still = refl
 
 -- ---- before the opening nobody is up
 
-abbrev pub is_early : Phase → Bool
-is_early Fresh = true
-is_early Begun = true
-is_early phase = false
-
-early_told : (bad : Bool) (told : Option Features) → is_early (if bad then Ended else elim told [ None ↦ Begun | Some features ↦ Opened ]) ≡ true → told ≡ None
+early_told : (bad : Bool) (told : Option Features) → is_before (if bad then Ended else elim told [ None ↦ Begun | Some features ↦ Opened ]) ≡ true → told ≡ None
 early_told true told early = absurd (true≢false (sym early))
 early_told false None early = refl
 early_told false (Some features) early = absurd (true≢false (sym early))
 
-not_early : (bad : Bool) → is_early (if bad then Ended else Opened) ≡ true → ⊥
+not_early : (bad : Bool) → is_before (if bad then Ended else Opened) ≡ true → ⊥
 not_early true early = true≢false (sym early)
 not_early false early = true≢false (sym early)
 
-untold_after : (phase : Phase) (told : Option Features) (event : Event) → (is_early phase ≡ true → told ≡ None) → is_early (phase_after phase event) ≡ true → opening_after phase told event ≡ None
+untold_after : (phase : Phase) (told : Option Features) (event : Event) → (is_before phase ≡ true → told ≡ None) → is_before (phase_after phase event) ≡ true → opening_after phase told event ≡ None
 untold_after Fresh told event before early = ap (λ t. opening_after Fresh t event) (before refl)
 untold_after Begun told (SwitchMsg message) before early = ap (λ t. opening_after Begun t (SwitchMsg message)) (before refl) ∙ early_told (is_bad message) (features_told message) early
 untold_after Begun told SwitchUp before early = ap (λ t. opening_after Begun t SwitchUp) (before refl)
@@ -167,18 +163,18 @@ untold_after Opened told (SliceMsg slot message) before early = absurd (true≢f
 untold_after Opened told (SliceDown slot) before early = absurd (true≢false (sym early))
 untold_after Ended told event before early = absurd (true≢false (sym early))
 
-pub untold : (h : List Timed) → is_early (phase_of h) ≡ true → opening_of h ≡ None
+pub untold : (h : List Timed) → is_before (phase_of h) ≡ true → opening_of h ≡ None
 untold [] early = refl
 untold (timed ∷ h) early = untold_after (phase_of h) (opening_of h) timed.event (untold h) early
 
-early_down : (policy : PolicyView) (slot : ℕ) (h : List Timed) → is_early (phase_of h) ≡ true → is_up (view_of policy slot h) ≡ false
+early_down : (policy : PolicyView) (slot : ℕ) (h : List Timed) → is_before (phase_of h) ≡ true → is_up (view_of policy slot h) ≡ false
 early_down policy slot h early = ap (λ (side : Side). is_up side.sight.view) (blind policy slot h (untold h early))
 
 -- a phase is early, open, or over
 down_in : (policy : PolicyView) (slot : ℕ) (h : List Timed) (phase : Phase) → phase_of h ≡ phase → is_slice_up policy slot h ≡ false
     → (is_up (view_of policy slot h) ≡ false) ⊎ (phase_of h ≡ Ended)
-down_in policy slot h Fresh is down = inl (early_down policy slot h (ap is_early is))
-down_in policy slot h Begun is down = inl (early_down policy slot h (ap is_early is))
+down_in policy slot h Fresh is down = inl (early_down policy slot h (ap is_before is))
+down_in policy slot h Begun is down = inl (early_down policy slot h (ap is_before is))
 down_in policy slot h Opened is down = inl (rw is at down)
 down_in policy slot h Ended is down = inr is
 

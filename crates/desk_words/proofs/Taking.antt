@@ -86,29 +86,26 @@ no_message policy h dest choked false true = refl
 no_message policy h dest true false false = refl
 no_message policy h dest false false false = refl
 
--- ---- a slice's queue
+-- ---- one operation
 
-step_order : (policy : PolicyView) (slot : ℕ) (before : List Operation) (timed : Timed) (taken_in : Bool)
-    → AreInOrder (sent_since policy slot before) (taken_since policy slot before) (queue_of policy slot before)
-    → AreInOrder
-    (if taken_in then (if empties_slice policy slot (events_of before) timed then [] else sent_since policy slot before) ++ sent_by policy slot (events_of before) timed else sent_since policy slot before)
-    (if taken_in then (if empties_slice policy slot (events_of before) timed then [] else taken_since policy slot before) else taken_since policy slot before)
-    (if taken_in then queue_event policy slot (events_of before) timed (queue_of policy slot before) else queue_of policy slot before)
-step_order policy slot before timed true o =
-    after_event slice_limit (empties_slice policy slot (events_of before) timed) (sent_since policy slot before) (taken_since policy slot before) (queue_of policy slot before) (sent_by policy slot (events_of before) timed) o
-step_order policy slot before timed false o = o
+-- a step changes what was sent and taken where it is taken in
+step_order : (limit : ℕ) (empties : Bool) (messages taken : List (List ℕ)) (q : Queue) (more : List (List ℕ)) (taken_in : Bool) → AreInOrder messages taken q
+    → AreInOrder (if taken_in then (if empties then [] else messages) ++ more else messages) (if taken_in then (if empties then [] else taken) else taken)
+    (if taken_in then push_all limit (if empties then no_messages else q) more else q)
+step_order limit empties messages taken q more true o = after_event limit empties messages taken q more o
+step_order limit empties messages taken q more false o = o
 
--- a take is for this slice or leaves its queue
-take_order : (policy : PolicyView) (slot : ℕ) (before : List Operation) (dest : Dest) (reply : Taken) (own : Bool) → (own ≡ true → waiting_of policy dest before ≡ queue_of policy slot before)
-    → AreInOrder (sent_since policy slot before) (taken_since policy slot before) (queue_of policy slot before) → reply ≡ take_reply policy before dest
-    → AreInOrder (sent_since policy slot before) (if own then taken_since policy slot before ++ message_in reply else taken_since policy slot before)
-    (if own then without_first (queue_of policy slot before) else queue_of policy slot before)
-take_order policy slot before dest reply true same o is =
-    let q = queue_of policy slot before in
-    taken_one (sent_since policy slot before) (taken_since policy slot before) q.pending q.choked reply (empty_reply policy (events_of before) dest q.choked) o
+-- a take is of this queue or leaves it
+take_order : (policy : PolicyView) (before : List Operation) (dest : Dest) (reply : Taken) (messages taken : List (List ℕ)) (q : Queue) (own : Bool)
+    → (own ≡ true → waiting_of policy dest before ≡ q) → AreInOrder messages taken q → reply ≡ take_reply policy before dest
+    → AreInOrder messages (if own then taken ++ message_in reply else taken) (if own then without_first q else q)
+take_order policy before dest reply messages taken q true same o is =
+    taken_one messages taken q.pending q.choked reply (empty_reply policy (events_of before) dest q.choked) o
     (no_message policy (events_of before) dest q.choked (is_gone policy (phase_of (events_of before)) (λ s. is_slice_up policy s (events_of before)) dest) (is_early (phase_of (events_of before)) dest))
     (is ∙ ap (λ (w : Queue). elim w.pending [ [] ↦ empty_reply policy (events_of before) dest w.choked | m ∷ later ↦ Message m ]) (same refl))
-take_order policy slot before dest reply false same o is = o
+take_order policy before dest reply messages taken q false same o is = o
+
+-- ---- a slice's queue
 
 own_queue : (policy : PolicyView) (slot : ℕ) (before : List Operation) (dest : Dest) → is_slice slot dest ≡ true → waiting_of policy dest before ≡ queue_of policy slot before
 own_queue policy slot before Switch is = absurd (true≢false (sym is))
@@ -116,32 +113,14 @@ own_queue policy slot before (Slice other) is = ap (λ (s : ℕ). queue_of polic
 
 pub slice_order : (policy : PolicyView) (slot : ℕ) (ops : List Operation) → IsLegal policy ops → AreInOrder (sent_since policy slot ops) (taken_since policy slot ops) (queue_of policy slot ops)
 slice_order policy slot [] legal = empty_order
-slice_order policy slot (Step timed reply ∷ before) legal = step_order policy slot before timed (takes_in reply) (slice_order policy slot before legal.1)
+slice_order policy slot (Step timed reply ∷ before) legal =
+    step_order slice_limit (empties_slice policy slot (events_of before) timed) (sent_since policy slot before) (taken_since policy slot before) (queue_of policy slot before)
+    (sent_by policy slot (events_of before) timed) (takes_in reply) (slice_order policy slot before legal.1)
 slice_order policy slot (Take dest reply ∷ before) legal =
-    take_order policy slot before dest reply (is_slice slot dest) (own_queue policy slot before dest) (slice_order policy slot before legal.1) legal.0
+    take_order policy before dest reply (sent_since policy slot before) (taken_since policy slot before) (queue_of policy slot before) (is_slice slot dest)
+    (own_queue policy slot before dest) (slice_order policy slot before legal.1) legal.0
 
 -- ---- the switch's queue
-
-lane_step : (policy : PolicyView) (before : List Operation) (timed : Timed) (taken_in : Bool)
-    → AreInOrder (lane_since policy before) (lane_taken_since policy before) (lane_of policy before)
-    → AreInOrder
-    (if taken_in then (if ends (events_of before) timed then [] else lane_since policy before) ++ lane_by policy (events_of before) timed else lane_since policy before)
-    (if taken_in then (if ends (events_of before) timed then [] else lane_taken_since policy before) else lane_taken_since policy before)
-    (if taken_in then lane_event policy (events_of before) timed (lane_of policy before) else lane_of policy before)
-lane_step policy before timed true o =
-    after_event lane_limit (ends (events_of before) timed) (lane_since policy before) (lane_taken_since policy before) (lane_of policy before) (lane_by policy (events_of before) timed) o
-lane_step policy before timed false o = o
-
-lane_take : (policy : PolicyView) (before : List Operation) (dest : Dest) (reply : Taken) (own : Bool) → (own ≡ true → waiting_of policy dest before ≡ lane_of policy before)
-    → AreInOrder (lane_since policy before) (lane_taken_since policy before) (lane_of policy before) → reply ≡ take_reply policy before dest
-    → AreInOrder (lane_since policy before) (if own then lane_taken_since policy before ++ message_in reply else lane_taken_since policy before)
-    (if own then without_first (lane_of policy before) else lane_of policy before)
-lane_take policy before dest reply true same o is =
-    let q = lane_of policy before in
-    taken_one (lane_since policy before) (lane_taken_since policy before) q.pending q.choked reply (empty_reply policy (events_of before) dest q.choked) o
-    (no_message policy (events_of before) dest q.choked (is_gone policy (phase_of (events_of before)) (λ s. is_slice_up policy s (events_of before)) dest) (is_early (phase_of (events_of before)) dest))
-    (is ∙ ap (λ (w : Queue). elim w.pending [ [] ↦ empty_reply policy (events_of before) dest w.choked | m ∷ later ↦ Message m ]) (same refl))
-lane_take policy before dest reply false same o is = o
 
 own_lane : (policy : PolicyView) (before : List Operation) (dest : Dest) → is_switch dest ≡ true → waiting_of policy dest before ≡ lane_of policy before
 own_lane policy before Switch is = refl
@@ -149,8 +128,12 @@ own_lane policy before (Slice other) is = absurd (true≢false (sym is))
 
 pub lane_order : (policy : PolicyView) (ops : List Operation) → IsLegal policy ops → AreInOrder (lane_since policy ops) (lane_taken_since policy ops) (lane_of policy ops)
 lane_order policy [] legal = empty_order
-lane_order policy (Step timed reply ∷ before) legal = lane_step policy before timed (takes_in reply) (lane_order policy before legal.1)
-lane_order policy (Take dest reply ∷ before) legal = lane_take policy before dest reply (is_switch dest) (own_lane policy before dest) (lane_order policy before legal.1) legal.0
+lane_order policy (Step timed reply ∷ before) legal =
+    step_order lane_limit (ends (events_of before) timed) (lane_since policy before) (lane_taken_since policy before) (lane_of policy before)
+    (lane_by policy (events_of before) timed) (takes_in reply) (lane_order policy before legal.1)
+lane_order policy (Take dest reply ∷ before) legal =
+    take_order policy before dest reply (lane_since policy before) (lane_taken_since policy before) (lane_of policy before) (is_switch dest)
+    (own_lane policy before dest) (lane_order policy before legal.1) legal.0
 
 -- ---- what waits where there is room
 

@@ -10,10 +10,11 @@ use Rattle.desk_words.specs.declared.event.Timed.{Timed}
 use Rattle.desk_words.specs.declared.phase.Phase.{Phase}
 use Rattle.desk_words.specs.declared.phase.Phase.TheVariants.{Fresh, Begun, Opened, Ended}
 use Rattle.desk_words.specs.Openings.{features_told, status_told, phase_of, opening_after, opening_of, known_after, known_of}
+use Rattle.desk_words.specs.Verdicts.{is_before}
 use Rattle.desk_words.specs.Histories.{is_open}
 use Rattle.desk_words.specs.Laws.{after_opening, status_with, statuses_since, AreKnownAsTold}
 use Rattle.desk_words.proofs.Alone.{has_told, opened_told}
-use Rattle.desk_words.proofs.Silence.{is_early, untold}
+use Rattle.desk_words.proofs.Silence.{untold}
 
 -- what is known by an opening and the statuses since
 record AreBy (told : Option Features) (known : List (List ℕ)) (statuses : List PortStatus) : Type 0 where
@@ -60,7 +61,7 @@ by_status (Some status) opening known statuses are = record {
 }
 
 by_event : (phase : Phase) (told : Option Features) (known : List (List ℕ)) (timed : Timed) (events : List Timed) (event : Event) → timed.event ≡ event
-    → (is_early phase ≡ true → told ≡ None) → (is_open phase ≡ true → has_told told ≡ true)
+    → (is_before phase ≡ true → told ≡ None) → (is_open phase ≡ true → has_told told ≡ true)
     → AreBy told known (filter_map (λ timed. status_with timed.event) events)
     → AreBy (opening_after phase told event) (known_after phase known event) (statuses_in phase timed events)
 by_event Fresh None known timed events event e early opened are = are

@@ -78,24 +78,25 @@ lane_down of_slice slot Ended = refl
 
 -- ---- all
 
+-- where an event has nothing sent it wants no memory
+silent_wants : (policy : PolicyView) (h : List Timed) (timed : Timed) → lane_in (λ slot. put_with policy slot (switch_of h) (side_of policy slot h) timed) (switch_of h).phase timed.event ≡ []
+    → ((slot : ℕ) → sent_for (settings_at policy slot (switch_of h).features) (side_of policy slot h).sight.view (phase_items policy slot (switch_of h) (side_of policy slot h).sight.view timed (switch_of h).phase) ≡ [])
+    → (not (is_over h) && (is_answered policy (switch_of h) (λ slot. side_of policy slot h) timed || false || false)) ≡ false
+silent_wants policy h timed lane each =
+    ap (λ (answered : Bool). not (is_over h) && (answered || false || false))
+    (unanswered policy (switch_of h) (λ slot. side_of policy slot h) timed lane
+    (λ slot. let view = (side_of policy slot h).sight.view in
+    where_shown (settings_at policy slot (switch_of h).features) view (phase_items policy slot (switch_of h) view timed (switch_of h).phase) (is_slot policy slot) (each slot)))
+    ∙ over_or_none (is_over h)
+
 pub end_wants : (policy : PolicyView) (h : List Timed) (moment : ℕ) → WantsNone policy h (record { event = SwitchDown; moment = moment })
 end_wants policy h moment =
     let timed : Timed = record { event = SwitchDown; moment = moment } in
-    let switch = switch_of h in
-    ap (λ (answered : Bool). not (is_over h) && (answered || false || false))
-    (unanswered policy switch (λ slot. side_of policy slot h) timed (lane_end (λ slot. put_with policy slot switch (side_of policy slot h) timed) switch.phase)
-    (λ slot. let view = (side_of policy slot h).sight.view in
-    let s = settings_at policy slot switch.features in
-    where_shown s view (phase_items policy slot switch view timed switch.phase) (is_slot policy slot) (by_phase_end s policy slot switch view moment switch.phase)))
-    ∙ over_or_none (is_over h)
+    silent_wants policy h timed (lane_end (λ slot. put_with policy slot (switch_of h) (side_of policy slot h) timed) (switch_of h).phase)
+    (λ slot. by_phase_end (settings_at policy slot (switch_of h).features) policy slot (switch_of h) (side_of policy slot h).sight.view moment (switch_of h).phase)
 
 pub down_wants : (policy : PolicyView) (h : List Timed) (other moment : ℕ) → WantsNone policy h (record { event = SliceDown other; moment = moment })
 down_wants policy h other moment =
     let timed : Timed = record { event = SliceDown other; moment = moment } in
-    let switch = switch_of h in
-    ap (λ (answered : Bool). not (is_over h) && (answered || false || false))
-    (unanswered policy switch (λ slot. side_of policy slot h) timed (lane_down (λ slot. put_with policy slot switch (side_of policy slot h) timed) other switch.phase)
-    (λ slot. let view = (side_of policy slot h).sight.view in
-    let s = settings_at policy slot switch.features in
-    where_shown s view (phase_items policy slot switch view timed switch.phase) (is_slot policy slot) (by_phase_down s policy slot other switch view moment switch.phase)))
-    ∙ over_or_none (is_over h)
+    silent_wants policy h timed (lane_down (λ slot. put_with policy slot (switch_of h) (side_of policy slot h) timed) other (switch_of h).phase)
+    (λ slot. by_phase_down (settings_at policy slot (switch_of h).features) policy slot other (switch_of h) (side_of policy slot h).sight.view moment (switch_of h).phase)

@@ -5,7 +5,7 @@ use Rattle.desk_words.specs.declared.event.Event.{Event}
 use Rattle.desk_words.specs.declared.event.Event.TheVariants.{SwitchUp, SwitchDown, SliceUp, SliceMsg, SliceDown}
 use Rattle.desk_words.specs.declared.event.Timed.{Timed}
 use Rattle.desk_words.specs.declared.phase.Phase.{Phase}
-use Rattle.desk_words.specs.declared.phase.Phase.TheVariants.{Fresh, Ended}
+use Rattle.desk_words.specs.declared.phase.Phase.TheVariants.{Fresh, Begun, Ended}
 use Rattle.desk_words.specs.declared.answer.Verdict.{Verdict}
 use Rattle.desk_words.specs.declared.answer.Verdict.TheVariants as verdicts
 use Rattle.desk_words.specs.Openings.{phase_of}
@@ -20,6 +20,12 @@ is_fresh phase = false
 abbrev pub is_ended : Phase → Bool
 is_ended Ended = true
 is_ended phase = false
+
+-- the switch hasn't told yet what it is, and may still do so
+abbrev pub is_before : Phase → Bool
+is_before Fresh = true
+is_before Begun = true
+is_before phase = false
 
 -- nothing more comes of a history: the switch's connection has ended, or there were 2^60 events
 abbrev pub is_over : List Timed → Bool

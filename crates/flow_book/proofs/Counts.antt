@@ -16,6 +16,7 @@ use Rattle.std.proofs.lemmas.List.Sorted.{sum_by-IsPermutation}
 use Rattle.of10_model.specs.declared.pattern.Pattern.{Pattern}
 use Rattle.of10_model.specs.Inclusion.{includes_of}
 use Rattle.of10_model.specs.Meet.{is_disjoint}
+use Rattle.flowspace.proofs.Ranking.{filter-both}
 use Rattle.flow_book.specs.declared.booked.Booked.{Booked}
 use Rattle.flow_book.specs.Order.{IsInOrder}
 use Rattle.flow_book.specs.Books.{BookCall, Book, BookStands, is_pair, is_newcomer, newcomers_in, fits_in, overlaps_in, book, booking, HaveSame}
@@ -32,15 +33,8 @@ module _ {X : Type 0} where
   pub passing-append : (test : X → Bool) (xs ys : List X) → passing test (xs ++ ys) ≡ passing test xs + passing test ys
   passing-append test xs ys = ap length (filter-append test xs ys) ∙ length-append (filter test xs) (filter test ys)
 
-  filter-filter : (test keep : X → Bool) (xs : List X) → filter test (filter keep xs) ≡ filter (λ x. keep x && test x) xs
-  filter-filter test keep [] = refl
-  filter-filter test keep (x ∷ xs) = elim (cases_Bool (keep x)) [
-    | inl kept ↦ rw (kept, filter-filter test keep xs) refl
-    | inr left_out ↦ rw (left_out, filter-filter test keep xs) refl
-  ]
-
   pub passing-filter : (test keep : X → Bool) (xs : List X) → passing test (filter keep xs) ≡ passing (λ x. keep x && test x) xs
-  passing-filter test keep xs = ap length (filter-filter test keep xs)
+  passing-filter test keep xs = ap length (filter-both test keep xs)
 
   pub filter_all : (xs : List X) → filter (λ x. true) xs ≡ xs
   filter_all [] = refl

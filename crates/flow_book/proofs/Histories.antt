@@ -10,6 +10,7 @@ use Rattle.std.proofs.lemmas.List.Folds.{list_any-append, list_any_at, find-appe
 use Rattle.std.proofs.lemmas.Map.Views.{any-filter_same}
 use Rattle.of10_model.specs.declared.pattern.Pattern.{Pattern}
 use Rattle.of10_model.specs.Normal.{IsNormal}
+use Rattle.flowspace.proofs.Ranking.{find-filter}
 use Rattle.xid_map.proofs.Collecting.{kept_through}
 use Rattle.flow_book.specs.declared.booked.Booked.{Booked}
 use Rattle.flow_book.specs.Books.{BookCall, Added, Removed, Failed, is_pair, is_booked, includes_booked, is_newcomer, first_booked, booked_again, is_first, without, book, booking}
@@ -79,16 +80,6 @@ any_found : (test : Booked → Bool) (xs : List Booked) (b : Booked) → find te
 any_found test xs b e = elim (cases_Bool (list_any test xs)) [
   | inl some ↦ some
   | inr none ↦ let missed : None ≡ Some b = sym (find_no test xs none) ∙ e in cc
-]
-
-find_filter : (test keep : Booked → Bool) → ((b : Booked) → test b ≡ true → keep b ≡ true) → (xs : List Booked) → find test (filter keep xs) ≡ find test xs
-find_filter test keep h [] = refl
-find_filter test keep h (x ∷ xs) = elim (cases_Bool (test x)) [
-  | inl passes ↦ rw (h x passes, passes) refl
-  | inr fails ↦ elim (cases_Bool (keep x)) [
-    | inl kept ↦ rw (kept, fails) (find_filter test keep h xs)
-    | inr left_out ↦ rw (left_out, fails) (find_filter test keep h xs)
-  ]
 ]
 
 is_first_found : (number : ℕ) (o : Option Booked) → is_first number o ≡ true → (b : Booked) × (o ≡ Some b) × (b.number ≡ number)
@@ -170,7 +161,7 @@ module _ (m : Pattern) (p : ℕ) where
       both_ways (list_any (is_pair m p) (without m p xs)) (any-filter_same (is_pair m p) (λ y. not (is_pair m p y)) false (λ y same. ap not same) xs) (any_found (is_pair m p) (without m p xs) b e)
 
   find_without_other : (o : Pattern) (q : ℕ) (xs : List Booked) → ((b : Booked) → is_pair m p b ≡ true → is_pair o q b ≡ false) → find (is_pair m p) (without o q xs) ≡ find (is_pair m p) xs
-  find_without_other o q xs other = find_filter (is_pair m p) (λ y. not (is_pair o q y)) (λ y same. ap not (other y same)) xs
+  find_without_other o q xs other = find-filter (is_pair m p) (λ y. not (is_pair o q y)) (λ y same. ap not (other y same)) xs
 
   booked_without_other : (o : Pattern) (q : ℕ) (xs : List Booked) → ((b : Booked) → is_pair m p b ≡ true → is_pair o q b ≡ false) → is_booked m p (without o q xs) ≡ is_booked m p xs
   booked_without_other o q xs other = any-filter_same (is_pair m p) (λ y. not (is_pair o q y)) true (λ y same. ap not (other y same)) xs

@@ -1,5 +1,7 @@
 -- Lists by descending rank: what `ranked` gives, and that nothing else is in that order.
 use Rattle.std.proofs.Common.{◌≡◌, ℕ, zero, suc, ◌+◌, ◌<◌, ◌≤◌, Bool, true, false, cond, leb, List, [], ◌∷◌, length, get_or, map, filter, refl, sym, ap, ◌∙◌, arith, inl, inr, leb-true, leb-false, eqb-true, eq-eqb, not, ◌&&◌, ◌==◌, is_lt, nat_cmp}
+use mathlib.Core.Bool.{and_comm}
+use Rattle.std.specs.Prelude.{find}
 use Rattle.std.proofs.lemmas.Bool.{cond-true, cond-false, cases_Bool}
 use Rattle.std.proofs.lemmas.Bool.Decides.{nat_tests}
 use Rattle.std.proofs.lemmas.List.Sorted.{IsPermutation-refl, IsPermutation-cons, IsPermutation-trans, IsPermutation-sym, IsPermutation-middle}
@@ -21,17 +23,35 @@ kept_by p x xs h = cond-true _ _ _ h
 left_by : {A : Type 0} (p : A → Bool) (x : A) (xs : List A) → p x ≡ false → filter p (x ∷ xs) ≡ filter p xs
 left_by p x xs h = cond-false _ _ _ h
 
+-- two tests, one after the other, are one
+pub filter-both : {A : Type 0} (p q : A → Bool) (xs : List A) → filter p (filter q xs) ≡ filter (λ x. q x && p x) xs
+filter-both p q [] = refl
+filter-both p q (x ∷ xs) = elim (cases_Bool (q x)) [
+  | inl passes ↦ rw (passes, filter-both p q xs) refl
+  | inr stops ↦ rw (stops, filter-both p q xs) refl
+]
+
 -- in which order two tests are made does not matter
 pub filter-filter : {A : Type 0} (p q : A → Bool) (xs : List A) → filter p (filter q xs) ≡ filter q (filter p xs)
-filter-filter p q [] = refl
-filter-filter {A} p q (x ∷ xs) = elim (cases_Bool (p x)) [
-  | inl first ↦ elim (cases_Bool (q x)) [
-    | inl second ↦ rw (second, first) (rw second (ap (λ (r : List A). x ∷ r) (filter-filter p q xs)))
-    | inr stops ↦ rw (stops, first) (rw stops (filter-filter p q xs))
-  ]
-  | inr first ↦ elim (cases_Bool (q x)) [
-    | inl second ↦ rw (second, first) (filter-filter p q xs)
-    | inr stops ↦ rw (stops, first) (filter-filter p q xs)
+filter-filter p q xs = filter-both p q xs ∙ filter_agree (λ x. q x && p x) (λ x. p x && q x) (λ x. and_comm (q x) (p x)) xs ∙ sym (filter-both q p xs)
+
+stricter : (b c : Bool) → (c ≡ true → b ≡ true) → (b && c) ≡ c
+stricter true c lets = refl
+stricter false true lets = lets refl
+stricter false false lets = refl
+
+-- one test lets pass what the other does
+pub filter-through : {A : Type 0} (p q : A → Bool) → ((x : A) → p x ≡ true → q x ≡ true) → (xs : List A) → filter p (filter q xs) ≡ filter p xs
+filter-through p q lets xs = filter-both p q xs ∙ filter_agree (λ x. q x && p x) p (λ x. stricter (q x) (p x) (lets x)) xs
+
+-- a test lets pass what is sought
+pub find-filter : {A : Type 0} (p q : A → Bool) → ((x : A) → p x ≡ true → q x ≡ true) → (xs : List A) → find p (filter q xs) ≡ find p xs
+find-filter p q lets [] = refl
+find-filter p q lets (x ∷ xs) = elim (cases_Bool (p x)) [
+  | inl sought ↦ rw (sought, lets x sought) (rw sought refl)
+  | inr other ↦ elim (cases_Bool (q x)) [
+    | inl passes ↦ rw (passes, other) (find-filter p q lets xs)
+    | inr stops ↦ rw (stops, other) (find-filter p q lets xs)
   ]
 ]
 

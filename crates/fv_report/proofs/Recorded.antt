@@ -18,7 +18,7 @@ use Rattle.desk_words.specs.declared.event.Timed.{Timed}
 use Rattle.desk_words.specs.declared.answer.Dest.{Dest}
 use Rattle.desk_words.specs.declared.answer.Dest.TheVariants.{Switch as ToSwitch, Slice}
 use Rattle.desk_words.specs.Recorded.{told_by, begins_stream, is_same_stream, stream_before, completed, happenings, history_of, history_at, events_in, next_after}
-use Rattle.desk_words.proofs.Completed.{frames_first}
+use Rattle.desk_words.proofs.Completed.{frames_first, others_behind}
 use Rattle.answer_bounds.specs.Bounds.{IsFramed, AreFramed}
 use Rattle.desk_words.specs.Reports as report
 use Rattle.desk_words.specs.Reports.{lines_of}
@@ -61,10 +61,7 @@ stream_other switch kind slot r before is = rw is refl
 
 -- frames of some bytes and those that more bytes complete are all
 pub frames_fed : (fed bytes : List ℕ) → frames_of fed ++ drop (length (frames_of fed)) (frames_of (fed ++ bytes)) ≡ frames_of (fed ++ bytes)
-frames_fed fed bytes =
-    let first = frames_first (length fed) fed bytes (le_refl _) in
-    let given = frames_of fed in
-    ap (λ (frames : List (List ℕ)). given ++ drop (length given) frames) (sym first.1) ∙ ap (λ (others : List (List ℕ)). given ++ others) (drop-append_seam given first.0) ∙ first.1
+frames_fed fed bytes = others_behind (frames_of fed) (frames_of (fed ++ bytes)) (frames_first (length fed) fed bytes (le_refl _))
 
 pub no_frames : [] ≡ frames_of []
 unfolding frames_of frames_at

@@ -4,19 +4,9 @@ use Rattle.std.specs.Prelude.{find, Option, Some, None}
 use Rattle.std.specs.Option.{option_or}
 use Rattle.std.proofs.lemmas.Bool.{lt-ltb, le-ltb, eqb-true, eq-eqb, ne_eqb, cases_Bool, cases_order}
 use Rattle.std.proofs.lemmas.List.Folds.{find-append}
+use Rattle.flowspace.proofs.Ranking.{find-filter}
 
--- a test that lets pass what is sought
-find-filter : {X : Type 0} (p q : X → Bool) → ((x : X) → p x ≡ true → q x ≡ true) → (xs : List X) → find p (filter q xs) ≡ find p xs
-find-filter p q lets [] = refl
-find-filter {X} p q lets (x ∷ xs) = elim (cases_Bool (p x)) [
-  | inl sought ↦ rw (sought, lets x sought) (rw sought refl)
-  | inr other ↦ elim (cases_Bool (q x)) [
-    | inl passes ↦ rw (passes, other) (find-filter p q lets xs)
-    | inr stays ↦ rw (stays, other) (find-filter p q lets xs)
-  ]
-]
-
--- one that doesn't
+-- a test that doesn't let pass what is sought
 find-without : {X : Type 0} (p q : X → Bool) → ((x : X) → p x ≡ true → q x ≡ false) → (xs : List X) → find p (filter q xs) ≡ None
 find-without p q stops [] = refl
 find-without {X} p q stops (x ∷ xs) = elim (cases_Bool (p x)) [

@@ -2,7 +2,7 @@
 use Rattle.std.proofs.Common.{◌≡◌, ◌≢◌, ℕ, ◌≤◌, ◌==◌, ltb, not, Bool, true, false, List, [], ◌∷◌, ◌++◌, filter, refl, sym, ap, ap₂, ◌∙◌, inl, inr, arith}
 use Rattle.std.proofs.lemmas.Bool.{cases_Bool, lt-ltb, le-ltb, ltb-true, ltb-false, eq-eqb, ne_eqb, cases_eq}
 use Rattle.std.proofs.lemmas.List.Elements.{filter-append}
-use Rattle.flowspace.proofs.Ranking.{filter-filter}
+use Rattle.flowspace.proofs.Ranking.{filter-filter, filter-through}
 use Rattle.of10_port.specs.Ports.{port_number}
 use Rattle.of10_port.specs.declared.status.PortStatus.{PortStatus}
 use Rattle.port_view.specs.declared.answer.Kept.TheVariants.{Kept}
@@ -10,19 +10,6 @@ use Rattle.port_view.specs.KnownPorts.{IsAscending, ports_below, ports_above, wi
 use Rattle.port_view.proofs.Order.{AreAbove, Rises, Rises-from_pairs}
 use Rattle.port_view.proofs.Cutting.{changed_plainly-delete, changed_plainly-other, by_reason}
 use Rattle.port_view.proofs.Knowing.{changed-kept, by_kept}
-
--- ---- two tests on one list
-
--- one test lets pass what the other does
-filter-through : {X : Type 0} (p q : X → Bool) → ((x : X) → p x ≡ true → q x ≡ true) → (xs : List X) → filter p (filter q xs) ≡ filter p xs
-filter-through p q lets [] = refl
-filter-through {X} p q lets (x ∷ xs) = elim (cases_Bool (p x)) [
-  | inl passes ↦ rw (lets x passes, passes) (ap (λ (r : List X). x ∷ r) (filter-through p q lets xs))
-  | inr stops ↦ elim (cases_Bool (q x)) [
-    | inl second ↦ rw (second, stops) (filter-through p q lets xs)
-    | inr stops_too ↦ rw (stops_too, stops) (filter-through p q lets xs)
-  ]
-]
 
 -- ---- an ascending list without a number
 

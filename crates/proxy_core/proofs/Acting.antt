@@ -13,11 +13,12 @@ use Rattle.desk_words.specs.declared.phase.Phase.TheVariants.{Fresh, Begun, Open
 use Rattle.desk_words.specs.Openings.{phase_after, opening_with, opening_after, known_after, Switch, switch_after}
 use Rattle.desk_words.specs.Histories.{is_slot, settings_at, Side, items_of, phase_items, opening_items, is_open}
 use Rattle.desk_words.specs.Sent.{lane_in, put_with}
-use Rattle.desk_words.specs.Verdicts.{is_ended}
+use Rattle.desk_words.specs.Verdicts.{is_ended, is_before}
+use Rattle.desk_words.proofs.Alone.{none_in}
 use Rattle.desk_words.specs.Operations.{slice_limit, lane_limit, empties, is_ending}
 use Rattle.proxy_core.specs.declared.parts.Session.{Session}
 use Rattle.proxy_core.specs.declared.parts.Desk.{Desk}
-use Rattle.proxy_core.specs.Desks.{SessionStands, Opens, Body, is_before, Coherent, sides_after, up_after, queues_after, lane_after}
+use Rattle.proxy_core.specs.Desks.{SessionStands, Opens, Body, Coherent, sides_after, up_after, queues_after, lane_after}
 use Rattle.of10_model.proofs.Results.{either_none}
 use Rattle.proxy_core.proofs.Lists.{within}
 use Rattle.proxy_core.proofs.Standing.{passes, ends_slot, session_goes}
@@ -67,13 +68,6 @@ pub is_opened : (p : PolicyView) (switch : Switch) (sides : ℕ → Side) (qs : 
     → switch.phase ≡ Opened
 is_opened p switch sides qs session fit s on = opened_in switch.phase switch.features session.features fit.before_untold s.told on
 
-none_shown : (p : PolicyView) (slot : ℕ) (switch : Switch) (side : Side) (timed : Timed) (phase : Phase) → is_open phase ≡ false → opening_with phase timed.event ≡ None
-    → phase_items p slot switch side.sight.view timed phase ≡ []
-none_shown p slot switch side timed Fresh shut none = refl
-none_shown p slot switch side timed Begun shut none = ap (opening_items p slot) none
-none_shown p slot switch side timed Opened shut none = absurd (true≢false shut)
-none_shown p slot switch side timed Ended shut none = refl
-
 shut_in : (phase : Phase) (told : Option Features) → (phase ≡ Opened → (features : Features) × (told ≡ Some features)) → told ≡ None → is_open phase ≡ false
 shut_in Fresh told opens none = refl
 shut_in Begun told opens none = refl
@@ -88,7 +82,7 @@ still_none p switch sides qs timed fit opens none = (
   ap (λ (told : Option Features). opening_after switch.phase told timed.event) opens.0 ∙ none,
   λ slot. empty_after p switch sides qs timed slot
       (either_none (is_slot p slot) (phase_items p slot switch (sides slot).sight.view timed switch.phase)
-      (none_shown p slot switch (sides slot) timed switch.phase (shut_in switch.phase switch.features fit.open_told opens.0) none))
+      (none_in p slot switch (sides slot).sight.view timed switch.phase (shut_in switch.phase switch.features fit.open_told opens.0) none))
       (opens.1 slot),
 )
 

@@ -12,13 +12,13 @@ use Rattle.desk_words.specs.declared.phase.Phase.TheVariants.{Fresh, Begun, Open
 use Rattle.desk_words.specs.Openings.{phase_after, opening_with, opening_after, known_after, Switch, switch_after}
 use Rattle.desk_words.specs.Histories.{is_slot, Side, is_open}
 use Rattle.desk_words.specs.Sent.{greeting, lane_in, put_with}
-use Rattle.desk_words.specs.Verdicts.{is_fresh, is_ended, is_switch_up, is_down, has_slot, is_connected, is_closing}
+use Rattle.desk_words.specs.Verdicts.{is_fresh, is_ended, is_before, is_switch_up, is_down, has_slot, is_connected, is_closing}
 use Rattle.desk_words.specs.Operations.{lane_limit}
 use Rattle.desk_words.proofs.Erasing.{slices_switch}
 use Rattle.proxy_core.specs.declared.parts.Session.{Session}
 use Rattle.proxy_core.specs.declared.parts.Desk.{Desk}
 use Rattle.proxy_core.specs.Slots.{HasMore}
-use Rattle.proxy_core.specs.Desks.{Opens, Body, is_before, Coherent, sides_after, up_after, queues_after, lane_after, closes_now, Acts, Ends, is_begun, is_begun_with}
+use Rattle.proxy_core.specs.Desks.{Opens, Body, Coherent, sides_after, up_after, queues_after, lane_after, closes_now, Acts, Ends, is_begun, is_begun_with}
 use Rattle.of10_model.proofs.Results.{either_none}
 use Rattle.proxy_core.proofs.Standing.{items_opened}
 use Rattle.proxy_core.proofs.Acting.{body_after, is_opened, still_none, session_passes, session_ends, lane_is, lane_stays}

@@ -16,17 +16,11 @@ use Rattle.desk_words.specs.declared.phase.Phase.TheVariants.{Fresh, Begun, Open
 use Rattle.desk_words.specs.Openings.{rules_of, phase_of, opening_of, switch_of}
 use Rattle.desk_words.specs.Histories.{is_slot, settings_at, own_ports, side_start, side_of, is_open}
 use Rattle.desk_words.proofs.Alone.{has_told, opened_told, blind}
-use Rattle.desk_words.proofs.Silence.{is_early, untold, sees_nothing}
+use Rattle.desk_words.proofs.Silence.{untold, sees_nothing}
 use Rattle.desk_words.proofs.Seen.{seen}
 use Rattle.switch_side.proofs.OwnPorts.{has_port-own}
-use Rattle.proxy_core.specs.Desks.{is_before, Coherent}
+use Rattle.proxy_core.specs.Desks.{Coherent}
 use Rattle.proxy_core.proofs.Lists.{there}
-
-before_early : (phase : Phase) → is_before phase ≡ true → is_early phase ≡ true
-before_early Fresh is = refl
-before_early Begun is = refl
-before_early Opened is = is
-before_early Ended is = is
 
 told_some : (told : Option Features) → has_told told ≡ true → (features : Features) × (told ≡ Some features)
 told_some None is = absurd (true≢false (sym is))
@@ -51,7 +45,7 @@ ports_same policy slot told known here =
 pub coherent : (policy : PolicyView) (h : List Timed) → Coherent policy (switch_of h) (λ slot. side_of policy slot h)
 coherent policy h = record {
   open_told = λ opened. told_some (opening_of h) (opened_told h (ap is_open opened));
-  before_untold = λ before. untold h (before_early (phase_of h) before);
+  before_untold = λ before. untold h before;
   blind = λ none slot. blind policy slot h none;
   beyond = λ slot out. sees_nothing policy slot h out;
   seen = λ features told slot here. seen policy slot h features told here;

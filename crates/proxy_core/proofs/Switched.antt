@@ -22,7 +22,7 @@ use Rattle.desk_words.specs.declared.phase.Phase.TheVariants.{Fresh, Begun, Open
 use Rattle.desk_words.specs.Openings.{features_told, status_told, kept_beside, status_kept, phase_after, opening_after, known_after, Switch, switch_after}
 use Rattle.desk_words.specs.Histories.{Side, message_items, is_open}
 use Rattle.desk_words.specs.Sent.{preparation, echo_for, lane_in, put_with}
-use Rattle.desk_words.specs.Verdicts.{is_fresh, is_ended, is_closing}
+use Rattle.desk_words.specs.Verdicts.{is_fresh, is_ended, is_before, is_closing}
 use Rattle.desk_words.specs.Wants.{is_answered, is_port_kept}
 use Rattle.desk_words.specs.Operations.{slice_limit, lane_limit}
 use Rattle.switch_side.specs.declared.dispatch.Dispatch.{Dispatch}
@@ -32,7 +32,7 @@ use Rattle.proxy_core.specs.declared.parts.Session.{Session}
 use Rattle.proxy_core.specs.declared.parts.Desk.{Desk}
 use Rattle.proxy_core.specs.Slots.{HasOnly, HasMore}
 use Rattle.proxy_core.specs.Handing.{HasRoomForAll, AreSame, AreHanded, kept_by}
-use Rattle.proxy_core.specs.Desks.{SessionStands, Opens, Body, is_before, Coherent, sides_after, up_after, queues_after, Acted, Acts, ActsIn, Ends, PassesOn}
+use Rattle.proxy_core.specs.Desks.{SessionStands, Opens, Body, Coherent, sides_after, up_after, queues_after, Acted, Acts, ActsIn, Ends, PassesOn}
 use Rattle.proxy_core.specs.Opening.{Begins, CarriedOut, Carries, HasDispatch, StandsOn}
 use Rattle.proxy_core.proofs.Effects.{some_room, some_full, lane_answered, all_answered}
 use Rattle.proxy_core.proofs.Lists.{there, within}

@@ -21,7 +21,7 @@ use Rattle.desk_words.specs.declared.answer.Verdict.{Verdict}
 use Rattle.desk_words.specs.Openings.{rules_of, phase_after, Switch as Known, switch_after, switch_of}
 use Rattle.desk_words.specs.Histories.{is_slot, settings_at, Side, side_start, items_of, with_shown, side_of, is_open}
 use Rattle.desk_words.specs.Sent.{sent_with, put_with, lane_in, echo_for}
-use Rattle.desk_words.specs.Verdicts.{is_ended, is_closing}
+use Rattle.desk_words.specs.Verdicts.{is_ended, is_before, is_closing}
 use Rattle.desk_words.specs.Wants.{may_want_after}
 use Rattle.desk_words.specs.Operations.{Operation, Step, Take, events_of, slice_limit, lane_limit, empties, is_ending, is_slice, is_switch, queue_of, lane_of, waiting_in, silence, take_reply, IsReply}
 use Rattle.desk_words.specs.Laws.{HasSeen}
@@ -61,11 +61,6 @@ pub record Body (policy : PolicyView) (switch : Known) (sides : ℕ → Side) (q
   pub beyond : (slot : ℕ) → is_slot policy slot ≡ false → queues slot ≡ no_messages
 
 -- ---- what holds of every history
-
--- a phase before the switch told what it is
-abbrev pub is_before : Phase → Bool
-is_before Opened = false
-is_before phase = not (is_ended phase)
 
 -- what is known of a switch and what slices see fit together
 pub record Coherent (policy : PolicyView) (switch : Known) (sides : ℕ → Side) : Type 0 where
