@@ -14,6 +14,3 @@ pub use decode::{
 };
 pub use encode::{encode_list, list_size};
 pub use fault::{DecodeFault, WireFault, code};
-
-#[cfg(test)]
-mod tests;

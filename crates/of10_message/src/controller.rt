@@ -1,0 +1,44 @@
+use of10_flow::{FlowMod, PacketOut};
+use of10_stats::StatsRequest;
+
+/// How a switch is set (OpenFlow 1.0.0, section 5.3.2).
+#[derive(Clone, Copy, Debug, PartialEq, Eq)]
+pub struct SwitchConfig {
+    /// How fragments are handled: 0 as usual.
+    pub flags: u16,
+    /// How many bytes of a packet that no entry matched are handed up.
+    pub miss_send_len: u16,
+}
+
+/// A message that a controller sends (OpenFlow 1.0.0, section 5), but for its head.
+#[derive(Debug, Drop)]
+pub enum FromController {
+    /// Section 5.5; any version but 0.
+    Hello,
+    /// Section 5.4.4; its body isn't read.
+    Error,
+    /// Section 5.5; its body goes back as it came.
+    EchoRequest,
+    /// Section 5.5.
+    EchoReply,
+    /// Section 5.5; its body isn't read.
+    Vendor,
+    /// Section 5.3.1.
+    FeaturesRequest,
+    /// Section 5.3.2.
+    GetConfigRequest,
+    /// Section 5.3.2.
+    SetConfig(SwitchConfig),
+    /// Section 5.3.6.
+    PacketOut(PacketOut),
+    /// Section 5.3.3.
+    FlowMod(FlowMod),
+    /// Section 5.3.3; its body isn't read.
+    PortMod,
+    /// Section 5.3.5.
+    StatsRequest(StatsRequest),
+    /// Section 5.3.7.
+    BarrierRequest,
+    /// Section 5.3.4: the port whose queues are asked for.
+    QueueGetConfigRequest(u16),
+}
