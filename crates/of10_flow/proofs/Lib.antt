@@ -1,3 +1,11 @@
 pub mod Again
 pub mod Begins
 pub mod Padding
+pub mod Keeping
+pub mod Sequences
+pub mod Choosing
+pub mod Meaning
+pub mod Pairs
+pub mod Splitting
+pub mod Turns
+pub mod Faithful

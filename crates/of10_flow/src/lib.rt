@@ -1,6 +1,8 @@
-//! The messages of OpenFlow 1.0 that change flow tables, tell of their entries and carry packets.
+//! The messages of OpenFlow 1.0 that change flow tables, tell of their entries and carry packets; and flow
+//! tables, as definitions with their laws.
 #![tactic(auto)]
 
+mod entry;
 mod fields;
 mod flow_mod;
 mod flow_removed;
@@ -8,11 +10,10 @@ pub mod laws;
 mod packet_in;
 mod packet_out;
 pub mod protocol;
+pub mod tables;
 
+pub use entry::FlowEntry;
 pub use flow_mod::{FlowMod, FlowModView};
 pub use flow_removed::FlowRemoved;
 pub use packet_in::{PacketIn, PacketInView};
 pub use packet_out::PacketOut;
-
-#[cfg(test)]
-mod tests;

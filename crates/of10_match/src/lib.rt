@@ -5,11 +5,9 @@ mod header;
 mod matching;
 mod normal;
 mod reading;
+mod same;
 mod writing;
 
 pub use header::Header12;
 pub use matching::{Match, exact_pattern};
 pub use normal::{has_network, has_ports, has_service, has_vlan};
-
-#[cfg(test)]
-mod tests;

@@ -4,10 +4,12 @@ ghost use Rattle.of10_model.specs.Normal.{IsNormal, IsPrefix, Norm, is_exact, ma
 ghost use Rattle.of10_model.specs.Header.{Header, IsHeader};
 ghost use Rattle.of10_model.specs.Spelling.{Spell};
 ghost use Rattle.of10_model.specs.Exact.{exact_of, all_free, IsTidy};
+ghost use Rattle.of10_model.specs.Same.{is_same};
 
 use crate::header::Header12;
 use crate::normal::normal;
 use crate::reading::read;
+use crate::same::is_same;
 use crate::writing::spell;
 use of10_model::{Pattern, Prefix};
 use std::marker::Model;
@@ -178,6 +180,14 @@ impl Match {
         ensures { result ≡ is_exact self.now }
     {
         self.pattern.is_exact()
+    }
+
+    /// Whether the other is the same match. It is told as by `==`, but the fields in which matches of one
+    /// slice differ most often are looked at first.
+    pub fn is_same(&self, other: &Match) -> bool
+        ensures { result ≡ is_same self.now other.now }
+    {
+        is_same(&self.pattern, &other.pattern)
     }
 
     /// Whether each constraint holds of its field.
