@@ -174,7 +174,7 @@ way_before rs slot image action (SetNwTos service) way = tt
 way_before rs slot image action (SetTpSrc port) way = tt
 way_before rs slot image action (SetTpDst port) way = tt
 
-ways : (rs : List Rule) (slot : ℕ) (flood all : List ℕ) → All (HasPort rs slot) flood → All (HasPort rs slot) all → (image : Origin) (actions : List Action) → first_code rs slot image actions ≡ None
+pub ways : (rs : List Rule) (slot : ℕ) (flood all : List ℕ) → All (HasPort rs slot) flood → All (HasPort rs slot) all → (image : Origin) (actions : List Action) → first_code rs slot image actions ≡ None
     → All (HasWay rs slot image) (expanded flood all actions)
 ways rs slot flood all on_flood on_all image [] e = All-nil (HasWay rs slot image)
 ways rs slot flood all on_flood on_all image (action ∷ others) e =

@@ -1,5 +1,5 @@
 -- Which actions are forbidden, for the image of what they are applied to. This is the proxy's own rule; numbers of ports and codes of errors are the standard's (OpenFlow 1.0.0, sections 5.2.1 and 5.4.4).
-use Rattle.std.specs.Prelude.{ℕ, ◌==◌, ◌&&◌, ◌||◌, not, leb, if◌then◌else◌, Bool, true, List, Option, Some, None}
+use Rattle.std.specs.Prelude.{ℕ, ◌==◌, ◌&&◌, ◌||◌, not, leb, if◌then◌else◌, Bool, true, List, Option, Some, None, slice_get, false}
 use Rattle.std.specs.List.{list_any}
 use Rattle.of10_model.specs.declared.pattern.Pattern.{Pattern}
 use Rattle.of10_model.specs.Pattern.{has}
@@ -60,6 +60,10 @@ sees_in_port port = port == CONTROLLER || port == TABLE
 -- what a match says of packets to a port: in_port is disregarded but for CONTROLLER and TABLE
 abbrev pub counted : ℕ → Pattern → Pattern
 counted port m = if sees_in_port port then m else any_in_port m
+
+-- a rule stands at a place and passes a test
+abbrev pub passes_at : (Rule → Bool) → List Rule → ℕ → Bool
+passes_at test rules place = elim (slice_get rules place) [ None ↦ false | Some rule ↦ test rule ]
 
 -- one write rule of the slice has all of the cover, or the packet's header; a probe isn't tested
 abbrev pub may_go : List Rule → ℕ → Origin → ℕ → Bool

@@ -5,11 +5,11 @@ ghost use Rattle.std.specs.List.{list_any};
 ghost use Rattle.of10_model.specs.Pattern.{has};
 ghost use Rattle.of10_model.specs.Inclusion.{includes_of, any_in_port};
 ghost use Rattle.flowspace.specs.Rules.{is_written_by};
-ghost use Rattle.action_check.specs.ActionRules.{argument_fits, port_of, has_way_back, is_own_way, is_other_way, has_way, sees_in_port, counted, may_go, is_covered, probe_code, code_of};
+ghost use Rattle.action_check.specs.ActionRules.{argument_fits, port_of, has_way_back, is_own_way, is_other_way, has_way, sees_in_port, counted, passes_at, may_go, is_covered, probe_code, code_of};
 
 use crate::fault::{BAD_ARGUMENT, BAD_OUT_PORT, NOT_PERMITTED};
 use crate::origin::Origin;
-use flowspace::{Rule, SwitchPolicy, is_written_by};
+use flowspace::{Rule, SwitchPolicy};
 use match_meet::{includes, includes_aside};
 use of10_action::Action;
 use of10_match::{Header12, Match};
@@ -115,26 +115,58 @@ fn has_header(m: &Match, header: &Header12, port: u16) -> bool
     }
 }
 
-fn is_cover_written(rules: &[Rule], slot: u8, cover: &Match, port: u16) -> bool
-    ensures { result ≡ list_any (λ rule. is_written_by slot rule && includes_of (counted port rule.pattern) cover.now) rules.now }
+fn covers_at(rules: &[Rule], place: u16, cover: &Match, port: u16) -> bool
+    ensures { result ≡ passes_at (λ rule. includes_of (counted port rule.pattern) cover.now) rules.now place }
 {
-    let slot = usize::from(slot);
-    rules.iter().any(|rule| is_written_by(rule, slot) && covers(&rule.pattern, cover, port))
+    match rules.get(usize::from(place)) {
+        Some(rule) => covers(&rule.pattern, cover, port),
+        None => false,
+    }
 }
 
-fn is_header_written(rules: &[Rule], slot: u8, header: &Header12, port: u16) -> bool
-    ensures { result ≡ list_any (λ rule. is_written_by slot rule && has (counted port rule.pattern) header.now) rules.now }
+fn has_header_at(rules: &[Rule], place: u16, header: &Header12, port: u16) -> bool
+    ensures { result ≡ passes_at (λ rule. has (counted port rule.pattern) header.now) rules.now place }
 {
-    let slot = usize::from(slot);
-    rules.iter().any(|rule| is_written_by(rule, slot) && has_header(&rule.pattern, header, port))
+    match rules.get(usize::from(place)) {
+        Some(rule) => has_header(&rule.pattern, header, port),
+        None => false,
+    }
+}
+
+fn is_cover_among(rules: &[Rule], places: &[u16], cover: &Match, port: u16) -> bool
+    ensures { result ≡ list_any (passes_at (λ rule. includes_of (counted port rule.pattern) cover.now) rules.now) places.now }
+{
+    places
+        .iter()
+        .any(|place| covers_at(rules, *place, cover, port))
+}
+
+fn is_header_among(rules: &[Rule], places: &[u16], header: &Header12, port: u16) -> bool
+    ensures { result ≡ list_any (passes_at (λ rule. has (counted port rule.pattern) header.now) rules.now) places.now }
+{
+    places
+        .iter()
+        .any(|place| has_header_at(rules, *place, header, port))
+}
+
+fn is_cover_written(policy: &SwitchPolicy, slot: u8, cover: &Match, port: u16) -> bool
+    ensures { result ≡ list_any (λ rule. is_written_by slot rule && includes_of (counted port rule.pattern) cover.now) policy.now.rules }
+{
+    is_cover_among(policy.rules(), policy.write_places(slot), cover, port)
+}
+
+fn is_header_written(policy: &SwitchPolicy, slot: u8, header: &Header12, port: u16) -> bool
+    ensures { result ≡ list_any (λ rule. is_written_by slot rule && has (counted port rule.pattern) header.now) policy.now.rules }
+{
+    is_header_among(policy.rules(), policy.write_places(slot), header, port)
 }
 
 fn may_go(policy: &SwitchPolicy, slot: u8, image: &Origin, port: u16) -> bool
     ensures { result ≡ may_go policy.now.rules slot image.now port }
 {
     match image {
-        Origin::Piece(cover) => is_cover_written(policy.rules(), slot, cover, port),
-        Origin::Packet(header) => is_header_written(policy.rules(), slot, header, port),
+        Origin::Piece(cover) => is_cover_written(policy, slot, cover, port),
+        Origin::Packet(header) => is_header_written(policy, slot, header, port),
         Origin::Probe { .. } => true,
     }
 }

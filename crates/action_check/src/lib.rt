@@ -12,6 +12,3 @@ mod origin;
 pub use checking::check;
 pub use fault::{BAD_ARGUMENT, BAD_OUT_PORT, CheckFault, NOT_PERMITTED};
 pub use origin::Origin;
-
-#[cfg(test)]
-mod tests;

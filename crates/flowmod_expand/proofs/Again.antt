@@ -11,7 +11,8 @@ use Rattle.of10_ctl.specs.Kinds.{IsOf}
 use Rattle.of10_flow.specs.declared.flow_mod.FlowMod.{FlowMod}
 use Rattle.of10_flow.specs.FlowMods.{IsFlowMod, spell_flow_mod, read_flow_mod}
 use Rattle.of10_flow.proofs.Again.{flow_mod_of, flow_mod_again}
-use Rattle.flowmod_expand.specs.Messages.{is_delete, buffer_at, sent_for, are_too_large}
+use Rattle.of10_flow.specs.Tables.{is_delete}
+use Rattle.flowmod_expand.specs.Messages.{buffer_at, sent_for, are_too_large}
 use Rattle.flowmod_expand.specs.Laws.{Order, IsPaired, IsInRange, messages_of, Place, flow_mod_at}
 use Rattle.flowmod_expand.proofs.Walks.{spell_size, flow_messages_length, flow_messages_at, sizes_within}
 

@@ -5,3 +5,4 @@ pub mod Splits
 pub mod Space
 pub mod Walks
 pub mod Again
+pub mod Outsiders

@@ -1,7 +1,7 @@
 -- The messages of the pieces one after the other, and their sizes.
 use Rattle.std.proofs.Common.{◌≡◌, ℕ, zero, suc, ◌+◌, ◌-◌, ◌<◌, ◌≤◌, ◌⊎◌, inl, inr, Bool, true, false, nat_lt, if◌then◌else◌, List, [], ◌∷◌, ◌++◌, length, take, get_or, sum_by, All, Option, refl, sym, ◌∙◌, ap, subst, arith}
 use Rattle.std.specs.List.{list_any}
-use Rattle.std.proofs.lemmas.Bool.{lt-ltb, le-ltb, ltb-false, or_left, or_right, cases_lt, true≢false, or_parts}
+use Rattle.std.proofs.lemmas.Bool.{lt-ltb, le-ltb, ltb-false, or_left, or_right, true≢false, or_parts}
 use Rattle.std.proofs.lemmas.List.{get_or-map, length-map, take_more, take_all}
 use Rattle.std.proofs.lemmas.List.Elements.{All-nil, All-push}
 use Rattle.std.proofs.lemmas.List.Folds.{list_any_at, list_any_none}
@@ -14,7 +14,8 @@ use Rattle.of10_ctl.specs.declared.kind.TheConstants.{FLOW_MOD}
 use Rattle.of10_ctl.specs.Kinds.{IsOf}
 use Rattle.of10_flow.specs.declared.flow_mod.FlowMod.{FlowMod}
 use Rattle.of10_flow.specs.FlowMods.{spell_flow_mod}
-use Rattle.flowmod_expand.specs.Messages.{is_delete, buffer_at, sent_for, sent_from, flow_messages, are_too_large}
+use Rattle.of10_flow.specs.Tables.{is_delete}
+use Rattle.flowmod_expand.specs.Messages.{buffer_at, sent_for, sent_from, flow_messages, are_too_large}
 
 -- ---- the message at a place
 

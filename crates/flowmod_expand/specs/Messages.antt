@@ -1,17 +1,14 @@
 -- The messages that are sent for a flow-mod, one for each of its pieces. Which fields they have is the proxy's own rule.
-use Rattle.std.specs.Prelude.{ℕ, ◌≡◌, ◌+◌, ◌==◌, ◌||◌, leb, nat_lt, Bool, true, false, if◌then◌else◌, List, [], ◌∷◌, map, length, sum_by, Option, Some, None, Result, Ok, Err}
+use Rattle.std.specs.Prelude.{ℕ, ◌≡◌, ◌+◌, ◌==◌, ◌||◌, nat_lt, Bool, true, false, if◌then◌else◌, List, [], ◌∷◌, map, length, sum_by, Option, Some, None, Result, Ok, Err}
 use Rattle.std.specs.List.{list_any}
 use Rattle.of10_model.specs.declared.pattern.Pattern.{Pattern}
 use Rattle.of10_action.specs.declared.action.Action.{Action}
 use Rattle.of10_flow.specs.declared.flow_mod.FlowMod.{FlowMod}
-use Rattle.of10_flow.specs.declared.protocol.TheConstants.{NO_BUFFER, DELETE, SEND_FLOW_REM}
+use Rattle.of10_flow.specs.declared.protocol.TheConstants.{NO_BUFFER, SEND_FLOW_REM}
 use Rattle.of10_flow.specs.FlowMods.{spell_flow_mod}
+use Rattle.of10_flow.specs.Tables.{is_delete}
 use Rattle.flowmod_expand.specs.declared.fault.BuildFault.{BuildFault}
 use Rattle.flowmod_expand.specs.declared.fault.BuildFault.TheVariants.{TooLarge, Memory}
-
--- a delete, strict or not: the commands from DELETE on (OpenFlow 1.0.0, section 5.3.3)
-abbrev pub is_delete : FlowMod → Bool
-is_delete m = leb DELETE m.command
 
 -- the buffer number of the piece at a place: the one that is given for its place, and else none (OpenFlow 1.0.0, section 5.3.3)
 abbrev pub buffer_at : Option (ℕ × ℕ) → ℕ → ℕ

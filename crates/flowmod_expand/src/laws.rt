@@ -1,6 +1,6 @@
 //! Laws of the definitions. Each function's contract is the law; its body does nothing.
 
-ghost use Rattle.std.specs.Prelude.{ℕ, List, ◌≡◌, ◌≢◌, ◌≤◌, ◌↔◌, false, length, count_by, All, Any, AllPairs, Ok};
+ghost use Rattle.std.specs.Prelude.{ℕ, List, ◌≡◌, ◌≢◌, ◌≤◌, ◌↔◌, false, length, count_by, All, Any, AllPairs, Option, Ok};
 ghost use Rattle.of10_model.specs.declared.pattern.Pattern.{Pattern};
 ghost use Rattle.of10_model.specs.Header.{Header, IsHeader};
 ghost use Rattle.of10_model.specs.Pattern.{Has};
@@ -13,9 +13,14 @@ ghost use Rattle.flowspace.specs.Policies.{IsSwitchPolicy, AreNormal};
 ghost use Rattle.flowspace.specs.Owners.{Writes, HasWriteRule, Owns};
 ghost use Rattle.of10_ctl.specs.declared.kind.TheConstants.{FLOW_MOD};
 ghost use Rattle.of10_ctl.specs.Kinds.{IsOf};
+ghost use Rattle.of10_action.specs.declared.action.Action.{Action};
+ghost use Rattle.of10_flow.specs.declared.entry.FlowEntry.{FlowEntry as Entry};
+ghost use Rattle.of10_flow.specs.declared.flow_mod.FlowMod.{FlowMod};
 ghost use Rattle.of10_flow.specs.FlowMods.{spell_flow_mod, read_flow_mod};
-ghost use Rattle.flowmod_expand.specs.Pieces.{pieces_of};
-ghost use Rattle.flowmod_expand.specs.Messages.{are_too_large};
+ghost use Rattle.of10_flow.specs.Tables.{ApplyAll, Treatment};
+ghost use Rattle.of10_flow.specs.Outside.{LeavesTreatment};
+ghost use Rattle.flowmod_expand.specs.Pieces.{pieces_within, pieces_of};
+ghost use Rattle.flowmod_expand.specs.Messages.{sent_from, are_too_large};
 ghost use Rattle.flowmod_expand.specs.Laws.{Order, IsPaired, IsInRange, messages_of, Place, flow_mod_at};
 
 /// The pieces of a match have together the headers of the match that the slice's rules let it write; so
@@ -54,4 +59,26 @@ pub fn each_piece_has_its_message()
 pub fn message_is_read_again()
     ensures kind { (o : Order) → IsPaired o → IsInRange o → are_too_large (messages_of o) ≡ false → (at : Place o) → IsOf FLOW_MOD at.message }
     ensures again { (o : Order) → IsPaired o → IsInRange o → are_too_large (messages_of o) ≡ false → (at : Place o) → read_flow_mod at.message ≡ Ok (flow_mod_at o at) }
+{}
+
+/// Each message of a flow-mod leaves every flow table treating as before each header that none of the given
+/// matches has; so, sent for a slice, each that none of its write rules has, and under a policy each that the
+/// slice doesn't write.
+pub fn message_changes_only_what_its_slice_writes()
+    ensures matches { (given : List Pattern) (h : Header) → (Any (λ w. Has w h) given → ⊥) → (m : FlowMod) (xid : ℕ) (lists : List (List Action)) (buffer : Option (ℕ × ℕ))
+        → All (λ sent. LeavesTreatment sent h) (sent_from 0 m xid (pieces_within given m.pattern) lists buffer) }
+    ensures rules { (rules : List Rule) (slot : ℕ) (h : Header) → (HasWriteRule rules slot h → ⊥) → (m : FlowMod) (xid : ℕ) (lists : List (List Action)) (buffer : Option (ℕ × ℕ))
+        → All (λ sent. LeavesTreatment sent h) (sent_from 0 m xid (pieces_of rules slot m.pattern) lists buffer) }
+    ensures policy { (slices : List Slice) (rules : List Rule) → IsSwitchPolicy slices rules → (slot : ℕ) (h : Header) → IsHeader h → (Writes rules slot h → ⊥) → (m : FlowMod) (xid : ℕ) (lists : List (List Action)) (buffer : Option (ℕ × ℕ))
+        → All (λ sent. LeavesTreatment sent h) (sent_from 0 m xid (pieces_of rules slot m.pattern) lists buffer) }
+{}
+
+/// So do all messages of a flow-mod together, in their order.
+pub fn flow_mod_changes_only_what_its_slice_writes()
+    ensures matches { (given : List Pattern) (h : Header) → (Any (λ w. Has w h) given → ⊥) → (m : FlowMod) (xid : ℕ) (lists : List (List Action)) (buffer : Option (ℕ × ℕ)) (table : List Entry)
+        → Treatment (ApplyAll table (sent_from 0 m xid (pieces_within given m.pattern) lists buffer)) h ≡ Treatment table h }
+    ensures rules { (rules : List Rule) (slot : ℕ) (h : Header) → (HasWriteRule rules slot h → ⊥) → (m : FlowMod) (xid : ℕ) (lists : List (List Action)) (buffer : Option (ℕ × ℕ)) (table : List Entry)
+        → Treatment (ApplyAll table (sent_from 0 m xid (pieces_of rules slot m.pattern) lists buffer)) h ≡ Treatment table h }
+    ensures policy { (slices : List Slice) (rules : List Rule) → IsSwitchPolicy slices rules → (slot : ℕ) (h : Header) → IsHeader h → (Writes rules slot h → ⊥) → (m : FlowMod) (xid : ℕ) (lists : List (List Action)) (buffer : Option (ℕ × ℕ)) (table : List Entry)
+        → Treatment (ApplyAll table (sent_from 0 m xid (pieces_of rules slot m.pattern) lists buffer)) h ≡ Treatment table h }
 {}

@@ -12,6 +12,3 @@ mod splitting;
 pub use fault::BuildFault;
 pub use messages::build;
 pub use splitting::pieces;
-
-#[cfg(test)]
-mod tests;

@@ -4,7 +4,8 @@ ghost use Rattle.std.specs.Prelude.{◌≡◌, [], if◌then◌else◌};
 ghost use Rattle.std.specs.List.{All};
 ghost use Rattle.of10_action.specs.Actions.{HasAddress};
 ghost use Rattle.of10_flow.specs.FlowMods.{shown_flow_mod};
-ghost use Rattle.flowmod_expand.specs.Messages.{is_delete, sent_for};
+ghost use Rattle.of10_flow.specs.Tables.{is_delete};
+ghost use Rattle.flowmod_expand.specs.Messages.{sent_for};
 
 use of10_action::{Action, Actions};
 use of10_flow::protocol::{DELETE, NO_BUFFER, SEND_FLOW_REM};

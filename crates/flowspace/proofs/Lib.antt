@@ -8,6 +8,7 @@ pub mod Refusing
 pub mod Accepting
 pub mod Overlapping
 pub mod Owning
+pub mod Placing
 pub mod Faulty
 pub mod Naming
 pub mod Improper

@@ -159,3 +159,7 @@ has_port-iff rs slot port = (
       and_from (is_in_port port) (list_any (is_rule_at slot port) rs) (is_in_port-IsInPort port p.0)
       (list_any-from_Any (is_rule_at slot port) rs (some.0, some.1, some.2, some.3, and_from (is_written_by slot some.1) (meets some.1.pattern.in_port port) (Some-is_value slot some.1.writer some.4.0) (meets-Meets some.1.pattern.in_port port some.4.1))),
 )
+
+-- the test, as it is computed
+pub has_port-tested : (rs : List Rule) (slot port : ℕ) (b : Bool) → b ≡ has_port rs slot port → IsTrue b ↔ HasPort rs slot port
+has_port-tested rs slot port b e = rw e (has_port-iff rs slot port)

@@ -4,4 +4,5 @@ pub mod Order
 pub mod Policies
 pub mod Loading
 pub mod Owners
+pub mod Places
 pub mod Faults

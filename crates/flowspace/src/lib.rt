@@ -14,6 +14,7 @@ mod rules;
 mod slices;
 mod switch;
 mod text;
+mod writes;
 
 pub use fault::{Field, PolicyFault, What};
 pub use order::rules_stand_in_order;
@@ -23,6 +24,3 @@ pub use rules::{Rule, first_improper, has_slot, is_vlan, is_written_by};
 pub use slices::{Slice, is_controller, is_name};
 pub use switch::SwitchPolicy;
 pub use text::Text;
-
-#[cfg(test)]
-mod tests;

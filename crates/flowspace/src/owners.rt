@@ -1,11 +1,10 @@
 //! Who owns matches and ports.
 
 ghost use Rattle.std.specs.Prelude.{◌≡◌, find, option_map};
-ghost use Rattle.std.specs.List.{list_any};
 ghost use Rattle.of10_model.specs.Pattern.{meets};
-ghost use Rattle.flowspace.specs.Owners.{is_owned_by, owner_of_match, is_in_port, is_rule_at, has_port};
+ghost use Rattle.flowspace.specs.Owners.{is_owned_by, owner_of_match, is_in_port};
 
-use crate::rules::{Rule, is_written_by};
+use crate::rules::Rule;
 use match_meet::includes;
 use of10_match::Match;
 use of10_port::protocol::{LOCAL, MAX};
@@ -43,23 +42,4 @@ pub fn takes_from(rule: &Rule, port: u16) -> bool
 {
     let in_port = rule.pattern.pattern().in_port;
     in_port.is_none_or(|own| port == own)
-}
-
-fn is_rule_at(rule: &Rule, slot: u8, port: u16) -> bool
-    ensures { result ≡ is_rule_at slot port rule.now }
-{
-    is_written_by(rule, usize::from(slot)) && takes_from(rule, port)
-}
-
-fn has_rule_at(rules: &[Rule], slot: u8, port: u16) -> bool
-    ensures { result ≡ list_any (is_rule_at slot port) rules.now }
-{
-    rules.iter().any(|rule| is_rule_at(rule, slot, port))
-}
-
-/// Whether the port is a physical one or the switch's own, and a rule of the slice takes packets from it.
-pub(crate) fn has_port(rules: &[Rule], slot: u8, port: u16) -> bool
-    ensures { result ≡ has_port rules.now slot port }
-{
-    is_in_port(port) && has_rule_at(rules, slot, port)
 }

@@ -89,6 +89,6 @@ impl Policy {
     {
         let slices = copies(alloc, &self.slices)?;
         let rules = ordered_rules(alloc, &self.rules, datapath)?;
-        Ok(SwitchPolicy::of(slices, rules))
+        SwitchPolicy::of(alloc, slices, rules)
     }
 }

@@ -1,12 +1,17 @@
-ghost use Rattle.std.specs.Prelude.{◌≡◌, ◌<◌, ◌↔◌, length, IfSome, IsTrue, option_map};
+ghost use Rattle.std.specs.Prelude.{◌≡◌, ◌<◌, ◌↔◌, false, length, map, filter, slice_get, All, Some, IfOk, IfSome, IfNone, IsTrue, option_map};
+ghost use Rattle.std.specs.List.{list_any};
+ghost use Rattle.flowspace.specs.Rules.{is_written_by};
 ghost use Rattle.flowspace.specs.Order.{first_of, first_rule, writer_of, readers_of};
 ghost use Rattle.flowspace.specs.Policies.{IsSwitchPolicy};
-ghost use Rattle.flowspace.specs.Owners.{owner_of_match, has_port, HasPort};
+ghost use Rattle.flowspace.specs.Owners.{owner_of_match, is_rule_at, has_port, HasPort};
+ghost use Rattle.flowspace.specs.Places.{IsWritesOf};
 
-use crate::owners::{has_port, owner_of};
+use crate::owners::{is_in_port, owner_of};
 use crate::rules::Rule;
 use crate::slices::Slice;
+use crate::writes::{SliceWrites, writes_by_slot};
 use of10_match::{Header12, Match};
+use std::alloc::{AllocError, Global};
 use std::marker::Model;
 
 /// A policy as it holds on one switch.
@@ -14,16 +19,20 @@ use std::marker::Model;
 pub struct SwitchPolicy {
     slices: Vec<Slice>,
     rules: Vec<Rule>,
+    /// What each slice writes, by slots.
+    writes: Vec<SliceWrites>,
 }
 
 impl Model for SwitchPolicy {
+    ghost use Rattle.std.specs.Prelude.{length, ◌≡◌};
     ghost use Rattle.flowspace.specs.Policies.{SwitchView, IsSwitchPolicy};
+    ghost use Rattle.flowspace.specs.Places.{AreWrites};
 
     ghost Value = { SwitchView };
 
     ghost view = { λ p. record { slices = p.slices.items; rules = p.rules.items } };
 
-    ghost invariant = { λ p. IsSwitchPolicy p.slices.items p.rules.items };
+    ghost invariant = { λ p. IsSwitchPolicy p.slices.items p.rules.items × (length p.writes.items ≡ length p.slices.items) × AreWrites p.rules.items p.writes.items };
 }
 
 fn first_place(rules: &[Rule], h: &Header12) -> Option<usize>
@@ -35,12 +44,20 @@ fn first_place(rules: &[Rule], h: &Header12) -> Option<usize>
 
 impl SwitchPolicy {
     /// The policy of slices and of rules that stand in rule order.
-    pub(crate) fn of(slices: Vec<Slice>, rules: Vec<Rule>) -> SwitchPolicy
+    pub(crate) fn of(
+        alloc: Global,
+        slices: Vec<Slice>,
+        rules: Vec<Rule>,
+    ) -> Result<SwitchPolicy, AllocError>
         requires { IsSwitchPolicy slices.items rules.items }
-        ensures slices { result.slices ≡ slices.items }
-        ensures rules { result.rules ≡ rules.items }
+        ensures { IfOk result (λ p. (p.slices ≡ slices.items) × (p.rules ≡ rules.items)) }
     {
-        SwitchPolicy { slices, rules }
+        let writes = writes_by_slot(alloc, &rules, slices.len())?;
+        Ok(SwitchPolicy {
+            slices,
+            rules,
+            writes,
+        })
     }
 
     /// The slices, by their slots.
@@ -103,6 +120,35 @@ impl SwitchPolicy {
         ensures value { result ≡ has_port self.now.rules slot port }
         ensures ports { IsTrue result ↔ HasPort self.now.rules slot port }
     {
-        has_port(&self.rules, slot, port)
+        is_in_port(port) && self.has_rule_at(slot, port)
+    }
+
+    /// What the slice at a slot writes; `None` where no slice has the slot.
+    fn writes_of(&self, slot: u8) -> Option<&SliceWrites>
+        ensures some { IfSome result (λ own. IsWritesOf self.now.rules slot own.now) }
+        ensures none { IfNone result (All (λ rule. is_written_by slot rule ≡ false) self.now.rules) }
+    {
+        self.writes.get(usize::from(slot))
+    }
+
+    fn has_rule_at(&self, slot: u8, port: u16) -> bool
+        ensures { result ≡ list_any (is_rule_at slot port) self.now.rules }
+    {
+        match self.writes_of(slot) {
+            Some(own) => own.ports.take_from(port),
+            None => false,
+        }
+    }
+
+    /// The places of the rules that a slice writes, in rule order: none where it writes none, or no slice
+    /// has the slot.
+    pub fn write_places(&self, slot: u8) -> &[u16]
+        ensures value { map (slice_get self.now.rules) result.now ≡ map Some (filter (is_written_by slot) self.now.rules) }
+        ensures within { All (λ place. place < length self.now.rules) result.now }
+    {
+        match self.writes_of(slot) {
+            Some(own) => &own.places,
+            None => &[],
+        }
     }
 }
