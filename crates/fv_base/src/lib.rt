@@ -4,12 +4,10 @@
 
 mod memory;
 mod outside;
-#[cfg(test)]
-mod tests;
 mod transfer;
 mod words;
 
-pub use memory::{MemoryFiles, MemorySink, NeverSink};
+pub use memory::{MemoryFiles, MemorySink, NeverSink, Plan};
 pub use outside::{Failed, Files, Sink, one_more};
 pub use transfer::{LoadFault, load_file, put_all};
 pub use words::{Form, Words, WordsFault, read_words};

@@ -9,17 +9,29 @@ ghost use Rattle.fv_base.specs.Told.{Gives, Rose, appended};
 use super::{Failed, Files, Sink, one_more};
 use std::alloc::{AllocError, Global};
 
-// How calls go: how many bytes one moves at most, and the numbers of the calls that fail, from 0.
+/// How the calls on an object in memory go: how many bytes one moves at most, and which calls fail.
 #[derive(Drop)]
-struct Plan {
+pub struct Plan {
     most: usize,
     failing: Vec<u64>,
     calls: u64,
 }
 
 impl Plan {
-    // How many of the bytes that are there the next call moves; none where it fails.
-    fn next(&mut self, there: usize) -> Option<usize>
+    /// A call moves at most `most` bytes, and the calls whose numbers, from 0, are in `failing` fail. Where
+    /// `most` is 0 each call fails.
+    pub fn new(most: usize, failing: Vec<u64>) -> Plan
+        ensures { Starts result most failing.items }
+    {
+        Plan {
+            most,
+            failing,
+            calls: 0,
+        }
+    }
+
+    /// How many of the bytes that are there the next call moves; none where it fails.
+    pub fn next(&mut self, there: usize) -> Option<usize>
         requires { 0 < there }
         ensures value { result ≡ moved self.old there }
         ensures counted { self.new ≡ called self.old }
@@ -65,11 +77,7 @@ impl MemorySink {
         MemorySink {
             kept: Vec::new(alloc),
             faults: 0,
-            plan: Plan {
-                most,
-                failing,
-                calls: 0,
-            },
+            plan: Plan::new(most, failing),
         }
     }
 
@@ -255,11 +263,7 @@ impl MemoryFiles {
             alloc,
             entries: Vec::new(alloc),
             elsewhere: 0,
-            plan: Plan {
-                most,
-                failing,
-                calls: 0,
-            },
+            plan: Plan::new(most, failing),
         }
     }
 

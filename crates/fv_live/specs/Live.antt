@@ -1,0 +1,29 @@
+-- What calls on the outside of a live proxy say of what is told. This proxy's own rules.
+use Rattle.std.specs.Prelude.{ℕ, ◌≡◌, List, [], ◌∷◌, ◌++◌, Option, Some, None}
+
+-- these bytes were moved from the front of what was left, where it is told
+abbrev pub Moved : Option (List ℕ) → List ℕ → Option (List ℕ) → Type 0
+Moved None bytes rest = rest ≡ None
+Moved (Some left) bytes rest = (later : List ℕ) × (left ≡ bytes ++ later) × (rest ≡ Some later)
+
+-- nothing is left, where it is told
+abbrev pub IsUsedUp : Option (List ℕ) → Type 0
+IsUsedUp None = Unit {0}
+IsUsedUp (Some left) = left ≡ []
+
+-- the moment that a clock answers next
+abbrev pub moment_of : List ℕ → ℕ
+moment_of [] = 0
+moment_of (moment ∷ later) = moment
+
+-- the moments that it answers after that: the last one stays
+abbrev pub moments_after : List ℕ → List ℕ
+moments_after [] = []
+moments_after (moment ∷ []) = moment ∷ []
+moments_after (moment ∷ next ∷ later) = next ∷ later
+
+-- the clock was asked, and answered these moments in this order, where they are told
+abbrev pub Asked : Option (List ℕ) → List ℕ → Option (List ℕ) → Type 0
+Asked None answers rest = rest ≡ None
+Asked (Some coming) [] rest = rest ≡ Some coming
+Asked (Some coming) (answer ∷ answers) rest = (answer ≡ moment_of coming) × Asked (Some (moments_after coming)) answers rest

@@ -1,0 +1,7 @@
+mod Numbers
+mod Lists
+mod Keeps
+mod Steps
+mod Ends
+mod Wraps
+mod Making
