@@ -1,22 +1,34 @@
--- What is answered to an item is at most one message, and no more is put for the switch. A new kind of answer is a case more of `answer_size`.
-use Rattle.std.proofs.Common.{ℕ, ◌+◌, ◌-◌, ◌^◌, ◌%◌, ◌==◌, ◌≤◌, Bool, true, false, if◌then◌else◌, List, [], ◌∷◌, map, length, take, arith}
+-- What is answered to an item is at most one message, and what is put for the switch is small. A new kind of answer is a case more of `answer_size`.
+use Rattle.std.proofs.Common.{◌≡◌, ℕ, ◌+◌, ◌-◌, ◌^◌, ◌%◌, ◌==◌, ◌≤◌, Bool, true, false, if◌then◌else◌, List, [], ◌∷◌, map, length, take, append-nil, Option, Some, None, arith}
 use Rattle.std.specs.List.{All}
-use Rattle.std.proofs.lemmas.List.{map-append, length-take}
+use Rattle.std.proofs.lemmas.List.{length-take}
 use Rattle.of10_ctl.specs.declared.kind.TheConstants.{HELLO}
 use Rattle.of10_ctl.specs.Frames.{message_of, error_of, echo_reply_to}
 use Rattle.of10_flow.specs.declared.protocol.TheConstants.{NO_BUFFER}
+use Rattle.of10_flow.specs.declared.flow_mod.FlowMod.{FlowMod}
+use Rattle.of10_flow.specs.declared.flow_removed.FlowRemoved.{FlowRemoved}
+use Rattle.of10_flow.specs.FlowMods.{spell_flow_mod}
+use Rattle.of10_message.specs.Heads.{xid_of}
 use Rattle.of10_port.specs.Ports.{IsPort}
 use Rattle.of10_port.specs.Features.{spell_features}
 use Rattle.of10_port.specs.PortStatus.{spell_port_status}
 use Rattle.port_view.specs.SlicePorts.{features_with}
-use Rattle.slice_words.specs.Messages.{xid_of}
+use Rattle.flowmod_expand.proofs.Walks.{sizes_within, together_within}
+use Rattle.flow_book.specs.declared.booked.Booked.{Booked}
+use Rattle.flow_book.specs.Books.{booking}
+use Rattle.xid_map.specs.declared.asked.Issued.{Issued}
+use Rattle.slice_words.specs.Messages.{quoted}
 use Rattle.slice_words.specs.Items.{Settings, Share, Writer, Reader, Probe, Packet, Item, Opened, Up, Down, Msg, Lost, Handed, Removed, Status, Fault, Barrier, Queues, Entry, Last, End, is_up, miss_send_len, buffered_count, known_ports}
-use Rattle.slice_words.specs.Answers.{Answer, Past, silence, told, dismissal, error_for, refused, no_common_version, bad_length, config_reply, packet_message, packet_told, message_answer, answer}
+use Rattle.slice_words.specs.Pasts.{Answer, Past, silence, told, dismissal, forwarded}
+use Rattle.slice_words.specs.Calls.{request_calls, request_for, book_calls}
+use Rattle.slice_words.specs.FlowMods.{Ground, ground_of, flow_mods_on, sent_on, flow_mod_fault}
+use Rattle.slice_words.specs.Answers.{error_for, refused, no_common_version, bad_length, config_reply, packet_message, packet_told, message_answer, removal_told, error_told, answer}
 use Rattle.slice_words.specs.Alone.{rendered, played, answer_to, sent_for, put_for}
 use Rattle.of10_model.proofs.Results.{either}
 use Rattle.slice_words.proofs.AnswerKinds.{message_holds}
-use Rattle.answer_bounds.specs.Bounds.{AreFew}
-use Rattle.answer_bounds.proofs.Messages.{IsShort, few-none, few-one, few-next, short-message, short-echo, short-config, short-error, short-features, short-status, short-packet}
+use Rattle.slice_words.proofs.Forwarding.{rendered_sent, not_large}
+use Rattle.answer_bounds.specs.Bounds.{AreFew, AreSmall}
+use Rattle.answer_bounds.proofs.Messages.{IsShort, few-none, few-one, few-next, small-none, short-message, short-echo, short-config, short-error, short-features, short-status, short-packet, short-removed}
 
 -- ---- what bounds an answer
 
@@ -32,22 +44,36 @@ IsBounded view (Handed packet) = 18 + length packet.payload ≤ 65535
 IsBounded view (Status status) = IsPort status.port
 IsBounded view item = Unit {0}
 
--- an answer is one message to the slice at most, and one for the switch
+-- an answer is one message to the slice at most, and small for the switch
 pub record IsSmall (a : Answer) : Type 0 where
   pub to_slice : AreFew 1 a.to_slice
-  pub to_switch : (came : List ℕ) → AreFew 1 (map (rendered came) a.to_switch)
+  pub to_switch : (came : List ℕ) → AreSmall 262144 (map (rendered came) a.to_switch)
+
+small_tells : (messages : List (List ℕ)) → AreFew 1 messages → IsSmall (told messages)
+small_tells messages few = record { to_slice = few; to_switch = λ came. small-none 262144 }
 
 small_silence : IsSmall silence
-small_silence = record { to_slice = few-none 1; to_switch = λ came. few-none 1 }
+small_silence = small_tells [] (few-none 1)
 
 small_told : (message : List ℕ) → IsShort message → IsSmall (told (message ∷ []))
-small_told message short = record { to_slice = few-one message short; to_switch = λ came. few-none 1 }
+small_told message short = small_tells (message ∷ []) (few-one message short)
 
 small_dismissal : (message : List ℕ) → IsShort message → IsSmall (dismissal (message ∷ []))
-small_dismissal message short = record { to_slice = few-one message short; to_switch = λ came. few-none 1 }
+small_dismissal message short = record { to_slice = few-one message short; to_switch = λ came. small-none 262144 }
 
 small_refused : (fault : ℕ × ℕ) (message : List ℕ) → IsSmall (refused fault message)
 small_refused fault message = small_told (error_for fault message) (short-error (xid_of message) fault.0 fault.1 message)
+
+-- ---- flow-mods
+
+small_forwarded : (g : Ground) (m : FlowMod) → flow_mod_fault g m ≡ None → IsSmall (forwarded (sent_on g m))
+small_forwarded g m none =
+    let messages = map spell_flow_mod (flow_mods_on g m) in
+    let fit = not_large g m none in
+    record {
+      to_slice = few-none 1;
+      to_switch = λ came. rw (rendered_sent came (flow_mods_on g m)) (record { small = together_within messages fit; short = sizes_within messages fit });
+    }
 
 -- ---- messages of the controller
 
@@ -60,6 +86,7 @@ message_size s view past moment message short ports = message_holds (λ (ends : 
   echoes = small_told (echo_reply_to message) (short-echo message short);
   tells_features = λ features. small_told (spell_features (features_with features (known_ports view)) (xid_of message)) (short-features (features_with features (known_ports view)) (xid_of message) ports.whole ports.few);
   tells_configuration = small_told (config_reply (miss_send_len view) message) (short-config (xid_of message) (miss_send_len view));
+  forwards = λ m read none. small_forwarded (ground_of s view past) m none;
 })
 
 -- ---- packets
@@ -85,6 +112,16 @@ packet_size view packet Reader fits = short-packet_message NO_BUFFER packet.tota
 packet_size view packet Probe fits =
     short-packet_message NO_BUFFER (packet.total_len - 8) (take (length packet.payload - 8) packet.payload) packet (cut_fits true (length packet.payload - 8) packet.payload fits)
 
+-- ---- entries and errors
+
+few_removal : (booked : Option Booked) (entry : FlowRemoved) → AreFew 1 (removal_told booked entry)
+few_removal None entry = few-none 1
+few_removal (Some booked) entry = either (AreFew 1) booked.asked _ _ (few-one _ (short-removed (record entry { xid = 0 }))) (few-none 1)
+
+few_error : (request : Option Issued) (class code : ℕ) → AreFew 1 (error_told request class code)
+few_error None class code = few-none 1
+few_error (Some request) class code = either (AreFew 1) request.failed _ _ (few-none 1) (few-one _ (short-error request.asked.xid class code (quoted request.asked)))
+
 -- ---- all items
 
 pub answer_size : (s : Settings) (view : List Item) (past : List Past) (item : Item) → IsBounded view item → IsSmall (answer s view past item)
@@ -95,8 +132,12 @@ answer_size s view past (Status status) h = either IsSmall (is_up view) _ _ (sma
 answer_size s view past (Opened features) h = either IsSmall (is_up view) _ _ small_silence small_silence
 answer_size s view past Down h = either IsSmall (is_up view) _ _ small_silence small_silence
 answer_size s view past (Lost k) h = either IsSmall (is_up view) _ _ small_silence small_silence
-answer_size s view past (Removed entry) h = either IsSmall (is_up view) _ _ small_silence small_silence
-answer_size s view past (Fault x class code pair) h = either IsSmall (is_up view) _ _ small_silence small_silence
+answer_size s view past (Removed entry) h =
+    let booked = booking entry.pattern entry.priority (book_calls s past) in
+    either IsSmall (is_up view) _ _ (small_tells (removal_told booked entry) (few_removal booked entry)) small_silence
+answer_size s view past (Fault x class code pair) h =
+    let request = request_for s x (request_calls s past) in
+    either IsSmall (is_up view) _ _ (small_tells (error_told request class code) (few_error request class code)) small_silence
 answer_size s view past (Barrier x) h = either IsSmall (is_up view) _ _ small_silence small_silence
 answer_size s view past (Queues x body) h = either IsSmall (is_up view) _ _ small_silence small_silence
 answer_size s view past (Entry x kind bytes) h = either IsSmall (is_up view) _ _ small_silence small_silence
@@ -115,11 +156,6 @@ sent_size s view (item ∷ items) h =
     few-next (length items) (answer_to s view item).to_slice (sent_for s (item ∷ view) items)
     (answer_size s view (played (answer s) view) item h.0).to_slice (sent_size s (item ∷ view) items h.1)
 
-pub put_size : (s : Settings) (view items : List Item) (came : List ℕ) → AreBounded view items → AreFew (length items) (map (rendered came) (put_for s view items))
-put_size s view [] came h = few-none 0
-put_size s view (item ∷ items) came h =
-    let one = (answer_to s view item).to_switch in
-    let others = put_for s (item ∷ view) items in
-    rw (map-append (rendered came) one others)
-    (few-next (length items) (map (rendered came) one) (map (rendered came) others)
-    ((answer_size s view (played (answer s) view) item h.0).to_switch came) (put_size s (item ∷ view) items came h.1))
+-- one item has little sent to the switch
+pub put_size : (s : Settings) (view : List Item) (item : Item) (came : List ℕ) → IsBounded view item → AreSmall 262144 (map (rendered came) (put_for s view (item ∷ [])))
+put_size s view item came h = rw (append-nil (answer_to s view item).to_switch) ((answer_size s view (played (answer s) view) item h).to_switch came)

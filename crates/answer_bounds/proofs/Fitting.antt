@@ -1,50 +1,72 @@
--- What follows from one event is few messages, and so fits the limits of the queues.
-use Rattle.std.proofs.Common.{ℕ, ◌*◌, ◌≤◌, List, length, arith}
+-- What follows from one event is little, and so fits the limits of the queues.
+use Rattle.std.proofs.Common.{◌≡◌, ℕ, ◌==◌, ◌&&◌, Bool, true, false, if◌then◌else◌, List, [], ◌∷◌, map, length, refl, arith}
 use Rattle.flowspace.specs.Policies.{PolicyView}
-use Rattle.outbox.specs.Queues.{size}
+use Rattle.slice_words.specs.Items.{Settings, Item, Msg, is_up}
+use Rattle.slice_words.specs.Alone.{rendered, put_for}
+use Rattle.desk_words.specs.declared.event.Event.{Event}
+use Rattle.desk_words.specs.declared.event.Event.TheVariants.{SwitchUp, SwitchMsg, SwitchDown, SliceUp, SliceMsg, SliceDown}
 use Rattle.desk_words.specs.declared.event.Timed.{Timed}
+use Rattle.desk_words.specs.declared.phase.Phase.{Phase}
+use Rattle.desk_words.specs.declared.phase.Phase.TheVariants.{Fresh, Begun, Opened, Ended}
 use Rattle.desk_words.specs.Openings.{phase_of, opening_of, switch_of}
-use Rattle.desk_words.specs.Histories.{settings_at, items_of, side_of, view_of}
-use Rattle.desk_words.specs.Sent.{sent_by, slice_lane, lane_by}
-use Rattle.desk_words.specs.Operations.{slice_limit, lane_limit}
-use Rattle.answer_bounds.specs.Bounds.{IsFramed, AreFramed, Fits, AreFew, SendsFew}
-use Rattle.answer_bounds.proofs.Messages.{few-more, size-short}
-use Rattle.answer_bounds.proofs.AnswerSizes.{AreBounded, sent_size, put_size}
+use Rattle.desk_words.specs.Histories.{is_slot, settings_at, items_of, side_of, view_of}
+use Rattle.desk_words.specs.Sent.{sent_by, slice_lane}
+use Rattle.desk_words.specs.Operations.{slice_limit}
+use Rattle.answer_bounds.specs.Bounds.{IsFramed, AreFramed, Fits, AreFew, AreSmall, SendsLittle}
+use Rattle.answer_bounds.proofs.Messages.{few-more, small-none, small-few}
+use Rattle.answer_bounds.proofs.AnswerSizes.{IsBounded, sent_size, put_size}
 use Rattle.answer_bounds.proofs.Items.{items_few}
-use Rattle.answer_bounds.proofs.Lane.{lane_few}
+use Rattle.answer_bounds.proofs.Lane.{IsSmallOfSlice, lane_small}
+use Rattle.answer_bounds.proofs.Ports.{few_ports}
 
--- what has a message for each item at most has as many messages as the event shows items at most
-by_items : (policy : PolicyView) (slot : ℕ) (h : List Timed) (timed : Timed) (messages : List (List ℕ)) → AreFramed h → IsFramed timed.event
-    → (AreBounded (view_of policy slot h) (items_of policy slot (switch_of h) (side_of policy slot h) timed) → AreFew (length (items_of policy slot (switch_of h) (side_of policy slot h) timed)) messages) → AreFew 2 messages
-by_items policy slot h timed messages framed one size =
-    let few = items_few policy slot h timed framed one in
-    few-more (length (items_of policy slot (switch_of h) (side_of policy slot h) timed)) 2 messages few.few (size few.bounded)
+-- ---- to the slices
 
 -- to a slice at most as many messages as the event shows it items
 slice_few : (policy : PolicyView) (slot : ℕ) (h : List Timed) (timed : Timed) → AreFramed h → IsFramed timed.event → AreFew 2 (sent_by policy slot h timed)
 slice_few policy slot h timed framed one =
-    by_items policy slot h timed (sent_by policy slot h timed) framed one
-    (sent_size (settings_at policy slot (opening_of h)) (view_of policy slot h) (items_of policy slot (switch_of h) (side_of policy slot h) timed))
+    let shown = items_of policy slot (switch_of h) (side_of policy slot h) timed in
+    let few = items_few policy slot h timed framed one in
+    few-more (length shown) 2 (sent_by policy slot h timed) few.few
+    (sent_size (settings_at policy slot (opening_of h)) (view_of policy slot h) shown few.bounded)
 
--- and as many for the switch
-put_few : (policy : PolicyView) (slot : ℕ) (h : List Timed) (timed : Timed) → AreFramed h → IsFramed timed.event → AreFew 2 (slice_lane policy slot h timed)
-put_few policy slot h timed framed one =
-    by_items policy slot h timed (slice_lane policy slot h timed) framed one
-    (put_size (settings_at policy slot (opening_of h)) (view_of policy slot h) (items_of policy slot (switch_of h) (side_of policy slot h) timed) (side_of policy slot h).sight.came)
+-- ---- to the switch
 
-pub answers_few : (policy : PolicyView) (h : List Timed) (timed : Timed) → AreFramed h → IsFramed timed.event → SendsFew policy h timed
-answers_few policy h timed framed one = record {
-  lane = lane_few (λ slot. slice_lane policy slot h timed) (phase_of h) timed.event (λ slot. put_few policy slot h timed framed one) one;
+-- a message is one item at most
+put_small : (s : Settings) (view : List Item) (came message : List ℕ) (moment : ℕ) (here up : Bool) → (here ≡ true → IsBounded view (Msg message moment))
+    → AreSmall 262144 (map (rendered came) (put_for s view (if here then (if up then Msg message moment ∷ [] else []) else [])))
+put_small s view came message moment true true bounded = put_size s view (Msg message moment) came (bounded refl)
+put_small s view came message moment true false bounded = small-none 262144
+put_small s view came message moment false up bounded = small-none 262144
+
+-- so what a slice has sent is small
+of_slice_small : (policy : PolicyView) (h : List Timed) (timed : Timed) (phase : Phase) (event : Event) → phase_of h ≡ phase → timed.event ≡ event → AreFramed h → IsFramed event
+    → IsSmallOfSlice (λ slot. slice_lane policy slot h timed) phase event
+of_slice_small policy h timed Fresh event at is framed one = tt
+of_slice_small policy h timed Begun event at is framed one = tt
+of_slice_small policy h timed Ended event at is framed one = tt
+of_slice_small policy h timed Opened SwitchUp at is framed one = tt
+of_slice_small policy h timed Opened (SwitchMsg message) at is framed one = tt
+of_slice_small policy h timed Opened SwitchDown at is framed one = tt
+of_slice_small policy h timed Opened (SliceUp slot) at is framed one = tt
+of_slice_small policy h timed Opened (SliceDown slot) at is framed one = tt
+of_slice_small policy h timed Opened (SliceMsg slot message) at is framed one =
+    rw (at, is)
+    (put_small (settings_at policy slot (opening_of h)) (view_of policy slot h) (side_of policy slot h).sight.came message timed.moment (is_slot policy slot) (slot == slot && is_up (view_of policy slot h))
+    (λ here. (one.small, few_ports policy slot h framed here)))
+
+-- ---- both
+
+pub answers_little : (policy : PolicyView) (h : List Timed) (timed : Timed) → AreFramed h → IsFramed timed.event → SendsLittle policy h timed
+answers_little policy h timed framed one = record {
+  lane = lane_small (λ slot. slice_lane policy slot h timed) (phase_of h) timed.event (of_slice_small policy h timed (phase_of h) timed.event refl refl framed one) one;
   slices = λ slot. slice_few policy slot h timed framed one;
 }
 
-within : (n limit : ℕ) (messages : List (List ℕ)) → 65535 * n ≤ limit → AreFew n messages → size messages ≤ limit
-within n limit messages fits a =
-    let few = a.few in
-    let whole = size-short messages a.short in
-    omega arith
-
 pub answers_fit : (policy : PolicyView) (h : List Timed) (timed : Timed) → AreFramed h → IsFramed timed.event → Fits policy h timed
 answers_fit policy h timed framed one =
-    let few = answers_few policy h timed framed one in
-    record { lane = within 3 lane_limit (lane_by policy h timed) (omega arith) few.lane; slices = λ slot. within 2 slice_limit (sent_by policy slot h timed) (omega arith) (few.slices slot) }
+    let little = answers_little policy h timed framed one in
+    let lane = little.lane.small in
+    record {
+      lane = omega arith;
+      slices = λ slot. (small-few 2 slice_limit (sent_by policy slot h timed) (omega arith) (little.slices slot)).small;
+    }

@@ -1,19 +1,25 @@
 -- What one event shows a slice: at most two items, each with a small answer.
-use Rattle.std.proofs.Common.{ℕ, ◌+◌, ◌==◌, ◌&&◌, ◌≤◌, ltb, Bool, true, false, if◌then◌else◌, inl, inr, List, [], ◌∷◌, ◌++◌, map, length, Option, Some, None, IfSome, arith}
+use Rattle.std.proofs.Common.{ℕ, ◌+◌, ◌==◌, ◌&&◌, ◌≤◌, ◌/◌, ◌%◌, ◌^◌, ltb, Bool, true, false, if◌then◌else◌, inl, inr, List, [], ◌∷◌, ◌++◌, map, length, Option, Some, None, IfSome, arith}
+use Rattle.std.specs.List.{list_any}
 use Rattle.std.proofs.lemmas.Bool.{cases_Bool, ltb-false}
 use Rattle.std.proofs.lemmas.List.{length-map, length-drop}
 use Rattle.of10_model.specs.Normal.{is_value, bit}
-use Rattle.of10_ctl.specs.declared.kind.TheConstants.{PACKET_IN}
+use Rattle.of10_ctl.specs.declared.kind.TheConstants.{ERROR, PACKET_IN, FLOW_REMOVED}
 use Rattle.of10_ctl.specs.Frames.{is_bad}
 use Rattle.of10_flow.specs.declared.packet_in.PacketIn.{PacketIn}
 use Rattle.of10_flow.specs.PacketIns.{read_packet_in}
+use Rattle.of10_flow.specs.declared.flow_removed.FlowRemoved.{FlowRemoved}
+use Rattle.of10_flow.specs.FlowRemoveds.{read_flow_removed}
+use Rattle.of10_message.specs.Heads.{xid_of}
+use Rattle.of10_message.specs.Errors.{ErrorMessage, read_error, pair_in}
+use Rattle.of10_model.specs.Inclusion.{includes_of}
 use Rattle.of10_port.specs.declared.features.Features.{Features}
 use Rattle.of10_port.specs.declared.status.PortStatus.{PortStatus}
 use Rattle.of10_port.specs.Ports.{port_number}
 use Rattle.flowspace.specs.declared.rules.Rule.{Rule}
 use Rattle.flowspace.specs.Order.{writer_of, readers_of}
 use Rattle.flowspace.specs.Policies.{PolicyView}
-use Rattle.slice_words.specs.Items.{Settings, is_own_port, Share, Writer, Reader, Item, Up, Down, Msg, Status, End, is_up}
+use Rattle.slice_words.specs.Items.{Settings, is_own_port, Share, Writer, Reader, Item, Up, Down, Msg, Removed, Status, Fault, End, is_up}
 use Rattle.slice_words.specs.Items as items
 use Rattle.of10_model.proofs.Results.{either}
 use Rattle.desk_words.specs.declared.event.Event.{Event}
@@ -23,7 +29,7 @@ use Rattle.desk_words.specs.declared.phase.Phase.{Phase}
 use Rattle.desk_words.specs.declared.phase.Phase.TheVariants.{Fresh, Begun, Opened, Ended}
 use Rattle.of10_ctl.specs.Kinds.{is_of}
 use Rattle.desk_words.specs.Openings.{well_formed, status_told, opening_with, rules_of, Switch, switch_of, phase_of}
-use Rattle.desk_words.specs.Histories.{is_slot, settings_at, own_features, handed, header_in, shares_of, is_plain, packet_items, status_items, message_items, opening_items, event_items, phase_items, items_of, side_of, view_of}
+use Rattle.desk_words.specs.Histories.{is_slot, settings_at, own_features, handed, header_in, shares_of, is_plain, packet_items, status_items, removed_items, error_items, message_items, opening_items, event_items, phase_items, items_of, side_of, view_of}
 use Rattle.port_view.specs.KnownPorts.{is_kept}
 use Rattle.answer_bounds.specs.Bounds.{IsFramed, AreFramed}
 use Rattle.answer_bounds.proofs.Messages.{IsShort}
@@ -91,6 +97,22 @@ status_few s view known None whole = no_items view
 status_few s view known (Some status) whole =
     items_if view (is_kept status known && is_own_port s (port_number status.port)) (Status status ∷ []) (one_item view (Status status) whole)
 
+-- ---- entries and errors
+
+removed_few : (s : Settings) (view : List Item) (told : Option FlowRemoved) → AreFewItems view (removed_items s told)
+removed_few s view None = no_items view
+removed_few s view (Some entry) =
+    let item = Removed (record entry { xid = 0 }) in
+    items_if view (list_any (λ pattern. includes_of pattern entry.pattern) s.patterns) (item ∷ []) (one_item view item tt)
+
+error_few : (s : Settings) (view : List Item) (xid : ℕ) (told : Option ErrorMessage) → AreFewItems view (error_items s xid told)
+error_few s view xid None = no_items view
+error_few s view xid (Some error) =
+    let item = Fault (xid % 2 ^ 24) error.class error.code (pair_in xid error.cause) in
+    items_if view (xid / 2 ^ 24 == s.slot) (item ∷ []) (one_item view item tt)
+
+-- ---- the opening
+
 opening_few : (policy : PolicyView) (slot : ℕ) (view : List Item) (told : Option Features) → AreFewItems view (opening_items policy slot told)
 opening_few policy slot view None = no_items view
 opening_few policy slot view (Some features) = one_item view (items.Opened (own_features (settings_at policy slot (Some features)) features)) tt
@@ -102,7 +124,9 @@ unfolding message_items
 message_few policy slot switch view message short =
     either (AreFewItems view) (is_bad message) _ _ (one_item view End tt)
     (either (AreFewItems view) (is_of PACKET_IN message) _ _ (packet_few (rules_of policy switch.features) slot view (well_formed (read_packet_in message)) (packet_short message short))
-    (status_few (settings_at policy slot switch.features) view switch.known (status_told message) (told_status message)))
+    (either (AreFewItems view) (is_of FLOW_REMOVED message) _ _ (removed_few (settings_at policy slot switch.features) view (well_formed (read_flow_removed message)))
+    (either (AreFewItems view) (is_of ERROR message) _ _ (error_few (settings_at policy slot switch.features) view (xid_of message) (well_formed (read_error message)))
+    (status_few (settings_at policy slot switch.features) view switch.known (status_told message) (told_status message)))))
 
 event_few : (policy : PolicyView) (slot moment : ℕ) (switch : Switch) (view : List Item) (event : Event) → HasFewPorts view → IsFramed event
     → AreFewItems view (event_items policy slot switch view moment event)

@@ -1,4 +1,4 @@
--- Few messages, and how long those are that this proxy makes.
+-- Few messages and small ones, and how long those are that this proxy makes.
 use Rattle.std.proofs.Common.{ℕ, suc, ◌+◌, ◌*◌, ◌≤◌, List, [], ◌∷◌, ◌++◌, length, take, drop, arith}
 use Rattle.std.specs.List.{All}
 use Rattle.std.proofs.lemmas.List.{length-append, length-take, length-drop}
@@ -6,9 +6,12 @@ use Rattle.std.proofs.lemmas.List.Elements.{All-nil, All-cons, All-head, All-tai
 use Rattle.std.proofs.lemmas.List.Sums.{sum_by-cons}
 use Rattle.byteorder.specs.Endian.{big_bytes}
 use Rattle.of10_model.specs.Normal.{number_at}
+use Rattle.of10_model.specs.Spelling.{Spell}
 use Rattle.of10_ctl.specs.declared.kind.TheConstants.{ECHO_REPLY, GET_CONFIG_REPLY}
 use Rattle.of10_ctl.specs.Frames.{message_of, error_of, echo_reply_to}
 use Rattle.of10_ctl.proofs.Reading.{length-message}
+use Rattle.of10_flow.specs.declared.flow_removed.FlowRemoved.{FlowRemoved}
+use Rattle.of10_flow.specs.FlowRemoveds.{spell_flow_removed}
 use Rattle.of10_flow.specs.declared.packet_in.PacketIn.{PacketIn}
 use Rattle.of10_flow.specs.PacketIns.{spell_packet_in}
 use Rattle.of10_port.specs.declared.features.Features.{Features}
@@ -19,7 +22,7 @@ use Rattle.of10_port.specs.PortStatus.{spell_port_status}
 use Rattle.of10_port.proofs.Pieces.{length-port_bytes}
 use Rattle.of10_port.proofs.Again.{IsOf-features, IsOf-port_status}
 use Rattle.outbox.specs.Queues.{size}
-use Rattle.answer_bounds.specs.Bounds.{AreFew}
+use Rattle.answer_bounds.specs.Bounds.{AreFew, AreSmall}
 
 -- ---- few messages
 
@@ -57,6 +60,18 @@ size-short (message ∷ later) h =
     let rest = size-short later (All-tail IsShort message later h) in
     omega arith
 
+-- ---- small messages
+
+pub small-none : (most : ℕ) → AreSmall most []
+small-none most = record { small = omega arith; short = All-nil IsShort }
+
+-- few messages are small
+pub small-few : (n most : ℕ) (messages : List (List ℕ)) → 65535 * n ≤ most → AreFew n messages → AreSmall most messages
+small-few n most messages fits a =
+    let few = a.few in
+    let whole = size-short messages a.short in
+    record { small = omega arith; short = a.short }
+
 -- ---- how long messages are
 
 pub short-message : (kind xid : ℕ) (body : List ℕ) → length body ≤ 65527 → IsShort (message_of kind xid body)
@@ -70,6 +85,10 @@ short-echo message short =
 
 pub short-config : (xid wanted : ℕ) → IsShort (message_of GET_CONFIG_REPLY xid (big_bytes 2 0 ++ big_bytes 2 wanted))
 short-config xid wanted = short-message GET_CONFIG_REPLY xid (big_bytes 2 0 ++ big_bytes 2 wanted) (omega arith)
+
+pub short-removed : (entry : FlowRemoved) → IsShort (spell_flow_removed entry)
+unfolding spell_flow_removed Spell
+short-removed entry = omega arith
 
 -- an error carries at most 64 bytes
 pub short-error : (xid class code : ℕ) (cause : List ℕ) → IsShort (error_of xid class code cause)

@@ -18,10 +18,10 @@ use Rattle.of10_port.proofs.Pieces.{IsPort-ports_in}
 use Rattle.flowspace.specs.declared.rules.Rule.{Rule}
 use Rattle.flowspace.specs.Owners.{is_in_port, has_port}
 use Rattle.flowspace.specs.Policies.{PolicyView}
-use Rattle.port_view.specs.KnownPorts.{is_of_number, ports_below, ports_above, with_port, without_port, with_told, first_known, kept_of, changed_plainly, changed}
+use Rattle.port_view.specs.KnownPorts.{is_of_number, ports_below, ports_above, with_port, without_port, with_told, first_known, changed_plainly, changed}
 use Rattle.port_view.specs.SlicePorts.{ports_of_slice}
 use Rattle.port_view.proofs.Knowing.{by_kept}
-use Rattle.slice_words.specs.Items.{Item, known_ports}
+use Rattle.slice_words.specs.Items.{Item, own_rules, known_ports}
 use Rattle.of10_model.proofs.Results.{either}
 use Rattle.desk_words.specs.declared.event.Event.{Event}
 use Rattle.desk_words.specs.declared.event.Event.TheVariants.{SwitchUp, SwitchMsg, SwitchDown, SliceUp, SliceMsg, SliceDown}
@@ -188,7 +188,7 @@ few_by policy slot h None is framed here = subst (λ (side : Side). HasFewPorts 
 few_by policy slot h (Some features) is framed here =
     let s = settings_at policy slot (Some features) in
     let has : HasSeen policy slot features (known_of h) (view_of policy slot h) = seen policy slot h features is here in
-    few_view (view_of policy slot h) s.rules s.slot (known_of h) has.ports_known (few_known h framed) (whole_known h)
+    few_view (view_of policy slot h) (own_rules s) s.slot (known_of h) has.ports_known (few_known h framed) (whole_known h)
 
 pub few_ports : (policy : PolicyView) (slot : ℕ) (h : List Timed) → AreFramed h → is_slot policy slot ≡ true → HasFewPorts (view_of policy slot h)
 few_ports policy slot h framed here = few_by policy slot h (opening_of h) refl framed here

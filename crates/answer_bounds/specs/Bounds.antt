@@ -1,4 +1,4 @@
--- What follows from one event is few messages, and they fit the limits of the queues.
+-- What follows from one event is little, and fits the limits of the queues.
 use Rattle.std.specs.Prelude.{ℕ, ◌≤◌, List, length}
 use Rattle.std.specs.List.{All}
 use Rattle.of10_ctl.specs.Frames.{IsFrame}
@@ -25,12 +25,21 @@ pub record Fits (policy : PolicyView) (h : List Timed) (timed : Timed) : Type 0 
   pub lane : size (lane_by policy h timed) ≤ lane_limit
   pub slices : (slot : ℕ) → size (sent_by policy slot h timed) ≤ slice_limit
 
--- no more messages than that, each of no more bytes than a length field can say (OpenFlow 1.0.0, section 5.1)
+-- each message has no more bytes than a length field can say (OpenFlow 1.0.0, section 5.1)
+abbrev pub AreShort : List (List ℕ) → Type 0
+AreShort messages = All (λ message. length message ≤ 65535) messages
+
+-- no more messages than that, each of them short
 pub record AreFew (most : ℕ) (messages : List (List ℕ)) : Type 0 where
   pub few : length messages ≤ most
-  pub short : All (λ message. length message ≤ 65535) messages
+  pub short : AreShort messages
 
--- what follows from an event after a history is at most three messages for the switch, and two for each slice
-pub record SendsFew (policy : PolicyView) (h : List Timed) (timed : Timed) : Type 0 where
-  pub lane : AreFew 3 (lane_by policy h timed)
+-- messages of no more bytes than that together, each of them short
+pub record AreSmall (most : ℕ) (messages : List (List ℕ)) : Type 0 where
+  pub small : size messages ≤ most
+  pub short : AreShort messages
+
+-- what follows from an event after a history is at most 262,144 bytes for the switch, and at most two messages for each slice
+pub record SendsLittle (policy : PolicyView) (h : List Timed) (timed : Timed) : Type 0 where
+  pub lane : AreSmall 262144 (lane_by policy h timed)
   pub slices : (slot : ℕ) → AreFew 2 (sent_by policy slot h timed)

@@ -3,12 +3,12 @@
 ghost use Rattle.std.specs.Prelude.{List};
 ghost use Rattle.flowspace.specs.Policies.{PolicyView};
 ghost use Rattle.desk_words.specs.declared.event.Timed.{Timed};
-ghost use Rattle.answer_bounds.specs.Bounds.{IsFramed, AreFramed, Fits, SendsFew};
+ghost use Rattle.answer_bounds.specs.Bounds.{IsFramed, AreFramed, Fits, SendsLittle};
 
-/// Where all messages that come in are frames, one event has at most three messages sent to the switch
-/// and two to each slice, each of at most 65,535 bytes.
-pub fn answers_are_few()
-    ensures { (policy : PolicyView) (h : List Timed) (timed : Timed) → AreFramed h → IsFramed timed.event → SendsFew policy h timed }
+/// Where all messages that come in are frames, one event has at most 262,144 bytes sent to the switch, and
+/// at most two messages to each slice; each message has at most 65,535 bytes.
+pub fn answers_are_bounded()
+    ensures { (policy : PolicyView) (h : List Timed) (timed : Timed) → AreFramed h → IsFramed timed.event → SendsLittle policy h timed }
 {}
 
 /// So what one event has sent always fits the limits of the queues, for the switch and for each slice.

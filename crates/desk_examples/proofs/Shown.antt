@@ -8,25 +8,39 @@ use Rattle.of10_ctl.specs.Streams.{frames_at, frames_of}
 use Rattle.of10_port.specs.Features.{features_front, read_features, spell_features}
 use Rattle.of10_port.specs.PortStatus.{read_port_status, spell_port_status}
 use Rattle.of10_port.specs.Ports.{ports_in}
-use Rattle.of10_flow.specs.FlowMods.{spell_flow_mod}
+use Rattle.of10_flow.specs.FlowMods.{spell_flow_mod, flow_mod_with, read_flow_mod}
 use Rattle.of10_flow.specs.PacketIns.{read_packet_in, spell_packet_in}
 use Rattle.frame_header.specs.Headers.{header_of_packet}
 use Rattle.frame_header.specs.Links.{link_of, tagged_link, typed}
 use Rattle.frame_header.specs.Networks.{arp_of, ipv4_of, network_of, transport_at, transport_of}
 use Rattle.frame_header.specs.Probes.{probe_slot_of, trailer_slot}
 use Rattle.port_view.specs.KnownPorts.{changed, changed_plainly, first_known, kept_of, with_port, without_port}
-use Rattle.slice_words.specs.Answers.{local_answer, message_answer, packet_told}
-use Rattle.slice_words.specs.Messages.{form_fault}
+use Rattle.of10_model.specs.Normal.{spelled, applied}
+use Rattle.of10_model.specs.Inclusion.{includes_of}
+use Rattle.of10_model.specs.Meet.{meet_of}
+use Rattle.of10_model.specs.Same.{is_same}
+use Rattle.of10_action.specs.Reading.{head_at, action_of, action_at, actions_at}
+use Rattle.of10_flow.specs.FlowRemoveds.{read_flow_removed}
+use Rattle.of10_message.specs.Controller.{read_controller, read_typed}
+use Rattle.of10_message.specs.Errors.{read_error, pair_in}
+use Rattle.action_check.specs.ActionRules.{code_of}
+use Rattle.flowmod_expand.specs.Messages.{sent_for}
+use Rattle.rate_bucket.specs.Rates.{has_room, is_conforming, accepted, is_accepted}
+use Rattle.xid_map.specs.Requests.{requests, remembered, found}
+use Rattle.flow_book.specs.Books.{book}
+use Rattle.slice_words.specs.FlowMods.{flow_mod_fault}
+use Rattle.slice_words.specs.Answers.{read_answer, packet_told}
 use Rattle.desk_words.specs.Histories.{message_items}
 use Rattle.desk_words.specs.Reports.{report_from}
 use Rattle.desk_examples.specs.Examples.{PacketReaches, PacketPasses, BadLengthCloses, FeaturesAreTold, ConfigIsKept, FlagsAreRefused, OldVersionCloses, EchoIsAnswered, VendorIsRefused, PortModIsRefused}
 use Rattle.desk_examples.specs.Ports.{StatusReachesBob, OwnPortsAreTold}
 use Rattle.desk_examples.specs.Connections.{NothingHappens, SwitchGoes, BadLengthEndsTheSwitch, EarlySliceIsRefused}
 use Rattle.desk_examples.specs.Readers.{WriterIsToldAlone, ReaderIsTold}
+use Rattle.desk_examples.specs.FlowMods.{FlowModIsCut, FlowModIsRefused, ErrorIsToldOnce}
 
 -- what the examples compute with
 computing : Bool
-unfolding digits encode_with has Spell frames_at frames_of features_front read_features spell_features read_port_status spell_port_status ports_in spell_flow_mod read_packet_in spell_packet_in header_of_packet link_of tagged_link typed arp_of ipv4_of network_of transport_at transport_of probe_slot_of trailer_slot changed changed_plainly first_known kept_of with_port without_port local_answer message_answer packet_told form_fault message_items report_from
+unfolding digits encode_with has Spell frames_at frames_of features_front read_features spell_features read_port_status spell_port_status ports_in spell_flow_mod read_packet_in spell_packet_in header_of_packet link_of tagged_link typed arp_of ipv4_of network_of transport_at transport_of probe_slot_of trailer_slot changed changed_plainly first_known kept_of with_port without_port spelled applied includes_of meet_of is_same head_at action_of action_at actions_at flow_mod_with read_flow_mod read_flow_removed read_controller read_typed read_error pair_in code_of sent_for has_room is_conforming accepted is_accepted requests remembered found book flow_mod_fault read_answer packet_told message_items report_from
 computing = true
 
 pub packet_reaches_shown : PacketReaches
@@ -100,3 +114,15 @@ writer_is_told_alone_shown = refl
 pub reader_is_told_shown : ReaderIsTold
 unfolding computing
 reader_is_told_shown = refl
+
+pub flow_mod_is_cut_shown : FlowModIsCut
+unfolding computing
+flow_mod_is_cut_shown = refl
+
+pub flow_mod_is_refused_shown : FlowModIsRefused
+unfolding computing
+flow_mod_is_refused_shown = refl
+
+pub error_is_told_once_shown : ErrorIsToldOnce
+unfolding computing
+error_is_told_once_shown = refl

@@ -2,3 +2,4 @@ pub mod Examples
 pub mod Ports
 pub mod Connections
 pub mod Readers
+pub mod FlowMods

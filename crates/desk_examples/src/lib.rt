@@ -5,6 +5,7 @@
 ghost use Rattle.desk_examples.specs.Examples.{PacketReaches, PacketPasses, BadLengthCloses, FeaturesAreTold, ConfigIsKept, FlagsAreRefused, OldVersionCloses, EchoIsAnswered, VendorIsRefused, PortModIsRefused};
 ghost use Rattle.desk_examples.specs.Ports.{StatusReachesBob, OwnPortsAreTold};
 ghost use Rattle.desk_examples.specs.Connections.{NothingHappens, SwitchGoes, BadLengthEndsTheSwitch, EarlySliceIsRefused};
+ghost use Rattle.desk_examples.specs.FlowMods.{FlowModIsCut, FlowModIsRefused, ErrorIsToldOnce};
 ghost use Rattle.desk_examples.specs.Readers.{WriterIsToldAlone, ReaderIsTold};
 
 /// A packet goes to the slice that may write its header, whole and without a buffer, and to no other.
@@ -54,4 +55,12 @@ pub fn connections_end()
 pub fn packet_reaches_its_reader()
     ensures writer { WriterIsToldAlone }
     ensures reader { ReaderIsTold }
+{}
+
+/// A flow-mod is sent on for what its slice may write of its match, and is refused where that is nothing; the
+/// first error that the switch answers to it is told to the slice.
+pub fn flow_mod_is_sent_on()
+    ensures cut { FlowModIsCut }
+    ensures refused { FlowModIsRefused }
+    ensures error { ErrorIsToldOnce }
 {}

@@ -1,7 +1,14 @@
 //! What follows for a slice from each thing that it sees.
 
+use crate::answer::{Answer, nothing, told};
+use crate::book::{Pair, asks, first_booking, is_booked};
 use crate::events::is_dismissing;
-use crate::view::{Item, Seen, is_up, known_ports, miss_send_len, opened_in};
+use crate::flow_mods::flow_mod_answer;
+use crate::headers::headers_of;
+use crate::rate::conforms;
+use crate::requests::{has_failed, message_at, remembered};
+use crate::settings::Settings;
+use crate::view::{Fault, Item, Seen, is_up, known_ports, miss_send_len, opened_in};
 use of10_action::{Bytes, DecodeFault, WireFault, code};
 use of10_ctl::kind::{
     BARRIER_REQUEST, ECHO_REPLY, ECHO_REQUEST, ERROR, FEATURES_REQUEST, FLOW_MOD, GET_CONFIG_REPLY,
@@ -10,7 +17,7 @@ use of10_ctl::kind::{
 };
 use of10_ctl::{Frame, error_frame, message};
 use of10_flow::protocol::NO_BUFFER;
-use of10_flow::{FlowMod, PacketIn, PacketOut};
+use of10_flow::{FlowMod, FlowRemoved, PacketIn, PacketOut};
 use of10_model::wire::{put_u16, u16_at};
 use of10_port::{Features, Port, Ports};
 use of10_stats::StatsRequest;
@@ -125,41 +132,125 @@ fn local_answer(
     }
 }
 
-/// The answer to a message of the controller: the first of these lines that applies.
-fn message_answer(
-    alloc: Global,
-    view: &[Seen<'_>],
-    message: &Frame,
-) -> Result<Option<Frame>, AllocError> {
+/// What follows from a message where that is decided without its form: the first of these lines that applies.
+fn early_answer(alloc: Global, message: &Frame) -> Result<Option<Answer>, AllocError> {
     let head = message.head();
     if message.bad_length() {
-        return error(alloc, message, 1, 6);
+        return Ok(Some(told(alloc, error(alloc, message, 1, 6)?)));
     }
     if head.kind == HELLO {
-        return if is_dismissing(message) {
-            Ok(Some(error_frame(alloc, head.xid, 0, 0, &[])?))
+        return Ok(Some(if is_dismissing(message) {
+            told(alloc, Some(error_frame(alloc, head.xid, 0, 0, &[])?))
         } else {
-            Ok(None)
-        };
+            nothing(alloc)
+        }));
     }
     if head.version != 1 {
-        return error(alloc, message, 1, 0);
+        return Ok(Some(told(alloc, error(alloc, message, 1, 0)?)));
     }
     match head.kind {
         0..=5 | 7 | 9 | 13..=16 | 18 | 20 => (),
-        _ => return error(alloc, message, 1, 1),
+        _ => return Ok(Some(told(alloc, error(alloc, message, 1, 1)?))),
     }
     match head.kind {
-        ERROR | ECHO_REPLY => return Ok(None),
-        VENDOR => return error(alloc, message, 1, 3),
-        PORT_MOD => return error(alloc, message, 1, 5),
-        _ => (),
+        ERROR | ECHO_REPLY => Ok(Some(nothing(alloc))),
+        VENDOR => Ok(Some(told(alloc, error(alloc, message, 1, 3)?))),
+        PORT_MOD => Ok(Some(told(alloc, error(alloc, message, 1, 5)?))),
+        _ => Ok(None),
+    }
+}
+
+/// What follows from a well-formed flow-mod.
+fn change_answer(
+    alloc: Global,
+    settings: &Settings<'_>,
+    view: &[Seen<'_>],
+    message: &Frame,
+    moment: u64,
+    change: &FlowMod,
+) -> Result<Answer, AllocError> {
+    if !conforms(alloc, settings, view, moment)? {
+        return Ok(told(alloc, error(alloc, message, 1, 5)?));
+    }
+    let (answer, refusal) = flow_mod_answer(alloc, settings, view, change)?;
+    let to_slice = match refusal {
+        Some(refusal) => error(alloc, message, refusal.class, refusal.code)?,
+        None => None,
+    };
+    Ok(Answer {
+        to_slice,
+        is_counted: true,
+        ..answer
+    })
+}
+
+/// The answer to a message of the controller.
+fn message_answer(
+    alloc: Global,
+    settings: &Settings<'_>,
+    view: &[Seen<'_>],
+    message: &Frame,
+    moment: u64,
+) -> Result<Answer, AllocError> {
+    if let Some(answer) = early_answer(alloc, message)? {
+        return Ok(answer);
     }
     if let Some(fault) = form_fault(alloc, message)? {
         let (class, code) = code(fault);
-        return error(alloc, message, class, code);
+        return Ok(told(alloc, error(alloc, message, class, code)?));
     }
-    local_answer(alloc, view, message)
+    if message.is_of(FLOW_MOD) {
+        return match FlowMod::decode(alloc, message) {
+            Ok(change) => change_answer(alloc, settings, view, message, moment, &change),
+            Err(_) => Err(AllocError),
+        };
+    }
+    Ok(told(alloc, local_answer(alloc, view, message)?))
+}
+
+/// What follows from an entry that was removed: its pair is released, and the slice is told where it is up
+/// and asked for that (section 5.4.2).
+fn removed_answer(
+    alloc: Global,
+    view: &[Seen<'_>],
+    removed: &FlowRemoved,
+) -> Result<Answer, AllocError> {
+    let pair = Pair {
+        headers: headers_of(&removed.pattern),
+        priority: removed.priority,
+    };
+    let to_slice = if is_up(view) && is_booked(view, &pair) && asks(view, &pair) {
+        let removed = FlowRemoved { xid: 0, ..*removed };
+        Some(removed.encode(alloc)?)
+    } else {
+        None
+    };
+    Ok(Answer {
+        releases: Some(pair),
+        ..told(alloc, to_slice)
+    })
+}
+
+/// What follows from an error of the switch: the first for a request that is remembered goes to the slice,
+/// and each releases the pair that it names where that request booked it first.
+fn fault_answer(alloc: Global, view: &[Seen<'_>], fault: &Fault) -> Result<Answer, AllocError> {
+    let Some(place) = remembered(alloc, view, fault.low)? else {
+        return Ok(nothing(alloc));
+    };
+    let to_slice = match message_at(view, place) {
+        Some(message) if !has_failed(view, place, fault.low) => {
+            error(alloc, message, fault.class, fault.code)?
+        }
+        _ => None,
+    };
+    let releases = match &fault.pair {
+        Some(pair) if first_booking(view, pair) == Some(place) => Some(*pair),
+        _ => None,
+    };
+    Ok(Answer {
+        releases,
+        ..told(alloc, to_slice)
+    })
 }
 
 /// The packet as it came, without a transaction and a buffer (section 5.4.1).
@@ -176,22 +267,21 @@ fn packet_told(alloc: Global, packet: &PacketIn) -> Result<Frame, AllocError> {
     told.encode(alloc)
 }
 
-/// What follows from an item after a view: at most one message to the slice, and nothing for the switch yet.
+/// What follows from an item after a view. A slice that isn't up gets nothing; one that comes up is greeted.
 pub(crate) fn answer(
     alloc: Global,
+    settings: &Settings<'_>,
     view: &[Seen<'_>],
     item: &Item<'_>,
-) -> Result<Option<Frame>, AllocError> {
-    if let Item::Up = item {
-        return Ok(Some(message(alloc, HELLO, 0, &[])?));
-    }
-    if !is_up(view) {
-        return Ok(None);
-    }
+) -> Result<Answer, AllocError> {
     match item {
-        Item::Msg(message) => message_answer(alloc, view, message),
-        Item::Packet(packet) => Ok(Some(packet_told(alloc, packet)?)),
-        Item::Status(status) => Ok(Some(status.encode(alloc, 0)?)),
-        _ => Ok(None),
+        Item::Up => Ok(told(alloc, Some(message(alloc, HELLO, 0, &[])?))),
+        Item::Removed(removed) => removed_answer(alloc, view, removed),
+        _ if !is_up(view) => Ok(nothing(alloc)),
+        Item::Msg { message, moment } => message_answer(alloc, settings, view, message, *moment),
+        Item::Packet(packet) => Ok(told(alloc, Some(packet_told(alloc, packet)?))),
+        Item::Status(status) => Ok(told(alloc, Some(status.encode(alloc, 0)?))),
+        Item::Fault(fault) => fault_answer(alloc, view, fault),
+        _ => Ok(nothing(alloc)),
     }
 }

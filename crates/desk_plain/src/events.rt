@@ -15,7 +15,8 @@ pub(crate) enum Event {
     SwitchMsg(Frame),
     SwitchDown,
     SliceUp(u8),
-    SliceMsg(u8, Frame),
+    /// The moment is in milliseconds.
+    SliceMsg { slot: u8, frame: Frame, moment: u64 },
     SliceDown(u8),
 }
 

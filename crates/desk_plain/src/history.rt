@@ -98,7 +98,11 @@ fn says_up(slot: u8, event: &Event) -> Option<bool> {
     match event {
         Event::SliceUp(other) if *other == slot => Some(true),
         Event::SliceDown(other) if *other == slot => Some(false),
-        Event::SliceMsg(other, frame) if *other == slot && is_dismissing(frame) => Some(false),
+        Event::SliceMsg {
+            slot: other,
+            frame,
+            ..
+        } if *other == slot && is_dismissing(frame) => Some(false),
         _ => None,
     }
 }

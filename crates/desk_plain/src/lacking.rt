@@ -1,4 +1,5 @@
-//! What of a recording isn't built yet: messages that are sent on to the switch, and what comes of them.
+//! What of a recording isn't built yet: messages but flow-mods that are sent on to the switch, what comes of
+//! them, and packets that are buffered or probes.
 
 use crate::recorded::completed;
 use frame_header::probe_slot;
@@ -37,8 +38,8 @@ fn is_lacking(alloc: Global, of: u8, frame: &Frame) -> Result<bool, AllocError> 
         return Ok(false);
     }
     match (of, head.kind) {
-        (SLICE_BYTES, 13 | 14 | 16 | 18 | 20) => Ok(true),
-        (SWITCH_BYTES, 1 | 11 | 17 | 19 | 21) => Ok(true),
+        (SLICE_BYTES, 13 | 16 | 18 | 20) => Ok(true),
+        (SWITCH_BYTES, 17 | 19 | 21) => Ok(true),
         (SWITCH_BYTES, PACKET_IN) => is_special_packet(alloc, frame),
         _ => Ok(false),
     }

@@ -4,15 +4,23 @@
 //! and what follows. It is slow, and there to be compared with.
 #![tactic(auto)]
 
+mod actions;
+mod answer;
 mod answers;
+mod book;
 mod ending;
 mod events;
+mod flow_mods;
+mod headers;
 mod history;
 mod lacking;
 mod ports;
+mod rate;
 mod recorded;
 mod report;
+mod requests;
 mod sent;
+mod settings;
 mod view;
 
 use ending::Ending;

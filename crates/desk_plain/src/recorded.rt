@@ -80,7 +80,11 @@ pub(crate) fn happenings(
         }
         SLICE_BYTES => {
             for frame in completed(alloc, file, before, item)? {
-                events.push(Event::SliceMsg(item.slot, frame))?;
+                events.push(Event::SliceMsg {
+                    slot: item.slot,
+                    frame,
+                    moment: item.moment,
+                })?;
             }
         }
         _ => events.push(Event::SliceDown(item.slot))?,
@@ -93,7 +97,7 @@ pub(crate) fn happenings(
 pub(crate) fn happens(alloc: Global, history: &[Event], event: &Event) -> Result<bool, AllocError> {
     match event {
         Event::SwitchMsg(_) => Ok(!has_ended(history)),
-        Event::SliceMsg(slot, _) => is_up(alloc, *slot, history),
+        Event::SliceMsg { slot, .. } => is_up(alloc, *slot, history),
         _ => Ok(true),
     }
 }

@@ -41,7 +41,7 @@ fn put_messages(
     history: &[Event],
 ) -> Result<(), AllocError> {
     let last = history.len().saturating_sub(1);
-    for message in &lane(alloc, history, last)? {
+    for message in &lane(alloc, policy, history, last)? {
         put_place(out, place)?;
         out.push_str("lane ")?;
         put_message(out, alloc, message)?;
@@ -60,7 +60,7 @@ fn put_messages(
 /// The slot of the slice whose controller connected or sent a message, where it isn't up after that.
 fn closed_slot(alloc: Global, history: &[Event], event: &Event) -> Result<Option<u8>, AllocError> {
     match event {
-        Event::SliceUp(slot) | Event::SliceMsg(slot, _) if !is_up(alloc, *slot, history)? => {
+        Event::SliceUp(slot) | Event::SliceMsg { slot, .. } if !is_up(alloc, *slot, history)? => {
             Ok(Some(*slot))
         }
         _ => Ok(None),

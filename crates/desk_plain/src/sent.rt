@@ -1,6 +1,6 @@
 //! What is sent at the events of a history: to the slices, and to the switch in its lane.
 
-use crate::answers::{answer, echo_reply};
+use crate::answers::echo_reply;
 use crate::events::Event;
 use crate::history::{has_ended, opening_of, since_up};
 use crate::view::view;
@@ -24,14 +24,34 @@ pub(crate) fn sent(
 ) -> Result<Vec<Frame>, AllocError> {
     let view = view(alloc, policy, slot, history)?;
     let mut sent = Vec::new(alloc);
-    for (place, seen) in view.iter().enumerate() {
+    for seen in &view {
         if seen.number == number
-            && let Some(message) = answer(alloc, &view[..place], &seen.item)?
+            && let Some(message) = &seen.answer.to_slice
         {
-            sent.push(message)?;
+            sent.push(message.copy(alloc)?)?;
         }
     }
     Ok(sent)
+}
+
+/// What a slice's message at the event of a number is sent on as.
+fn sent_on(
+    alloc: Global,
+    policy: &Policy,
+    slot: u8,
+    history: &[Event],
+    number: usize,
+) -> Result<Vec<Frame>, AllocError> {
+    let view = view(alloc, policy, slot, history)?;
+    let mut lane = Vec::new(alloc);
+    for seen in &view {
+        if seen.number == number {
+            for message in &seen.answer.to_switch {
+                lane.push(message.copy(alloc)?)?;
+            }
+        }
+    }
+    Ok(lane)
 }
 
 /// A switch that connects is greeted and asked what it is (OpenFlow 1.0.0, sections 5.5 and 5.3.1).
@@ -81,6 +101,7 @@ fn opens(alloc: Global, history: &[Event], number: usize) -> Result<bool, AllocE
 /// What the switch is sent at the event of a number, the last of a history.
 pub(crate) fn lane(
     alloc: Global,
+    policy: &Policy,
     history: &[Event],
     number: usize,
 ) -> Result<Vec<Frame>, AllocError> {
@@ -99,6 +120,7 @@ pub(crate) fn lane(
             lane.push(echo_reply(alloc, frame)?)?;
             Ok(lane)
         }
+        Event::SliceMsg { slot, .. } => sent_on(alloc, policy, *slot, history, number),
         _ => Ok(Vec::new(alloc)),
     }
 }

@@ -1,15 +1,21 @@
-//! What a slice sees of a history, and what can be looked up there.
+//! What a slice sees of a history and what follows from it, and what can be looked up there.
 
+use crate::answer::Answer;
+use crate::answers::answer;
+use crate::book::Pair;
 use crate::events::{Event, is_dismissing, is_end};
+use crate::headers::headers_of;
 use crate::history::{Opening, is_last_up, known, opening_of, status_in};
 use crate::ports::{changed, is_kept};
+use crate::settings::{Settings, may_write, settings_of};
 use flowspace::{Policy, SwitchPolicy};
 use frame_header::header_of;
 use of10_action::DecodeFault;
 use of10_ctl::Frame;
-use of10_ctl::kind::{PACKET_IN, SET_CONFIG};
-use of10_flow::PacketIn;
-use of10_model::wire::u16_at;
+use of10_ctl::kind::{ERROR, FLOW_MOD, FLOW_REMOVED, PACKET_IN, SET_CONFIG};
+use of10_flow::{FlowRemoved, PacketIn};
+use of10_match::Match;
+use of10_model::wire::{u16_at, u32_at};
 use of10_port::{Port, PortStatus};
 use std::alloc::{AllocError, Global};
 
@@ -26,24 +32,40 @@ pub(crate) struct Opened {
     pub(crate) ports: Vec<Port>,
 }
 
+/// An error that the switch tells of a request of the slice.
+#[derive(Clone, Copy)]
+pub(crate) struct Fault {
+    /// The low 24 bits of its transaction.
+    pub(crate) low: u32,
+    pub(crate) class: u16,
+    pub(crate) code: u16,
+    /// The flow entry of the flow-mod that it carries.
+    pub(crate) pair: Option<Pair>,
+}
+
 /// One thing that a slice sees.
 #[derive(Drop)]
 pub(crate) enum Item<'h> {
     Opened(Opened),
     Up,
     Down,
-    Msg(&'h Frame),
+    /// A message of its own, and when it came.
+    Msg { message: &'h Frame, moment: u64 },
     /// A packet that it may write or read, which isn't buffered.
     Packet(PacketIn),
+    /// An entry of a match that it may write was removed.
+    Removed(FlowRemoved),
     Status(PortStatus),
+    Fault(Fault),
     End,
 }
 
-/// An item, and the number of the event that made it.
+/// An item, the number of the event that made it, and what follows from it.
 #[derive(Drop)]
 pub(crate) struct Seen<'h> {
     pub(crate) number: usize,
     pub(crate) item: Item<'h>,
+    pub(crate) answer: Answer,
 }
 
 /// The ports of a slice among others.
@@ -123,38 +145,117 @@ fn status_item(
     }
 }
 
+/// What a FLOW_REMOVED shows a slice, up or not: the entry, where the slice may write its match.
+fn removed_item(settings: &Settings<'_>, frame: &Frame) -> Option<FlowRemoved> {
+    if !frame.is_of(FLOW_REMOVED) {
+        return None;
+    }
+    match FlowRemoved::decode(frame) {
+        Ok(removed) if may_write(settings, &headers_of(&removed.pattern)) => Some(removed),
+        _ => None,
+    }
+}
+
+/// The flow entry of the flow-mod of which an ERROR of this transaction carries 64 bytes or more.
+fn failed_pair(bytes: &[u8], xid: u32) -> Option<Pair> {
+    if bytes.len() < 12 + 64 {
+        return None;
+    }
+    if bytes[12] != 1 || bytes[13] != FLOW_MOD || u32_at(bytes, 16) != xid {
+        return None;
+    }
+    Some(Pair {
+        headers: headers_of(&Match::decode_at(bytes, 12 + 8)),
+        priority: u16_at(bytes, 12 + 62),
+    })
+}
+
+/// What an ERROR shows a slice: the error, where its transaction is one of the slice's.
+fn fault_item(settings: &Settings<'_>, frame: &Frame) -> Option<Fault> {
+    let bytes = frame.as_slice();
+    let xid = frame.head().xid;
+    if !frame.is_of(ERROR) || bytes.len() < 12 || xid / 0x100_0000 != u32::from(settings.slot) {
+        return None;
+    }
+    Some(Fault {
+        low: xid % 0x100_0000,
+        class: u16_at(bytes, 8),
+        code: u16_at(bytes, 10),
+        pair: failed_pair(bytes, xid),
+    })
+}
+
+/// What a message of the switch after the opening and other events shows a slice.
+fn switch_item<'h>(
+    alloc: Global,
+    settings: &Settings<'_>,
+    opening: &Opening<'_>,
+    before: &[Event],
+    event: &Event,
+    frame: &Frame,
+) -> Result<Option<Item<'h>>, AllocError> {
+    let (policy, slot) = (settings.policy, settings.slot);
+    if is_last_up(slot, before)
+        && let Some(packet) = packet_item(alloc, policy, slot, frame)?
+    {
+        return Ok(Some(Item::Packet(packet)));
+    }
+    if let Some(removed) = removed_item(settings, frame) {
+        return Ok(Some(Item::Removed(removed)));
+    }
+    if let Some(fault) = fault_item(settings, frame) {
+        return Ok(Some(Item::Fault(fault)));
+    }
+    match status_item(alloc, policy, slot, opening, before, event)? {
+        Some(status) => Ok(Some(Item::Status(status))),
+        None => Ok(None),
+    }
+}
+
 /// What an event after the opening and other events shows a slice.
 fn item_of<'h>(
     alloc: Global,
-    policy: &SwitchPolicy,
-    slot: u8,
+    settings: &Settings<'_>,
     opening: &Opening<'h>,
     before: &'h [Event],
     event: &'h Event,
 ) -> Result<Option<Item<'h>>, AllocError> {
-    let is_up = is_last_up(slot, before);
+    let slot = settings.slot;
     match event {
         Event::SliceUp(other) if *other == slot => Ok(Some(Item::Up)),
         Event::SliceDown(other) if *other == slot => Ok(Some(Item::Down)),
-        Event::SliceMsg(other, frame) if *other == slot && is_up => Ok(Some(Item::Msg(frame))),
+        Event::SliceMsg {
+            slot: other,
+            frame,
+            moment,
+        } if *other == slot && is_last_up(slot, before) => Ok(Some(Item::Msg {
+            message: frame,
+            moment: *moment,
+        })),
         Event::SwitchDown => Ok(Some(Item::End)),
         Event::SwitchMsg(frame) if frame.bad_length() => Ok(Some(Item::End)),
-        Event::SwitchMsg(frame) => {
-            if is_up {
-                if let Some(packet) = packet_item(alloc, policy, slot, frame)? {
-                    return Ok(Some(Item::Packet(packet)));
-                }
-            }
-            match status_item(alloc, policy, slot, opening, before, event)? {
-                Some(status) => Ok(Some(Item::Status(status))),
-                None => Ok(None),
-            }
-        }
+        Event::SwitchMsg(frame) => switch_item(alloc, settings, opening, before, event, frame),
         _ => Ok(None),
     }
 }
 
-/// What a slice sees of a history.
+/// An item after a view, with what follows from it.
+fn answered<'h>(
+    alloc: Global,
+    settings: &Settings<'_>,
+    view: &[Seen<'h>],
+    number: usize,
+    item: Item<'h>,
+) -> Result<Seen<'h>, AllocError> {
+    let answer = answer(alloc, settings, view, &item)?;
+    Ok(Seen {
+        number,
+        item,
+        answer,
+    })
+}
+
+/// What a slice sees of a history, and what follows from it.
 pub(crate) fn view<'h>(
     alloc: Global,
     policy: &Policy,
@@ -166,30 +267,30 @@ pub(crate) fn view<'h>(
         return Ok(view);
     };
     let policy = policy.of_switch(alloc, opening.features.datapath)?;
+    let settings = settings_of(alloc, &policy, slot)?;
     let opened = Item::Opened(opened_item(alloc, &policy, slot, &opening)?);
-    view.push(Seen {
-        number: opening.number,
-        item: opened,
-    })?;
+    let first = answered(alloc, &settings, &view, opening.number, opened)?;
+    view.push(first)?;
     for (place, event) in opening.later.iter().enumerate() {
         let before = &opening.later[..place];
         if before.iter().any(|event| is_end(event)) {
             break;
         }
-        if let Some(item) = item_of(alloc, &policy, slot, &opening, before, event)? {
+        if let Some(item) = item_of(alloc, &settings, &opening, before, event)? {
             let number = opening.number.saturating_add(1).saturating_add(place);
-            view.push(Seen { number, item })?;
+            let next = answered(alloc, &settings, &view, number, item)?;
+            view.push(next)?;
         }
     }
     Ok(view)
 }
 
 /// What an item says of whether the slice is up: a forgetting item.
-fn says_up(item: &Item<'_>) -> Option<bool> {
+pub(crate) fn says_up(item: &Item<'_>) -> Option<bool> {
     match item {
         Item::Up => Some(true),
         Item::Down => Some(false),
-        Item::Msg(frame) if is_dismissing(frame) => Some(false),
+        Item::Msg { message, .. } if is_dismissing(message) => Some(false),
         _ => None,
     }
 }
@@ -215,9 +316,9 @@ fn length_set(frame: &Frame) -> Option<u16> {
 /// What an item says of how much of a packet the slice wants.
 fn says_length(item: &Item<'_>) -> Option<u16> {
     match item {
-        Item::Msg(frame) => match length_set(frame) {
+        Item::Msg { message, .. } => match length_set(message) {
             Some(length) => Some(length),
-            None if is_dismissing(frame) => Some(FIRST_MISS_SEND_LEN),
+            None if is_dismissing(message) => Some(FIRST_MISS_SEND_LEN),
             None => None,
         },
         Item::Up | Item::Down => Some(FIRST_MISS_SEND_LEN),

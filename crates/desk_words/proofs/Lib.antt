@@ -9,6 +9,6 @@ pub mod Seen
 pub mod Telling
 pub mod Making
 pub mod Reporting
-pub mod Wanting
 pub mod Sessions
 pub mod Lacking
+pub mod Ends

@@ -3,9 +3,11 @@ use Rattle.std.proofs.Common.{◌≡◌, ℕ, ◌==◌, ◌&&◌, ◌≤◌, not
 use Rattle.std.specs.List.{list_any}
 use Rattle.std.proofs.lemmas.Bool.{false_from_ne_true, or_parts}
 use Rattle.std.proofs.lemmas.Option.{none-some}
-use Rattle.of10_ctl.specs.declared.kind.TheConstants.{PACKET_IN, PORT_STATUS}
+use Rattle.of10_ctl.specs.declared.kind.TheConstants.{ERROR, PACKET_IN, FLOW_REMOVED, PORT_STATUS}
 use Rattle.of10_ctl.specs.Frames.{is_bad}
+use Rattle.of10_flow.specs.FlowRemoveds.{read_flow_removed}
 use Rattle.of10_flow.specs.PacketIns.{read_packet_in}
+use Rattle.of10_message.specs.Errors.{read_error}
 use Rattle.of10_port.specs.declared.features.Features.{Features}
 use Rattle.of10_port.specs.declared.status.PortStatus.{PortStatus}
 use Rattle.of10_port.specs.Ports.{port_number}
@@ -18,8 +20,8 @@ use Rattle.port_view.specs.KnownPorts.{is_kept, IsAscending, first_known, change
 use Rattle.port_view.specs.SlicePorts.{ports_of_slice}
 use Rattle.port_view.proofs.Knowing.{changed-not_kept, IsAscending-changed, IsAscending-none, IsAscending-known_of, few-changed, few-known_of}
 use Rattle.port_view.proofs.Following.{own-changed, own-changed_other}
-use Rattle.slice_words.specs.Messages.{is_kind, version_of, kind_of}
-use Rattle.slice_words.specs.Items.{Settings, Item, Opened as Told, Up, Down, Msg, Lost, Handed, Removed, Status, Fault, Barrier, Queues, Entry, Last, End, is_up, features_in, known_ports, is_own_port}
+use Rattle.of10_message.specs.Heads.{is_kind, version_of, kind_of, xid_of}
+use Rattle.slice_words.specs.Items.{Settings, Item, Opened as Told, Up, Down, Msg, Lost, Handed, Removed, Status, Fault, Barrier, Queues, Entry, Last, End, is_up, features_in, known_ports, own_rules, is_own_port}
 use Rattle.slice_words.specs.Alone.{with_items}
 use Rattle.desk_words.specs.declared.event.Event.{Event}
 use Rattle.desk_words.specs.declared.event.Event.TheVariants.{SwitchUp, SwitchMsg, SwitchDown, SliceUp, SliceMsg, SliceDown}
@@ -29,10 +31,10 @@ use Rattle.desk_words.specs.declared.phase.Phase.TheVariants.{Fresh, Begun, Open
 use Rattle.of10_ctl.specs.Kinds.{is_of}
 use Rattle.desk_words.specs.Openings.{well_formed, features_told, status_told, phase_of, opening_after, opening_of, rules_of, known_after, known_of, Switch, switch_of}
 use Rattle.desk_words.specs.Verdicts.{is_before}
-use Rattle.desk_words.specs.Histories.{is_slot, settings_at, own_ports, own_features, packet_items, status_items, message_items, event_items, phase_items, Side, view_of}
+use Rattle.desk_words.specs.Histories.{is_slot, settings_at, own_ports, own_features, packet_items, status_items, removed_items, error_items, message_items, event_items, phase_items, Side, view_of}
 use Rattle.desk_words.specs.Laws.{HasSeen, SeesItsSwitch, AreKnownInOrder}
 use Rattle.desk_words.proofs.Alone.{blind}
-use Rattle.desk_words.proofs.Silence.{none_or, none_of_packet, untold}
+use Rattle.desk_words.proofs.Silence.{none_or, none_of_packet, none_of_removed, none_of_error, untold}
 
 -- ---- items that tell nothing of the switch
 
@@ -100,7 +102,7 @@ by_status : (s : Settings) (view : List Item) (known : List (List ℕ)) (status 
     → Follows s view (with_items (status_items s known status) view) (changed status known)
 by_status s view known status order same = record {
   features_stay = shown_status (is_kept status known && is_own_port s (port_number status.port)) view status;
-  ports_follow = own_after s.rules s.slot view status known (kept_of status known) (has_port s.rules s.slot (port_number status.port)) refl refl order same;
+  ports_follow = own_after (own_rules s) s.slot view status known (kept_of status known) (has_port (own_rules s) s.slot (port_number status.port)) refl refl order same;
 }
 
 by_told : (s : Settings) (view : List Item) (known : List (List ℕ)) (told : Option PortStatus) → IsAscending known → known_ports view ≡ own_ports s known
@@ -123,8 +125,8 @@ no_kind false false true is = refl
 no_kind right kind false is = absurd (true≢false (sym is))
 
 -- what is of one type is of no other
-twelve_not : (kind : ℕ) → (kind == 10) ≡ true → (kind == 12) ≡ false
-twelve_not kind is = rw (eqb-true kind 10 is) refl
+twelve_not : (kind other : ℕ) → (other == 12) ≡ false → (kind == other) ≡ true → (kind == 12) ≡ false
+twelve_not kind other apart is = rw (eqb-true kind other is) apart
 
 and_first : (a b c : Bool) → (a && b && c) ≡ true → b ≡ true
 and_first true true c is = refl
@@ -135,15 +137,15 @@ no_second : (a b c : Bool) → b ≡ false → (a && b && c) ≡ false
 no_second true b c is = rw is refl
 no_second false b c is = refl
 
-other_kind : (right : Bool) (kind : ℕ) (bad : Bool) → (right && (kind == 10) && not bad) ≡ true → (right && (kind == 12) && not bad) ≡ false
-other_kind right kind bad is = no_second right (kind == 12) (not bad) (twelve_not kind (and_first right (kind == 10) (not bad) is))
+other_kind : (right : Bool) (kind other : ℕ) (bad : Bool) → (other == 12) ≡ false → (right && (kind == other) && not bad) ≡ true → (right && (kind == 12) && not bad) ≡ false
+other_kind right kind other bad apart is = no_second right (kind == 12) (not bad) (twelve_not kind other apart (and_first right (kind == other) (not bad) is))
 
 -- a message of a bad length, or of another type, tells no status
 pub bad_untold : (message : List ℕ) → is_bad message ≡ true → status_told message ≡ None
 bad_untold message bad = rw (no_kind (version_of message == 1) (is_kind PORT_STATUS message) (is_bad message) bad) refl
 
-packet_untold : (message : List ℕ) → is_of PACKET_IN message ≡ true → status_told message ≡ None
-packet_untold message packet = rw (other_kind (version_of message == 1) (kind_of message) (is_bad message) packet) refl
+other_untold : (other : ℕ) (message : List ℕ) → (other == 12) ≡ false → is_of other message ≡ true → status_told message ≡ None
+other_untold other message apart is = rw (other_kind (version_of message == 1) (kind_of message) other (is_bad message) apart is) refl
 
 abbrev known_with : List (List ℕ) → Option PortStatus → List (List ℕ)
 known_with known told = elim told [ None ↦ known | Some status ↦ changed status known ]
@@ -151,25 +153,32 @@ known_with known told = elim told [ None ↦ known | Some status ↦ changed sta
 known_told : (message : List ℕ) (known : List (List ℕ)) → status_told message ≡ None → known_after Opened known (SwitchMsg message) ≡ known
 known_told message known none = ap (known_with known) none
 
-by_message_test : (policy : PolicyView) (slot : ℕ) (switch : Switch) (view : List Item) (message : List ℕ) (bad packet : Bool) → is_bad message ≡ bad → is_of PACKET_IN message ≡ packet
-    → IsAscending switch.known → known_ports view ≡ own_ports (settings_at policy slot switch.features) switch.known
-    → Follows (settings_at policy slot switch.features) view
-    (with_items (if bad then End ∷ [] else if packet then elim (well_formed (read_packet_in message)) [ None ↦ [] | Some p ↦ packet_items (rules_of policy switch.features) slot view p ]
-    else elim (status_told message) [ None ↦ [] | Some status ↦ status_items (settings_at policy slot switch.features) switch.known status ]) view)
-    (known_after Opened switch.known (SwitchMsg message))
-by_message_test policy slot switch view message true packet is_it is_packet order same =
-    by_untelling (settings_at policy slot switch.features) view (End ∷ []) switch.known (known_after Opened switch.known (SwitchMsg message)) refl (known_told message switch.known (bad_untold message is_it)) same
-by_message_test policy slot switch view message false true is_it is_packet order same =
-    by_untelling (settings_at policy slot switch.features) view (elim (well_formed (read_packet_in message)) as (λ x. List Item) [ None ↦ [] | Some p ↦ packet_items (rules_of policy switch.features) slot view p ]) switch.known (known_after Opened switch.known (SwitchMsg message))
-    (none_of_packet tells_switch (rules_of policy switch.features) slot view (well_formed (read_packet_in message)) (λ p share. refl)) (known_told message switch.known (packet_untold message is_packet)) same
-by_message_test policy slot switch view message false false is_it is_packet order same =
-    by_told (settings_at policy slot switch.features) view switch.known (status_told message) order same
+-- what a message of another type than PORT_STATUS shows, where it tells nothing of the switch
+by_other : (policy : PolicyView) (slot : ℕ) (switch : Switch) (view items : List Item) (message : List ℕ) → list_any tells_switch items ≡ false → status_told message ≡ None
+    → known_ports view ≡ own_ports (settings_at policy slot switch.features) switch.known
+    → Follows (settings_at policy slot switch.features) view (with_items items view) (known_after Opened switch.known (SwitchMsg message))
+by_other policy slot switch view items message none untold same =
+    by_untelling (settings_at policy slot switch.features) view items switch.known (known_after Opened switch.known (SwitchMsg message)) none (known_told message switch.known untold) same
+
+-- one of two, by a test that is looked at
+by_test : (P : List Item → Type 0) (test : Bool) (one other : List Item) → (test ≡ true → P one) → P other → P (if test then one else other)
+by_test P true one other is isnt = is refl
+by_test P false one other is isnt = isnt
 
 by_message : (policy : PolicyView) (slot : ℕ) (switch : Switch) (view : List Item) (message : List ℕ)
     → IsAscending switch.known → known_ports view ≡ own_ports (settings_at policy slot switch.features) switch.known
     → Follows (settings_at policy slot switch.features) view (with_items (message_items policy slot switch view message) view) (known_after Opened switch.known (SwitchMsg message))
 unfolding message_items
-by_message policy slot switch view message order same = by_message_test policy slot switch view message (is_bad message) (is_of PACKET_IN message) refl refl order same
+by_message policy slot switch view message order same =
+    let P : List Item → Type 0 = λ items. Follows (settings_at policy slot switch.features) view (with_items items view) (known_after Opened switch.known (SwitchMsg message)) in
+    by_test P (is_bad message) _ _ (λ is. by_other policy slot switch view (End ∷ []) message refl (bad_untold message is) same)
+    (by_test P (is_of PACKET_IN message) _ _
+    (λ is. by_other policy slot switch view (elim (well_formed (read_packet_in message)) as (λ x. List Item) [ None ↦ [] | Some p ↦ packet_items (rules_of policy switch.features) slot view p ]) message (none_of_packet tells_switch (rules_of policy switch.features) slot view (well_formed (read_packet_in message)) (λ p share. refl)) (other_untold PACKET_IN message refl is) same)
+    (by_test P (is_of FLOW_REMOVED message) _ _
+    (λ is. by_other policy slot switch view (removed_items (settings_at policy slot switch.features) (well_formed (read_flow_removed message))) message (none_of_removed tells_switch (settings_at policy slot switch.features) (well_formed (read_flow_removed message)) (λ entry. refl)) (other_untold FLOW_REMOVED message refl is) same)
+    (by_test P (is_of ERROR message) _ _
+    (λ is. by_other policy slot switch view (error_items (settings_at policy slot switch.features) (xid_of message) (well_formed (read_error message))) message (none_of_error tells_switch (settings_at policy slot switch.features) (xid_of message) (well_formed (read_error message)) (λ x class code pair. refl)) (other_untold ERROR message refl is) same)
+    (by_told (settings_at policy slot switch.features) view switch.known (status_told message) order same))))
 
 by_event : (policy : PolicyView) (slot moment : ℕ) (switch : Switch) (view : List Item) (event : Event)
     → IsAscending switch.known → known_ports view ≡ own_ports (settings_at policy slot switch.features) switch.known

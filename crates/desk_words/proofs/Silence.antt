@@ -1,12 +1,18 @@
 -- A slice that is down is sent nothing until it comes up.
-use Rattle.std.proofs.Common.{◌≡◌, ℕ, ◌==◌, ◌&&◌, ◌||◌, Bool, true, false, cond, if◌then◌else◌, List, [], ◌∷◌, ◌++◌, map, refl, ap, ap₂, sym, ◌∙◌, append-nil, true≢false, Option, Some, None, inl, inr, ◌⊎◌}
+use Rattle.std.proofs.Common.{◌≡◌, ℕ, ◌/◌, ◌%◌, ◌^◌, ◌==◌, ◌&&◌, ◌||◌, Bool, true, false, cond, if◌then◌else◌, List, [], ◌∷◌, ◌++◌, map, refl, ap, ap₂, sym, ◌∙◌, append-nil, true≢false, Option, Some, None, inl, inr, ◌⊎◌}
 use Rattle.std.proofs.lemmas.Bool.{and_right, eq-eqb, or_parts}
 use Rattle.std.specs.List.{filter, list_any}
 use Rattle.of10_model.proofs.Results.{either, either_none}
-use Rattle.of10_ctl.specs.declared.kind.TheConstants.{PACKET_IN}
+use Rattle.of10_ctl.specs.declared.kind.TheConstants.{ERROR, PACKET_IN, FLOW_REMOVED}
 use Rattle.of10_ctl.specs.Frames.{is_bad}
 use Rattle.of10_flow.specs.declared.packet_in.PacketIn.{PacketIn}
+use Rattle.of10_flow.specs.declared.flow_removed.FlowRemoved.{FlowRemoved}
+use Rattle.of10_flow.specs.FlowRemoveds.{read_flow_removed}
 use Rattle.of10_flow.specs.PacketIns.{read_packet_in}
+use Rattle.of10_message.specs.Heads.{xid_of}
+use Rattle.of10_message.specs.Errors.{ErrorMessage, read_error, pair_in}
+use Rattle.of10_model.specs.declared.pattern.Pattern.{Pattern}
+use Rattle.of10_model.specs.Inclusion.{includes_of}
 use Rattle.of10_port.specs.declared.features.Features.{Features}
 use Rattle.of10_port.specs.declared.status.PortStatus.{PortStatus}
 use Rattle.of10_port.specs.Ports.{port_number}
@@ -24,7 +30,7 @@ use Rattle.desk_words.specs.declared.phase.Phase.TheVariants.{Fresh, Begun, Open
 use Rattle.of10_ctl.specs.Kinds.{is_of}
 use Rattle.desk_words.specs.Openings.{well_formed, status_told, features_told, phase_after, phase_of, opening_with, opening_after, opening_of, rules_of, Switch, switch_of}
 use Rattle.desk_words.specs.Verdicts.{is_before}
-use Rattle.desk_words.specs.Histories.{is_slot, settings_at, Side, side_start, side_of, view_of, handed, shares_of, is_plain, packet_items, status_items, message_items, opening_items, event_items, phase_items, items_of, is_open, is_slice_up}
+use Rattle.desk_words.specs.Histories.{is_slot, settings_at, Side, side_start, side_of, view_of, handed, shares_of, is_plain, packet_items, status_items, removed_items, error_items, message_items, opening_items, event_items, phase_items, items_of, is_open, is_slice_up}
 use Rattle.port_view.specs.KnownPorts.{is_kept}
 use Rattle.desk_words.specs.Sent.{sent, sent_by}
 use Rattle.desk_words.specs.Laws.{is_up_of, IsSilentUntilUp, IsDownAfterDown}
@@ -59,6 +65,19 @@ plain_status : (s : Settings) (known : List (List ℕ)) (status : Option PortSta
 plain_status s known None = refl
 plain_status s known (Some status) = none_or is_forgetting (is_kept status known && is_own_port s (port_number status.port)) (Status status ∷ []) refl
 
+-- an entry that is gone, and an error, show a slice nothing but itself
+pub none_of_removed : (test : Item → Bool) (s : Settings) (told : Option FlowRemoved) → ((entry : FlowRemoved) → test (Removed entry) ≡ false) → list_any test (removed_items s told) ≡ false
+none_of_removed test s None none = refl
+none_of_removed test s (Some entry) none =
+    none_or test (list_any (λ pattern. includes_of pattern entry.pattern) s.patterns) (Removed (record entry { xid = 0 }) ∷ [])
+    (ap (λ (one : Bool). one || false) (none (record entry { xid = 0 })))
+
+pub none_of_error : (test : Item → Bool) (s : Settings) (xid : ℕ) (told : Option ErrorMessage) → ((x class code : ℕ) (pair : Option (Pattern × ℕ)) → test (Fault x class code pair) ≡ false) → list_any test (error_items s xid told) ≡ false
+none_of_error test s xid None none = refl
+none_of_error test s xid (Some error) none =
+    none_or test (xid / 2 ^ 24 == s.slot) (Fault (xid % 2 ^ 24) error.class error.code (pair_in xid error.cause) ∷ [])
+    (ap (λ (one : Bool). one || false) (none (xid % 2 ^ 24) error.class error.code (pair_in xid error.cause)))
+
 -- what a message of the switch shows says nothing of the slice's connection
 pub plain_message : (policy : PolicyView) (slot : ℕ) (switch : Switch) (view : List Item) (message : List ℕ) → are_plain (message_items policy slot switch view message) ≡ false
 unfolding message_items
@@ -66,7 +85,11 @@ plain_message policy slot switch view message =
     either (λ (items : List Item). are_plain items ≡ false) (is_bad message) (End ∷ []) _ refl
     (either (λ (items : List Item). are_plain items ≡ false) (is_of PACKET_IN message) _ _
     (none_of_packet is_forgetting (rules_of policy switch.features) slot view (well_formed (read_packet_in message)) (λ packet share. refl))
-    (plain_status (settings_at policy slot switch.features) switch.known (status_told message)))
+    (either (λ (items : List Item). are_plain items ≡ false) (is_of FLOW_REMOVED message) _ _
+    (none_of_removed is_forgetting (settings_at policy slot switch.features) (well_formed (read_flow_removed message)) (λ entry. refl))
+    (either (λ (items : List Item). are_plain items ≡ false) (is_of ERROR message) _ _
+    (none_of_error is_forgetting (settings_at policy slot switch.features) (xid_of message) (well_formed (read_error message)) (λ x class code pair. refl))
+    (plain_status (settings_at policy slot switch.features) switch.known (status_told message)))))
 
 pub plain_opening : (policy : PolicyView) (slot : ℕ) (told : Option Features) → are_plain (opening_items policy slot told) ≡ false
 plain_opening policy slot None = refl

@@ -1,12 +1,18 @@
 -- What a slice sees of a history: its view, which is a filter of the history (this proxy's own rule). An event of another slice shows it nothing.
-use Rattle.std.specs.Prelude.{ℕ, ◌==◌, ◌&&◌, ltb, Bool, true, false, if◌then◌else◌, List, [], ◌∷◌, ◌++◌, length, map, slice_get, Option, Some, None, is_none}
+use Rattle.std.specs.Prelude.{ℕ, ◌/◌, ◌%◌, ◌^◌, ◌==◌, ◌&&◌, ltb, Bool, true, false, if◌then◌else◌, List, [], ◌∷◌, ◌++◌, length, map, slice_get, Option, Some, None, is_none}
 use Rattle.of10_model.specs.Header.{Header}
+use Rattle.std.specs.List.{list_any}
 use Rattle.of10_model.specs.Normal.{is_value, bit}
-use Rattle.of10_ctl.specs.declared.kind.TheConstants.{PACKET_IN}
+use Rattle.of10_model.specs.Inclusion.{includes_of}
+use Rattle.of10_ctl.specs.declared.kind.TheConstants.{ERROR, PACKET_IN, FLOW_REMOVED}
 use Rattle.of10_ctl.specs.Frames.{is_bad}
 use Rattle.of10_flow.specs.declared.protocol.TheConstants.{NO_BUFFER}
 use Rattle.of10_flow.specs.declared.packet_in.PacketIn.{PacketIn}
+use Rattle.of10_flow.specs.declared.flow_removed.FlowRemoved.{FlowRemoved}
+use Rattle.of10_flow.specs.FlowRemoveds.{read_flow_removed}
 use Rattle.of10_flow.specs.PacketIns.{read_packet_in}
+use Rattle.of10_message.specs.Heads.{xid_of}
+use Rattle.of10_message.specs.Errors.{ErrorMessage, read_error, pair_in}
 use Rattle.of10_port.specs.declared.features.Features.{Features}
 use Rattle.of10_port.specs.declared.status.PortStatus.{PortStatus}
 use Rattle.of10_port.specs.Ports.{port_number}
@@ -17,7 +23,7 @@ use Rattle.flowspace.specs.Order.{writer_of, readers_of}
 use Rattle.flowspace.specs.Policies.{PolicyView}
 use Rattle.port_view.specs.KnownPorts.{first_known, is_kept}
 use Rattle.port_view.specs.SlicePorts.{ports_of_slice}
-use Rattle.slice_words.specs.Items.{Settings, settings_of, is_own_port, Share, Writer, Reader, Item, Up, Down, Msg, Handed, Status, End, Sight, is_up}
+use Rattle.slice_words.specs.Items.{Settings, settings_of, own_rules, is_own_port, Share, Writer, Reader, Item, Up, Down, Msg, Handed, Removed, Status, Fault, End, Sight, is_up}
 use Rattle.slice_words.specs.Items as items
 use Rattle.slice_words.specs.Alone.{with_items}
 use Rattle.desk_words.specs.declared.event.Event.{Event}
@@ -38,7 +44,7 @@ is_slot policy slot = ltb slot (length policy.slices)
 abbrev pub settings_at : PolicyView → ℕ → Option Features → Settings
 settings_at policy slot told =
     elim (slice_get policy.slices slot) [
-      | None ↦ record { slot = slot; rate = 0; burst = 0; quota = 0; rules = [] }
+      | None ↦ record { slot = slot; rate = 0; burst = 0; quota = 0; patterns = [] }
       | Some slice ↦ settings_of slice slot (rules_of policy told)
     ]
 
@@ -62,7 +68,7 @@ side_start = record { sight = record { view = []; came = [] }; numbered = [] }
 
 -- of the known ports the slice's own
 abbrev pub own_ports : Settings → List (List ℕ) → List (List ℕ)
-own_ports s known = ports_of_slice s.rules s.slot known
+own_ports s known = ports_of_slice (own_rules s) s.slot known
 
 -- the features that a slice sees: the slice's own of the known ports; how many tables there are it doesn't see
 abbrev pub own_features : Settings → Features → Features
@@ -96,11 +102,23 @@ packet_items rules slot view packet =
 abbrev pub status_items : Settings → List (List ℕ) → PortStatus → List Item
 status_items s known status = if is_kept status known && is_own_port s (port_number status.port) then Status status ∷ [] else []
 
--- a message of the switch that came after it told what it is. Errors, entries that are gone, barriers, queues and statistics come later
+-- an entry that is gone is shown to a slice of which one write rule has all of its match
+abbrev pub removed_items : Settings → Option FlowRemoved → List Item
+removed_items s None = []
+removed_items s (Some entry) = if list_any (λ pattern. includes_of pattern entry.pattern) s.patterns then Removed (record entry { xid = 0 }) ∷ [] else []
+
+-- an error under a transaction id is shown to the slice whose slot is the id's top byte, with the match and priority of the flow-mod that it carries, if it carries one under that id
+abbrev pub error_items : Settings → ℕ → Option ErrorMessage → List Item
+error_items s xid None = []
+error_items s xid (Some error) = if xid / 2 ^ 24 == s.slot then Fault (xid % 2 ^ 24) error.class error.code (pair_in xid error.cause) ∷ [] else []
+
+-- a message of the switch that came after it told what it is. Barriers, queues and statistics come later
 unfoldable pub message_items : PolicyView → ℕ → Switch → List Item → List ℕ → List Item
 message_items policy slot switch view message =
     if is_bad message then End ∷ []
     else if is_of PACKET_IN message then elim (well_formed (read_packet_in message)) [ None ↦ [] | Some packet ↦ packet_items (rules_of policy switch.features) slot view packet ]
+    else if is_of FLOW_REMOVED message then removed_items (settings_at policy slot switch.features) (well_formed (read_flow_removed message))
+    else if is_of ERROR message then error_items (settings_at policy slot switch.features) (xid_of message) (well_formed (read_error message))
     else elim (status_told message) [ None ↦ [] | Some status ↦ status_items (settings_at policy slot switch.features) switch.known status ]
 
 -- the opening shows the slice the features of the switch

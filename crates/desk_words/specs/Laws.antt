@@ -12,7 +12,8 @@ use Rattle.port_view.specs.KnownPorts.{IsAscending, known_of as known_by}
 use Rattle.recording.specs.declared.item.Item.{Item}
 use Rattle.recording.specs.Recordings.{Told, switch_bytes, slice_bytes}
 use Rattle.outbox.specs.Queues.{Queue, size}
-use Rattle.slice_words.specs.Messages.{is_dismissing, kind_of}
+use Rattle.of10_message.specs.Heads.{kind_of}
+use Rattle.slice_words.specs.Messages.{is_dismissing}
 use Rattle.slice_words.specs.Items.{features_in, known_ports}
 use Rattle.slice_words.specs.Items as items
 use Rattle.slice_words.specs.Alone.{alone}
@@ -26,7 +27,6 @@ use Rattle.desk_words.specs.Openings.{features_told, status_told, phase_of, open
 use Rattle.desk_words.specs.Histories.{is_slot, settings_at, own_ports, own_features, side_start, side_of, view_of, is_open, is_slice_up}
 use Rattle.desk_words.specs.Sent.{sent_by, sent, lane_by}
 use Rattle.desk_words.specs.Verdicts.{is_fresh, is_ended, is_over, is_switch_up}
-use Rattle.desk_words.specs.Wants.{may_want}
 use Rattle.desk_words.specs.Operations.{Operation, Step, Take, takes_in, events_of, empties_slice, ends, slice_limit, lane_limit, is_slice, is_switch, queue_of, lane_of}
 use Rattle.desk_words.specs.Recorded.{is_same_stream, begins_stream, stream_before, timed_at, happenings, next_of, next_after, history_of, history_at, events_in, completed}
 use Rattle.desk_words.specs.Reports.{Place, lane_lines, slice_lines, name_at, close_lines, down_lines, event_lines, last_line, report}
@@ -360,10 +360,6 @@ IsToldAsAlone policy slot switch records =
     told_over policy slot (since_up switch (all_happened policy records)) ≡ alone (settings_at policy slot (opening_of h)) (view_of policy slot h)
 
 -- ---- want of memory
-
--- for an event after a history no memory may be wanted
-abbrev pub WantsNone : PolicyView → List Timed → Timed → Type 0
-WantsNone policy h timed = may_want policy h timed ≡ false
 
 -- ---- what isn't built
 

@@ -2,7 +2,6 @@ pub mod Openings
 pub mod Histories
 pub mod Sent
 pub mod Verdicts
-pub mod Wants
 pub mod Operations
 pub mod Recorded
 pub mod Reports

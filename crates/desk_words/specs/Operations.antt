@@ -1,5 +1,5 @@
 -- What a desk was asked to do, and what it must answer: steps, which are events, and takes, which are questions for the oldest message that waits. Lists have the newest first. All of this is this proxy's own rule.
-use Rattle.std.specs.Prelude.{ℕ, ◌≡◌, ◌==◌, ◌&&◌, ◌||◌, not, Bool, true, false, if◌then◌else◌, List, [], ◌∷◌, Result, Ok, Err, IsTrue}
+use Rattle.std.specs.Prelude.{ℕ, ◌≡◌, ◌==◌, ◌&&◌, ◌||◌, not, Bool, true, false, if◌then◌else◌, List, [], ◌∷◌, Result, Ok, Err}
 use Rattle.std.specs.declared.alloc.AllocError.{AllocError}
 use Rattle.flowspace.specs.Policies.{PolicyView}
 use Rattle.outbox.specs.Queues.{Queue, no_messages, push_all, without_first}
@@ -16,8 +16,7 @@ use Rattle.desk_words.specs.declared.phase.Phase.{Phase}
 use Rattle.desk_words.specs.Openings.{phase_after, phase_of}
 use Rattle.desk_words.specs.Histories.{is_slot, is_open, is_slice_up}
 use Rattle.desk_words.specs.Sent.{sent_by, lane_by}
-use Rattle.desk_words.specs.Verdicts.{is_fresh, is_ended, verdict}
-use Rattle.desk_words.specs.Wants.{may_want}
+use Rattle.desk_words.specs.Verdicts.{is_fresh, is_ended, is_down, verdict}
 
 -- an operation with its reply
 pub data Operation : Type 0 where
@@ -131,10 +130,10 @@ take_reply policy before dest =
     let q = waiting_of policy dest before in
     elim q.pending [ [] ↦ empty_reply policy (events_of before) dest q.choked | message ∷ later ↦ Message message ]
 
--- a reply to a step is right: the verdict on its event, or want of memory where memory may be wanted for it
+-- a reply to a step is right: the verdict on its event, or want of memory unless the event is the end of a connection
 abbrev pub IsReply : PolicyView → List Operation → Timed → Result Verdict AllocError → Type 0
 IsReply policy before timed (Ok answered) = answered ≡ verdict policy (events_of before) timed
-IsReply policy before timed (Err fault) = IsTrue (may_want policy (events_of before) timed)
+IsReply policy before timed (Err fault) = is_down timed.event ≡ false
 
 -- a list of operations is legal where each reply is right by those before it
 abbrev pub IsLegal : PolicyView → List Operation → Type 0

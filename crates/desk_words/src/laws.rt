@@ -12,7 +12,7 @@ ghost use Rattle.desk_words.specs.declared.answer.Verdict.{Verdict};
 ghost use Rattle.desk_words.specs.Operations.{Operation, IsLegal, queue_of, lane_of};
 ghost use Rattle.desk_words.specs.Reports.{Place};
 ghost use Rattle.desk_words.specs.Built.{Lack, first_lack};
-ghost use Rattle.desk_words.specs.Laws.{IsPhaseByEvents, IsAlone, AreAlike, IsErasable, IsBlindBefore, IsSilentUntilUp, IsDownAfterDown, IsUpByEvents, sent_since, taken_since, lane_since, lane_taken_since, AreInOrder, SliceWaits, LaneWaits, AreCompletedOnce, SeesItsSwitch, AreKnownInOrder, AreKnownAsTold, MakesTheFirst, GetsTheFirst, ComeAtTheirSwitch, ComeBeforeLater, HasEachEventOnce, ShowsEachSlice, IsToldAsAlone, WantsNone, AreBuilt, IsFirstLack};
+ghost use Rattle.desk_words.specs.Laws.{IsPhaseByEvents, IsAlone, AreAlike, IsErasable, IsBlindBefore, IsSilentUntilUp, IsDownAfterDown, IsUpByEvents, sent_since, taken_since, lane_since, lane_taken_since, AreInOrder, SliceWaits, LaneWaits, AreCompletedOnce, SeesItsSwitch, AreKnownInOrder, AreKnownAsTold, MakesTheFirst, GetsTheFirst, ComeAtTheirSwitch, ComeBeforeLater, HasEachEventOnce, ShowsEachSlice, IsToldAsAlone, AreBuilt, IsFirstLack};
 
 /// The switch's connection has ended where, after it came, it went or a message of a bad length came; the
 /// opening is the first FEATURES_REPLY between.
@@ -118,12 +118,6 @@ pub fn event_shows_each_slice()
 /// what a proxy sends that serves the slice alone on its view of the switch.
 pub fn slice_is_told_as_alone()
     ensures { (policy : PolicyView) (slot switch : ℕ) (records : List Told) → IsToldAsAlone policy slot switch records }
-{}
-
-/// For the end of a connection, the switch's or a slice's, no memory may be wanted.
-pub fn downs_want_no_memory()
-    ensures switch { (policy : PolicyView) (h : List Timed) (moment : ℕ) → WantsNone policy h (record { event = SwitchDown; moment = moment }) }
-    ensures slice { (policy : PolicyView) (h : List Timed) (slot moment : ℕ) → WantsNone policy h (record { event = SliceDown slot; moment = moment }) }
 {}
 
 /// A recording lacks nothing exactly where each record completes only messages that are built; and its

@@ -12,6 +12,3 @@ mod state;
 pub use book::FlowBook;
 pub use booked::Booked;
 pub use state::{MISS_SEND_LEN, SliceState};
-
-#[cfg(test)]
-mod tests;

@@ -7,7 +7,7 @@ use Rattle.std.proofs.lemmas.Option.{slice_get-get_or, slice_get_read, none-some
 use Rattle.of10_ctl.specs.Streams.{Stream, Stands, frames_of}
 use Rattle.recording.specs.declared.item.Item.{Item}
 use Rattle.recording.specs.Recordings.{IsItem, Told, switch_up, switch_bytes, slice_up, slice_bytes}
-use Rattle.slice_words.specs.Messages.{kind_of}
+use Rattle.of10_message.specs.Heads.{kind_of}
 use Rattle.desk_words.specs.declared.answer.Dest.{Dest}
 use Rattle.desk_words.specs.declared.answer.Dest.TheVariants.{Switch}
 use Rattle.desk_words.specs.Recorded.{told_by, stream_before, carried, told_in}

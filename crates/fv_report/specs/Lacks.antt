@@ -3,7 +3,7 @@ use Rattle.std.specs.Prelude.{ℕ, ◌≡◌, Bool, List, ◌∷◌, ◌++◌, l
 use Rattle.of10_ctl.specs.Streams.{Stream, Stands, frames_of}
 use Rattle.recording.specs.declared.item.Item.{Item}
 use Rattle.recording.specs.Recordings.{Told}
-use Rattle.slice_words.specs.Messages.{kind_of}
+use Rattle.of10_message.specs.Heads.{kind_of}
 use Rattle.desk_words.specs.declared.answer.Dest.{Dest}
 use Rattle.desk_words.specs.declared.answer.Dest.TheVariants.{Switch, Slice}
 use Rattle.desk_words.specs.Built as built

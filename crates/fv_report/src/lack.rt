@@ -11,8 +11,8 @@ ghost use Rattle.fv_report.specs.Lacks.{is_unbuilt, FindsIn, FindsInBytes, Finds
 use crate::run::carried;
 use crate::streams::{Streams, next_frame, restart};
 use of10_ctl::kind::{
-    BARRIER_REPLY, BARRIER_REQUEST, ERROR, FLOW_MOD, FLOW_REMOVED, PACKET_IN, PACKET_OUT,
-    QUEUE_GET_CONFIG_REPLY, QUEUE_GET_CONFIG_REQUEST, STATS_REPLY, STATS_REQUEST,
+    BARRIER_REPLY, BARRIER_REQUEST, PACKET_IN, PACKET_OUT, QUEUE_GET_CONFIG_REPLY,
+    QUEUE_GET_CONFIG_REQUEST, STATS_REPLY, STATS_REQUEST,
 };
 use of10_ctl::{Frame, Framer};
 use of10_flow::PacketInView;
@@ -53,13 +53,7 @@ fn is_special_packet_in(frame: &Frame) -> bool
 fn is_unbuilt_of_switch(frame: &Frame) -> bool
     ensures { result ≡ is_unbuilt_of_switch frame.now }
 {
-    let kinds = [
-        ERROR,
-        FLOW_REMOVED,
-        STATS_REPLY,
-        BARRIER_REPLY,
-        QUEUE_GET_CONFIG_REPLY,
-    ];
+    let kinds = [STATS_REPLY, BARRIER_REPLY, QUEUE_GET_CONFIG_REPLY];
     is_one_of(frame, &kinds) || is_special_packet_in(frame)
 }
 
@@ -68,7 +62,6 @@ fn is_unbuilt_of_slice(frame: &Frame) -> bool
 {
     let kinds = [
         PACKET_OUT,
-        FLOW_MOD,
         STATS_REQUEST,
         BARRIER_REQUEST,
         QUEUE_GET_CONFIG_REQUEST,

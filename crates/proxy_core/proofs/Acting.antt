@@ -10,8 +10,8 @@ use Rattle.slice_words.specs.Alone.{sent_for}
 use Rattle.desk_words.specs.declared.event.Timed.{Timed}
 use Rattle.desk_words.specs.declared.phase.Phase.{Phase}
 use Rattle.desk_words.specs.declared.phase.Phase.TheVariants.{Fresh, Begun, Opened, Ended}
-use Rattle.desk_words.specs.Openings.{phase_after, opening_with, opening_after, known_after, Switch, switch_after}
-use Rattle.desk_words.specs.Histories.{is_slot, settings_at, Side, items_of, phase_items, opening_items, is_open}
+use Rattle.desk_words.specs.Openings.{phase_after, opening_after, known_after, Switch, switch_after}
+use Rattle.desk_words.specs.Histories.{is_slot, settings_at, Side, items_of, phase_items, is_open}
 use Rattle.desk_words.specs.Sent.{lane_in, put_with}
 use Rattle.desk_words.specs.Verdicts.{is_ended, is_before}
 use Rattle.desk_words.proofs.Alone.{none_in}

@@ -30,7 +30,7 @@ use Rattle.proxy_core.specs.Desks.{SlotStands, SessionStands, Opens, Coherent, s
 use Rattle.proxy_core.specs.Opening.{Begins}
 use Rattle.proxy_core.proofs.Lists.{there, within}
 use Rattle.proxy_core.proofs.Fitting.{settings_known}
-use Rattle.switch_side.proofs.Slots.{bad_is_none}
+use Rattle.switch_side.proofs.MessageTypes.{bad_is_none}
 
 -- ---- messages of a bad length
 

@@ -11,6 +11,4 @@ mod Operating
 mod Events
 mod Sliced
 mod Switched
-mod Effects
-mod Wanting
 mod Taking

@@ -1,6 +1,7 @@
 -- Lists by their places, and tests.
-use Rattle.std.proofs.Common.{◌≡◌, ℕ, ltb, ◌&&◌, Bool, true, false, List, length, slice_get, refl, Some}
+use Rattle.std.proofs.Common.{◌≡◌, ℕ, ltb, ◌&&◌, Bool, true, false, List, ◌++◌, length, take, drop, slice_get, refl, ap, ap₂, ◌∙◌, Some, append-nil, arith}
 use Rattle.std.proofs.lemmas.Bool.{lt-ltb, ltb-true}
+use Rattle.std.proofs.lemmas.List.{take_all, drop_all}
 use Rattle.std.proofs.lemmas.Option.{slice_get_within}
 use Rattle.switch_side.proofs.Told.{has_item}
 
@@ -14,3 +15,11 @@ within xs i x is = lt-ltb i (length xs) (slice_get_within xs i x is)
 pub both_same : (b : Bool) → (b && b) ≡ b
 both_same true = refl
 both_same false = refl
+
+-- a list whose front part is written back as it was is as it was
+pub written_back : {A : Type 0} (whole now : List A) (n : ℕ) → now ≡ whole → n ≡ length whole → take n (now ++ drop (length now) whole) ≡ whole
+written_back whole now n same count =
+    ap₂ (λ k front. take k (front ++ drop (length front) whole)) count same
+    ∙ ap (λ rest. take (length whole) (whole ++ rest)) (drop_all (length whole) whole (omega arith))
+    ∙ ap (take (length whole)) (append-nil whole)
+    ∙ take_all (length whole) whole (omega arith)

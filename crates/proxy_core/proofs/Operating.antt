@@ -1,5 +1,5 @@
 -- Operations: what a desk stands for with one step or one take more.
-use Rattle.std.proofs.Common.{◌≡◌, ℕ, suc, arith, ◌+◌, ◌^◌, ◌&&◌, ◌||◌, ◌==◌, leb, not, Bool, true, false, if◌then◌else◌, List, [], ◌∷◌, length, slice_get, refl, ap, ap₂, sym, ◌∙◌, true≢false, Option, Some, None, Ok, Err}
+use Rattle.std.proofs.Common.{◌≡◌, ℕ, suc, arith, ◌+◌, ◌^◌, ◌||◌, ◌==◌, leb, not, Bool, true, false, if◌then◌else◌, List, [], ◌∷◌, length, slice_get, refl, ap, ap₂, sym, ◌∙◌, true≢false, Option, Some, None, Ok, Err}
 use Rattle.std.specs.declared.alloc.AllocError.{AllocError}
 use Rattle.std.proofs.lemmas.Bool.{or_parts}
 use Rattle.flowspace.specs.Policies.{PolicyView}
@@ -14,10 +14,10 @@ use Rattle.desk_words.specs.declared.answer.Taken.{Taken}
 use Rattle.desk_words.specs.declared.answer.Taken.TheVariants.{Message}
 use Rattle.desk_words.specs.Openings.{phase_of, switch_of}
 use Rattle.desk_words.specs.Histories.{side_of}
-use Rattle.desk_words.specs.Verdicts.{is_ended, is_over, closes, verdict}
+use Rattle.desk_words.specs.Verdicts.{is_ended, is_over, is_down, closes, verdict}
 use Rattle.desk_words.specs.Operations.{Operation, Step, Take, events_of, queue_of, lane_of, waiting_in, waiting_of, empty_reply}
 use Rattle.proxy_core.specs.declared.parts.Desk.{Desk}
-use Rattle.proxy_core.specs.Desks.{Body, Acted, Acts, MayWant, Stays, DeskStands, Replied, Answered, TakesNext, IsSilence, queues_less, lane_less}
+use Rattle.proxy_core.specs.Desks.{Body, Acted, Acts, Stays, DeskStands, Replied, Answered, TakesNext, IsSilence, queues_less, lane_less}
 use Rattle.proxy_core.proofs.Fitting.{coherent}
 
 -- ---- steps
@@ -27,12 +27,10 @@ over_is p ops desk b s is = sym (ap₂ (λ (phase : Phase) (n : ℕ). is_ended p
 
 -- memory ran out
 pub refused : (p : PolicyView) (ops : List Operation) (timed : Timed) (fault : AllocError) (old new : Desk) → DeskStands p ops old → (is_ended old.phase || leb (2 ^ 60) old.events) ≡ false
-    → Stays old new → new.events ≡ old.events → MayWant old timed → Replied p ops timed (Err fault) new
-refused p ops timed fault old new s is stays same wants =
-    let h = events_of ops in
-    let on = over_is p ops old false s is in
+    → Stays old new → new.events ≡ old.events → is_down timed.event ≡ false → Replied p ops timed (Err fault) new
+refused p ops timed fault old new s is stays same up =
     record {
-      right = ap₂ (λ (over_ wanted : Bool). not over_ && wanted) on (wants p _ _ _ _ (coherent p h) s.body ((or_parts (is_ended (phase_of h)) (leb (2 ^ 60) (length h)) on).0));
+      right = up;
       stands = record { body = stays p _ _ _ _ s.body; events = same ∙ s.events };
     }
 

@@ -1,9 +1,10 @@
 -- A desk with a session after an event of a slice's connection.
-use Rattle.std.proofs.Common.{◌≡◌, ◌≢◌, ℕ, ◌==◌, ◌&&◌, ◌||◌, not, Bool, true, false, if◌then◌else◌, List, [], ◌∷◌, map, slice_get, refl, ap, ap₂, subst, sym, ◌∙◌, true≢false, eqb-true, append-nil, inl, inr, Option, Some, None}
+use Rattle.std.proofs.Common.{◌≡◌, ◌≢◌, ℕ, ◌==◌, ◌&&◌, ◌||◌, not, Bool, true, false, if◌then◌else◌, List, [], ◌∷◌, map, slice_get, refl, ap, ap₂, subst, sym, ◌∙◌, true≢false, eqb-true, append-nil, inl, inr, Option, Some, None, option_map}
 use Rattle.std.proofs.lemmas.Bool.{cases_Bool, eqb-false, and_parts}
-use Rattle.std.specs.List.{filter}
 use Rattle.of10_port.specs.declared.features.Features.{Features}
-use Rattle.flowspace.specs.Rules.{is_written_by}
+use Rattle.flowspace.specs.declared.slices.Slice.{Slice}
+use Rattle.flowspace.specs.declared.rules.Rule.{Rule}
+use Rattle.flowmod_expand.specs.Pieces.{writes_of}
 use Rattle.flowspace.specs.Policies.{PolicyView}
 use Rattle.port_view.specs.SlicePorts.{ports_of_slice}
 use Rattle.flow_book.specs.declared.state.SliceState.{SliceState}
@@ -159,7 +160,8 @@ sees p switch sides qs a slot fit s here up =
     let known = settings_known p slot switch.features slice.0 slice.1 in
     record {
       same_slot = ap (λ (k : Settings). k.slot) known;
-      same_rules = ap (λ (k : Settings). k.rules) known ∙ ap (filter (is_written_by slot)) (sym s.rules);
+      same_patterns = ap (λ (k : Settings). k.patterns) known ∙ ap (λ (rules : List Rule). writes_of rules slot) (sym s.rules);
+      same_quota = ap (λ (slices : List Slice). option_map (λ (of : Slice). of.quota) (slice_get slices slot)) s.slices ∙ ap (option_map (λ (of : Slice). of.quota)) slice.1 ∙ ap (λ (k : Settings). Some k.quota) (sym known);
       opening = own_features (settings_at p slot (Some a.features)) a.features;
       opened = saw.features_seen;
       same_features = refl;

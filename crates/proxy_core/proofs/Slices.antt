@@ -7,7 +7,6 @@ use Rattle.flow_book.specs.declared.state.SliceState.{SliceState}
 use Rattle.outbox.specs.Queues.{Queue, no_messages, push_all, Kept, QueueStands}
 use Rattle.slice_words.specs.Items.{Item, Up, Down, Msg, is_up}
 use Rattle.slice_words.specs.Alone.{with_items}
-use Rattle.slice_words.specs.Standing.{SliceStands}
 use Rattle.desk_words.specs.declared.event.Event.TheVariants.{SliceUp, SliceMsg, SliceDown}
 use Rattle.desk_words.specs.declared.event.Timed.{Timed}
 use Rattle.desk_words.specs.declared.phase.Phase.{Phase}
@@ -16,7 +15,7 @@ use Rattle.desk_words.specs.Openings.{phase_after, known_after, Switch, switch_a
 use Rattle.desk_words.specs.Histories.{is_slot, settings_at, Side, items_of, is_open}
 use Rattle.desk_words.specs.Operations.{slice_limit, empties}
 use Rattle.desk_words.proofs.Erasing.{others_items}
-use Rattle.desk_words.proofs.Wanting.{down_sent}
+use Rattle.desk_words.proofs.Ends.{down_sent}
 use Rattle.proxy_core.specs.declared.parts.Session.{Session}
 use Rattle.proxy_core.specs.Slots.{Keeps, Comes}
 use Rattle.proxy_core.specs.Desks.{SlotStands, SessionStands, sides_after, up_after, queues_after}
@@ -43,7 +42,7 @@ one_slot p switch sides qs timed slot Becomes old new s at known others own =
 pub kept_slot : (slot : ℕ) (old new : Session) → AtSlot slot Keeps old new → StandsOn old new
 kept_slot slot old new at p switch sides qs s = slot_becomes p switch sides qs qs slot Keeps old new s at
     (λ a b x y was keeps. record {
-      state_stands = subst (λ (state : SliceState). SliceStands (settings_at p slot switch.features) (sides slot).sight state) (sym keeps.0) was.state_stands;
+      state_stands = keeps.0 (settings_at p slot switch.features) (sides slot).sight was.state_stands;
       queue_stands = keeps.1 _ (qs slot) was.queue_stands;
     })
     (λ i far. refl)

@@ -19,7 +19,7 @@ use Rattle.desk_words.specs.Operations.{slice_limit, empties}
 use Rattle.proxy_core.specs.declared.parts.Session.{Session}
 use Rattle.proxy_core.specs.Desks.{SlotStands, SessionStands, sides_after, up_after, queues_after}
 use Rattle.proxy_core.specs.Opening.{has_slot, AtSlot}
-use Rattle.desk_words.proofs.Wanting.{end_sent}
+use Rattle.desk_words.proofs.Ends.{end_sent}
 use Rattle.switch_side.proofs.Standing.{end_stands}
 use Rattle.proxy_core.proofs.Lists.{both_same, there, within}
 

@@ -1,7 +1,7 @@
 -- A desk after a message of the switch.
-use Rattle.std.proofs.Common.{◌≡◌, ◌<◌, ℕ, ◌&&◌, not, Bool, true, false, if◌then◌else◌, List, [], ◌∷◌, length, slice_get, refl, ap, ap₂, subst, sym, ◌∙◌, true≢false, inl, inr, ◌⊎◌, Option, Some, None, Result, Ok, Err, OnErr, IfOk, arith}
-use Rattle.std.specs.Prelude.{ltb, is_some}
-use Rattle.std.proofs.lemmas.Bool.{ltb-true, or_left, or_right}
+use Rattle.std.proofs.Common.{◌≡◌, ℕ, ◌&&◌, not, Bool, true, false, if◌then◌else◌, List, [], ◌∷◌, length, slice_get, refl, ap, ap₂, subst, sym, ◌∙◌, true≢false, inl, inr, ◌⊎◌, Option, Some, None, Result, Ok, Err, OnErr, IfOk, arith}
+use Rattle.std.specs.Prelude.{ltb}
+use Rattle.std.proofs.lemmas.Bool.{ltb-true}
 use Rattle.std.proofs.lemmas.Option.{none-some}
 use Rattle.of10_ctl.specs.Frames.{is_bad}
 use Rattle.of10_port.specs.declared.features.Features.{Features}
@@ -13,30 +13,26 @@ use Rattle.port_view.specs.KnownPorts.{changed, kept_of}
 use Rattle.port_view.proofs.Knowing.{changed-not_kept}
 use Rattle.outbox.specs.Queues.{Queue, no_messages, push_all, Kept, QueueStands}
 use Rattle.slice_words.specs.Items.{Item, End}
-use Rattle.slice_words.specs.Answers.{is_any}
 use Rattle.desk_words.specs.declared.event.Event.{Event}
 use Rattle.desk_words.specs.declared.event.Event.TheVariants.{SwitchMsg}
 use Rattle.desk_words.specs.declared.event.Timed.{Timed}
 use Rattle.desk_words.specs.declared.phase.Phase.{Phase}
 use Rattle.desk_words.specs.declared.phase.Phase.TheVariants.{Fresh, Begun, Opened, Ended}
 use Rattle.desk_words.specs.Openings.{features_told, status_told, kept_beside, status_kept, phase_after, opening_after, known_after, Switch, switch_after}
-use Rattle.desk_words.specs.Histories.{Side, message_items, is_open}
+use Rattle.desk_words.specs.Histories.{Side, message_items}
 use Rattle.desk_words.specs.Sent.{preparation, echo_for, lane_in, put_with}
 use Rattle.desk_words.specs.Verdicts.{is_fresh, is_ended, is_before, is_closing}
-use Rattle.desk_words.specs.Wants.{is_answered, is_port_kept}
 use Rattle.desk_words.specs.Operations.{slice_limit, lane_limit}
 use Rattle.switch_side.specs.declared.dispatch.Dispatch.{Dispatch}
-use Rattle.switch_side.specs.Dispatches.{Surrounds, AllStand, IsDispatch, told_at, sent_from}
-use Rattle.switch_side.proofs.Standing.{stands_still}
+use Rattle.switch_side.specs.Dispatches.{Surrounds, AllStand, IsDispatch, AreChanges, told_at, sent_from}
 use Rattle.proxy_core.specs.declared.parts.Session.{Session}
 use Rattle.proxy_core.specs.declared.parts.Desk.{Desk}
 use Rattle.proxy_core.specs.Slots.{HasOnly, HasMore}
-use Rattle.proxy_core.specs.Handing.{HasRoomForAll, AreSame, AreHanded, kept_by}
+use Rattle.proxy_core.specs.Handing.{AreSame, AreHanded, kept_by}
 use Rattle.proxy_core.specs.Desks.{SessionStands, Opens, Body, Coherent, sides_after, up_after, queues_after, Acted, Acts, ActsIn, Ends, PassesOn}
-use Rattle.proxy_core.specs.Opening.{Begins, CarriedOut, Carries, HasDispatch, StandsOn}
-use Rattle.proxy_core.proofs.Effects.{some_room, some_full, lane_answered, all_answered}
+use Rattle.proxy_core.specs.Opening.{Begins, CarriedOut, Carries, StandsOn}
 use Rattle.proxy_core.proofs.Lists.{there, within}
-use Rattle.proxy_core.proofs.Standing.{items_opened, session_becomes, session_goes, queue_there}
+use Rattle.proxy_core.proofs.Standing.{items_opened, session_becomes, session_goes, queue_there, slot_there}
 use Rattle.proxy_core.proofs.Handed.{slot_sent}
 use Rattle.proxy_core.proofs.Acting.{body_after, still_none, session_ends, lane_is}
 use Rattle.proxy_core.proofs.Beginning.{bad_features, bad_echo, told_good, session_begins}
@@ -199,43 +195,44 @@ all_stand p switch sides qs session s slot state g = (queue_there p switch sides
 
 -- the session after it
 pub carried_session : (p : PolicyView) (switch : Switch) (sides : ℕ → Side) (qs : ℕ → Queue) (moment : ℕ) (message : List ℕ) (old new : Session) (rooms : List Kept) → SessionStands p switch sides qs old → switch.phase ≡ Opened
-    → new.policy ≡ old.policy → new.features ≡ old.features → new.states ≡ old.states → new.ports ≡ kept_by (status_kept switch.known message) old.ports
-    → AreSame old.queues.items rooms → AreHanded (sent_from p switch sides (told_at moment message) 0 p.slices) rooms new.queues.items
+    → new.policy ≡ old.policy → new.features ≡ old.features → length new.states.items ≡ length old.states.items → AllStand p switch (sides_after p switch sides (told_at moment message)) new.states.items
+    → new.ports ≡ kept_by (status_kept switch.known message) old.ports → AreSame old.queues.items rooms → AreHanded (sent_from p switch sides (told_at moment message) 0 p.slices) rooms new.queues.items
     → SessionStands p (switch_after switch (SwitchMsg message)) (sides_after p switch sides (told_at moment message)) (queues_after p switch sides qs (told_at moment message)) new
-carried_session p switch sides qs moment message old new rooms s open_ policy features states ports same handed =
+carried_session p switch sides qs moment message old new rooms s open_ policy features count stand ports same handed =
     session_goes p switch sides (sides_after p switch sides (told_at moment message)) qs (queues_after p switch sides qs (told_at moment message)) (SwitchMsg message) old new s policy features
     (ports ∙ ap (kept_by (status_kept switch.known message)) s.known ∙ sym (ports_kept switch.known (status_told message)) ∙ sym (ap (λ (k : Phase). known_after k switch.known (SwitchMsg message)) open_))
-    (ap (λ v. length v.items) states) (handed.count ∙ same.count)
+    count (handed.count ∙ same.count)
     (λ slot x y gx gy.
-    let gx_old : slice_get old.states.items slot ≡ Some x = subst (λ v. slice_get v.items slot ≡ Some x) states gx in
-    let here = subst (λ (n : ℕ). ltb slot n ≡ true) s.states_count (within old.states.items slot x gx_old) in
-    let was = queue_there p switch sides qs old slot x s gx_old in
+    let here = subst (λ (n : ℕ). ltb slot n ≡ true) (count ∙ s.states_count) (within new.states.items slot x gx) in
+    let was = slot_there p switch sides qs old slot s here in
     let mid = there rooms slot (subst (λ (n : ℕ). ltb slot n ≡ true) (sym (same.count ∙ s.queues_count)) here) in
-    let roomy = same.each slot was.0 mid.0 was.1 mid.1 slice_limit (qs slot) was.2.queue_stands in
+    let roomy = same.each slot was.1 mid.0 was.3 mid.1 slice_limit (qs slot) was.4.queue_stands in
     record {
-      state_stands = stands_still p slot switch (sides slot) moment message x open_ was.2.state_stands;
+      state_stands = stand slot x gx;
       queue_stands = subst (λ (m : List (List ℕ)). QueueStands slice_limit (push_all slice_limit (qs slot) m) y)
           (slot_sent p switch sides (told_at moment message) 0 slot p.slices (omega arith) (let less = ltb-true slot (length p.slices) here in omega arith)) (handed.each slot mid.0 y mid.1 gy slice_limit (qs slot) roomy);
     })
 
 -- want of memory after room was made in some queues
-pub kept_queues : (old new : Session) → new.policy ≡ old.policy → new.features ≡ old.features → new.states ≡ old.states → new.ports ≡ old.ports → AreSame old.queues.items new.queues.items → StandsOn old new
+pub kept_queues : (old new : Session) → new.policy ≡ old.policy → new.features ≡ old.features → new.states.items ≡ old.states.items → new.ports ≡ old.ports → AreSame old.queues.items new.queues.items → StandsOn old new
 kept_queues old new policy features states ports same p switch sides qs s =
-    session_becomes p switch switch sides sides qs qs old new s refl policy features (ports ∙ s.known) (ap (λ v. length v.items) states) same.count
+    session_becomes p switch switch sides sides qs qs old new s refl policy features (ports ∙ s.known) (ap length states) same.count
     (λ slot x y gx gy.
-    let was = queue_there p switch sides qs old slot x s (subst (λ v. slice_get v.items slot ≡ Some x) states gx) in
+    let was = queue_there p switch sides qs old slot x s (subst (λ items. slice_get items slot ≡ Some x) states gx) in
     record { state_stands = was.2.state_stands; queue_stands = same.each slot was.0 y was.1 gy slice_limit (qs slot) was.2.queue_stands })
 
 -- all that follows from a message, for the session and the lane
 pub carried_out : (moment : ℕ) (message : List ℕ) (old new : Session) (lane new_lane : Kept) (rooms : List Kept) (p : PolicyView) (switch : Switch) (sides : ℕ → Side) (qs : ℕ → Queue) (d : Dispatch) → switch.phase ≡ Opened → SessionStands p switch sides qs old
     → ((p : PolicyView) (switch : Switch) (sides : ℕ → Side) (moment : ℕ) → Surrounds p switch old.policy old.ports → AllStand p switch sides old.states.items → IsDispatch p switch sides moment message d)
-    → d.close ≡ false → new.policy ≡ old.policy → new.features ≡ old.features → new.states ≡ old.states → new.ports ≡ kept_by d.port old.ports
+    → d.close ≡ false → new.policy ≡ old.policy → new.features ≡ old.features → length new.states.items ≡ length old.states.items
+    → (AllStand p switch sides old.states.items → AreChanges p switch sides moment message d.changes.items → AllStand p switch (sides_after p switch sides (told_at moment message)) new.states.items)
+    → new.ports ≡ kept_by d.port old.ports
     → AreSame old.queues.items rooms → AreHanded d.to_slices.items rooms new.queues.items → HasMore d.to_switch.items lane new_lane
     → CarriedOut p switch sides qs moment message true old lane new new_lane
-carried_out moment message old new lane new_lane rooms p switch sides qs d open_ s dispatched goes policy features states ports same handed more =
+carried_out moment message old new lane new_lane rooms p switch sides qs d open_ s dispatched goes policy features count stand ports same handed more =
     let is = dispatched p switch sides moment (surrounds p switch sides qs old s open_) (all_stand p switch sides qs old s) in (
       sym is.close ∙ goes,
-      carried_session p switch sides qs moment message old new rooms s open_ policy features states (ports ∙ ap (λ (t : Option PortStatus). kept_by t old.ports) is.port) same
+      carried_session p switch sides qs moment message old new rooms s open_ policy features count (stand (all_stand p switch sides qs old s) is.changes) (ports ∙ ap (λ (t : Option PortStatus). kept_by t old.ports) is.port) same
           (subst (λ (m : List (ℕ × List ℕ)). AreHanded m rooms new.queues.items) is.to_slices handed),
       subst (λ (m : List (List ℕ)). HasMore m lane new_lane) is.to_switch more,
     )
@@ -245,31 +242,6 @@ pub closed_bad : (moment : ℕ) (message : List ℕ) (old : Session) (p : Policy
     → d.close ≡ true → is_bad message ≡ true
 closed_bad moment message old p switch sides qs d open_ s dispatched goes =
     sym (dispatched p switch sides moment (surrounds p switch sides qs old s open_) (all_stand p switch sides qs old s)).close ∙ goes
-
--- something follows from a message that has the switch sent something
-pub lane_follows : (room : ℕ) (message : List ℕ) (old : Session) (d : Dispatch) → ((p : PolicyView) (switch : Switch) (sides : ℕ → Side) (moment : ℕ) → Surrounds p switch old.policy old.ports → AllStand p switch sides old.states.items → IsDispatch p switch sides moment message d)
-    → room < length d.to_switch.items → (moment : ℕ) → HasDispatch moment message old
-lane_follows room message old d dispatched more moment p switch sides qs open_ s =
-    let is = dispatched p switch sides moment (surrounds p switch sides qs old s open_) (all_stand p switch sides qs old s) in
-    or_left (is_answered p switch sides (told_at moment message)) (is_port_kept switch (SwitchMsg message))
-    (lane_answered p switch sides (told_at moment message)
-    (ap (λ (k : Phase). is_any (lane_in (λ i. put_with p i switch (sides i) (told_at moment message)) k (SwitchMsg message))) open_ ∙ ap is_any (sym is.to_switch) ∙ some_room room (length d.to_switch.items) more))
-
--- and from one that has slices sent something
-pub slices_follow : (message : List ℕ) (queues : List Kept) (old : Session) (d : Dispatch) → ((p : PolicyView) (switch : Switch) (sides : ℕ → Side) (moment : ℕ) → Surrounds p switch old.policy old.ports → AllStand p switch sides old.states.items → IsDispatch p switch sides moment message d)
-    → ¬ HasRoomForAll d.to_slices.items queues → (moment : ℕ) → HasDispatch moment message old
-slices_follow message queues old d dispatched full moment p switch sides qs open_ s =
-    let is = dispatched p switch sides moment (surrounds p switch sides qs old s open_) (all_stand p switch sides qs old s) in
-    or_left (is_answered p switch sides (told_at moment message)) (is_port_kept switch (SwitchMsg message))
-    (all_answered p switch sides (told_at moment message) (ap is_any (sym is.to_slices) ∙ some_full d.to_slices.items queues full))
-
--- and from one that tells of a port what is kept
-pub port_follows : (message : List ℕ) (old : Session) (d : Dispatch) → ((p : PolicyView) (switch : Switch) (sides : ℕ → Side) (moment : ℕ) → Surrounds p switch old.policy old.ports → AllStand p switch sides old.states.items → IsDispatch p switch sides moment message d)
-    → is_some d.port ≡ true → (moment : ℕ) → HasDispatch moment message old
-port_follows message old d dispatched kept moment p switch sides qs open_ s =
-    let is = dispatched p switch sides moment (surrounds p switch sides qs old s open_) (all_stand p switch sides qs old s) in
-    or_right (is_answered p switch sides (told_at moment message)) (is_port_kept switch (SwitchMsg message))
-    (ap₂ (λ (k : Phase) (told : Option PortStatus). is_open k && is_some told) open_ (sym is.port) ∙ kept)
 
 -- ---- the desk hands a message on
 

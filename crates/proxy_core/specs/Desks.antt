@@ -1,5 +1,5 @@
 -- When a desk is the one that a list of operations makes of a policy. All of this is this proxy's own rule.
-use Rattle.std.specs.Prelude.{ℕ, ◌≡◌, ◌<◌, ◌&&◌, not, Bool, true, false, if◌then◌else◌, List, [], ◌∷◌, length, slice_get, Option, Some, None, Result, IsTrue}
+use Rattle.std.specs.Prelude.{ℕ, ◌≡◌, ◌<◌, ◌&&◌, not, Bool, true, false, if◌then◌else◌, List, [], ◌∷◌, length, slice_get, Option, Some, None, Result}
 use Rattle.std.specs.declared.alloc.AllocError.{AllocError}
 use Rattle.of10_ctl.specs.Frames.{is_bad}
 use Rattle.flowspace.specs.Policies.{PolicyView}
@@ -22,7 +22,6 @@ use Rattle.desk_words.specs.Openings.{rules_of, phase_after, Switch as Known, sw
 use Rattle.desk_words.specs.Histories.{is_slot, settings_at, Side, side_start, items_of, with_shown, side_of, is_open}
 use Rattle.desk_words.specs.Sent.{sent_with, put_with, lane_in, echo_for}
 use Rattle.desk_words.specs.Verdicts.{is_ended, is_before, is_closing}
-use Rattle.desk_words.specs.Wants.{may_want_after}
 use Rattle.desk_words.specs.Operations.{Operation, Step, Take, events_of, slice_limit, lane_limit, empties, is_ending, is_slice, is_switch, queue_of, lane_of, waiting_in, silence, take_reply, IsReply}
 use Rattle.desk_words.specs.Laws.{HasSeen}
 use Rattle.proxy_core.specs.declared.parts.Session.{Session}
@@ -114,12 +113,6 @@ abbrev pub ActsIn : Phase → Desk → Timed → Bool → Desk → Type 0
 ActsIn phase old timed go new =
     (policy : PolicyView) (switch : Known) (sides : ℕ → Side) (queues : ℕ → Queue) (lane_queue : Queue)
     → Coherent policy switch sides → Body policy switch sides queues lane_queue old → switch.phase ≡ phase → Acted policy switch sides queues lane_queue timed go new
-
--- memory may be wanted for an event, by all that a desk stands for while the switch's connection hasn't ended
-abbrev pub MayWant : Desk → Timed → Type 0
-MayWant desk timed =
-    (policy : PolicyView) (switch : Known) (sides : ℕ → Side) (queues : ℕ → Queue) (lane_queue : Queue)
-    → Coherent policy switch sides → Body policy switch sides queues lane_queue desk → is_ended switch.phase ≡ false → IsTrue (may_want_after policy switch sides timed)
 
 -- the switch's connection ended, and nothing waits for it
 pub record Ends (old new : Desk) : Type 0 where

@@ -1,5 +1,5 @@
 -- A session, slot by slot, and how one begins (this proxy's own rule).
-use Rattle.std.specs.Prelude.{ℕ, ◌≡◌, ◌≢◌, ◌&&◌, ltb, IsTrue, if◌then◌else◌, Bool, true, false, List, [], length, slice_get, Option, Some, None}
+use Rattle.std.specs.Prelude.{ℕ, ◌≡◌, ◌≢◌, ◌&&◌, ltb, if◌then◌else◌, Bool, true, false, List, [], length, slice_get, Option, Some, None}
 use Rattle.of10_ctl.specs.Frames.{is_bad}
 use Rattle.of10_port.specs.declared.features.Features.{Features}
 use Rattle.flowspace.specs.declared.slices.Slice.{Slice}
@@ -18,7 +18,7 @@ use Rattle.desk_words.specs.Openings.{Switch, switch_after}
 use Rattle.desk_words.specs.Histories.{Side}
 use Rattle.desk_words.specs.Sent.{echo_for}
 use Rattle.desk_words.specs.Operations.{slice_limit}
-use Rattle.switch_side.specs.Dispatches.{told_at, has_dispatch}
+use Rattle.switch_side.specs.Dispatches.{told_at}
 use Rattle.proxy_core.specs.declared.parts.Session.{Session}
 use Rattle.proxy_core.specs.Slots.{IsSeen, HasOnly, HasMore}
 use Rattle.proxy_core.specs.Desks.{SessionStands, sides_after, queues_after}
@@ -73,11 +73,6 @@ abbrev pub Carries : ℕ → List ℕ → Bool → Session → Kept → Session 
 Carries moment message on old lane new new_lane =
     (policy : PolicyView) (switch : Switch) (sides : ℕ → Side) (queues : ℕ → Queue) → switch.phase ≡ Opened → SessionStands policy switch sides queues old
     → CarriedOut policy switch sides queues moment message on old lane new new_lane
-
--- something follows from a message of the switch, by all that a session stands for once the switch has told what it is
-abbrev pub HasDispatch : ℕ → List ℕ → Session → Type 0
-HasDispatch moment message session =
-    (policy : PolicyView) (switch : Switch) (sides : ℕ → Side) (queues : ℕ → Queue) → switch.phase ≡ Opened → SessionStands policy switch sides queues session → IsTrue (has_dispatch policy switch sides (told_at moment message))
 
 -- what a session stood for it stands for still
 abbrev pub StandsOn : Session → Session → Type 0

@@ -1,5 +1,5 @@
 -- What events make of one slice: its state and what waits for its controller (this proxy's own rule).
-use Rattle.std.specs.Prelude.{ℕ, ◌≡◌, ◌||◌, Bool, not, IsTrue, List, [], ◌∷◌, map}
+use Rattle.std.specs.Prelude.{ℕ, ◌≡◌, Bool, not, List, [], ◌∷◌, map}
 use Rattle.of10_ctl.specs.declared.kind.TheConstants.{HELLO}
 use Rattle.of10_ctl.specs.Frames.{message_of}
 use Rattle.of10_port.specs.declared.features.Features.{Features}
@@ -9,8 +9,7 @@ use Rattle.outbox.specs.Queues.{Queue, no_messages, push_all, Kept, QueueStands}
 use Rattle.slice_words.specs.Items.{Settings, Sight, Item, Up, Msg}
 use Rattle.slice_words.specs.Alone.{answer_to, rendered}
 use Rattle.slice_words.specs.Standing.{SliceStands}
-use Rattle.slice_side.specs.Reactions.{with_item, Sees, is_heeded}
-use Rattle.slice_words.specs.Answers.{is_any}
+use Rattle.slice_side.specs.Reactions.{with_item, Sees}
 
 -- an outbox keeps the queue that it kept
 abbrev pub SameQueue : Kept → Kept → Type 0
@@ -28,9 +27,13 @@ HasOnly messages old new = (limit : ℕ) (q : Queue) → QueueStands limit q old
 abbrev pub IsSeen : Item → SliceState → SliceState → Type 0
 IsSeen item old new = (s : Settings) (sight : Sight) → SliceStands s sight old → SliceStands s (with_item item sight) new
 
--- the state is as it was, and so is what waits
+-- a state belongs to what it belonged to
+abbrev pub SameState : SliceState → SliceState → Type 0
+SameState old new = (s : Settings) (sight : Sight) → SliceStands s sight old → SliceStands s sight new
+
+-- the state stands as it stood, and what waits is what waited
 abbrev pub Keeps : SliceState → Kept → SliceState → Kept → Type 0
-Keeps old_state old new_state new = (new_state ≡ old_state) × SameQueue old new
+Keeps old_state old new_state new = SameState old_state new_state × SameQueue old new
 
 -- the slice's controller connected, and nothing waits but the greeting
 abbrev pub Comes : SliceState → Kept → SliceState → Kept → Type 0
@@ -47,11 +50,3 @@ abbrev pub Hears : SwitchView → List (List ℕ) → Features → ℕ → List 
 Hears policy known features slot message moment on old_state old lane new_state new new_lane =
     (s : Settings) (sight : Sight) → SliceStands s sight old_state → Sees s sight.view policy known features slot
     → Heard s sight (Msg message moment) on old lane new_state new new_lane
-
--- a message of a slice that is up is replied to, something is sent on for it, or its actions are read
-abbrev pub has_effect : Settings → Sight → List ℕ → ℕ → Bool
-has_effect s sight message moment = is_heeded s sight.view message moment || is_any (answer_to s sight.view (Msg message moment)).to_switch
-
-abbrev pub HasEffect : SwitchView → List (List ℕ) → Features → ℕ → List ℕ → ℕ → SliceState → Type 0
-HasEffect policy known features slot message moment state =
-    (s : Settings) (sight : Sight) → SliceStands s sight state → Sees s sight.view policy known features slot → IsTrue (has_effect s sight message moment)

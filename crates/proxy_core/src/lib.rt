@@ -11,6 +11,3 @@ mod take;
 
 pub use desk_words::{Dest, Event, Taken, Timed, Verdict, laws};
 pub use parts::Desk;
-
-#[cfg(test)]
-mod tests;

@@ -2,8 +2,8 @@
 
 ghost use Rattle.std.specs.Prelude.{ℕ, ◌≡◌, true, false, slice_get, Some, IfOk, OnOk, OnErr, IsTrue};
 ghost use Rattle.flow_book.specs.declared.state.SliceState.{SliceState};
-ghost use Rattle.proxy_core.specs.Slots.{Comes, HasEffect, Hears, Keeps, SameQueue};
-ghost use Rattle.proxy_core.specs.Opening.{has_slot, is_up_at, AtSlot, Goes, Carries, HasDispatch, StandsOn};
+ghost use Rattle.proxy_core.specs.Slots.{Comes, Hears, Keeps, SameQueue};
+ghost use Rattle.proxy_core.specs.Opening.{has_slot, is_up_at, AtSlot, Goes, Carries, StandsOn};
 
 use crate::lane::{make_room, push_all};
 use crate::opened::{hand_out, keep, make_rooms};
@@ -12,7 +12,7 @@ use crate::slots::{come, go, hear};
 use of10_ctl::Frame;
 use outbox::Outbox;
 use std::alloc::{AllocError, Global};
-use switch_side::{Dispatch, react};
+use switch_side::{Dispatch, apply_all, react, reserve};
 
 impl Session {
     pub(crate) fn has_slot(&self, slot: u8) -> bool
@@ -34,7 +34,6 @@ impl Session {
         ensures value { IfOk result (λ there. there ≡ has_slot self.old slot) }
         ensures ok { OnOk result (AtSlot slot Comes self.old self.new) }
         ensures err { OnErr result (AtSlot slot Keeps self.old self.new) }
-        ensures memory { OnErr result (IsTrue (has_slot self.old slot)) }
     {
         if !self.has_slot(slot) {
             return Ok(false);
@@ -71,8 +70,6 @@ impl Session {
         ensures up { IfOk result (λ on. is_up_at self.old slot ≡ true → AtSlot slot (λ a b x y. Hears self.old.policy self.old.ports self.old.features slot frame.now moment on a b lane.old x y lane.new) self.old self.new) }
         ensures err { OnErr result (AtSlot slot Keeps self.old self.new) }
         ensures lane { OnErr result (SameQueue lane.old lane.new) }
-        ensures memory { OnErr result (IsTrue (is_up_at self.old slot)) }
-        ensures effect { OnErr result ((state : SliceState) → slice_get self.old.states.items slot ≡ Some state → HasEffect self.old.policy self.old.ports self.old.features slot frame.now moment state) }
     {
         if !self.is_up(slot) {
             return Ok(false);
@@ -102,7 +99,6 @@ impl Session {
         ensures ok { IfOk result (λ on. (moment : ℕ) → Carries moment frame.now on self.old lane.old self.new lane.new) }
         ensures err { OnErr result (StandsOn self.old self.new) }
         ensures lane { OnErr result (SameQueue lane.old lane.new) }
-        ensures memory { OnErr result ((moment : ℕ) → HasDispatch moment frame.now self.old) }
     {
         if self.states.len() != self.policy.slices().len() {
             return Ok(false);
@@ -110,6 +106,7 @@ impl Session {
         let Dispatch {
             to_slices,
             to_switch,
+            changes,
             port,
             close,
         } = react(alloc, &self.policy, &self.ports, &self.states, frame)?;
@@ -118,7 +115,9 @@ impl Session {
         }
         make_room(lane, to_switch.len())?;
         make_rooms(&mut self.queues, &to_slices)?;
+        reserve(&mut self.states, &changes)?;
         keep(&mut self.ports, port)?;
+        apply_all(&mut self.states, changes);
         hand_out(&mut self.queues, to_slices);
         push_all(lane, to_switch);
         Ok(true)

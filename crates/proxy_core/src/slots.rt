@@ -3,7 +3,7 @@
 ghost use Rattle.std.specs.Prelude.{ℕ, OnOk, OnErr, IfOk};
 ghost use Rattle.outbox.specs.Queues.{Queue, no_messages, QueueStands};
 ghost use Rattle.slice_words.specs.Items.{Down};
-ghost use Rattle.proxy_core.specs.Slots.{Comes, HasEffect, Hears, IsSeen, Keeps, SameQueue};
+ghost use Rattle.proxy_core.specs.Slots.{Comes, Hears, IsSeen, Keeps, SameQueue};
 
 use crate::lane::{make_room, push_all};
 use flow_book::SliceState;
@@ -13,7 +13,7 @@ use of10_ctl::{Frame, message};
 use of10_port::Features;
 use outbox::Outbox;
 use port_view::PortView;
-use slice_side::{apply, come_up, go_down, react};
+use slice_side::{apply, come_up, go_down, react, reserve};
 use std::alloc::{AllocError, Global};
 
 /// The slice's controller connected: what waited is dropped, and it is greeted (OpenFlow 1.0.0, section 5.5).
@@ -58,11 +58,11 @@ pub(crate) fn hear(
     ensures ok { IfOk result (λ on. Hears policy.now ports.now features.now slot frame.now moment on state.old queue.old lane.old state.new queue.new lane.new) }
     ensures err { OnErr result (Keeps state.old queue.old state.new queue.new) }
     ensures lane { OnErr result (SameQueue lane.old lane.new) }
-    ensures memory { OnErr result (HasEffect policy.now ports.now features.now slot frame.now moment state.old) }
 {
     let reaction = react(alloc, policy, ports, features, state, slot, frame, moment)?;
     make_room(queue, reaction.to_slice.len())?;
     make_room(lane, reaction.to_switch.len())?;
+    reserve(state, &reaction.change)?;
     apply(state, reaction.change);
     push_all(queue, reaction.to_slice);
     push_all(lane, reaction.to_switch);

@@ -1,17 +1,13 @@
 //! What a desk makes of an event.
 
-ghost use Rattle.std.specs.Prelude.{ℕ, ◌≡◌, ◌≤◌, ◌^◌, ◌||◌, leb, if◌then◌else◌, false, None, Some, length, IfOk, OnErr, IfSome, IsTrue, is_some, List, []};
-ghost use Rattle.of10_ctl.specs.declared.kind.TheConstants.{ECHO_REQUEST};
+ghost use Rattle.std.specs.Prelude.{ℕ, ◌≡◌, ◌≤◌, ◌^◌, ◌||◌, leb, if◌then◌else◌, false, None, Some, length, IfOk, OnErr, IfSome, List, []};
 ghost use Rattle.of10_ctl.specs.Frames.{is_bad};
-ghost use Rattle.of10_ctl.specs.Kinds.{is_of};
 ghost use Rattle.desk_words.specs.declared.event.Event.TheVariants.{SwitchUp, SwitchMsg, SwitchDown, SliceUp, SliceMsg, SliceDown};
 ghost use Rattle.desk_words.specs.declared.phase.Phase.TheVariants.{Begun, Opened};
 ghost use Rattle.desk_words.specs.Openings.{features_told, phase_after};
-ghost use Rattle.desk_words.specs.Sent.{begun_lane};
-ghost use Rattle.desk_words.specs.Verdicts.{is_ended};
-ghost use Rattle.slice_words.specs.Answers.{is_any};
+ghost use Rattle.desk_words.specs.Verdicts.{is_ended, is_down};
 ghost use Rattle.desk_words.specs.declared.answer.Verdict.TheVariants.{Go, Close};
-ghost use Rattle.proxy_core.specs.Desks.{Acts, ActsIn, MayWant, Stays, Ends, PassesOn, is_begun_with, DeskStands, Steps};
+ghost use Rattle.proxy_core.specs.Desks.{Acts, ActsIn, Stays, Ends, PassesOn, is_begun_with, DeskStands, Steps};
 
 use crate::lane::{echo, greeting, make_room, preparation, push_all};
 use crate::parts::{Desk, Session};
@@ -44,7 +40,6 @@ fn connected(phase: Phase) -> Phase
 fn features_told(alloc: Global, frame: &Frame) -> Result<Option<Features>, AllocError>
     ensures value { IfOk result (λ told. told ≡ features_told frame.now) }
     ensures few { IfOk result (λ told. IfSome told (λ f. length f.ports ≤ 1364)) }
-    ensures memory { OnErr result (IsTrue (is_some (features_told frame.now))) }
 {
     if !frame.is_of(FEATURES_REPLY) {
         return Ok(None);
@@ -114,7 +109,6 @@ impl Desk {
         requires { (is_bad frame.now ≡ false) × (features_told frame.now ≡ None) }
         ensures ok { IfOk result (λ go. (moment : ℕ) → ActsIn Begun self.old (record { event = SwitchMsg frame.now; moment = moment }) go self.new) }
         ensures err { OnErr result (Stays self.old self.new) }
-        ensures memory { OnErr result (IsTrue (is_of ECHO_REQUEST frame.now)) }
         ensures events { self.new.events ≡ self.old.events }
     {
         let messages = echo(alloc, frame)?;
@@ -127,7 +121,6 @@ impl Desk {
     fn hear_first(&mut self, alloc: Global, frame: &Frame) -> Result<bool, AllocError>
         ensures ok { IfOk result (λ go. (moment : ℕ) → ActsIn Begun self.old (record { event = SwitchMsg frame.now; moment = moment }) go self.new) }
         ensures err { OnErr result (Stays self.old self.new) }
-        ensures memory { OnErr result (IsTrue (is_any (begun_lane frame.now))) }
         ensures events { self.new.events ≡ self.old.events }
     {
         if frame.bad_length() {
@@ -144,7 +137,6 @@ impl Desk {
     fn pass_on(&mut self, alloc: Global, frame: &Frame) -> Result<bool, AllocError>
         ensures ok { IfOk result (λ go. (moment : ℕ) → PassesOn moment frame.now go self.old self.new) }
         ensures err { OnErr result (Stays self.old self.new) }
-        ensures memory { OnErr result ((moment : ℕ) → MayWant self.old (record { event = SwitchMsg frame.now; moment = moment })) }
         ensures events { self.new.events ≡ self.old.events }
     {
         match &mut self.session {
@@ -157,7 +149,6 @@ impl Desk {
     fn hear_later(&mut self, alloc: Global, frame: &Frame) -> Result<bool, AllocError>
         ensures ok { IfOk result (λ go. (moment : ℕ) → ActsIn Opened self.old (record { event = SwitchMsg frame.now; moment = moment }) go self.new) }
         ensures err { OnErr result (Stays self.old self.new) }
-        ensures memory { OnErr result ((moment : ℕ) → MayWant self.old (record { event = SwitchMsg frame.now; moment = moment })) }
         ensures events { self.new.events ≡ self.old.events }
     {
         if !self.pass_on(alloc, frame)? {
@@ -171,7 +162,6 @@ impl Desk {
     fn hear_switch(&mut self, alloc: Global, frame: &Frame) -> Result<bool, AllocError>
         ensures ok { IfOk result (λ go. (moment : ℕ) → Acts self.old (record { event = SwitchMsg frame.now; moment = moment }) go self.new) }
         ensures err { OnErr result (Stays self.old self.new) }
-        ensures memory { OnErr result ((moment : ℕ) → MayWant self.old (record { event = SwitchMsg frame.now; moment = moment })) }
         ensures events { self.new.events ≡ self.old.events }
     {
         match self.phase {
@@ -199,7 +189,6 @@ impl Desk {
     fn greet_slice(&mut self, alloc: Global, slot: u8) -> Result<bool, AllocError>
         ensures ok { IfOk result (λ go. (moment : ℕ) → Acts self.old (record { event = SliceUp slot; moment = moment }) go self.new) }
         ensures err { OnErr result (Stays self.old self.new) }
-        ensures memory { OnErr result ((moment : ℕ) → MayWant self.old (record { event = SliceUp slot; moment = moment })) }
         ensures events { self.new.events ≡ self.old.events }
     {
         match &mut self.session {
@@ -218,7 +207,6 @@ impl Desk {
     ) -> Result<bool, AllocError>
         ensures ok { IfOk result (λ go. Acts self.old (record { event = SliceMsg slot frame.now; moment = moment }) go self.new) }
         ensures err { OnErr result (Stays self.old self.new) }
-        ensures memory { OnErr result (MayWant self.old (record { event = SliceMsg slot frame.now; moment = moment })) }
         ensures events { self.new.events ≡ self.old.events }
     {
         match &mut self.session {
@@ -249,7 +237,7 @@ impl Desk {
     fn act(&mut self, alloc: Global, timed: Timed) -> Result<bool, AllocError>
         ensures ok { IfOk result (λ go. Acts self.old timed go self.new) }
         ensures err { OnErr result (Stays self.old self.new) }
-        ensures memory { OnErr result (MayWant self.old timed) }
+        ensures memory { OnErr result (is_down timed.event ≡ false) }
         ensures events { self.new.events ≡ self.old.events }
     {
         let Timed { event, moment } = timed;
@@ -271,9 +259,8 @@ impl Desk {
     }
 
     /// One event. `AllocError` leaves what the desk stands for as it was, though memory that was taken may
-    /// stay, and the event isn't counted. It comes only where the event has something sent, to the switch or
-    /// to a slice, or tells of a port what is kept, or is a packet-out or a flow-mod of a slice that is up,
-    /// whose actions, or packet, are read. After `Ended` nothing more changes.
+    /// stay, and the event isn't counted. It doesn't come for the end of a connection. After `Ended` nothing
+    /// more changes.
     pub fn step(&mut self, alloc: Global, timed: Timed) -> Result<Verdict, AllocError>
         ensures { Steps self.old timed result self.new }
     {

@@ -4,6 +4,3 @@
 mod bucket;
 
 pub use bucket::{RateBucket, accepted_keep_the_rate, room_is_conformance};
-
-#[cfg(test)]
-mod tests;

@@ -1,7 +1,10 @@
 //! Whole calls over files and sinks in memory.
 
 mod checks;
+mod entries;
+mod flow_mods;
 mod names;
+mod outside;
 mod recordings;
 mod records;
 mod sessions;
@@ -17,16 +20,15 @@ use std::process::Abort;
 use std::test::Fail;
 use wire_samples::bytes;
 
-/// The two slices of each policy.
-const SLICES: &str = "\
+/// How each policy begins: with alice's slice. What follows may go on with its limits.
+const ALICE: &str = "\
 version = 1
 [[slice]]
 name = \"alice\"
 controller = \"127.0.0.1:6633\"
-[[slice]]
-name = \"bob\"
-controller = \"127.0.0.1:6634\"
 ";
+
+const BOB: &str = "[[slice]]\nname = \"bob\"\ncontroller = \"127.0.0.1:6634\"\n";
 
 const WEB_RULE: &str =
     "[[rule]]\npriority = 100\nwrite = \"alice\"\ndl_type = 2048\nnw_proto = 6\ntp_dst = 80\n";
@@ -34,8 +36,8 @@ const WEB_RULE: &str =
 const SHELL_RULE: &str =
     "[[rule]]\npriority = 50\nwrite = \"bob\"\ndl_type = 2048\nnw_proto = 6\ntp_dst = 22\n";
 
-/// Alice has TCP port 80, bob port 22.
-const RULES: &[&str] = &[WEB_RULE, SHELL_RULE];
+/// A policy, piece by piece: alice has TCP port 80, bob port 22.
+const POLICY: &[&str] = &[ALICE, BOB, WEB_RULE, SHELL_RULE];
 
 const MAGIC: &str = "4656524543000001";
 
@@ -78,20 +80,10 @@ fn call(
     Ok(Answer { status, out, err })
 }
 
-/// The policy of the two slices with these rules.
-fn policy_of(alloc: Global, rules: &[&str]) -> Result<String, Fail> {
-    let mut text = String::new(alloc);
-    text.push_str(SLICES)?;
-    for rule in rules {
-        text.push_str(rule)?;
-    }
-    Ok(text)
-}
-
-/// A replay of a recording under these rules.
-fn play(alloc: Global, rules: &[&str], recording: &[u8], out: MemorySink) -> Result<Answer, Fail> {
+/// A replay of a recording under the policy of these pieces.
+fn play(alloc: Global, policy: &[&str], recording: &[u8], out: MemorySink) -> Result<Answer, Fail> {
     let mut files = MemoryFiles::new(alloc);
-    files.add("policy", policy_of(alloc, rules)?.as_bytes())?;
+    files.add("policy", policy.concat(alloc)?.as_bytes())?;
     files.add("recording", recording)?;
     call(alloc, &["replay", "policy", "recording"], &mut files, out)
 }
@@ -113,10 +105,10 @@ fn a_packet_reaches_the_slice_that_owns_its_port(rt: HostRuntime) -> Result<(), 
     let alloc = rt.alloc();
     let recording = bytes(alloc, &[written_out(alloc, WEB_RECORDING)?.as_str()])?;
     let report = written_out(alloc, WEB_REPORT)?;
-    let answer = play(alloc, RULES, &recording, MemorySink::new(alloc))?;
+    let answer = play(alloc, POLICY, &recording, MemorySink::new(alloc))?;
     expect_answer(&rt, &answer, (0, report.as_str(), ""), "");
     let slow = MemorySink::with_plan(alloc, 7, Vec::new(alloc));
-    let answer = play(alloc, RULES, &recording, slow)?;
+    let answer = play(alloc, POLICY, &recording, slow)?;
     expect_answer(&rt, &answer, (0, report.as_str(), ""), "a slow sink");
     Ok(())
 }
@@ -124,7 +116,7 @@ fn a_packet_reaches_the_slice_that_owns_its_port(rt: HostRuntime) -> Result<(), 
 #[test]
 fn the_report_of_a_recording_in_memory_is_written(rt: HostRuntime) -> Result<(), Fail> {
     let alloc = rt.alloc();
-    let policy = policy_text::read(alloc, policy_of(alloc, RULES)?.as_bytes())?;
+    let policy = policy_text::read(alloc, POLICY.concat(alloc)?.as_bytes())?;
     let recording = bytes(alloc, &[written_out(alloc, WEB_RECORDING)?.as_str()])?;
     let mut out = MemorySink::new(alloc);
     let records = items(alloc, &recording, policy.slices().len() as u8)?;
@@ -142,7 +134,7 @@ fn a_sink_that_fails_ends_the_report_at_a_line(rt: HostRuntime) -> Result<(), Fa
     let mut before = String::new(alloc);
     for (puts, line) in report.as_str().lines().enumerate() {
         let failing = MemorySink::with_plan(alloc, usize::MAX, vec![in alloc; puts as u64]?);
-        let answer = play(alloc, RULES, &recording, failing)?;
+        let answer = play(alloc, POLICY, &recording, failing)?;
         let expected = (5, before.as_str(), "write fault\n");
         expect_answer(&rt, &answer, expected, line);
         assert_eq!(rt; answer.out.faults(), 1);
@@ -182,7 +174,7 @@ fn a_missing_file_is_a_read_fault(rt: HostRuntime) -> Result<(), Fail> {
     expect_answer(&rt, &answer, (4, "", "read fault\n"), "no policy");
     assert_eq!(rt; files.faults("policy"), 1);
     let mut files = MemoryFiles::new(alloc);
-    files.add("policy", policy_of(alloc, RULES)?.as_bytes())?;
+    files.add("policy", POLICY.concat(alloc)?.as_bytes())?;
     let answer = call(alloc, &words, &mut files, MemorySink::new(alloc))?;
     expect_answer(&rt, &answer, (4, "", "read fault\n"), "no recording");
     assert_eq!(rt; (files.faults("policy"), files.faults("recording")), (0, 1));

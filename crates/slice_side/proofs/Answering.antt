@@ -1,29 +1,23 @@
--- What is answered to a message, by what the state and the switch say.
-use Rattle.std.proofs.Common.{◌≡◌, ℕ, ◌&&◌, Bool, true, List, [], map, refl, ap, sym, ◌∙◌}
+-- What follows from a message by what was read of it is what follows from the item.
+use Rattle.std.proofs.Common.{◌≡◌, ℕ, Bool, true, if◌then◌else◌, List, refl, sym, ap, ◌∙◌, subst, true≢false, Ok, Err}
 use Rattle.of10_port.specs.declared.features.Features.{Features}
+use Rattle.of10_message.specs.declared.controller.FromController.{FromController}
+use Rattle.of10_message.specs.declared.controller.FromController.TheVariants as said
+use Rattle.of10_message.specs.declared.fault.Unread.{Unread}
+use Rattle.of10_message.specs.declared.fault.MessageFault.{MessageFault}
+use Rattle.of10_message.specs.declared.fault.MessageFault.TheVariants as faults
+use Rattle.of10_message.specs.Controller.{Gives, read_controller}
 use Rattle.flowspace.specs.Policies.{SwitchView}
 use Rattle.port_view.specs.SlicePorts.{ports_of_slice, features_with}
 use Rattle.flow_book.specs.declared.state.SliceState.{SliceState}
-use Rattle.slice_words.specs.Messages.{is_dismissing}
+use Rattle.slice_words.specs.Messages.{Reading, asks_switch}
 use Rattle.slice_words.specs.Items.{Settings, Sight, Item, Msg, is_up}
-use Rattle.slice_words.specs.Answers.{Answer, Past, message_answer}
-use Rattle.slice_words.specs.Alone.{answer_to, rendered}
+use Rattle.slice_words.specs.Pasts.{Answer, Past, silence}
+use Rattle.slice_words.specs.Answers.{unread_answer, rated_answer, read_answer, message_answer}
+use Rattle.slice_words.specs.Alone.{answer_to}
 use Rattle.slice_words.specs.Standing.{SliceStands, past_of}
-use Rattle.slice_words.proofs.AnswerKinds.{by_ending, message_holds}
-use Rattle.slice_words.proofs.Dismissing.{ends}
-use Rattle.slice_side.specs.Reactions.{Sees, Shown}
-
--- ---- nothing is sent on to the switch
-
-message_kept : (s : Settings) (view : List Item) (past : List Past) (moment : ℕ) (message : List ℕ) → (message_answer s view past moment message).to_switch ≡ []
-message_kept s view past moment message =
-    message_holds (λ (ends_ : Bool) (a : Answer). a.to_switch ≡ []) s view past moment message (by_ending _ view message (λ messages. refl) (λ messages. refl))
-
--- ---- a slice that is up
-
--- the slice's own answer is the message's
-answered : (s : Settings) (view : List Item) (message : List ℕ) (moment : ℕ) → is_up view ≡ true → answer_to s view (Msg message moment) ≡ message_answer s view (past_of s view) moment message
-answered s view message moment up = rw up refl
+use Rattle.slice_side.specs.declared.answered.Reaction.{Reaction}
+use Rattle.slice_side.specs.Reactions.{Sees, Shown, Follows, IsReaction}
 
 -- what the state and the switch say is what the slice saw
 pub shown : (s : Settings) (sight : Sight) (state : SliceState) (policy : SwitchView) (known : List (List ℕ)) (features : Features) (slot : ℕ)
@@ -37,15 +31,35 @@ shown s sight state policy known features slot stands sees = record {
       ∙ ap (λ (f : Features). record f { ports = ports_of_slice policy.rules slot known }) sees.same_features;
 }
 
-pub to_slice : (s : Settings) (view : List Item) (message : List ℕ) (moment : ℕ) (replies : List (List ℕ)) → is_up view ≡ true
-    → replies ≡ (message_answer s view (past_of s view) moment message).to_slice → replies ≡ (answer_to s view (Msg message moment)).to_slice
-to_slice s view message moment replies up same = same ∙ ap (λ (a : Answer). a.to_slice) (sym (answered s view message moment up))
+-- what follows from what was read
+abbrev pub answer_read : Settings → List Item → ℕ → List ℕ → Reading → Answer
+answer_read s view moment message read = elim read [ Err fault ↦ unread_answer fault message | Ok asked ↦ read_answer s view (past_of s view) moment asked message ]
 
-pub to_switch : (s : Settings) (sight : Sight) (message : List ℕ) (moment : ℕ) (sent : List (List ℕ)) → is_up sight.view ≡ true
-    → sent ≡ [] → sent ≡ map (rendered sight.came) (answer_to s sight.view (Msg message moment)).to_switch
-to_switch s sight message moment sent up none =
-    none ∙ sym (ap (λ (a : Answer). map (rendered sight.came) a.to_switch) (answered s sight.view message moment up) ∙ ap (map (rendered sight.came)) (message_kept s sight.view (past_of s sight.view) moment message))
+pub reaction_of : (s : Settings) (sight : Sight) (message : List ℕ) (moment : ℕ) (r : Reaction) (read : Reading) → is_up sight.view ≡ true → read_controller message ≡ read
+    → Follows s.patterns message read (answer_read s sight.view moment message read) moment r → IsReaction s sight (Msg message moment) r
+reaction_of s sight message moment r read up is follows =
+    let same : answer_read s sight.view moment message read ≡ answer_to s sight.view (Msg message moment) =
+    ap (answer_read s sight.view moment message) (sym is) ∙ ap (λ (b : Bool). if b then message_answer s sight.view (past_of s sight.view) moment message else silence) (sym up) in
+    let so = subst (λ (a : Answer). Follows s.patterns message (read_controller message) a moment r) same (subst (λ (k : Reading). Follows s.patterns message k (answer_read s sight.view moment message read) moment r) (sym is) follows) in
+    record { to_slice = so.to_slice; to_switch = so.to_switch sight.came; close = so.close; change = (up, so.change) }
 
-pub closes : (s : Settings) (view : List Item) (message : List ℕ) (moment : ℕ) (close : Bool) → is_up view ≡ true
-    → close ≡ is_dismissing message → close ≡ (answer_to s view (Msg message moment)).dismissed
-closes s view message moment close up same = same ∙ ap (λ (b : Bool). b && is_dismissing message) (sym up) ∙ sym (ends s view (Msg message moment))
+-- what asks something of the switch is answered by the rate
+pub asked_answer : (s : Settings) (view : List Item) (past : List Past) (moment : ℕ) (message : List ℕ) (asked : FromController) → asks_switch (Ok asked) ≡ true → rated_answer s view past moment asked message ≡ read_answer s view past moment asked message
+unfolding read_answer
+asked_answer s view past moment message (said.PacketOut m) is = refl
+asked_answer s view past moment message (said.FlowMod m) is = refl
+asked_answer s view past moment message (said.StatsRequest request) is = refl
+asked_answer s view past moment message said.BarrierRequest is = refl
+asked_answer s view past moment message (said.QueueGetConfigRequest port) is = refl
+asked_answer s view past moment message said.Hello is = absurd (true≢false (sym is))
+asked_answer s view past moment message said.Error is = absurd (true≢false (sym is))
+asked_answer s view past moment message said.EchoRequest is = absurd (true≢false (sym is))
+asked_answer s view past moment message said.EchoReply is = absurd (true≢false (sym is))
+asked_answer s view past moment message said.Vendor is = absurd (true≢false (sym is))
+asked_answer s view past moment message said.FeaturesRequest is = absurd (true≢false (sym is))
+asked_answer s view past moment message said.GetConfigRequest is = absurd (true≢false (sym is))
+asked_answer s view past moment message (said.SetConfig config) is = absurd (true≢false (sym is))
+asked_answer s view past moment message said.PortMod is = absurd (true≢false (sym is))
+
+pub unread_is : (fault : MessageFault) (found : Unread) (read : Reading) → fault ≡ faults.Unread found → Gives (Err fault) read → read ≡ Err found
+unread_is fault found read is gives = subst (λ (f : MessageFault). Gives (Err f) read) is gives

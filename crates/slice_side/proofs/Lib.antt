@@ -1,2 +1,7 @@
-pub mod Forms
-pub mod Answering
+mod Lines
+mod Listing
+mod Following
+mod Grounds
+mod Changing
+mod Answering
+mod Bytes

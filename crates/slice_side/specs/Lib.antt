@@ -1,1 +1,2 @@
 pub mod Reactions
+pub mod Checking

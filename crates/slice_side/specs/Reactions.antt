@@ -1,22 +1,35 @@
--- What a slice's message makes of the slice's state, and what is answered (this proxy's own rule).
-use Rattle.std.specs.Prelude.{ℕ, ◌≡◌, ◌||◌, Bool, true, false, List, [], ◌∷◌, map, filter, Some}
+-- What follows from a slice's message: what is answered, what is sent on, and what changes in the slice's state (this proxy's own rule).
+use Rattle.std.specs.Prelude.{ℕ, ◌≡◌, ◌≢◌, ◌<◌, ◌≤◌, ◌+◌, ◌^◌, true, false, List, [], ◌∷◌, length, map, slice_get, AllPairs, Some, None, option_map, Ok}
+use Rattle.of10_model.specs.declared.pattern.Pattern.{Pattern}
+use Rattle.of10_flow.specs.declared.flow_mod.FlowMod.{FlowMod}
+use Rattle.of10_flow.specs.declared.protocol.TheConstants.{SEND_FLOW_REM}
+use Rattle.of10_flow.specs.Tables.{has_flag}
 use Rattle.of10_port.specs.declared.features.Features.{Features}
+use Rattle.of10_message.specs.declared.controller.FromController.TheVariants as said
+use Rattle.of10_message.specs.Controller.{read_controller}
 use Rattle.flowspace.specs.declared.rules.Rule.{Rule}
-use Rattle.flowspace.specs.Rules.{is_written_by}
 use Rattle.flowspace.specs.Policies.{SwitchView}
+use Rattle.flowmod_expand.specs.Pieces.{pieces_within, writes_of}
 use Rattle.port_view.specs.SlicePorts.{ports_of_slice, features_with}
-use Rattle.slice_words.specs.Messages.{is_dismissing, is_setting, miss_send_len_of, has_actions}
+use Rattle.flow_book.specs.declared.state.SliceState.{SliceState}
+use Rattle.flow_book.specs.Books.{newcomers_in}
+use Rattle.slice_words.specs.Messages.{Reading, ends_connection, length_wanted, asks_switch, asked_of}
 use Rattle.slice_words.specs.Items.{Settings, Sight, Item, Msg, is_up, miss_send_len, features_in, known_ports}
-use Rattle.slice_words.specs.Answers.{Answer, is_any}
+use Rattle.slice_words.specs.Pasts.{Answer, is_any}
+use Rattle.slice_words.specs.FlowMods.{Ground}
 use Rattle.slice_words.specs.Alone.{answer_to, rendered}
 use Rattle.slice_side.specs.declared.answered.Reaction.{Reaction}
 use Rattle.slice_side.specs.declared.change.Change.{Change}
-use Rattle.slice_side.specs.declared.change.Change.TheVariants.{Heard, Set, Dismissed}
+use Rattle.slice_side.specs.declared.change.Change.TheVariants.{Heard, Set, Dismissed, Rated, Modified}
+use Rattle.slice_side.specs.declared.change.Modification.{Modification}
 
--- what is said of the switch is what a slice saw of it: the rules that the slice may write are its own, the features are those of its opening but for the ports, and of the known ports its own are those that it knows; and it is up
+-- ---- where a message is answered
+
+-- what is said of the switch is what a slice saw of it: the matches of the rules that the slice writes are its own, and its quota is; the features are those of its opening but for the ports, and of the known ports its own are those that it knows; and it is up
 pub record Sees (s : Settings) (view : List Item) (policy : SwitchView) (known : List (List ℕ)) (features : Features) (slot : ℕ) : Type 0 where
   pub same_slot : s.slot ≡ slot
-  pub same_rules : s.rules ≡ filter (is_written_by slot) policy.rules
+  pub same_patterns : s.patterns ≡ writes_of policy.rules slot
+  pub same_quota : option_map (λ slice. slice.quota) (slice_get policy.slices slot) ≡ Some s.quota
   pub opening : Features
   pub opened : features_in view ≡ Some opening
   pub same_features : features_with opening [] ≡ features_with features []
@@ -30,32 +43,75 @@ pub record Shown (view : List Item) (rules : List Rule) (known : List (List ℕ)
   pub opened : features_in view ≡ Some opening
   pub same : features_with opening (known_ports view) ≡ features_with features (ports_of_slice rules slot known)
 
+-- what a flow-mod is answered by, by the rules of the switch, its ports, and the slice's state
+abbrev pub ground_at : List Rule → ℕ → List (List ℕ) → ℕ → ℕ → SliceState → Ground
+ground_at rules slot known quota xid state = record {
+  slot = slot;
+  patterns = writes_of rules slot;
+  ports = ports_of_slice rules slot known;
+  booked = state.book.booked;
+  quota = quota;
+  xid = xid;
+}
+
 -- what a slice sees with one item more that is no packet
 abbrev pub with_item : Item → Sight → Sight
 with_item item sight = record { view = item ∷ sight.view; came = sight.came }
 
--- the change that a message asks for: it ends the connection, or it sets how much of a packet is wanted, or it only came
-abbrev pub IsChangeFor : List ℕ → ℕ → Change → Type 0
-IsChangeFor message moment (Heard t) = (is_dismissing message ≡ false) × (is_setting message ≡ false) × (t ≡ moment)
-IsChangeFor message moment (Set t wanted) = (is_dismissing message ≡ false) × (is_setting message ≡ true) × (wanted ≡ miss_send_len_of message) × (t ≡ moment)
-IsChangeFor message moment (Dismissed t) = (is_dismissing message ≡ true) × (t ≡ moment)
+-- ---- changes
 
--- the change that an item asks for; of those here only messages ask for one
-abbrev pub IsChange : Item → Change → Type 0
-IsChange (Msg message moment) change = IsChangeFor message moment change
-IsChange item change = ⊥
+-- a flow-mod of a slice with these write rules is sent on: it is remembered with its first bytes, and booked piece by piece
+pub record IsModification (patterns : List Pattern) (message : List ℕ) (read : Reading) (a : Answer) (moment : ℕ) (m : Modification) : Type 0 where
+  pub flow_mod : FlowMod
+  pub is_read : read ≡ Ok (said.FlowMod flow_mod)
+  pub sent : is_any a.to_switch ≡ true
+  pub asked : m.asked ≡ asked_of read message
+  pub command : m.command ≡ flow_mod.command
+  pub pieces : m.pieces.items ≡ pieces_within patterns flow_mod.pattern
+  pub priority : m.priority ≡ flow_mod.priority
+  pub asks : m.asks ≡ has_flag SEND_FLOW_REM flow_mod
+  pub moment_too : m.moment ≡ moment
+
+-- the change that a message asks for, by what is read of it and what follows: it only came; it sets how much of a packet is wanted; it ends the connection; it asked the rate, and nothing is sent on; or it is a flow-mod that is
+abbrev pub IsChangeFor : List Pattern → List ℕ → Reading → Answer → ℕ → Change → Type 0
+IsChangeFor patterns message read a moment (Heard t) = (ends_connection read ≡ false) × (length_wanted read ≡ None) × (asks_switch read ≡ false) × (t ≡ moment)
+IsChangeFor patterns message read a moment (Set t wanted) = (length_wanted read ≡ Some wanted) × (t ≡ moment)
+IsChangeFor patterns message read a moment (Dismissed t) = (ends_connection read ≡ true) × (t ≡ moment)
+IsChangeFor patterns message read a moment (Rated t) = (asks_switch read ≡ true) × (is_any a.to_switch ≡ false) × (t ≡ moment)
+IsChangeFor patterns message read a moment (Modified m) = IsModification patterns message read a moment m
+
+-- the change that an item asks for after what a slice sees; of those here only messages ask for one, while the slice is up
+abbrev pub IsChange : Settings → Sight → Item → Change → Type 0
+IsChange s sight (Msg message moment) change = (is_up sight.view ≡ true) × IsChangeFor s.patterns message (read_controller message) (answer_to s sight.view (Msg message moment)) moment change
+IsChange s sight item change = ⊥
+
+-- ---- reactions
+
+-- what follows from a message is this answer, and the change that the message asks for. None of its messages for the switch names a packet, so that the numbers of packets don't matter
+pub record Follows (patterns : List Pattern) (message : List ℕ) (read : Reading) (a : Answer) (moment : ℕ) (r : Reaction) : Type 0 where
+  pub to_slice : r.to_slice.items ≡ a.to_slice
+  pub to_switch : (came : List ℕ) → r.to_switch.items ≡ map (rendered came) a.to_switch
+  pub close : r.close ≡ a.dismissed
+  pub change : IsChangeFor patterns message read a moment r.change
 
 -- what is answered to an item is what follows from it for the slice
 pub record IsReaction (s : Settings) (sight : Sight) (item : Item) (r : Reaction) : Type 0 where
   pub to_slice : r.to_slice.items ≡ (answer_to s sight.view item).to_slice
   pub to_switch : r.to_switch.items ≡ map (rendered sight.came) (answer_to s sight.view item).to_switch
   pub close : r.close ≡ (answer_to s sight.view item).dismissed
-  pub change : IsChange item r.change
+  pub change : IsChange s sight item r.change
 
--- the answer has a message to the slice
-abbrev pub has_reply : Answer → Bool
-has_reply answer = is_any answer.to_slice
+-- ---- room
 
--- a message is replied to, or its actions are read
-abbrev pub is_heeded : Settings → List Item → List ℕ → ℕ → Bool
-is_heeded s view message moment = has_reply (answer_to s view (Msg message moment)) || has_actions message
+-- the pieces of a change differ, and are few
+abbrev pub IsSound : Change → Type 0
+IsSound (Modified m) = AllPairs (λ a b. a ≢ b) m.pieces.items × (length m.pieces.items ≤ 256)
+IsSound change = Unit {0}
+
+-- there is room for a change: in the book for its newcomers, and in the numbers of requests for one more
+abbrev pub HasRoom : Change → SliceState → Type 0
+HasRoom (Modified m) state =
+    (state.xids.issued < 2 ^ 62)
+    × (newcomers_in m.command m.pieces.items m.priority state.book.booked ≤ state.book.room)
+    × (length state.book.booked + newcomers_in m.command m.pieces.items m.priority state.book.booked < 2 ^ 32)
+HasRoom change state = Unit {0}

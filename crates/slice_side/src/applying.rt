@@ -1,11 +1,12 @@
-ghost use Rattle.std.specs.Prelude.{ℕ, ◌≡◌, List, ◌∷◌};
+ghost use Rattle.std.specs.Prelude.{ℕ, ◌≡◌, ◌≢◌, ◌≤◌, length, AllPairs, List, ◌∷◌};
 ghost use Rattle.xid_map.specs.Requests.{RequestCall, Forget, RequestsStand};
 ghost use Rattle.xid_map.specs.Collections.{CollectionCall, EndAll, CollectionsStand};
-ghost use Rattle.slice_words.specs.Items.{Settings, Sight, Item, Up, Down};
+ghost use Rattle.slice_words.specs.Items.{Settings, Sight, Item, Up, Down, Msg};
 ghost use Rattle.slice_words.specs.Standing.{SliceStands};
-ghost use Rattle.slice_side.specs.Reactions.{IsChange, with_item};
+ghost use Rattle.slice_side.specs.declared.change.Change.TheVariants.{Modified};
+ghost use Rattle.slice_side.specs.Reactions.{IsChange, IsSound, HasRoom, with_item};
 
-use crate::change::Change;
+use crate::change::{Change, Modification};
 use flow_book::{MISS_SEND_LEN, SliceState};
 
 /// Forgets what belongs to one connection. The rate, the book and the numbering go on.
@@ -38,9 +39,27 @@ pub fn go_down(state: &mut SliceState)
     state.up = false;
 }
 
-/// Makes the change in the slice's state.
+/// A flow-mod is remembered, has used its share of the rate, and is booked.
+fn modify(state: &mut SliceState, m: &Modification)
+    requires distinct { AllPairs (λ a b. a ≢ b) m.now.pieces.items }
+    requires few { length m.now.pieces.items ≤ 256 }
+    requires room { HasRoom (Modified m.now) state.old }
+    ensures { (s : Settings) (sight : Sight) (message : List ℕ) → SliceStands s sight state.old → IsChange s sight (Msg message m.now.moment) (Modified m.now) → SliceStands s (with_item (Msg message m.now.moment) sight) state.new }
+{
+    let (number, _) = state.xids.next();
+    state.moment = m.moment.max(state.moment);
+    state.bucket.ask(state.moment);
+    state.xids.issue(m.asked);
+    state
+        .book
+        .added(m.command, &m.pieces, m.priority, m.asks, number);
+}
+
+/// Makes the change in the slice's state. Takes no memory.
 pub fn apply(state: &mut SliceState, change: Change)
-    ensures { (s : Settings) (sight : Sight) (item : Item) → SliceStands s sight state.old → IsChange item change → SliceStands s (with_item item sight) state.new }
+    requires sound { IsSound change }
+    requires room { HasRoom change state.old }
+    ensures { (s : Settings) (sight : Sight) (item : Item) → SliceStands s sight state.old → IsChange s sight item change → SliceStands s (with_item item sight) state.new }
 {
     match change {
         Change::Heard { moment } => state.moment = moment.max(state.moment),
@@ -56,5 +75,10 @@ pub fn apply(state: &mut SliceState, change: Change)
             forget(state);
             state.up = false;
         }
+        Change::Rated { moment } => {
+            state.moment = moment.max(state.moment);
+            state.bucket.ask(state.moment);
+        }
+        Change::Modified(m) => modify(state, &m),
     }
 }

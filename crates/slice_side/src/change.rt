@@ -1,5 +1,23 @@
+use of10_match::Match;
+use xid_map::Asked;
+
+/// A flow-mod that is sent on to the switch (OpenFlow 1.0.0, section 5.3.3).
+#[derive(Debug, Drop)]
+pub struct Modification {
+    /// When it came, in milliseconds.
+    pub moment: u64,
+    /// The request as it is remembered.
+    pub asked: Asked,
+    pub command: u16,
+    /// What the slice may write of its match, one for each message that is sent.
+    pub pieces: Vec<Match>,
+    pub priority: u16,
+    /// Whether the controller wants to be told when the entry goes (SEND_FLOW_REM).
+    pub asks: bool,
+}
+
 /// What a message of a slice changes in the slice's state. Moments are milliseconds.
-#[derive(Clone, Copy, Debug, PartialEq, Eq)]
+#[derive(Debug, Drop)]
 pub enum Change {
     /// A message came.
     Heard { moment: u64 },
@@ -8,4 +26,8 @@ pub enum Change {
     Set { moment: u64, miss_send_len: u16 },
     /// A message came that ends its connection.
     Dismissed { moment: u64 },
+    /// A message came that is to be sent on, and asked the rate for its share; nothing is sent on for it.
+    Rated { moment: u64 },
+    /// A flow-mod came that is sent on.
+    Modified(Modification),
 }

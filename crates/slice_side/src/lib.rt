@@ -1,17 +1,19 @@
-//! What is answered to a message of a slice's controller, and what it changes in the slice's state.
+//! What is answered to a message of a slice's controller, what is sent on for it, and what it changes in the
+//! slice's state.
 #![tactic(auto)]
 
 mod answered;
 mod applying;
 mod change;
-mod fault;
+mod flow_mods;
+mod pieces;
+mod questions;
 mod reacting;
 mod replying;
+mod reserving;
 
 pub use answered::Reaction;
 pub use applying::{apply, come_up, go_down};
-pub use change::Change;
+pub use change::{Change, Modification};
 pub use reacting::react;
-
-#[cfg(test)]
-mod tests;
+pub use reserving::reserve;

@@ -1,75 +1,118 @@
-//! What is answered to a message, line by line.
+//! What this proxy answers itself: messages that aren't read, and those that ask nothing of the switch.
 
-ghost use Rattle.std.specs.Prelude.{ℕ, ◌≡◌, ◌≤◌, ◌||◌, false, length, List, IfOk, OnErr, IsTrue, Some, option_to_list, true};
-ghost use Rattle.of10_ctl.specs.declared.kind.TheConstants.{SET_CONFIG};
-ghost use Rattle.of10_ctl.specs.Frames.{is_bad};
-ghost use Rattle.slice_words.specs.Messages.{version_of, is_kind, is_from_controller, has_actions};
+ghost use Rattle.std.specs.Prelude.{ℕ, ◌≡◌, true, false, [], ◌∷◌, IfOk, List, Ok, Err};
+ghost use Rattle.of10_model.specs.declared.pattern.Pattern.{Pattern};
+ghost use Rattle.of10_message.specs.declared.controller.FromController.TheVariants as said;
+ghost use Rattle.slice_words.specs.Messages.{asks_switch};
 ghost use Rattle.slice_words.specs.Items.{Settings, Item};
-ghost use Rattle.slice_words.specs.Answers.{Past, error_for, hello_answer, config_reply, setting_answer, local_answer, formed_answer, message_answer};
-ghost use Rattle.slice_side.specs.Reactions.{Shown, has_reply};
+ghost use Rattle.slice_words.specs.Pasts.{Past};
+ghost use Rattle.slice_words.specs.Answers.{error_for, unread_answer, config_reply, setting_answer, read_answer};
+ghost use Rattle.of10_port.specs.Features.{spell_features};
+ghost use Rattle.of10_message.specs.Heads.{xid_of};
+ghost use Rattle.port_view.specs.SlicePorts.{ports_of_slice, features_with};
+ghost use Rattle.slice_side.specs.declared.change.Change.TheVariants.{Heard, Dismissed};
+ghost use Rattle.slice_side.specs.Reactions.{Shown, Follows, IsSound};
 
-use crate::fault::form_fault;
+use crate::answered::Reaction;
+use crate::change::Change;
+use flow_book::SliceState;
 use flowspace::SwitchPolicy;
 use of10_action::code;
 use of10_action::error::{
     BAD_LENGTH, BAD_REQUEST, BAD_TYPE, BAD_VENDOR, BAD_VERSION, HELLO_FAILED, INCOMPATIBLE,
     REQUEST_NOT_PERMITTED,
 };
-use of10_ctl::kind::{
-    BARRIER_REQUEST, ECHO_REPLY, ECHO_REQUEST, ERROR, FEATURES_REQUEST, GET_CONFIG_REPLY,
-    GET_CONFIG_REQUEST, HELLO, PACKET_OUT, PORT_MOD, QUEUE_GET_CONFIG_REQUEST, SET_CONFIG,
-    STATS_REQUEST, VENDOR,
-};
+use of10_ctl::kind::GET_CONFIG_REPLY;
 use of10_ctl::{Frame, begin, echo_reply, error_frame};
-use of10_model::wire::{put_u16, u16_at};
+use of10_message::{FromController, SwitchConfig, Unread};
+use of10_model::wire::put_u16;
 use of10_port::Features;
 use port_view::PortView;
 use std::alloc::{AllocError, Global};
 
-/// What a slice is told of its switch.
+/// What a slice is told of its switch, and what is kept of the slice.
 #[derive(Clone, Copy)]
 pub(crate) struct Around<'a> {
     pub(crate) policy: &'a SwitchPolicy,
     pub(crate) ports: &'a PortView,
     pub(crate) features: &'a Features,
     pub(crate) slot: u8,
-    /// How many bytes of a packet its controller wants.
-    pub(crate) miss_send_len: u16,
+    pub(crate) state: &'a SliceState,
 }
 
 /// The error that refuses a message.
-fn refused(alloc: Global, class: u16, code: u16, frame: &Frame) -> Result<Option<Frame>, AllocError>
-    ensures { IfOk result (λ reply. reply ≡ Some (error_for (class, code) frame.now)) }
+pub(crate) fn refusal(
+    alloc: Global,
+    class: u16,
+    code: u16,
+    frame: &Frame,
+) -> Result<Frame, AllocError>
+    ensures { IfOk result (λ reply. reply ≡ error_for (class, code) frame.now) }
 {
     let xid = frame.head().xid;
-    Ok(Some(error_frame(alloc, xid, class, code, frame.as_slice())?))
+    error_frame(alloc, xid, class, code, frame.as_slice())
 }
 
-/// A HELLO of version 0 is refused; any other means version 1 (OpenFlow 1.0.0, section 4.2).
-fn hello(alloc: Global, frame: &Frame) -> Result<Option<Frame>, AllocError>
-    ensures reply { IfOk result (λ reply. option_to_list reply ≡ (hello_answer frame.now).to_slice) }
-    ensures memory { OnErr result (IsTrue (has_reply (hello_answer frame.now))) }
+/// A message that is refused and changes nothing else.
+fn refused(
+    alloc: Global,
+    class: u16,
+    code: u16,
+    frame: &Frame,
+    moment: u64,
+) -> Result<Reaction, AllocError>
+    ensures sound { IfOk result (λ r. IsSound r.change) }
+    ensures to_slice { IfOk result (λ r. r.to_slice.items ≡ error_for (class, code) frame.now ∷ []) }
+    ensures to_switch { IfOk result (λ r. r.to_switch.items ≡ []) }
+    ensures change { IfOk result (λ r. r.change ≡ Heard moment) }
+    ensures close { IfOk result (λ r. r.close ≡ false) }
 {
-    let head = frame.head();
-    if head.version != 0 {
-        return Ok(None);
+    let reply = refusal(alloc, class, code, frame)?;
+    Reaction::replying(alloc, reply, Change::Heard { moment })
+}
+
+/// A message that ends its connection, with what is said last.
+fn dismissed(alloc: Global, reply: Frame, moment: u64) -> Result<Reaction, AllocError>
+    ensures sound { IfOk result (λ r. IsSound r.change) }
+    ensures to_slice { IfOk result (λ r. r.to_slice.items ≡ reply ∷ []) }
+    ensures to_switch { IfOk result (λ r. r.to_switch.items ≡ []) }
+    ensures change { IfOk result (λ r. r.change ≡ Dismissed moment) }
+    ensures close { IfOk result (λ r. r.close ≡ true) }
+{
+    let reaction = Reaction::replying(alloc, reply, Change::Dismissed { moment })?;
+    Ok(Reaction {
+        close: true,
+        ..reaction
+    })
+}
+
+/// What follows from a message that isn't read.
+pub(crate) fn unread(
+    alloc: Global,
+    fault: Unread,
+    frame: &Frame,
+    moment: u64,
+) -> Result<Reaction, AllocError>
+    ensures sound { IfOk result (λ r. IsSound r.change) }
+    ensures follows { (patterns : List Pattern) → IfOk result (Follows patterns frame.now (Err fault) (unread_answer fault frame.now) moment) }
+{
+    match fault {
+        Unread::BadLength => {
+            let reply = refusal(alloc, BAD_REQUEST, BAD_LENGTH, frame)?;
+            dismissed(alloc, reply, moment)
+        }
+        Unread::NoCommonVersion => {
+            let xid = frame.head().xid;
+            let reply = error_frame(alloc, xid, HELLO_FAILED, INCOMPATIBLE, &[])?;
+            dismissed(alloc, reply, moment)
+        }
+        Unread::BadVersion => refused(alloc, BAD_REQUEST, BAD_VERSION, frame, moment),
+        Unread::BadType => refused(alloc, BAD_REQUEST, BAD_TYPE, frame, moment),
+        Unread::BadForm(fault) => {
+            let (class, code) = code(fault);
+            refused(alloc, class, code, frame, moment)
+        }
     }
-    Ok(Some(error_frame(alloc, head.xid, HELLO_FAILED, INCOMPATIBLE, &[])?))
-}
-
-/// Whether a controller may send messages of the type (OpenFlow 1.0.0, section 5.1).
-fn is_from_controller(kind: u8) -> bool
-    ensures { result ≡ is_from_controller kind }
-{
-    matches!(
-        kind,
-        HELLO..=FEATURES_REQUEST
-            | GET_CONFIG_REQUEST
-            | SET_CONFIG
-            | PACKET_OUT..=STATS_REQUEST
-            | BARRIER_REQUEST
-            | QUEUE_GET_CONFIG_REQUEST
-    )
 }
 
 /// The reply to GET_CONFIG_REQUEST (OpenFlow 1.0.0, section 5.3.2).
@@ -83,85 +126,80 @@ fn config(alloc: Global, wanted: u16, frame: &Frame) -> Result<Frame, AllocError
 }
 
 /// SET_CONFIG is taken where it asks for fragments to be handled as usual (OpenFlow 1.0.0, section 5.3.2).
-fn setting(alloc: Global, frame: &Frame) -> Result<Option<Frame>, AllocError>
-    requires { 12 ≤ length frame.now }
-    ensures reply { IfOk result (λ reply. option_to_list reply ≡ (setting_answer frame.now).to_slice) }
-    ensures memory { OnErr result (IsTrue (has_reply (setting_answer frame.now))) }
+fn setting(
+    alloc: Global,
+    config: &SwitchConfig,
+    frame: &Frame,
+    moment: u64,
+) -> Result<Reaction, AllocError>
+    ensures sound { IfOk result (λ r. IsSound r.change) }
+    ensures follows { (patterns : List Pattern) → IfOk result (Follows patterns frame.now (Ok (said.SetConfig config.now)) (setting_answer config.now frame.now) moment) }
 {
-    if u16_at(frame.as_slice(), 8) == 0 {
-        return Ok(None);
+    if config.flags != 0 {
+        return refused(alloc, BAD_REQUEST, REQUEST_NOT_PERMITTED, frame, moment);
     }
-    refused(alloc, BAD_REQUEST, REQUEST_NOT_PERMITTED, frame)
+    let miss_send_len = config.miss_send_len;
+    Ok(Reaction::silent(
+        alloc,
+        Change::Set {
+            moment,
+            miss_send_len,
+        },
+    ))
 }
 
-/// A message of a good form that this proxy answers itself: echoes, features and configuration (OpenFlow
-/// 1.0.0, sections 5.5, 5.3.1 and 5.3.2).
-#[tactic(auto, unfolding(slice_words::specs::Answers::local_answer))]
-fn local(alloc: Global, around: &Around<'_>, frame: &Frame) -> Result<Option<Frame>, AllocError>
-    requires { is_kind SET_CONFIG frame.now ≡ true → 12 ≤ length frame.now }
-    ensures reply { (s : Settings) (view : List Item) (past : List Past) (moment : ℕ) → Shown view around.now.policy.now.rules around.now.ports.now around.now.features.now around.now.slot around.now.miss_send_len → IfOk result (λ reply. option_to_list reply ≡ (local_answer s view past moment frame.now).to_slice) }
-    ensures memory { (s : Settings) (view : List Item) (past : List Past) (moment : ℕ) → Shown view around.now.policy.now.rules around.now.ports.now around.now.features.now around.now.slot around.now.miss_send_len → OnErr result (IsTrue (has_reply (local_answer s view past moment frame.now))) }
+/// A message that is answered and changes nothing else.
+fn replied(alloc: Global, reply: Frame, moment: u64) -> Result<Reaction, AllocError>
+    ensures sound { IfOk result (λ r. IsSound r.change) }
+    ensures to_slice { IfOk result (λ r. r.to_slice.items ≡ reply ∷ []) }
+    ensures to_switch { IfOk result (λ r. r.to_switch.items ≡ []) }
+    ensures change { IfOk result (λ r. r.change ≡ Heard moment) }
+    ensures close { IfOk result (λ r. r.close ≡ false) }
 {
-    let head = frame.head();
-    match head.kind {
-        ECHO_REQUEST => Ok(Some(echo_reply(alloc, frame)?)),
-        FEATURES_REQUEST => Ok(Some(
-            around.ports.features_for(
-                alloc,
-                around.policy,
-                around.slot,
-                around.features,
-                head.xid,
-            )?,
-        )),
-        GET_CONFIG_REQUEST => Ok(Some(config(alloc, around.miss_send_len, frame)?)),
-        SET_CONFIG => setting(alloc, frame),
-        _ => Ok(None),
-    }
+    Reaction::replying(alloc, reply, Change::Heard { moment })
 }
 
-/// A message of a bad form is refused for its fault.
-fn formed(alloc: Global, around: &Around<'_>, frame: &Frame) -> Result<Option<Frame>, AllocError>
-    requires { (version_of frame.now ≡ 1) × (is_bad frame.now ≡ false) }
-    ensures reply { (s : Settings) (view : List Item) (past : List Past) (moment : ℕ) → Shown view around.now.policy.now.rules around.now.ports.now around.now.features.now around.now.slot around.now.miss_send_len → IfOk result (λ reply. option_to_list reply ≡ (formed_answer s view past moment frame.now).to_slice) }
-    ensures memory { (s : Settings) (view : List Item) (past : List Past) (moment : ℕ) → Shown view around.now.policy.now.rules around.now.ports.now around.now.features.now around.now.slot around.now.miss_send_len → OnErr result (IsTrue (has_reply (formed_answer s view past moment frame.now) || has_actions frame.now)) }
+/// The features that the slice is shown of its switch (OpenFlow 1.0.0, section 5.3.1).
+fn features(alloc: Global, around: &Around<'_>, frame: &Frame) -> Result<Frame, AllocError>
+    ensures { IfOk result (λ reply. reply ≡ spell_features (features_with around.now.features.now (ports_of_slice around.now.policy.now.rules around.now.slot around.now.ports.now)) (xid_of frame.now)) }
 {
-    match form_fault(alloc, frame)? {
-        None => local(alloc, around, frame),
-        Some(fault) => {
-            let (class, code) = code(fault);
-            refused(alloc, class, code, frame)
-        }
-    }
+    let xid = frame.head().xid;
+    around
+        .ports
+        .features_for(alloc, around.policy, around.slot, around.features, xid)
 }
 
-/// What is answered to a message: the first line that applies.
-#[tactic(auto, unfolding(slice_words::specs::Answers::message_answer))]
-pub(crate) fn reply(
+/// A message that asks nothing of the switch: this proxy answers echoes, features and configuration itself
+/// (OpenFlow 1.0.0, sections 5.5, 5.3.1 and 5.3.2), and leaves out messages of vendors and changes of ports.
+#[tactic(auto, unfolding(slice_words::specs::Answers::read_answer))]
+pub(crate) fn local(
     alloc: Global,
     around: &Around<'_>,
+    message: &FromController,
     frame: &Frame,
-) -> Result<Option<Frame>, AllocError>
-    ensures reply { (s : Settings) (view : List Item) (past : List Past) (moment : ℕ) → Shown view around.now.policy.now.rules around.now.ports.now around.now.features.now around.now.slot around.now.miss_send_len → IfOk result (λ reply. option_to_list reply ≡ (message_answer s view past moment frame.now).to_slice) }
-    ensures memory { (s : Settings) (view : List Item) (past : List Past) (moment : ℕ) → Shown view around.now.policy.now.rules around.now.ports.now around.now.features.now around.now.slot around.now.miss_send_len → OnErr result (IsTrue (has_reply (message_answer s view past moment frame.now) || has_actions frame.now)) }
+    moment: u64,
+) -> Result<Reaction, AllocError>
+    requires { asks_switch (Ok message.now) ≡ false }
+    ensures sound { IfOk result (λ r. IsSound r.change) }
+    ensures follows { (s : Settings) (view : List Item) (past : List Past) (patterns : List Pattern) → Shown view around.now.policy.now.rules around.now.ports.now around.now.features.now around.now.slot around.now.state.now.miss_send_len → IfOk result (Follows patterns frame.now (Ok message.now) (read_answer s view past moment message.now frame.now) moment) }
 {
-    let head = frame.head();
-    if frame.bad_length() {
-        return refused(alloc, BAD_REQUEST, BAD_LENGTH, frame);
-    }
-    if head.kind == HELLO {
-        return hello(alloc, frame);
-    }
-    if head.version != 1 {
-        return refused(alloc, BAD_REQUEST, BAD_VERSION, frame);
-    }
-    if !is_from_controller(head.kind) {
-        return refused(alloc, BAD_REQUEST, BAD_TYPE, frame);
-    }
-    match head.kind {
-        ERROR | ECHO_REPLY => Ok(None),
-        VENDOR => refused(alloc, BAD_REQUEST, BAD_VENDOR, frame),
-        PORT_MOD => refused(alloc, BAD_REQUEST, REQUEST_NOT_PERMITTED, frame),
-        _ => formed(alloc, around, frame),
+    match message {
+        FromController::EchoRequest => replied(alloc, echo_reply(alloc, frame)?, moment),
+        FromController::Vendor => refused(alloc, BAD_REQUEST, BAD_VENDOR, frame, moment),
+        FromController::FeaturesRequest => {
+            replied(alloc, features(alloc, around, frame)?, moment)
+        }
+        FromController::GetConfigRequest => {
+            replied(
+                alloc,
+                config(alloc, around.state.miss_send_len, frame)?,
+                moment,
+            )
+        }
+        FromController::SetConfig(config) => setting(alloc, config, frame, moment),
+        FromController::PortMod => {
+            refused(alloc, BAD_REQUEST, REQUEST_NOT_PERMITTED, frame, moment)
+        }
+        _ => Ok(Reaction::silent(alloc, Change::Heard { moment })),
     }
 }

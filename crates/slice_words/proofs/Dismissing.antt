@@ -2,14 +2,24 @@
 use Rattle.std.proofs.Common.{◌≡◌, ℕ, ◌&&◌, Bool, true, false, if◌then◌else◌, List, refl}
 use Rattle.slice_words.specs.Messages.{is_dismissing}
 use Rattle.slice_words.specs.Items.{Settings, Item, Opened, Up, Down, Msg, Lost, Handed, Removed, Status, Fault, Barrier, Queues, Entry, Last, End, is_up}
-use Rattle.slice_words.specs.Answers.{Answer, Past, answer, silence, message_answer}
+use Rattle.slice_words.specs.Pasts.{Answer, Past, silence}
+use Rattle.slice_words.specs.Answers.{answer, message_answer}
 use Rattle.slice_words.specs.Alone.{played}
 use Rattle.slice_words.specs.Laws.{EndsExactly}
-use Rattle.slice_words.proofs.AnswerKinds.{by_ending, message_holds}
+use Rattle.slice_words.proofs.AnswerKinds.{message_holds}
 
 message_ends : (s : Settings) (view : List Item) (past : List Past) (moment : ℕ) (message : List ℕ) → (message_answer s view past moment message).dismissed ≡ is_dismissing message
 message_ends s view past moment message =
-    message_holds (λ (ends_ : Bool) (a : Answer). a.dismissed ≡ ends_) s view past moment message (by_ending _ view message (λ messages. refl) (λ messages. refl))
+    message_holds (λ (ends_ : Bool) (a : Answer). a.dismissed ≡ ends_) s view past moment message (record {
+      bad = refl;
+      old = refl;
+      nothing = refl;
+      refuses = λ fault. refl;
+      echoes = refl;
+      tells_features = λ features. refl;
+      tells_configuration = refl;
+      forwards = λ m read fault. refl;
+    })
 
 -- what isn't asked for ends nothing, and while the slice is up the answer says
 by_up : (up : Bool) (a : Answer) (ends_ : Bool) → a.dismissed ≡ ends_ → (if up then a else silence).dismissed ≡ (up && ends_)

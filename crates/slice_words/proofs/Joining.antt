@@ -3,7 +3,7 @@ use Rattle.std.proofs.Common.{◌≡◌, Bool, true, false, List, [], ◌∷◌,
 use Rattle.std.specs.List.{filter}
 use Rattle.slice_words.specs.Items.{Settings, Item, Opened, Up, Down, Msg, Lost, Handed, Removed, Status, Fault, Barrier, Queues, Entry, Last, End, is_up, is_forgetting}
 use Rattle.slice_words.specs.Messages.{is_dismissing}
-use Rattle.slice_words.specs.Answers.{Answer, silence}
+use Rattle.slice_words.specs.Pasts.{Answer, silence}
 use Rattle.slice_words.specs.Alone.{answer_to, alone, sent_for}
 use Rattle.slice_words.specs.Laws.{AreJoined, is_coming, IsSilentWhileDown, is_last_up, IsUpByTheLast}
 

@@ -3,3 +3,5 @@ pub mod AnswerKinds
 pub mod Dismissing
 pub mod Wanting
 pub mod Moments
+pub mod LoneRules
+pub mod Forwarding

@@ -1,9 +1,11 @@
 -- What a slice is sent by a proxy that serves it alone: the answers to the items of its view, one after another (this proxy's own rule).
-use Rattle.std.specs.Prelude.{ℕ, ◌-◌, List, [], ◌∷◌, ◌++◌, length, get_or, Option, Some, None}
-use Rattle.byteorder.specs.Endian.{big_bytes}
+use Rattle.std.specs.Prelude.{ℕ, List, [], ◌∷◌, ◌++◌, get_or, reverse, Some, None}
+use Rattle.of10_flow.specs.FlowMods.{spell_flow_mod}
+use Rattle.of10_flow.specs.PacketOuts.{spell_packet_out}
 use Rattle.of10_flow.specs.declared.protocol.TheConstants.{NO_BUFFER}
 use Rattle.slice_words.specs.Items.{Settings, Item}
-use Rattle.slice_words.specs.Answers.{Outgoing, Answer, Past, answer}
+use Rattle.slice_words.specs.Pasts.{Outgoing, Modifies, SendsOut, Asks, Answer, Past}
+use Rattle.slice_words.specs.Answers.{answer}
 
 -- a way to answer an item after a view with its answers
 abbrev pub Answering : Type 0
@@ -40,15 +42,14 @@ put_for s view (item ∷ items) = (answer_to s view item).to_switch ++ put_for s
 
 -- ---- the switch's own numbers
 
--- the number with which a slice's k-th buffered packet came, among the numbers of all, newest first; k is below their number
+-- the number with which a slice's k-th buffered packet came, among the numbers of all, newest first; none where there is no such packet
 abbrev pub number_of : List ℕ → ℕ → ℕ
-number_of came k = get_or came (length came - 1 - k) NO_BUFFER
+number_of came k = get_or (reverse came) k NO_BUFFER
 
--- the four bytes of that number, and none where no packet is named
-abbrev pub buffer_bytes : List ℕ → Option ℕ → List ℕ
-buffer_bytes came None = []
-buffer_bytes came (Some k) = big_bytes 4 (number_of came k)
-
--- a message with the switch's own number for the packet that it names
+-- the bytes of a message, with the switch's own number for the packet that it names
 abbrev pub rendered : List ℕ → Outgoing → List ℕ
-rendered came outgoing = outgoing.front ++ buffer_bytes came outgoing.buffer ++ outgoing.back
+rendered came (Modifies m None) = spell_flow_mod m
+rendered came (Modifies m (Some k)) = spell_flow_mod (record m { buffer = number_of came k })
+rendered came (SendsOut m None) = spell_packet_out m
+rendered came (SendsOut m (Some k)) = spell_packet_out (record m { buffer = number_of came k })
+rendered came (Asks message) = message

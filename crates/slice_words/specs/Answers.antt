@@ -1,51 +1,33 @@
 -- What follows for a slice from each item of its view. A later item is answered by look-ups in the view before it and in the answers given there; nothing is kept. Sections are those of OpenFlow 1.0.0; the order of refusals is this proxy's own rule.
-use Rattle.std.specs.Prelude.{ℕ, ◌-◌, ◌%◌, ◌^◌, ◌==◌, not, Bool, true, false, if◌then◌else◌, List, [], ◌∷◌, ◌++◌, leb, length, take, Option, Some, None}
+use Rattle.std.specs.Prelude.{ℕ, ◌-◌, ◌%◌, ◌^◌, ◌==◌, max, Bool, if◌then◌else◌, List, [], ◌∷◌, ◌++◌, length, take, Option, Some, None, Ok, Err}
 use Rattle.byteorder.specs.Endian.{big_bytes}
 use Rattle.of10_action.specs.Faults.{class_and_code}
-use Rattle.of10_ctl.specs.declared.kind.TheConstants.{HELLO, ERROR, ECHO_REQUEST, ECHO_REPLY, VENDOR, FEATURES_REQUEST, GET_CONFIG_REQUEST, GET_CONFIG_REPLY, SET_CONFIG, PORT_MOD}
-use Rattle.of10_ctl.specs.Frames.{is_bad, message_of, error_of, echo_reply_to}
+use Rattle.of10_ctl.specs.declared.kind.TheConstants.{HELLO, GET_CONFIG_REPLY}
+use Rattle.of10_ctl.specs.Frames.{message_of, error_of, echo_reply_to}
 use Rattle.of10_flow.specs.declared.protocol.TheConstants.{NO_BUFFER}
+use Rattle.of10_flow.specs.declared.flow_mod.FlowMod.{FlowMod}
+use Rattle.of10_flow.specs.declared.flow_removed.FlowRemoved.{FlowRemoved}
+use Rattle.of10_flow.specs.FlowRemoveds.{spell_flow_removed}
 use Rattle.of10_flow.specs.PacketIns.{spell_packet_in}
 use Rattle.of10_port.specs.Features.{spell_features}
 use Rattle.of10_port.specs.PortStatus.{spell_port_status}
+use Rattle.of10_message.specs.declared.controller.FromController.{FromController}
+use Rattle.of10_message.specs.declared.controller.FromController.TheVariants as said
+use Rattle.of10_message.specs.declared.controller.SwitchConfig.{SwitchConfig}
+use Rattle.of10_message.specs.declared.fault.Unread.{Unread}
+use Rattle.of10_message.specs.declared.fault.Unread.TheVariants.{BadLength, NoCommonVersion, BadVersion, BadType, BadForm}
+use Rattle.of10_message.specs.Heads.{xid_of}
+use Rattle.of10_message.specs.Controller.{read_controller}
 use Rattle.port_view.specs.SlicePorts.{features_with}
-use Rattle.slice_words.specs.Messages.{version_of, kind_of, xid_of, is_kind, is_from_controller, form_fault, flags_of}
-use Rattle.slice_words.specs.Items.{Settings, Share, Writer, Reader, Probe, Packet, Item, Up, Msg, Handed, Removed, Status, Fault, Barrier, Queues, Last, is_up, miss_send_len, buffered_count, features_in, known_ports}
-
--- ---- answers
-
--- a message for the switch: its bytes, but for the four at one place where it names a buffered packet of the slice by how many the slice was given before that one
-pub record Outgoing : Type 0 where
-  pub front : List ℕ
-  pub buffer : Option ℕ
-  pub back : List ℕ
-
--- what follows from an item: messages to the slice, messages for the switch, and whether the connection ends
-pub record Answer : Type 0 where
-  pub to_slice : List (List ℕ)
-  pub to_switch : List Outgoing
-  pub dismissed : Bool
-
--- an item and what followed from it
-pub record Past : Type 0 where
-  pub item : Item
-  pub answer : Answer
-
--- there is one at least
-abbrev pub is_any : {A : Type 0} → List A → Bool
-is_any xs = leb 1 (length xs)
-
--- nothing follows
-abbrev pub silence : Answer
-silence = record { to_slice = []; to_switch = []; dismissed = false }
-
--- messages to the slice and nothing else
-abbrev pub told : List (List ℕ) → Answer
-told messages = record { to_slice = messages; to_switch = []; dismissed = false }
-
--- the same, and the connection ends
-abbrev pub dismissal : List (List ℕ) → Answer
-dismissal messages = record { to_slice = messages; to_switch = []; dismissed = true }
+use Rattle.rate_bucket.specs.Rates.{is_accepted}
+use Rattle.xid_map.specs.declared.asked.Issued.{Issued}
+use Rattle.flow_book.specs.declared.booked.Booked.{Booked}
+use Rattle.flow_book.specs.Books.{booking}
+use Rattle.slice_words.specs.Messages.{quoted}
+use Rattle.slice_words.specs.Items.{Settings, Share, Writer, Reader, Probe, Packet, Item, Up, Msg, Handed, Removed, Status, Fault, Barrier, Queues, Last, is_up, miss_send_len, latest, buffered_count, features_in, known_ports}
+use Rattle.slice_words.specs.Pasts.{Answer, Past, silence, told, dismissal, forwarded}
+use Rattle.slice_words.specs.Calls.{questions, request_calls, request_for, book_calls}
+use Rattle.slice_words.specs.FlowMods.{Ground, ground_of, flow_mod_fault, sent_on}
 
 -- ---- refusals (section 5.4.4): class and code
 
@@ -81,11 +63,21 @@ error_for fault message = error_of (xid_of message) fault.0 fault.1 message
 abbrev pub refused : ℕ × ℕ → List ℕ → Answer
 refused fault message = told (error_for fault message ∷ [])
 
+-- what a message is refused with that isn't read
+abbrev pub refusal_of : Unread → ℕ × ℕ
+refusal_of BadLength = bad_length
+refusal_of NoCommonVersion = no_common_version
+refusal_of BadVersion = bad_version
+refusal_of BadType = bad_type
+refusal_of (BadForm fault) = class_and_code fault
+
 -- ---- messages of the controller
 
--- a HELLO of version 0 has no version in common with this proxy; any other means version 1 (section 4.2)
-abbrev pub hello_answer : List ℕ → Answer
-hello_answer message = if version_of message == 0 then dismissal (error_of (xid_of message) no_common_version.0 no_common_version.1 [] ∷ []) else silence
+-- what follows from a message that isn't read: one whose length is bad, or that has no version in common, ends the connection, and the second is quoted nothing of (section 4.2)
+abbrev pub unread_answer : Unread → List ℕ → Answer
+unread_answer BadLength message = dismissal (error_for bad_length message ∷ [])
+unread_answer NoCommonVersion message = dismissal (error_of (xid_of message) no_common_version.0 no_common_version.1 [] ∷ [])
+unread_answer fault message = refused (refusal_of fault) message
 
 -- the reply to FEATURES_REQUEST: the switch with one table, no more buffers than a slice may hold, and the slice's own ports (section 5.3.1)
 abbrev pub features_answer : List Item → List ℕ → Answer
@@ -96,38 +88,43 @@ abbrev pub config_reply : ℕ → List ℕ → List ℕ
 config_reply length_set message = message_of GET_CONFIG_REPLY (xid_of message) (big_bytes 2 0 ++ big_bytes 2 length_set)
 
 -- SET_CONFIG is taken where it asks for fragments to be handled as usual (section 5.3.2)
-abbrev pub setting_answer : List ℕ → Answer
-setting_answer message = if flags_of message == 0 then silence else refused not_permitted message
+abbrev pub setting_answer : SwitchConfig → List ℕ → Answer
+setting_answer config message = if config.flags == 0 then silence else refused not_permitted message
 
--- what is to be sent on to the switch: flow-mods, packet-outs, statistics requests, barriers and questions for queues. Their lines come later: by the rate, by buffers that are held, by the rules, the book and the quota, and then what is sent
-abbrev pub forwarded_answer : Settings → List Item → List Past → ℕ → List ℕ → Answer
-forwarded_answer s view past moment message = silence
+-- a flow-mod is refused by the first line that applies, or sent on piece by piece (section 5.3.3)
+abbrev pub flow_mod_answer : Ground → FlowMod → List ℕ → Answer
+flow_mod_answer g m message = elim (flow_mod_fault g m) [ Some fault ↦ refused fault message | None ↦ forwarded (sent_on g m) ]
 
--- messages of a good form: this proxy answers echoes (section 5.5), features and configuration itself
-unfoldable pub local_answer : Settings → List Item → List Past → ℕ → List ℕ → Answer
-local_answer s view past moment message =
-    if is_kind ECHO_REQUEST message then told (echo_reply_to message ∷ [])
-    else if is_kind FEATURES_REQUEST message then features_answer view message
-    else if is_kind GET_CONFIG_REQUEST message then told (config_reply (miss_send_len view) message ∷ [])
-    else if is_kind SET_CONFIG message then setting_answer message
-    else forwarded_answer s view past moment message
+-- what is to be sent on to the switch. Packet-outs, statistics requests, barriers and questions for queues come later
+abbrev pub forwarded_answer : Settings → List Item → List Past → FromController → List ℕ → Answer
+forwarded_answer s view past (said.FlowMod m) message = flow_mod_answer (ground_of s view past) m message
+forwarded_answer s view past other message = silence
 
--- a message of a bad form is refused for its fault
-abbrev pub formed_answer : Settings → List Item → List Past → ℕ → List ℕ → Answer
-formed_answer s view past moment message = elim (form_fault message) [ None ↦ local_answer s view past moment message | Some fault ↦ refused (class_and_code fault) message ]
+-- a message that is to be sent on keeps the rate: its moment is the greatest of the slice's moments so far
+abbrev pub keeps_rate : Settings → List Item → List Past → ℕ → Bool
+keeps_rate s view past moment = is_accepted s.rate s.burst (questions past) (max moment (latest view))
 
--- a message of a controller, by the first of these lines that applies (this proxy's own rule)
-unfoldable pub message_answer : Settings → List Item → List Past → ℕ → List ℕ → Answer
+-- it is refused where it doesn't
+abbrev pub rated_answer : Settings → List Item → List Past → ℕ → FromController → List ℕ → Answer
+rated_answer s view past moment asked message = if keeps_rate s view past moment then forwarded_answer s view past asked message else refused not_permitted message
+
+-- a message that is read: this proxy answers echoes (section 5.5), features and configuration itself; vendors' messages and changes of ports are left out; what else asks something of the switch is sent on
+unfoldable pub read_answer : Settings → List Item → List Past → ℕ → FromController → List ℕ → Answer
+read_answer s view past moment said.Hello message = silence
+read_answer s view past moment said.Error message = silence
+read_answer s view past moment said.EchoRequest message = told (echo_reply_to message ∷ [])
+read_answer s view past moment said.EchoReply message = silence
+read_answer s view past moment said.Vendor message = refused bad_vendor message
+read_answer s view past moment said.FeaturesRequest message = features_answer view message
+read_answer s view past moment said.GetConfigRequest message = told (config_reply (miss_send_len view) message ∷ [])
+read_answer s view past moment (said.SetConfig config) message = setting_answer config message
+read_answer s view past moment said.PortMod message = refused not_permitted message
+read_answer s view past moment asked message = rated_answer s view past moment asked message
+
+-- a message of a controller, by what is read of it (this proxy's own rule)
+abbrev pub message_answer : Settings → List Item → List Past → ℕ → List ℕ → Answer
 message_answer s view past moment message =
-    if is_bad message then dismissal (error_for bad_length message ∷ [])
-    else if is_kind HELLO message then hello_answer message
-    else if not (version_of message == 1) then refused bad_version message
-    else if not (is_from_controller (kind_of message)) then refused bad_type message
-    else if is_kind ERROR message then silence
-    else if is_kind ECHO_REPLY message then silence
-    else if is_kind VENDOR message then refused bad_vendor message
-    else if is_kind PORT_MOD message then refused not_permitted message
-    else formed_answer s view past moment message
+    elim (read_controller message) [ Err fault ↦ unread_answer fault message | Ok read ↦ read_answer s view past moment read message ]
 
 -- ---- packets
 
@@ -147,16 +144,28 @@ packet_told view packet (Writer buffered) = if buffered then buffered_message vi
 packet_told view packet Reader = packet_message NO_BUFFER packet.total_len packet.payload packet
 packet_told view packet Probe = packet_message NO_BUFFER (packet.total_len - 8) (take (length packet.payload - 8) packet.payload) packet
 
+-- ---- entries and errors
+
+-- a slice is told that an entry is gone where the pair was booked and asked for that (section 5.4.2)
+abbrev pub removal_told : Option Booked → FlowRemoved → List (List ℕ)
+removal_told None entry = []
+removal_told (Some booked) entry = if booked.asked then spell_flow_removed (record entry { xid = 0 }) ∷ [] else []
+
+-- the first error for a request goes to the slice, under its own transaction id and with its own first bytes (section 5.4.4)
+abbrev pub error_told : Option Issued → ℕ → ℕ → List (List ℕ)
+error_told None class code = []
+error_told (Some request) class code = if request.failed then [] else error_of request.asked.xid class code (quoted request.asked) ∷ []
+
 -- ---- all items
 
--- what follows for a slice that is up. Of what the switch answers to requests nothing follows yet, since none is sent on
+-- what follows for a slice that is up. Of the switch's replies to what isn't sent on yet nothing follows
 abbrev pub answer_up : Settings → List Item → List Past → Item → Answer
 answer_up s view past Up = silence
 answer_up s view past (Msg message moment) = message_answer s view past moment message
 answer_up s view past (Handed packet) = told (packet_told view packet packet.share ∷ [])
-answer_up s view past (Removed entry) = silence
+answer_up s view past (Removed entry) = told (removal_told (booking entry.pattern entry.priority (book_calls s past)) entry)
 answer_up s view past (Status status) = told (spell_port_status status 0 ∷ [])
-answer_up s view past (Fault x class code pair) = silence
+answer_up s view past (Fault x class code pair) = told (error_told (request_for s x (request_calls s past)) class code)
 answer_up s view past (Barrier x) = silence
 answer_up s view past (Queues x body) = silence
 answer_up s view past (Last x kind) = silence

@@ -1,27 +1,83 @@
--- The calls that a view makes of each part of a slice's state, newest first (this proxy's own rule). What is asked of the switch, the rate of it, what is booked, and which buffered packets the slice holds come later; a connection that comes or ends forgets requests and collections.
-use Rattle.std.specs.Prelude.{ℕ, List, [], filter, map}
-use Rattle.xid_map.specs.Requests.{RequestCall, Forget}
+-- The calls that a view with its answers makes of each part of a slice's state, newest first (this proxy's own rule). Each item is read after the calls of those before it. Which buffered packets the slice holds, and what is collected of statistics, comes later; a connection that comes or ends forgets requests and collections.
+use Rattle.std.specs.Prelude.{ℕ, ◌&&◌, Bool, false, if◌then◌else◌, List, [], ◌∷◌, ◌++◌, filter, map, Option, Some, None, Ok}
+use Rattle.of10_model.specs.declared.pattern.Pattern.{Pattern}
+use Rattle.of10_flow.specs.declared.protocol.TheConstants.{SEND_FLOW_REM}
+use Rattle.of10_flow.specs.Tables.{has_flag}
+use Rattle.of10_message.specs.declared.controller.FromController.TheVariants as said
+use Rattle.of10_message.specs.Controller.{read_controller}
+use Rattle.flowmod_expand.specs.Pieces.{pieces_within}
+use Rattle.xid_map.specs.declared.asked.Issued.{Issued}
+use Rattle.xid_map.specs.Requests.{RequestCall, Issue, MarkError, Forget, issued, found, physical_of}
 use Rattle.xid_map.specs.Collections.{CollectionCall, EndAll}
 use Rattle.flow_book.specs.Books.{BookCall}
-use Rattle.slice_words.specs.Items.{is_forgetting}
-use Rattle.slice_words.specs.Answers.{Past}
+use Rattle.flow_book.specs.Books as books
+use Rattle.slice_words.specs.Messages.{Reading, is_dismissing, is_question, asked_of}
+use Rattle.slice_words.specs.Items.{Settings, Item, Up, Down, Msg, Removed, Fault, is_forgetting, is_up, latest}
+use Rattle.slice_words.specs.Pasts.{Answer, Past, view_in, is_any}
 
--- the items at which a connection comes or ends
-abbrev pub forgetting : List Past → List Past
-forgetting past = filter (λ p. is_forgetting p.item) past
+-- ---- requests
 
--- requests that are issued, marked and forgotten: so far they are only forgotten
-abbrev pub request_calls : List Past → List RequestCall
-request_calls past = map (λ p. Forget) (forgetting past)
+-- the request that is remembered for the low 24 bits of a transaction id, after these calls
+abbrev pub request_for : Settings → ℕ → List RequestCall → Option Issued
+request_for s x before = found s.slot (physical_of s.slot x) before
+
+-- an error marks the request that it is for
+abbrev pub error_marks : Option Issued → List RequestCall
+error_marks None = []
+error_marks (Some request) = MarkError request.number ∷ []
+
+-- a message that has something sent to the switch is a request; a connection that comes or ends forgets them; and an error marks the one that it is for
+abbrev pub requests_by : Settings → List RequestCall → Item → Answer → List RequestCall
+requests_by s before Up answer = Forget ∷ []
+requests_by s before Down answer = Forget ∷ []
+requests_by s before (Msg message moment) answer =
+    if is_dismissing message then Forget ∷ [] else if is_any answer.to_switch then Issue (asked_of (read_controller message) message) ∷ [] else []
+requests_by s before (Fault x class code pair) answer = error_marks (request_for s x before)
+requests_by s before item answer = []
+
+-- requests that are issued, marked and forgotten
+abbrev pub request_calls : Settings → List Past → List RequestCall
+request_calls s [] = []
+request_calls s (p ∷ past) = requests_by s (request_calls s past) p.item p.answer ++ request_calls s past
+
+-- ---- statistics
 
 -- statistics that are collected: so far they are only ended
 abbrev pub collection_calls : List Past → List CollectionCall
-collection_calls past = map (λ p. EndAll) (forgetting past)
+collection_calls past = map (λ p. EndAll) (filter (λ p. is_forgetting p.item) past)
 
--- questions that the rate is asked: no message comes so far yet
+-- ---- the rate
+
+-- a message of a slice that is up asks for its share of the rate where it is to be sent on
+abbrev pub asks_rate : Item → List Item → Bool
+asks_rate (Msg message moment) before = is_up before && is_question message
+asks_rate item before = false
+
+-- the moments at which the rate was asked for a message: each is the greatest of the slice's moments so far
 abbrev pub questions : List Past → List ℕ
-questions past = []
+questions [] = []
+questions (p ∷ past) = if asks_rate p.item (view_in past) then latest (p.item ∷ view_in past) ∷ questions past else questions past
 
--- pairs that are booked and released: no flow-mod is sent on yet
-abbrev pub book_calls : List Past → List BookCall
-book_calls past = []
+-- ---- the book
+
+-- a message that is sent on changes the book where it is a flow-mod, by what the slice may write of its match, piece by piece; it is the request of a number
+abbrev pub bookings : Settings → ℕ → Reading → List BookCall
+bookings s number (Ok (said.FlowMod m)) = books.Added m.command (pieces_within s.patterns m.pattern) m.priority (has_flag SEND_FLOW_REM m) number ∷ []
+bookings s number read = []
+
+-- an error with a pair releases it where the request that it is for booked the pair first
+abbrev pub failure : Option Issued → Option (Pattern × ℕ) → List BookCall
+failure (Some request) (Some pair) = books.Failed request.number pair.0 pair.1 ∷ []
+failure request pair = []
+
+-- a flow-mod that is sent on, an entry that is gone, and an error that carries a pair
+abbrev pub booked_by : Settings → List RequestCall → Item → Answer → List BookCall
+booked_by s before (Msg message moment) answer = if is_any answer.to_switch then bookings s (issued before) (read_controller message) else []
+booked_by s before (Removed entry) answer = books.Removed entry.pattern entry.priority ∷ []
+booked_by s before (Fault x class code pair) answer = failure (request_for s x before) pair
+booked_by s before item answer = []
+
+-- pairs that are booked and released
+abbrev pub book_calls : Settings → List Past → List BookCall
+book_calls s [] = []
+book_calls s (p ∷ past) = booked_by s (request_calls s past) p.item p.answer ++ book_calls s past

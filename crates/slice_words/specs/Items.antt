@@ -1,34 +1,46 @@
 -- What a slice sees: its settings, and a view, which is a list of items with the newest first. All of this is this proxy's own rule, over the messages of OpenFlow 1.0.0.
-use Rattle.std.specs.Prelude.{ℕ, ◌+◌, Bool, true, false, if◌then◌else◌, List, [], ◌∷◌, filter, filter_map, Option, Some, None}
+use Rattle.std.specs.Prelude.{ℕ, ◌+◌, Bool, true, false, if◌then◌else◌, List, [], ◌∷◌, map, filter_map, Option, Some, None, unwrap_or}
 use Rattle.of10_model.specs.declared.pattern.Pattern.{Pattern}
 use Rattle.of10_flow.specs.declared.flow_removed.FlowRemoved.{FlowRemoved}
 use Rattle.of10_port.specs.declared.features.Features.{Features}
 use Rattle.of10_port.specs.declared.status.PortStatus.{PortStatus}
 use Rattle.flowspace.specs.declared.slices.Slice.{Slice}
 use Rattle.flowspace.specs.declared.rules.Rule.{Rule}
-use Rattle.flowspace.specs.Rules.{is_written_by}
 use Rattle.flowspace.specs.Owners.{has_port}
 use Rattle.port_view.specs.KnownPorts.{changed_plainly}
 use Rattle.rate_bucket.specs.Rates.{latest as greatest}
-use Rattle.slice_words.specs.Messages.{is_dismissing, is_setting, miss_send_len_of}
+use Rattle.flowmod_expand.specs.Pieces.{writes_of}
+use Rattle.slice_words.specs.Messages.{is_dismissing, length_set}
 
 -- ---- settings
 
--- what a slice is on one switch: its slot, its limits, and the rules that it may write there, in rule order
+-- what a slice is on one switch: its slot, its limits, and the matches of the rules that it writes there, in rule order. Who else writes or reads, and at what priorities, is no part of it
 pub record Settings : Type 0 where
   pub slot : ℕ
   pub rate : ℕ
   pub burst : ℕ
   pub quota : ℕ
-  pub rules : List Rule
+  pub patterns : List Pattern
 
 -- the settings of the slice at a slot, among the rules of a switch in rule order
 abbrev pub settings_of : Slice → ℕ → List Rule → Settings
-settings_of slice slot rules = record { slot = slot; rate = slice.rate; burst = slice.burst; quota = slice.quota; rules = filter (is_written_by slot) rules }
+settings_of slice slot rules = record { slot = slot; rate = slice.rate; burst = slice.burst; quota = slice.quota; patterns = writes_of rules slot }
+
+-- a rule by which a slice alone writes a match
+abbrev pub lone_rule : ℕ → Pattern → Rule
+lone_rule slot m = record { switch = None; priority = 0; pattern = m; writer = Some slot; readers = 0 }
+
+-- the rules of a proxy that serves the slice alone
+abbrev pub lone_rules : ℕ → List Pattern → List Rule
+lone_rules slot patterns = map (lone_rule slot) patterns
+
+-- those of the slice's settings
+abbrev pub own_rules : Settings → List Rule
+own_rules s = lone_rules s.slot s.patterns
 
 -- a slice has a port on its switch
 abbrev pub is_own_port : Settings → ℕ → Bool
-is_own_port s port = has_port s.rules s.slot port
+is_own_port s port = has_port (own_rules s) s.slot port
 
 -- ---- items
 
@@ -103,8 +115,7 @@ abbrev pub miss_send_len : List Item → ℕ
 miss_send_len [] = 128
 miss_send_len (Up ∷ view) = 128
 miss_send_len (Down ∷ view) = 128
-miss_send_len (Msg message moment ∷ view) =
-    if is_dismissing message then 128 else if is_setting message then miss_send_len_of message else miss_send_len view
+miss_send_len (Msg message moment ∷ view) = if is_dismissing message then 128 else unwrap_or (length_set message) (miss_send_len view)
 miss_send_len (item ∷ view) = miss_send_len view
 
 -- the moment of an item that has one: a message of the controller

@@ -1,9 +1,9 @@
 -- Statements about views and answers. `src/laws.rt` has a function for each, which is proved.
-use Rattle.std.specs.Prelude.{ℕ, ◌≡◌, ◌≤◌, ◌⊎◌, ◌&&◌, ◌||◌, not, Bool, true, false, List, [], ◌∷◌, ◌++◌, filter, All, Contains}
+use Rattle.std.specs.Prelude.{ℕ, ◌≡◌, ◌≤◌, ◌⊎◌, ◌&&◌, ◌||◌, Bool, true, false, List, [], ◌∷◌, ◌++◌, filter, All, Contains, Some, is_some}
 use Rattle.std.specs.List.{list_any}
 use Rattle.slice_words.specs.Items.{Settings, Item, Up, Msg, is_up, miss_send_len, moments, latest, is_forgetting}
-use Rattle.slice_words.specs.Messages.{is_dismissing, is_setting, miss_send_len_of}
-use Rattle.slice_words.specs.Answers.{silence}
+use Rattle.slice_words.specs.Messages.{is_dismissing, length_set}
+use Rattle.slice_words.specs.Pasts.{silence}
 use Rattle.slice_words.specs.Alone.{answer_to, alone, with_items, sent_for}
 
 -- what is sent for items is what is sent over the view with them, less what was sent over the view before
@@ -37,9 +37,9 @@ is_dismissal item = false
 abbrev pub EndsExactly : Settings → List Item → Item → Type 0
 EndsExactly s view item = (answer_to s view item).dismissed ≡ (is_up view && is_dismissal item)
 
--- an item is a SET_CONFIG that is taken, and doesn't end its connection (section 5.3.2)
+-- an item is a SET_CONFIG that is taken (section 5.3.2)
 abbrev pub is_set : Item → Bool
-is_set (Msg message moment) = is_setting message && not (is_dismissing message)
+is_set (Msg message moment) = is_some (length_set message)
 is_set item = false
 
 -- an item says how much of a packet the controller wants: it sets that, or forgets what was set
@@ -47,10 +47,10 @@ abbrev pub tells_length : Item → Bool
 tells_length item = is_forgetting item || is_set item
 
 -- how much of a packet the controller wants is what it set last, where it forgot nothing since
-abbrev pub IsSetByTheLast : List Item → List ℕ → ℕ → List Item → Type 0
-IsSetByTheLast later message moment earlier =
-    is_set (Msg message moment) ≡ true → list_any tells_length later ≡ false
-    → miss_send_len (later ++ Msg message moment ∷ earlier) ≡ miss_send_len_of message
+abbrev pub IsSetByTheLast : List Item → List ℕ → ℕ → ℕ → List Item → Type 0
+IsSetByTheLast later message moment wanted earlier =
+    length_set message ≡ Some wanted → list_any tells_length later ≡ false
+    → miss_send_len (later ++ Msg message moment ∷ earlier) ≡ wanted
 
 -- it is 128 where nothing was set since an item that forgets (section 4.1.2)
 abbrev pub IsForgotten : List Item → Item → List Item → Type 0

@@ -1,7 +1,9 @@
 pub mod Messages
 pub mod Items
+pub mod Pasts
+pub mod Calls
+pub mod FlowMods
 pub mod Answers
 pub mod Alone
-pub mod Calls
 pub mod Standing
 pub mod Laws

@@ -1,91 +1,86 @@
--- What a controller's message to its slice is, by its bytes (OpenFlow 1.0.0, section 5).
-use Rattle.std.specs.Prelude.{ℕ, ◌==◌, ◌+◌, ◌||◌, ◌&&◌, leb, Bool, if◌then◌else◌, List, length, take, drop, is_ok, Option, Some, None, Result, Ok, Err}
-use Rattle.of10_model.specs.Normal.{number_at}
-use Rattle.of10_action.specs.declared.fault.WireFault.{WireFault}
-use Rattle.of10_action.specs.declared.fault.WireFault.TheVariants.{Length}
-use Rattle.of10_action.specs.Reading.{action_at}
-use Rattle.of10_ctl.specs.declared.kind.TheConstants.{HELLO, FEATURES_REQUEST, GET_CONFIG_REQUEST, SET_CONFIG, PACKET_OUT, FLOW_MOD, STATS_REQUEST, BARRIER_REQUEST, QUEUE_GET_CONFIG_REQUEST}
-use Rattle.of10_ctl.specs.Heads.{head_of}
-use Rattle.of10_ctl.specs.Frames.{is_bad}
-use Rattle.of10_flow.specs.PacketOuts.{read_packet_out, begins_well}
-use Rattle.of10_flow.specs.FlowMods.{read_flow_mod}
-use Rattle.of10_stats.specs.Requests.{read_request}
+-- What the answers of a slice turn on in its controller's messages (OpenFlow 1.0.0, section 5).
+use Rattle.std.specs.Prelude.{ℕ, ◌==◌, Bool, true, false, if◌then◌else◌, List, ◌++◌, length, take, min, Option, Some, None, Result, Ok, Err}
+use Rattle.of10_action.specs.Actions.{padding}
+use Rattle.of10_message.specs.declared.controller.FromController.{FromController}
+use Rattle.of10_message.specs.declared.controller.FromController.TheVariants as said
+use Rattle.of10_message.specs.declared.fault.Unread.{Unread}
+use Rattle.of10_message.specs.declared.fault.Unread.TheVariants.{BadLength, NoCommonVersion}
+use Rattle.of10_message.specs.Heads.{xid_of}
+use Rattle.of10_message.specs.Controller.{read_controller}
+use Rattle.of10_stats.specs.declared.request.StatsRequest.TheVariants as statistics
+use Rattle.xid_map.specs.declared.asked.Asked.{Asked}
+use Rattle.xid_map.specs.declared.asked.AskKind.{AskKind}
+use Rattle.xid_map.specs.declared.asked.AskKind.TheVariants as kinds
 
--- ---- the header (section 5.1)
+-- what was read of a message
+abbrev pub Reading : Type 0
+Reading = Result FromController Unread
 
--- the version of OpenFlow that the sender speaks
-abbrev pub version_of : List ℕ → ℕ
-version_of message = (head_of message).version
-
--- the type of a message
-abbrev pub kind_of : List ℕ → ℕ
-kind_of message = (head_of message).kind
-
--- the transaction id, which an answer repeats
-abbrev pub xid_of : List ℕ → ℕ
-xid_of message = (head_of message).xid
-
--- a message of a type (section 5.1)
-abbrev pub is_kind : ℕ → List ℕ → Bool
-is_kind kind message = kind_of message == kind
-
--- ---- what may come from a controller
+-- ---- connections
 
 -- a message ends its connection: its length field doesn't count the header, as it should (section 5.1), or it is a HELLO of version 0, which has no version in common with this proxy (section 4.2). That each of them ends the connection, whenever it comes, is this proxy's own rule
+abbrev pub ends_connection : Reading → Bool
+ends_connection (Err BadLength) = true
+ends_connection (Err NoCommonVersion) = true
+ends_connection read = false
+
+-- the same of its bytes
 abbrev pub is_dismissing : List ℕ → Bool
-is_dismissing message = is_bad message || (is_kind HELLO message && version_of message == 0)
+is_dismissing message = ends_connection (read_controller message)
 
--- the types of messages that a controller may send (section 5.1)
-abbrev pub is_from_controller : ℕ → Bool
-is_from_controller kind =
-    leb kind FEATURES_REQUEST || kind == GET_CONFIG_REQUEST || kind == SET_CONFIG || (leb PACKET_OUT kind && leb kind STATS_REQUEST)
-    || kind == BARRIER_REQUEST || kind == QUEUE_GET_CONFIG_REQUEST
+-- ---- settings of the switch
 
--- ---- the form of a message
+-- how many bytes of a packet that no entry matched a message asks for: a SET_CONFIG that wants fragments handled as usual (section 5.3.2)
+abbrev pub length_wanted : Reading → Option ℕ
+length_wanted (Ok (said.SetConfig config)) = if config.flags == 0 then Some config.miss_send_len else None
+length_wanted read = None
 
--- a message that has so many bytes and no other number
-abbrev pub sized : ℕ → List ℕ → Option WireFault
-sized size message = if length message == size then None else Some (Length (length message))
+-- the same of its bytes
+abbrev pub length_set : List ℕ → Option ℕ
+length_set message = length_wanted (read_controller message)
 
--- what is wrong with a message that is read
-abbrev pub fault_in : {A : Type 0} → Result A WireFault → Option WireFault
-fault_in (Ok record_read) = None
-fault_in (Err fault) = Some fault
+-- ---- requests
 
--- what is wrong with the form of a message by its type: three types have no body (sections 5.3.1, 5.3.2, 5.3.7), two have four bytes of it (5.3.2, 5.3.4), and packet-outs (5.3.6), flow-mods (5.3.3) and statistics requests (5.3.5) are read whole
-unfoldable pub form_fault : List ℕ → Option WireFault
-form_fault message =
-    if is_kind FEATURES_REQUEST message || is_kind GET_CONFIG_REQUEST message || is_kind BARRIER_REQUEST message then sized 8 message
-    else if is_kind SET_CONFIG message || is_kind QUEUE_GET_CONFIG_REQUEST message then sized 12 message
-    else if is_kind PACKET_OUT message then fault_in (read_packet_out message)
-    else if is_kind FLOW_MOD message then fault_in (read_flow_mod message)
-    else if is_kind STATS_REQUEST message then fault_in (read_request message)
-    else None
+-- a message that is to be sent on to the switch: flow-mods (section 5.3.3), packet-outs (5.3.6), requests for statistics (5.3.5), barriers (5.3.7) and questions for queues (5.3.4)
+abbrev pub asks_switch : Reading → Bool
+asks_switch (Ok (said.PacketOut m)) = true
+asks_switch (Ok (said.FlowMod m)) = true
+asks_switch (Ok (said.StatsRequest request)) = true
+asks_switch (Ok said.BarrierRequest) = true
+asks_switch (Ok (said.QueueGetConfigRequest port)) = true
+asks_switch read = false
 
--- ---- messages that are read into memory
+-- the same of its bytes
+abbrev pub is_question : List ℕ → Bool
+is_question message = asks_switch (read_controller message)
 
--- a packet-out is long enough for its actions, of which the first, where there is one, is right (section 5.3.6)
-abbrev pub begins_packet_out : List ℕ → Bool
-begins_packet_out message = leb (16 + number_at message 14 2) (length message) && begins_well (take (number_at message 14 2) (drop 16 message))
+-- what such a message asks for
+abbrev pub kind_asked : Reading → AskKind
+kind_asked (Ok (said.PacketOut m)) = kinds.PacketOut
+kind_asked (Ok (said.FlowMod m)) = kinds.FlowMod
+kind_asked (Ok (said.StatsRequest statistics.Desc)) = kinds.Desc
+kind_asked (Ok (said.StatsRequest (statistics.Flow pattern table out_port))) = kinds.Flow
+kind_asked (Ok (said.StatsRequest (statistics.Aggregate pattern table out_port))) = kinds.Aggregate
+kind_asked (Ok (said.StatsRequest (statistics.Port port))) = kinds.Port
+kind_asked (Ok (said.StatsRequest (statistics.Queue port queue))) = kinds.Queue
+kind_asked (Ok (said.QueueGetConfigRequest port)) = kinds.QueueConfig
+kind_asked read = kinds.Barrier
 
--- a flow-mod is long enough for its fields, and behind them stands an action that is right (section 5.3.3)
-abbrev pub begins_flow_mod : List ℕ → Bool
-begins_flow_mod message = leb 72 (length message) && is_ok (action_at (drop 72 message))
+-- the port that it asks for, where it asks for the queues of one
+abbrev pub port_asked : Reading → ℕ
+port_asked (Ok (said.QueueGetConfigRequest port)) = port
+port_asked read = 0
 
--- a packet-out or a flow-mod whose actions, or packet, are read into memory
-abbrev pub has_actions : List ℕ → Bool
-has_actions message = (is_kind PACKET_OUT message && begins_packet_out message) || (is_kind FLOW_MOD message && begins_flow_mod message)
+-- a request as it is remembered: with the slice's own transaction id, and with the first 64 bytes, which an error carries back (section 5.4.4)
+abbrev pub asked_of : Reading → List ℕ → Asked
+asked_of read message = record {
+  xid = xid_of message;
+  first = take 64 (message ++ padding 64);
+  first_len = min (length message) 64;
+  kind = kind_asked read;
+  port = port_asked read;
+}
 
--- ---- how a controller sets its slice (section 5.3.2)
-
--- how a SET_CONFIG wants fragments to be handled
-abbrev pub flags_of : List ℕ → ℕ
-flags_of message = number_at message 8 2
-
--- how many bytes it wants of a packet that no entry matched
-abbrev pub miss_send_len_of : List ℕ → ℕ
-miss_send_len_of message = number_at message 10 2
-
--- a SET_CONFIG of version 1 that is taken: it has its 12 bytes, and asks for fragments to be handled as usual
-abbrev pub is_setting : List ℕ → Bool
-is_setting message = version_of message == 1 && is_kind SET_CONFIG message && length message == 12 && flags_of message == 0
+-- the first bytes of a request's message
+abbrev pub quoted : Asked → List ℕ
+quoted asked = take asked.first_len asked.first

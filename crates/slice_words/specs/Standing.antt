@@ -6,7 +6,8 @@ use Rattle.rate_bucket.specs.Rates.{BucketStands}
 use Rattle.flow_book.specs.Books.{BookStands}
 use Rattle.flow_book.specs.declared.state.SliceState.{SliceState}
 use Rattle.slice_words.specs.Items.{Settings, Sight, Item, is_up, miss_send_len, latest}
-use Rattle.slice_words.specs.Answers.{Past, answer}
+use Rattle.slice_words.specs.Pasts.{Past}
+use Rattle.slice_words.specs.Answers.{answer}
 use Rattle.slice_words.specs.Alone.{played}
 use Rattle.slice_words.specs.Calls.{request_calls, collection_calls, questions, book_calls}
 
@@ -19,9 +20,9 @@ pub record SliceStands (s : Settings) (sight : Sight) (state : SliceState) : Typ
   pub up : state.up ≡ is_up sight.view
   pub miss_send_len : state.miss_send_len ≡ miss_send_len sight.view
   pub moment : state.moment ≡ latest sight.view
-  pub requests : RequestsStand s.slot (request_calls (past_of s sight.view)) state.xids
+  pub requests : RequestsStand s.slot (request_calls s (past_of s sight.view)) state.xids
   pub collections : CollectionsStand (collection_calls (past_of s sight.view)) state.collections
   pub bucket : BucketStands (questions (past_of s sight.view)) state.bucket
-  pub book : BookStands (book_calls (past_of s sight.view)) state.book
+  pub book : BookStands (book_calls s (past_of s sight.view)) state.book
   pub rate : state.bucket.rate ≡ s.rate
   pub burst : state.bucket.burst ≡ s.burst

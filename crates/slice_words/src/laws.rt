@@ -28,7 +28,7 @@ pub fn ends_exactly()
 /// How much of a packet a slice's controller wants is what its last SET_CONFIG that was taken says, since
 /// the slice last came up, went down or sent a message that ends its connection; 128 where there is none.
 pub fn length_by_the_last()
-    ensures set { (later : List Item) (message : List ℕ) (moment : ℕ) (earlier : List Item) → IsSetByTheLast later message moment earlier }
+    ensures set { (later : List Item) (message : List ℕ) (moment wanted : ℕ) (earlier : List Item) → IsSetByTheLast later message moment wanted earlier }
     ensures forgotten { (later : List Item) (item : Item) (earlier : List Item) → IsForgotten later item earlier }
     ensures never { (view : List Item) → IsNeverSet view }
 {}

@@ -1,7 +1,10 @@
-pub mod OwnPorts
+pub mod MessageTypes
 pub mod Slots
 pub mod Told
+pub mod Owning
 pub mod Standing
-pub mod Wanting
+pub mod Turning
+pub mod Turns
 pub mod Answered
+pub mod Making
 pub mod Sharing

@@ -1,7 +1,7 @@
 -- What one slice is sent for a message of the switch, by whether the slice is up.
-use Rattle.std.proofs.Common.{◌≡◌, ℕ, ◌==◌, ◌&&◌, Bool, true, false, if◌then◌else◌, List, [], ◌∷◌, ◌++◌, map, refl, ap, sym, ◌∙◌, Option, Some, None}
+use Rattle.std.proofs.Common.{◌≡◌, ℕ, ◌&&◌, Bool, true, false, if◌then◌else◌, List, [], ◌∷◌, ◌++◌, map, refl, ap, sym, ◌∙◌, Option, Some, None}
 use Rattle.of10_model.specs.Normal.{is_value, bit}
-use Rattle.of10_ctl.specs.declared.kind.TheConstants.{PACKET_IN, PORT_STATUS}
+use Rattle.of10_ctl.specs.declared.kind.TheConstants.{ERROR, PACKET_IN, FLOW_REMOVED, PORT_STATUS}
 use Rattle.of10_ctl.specs.Frames.{is_bad}
 use Rattle.of10_flow.specs.declared.packet_in.PacketIn.{PacketIn}
 use Rattle.of10_flow.specs.PacketIns.{read_packet_in, spell_packet_in}
@@ -12,20 +12,19 @@ use Rattle.flowspace.specs.declared.rules.Rule.{Rule}
 use Rattle.flowspace.specs.Order.{writer_of, readers_of}
 use Rattle.flowspace.specs.Owners.{has_port}
 use Rattle.flowspace.specs.Policies.{PolicyView}
-use Rattle.slice_words.specs.Messages.{version_of, is_kind}
 use Rattle.slice_words.specs.Items.{Settings, is_own_port, Writer, Reader, Item, Status, End, is_up}
 use Rattle.slice_words.specs.Answers.{packet_told}
 use Rattle.slice_words.specs.Alone.{sent_for}
 use Rattle.desk_words.specs.declared.phase.Phase.TheVariants.{Opened}
 use Rattle.of10_ctl.specs.Kinds.{is_of}
 use Rattle.desk_words.specs.Openings.{well_formed, status_told, kept_beside, status_kept, rules_of, Switch}
-use Rattle.desk_words.specs.Histories.{is_slot, settings_at, Side, handed, header_in, shares_of, is_plain, packet_items, status_items, message_items, phase_items}
+use Rattle.desk_words.specs.Histories.{is_slot, settings_at, Side, handed, header_in, shares_of, is_plain, packet_items, status_items, message_items}
 use Rattle.port_view.specs.KnownPorts.{is_kept}
 use Rattle.desk_words.specs.Sent.{sent_with}
-use Rattle.desk_words.proofs.Seen.{no_kind}
-use Rattle.desk_words.proofs.Wanting.{end_sent}
+use Rattle.desk_words.proofs.Ends.{end_sent}
 use Rattle.switch_side.specs.Dispatches.{told_at}
 use Rattle.switch_side.specs.Carrying.{unnumbered, once, packet_for, status_for}
+use Rattle.switch_side.proofs.MessageTypes.{bad_is_none, items_at}
 
 -- ---- packets
 
@@ -102,10 +101,6 @@ by_kind s rules known slot view true (Some packet) told own = packet_sent s rule
 by_kind s rules known slot view false found None own = refl
 by_kind s rules known slot view false found (Some status) own = by_kept s rules slot view status (is_kept status known) (own (port_number status.port))
 
--- a message of a bad length is of no type
-pub bad_is_none : (kind : ℕ) (message : List ℕ) → is_bad message ≡ true → is_of kind message ≡ false
-bad_is_none kind message bad = no_kind (version_of message == 1) (is_kind kind message) (is_bad message) bad
-
 kept_if : (known : List (List ℕ)) (is_status : Bool) (told : Option PortStatus) → is_status ≡ false → kept_beside known (if is_status then told else None) ≡ None
 kept_if known is_status told none = rw none refl
 
@@ -123,23 +118,19 @@ by_length s rules known message slot view items true is sent =
     end_sent s view (is_up view) refl ∙ sym (say_of_none rules known message slot (is_up view) (bad_is_none PACKET_IN message is) (bad_is_none PORT_STATUS message is))
 by_length s rules known message slot view items false is sent = sent
 
-message_sent : (p : PolicyView) (slot : ℕ) (switch : Switch) (view : List Item) (message : List ℕ)
+message_sent : (p : PolicyView) (slot : ℕ) (switch : Switch) (view : List Item) (message : List ℕ) → is_of FLOW_REMOVED message ≡ false → is_of ERROR message ≡ false
     → ((port : ℕ) → is_own_port (settings_at p slot switch.features) port ≡ has_port (rules_of p switch.features) slot port)
     → sent_for (settings_at p slot switch.features) view (message_items p slot switch view message) ≡ say (rules_of p switch.features) switch.known message slot (is_up view)
 unfolding message_items
-message_sent p slot switch view message own =
+message_sent p slot switch view message no_removal no_error own =
     by_length (settings_at p slot switch.features) (rules_of p switch.features) switch.known message slot view _ (is_bad message) refl
-    (by_kind (settings_at p slot switch.features) (rules_of p switch.features) switch.known slot view (is_of PACKET_IN message) (well_formed (read_packet_in message)) (status_told message) own)
+    (rw (no_removal, no_error) (by_kind (settings_at p slot switch.features) (rules_of p switch.features) switch.known slot view (is_of PACKET_IN message) (well_formed (read_packet_in message)) (status_told message) own))
 
 -- a slice of the policy is sent what is said to it
 pub slot_sent : (p : PolicyView) (slot moment : ℕ) (switch : Switch) (side : Side) (message : List ℕ)
-    → switch.phase ≡ Opened → is_slot p slot ≡ true
+    → switch.phase ≡ Opened → is_slot p slot ≡ true → is_of FLOW_REMOVED message ≡ false → is_of ERROR message ≡ false
     → ((port : ℕ) → is_own_port (settings_at p slot switch.features) port ≡ has_port (rules_of p switch.features) slot port)
     → sent_with p slot switch side (told_at moment message) ≡ say (rules_of p switch.features) switch.known message slot (is_up side.sight.view)
-slot_sent p slot moment switch side message opened here own =
-    let timed = told_at moment message in
-    let s = settings_at p slot switch.features in
-    let view = side.sight.view in
-    ap (λ is_here. sent_for s view (if is_here then phase_items p slot switch view timed switch.phase else [])) here
-    ∙ ap (λ phase. sent_for s view (phase_items p slot switch view timed phase)) opened
-    ∙ message_sent p slot switch view message own
+slot_sent p slot moment switch side message opened here no_removal no_error own =
+    ap (sent_for (settings_at p slot switch.features) side.sight.view) (items_at p slot moment switch side message opened here)
+    ∙ message_sent p slot switch side.sight.view message no_removal no_error own

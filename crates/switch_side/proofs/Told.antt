@@ -2,7 +2,7 @@
 use Rattle.std.proofs.Common.{◌≡◌, ℕ, zero, suc, ◌+◌, ◌<◌, Bool, true, false, if◌then◌else◌, List, [], ◌∷◌, ◌++◌, length, slice_get, refl, ap, ap₂, subst, sym, ◌∙◌, arith, Option, Some, None}
 use Rattle.std.proofs.lemmas.Option.{slice_get_within}
 use Rattle.std.proofs.lemmas.Bool.{lt-ltb}
-use Rattle.of10_ctl.specs.declared.kind.TheConstants.{PACKET_IN}
+use Rattle.of10_ctl.specs.declared.kind.TheConstants.{ERROR, PACKET_IN, FLOW_REMOVED}
 use Rattle.of10_model.specs.Header.{Header}
 use Rattle.of10_flow.specs.declared.packet_in.PacketIn.{PacketIn}
 use Rattle.of10_flow.specs.PacketIns.{read_packet_in, spell_packet_in}
@@ -14,6 +14,7 @@ use Rattle.flowspace.specs.Owners.{has_port}
 use Rattle.flowspace.specs.Policies.{PolicyView}
 use Rattle.flow_book.specs.declared.state.SliceState.{SliceState}
 use Rattle.slice_words.specs.Items.{is_own_port}
+use Rattle.slice_words.proofs.LoneRules.{same_port}
 use Rattle.desk_words.specs.declared.event.Timed.{Timed}
 use Rattle.desk_words.specs.declared.phase.Phase.TheVariants.{Opened}
 use Rattle.of10_ctl.specs.Kinds.{is_of}
@@ -21,8 +22,7 @@ use Rattle.desk_words.specs.Openings.{well_formed, status_kept, rules_of, Switch
 use Rattle.desk_words.specs.Histories.{settings_at, Side, header_in, is_plain}
 use Rattle.desk_words.specs.Sent.{sent_with}
 use Rattle.switch_side.specs.Dispatches.{addressed, sent_from, told_at, AllStand}
-use Rattle.switch_side.specs.Carrying.{unnumbered, packet_for, said_from, packet_told, port_told, message_told}
-use Rattle.switch_side.proofs.OwnPorts.{has_port-own}
+use Rattle.switch_side.specs.Carrying.{unnumbered, packet_for, said_from, packet_told, packet_in_told, port_told}
 use Rattle.switch_side.proofs.Slots.{say_status, say_found, say, slot_sent}
 
 -- ---- what is said to all is what is told
@@ -65,7 +65,7 @@ said_kind rules states true found status = said_found rules states found
 said_kind rules states false found status = said_status rules states status
 
 said_told : (rules : List Rule) (known : List (List ℕ)) (states : List SliceState) (message : List ℕ)
-    → said_from (say rules known message) 0 states ≡ message_told rules known states message
+    → said_from (say rules known message) 0 states ≡ (if is_of PACKET_IN message then packet_in_told rules states message else port_told rules states (status_kept known message))
 said_told rules known states message = said_kind rules states (is_of PACKET_IN message) (well_formed (read_packet_in message)) (status_kept known message)
 
 -- ---- what is said to each is what it is sent
@@ -86,7 +86,7 @@ all_sent p switch sides timed said slot (slice ∷ slices) [] same each = absurd
 
 own_ports : (p : PolicyView) (switch : Switch) (slot port : ℕ) (slice : Slice) → slice_get p.slices slot ≡ Some slice
     → is_own_port (settings_at p slot switch.features) port ≡ has_port (rules_of p switch.features) slot port
-own_ports p switch slot port slice there = rw (there, settings_at) (has_port-own (rules_of p switch.features) slot port)
+own_ports p switch slot port slice there = rw (there, settings_at) (same_port slot (rules_of p switch.features) port)
 
 pub has_item : {A : Type 0} (xs : List A) (i : ℕ) → i < length xs → (x : A) × (slice_get xs i ≡ Some x)
 has_item [] i lt = absurd (omega (arith, lt))
@@ -94,22 +94,23 @@ has_item (x ∷ xs) zero lt = (x, refl)
 has_item (x ∷ xs) (suc i) lt = has_item xs i (omega (arith, lt))
 
 one_sent : (p : PolicyView) (switch : Switch) (sides : ℕ → Side) (moment : ℕ) (message : List ℕ) (states : List SliceState)
-    → switch.phase ≡ Opened → length states ≡ length p.slices → AllStand p switch sides states
+    → switch.phase ≡ Opened → length states ≡ length p.slices → AllStand p switch sides states → is_of FLOW_REMOVED message ≡ false → is_of ERROR message ≡ false
     → (slot k : ℕ) (state : SliceState) → 0 + slot ≡ k → slice_get states slot ≡ Some state
     → say (rules_of p switch.features) switch.known message k state.up ≡ sent_with p k switch (sides k) (told_at moment message)
-one_sent p switch sides moment message states opened same stand slot k state at found =
+one_sent p switch sides moment message states opened same stand no_removal no_error slot k state at found =
     let lt : k < length p.slices = omega (arith, slice_get_within states slot state found, same, at) in
     let slice = has_item p.slices k lt in
     let same_slot : slot ≡ k = omega (arith, at) in
     let here : slice_get states k ≡ Some state = subst (λ x. slice_get states x ≡ Some state) same_slot found in
     ap (say (rules_of p switch.features) switch.known message k) (stand k state here).up
-    ∙ sym (slot_sent p k moment switch (sides k) message opened (lt-ltb k (length p.slices) lt) (λ port. own_ports p switch k port slice.0 slice.1))
+    ∙ sym (slot_sent p k moment switch (sides k) message opened (lt-ltb k (length p.slices) lt) no_removal no_error (λ port. own_ports p switch k port slice.0 slice.1))
 
--- what the states are told is what the slices are sent
+-- what the states are told is what the slices are sent, where no entry is gone and no error came
 pub told_sent : (p : PolicyView) (switch : Switch) (sides : ℕ → Side) (moment : ℕ) (message : List ℕ) (states : List SliceState)
-    → switch.phase ≡ Opened → length states ≡ length p.slices → AllStand p switch sides states
-    → message_told (rules_of p switch.features) switch.known states message ≡ sent_from p switch sides (told_at moment message) 0 p.slices
-told_sent p switch sides moment message states opened same stand =
+    → switch.phase ≡ Opened → length states ≡ length p.slices → AllStand p switch sides states → is_of FLOW_REMOVED message ≡ false → is_of ERROR message ≡ false
+    → (if is_of PACKET_IN message then packet_in_told (rules_of p switch.features) states message else port_told (rules_of p switch.features) states (status_kept switch.known message))
+    ≡ sent_from p switch sides (told_at moment message) 0 p.slices
+told_sent p switch sides moment message states opened same stand no_removal no_error =
     sym (said_told (rules_of p switch.features) switch.known states message)
     ∙ all_sent p switch sides (told_at moment message) (say (rules_of p switch.features) switch.known message) 0 p.slices states same
-    (one_sent p switch sides moment message states opened same stand)
+    (one_sent p switch sides moment message states opened same stand no_removal no_error)

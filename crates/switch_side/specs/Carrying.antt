@@ -1,23 +1,32 @@
--- The same by who is up, in place of what each slice sees. The parts of the code are proved by this.
-use Rattle.std.specs.Prelude.{ℕ, ◌&&◌, ◌||◌, ◌+◌, Bool, false, if◌then◌else◌, List, [], ◌∷◌, ◌++◌, Option, Some, None, is_some}
+-- The same by the slices' states, in place of what each slice sees. The parts of the code are proved by this.
+use Rattle.std.specs.Prelude.{ℕ, ◌≡◌, ◌&&◌, ◌+◌, ◌/◌, ◌^◌, Bool, false, if◌then◌else◌, List, [], ◌∷◌, ◌++◌, slice_get, Option, Some, None, option_map, option_and_then}
 use Rattle.of10_model.specs.Normal.{is_value, bit}
-use Rattle.of10_ctl.specs.declared.kind.TheConstants.{PACKET_IN}
+use Rattle.of10_ctl.specs.declared.kind.TheConstants.{ERROR, PACKET_IN, FLOW_REMOVED}
 use Rattle.of10_ctl.specs.Frames.{is_bad}
+use Rattle.of10_ctl.specs.Kinds.{is_of}
 use Rattle.of10_flow.specs.declared.protocol.TheConstants.{NO_BUFFER}
 use Rattle.of10_flow.specs.declared.packet_in.PacketIn.{PacketIn}
+use Rattle.of10_flow.specs.declared.flow_removed.FlowRemoved.{FlowRemoved}
+use Rattle.of10_flow.specs.FlowRemoveds.{read_flow_removed}
 use Rattle.of10_flow.specs.PacketIns.{read_packet_in, spell_packet_in}
+use Rattle.of10_message.specs.Heads.{xid_of}
+use Rattle.of10_message.specs.Errors.{ErrorMessage, read_error, pair_in}
 use Rattle.of10_port.specs.declared.status.PortStatus.{PortStatus}
 use Rattle.of10_port.specs.Ports.{port_number}
 use Rattle.of10_port.specs.PortStatus.{spell_port_status}
 use Rattle.flowspace.specs.declared.rules.Rule.{Rule}
 use Rattle.flowspace.specs.Order.{writer_of, readers_of}
-use Rattle.flowspace.specs.Owners.{has_port}
+use Rattle.flowspace.specs.Owners.{has_port, owner_of_match}
+use Rattle.xid_map.specs.declared.asked.Issued.{Issued}
+use Rattle.xid_map.specs.Requests.{RequestCall, RequestsStand, found}
 use Rattle.flow_book.specs.declared.state.SliceState.{SliceState}
-use Rattle.of10_ctl.specs.Kinds.{is_of}
+use Rattle.flow_book.specs.Books.{BookCall, BookStands, booking}
+use Rattle.slice_words.specs.Answers.{removal_told, error_told}
 use Rattle.desk_words.specs.Openings.{well_formed, status_kept}
 use Rattle.desk_words.specs.Histories.{header_in, is_plain}
 use Rattle.desk_words.specs.Sent.{echo_for}
-use Rattle.slice_words.specs.Answers.{is_any}
+use Rattle.switch_side.specs.declared.change.Change.{Change}
+use Rattle.switch_side.specs.declared.change.Change.TheVariants.{Released, Failed}
 use Rattle.switch_side.specs.declared.dispatch.Dispatch.{Dispatch}
 use Rattle.switch_side.specs.Dispatches.{addressed}
 
@@ -25,17 +34,30 @@ use Rattle.switch_side.specs.Dispatches.{addressed}
 pub record Carried : Type 0 where
   pub messages : List (ℕ × List ℕ)
   pub replies : List (List ℕ)
+  pub changes : List (ℕ × Change)
   pub status : Option PortStatus
   pub ends : Bool
 
 abbrev pub carried : Dispatch → Carried
-carried d = record { messages = d.to_slices.items; replies = d.to_switch.items; status = d.port; ends = d.close }
+carried d = record { messages = d.to_slices.items; replies = d.to_switch.items; changes = d.changes.items; status = d.port; ends = d.close }
 
--- it carries something: a message for a slice or for the switch, or the change of a port
-abbrev pub carries_any : Carried → Bool
-carries_any c = is_any c.messages || is_any c.replies || is_some c.status
+-- messages for slices, and the change of a port
+abbrev pub telling : List (ℕ × List ℕ) → Option PortStatus → Carried
+telling messages status = record { messages = messages; replies = []; changes = []; status = status; ends = false }
 
--- ---- one slice
+-- ---- what the states stand for
+
+-- the calls that made one slice's requests and book
+pub record Called : Type 0 where
+  pub requests : List RequestCall
+  pub book : List BookCall
+
+-- each state's requests and book were made by these
+abbrev pub AllCalled : (ℕ → Called) → List SliceState → Type 0
+AllCalled called states =
+    (slot : ℕ) (state : SliceState) → slice_get states slot ≡ Some state → RequestsStand slot (called slot).requests state.xids × BookStands (called slot).book state.book
+
+-- ---- what several slices may be told
 
 -- a packet as slices are told it: whole, without a number
 abbrev pub unnumbered : PacketIn → PacketIn
@@ -52,8 +74,6 @@ packet_for writer readers message slot up = if up then once (is_value slot write
 -- the change of a port for the slice at a slot, if it is up and has the port
 abbrev pub status_for : List Rule → PortStatus → ℕ → Bool → List (List ℕ)
 status_for rules status slot up = once (up && has_port rules slot (port_number status.port)) (spell_port_status status 0)
-
--- ---- all slices
 
 -- what is said to each slice from a slot on
 abbrev pub said_from : (ℕ → Bool → List (List ℕ)) → ℕ → List SliceState → List (ℕ × List ℕ)
@@ -73,20 +93,90 @@ abbrev pub port_told : List Rule → List SliceState → Option PortStatus → L
 port_told rules states None = []
 port_told rules states (Some status) = said_from (status_for rules status) 0 states
 
--- a message of the switch, for all slices
-abbrev pub message_told : List Rule → List (List ℕ) → List SliceState → List ℕ → List (ℕ × List ℕ)
-message_told rules known states message =
-    if is_of PACKET_IN message then packet_in_told rules states message else port_told rules states (status_kept known message)
+-- ---- what one slice may be told
 
--- messages for slices, and the change of a port
-abbrev pub telling : List (ℕ × List ℕ) → Option PortStatus → Carried
-telling messages status = record { messages = messages; replies = []; status = status; ends = false }
+-- what follows for one slice: messages for it, and what changes in its state
+pub record Turn : Type 0 where
+  pub slot : ℕ
+  pub messages : List (List ℕ)
+  pub change : Change
+
+-- messages of a turn, if there is one
+abbrev pub turn_told : Option Turn → List (ℕ × List ℕ)
+turn_told None = []
+turn_told (Some turn) = addressed turn.slot turn.messages
+
+-- and its change
+abbrev pub turn_changes : Option Turn → List (ℕ × Change)
+turn_changes None = []
+turn_changes (Some turn) = (turn.slot, turn.change) ∷ []
+
+-- both
+abbrev pub turning : Option Turn → Carried
+turning turn = record (telling (turn_told turn) None) { changes = turn_changes turn }
+
+-- messages for a slice that is up
+abbrev pub while_up : Bool → List (List ℕ) → List (List ℕ)
+while_up up messages = if up then messages else []
+
+-- what follows for a slice of whose match an entry is gone
+abbrev pub removal_turn : Called → FlowRemoved → ℕ → SliceState → Turn
+removal_turn called entry slot state = record {
+  slot = slot;
+  messages = while_up state.up (removal_told (booking entry.pattern entry.priority called.book) entry);
+  change = Released entry.pattern entry.priority;
+}
+
+-- the slice that owns the match is told
+abbrev pub owner_turn : (ℕ → Called) → List SliceState → FlowRemoved → Option ℕ → Option Turn
+owner_turn called states entry None = None
+owner_turn called states entry (Some slot) = option_map (removal_turn (called slot) entry slot) (slice_get states slot)
+
+abbrev pub removed_turn : (ℕ → Called) → List Rule → List SliceState → Option FlowRemoved → Option Turn
+removed_turn called rules states None = None
+removed_turn called rules states (Some entry) = owner_turn called states entry (owner_of_match rules entry.pattern)
+
+-- what follows for the slice whose request an error is for
+abbrev pub failure_turn : ℕ → ErrorMessage → ℕ → SliceState → Issued → Turn
+failure_turn xid error slot state request = record {
+  slot = slot;
+  messages = while_up state.up (error_told (Some request) error.class error.code);
+  change = Failed request.number (pair_in xid error.cause);
+}
+
+-- the request is sought at one slot
+abbrev pub request_turn : Called → ℕ → ErrorMessage → ℕ → SliceState → Option Turn
+request_turn called xid error slot state = option_map (failure_turn xid error slot state) (found slot xid called.requests)
+
+-- at that of the transaction id's top byte
+abbrev pub error_turn : (ℕ → Called) → List SliceState → ℕ → Option ErrorMessage → Option Turn
+error_turn called states xid None = None
+error_turn called states xid (Some error) =
+    option_and_then (λ state. request_turn (called (xid / 2 ^ 24)) xid error (xid / 2 ^ 24) state) (slice_get states (xid / 2 ^ 24))
+
+-- an entry that is gone, or an error
+abbrev pub turn_for : (ℕ → Called) → List Rule → List SliceState → List ℕ → Option Turn
+turn_for called rules states message =
+    if is_of FLOW_REMOVED message then removed_turn called rules states (well_formed (read_flow_removed message))
+    else if is_of ERROR message then error_turn called states (xid_of message) (well_formed (read_error message))
+    else None
+
+-- ---- all
+
+-- a message of the switch, for all slices
+abbrev pub message_told : (ℕ → Called) → List Rule → List (List ℕ) → List SliceState → List ℕ → List (ℕ × List ℕ)
+message_told called rules known states message =
+    if is_of PACKET_IN message then packet_in_told rules states message
+    else if is_of FLOW_REMOVED message then turn_told (turn_for called rules states message)
+    else if is_of ERROR message then turn_told (turn_for called rules states message)
+    else port_told rules states (status_kept known message)
 
 -- all that follows from a message
-abbrev pub carried_for : List Rule → List (List ℕ) → List SliceState → List ℕ → Carried
-carried_for rules known states message = record {
-  messages = message_told rules known states message;
+abbrev pub carried_for : (ℕ → Called) → List Rule → List (List ℕ) → List SliceState → List ℕ → Carried
+carried_for called rules known states message = record {
+  messages = message_told called rules known states message;
   replies = echo_for message;
+  changes = turn_changes (turn_for called rules states message);
   status = status_kept known message;
   ends = is_bad message;
 }

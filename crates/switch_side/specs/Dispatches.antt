@@ -1,5 +1,5 @@
 -- What follows from one message of a switch that has told what it is, for all slices at once (this proxy's own rule).
-use Rattle.std.specs.Prelude.{ℕ, ◌≡◌, ◌+◌, ◌||◌, Bool, List, [], ◌∷◌, ◌++◌, map, slice_get, Some}
+use Rattle.std.specs.Prelude.{ℕ, ◌≡◌, ◌+◌, List, [], ◌∷◌, ◌++◌, map, slice_get, Some}
 use Rattle.of10_ctl.specs.Frames.{is_bad}
 use Rattle.flowspace.specs.declared.slices.Slice.{Slice}
 use Rattle.flowspace.specs.Policies.{PolicyView, SwitchView}
@@ -9,10 +9,11 @@ use Rattle.desk_words.specs.declared.event.Event.TheVariants.{SwitchMsg}
 use Rattle.desk_words.specs.declared.event.Timed.{Timed}
 use Rattle.desk_words.specs.declared.phase.Phase.TheVariants.{Opened}
 use Rattle.desk_words.specs.Openings.{status_kept, rules_of, Switch}
-use Rattle.desk_words.specs.Histories.{settings_at, Side}
+use Rattle.desk_words.specs.Histories.{settings_at, items_of, Side}
 use Rattle.desk_words.specs.Sent.{sent_with, echo_for}
-use Rattle.desk_words.specs.Wants.{is_answered, is_port_kept}
+use Rattle.switch_side.specs.declared.change.Change.{Change}
 use Rattle.switch_side.specs.declared.dispatch.Dispatch.{Dispatch}
+use Rattle.switch_side.specs.Changes.{changes_for, SlotChanges}
 
 -- ---- where a message is answered
 
@@ -44,13 +45,15 @@ sent_from p switch sides timed slot (slice ∷ others) =
 abbrev pub told_at : ℕ → List ℕ → Timed
 told_at moment message = record { event = SwitchMsg message; moment = moment }
 
--- what follows from a message of the switch: what each slice is sent, what the switch is sent, the change of a port, and whether the switch's connection ends
+-- of these changes each slice's are what the message changes in its state
+abbrev pub AreChanges : PolicyView → Switch → (ℕ → Side) → ℕ → List ℕ → List (ℕ × Change) → Type 0
+AreChanges p switch sides moment message listed =
+    (slot : ℕ) → SlotChanges (settings_at p slot switch.features) (sides slot).sight (items_of p slot switch (sides slot) (told_at moment message)) (changes_for slot listed)
+
+-- what follows from a message of the switch: what each slice is sent, what the switch is sent, what changes in the slices' states, the change of a port, and whether the switch's connection ends
 pub record IsDispatch (p : PolicyView) (switch : Switch) (sides : ℕ → Side) (moment : ℕ) (message : List ℕ) (d : Dispatch) : Type 0 where
   pub to_slices : d.to_slices.items ≡ sent_from p switch sides (told_at moment message) 0 p.slices
   pub to_switch : d.to_switch.items ≡ echo_for message
+  pub changes : AreChanges p switch sides moment message d.changes.items
   pub port : d.port ≡ status_kept switch.known message
   pub close : d.close ≡ is_bad message
-
--- something follows from a message of the switch: something is sent, or the change of a port is kept
-abbrev pub has_dispatch : PolicyView → Switch → (ℕ → Side) → Timed → Bool
-has_dispatch p switch sides timed = is_answered p switch sides timed || is_port_kept switch timed.event

@@ -1,4 +1,4 @@
+pub mod Changes
 pub mod Dispatches
 pub mod Carrying
 pub mod Sharing
-pub mod Laws

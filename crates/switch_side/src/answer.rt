@@ -1,19 +1,23 @@
-ghost use Rattle.std.specs.Prelude.{ℕ, ◌≡◌, ◌≤◌, ◌∷◌, [], length, IsTrue, IfOk, OnErr};
-ghost use Rattle.of10_ctl.specs.declared.kind.TheConstants.{ECHO_REQUEST};
+ghost use Rattle.std.specs.Prelude.{ℕ, ◌≡◌, ◌≤◌, ◌∷◌, [], length, true, IfOk, IfSome};
+ghost use Rattle.of10_model.specs.Normal.{IsNormal};
+ghost use Rattle.of10_ctl.specs.declared.kind.TheConstants.{ECHO_REQUEST, FLOW_REMOVED};
 ghost use Rattle.of10_ctl.specs.Frames.{IsFrame, echo_reply_to};
-ghost use Rattle.of10_ctl.specs.Kinds.{IsOf};
+ghost use Rattle.of10_ctl.specs.Kinds.{IsOf, is_of};
+ghost use Rattle.of10_flow.specs.FlowRemoveds.{read_flow_removed};
 ghost use Rattle.flowspace.specs.Policies.{PolicyView};
-ghost use Rattle.desk_words.specs.Openings.{Switch};
+ghost use Rattle.desk_words.specs.Openings.{Switch, well_formed};
 ghost use Rattle.desk_words.specs.Histories.{Side};
-ghost use Rattle.switch_side.specs.Dispatches.{Surrounds, AllStand, IsDispatch, told_at, has_dispatch};
-ghost use Rattle.switch_side.specs.Carrying.{carried, telling, carried_for, carries_any};
+ghost use Rattle.switch_side.specs.Dispatches.{Surrounds, AllStand, IsDispatch};
+ghost use Rattle.switch_side.specs.Carrying.{carried, telling, Called, AllCalled, carried_for};
 
 use crate::dispatch::Dispatch;
+use crate::errors::error;
 use crate::packets::packet_in;
 use crate::ports::port_status;
+use crate::removals::flow_removed;
 use flow_book::SliceState;
 use flowspace::SwitchPolicy;
-use of10_ctl::kind::{ECHO_REQUEST, PACKET_IN, PORT_STATUS};
+use of10_ctl::kind::{ECHO_REQUEST, ERROR, FLOW_REMOVED, PACKET_IN, PORT_STATUS};
 use of10_ctl::{Frame, echo_reply};
 use port_view::PortView;
 use std::alloc::{AllocError, Global};
@@ -37,8 +41,8 @@ fn dispatch(
 ) -> Result<Dispatch, AllocError>
     requires few { length states.now ≤ 32 }
     requires frame { IsFrame frame.now }
-    ensures value { IfOk result (λ d. carried d ≡ carried_for policy.now.rules ports.now states.now frame.now) }
-    ensures memory { OnErr result (IsTrue (carries_any (carried_for policy.now.rules ports.now states.now frame.now))) }
+    ensures value { (called : ℕ → Called) → AllCalled called states.now → IfOk result (λ d. carried d ≡ carried_for called policy.now.rules ports.now states.now frame.now) }
+    ensures normal { is_of FLOW_REMOVED frame.now ≡ true → IfSome (well_formed (read_flow_removed frame.now)) (λ entry. IsNormal entry.pattern) }
 {
     if frame.bad_length() {
         Ok(Dispatch::closing(alloc))
@@ -46,6 +50,10 @@ fn dispatch(
         echo(alloc, frame)
     } else if frame.is_of(PACKET_IN) {
         packet_in(alloc, policy, states, frame)
+    } else if frame.is_of(FLOW_REMOVED) {
+        flow_removed(alloc, policy, states, frame)
+    } else if frame.is_of(ERROR) {
+        error(alloc, states, frame)
     } else if frame.is_of(PORT_STATUS) {
         port_status(alloc, policy, ports, states, frame)
     } else {
@@ -54,10 +62,9 @@ fn dispatch(
 }
 
 /// What follows from one message of a switch that has told what it is, with one state for each slice of the
-/// policy. Nothing is changed: `port` is still to be taken in by the known ports, and no state changes. A
-/// message whose length doesn't count its header ends the connection; one that isn't of version 1, isn't
-/// well formed, or says nothing to anybody, as a packet that is buffered or a probe, is dropped. Memory can
-/// be wanting only where there is a reply, a message for a slice, or a change of a port that is kept.
+/// policy. Nothing is changed here: `changes` are for `reserve` and `apply_all`, and `port` is for the known
+/// ports. A message whose length doesn't count its header ends the connection; one that isn't of version 1,
+/// isn't well formed, or says nothing to anybody, as a packet that is buffered or a probe, is dropped.
 pub fn react(
     alloc: Global,
     policy: &SwitchPolicy,
@@ -67,8 +74,6 @@ pub fn react(
 ) -> Result<Dispatch, AllocError>
     requires { length states.now ≡ length policy.now.slices }
     ensures dispatch { (p : PolicyView) (switch : Switch) (sides : ℕ → Side) (moment : ℕ) → Surrounds p switch policy.now ports.now → AllStand p switch sides states.now → IfOk result (IsDispatch p switch sides moment frame.now) }
-    ensures carries { OnErr result (IsTrue (carries_any (carried_for policy.now.rules ports.now states.now frame.now))) }
-    ensures memory { (p : PolicyView) (switch : Switch) (sides : ℕ → Side) (moment : ℕ) → Surrounds p switch policy.now ports.now → AllStand p switch sides states.now → OnErr result (IsTrue (has_dispatch p switch sides (told_at moment frame.now))) }
 {
     // A policy has at most 32 slices, and a frame at most 65,535 bytes.
     let (_slices, _bytes) = (policy.slices(), frame.as_slice());

@@ -1,6 +1,7 @@
-ghost use Rattle.std.specs.Prelude.{◌≡◌, [], ◌∷◌, true, None, IfOk};
-ghost use Rattle.switch_side.specs.Carrying.{carried, telling};
+ghost use Rattle.std.specs.Prelude.{◌≡◌, [], ◌∷◌, true, Some, None, IfOk, option_to_list};
+ghost use Rattle.switch_side.specs.Carrying.{carried, telling, turning};
 
+use crate::change::Change;
 use of10_ctl::Frame;
 use of10_port::PortStatus;
 use std::alloc::{AllocError, Global};
@@ -12,6 +13,8 @@ pub struct Dispatch {
     pub to_slices: Vec<(u8, Frame)>,
     /// Messages for the switch.
     pub to_switch: Vec<Frame>,
+    /// What changes in the states of slices, each with the slot of its slice; of a slice at most once.
+    pub changes: Vec<(u8, Change)>,
     /// What the switch told of one of its ports, where the known ports would keep it.
     pub port: Option<PortStatus>,
     /// Whether the switch's connection ends.
@@ -30,6 +33,7 @@ impl Dispatch {
         Dispatch {
             to_slices,
             to_switch: Vec::new(alloc),
+            changes: Vec::new(alloc),
             port,
             close: false,
         }
@@ -48,6 +52,23 @@ impl Dispatch {
     {
         let mut dispatch = Dispatch::nothing(alloc);
         dispatch.to_switch.push(reply)?;
+        Ok(dispatch)
+    }
+
+    /// What follows for the slice at a slot alone.
+    pub(crate) fn turning(
+        alloc: Global,
+        slot: u8,
+        message: Option<Frame>,
+        change: Change,
+    ) -> Result<Dispatch, AllocError>
+        ensures { IfOk result (λ d. carried d ≡ turning (Some (record { slot = slot; messages = option_to_list message; change = change }))) }
+    {
+        let mut dispatch = Dispatch::nothing(alloc);
+        if let Some(message) = message {
+            dispatch.to_slices.push((slot, message))?;
+        }
+        dispatch.changes.push((slot, change))?;
         Ok(dispatch)
     }
 

@@ -1,16 +1,18 @@
-//! What follows from a message of a switch that has told what it is: what each slice is sent, and what the
-//! switch is. Nothing is changed here.
+//! What follows from a message of a switch that has told what it is: what each slice is sent, what changes in
+//! the slices' states, and what the switch is.
 #![tactic(auto)]
 
 mod answer;
+mod applying;
+mod change;
 mod dispatch;
-pub mod laws;
+mod errors;
 mod packets;
 mod ports;
+mod removals;
 
 pub use answer::react;
+pub use applying::{apply, apply_all, reserve};
+pub use change::Change;
 pub use dispatch::Dispatch;
 pub use packets::is_plain;
-
-#[cfg(test)]
-mod tests;

@@ -1,13 +1,12 @@
 //! Packets that the switch hands up (OpenFlow 1.0.0, section 5.4.1).
 
-ghost use Rattle.std.specs.Prelude.{◌≡◌, ◌+◌, ◌≤◌, ◌++◌, [], ◌∷◌, length, IfOk, IsTrue, OnOk, OnErr, None};
+ghost use Rattle.std.specs.Prelude.{◌≡◌, ◌+◌, ◌≤◌, ◌++◌, [], ◌∷◌, length, IfOk, OnOk, None};
 ghost use Rattle.of10_model.specs.Normal.{is_value, bit};
 ghost use Rattle.of10_ctl.specs.declared.kind.TheConstants.{PACKET_IN};
 ghost use Rattle.of10_ctl.specs.Kinds.{IsOf};
 ghost use Rattle.of10_flow.specs.PacketIns.{packet_of, spell_packet_in};
 ghost use Rattle.flowspace.specs.Order.{writer_of, readers_of};
 ghost use Rattle.desk_words.specs.Histories.{is_plain};
-ghost use Rattle.slice_words.specs.Answers.{is_any};
 ghost use Rattle.switch_side.specs.Dispatches.{addressed};
 ghost use Rattle.switch_side.specs.Carrying.{carried, telling, packet_for, said_from, packet_told, packet_in_told};
 
@@ -87,7 +86,6 @@ fn put_for_slice(
 ) -> Result<(), AllocError>
     requires { 18 + length packet.now.payload.now ≤ 65535 }
     ensures value { OnOk result (to_slices.new.items ≡ to_slices.old.items ++ addressed slot (packet_for audience.now.writer audience.now.readers (spell_packet_in (packet_of packet.now)) slot state.now.up)) }
-    ensures memory { OnErr result (IsTrue (is_any (packet_for audience.now.writer audience.now.readers (spell_packet_in (packet_of packet.now)) slot state.now.up))) }
 {
     if !state.up {
         return Ok(());
@@ -110,7 +108,6 @@ fn put_for_all(
     requires few { length states.now ≤ 32 }
     requires fits { 18 + length packet.now.payload.now ≤ 65535 }
     ensures value { IfOk result (λ v. v.items ≡ said_from (packet_for audience.now.writer audience.now.readers (spell_packet_in (packet_of packet.now))) 0 states.now) }
-    ensures memory { OnErr result (IsTrue (is_any (said_from (packet_for audience.now.writer audience.now.readers (spell_packet_in (packet_of packet.now))) 0 states.now))) }
 {
     let mut to_slices = Vec::new(alloc);
     for (place, state) in states.iter().enumerate() {
@@ -137,7 +134,6 @@ fn handed(
     requires few { length states.now ≤ 32 }
     requires fits { 18 + length packet.now.payload.now ≤ 65535 }
     ensures value { IfOk result (λ v. v.items ≡ packet_told policy.now.rules states.now (packet_of packet.now)) }
-    ensures memory { OnErr result (IsTrue (is_any (packet_told policy.now.rules states.now (packet_of packet.now)))) }
 {
     if !is_plain(packet) {
         return Ok(Vec::new(alloc));
@@ -162,7 +158,6 @@ pub(crate) fn packet_in(
     requires kind { IsOf PACKET_IN frame.now }
     requires few { length states.now ≤ 32 }
     ensures value { IfOk result (λ d. carried d ≡ telling (packet_in_told policy.now.rules states.now frame.now) None) }
-    ensures memory { OnErr result (IsTrue (is_any (packet_in_told policy.now.rules states.now frame.now))) }
 {
     match PacketInView::decode(frame) {
         Ok(packet) => {

@@ -1,6 +1,6 @@
 //! Ports that come, go or change (OpenFlow 1.0.0, section 5.4.3).
 
-ghost use Rattle.std.specs.Prelude.{◌≡◌, ◌≤◌, ◌++◌, length, is_some, IfOk, IsTrue, OnOk, OnErr};
+ghost use Rattle.std.specs.Prelude.{◌≡◌, ◌≤◌, ◌++◌, length, IfOk, OnOk};
 ghost use Rattle.of10_ctl.specs.declared.kind.TheConstants.{PORT_STATUS};
 ghost use Rattle.of10_ctl.specs.Kinds.{IsOf};
 ghost use Rattle.of10_port.specs.PortStatus.{spell_port_status};
@@ -109,7 +109,6 @@ pub(crate) fn port_status(
     requires kind { IsOf PORT_STATUS frame.now }
     requires few { length states.now ≤ 32 }
     ensures value { IfOk result (λ d. carried d ≡ telling (port_told policy.now.rules states.now (status_kept ports.now frame.now)) (status_kept ports.now frame.now)) }
-    ensures memory { OnErr result (IsTrue (is_some (status_kept ports.now frame.now))) }
 {
     match kept(ports, frame) {
         None => Ok(Dispatch::nothing(alloc)),

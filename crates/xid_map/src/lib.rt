@@ -11,6 +11,3 @@ mod map;
 pub use asked::{AskKind, Asked, Issued};
 pub use collections::Collections;
 pub use map::XidMap;
-
-#[cfg(test)]
-mod tests;

@@ -1,6 +1,6 @@
 //! Policies that are accepted, and what is said of those that aren't.
 
-use super::{RULES, WEB_RULE, call, expect_answer, policy_of};
+use super::{ALICE, BOB, SHELL_RULE, WEB_RULE, call, expect_answer};
 use fv_base::{MemoryFiles, MemorySink};
 use std::alloc::Global;
 use std::process::Abort;
@@ -8,7 +8,7 @@ use std::test::Fail;
 
 /// Rules behind the slices, and what is said of the policy: its status, its output and its error line.
 const CASES: [(&[&str], u8, &str, &str); 13] = [
-    (RULES, 0, "ok 2 2\n", ""),
+    (&[WEB_RULE, SHELL_RULE], 0, "ok 2 2\n", ""),
     (&[], 0, "ok 2 0\n", ""),
     (
         &[WEB_RULE, "[[rule]]\npriority = 10\nread = [\"bob\"]\n"],
@@ -67,6 +67,15 @@ const CASES: [(&[&str], u8, &str, &str); 13] = [
         "policy: rule 0 improper read\n",
     ),
 ];
+
+/// The policy of the two slices with these rules.
+fn policy_of(alloc: Global, rules: &[&str]) -> Result<String, Fail> {
+    let mut text = [ALICE, BOB].concat(alloc)?;
+    for rule in rules {
+        text.push_str(rule)?;
+    }
+    Ok(text)
+}
 
 fn expect_check(
     rt: &impl Abort,

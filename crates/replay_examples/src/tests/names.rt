@@ -1,5 +1,6 @@
 //! Names for what stands in many lines.
 
+use super::entries::digits_of;
 use std::alloc::Global;
 use std::test::Fail;
 
@@ -13,6 +14,10 @@ const CHANGED_1: &str =
 const PORT_2: &str =
     "000200000000000000000000000000000000000000000000000000000000000000000000000000000000000000000000";
 
+/// Port 2 with another configuration: it isn't flooded.
+const QUIET_2: &str =
+    "000200000000000000000000000000000000000000000000000000100000000000000000000000000000000000000000";
+
 const PORT_3: &str =
     "000300000000000000000000000000000000000000000000000000000000000000000000000000000000000000000000";
 
@@ -25,6 +30,10 @@ const LOCAL_PORT: &str =
 /// What the switch says it is: a FEATURES_REPLY with four ports.
 const FEATURES: &str =
     "010600e0ff00000100000000000000a100000100010000000000000000000fff+PORT_1+PORT_2+PORT_3+LOCAL_PORT+";
+
+/// The same, but that port 2 isn't flooded.
+const QUIET_FEATURES: &str =
+    "010600e0ff00000100000000000000a100000100010000000000000000000fff+PORT_1+QUIET_2+PORT_3+LOCAL_PORT+";
 
 /// Another switch's features: one port is told of twice, and one number is reserved.
 const OTHER_FEATURES: &str =
@@ -72,10 +81,12 @@ fn named(piece: &str) -> &str {
         "PORT_1" => PORT_1,
         "CHANGED_1" => CHANGED_1,
         "PORT_2" => PORT_2,
+        "QUIET_2" => QUIET_2,
         "PORT_3" => PORT_3,
         "PORT_4" => PORT_4,
         "LOCAL_PORT" => LOCAL_PORT,
         "FEATURES" => FEATURES,
+        "QUIET_FEATURES" => QUIET_FEATURES,
         "OTHER_FEATURES" => OTHER_FEATURES,
         "TOLD" => TOLD,
         "WEB" => WEB,
@@ -84,14 +95,25 @@ fn named(piece: &str) -> &str {
         "OPENING" => OPENING,
         "CLEARING" => CLEARING,
         "OPENED" => OPENED,
-        other => other,
+        other => digits_of(other).unwrap_or(other),
     }
+}
+
+/// Appends what a piece stands for; `3*PORT_1` is three times what PORT_1 stands for.
+fn put_piece(out: &mut String, piece: &str) -> Result<(), Fail> {
+    let (count, name) = piece.split_once("*").unwrap_or(("1", piece));
+    let count = count.parse::<u32>().ok().ok_or("a piece has a count")?;
+    let text = named(name);
+    for _ in 0..count {
+        out.push_str(text)?;
+    }
+    Ok(())
 }
 
 fn with_names(alloc: Global, text: &str) -> Result<String, Fail> {
     let mut out = String::new(alloc);
     for piece in text.split('+') {
-        out.push_str(named(piece))?;
+        put_piece(&mut out, piece)?;
     }
     Ok(out)
 }

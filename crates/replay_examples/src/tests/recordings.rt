@@ -1,6 +1,6 @@
 //! Recordings that are refused or that need what isn't built.
 
-use super::RULES;
+use super::POLICY;
 use super::records::Cut;
 use super::tables::expect_cut;
 use std::alloc::Global;
@@ -65,8 +65,8 @@ const UNBUILT: &str = "\
 not built: type 13 at 296
 
 > opened
-> alice 010e000800000001
-not built: type 14 at 296
+> bob 010d00180000000100000007fffd00080000000800020000
+not built: type 13 at 296
 
 > opened
 > bob 0110000c0000000100030000
@@ -80,13 +80,14 @@ not built: type 18 at 296
 > alice 0114000c0000000100010000
 not built: type 20 at 296
 
+# Too short for any.
 > opened
-> switch 0101000c0000000100010006
-not built: type 1 at 296
+> alice 0110000800000001
+not built: type 16 at 296
 
 > opened
-> switch 010b000800000001
-not built: type 11 at 296
+> switch 0111000800000001
+not built: type 17 at 296
 
 > opened
 > switch 0111000c0000000100000000
@@ -134,12 +135,12 @@ not built: type 18 at 320
 # The switch has ended.
 > opened
 > switch 0103000700000001
-> alice 010e000800000002
-not built: type 14 at 320
+> alice 010d000800000002
+not built: type 13 at 320
 
-# Three messages in one record.
+# Four messages in one record, of which the first is built.
 > opened
-> bob 01020008000000010112000800000002010e000800000003
+> bob 010e000800000001011200080000000201100008000000030102000800000004
 not built: type 18 at 296
 
 # That of another switch begins earlier, and is completed later.
@@ -155,7 +156,7 @@ not built: type 18 at 330
 
 # A stream begins anew at its up.
 > opened
-> alice 010e
+> alice 0114
 > alice down
 > alice up
 > alice 0112000800000002
@@ -164,11 +165,11 @@ not built: type 18 at 346
 
 #[test]
 fn recordings_are_refused_with_the_place(rt: HostRuntime) -> Result<(), Fail> {
-    expect_cut(&rt, rt.alloc(), (RULES, 3, Cut::Whole), REFUSED)
+    expect_cut(&rt, rt.alloc(), (POLICY, 3, Cut::Whole), REFUSED)
 }
 
 #[test]
 fn what_is_not_built_is_named_with_the_place(rt: HostRuntime) -> Result<(), Fail> {
-    expect_cut(&rt, rt.alloc(), (RULES, 8, Cut::Whole), UNBUILT)?;
-    expect_cut(&rt, rt.alloc(), (RULES, 8, Cut::Whole), FIRST_UNBUILT)
+    expect_cut(&rt, rt.alloc(), (POLICY, 8, Cut::Whole), UNBUILT)?;
+    expect_cut(&rt, rt.alloc(), (POLICY, 8, Cut::Whole), FIRST_UNBUILT)
 }

@@ -1,7 +1,8 @@
 //! Recordings that are made of steps, each of which stands in a line of a test: `switch up`, `alice up`, what the
 //! switch or a slice's controller says, as digits, `bob down`; `opened`, where the switch connects and tells its
-//! features and both controllers connect; `at 3`, from which on the steps are of switch 3; `raw` and `file`, with
-//! the bytes of records, and of a file from its first byte on.
+//! features and both controllers connect; `at 3`, from which on the steps are of switch 3; `moment 1000`, from which
+//! on they come at that moment, in milliseconds; `raw` and `file`, with the bytes of records, and of a file from its
+//! first byte on.
 
 use super::MAGIC;
 use super::names::written_out;
@@ -20,34 +21,45 @@ pub(super) enum Cut {
 
 const OPENED: [&str; 4] = ["switch up", "switch +FEATURES", "alice up", "bob up"];
 
-/// Appends a record of this kind, switch and slot.
-pub(super) fn put_record(out: &mut Vec<u8>, about: [u8; 3], carried: &[u8]) -> Result<(), Fail> {
+/// Appends a record of this kind, switch and slot, and of this moment.
+pub(super) fn put_record(
+    out: &mut Vec<u8>,
+    about: [u8; 3],
+    moment: u64,
+    carried: &[u8],
+) -> Result<(), Fail> {
     let size = carried.len().min(u32::MAX as usize) as u32;
     out.extend_from_slice(&about)?;
     out.push(0)?;
     out.extend_from_slice(&size.to_be_bytes())?;
-    out.extend_from_slice(&[0; 8])?;
+    out.extend_from_slice(&moment.to_be_bytes())?;
     out.extend_from_slice(carried)?;
     Ok(())
 }
 
-/// A recording that is made, and the switch that is spoken of. It begins at switch 0.
+/// A recording that is made, the switch that is spoken of, and the moment. It begins at switch 0 and moment 0.
 #[derive(Drop)]
 pub(super) struct Maker {
     pub(super) bytes: Vec<u8>,
     switch: u8,
+    moment: u64,
     cut: Cut,
 }
 
 impl Maker {
     pub(super) fn new(alloc: Global, cut: Cut) -> Result<Maker, Fail> {
         let bytes = bytes(alloc, &[MAGIC])?;
-        let switch = 0;
-        Ok(Maker { bytes, switch, cut })
+        Ok(Maker {
+            bytes,
+            switch: 0,
+            moment: 0,
+            cut,
+        })
     }
 
     fn put_record(&mut self, kind: u8, slot: u8, carried: &[u8]) -> Result<(), Fail> {
-        put_record(&mut self.bytes, [kind, self.switch, slot], carried)
+        let about = [kind, self.switch, slot];
+        put_record(&mut self.bytes, about, self.moment, carried)
     }
 
     /// Bytes of a connection, in one record or in many.
@@ -79,6 +91,7 @@ impl Maker {
             "alice" => self.put_event(alloc, 3, 0, event)?,
             "bob" => self.put_event(alloc, 3, 1, event)?,
             "at" => self.switch = event.parse::<u8>().ok().ok_or("a switch has a number")?,
+            "moment" => self.moment = event.parse::<u64>().ok().ok_or("a moment is a number")?,
             "raw" => self.bytes.extend_from_slice(&bytes(alloc, &[event])?)?,
             "file" => self.bytes = bytes(alloc, &[event])?,
             _ => Err("nobody has this name")?,

@@ -3,7 +3,7 @@
 
 use super::records::Cut;
 use super::tables::expect_cut;
-use super::{RULES, SHELL_RULE, WEB_RULE};
+use super::{ALICE, BOB, POLICY, SHELL_RULE, WEB_RULE};
 use std::alloc::Global;
 use std::process::Abort;
 use std::test::Fail;
@@ -115,10 +115,10 @@ end 9
 # Another version, also of what isn't built in version 1.
 > opened
 > alice 0405000800000007
-> alice 000e000800000008
+> alice 0012000800000008
 OPENED
 4 0 to alice 0101001400000007000100000405000800000007
-5 0 to alice 010100140000000800010000000e000800000008
+5 0 to alice 0101001400000008000100000012000800000008
 end 6
 
 # Types that a controller doesn't send: FEATURES_REPLY, BARRIER_REPLY, 255.
@@ -392,8 +392,10 @@ OPENED
 end 13
 ";
 
-/// The rules of the others, but that alice has port 1 alone.
-const PORT_RULES: &[&str] = &[
+/// The policy of the others, but that alice has port 1 alone.
+pub(super) const PORT_POLICY: &[&str] = &[
+    ALICE,
+    BOB,
     "\
 [[rule]]
 priority = 100
@@ -448,7 +450,9 @@ end 9
 ";
 
 /// Each slice has packets of one switch alone, which its features tell.
-const SWITCH_RULES: &[&str] = &[
+const SWITCH_POLICY: &[&str] = &[
+    ALICE,
+    BOB,
     "\
 [[rule]]
 priority = 100
@@ -491,6 +495,8 @@ end 11
 
 /// Bob writes what alice reads.
 const SHARED: &[&str] = &[
+    ALICE,
+    BOB,
     "\
 [[rule]]
 priority = 100
@@ -513,7 +519,12 @@ end 5
 ";
 
 /// Bob reads what nobody writes.
-const WATCHED: &[&str] = &[WEB_RULE, "[[rule]]\npriority = 10\nread = [\"bob\"]\n"];
+const WATCHED: &[&str] = &[
+    ALICE,
+    BOB,
+    WEB_RULE,
+    "[[rule]]\npriority = 10\nread = [\"bob\"]\n",
+];
 
 /// A packet that nobody writes reaches its readers.
 const TO_READERS: &str = "\
@@ -527,20 +538,25 @@ end 6
 ";
 
 /// Each session of a table, with its records as they are and with a record for each byte.
-fn expect_reports(rt: &impl Abort, alloc: Global, rules: &[&str], table: &str) -> Result<(), Fail> {
-    expect_cut(rt, alloc, (rules, 0, Cut::Whole), table)?;
-    expect_cut(rt, alloc, (rules, 0, Cut::Bytes), table)
+pub(super) fn expect_reports(
+    rt: &impl Abort,
+    alloc: Global,
+    policy: &[&str],
+    table: &str,
+) -> Result<(), Fail> {
+    expect_cut(rt, alloc, (policy, 0, Cut::Whole), table)?;
+    expect_cut(rt, alloc, (policy, 0, Cut::Bytes), table)
 }
 
 #[test]
 fn sessions_are_reported_line_by_line(rt: HostRuntime) -> Result<(), Fail> {
     let alloc = rt.alloc();
-    expect_reports(&rt, alloc, RULES, SHORT)?;
-    expect_reports(&rt, alloc, RULES, REQUESTS)?;
-    expect_reports(&rt, alloc, RULES, CONNECTIONS)?;
-    expect_reports(&rt, alloc, RULES, SWITCHES)?;
-    expect_reports(&rt, alloc, PORT_RULES, PORTS)?;
-    expect_reports(&rt, alloc, SWITCH_RULES, ELSEWHERE)
+    expect_reports(&rt, alloc, POLICY, SHORT)?;
+    expect_reports(&rt, alloc, POLICY, REQUESTS)?;
+    expect_reports(&rt, alloc, POLICY, CONNECTIONS)?;
+    expect_reports(&rt, alloc, POLICY, SWITCHES)?;
+    expect_reports(&rt, alloc, PORT_POLICY, PORTS)?;
+    expect_reports(&rt, alloc, SWITCH_POLICY, ELSEWHERE)
 }
 
 #[test]

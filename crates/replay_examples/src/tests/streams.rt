@@ -2,7 +2,7 @@
 
 use super::names::written_out;
 use super::records::put_record;
-use super::{MAGIC, RULES, WEB_REPORT, expect_answer, play};
+use super::{MAGIC, POLICY, WEB_REPORT, expect_answer, play};
 use fv_base::MemorySink;
 use of10_ctl::{Framer, Next};
 use std::alloc::Global;
@@ -22,7 +22,7 @@ fn put_frames(
     for byte in &bytes(alloc, &[digits.as_str()])? {
         framer.feed(&[*byte])?;
         if let Next::Frame(frame) = framer.next()? {
-            put_record(out, [1, 0, 0], frame.as_slice())?;
+            put_record(out, [1, 0, 0], 0, frame.as_slice())?;
             frames = frames.saturating_add(1);
         }
     }
@@ -34,11 +34,11 @@ fn a_stream_cut_into_bytes_makes_the_same_report(rt: HostRuntime) -> Result<(), 
     let alloc = rt.alloc();
     let mut framer = Framer::new(alloc);
     let mut recording = bytes(alloc, &[MAGIC])?;
-    put_record(&mut recording, [0, 0, 0], &[])?;
+    put_record(&mut recording, [0, 0, 0], 0, &[])?;
     let frames = put_frames(alloc, &mut framer, &mut recording, "+FEATURES")?;
     assert_eq!(rt; frames, 1);
-    put_record(&mut recording, [3, 0, 0], &[])?;
-    put_record(&mut recording, [3, 0, 1], &[])?;
+    put_record(&mut recording, [3, 0, 0], 0, &[])?;
+    put_record(&mut recording, [3, 0, 1], 0, &[])?;
     let frames = put_frames(alloc, &mut framer, &mut recording, "+TO_WEB")?;
     assert_eq!(rt; frames, 1);
     assert!(rt;
@@ -46,7 +46,7 @@ fn a_stream_cut_into_bytes_makes_the_same_report(rt: HostRuntime) -> Result<(), 
         "no byte is left over"
     );
     let report = written_out(alloc, WEB_REPORT)?;
-    let answer = play(alloc, RULES, &recording, MemorySink::new(alloc))?;
+    let answer = play(alloc, POLICY, &recording, MemorySink::new(alloc))?;
     expect_answer(&rt, &answer, (0, report.as_str(), ""), "");
     Ok(())
 }

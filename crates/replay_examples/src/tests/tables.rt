@@ -51,11 +51,11 @@ impl Part {
         &self,
         rt: &impl Abort,
         alloc: Global,
-        rules: &[&str],
+        policy: &[&str],
         status: u8,
     ) -> Result<(), Fail> {
         let recording = self.recording.bytes.as_slice();
-        let answer = play(alloc, rules, recording, MemorySink::new(alloc))?;
+        let answer = play(alloc, policy, recording, MemorySink::new(alloc))?;
         let lines = self.lines.as_str();
         let (out, err) = if status == 0 {
             (lines, "")
@@ -67,22 +67,22 @@ impl Part {
     }
 }
 
-/// Each part of the table, replayed under these rules, with records that are cut in this way, ends with this
+/// Each part of the table, replayed under the policy of these pieces, with records that are cut in this way, ends with this
 /// status.
 pub(super) fn expect_cut(
     rt: &impl Abort,
     alloc: Global,
-    (rules, status, cut): (&[&str], u8, Cut),
+    (policy, status, cut): (&[&str], u8, Cut),
     table: &str,
 ) -> Result<(), Fail> {
     let mut part = Part::new(alloc, cut)?;
     for line in table.lines() {
         if line.is_empty() {
-            part.expect(rt, alloc, rules, status)?;
+            part.expect(rt, alloc, policy, status)?;
             part = Part::new(alloc, cut)?;
         } else {
             part.put_line(alloc, line)?;
         }
     }
-    part.expect(rt, alloc, rules, status)
+    part.expect(rt, alloc, policy, status)
 }

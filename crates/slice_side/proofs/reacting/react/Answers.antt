@@ -1,15 +1,24 @@
+use Rattle.std.proofs.Common.{sym, subst, ◌∙◌, Ok, Err}
+use Rattle.std.proofs.lemmas.Result.{IfOk-weaker}
+use Rattle.of10_message.specs.Controller.{read_controller}
+use Rattle.slice_words.specs.Pasts.{Answer}
 use Rattle.slice_words.specs.Standing.{past_of}
-use Rattle.std.proofs.Common.{◌∙◌}
-use Rattle.slice_side.proofs.Answering.{shown, to_slice, to_switch, closes}
+use Rattle.slice_side.specs.Reactions.{Follows}
+use Rattle.slice_side.proofs.Answering.{shown, reaction_of, asked_answer, unread_is}
 use Rattle.slice_side.proofs.reacting.react.Goals as goal
 
+pub returns-in-Err-clause-reaction : goal.returns-in-Err-clause-reaction
+returns-in-Err-clause-reaction c s sight stands sees = IfOk-weaker c.unread.result _ _
+    (λ r follows. reaction_of s sight c.args.frame.now c.args.moment r (Err c.in-Unread.found) sees.up
+    (unread_is c.in-Err.fault c.in-Unread.found (read_controller c.args.frame.now) c.in-Unread.is c.in-Err.ensures) follows) (c.unread.ensures.follows s.patterns)
+
+pub returns-then-asks_switch-clause-reaction : goal.returns-then-asks_switch-clause-reaction
+returns-then-asks_switch-clause-reaction c s sight stands sees = IfOk-weaker c.question.result _ _
+    (λ r follows. reaction_of s sight c.args.frame.now c.args.moment r (Ok c.in-Ok.message) sees.up c.in-Ok.ensures
+    (subst (λ (a : Answer). Follows s.patterns c.args.frame.now (Ok c.in-Ok.message) a c.args.moment r)
+    (asked_answer s sight.view (past_of s sight.view) c.args.moment c.args.frame.now c.in-Ok.message (sym c.asks_switch.ensures ∙ c.if-asks_switch.true)) follows)) (c.question.ensures.follows s sight stands sees)
+
 pub returns-clause-reaction : goal.returns-clause-reaction
-returns-clause-reaction c = λ s sight stands sees.
-    let view = sight.view in
-    let here = shown s sight c.args.state.now c.args.policy.now c.args.ports.now c.args.features.now c.args.slot stands sees in
-    record {
-      to_slice = to_slice s view c.args.frame.now c.args.moment c.in_ok-one.field-0.items sees.up (c.in_ok-one.ensures.value ∙ c.in_ok-reply.ensures.reply s view (past_of s view) c.args.moment here);
-      to_switch = to_switch s sight c.args.frame.now c.args.moment c.new.result.items sees.up c.new.ensures.items;
-      close = closes s view c.args.frame.now c.args.moment c.is_dismissing.result sees.up c.is_dismissing.ensures;
-      change = c.change_for.ensures;
-    }
+returns-clause-reaction c s sight stands sees = IfOk-weaker c.local.result _ _
+    (λ r follows. reaction_of s sight c.args.frame.now c.args.moment r (Ok c.in-Ok.message) sees.up c.in-Ok.ensures follows)
+    (c.local.ensures.follows s sight.view (past_of s sight.view) s.patterns (shown s sight c.args.state.now c.args.policy.now c.args.ports.now c.args.features.now c.args.slot stands sees))

@@ -1,8 +1,6 @@
-use Rattle.std.proofs.lemmas.Result.{IfOk-weaker, on_err_weaker}
+use Rattle.std.proofs.lemmas.Result.{IfOk-weaker}
 use Rattle.desk_words.specs.declared.event.Event.TheVariants.{SwitchUp, SwitchMsg, SwitchDown, SliceUp, SliceMsg, SliceDown}
 use Rattle.proxy_core.proofs.Switched.{at_event}
-use Rattle.of10_ctl.proofs.Standing.{on_err}
-use Rattle.proxy_core.proofs.Wanting.{at_wants, greeting_wants}
 use Rattle.proxy_core.proofs.parts.Desk.act.Goals as goal
 
 pub returns-in-SwitchUp-clause-ok : goal.returns-in-SwitchUp-clause-ok
@@ -28,16 +26,3 @@ returns-in-SliceMsg-clause-ok c = IfOk-weaker c.hear_slice.result _ _
 pub returns-in-SliceDown-clause-ok : goal.returns-in-SliceDown-clause-ok
 returns-in-SliceDown-clause-ok c =
     at_event c.args.self.now c.lose_slice.new.self c.args.timed (SliceDown c.in-SliceDown.slot) c.lose_slice.result c.in-SliceDown.is (c.lose_slice.ensures.acts c.args.timed.moment)
-
-pub returns-in-SwitchUp-clause-memory : goal.returns-in-SwitchUp-clause-memory
-returns-in-SwitchUp-clause-memory c = on_err c.greet.result (at_wants c.args.self.now c.args.timed SwitchUp c.in-SwitchUp.is (greeting_wants c.args.self.now c.args.timed.moment))
-
-pub returns-in-SwitchMsg-clause-memory : goal.returns-in-SwitchMsg-clause-memory
-returns-in-SwitchMsg-clause-memory c = on_err_weaker c.hear_switch.result (λ wants. at_wants c.args.self.now c.args.timed (SwitchMsg c.in-SwitchMsg.frame) c.in-SwitchMsg.is (wants c.args.timed.moment)) c.hear_switch.ensures.memory
-
-pub returns-in-SliceUp-clause-memory : goal.returns-in-SliceUp-clause-memory
-returns-in-SliceUp-clause-memory c = on_err_weaker c.greet_slice.result (λ wants. at_wants c.args.self.now c.args.timed (SliceUp c.in-SliceUp.slot) c.in-SliceUp.is (wants c.args.timed.moment)) c.greet_slice.ensures.memory
-
-pub returns-in-SliceMsg-clause-memory : goal.returns-in-SliceMsg-clause-memory
-returns-in-SliceMsg-clause-memory c =
-    on_err_weaker c.hear_slice.result (at_wants c.args.self.now c.args.timed (SliceMsg c.in-SliceMsg.slot c.in-SliceMsg.frame) c.in-SliceMsg.is) c.hear_slice.ensures.memory

@@ -3,7 +3,6 @@ use Rattle.std.proofs.lemmas.Result.{on_err_weaker}
 use Rattle.proxy_core.proofs.Events.{none_up}
 use Rattle.proxy_core.proofs.Sliced.{came, stays_kept}
 use Rattle.proxy_core.proofs.Switched.{ok_both}
-use Rattle.proxy_core.proofs.Wanting.{up_wants}
 use Rattle.proxy_core.proofs.parts.Desk.greet_slice.Goals as goal
 
 pub returns-in-Some-clause-ok : goal.returns-in-Some-clause-ok
@@ -16,6 +15,3 @@ returns-in-Some-clause-err c = on_err_weaker c.come.result
 
 pub returns-in-None-clause-ok : goal.returns-in-None-clause-ok
 returns-in-None-clause-ok c moment = none_up c.args.self.now c.args.slot moment c.in-None.is
-
-pub returns-in-Some-clause-memory : goal.returns-in-Some-clause-memory
-returns-in-Some-clause-memory c = on_err_weaker c.come.result (up_wants c.args.self.now c.in-Some.session c.args.slot c.in-Some.is) c.come.ensures.memory

@@ -2,7 +2,6 @@ use Rattle.std.proofs.Common.{refl}
 use Rattle.proxy_core.proofs.Events.{none_msg}
 use Rattle.proxy_core.proofs.Sliced.{heard, stays_kept}
 use Rattle.proxy_core.proofs.Switched.{ok_both, err_both}
-use Rattle.proxy_core.proofs.Wanting.{heard_wants}
 use Rattle.proxy_core.proofs.parts.Desk.hear_slice.Goals as goal
 
 pub returns-in-Some-clause-ok : goal.returns-in-Some-clause-ok
@@ -15,7 +14,3 @@ returns-in-Some-clause-err c = err_both c.hear.result
 
 pub returns-in-None-clause-ok : goal.returns-in-None-clause-ok
 returns-in-None-clause-ok c = none_msg c.args.self.now c.args.slot c.args.moment c.args.frame.now c.in-None.is
-
-pub returns-in-Some-clause-memory : goal.returns-in-Some-clause-memory
-returns-in-Some-clause-memory c = err_both c.hear.result
-    (λ up effect. heard_wants c.args.self.now c.in-Some.session c.args.slot c.args.moment c.args.frame.now c.in-Some.is up effect) c.hear.ensures.memory c.hear.ensures.effect

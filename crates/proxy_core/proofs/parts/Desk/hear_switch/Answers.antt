@@ -1,10 +1,9 @@
 use Rattle.std.proofs.Common.{refl, inl, inr}
-use Rattle.std.proofs.lemmas.Result.{IfOk-weaker, on_err_weaker}
+use Rattle.std.proofs.lemmas.Result.{IfOk-weaker}
 use Rattle.desk_words.specs.declared.event.Event.TheVariants.{SwitchMsg}
 use Rattle.desk_words.specs.declared.phase.Phase.TheVariants.{Begun, Opened}
 use Rattle.proxy_core.proofs.Events.{fresh_idle}
 use Rattle.proxy_core.proofs.Switched.{acts_of, ended_never}
-use Rattle.proxy_core.proofs.Wanting.{begun_wants}
 use Rattle.proxy_core.proofs.parts.Desk.hear_switch.Goals as goal
 
 pub returns-in-Begun-clause-ok : goal.returns-in-Begun-clause-ok
@@ -20,6 +19,3 @@ returns-in-Fresh-clause-ok c moment = elim c.in-Fresh.is [
   | inl is ↦ fresh_idle c.args.self.now (SwitchMsg c.args.frame.now) moment is refl
   | inr is ↦ ended_never c.args.self.now c.args.self.now (record { event = SwitchMsg c.args.frame.now; moment = moment }) _ is
 ]
-
-pub returns-in-Begun-clause-memory : goal.returns-in-Begun-clause-memory
-returns-in-Begun-clause-memory c = on_err_weaker c.hear_first.result (begun_wants c.args.self.now c.args.frame.now c.in-Begun.is) c.hear_first.ensures.memory

@@ -1,8 +1,7 @@
 use Rattle.std.proofs.Common.{refl}
-use Rattle.std.proofs.lemmas.Result.{IfOk-weaker, on_err_weaker}
+use Rattle.std.proofs.lemmas.Result.{IfOk-weaker}
 use Rattle.proxy_core.proofs.Sliced.{stays_on}
 use Rattle.proxy_core.proofs.Switched.{passes_on, err_both}
-use Rattle.proxy_core.proofs.Wanting.{passed_wants}
 use Rattle.proxy_core.proofs.parts.Desk.pass_on.Goals as goal
 
 pub returns-in-Some-clause-ok : goal.returns-in-Some-clause-ok
@@ -12,6 +11,3 @@ returns-in-Some-clause-ok c = IfOk-weaker c.hear_switch.result _ _
 pub returns-in-Some-clause-err : goal.returns-in-Some-clause-err
 returns-in-Some-clause-err c = err_both c.hear_switch.result
     (λ on lane. stays_on c.args.self.now _ c.in-Some.session c.hear_switch.new.self c.in-Some.is refl refl lane refl on) c.hear_switch.ensures.err c.hear_switch.ensures.lane
-
-pub returns-in-Some-clause-memory : goal.returns-in-Some-clause-memory
-returns-in-Some-clause-memory c = on_err_weaker c.hear_switch.result (passed_wants c.args.self.now c.in-Some.session c.args.frame.now c.in-Some.is) c.hear_switch.ensures.memory

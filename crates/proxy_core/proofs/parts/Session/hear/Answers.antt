@@ -1,9 +1,7 @@
-use Rattle.std.proofs.Common.{refl, sym, subst, ◌∙◌}
+use Rattle.std.proofs.Common.{refl, sym, ◌∙◌}
 use Rattle.std.proofs.lemmas.Result.{on_err_weaker, IfOk-weaker}
-use Rattle.flow_book.specs.declared.state.SliceState.{SliceState}
-use Rattle.proxy_core.specs.Slots.{HasEffect, Keeps, Hears}
-use Rattle.proxy_core.proofs.Rooms.{placed_here, state_read, there_up}
-use Rattle.of10_ctl.proofs.Standing.{on_err}
+use Rattle.proxy_core.specs.Slots.{Keeps, Hears}
+use Rattle.proxy_core.proofs.Rooms.{placed_here, there_up}
 use Rattle.proxy_core.proofs.parts.Session.hear.Goals as goal
 
 pub returns-clause-err : goal.returns-clause-err
@@ -18,13 +16,3 @@ returns-clause-up c =
     let there = there_up old c.args.slot (sym c.is_up.ensures ∙ c.if-not-is_up.false) in
     IfOk-weaker c.hear.result _ _ (λ on hears up. placed_here c.args.slot c.from-at.result (λ a b x y. Hears old.policy old.ports old.features c.args.slot c.args.frame.now c.args.moment on a b c.args.lane.now x y c.hear.new.lane) old _
     c.index_mut.result.now c.hear.new.state c.index_mut-2.result.now c.hear.new.queue c.from-at.ensures there refl refl refl refl refl c.index_mut.ensures.value c.index_mut-2.ensures.value hears) c.hear.ensures.ok
-
-pub returns-clause-memory : goal.returns-clause-memory
-returns-clause-memory c = on_err c.hear.result (sym c.is_up.ensures ∙ c.if-not-is_up.false)
-
-pub returns-clause-effect : goal.returns-clause-effect
-returns-clause-effect c =
-    let old = c.args.self.now in
-    let there = there_up old c.args.slot (sym c.is_up.ensures ∙ c.if-not-is_up.false) in
-    on_err_weaker c.hear.result (λ effect state at. subst (λ (k : SliceState). HasEffect old.policy old.ports old.features c.args.slot c.args.frame.now c.args.moment k)
-    (state_read c.args.slot c.from-at.result old c.index_mut.result.now c.from-at.ensures there c.index_mut.ensures.value state at) effect) c.hear.ensures.memory

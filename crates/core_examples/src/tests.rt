@@ -1,0 +1,3 @@
+mod desks;
+mod slices;
+mod switches;

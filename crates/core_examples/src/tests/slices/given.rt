@@ -1,0 +1,18 @@
+//! States for the tests.
+
+use flow_book::SliceState;
+use flowspace::SwitchPolicy;
+use slice_side::come_up;
+use std::alloc::{AllocError, Global};
+
+/// The state of a slice whose controller has connected.
+pub fn state_up(alloc: Global, policy: &SwitchPolicy, slot: u8) -> Result<SliceState, AllocError> {
+    match policy.slices().get(usize::from(slot)) {
+        Some(slice) if slice.burst >= 1 => {
+            let mut state = SliceState::new(alloc, slot, slice)?;
+            come_up(&mut state);
+            Ok(state)
+        }
+        _ => Err(AllocError),
+    }
+}

@@ -1,0 +1,5 @@
+pub mod Reading
+pub mod Forwarded
+pub mod Own
+pub mod Sent
+pub mod Whole

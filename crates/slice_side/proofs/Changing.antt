@@ -1,0 +1,282 @@
+-- What a message of a slice makes of the calls of the parts of its state.
+use Rattle.std.proofs.Common.{◌≡◌, ℕ, ◌&&◌, Bool, true, false, if◌then◌else◌, List, [], ◌∷◌, ◌++◌, max, map, refl, sym, ap, ap₂, ◌∙◌, subst, Option, Some, None, is_some, unwrap_or, true≢false, Ok, Err}
+use Rattle.of10_message.specs.declared.controller.FromController.TheVariants as said
+use Rattle.of10_message.specs.Controller.{read_controller}
+use Rattle.xid_map.specs.Requests.{RequestCall, Issue, Forget, Requests, RequestsStand, issued}
+use Rattle.xid_map.specs.Collections.{CollectionCall, EndAll, CollectionsStand}
+use Rattle.rate_bucket.specs.Rates.{Bucket, BucketStands}
+use Rattle.flow_book.specs.Books.{BookCall, Added, Book, BookStands}
+use Rattle.flow_book.specs.declared.state.SliceState.{SliceState}
+use Rattle.slice_words.specs.Messages.{Reading, ends_connection, is_dismissing, length_wanted, length_set, asks_switch, is_question, asked_of}
+use Rattle.slice_words.specs.Items.{Settings, Sight, Item, Msg, is_up, latest}
+use Rattle.slice_words.specs.Pasts.{Answer, Past, view_in, is_any, silence}
+use Rattle.slice_words.specs.Calls.{request_calls, collection_calls, questions, bookings, book_calls}
+use Rattle.slice_words.specs.Answers.{answer, message_answer}
+use Rattle.slice_words.specs.Alone.{Answering, played, answer_to}
+use Rattle.slice_words.specs.Standing.{SliceStands, past_of}
+use Rattle.slice_words.proofs.AnswerKinds.{message_holds}
+use Rattle.of10_flow.specs.declared.flow_mod.FlowMod.{FlowMod}
+use Rattle.of10_flow.specs.declared.protocol.TheConstants.{SEND_FLOW_REM}
+use Rattle.of10_flow.specs.Tables.{has_flag}
+use Rattle.flowmod_expand.specs.Pieces.{pieces_within}
+use Rattle.xid_map.specs.declared.asked.Asked.{Asked}
+use Rattle.slice_side.specs.declared.change.Change.TheVariants.{Heard, Set, Dismissed, Rated, Modified}
+use Rattle.slice_side.specs.declared.change.Modification.{Modification}
+use Rattle.slice_side.specs.Reactions.{IsChange, with_item}
+
+-- ---- readings
+
+none_some : {n : ℕ} → None ≡ Some n → ⊥
+none_some e = true≢false (sym (ap is_some e))
+
+-- what sets a length neither ends a connection nor asks anything
+pub set_is_plain : (read : Reading) (wanted : ℕ) → length_wanted read ≡ Some wanted → (ends_connection read ≡ false) × (asks_switch read ≡ false)
+set_is_plain (Ok said.Hello) wanted is = (refl, refl)
+set_is_plain (Ok said.Error) wanted is = (refl, refl)
+set_is_plain (Ok said.EchoRequest) wanted is = (refl, refl)
+set_is_plain (Ok said.EchoReply) wanted is = (refl, refl)
+set_is_plain (Ok said.Vendor) wanted is = (refl, refl)
+set_is_plain (Ok said.FeaturesRequest) wanted is = (refl, refl)
+set_is_plain (Ok said.GetConfigRequest) wanted is = (refl, refl)
+set_is_plain (Ok (said.SetConfig config)) wanted is = (refl, refl)
+set_is_plain (Ok (said.PacketOut m)) wanted is = absurd (none_some is)
+set_is_plain (Ok (said.FlowMod m)) wanted is = absurd (none_some is)
+set_is_plain (Ok said.PortMod) wanted is = (refl, refl)
+set_is_plain (Ok (said.StatsRequest request)) wanted is = absurd (none_some is)
+set_is_plain (Ok said.BarrierRequest) wanted is = absurd (none_some is)
+set_is_plain (Ok (said.QueueGetConfigRequest port)) wanted is = absurd (none_some is)
+set_is_plain (Err fault) wanted is = absurd (none_some is)
+
+-- what asks something neither ends a connection nor sets a length
+pub question_is_plain : (read : Reading) → asks_switch read ≡ true → (ends_connection read ≡ false) × (length_wanted read ≡ None)
+question_is_plain (Ok (said.PacketOut m)) is = (refl, refl)
+question_is_plain (Ok (said.FlowMod m)) is = (refl, refl)
+question_is_plain (Ok (said.StatsRequest request)) is = (refl, refl)
+question_is_plain (Ok said.BarrierRequest) is = (refl, refl)
+question_is_plain (Ok (said.QueueGetConfigRequest port)) is = (refl, refl)
+question_is_plain (Ok said.Hello) is = absurd (true≢false (sym is))
+question_is_plain (Ok said.Error) is = absurd (true≢false (sym is))
+question_is_plain (Ok said.EchoRequest) is = absurd (true≢false (sym is))
+question_is_plain (Ok said.EchoReply) is = absurd (true≢false (sym is))
+question_is_plain (Ok said.Vendor) is = absurd (true≢false (sym is))
+question_is_plain (Ok said.FeaturesRequest) is = absurd (true≢false (sym is))
+question_is_plain (Ok said.GetConfigRequest) is = absurd (true≢false (sym is))
+question_is_plain (Ok (said.SetConfig config)) is = absurd (true≢false (sym is))
+question_is_plain (Ok said.PortMod) is = absurd (true≢false (sym is))
+question_is_plain (Err fault) is = absurd (true≢false (sym is))
+
+-- what ends a connection asks nothing
+pub ending_is_plain : (read : Reading) → ends_connection read ≡ true → (asks_switch read ≡ false) × (length_wanted read ≡ None)
+ending_is_plain (Ok message) is = absurd (true≢false (sym is))
+ending_is_plain (Err fault) is = (refl, refl)
+
+-- ---- what is sent on
+
+unasked : (s : Settings) (view : List Item) (past : List Past) (moment : ℕ) (message : List ℕ) → is_question message ≡ false → (message_answer s view past moment message).to_switch ≡ []
+unasked s view past moment message none =
+    message_holds (λ (ends_ : Bool) (a : Answer). a.to_switch ≡ []) s view past moment message (record {
+      bad = refl;
+      old = refl;
+      nothing = refl;
+      refuses = λ fault. refl;
+      echoes = refl;
+      tells_features = λ features. refl;
+      tells_configuration = refl;
+      forwards = λ m read fault. absurd (true≢false (ap asks_switch (sym read) ∙ none));
+    })
+
+by_up : (up : Bool) (a : Answer) → a.to_switch ≡ [] → (if up then a else silence).to_switch ≡ []
+by_up true a none = none
+by_up false a none = refl
+
+-- for a message that asks nothing, nothing is sent on
+pub sends_nothing : (s : Settings) (view : List Item) (moment : ℕ) (message : List ℕ) → is_question message ≡ false → is_any (answer_to s view (Msg message moment)).to_switch ≡ false
+sends_nothing s view moment message none = ap is_any (by_up (is_up view) _ (unasked s view (past_of s view) moment message none))
+
+-- ---- the calls
+
+pub view_in-played : (answering : Answering) (view : List Item) → view_in (played answering view) ≡ view
+view_in-played answering [] = refl
+view_in-played answering (item ∷ view) = ap (λ (items : List Item). item ∷ items) (view_in-played answering view)
+
+-- what a message does: it ends its connection, asks the rate, has something sent on, and sets a length
+pub record Does (s : Settings) (view : List Item) (message : List ℕ) (moment : ℕ) (ends asks sends : Bool) (set : Option ℕ) : Type 0 where
+  pub ending : is_dismissing message ≡ ends
+  pub asking : (is_up view && is_question message) ≡ asks
+  pub sending : is_any (answer_to s view (Msg message moment)).to_switch ≡ sends
+  pub setting : length_set message ≡ set
+
+abbrev requests_made : Bool → Bool → List ℕ → List RequestCall → List RequestCall
+requests_made ends sends message calls = (if ends then Forget ∷ [] else if sends then Issue (asked_of (read_controller message) message) ∷ [] else []) ++ calls
+
+abbrev collections_made : Bool → List CollectionCall → List CollectionCall
+collections_made ends calls = if ends then EndAll ∷ calls else calls
+
+abbrev questions_made : Bool → ℕ → List ℕ → List ℕ
+questions_made asks at asked = if asks then at ∷ asked else asked
+
+abbrev bookings_made : Bool → Settings → ℕ → List ℕ → List BookCall → List BookCall
+bookings_made sends s number message calls = (if sends then bookings s number (read_controller message) else []) ++ calls
+
+-- a state with these changes belongs to what the slice sees with the message
+pub record Changed (s : Settings) (view : List Item) (message : List ℕ) (moment : ℕ) (ends asks sends : Bool) (set : Option ℕ) (old new : SliceState) : Type 0 where
+  pub moment_is : new.moment ≡ max moment (latest view)
+  pub up_is : new.up ≡ (if ends then false else is_up view)
+  pub length_is : new.miss_send_len ≡ (if ends then 128 else unwrap_or set old.miss_send_len)
+  pub requests : RequestsStand s.slot (requests_made ends sends message (request_calls s (past_of s view))) new.xids
+  pub collections : CollectionsStand (collections_made ends (collection_calls (past_of s view))) new.collections
+  pub bucket : BucketStands (questions_made asks (max moment (latest view)) (questions (past_of s view))) new.bucket
+  pub rate : new.bucket.rate ≡ old.bucket.rate
+  pub burst : new.bucket.burst ≡ old.bucket.burst
+  pub book : BookStands (bookings_made sends s (issued (request_calls s (past_of s view))) message (book_calls s (past_of s view))) new.book
+
+questions_with : (s : Settings) (view : List Item) (message : List ℕ) (moment : ℕ) (asks : Bool) → (is_up view && is_question message) ≡ asks
+    → questions (past_of s (Msg message moment ∷ view)) ≡ questions_made asks (max moment (latest view)) (questions (past_of s view))
+questions_with s view message moment asks is =
+    ap (λ (items : List Item). if is_up items && is_question message then max moment (latest items) ∷ questions (past_of s view) else questions (past_of s view)) (view_in-played (answer s) view)
+    ∙ rw is refl
+
+collections_with : (ends : Bool) (now : Past) (before : List Past) → collections_made ends (map (λ (p : Past). EndAll) before) ≡ map (λ (p : Past). EndAll) (if ends then now ∷ before else before)
+collections_with true now before = refl
+collections_with false now before = refl
+
+pub stands_with : (s : Settings) (sight : Sight) (message : List ℕ) (moment : ℕ) (ends asks sends : Bool) (set : Option ℕ) (old new : SliceState)
+    → Does s sight.view message moment ends asks sends set → SliceStands s sight old → Changed s sight.view message moment ends asks sends set old new
+    → SliceStands s (with_item (Msg message moment) sight) new
+stands_with s sight message moment ends asks sends set old new does stands changed = record {
+  up = changed.up_is ∙ rw does.ending refl;
+  miss_send_len = changed.length_is ∙ rw (does.ending, does.setting, stands.miss_send_len) refl;
+  moment = changed.moment_is;
+  requests = subst (λ (calls : List RequestCall). RequestsStand s.slot calls new.xids) (rw (does.ending, does.sending) refl) changed.requests;
+  collections = subst (λ (calls : List CollectionCall). CollectionsStand calls new.collections) (rw does.ending (collections_with ends _ _)) changed.collections;
+  bucket = subst (λ (asked : List ℕ). BucketStands asked new.bucket) (sym (questions_with s sight.view message moment asks does.asking)) changed.bucket;
+  book = subst (λ (calls : List BookCall). BookStands calls new.book) (rw does.sending refl) changed.book;
+  rate = changed.rate ∙ stands.rate;
+  burst = changed.burst ∙ stands.burst;
+}
+
+-- ---- the changes, one after the other
+
+no_and : (b q : Bool) → q ≡ false → (b && q) ≡ false
+no_and true q none = none
+no_and false q none = refl
+
+both_true : (b q : Bool) → b ≡ true → q ≡ true → (b && q) ≡ true
+both_true b q first second = rw (first, second) refl
+
+pub heard : (s : Settings) (sight : Sight) (item : Item) (t m : ℕ) (old : SliceState) → m ≡ max t old.moment → SliceStands s sight old → IsChange s sight item (Heard t)
+    → SliceStands s (with_item item sight) (record old { moment = m })
+heard s sight (Msg message moment) t m old at stands is =
+    let facts = is.1 in
+    stands_with s sight message moment false false false None old (record old { moment = m })
+    (record { ending = facts.0; asking = no_and (is_up sight.view) (is_question message) facts.2; sending = sends_nothing s sight.view moment message facts.2; setting = facts.1 })
+    stands
+    (record { moment_is = at ∙ ap₂ max facts.3 stands.moment; up_is = stands.up; length_is = refl; requests = stands.requests; collections = stands.collections; bucket = stands.bucket; rate = refl; burst = refl; book = stands.book })
+heard s sight item t m old at stands is = absurd is
+
+pub set : (s : Settings) (sight : Sight) (item : Item) (t wanted m : ℕ) (old : SliceState) → m ≡ max t old.moment → SliceStands s sight old → IsChange s sight item (Set t wanted)
+    → SliceStands s (with_item item sight) (record old { moment = m; miss_send_len = wanted })
+set s sight (Msg message moment) t wanted m old at stands is =
+    let facts = is.1 in
+    let plain = set_is_plain (read_controller message) wanted facts.0 in
+    stands_with s sight message moment false false false (Some wanted) old (record old { moment = m; miss_send_len = wanted })
+    (record { ending = plain.0; asking = no_and (is_up sight.view) (is_question message) plain.1; sending = sends_nothing s sight.view moment message plain.1; setting = facts.0 })
+    stands
+    (record { moment_is = at ∙ ap₂ max facts.1 stands.moment; up_is = stands.up; length_is = refl; requests = stands.requests; collections = stands.collections; bucket = stands.bucket; rate = refl; burst = refl; book = stands.book })
+set s sight item t wanted m old at stands is = absurd is
+
+-- a state that forgot what belongs to one connection
+pub record Forgot (old new : SliceState) : Type 0 where
+  pub requests : (slot : ℕ) (calls : List RequestCall) → RequestsStand slot calls old.xids → RequestsStand slot (Forget ∷ calls) new.xids
+  pub collections : (calls : List CollectionCall) → CollectionsStand calls old.collections → CollectionsStand (EndAll ∷ calls) new.collections
+  pub length_is : new.miss_send_len ≡ 128
+  pub same_bucket : new.bucket ≡ old.bucket
+  pub same_book : new.book ≡ old.book
+  pub same_moment : new.moment ≡ old.moment
+
+pub dismissed : (s : Settings) (sight : Sight) (item : Item) (t m : ℕ) (old new : SliceState) → m ≡ max t old.moment → Forgot (record old { moment = m }) new → SliceStands s sight old → IsChange s sight item (Dismissed t)
+    → SliceStands s (with_item item sight) (record new { up = false })
+dismissed s sight (Msg message moment) t m old new at forgot stands is =
+    let facts = is.1 in
+    let plain = ending_is_plain (read_controller message) facts.0 in
+    stands_with s sight message moment true false false None old (record new { up = false })
+    (record { ending = facts.0; asking = no_and (is_up sight.view) (is_question message) plain.0; sending = sends_nothing s sight.view moment message plain.0; setting = plain.1 })
+    stands
+    (record {
+      moment_is = forgot.same_moment ∙ at ∙ ap₂ max facts.1 stands.moment;
+      up_is = refl;
+      length_is = forgot.length_is;
+      requests = forgot.requests s.slot (request_calls s (past_of s sight.view)) stands.requests;
+      collections = forgot.collections (collection_calls (past_of s sight.view)) stands.collections;
+      bucket = subst (λ bucket. BucketStands (questions (past_of s sight.view)) bucket) (sym forgot.same_bucket) stands.bucket;
+      rate = ap (λ bucket. bucket.rate) forgot.same_bucket;
+      burst = ap (λ bucket. bucket.burst) forgot.same_bucket;
+      book = subst (λ book. BookStands (book_calls s (past_of s sight.view)) book) (sym forgot.same_book) stands.book;
+    })
+dismissed s sight item t m old new at forgot stands is = absurd is
+
+-- a bucket that was asked at a moment
+pub record Asks (m : ℕ) (old new : Bucket) : Type 0 where
+  pub stands : (asked : List ℕ) → BucketStands asked old → BucketStands (m ∷ asked) new
+  pub rate : new.rate ≡ old.rate
+  pub burst : new.burst ≡ old.burst
+
+pub rated : (s : Settings) (sight : Sight) (item : Item) (t m : ℕ) (old : SliceState) (bucket : Bucket) → m ≡ max t old.moment → Asks m old.bucket bucket → SliceStands s sight old → IsChange s sight item (Rated t)
+    → SliceStands s (with_item item sight) (record old { moment = m; bucket = bucket })
+rated s sight (Msg message moment) t m old bucket at asks stands is =
+    let facts = is.1 in
+    let plain = question_is_plain (read_controller message) facts.0 in
+    let now : m ≡ max moment (latest sight.view) = at ∙ ap₂ max facts.2 stands.moment in
+    stands_with s sight message moment false true false None old (record old { moment = m; bucket = bucket })
+    (record { ending = plain.0; asking = both_true (is_up sight.view) (is_question message) is.0 facts.0; sending = facts.1; setting = plain.1 })
+    stands
+    (record {
+      moment_is = now;
+      up_is = stands.up;
+      length_is = refl;
+      requests = stands.requests;
+      collections = stands.collections;
+      bucket = subst (λ (at_ : ℕ). BucketStands (at_ ∷ questions (past_of s sight.view)) bucket) now (asks.stands (questions (past_of s sight.view)) stands.bucket);
+      rate = asks.rate;
+      burst = asks.burst;
+      book = stands.book;
+    })
+rated s sight item t m old bucket at asks stands is = absurd is
+
+bookings_of : (s : Settings) (number : ℕ) (read : Reading) (m : FlowMod) → read ≡ Ok (said.FlowMod m) → bookings s number read ≡ Added m.command (pieces_within s.patterns m.pattern) m.priority (has_flag SEND_FLOW_REM m) number ∷ []
+bookings_of s number read m is = ap (bookings s number) is
+
+added_same : (made : Modification) (m : FlowMod) (s : Settings) (number : ℕ) → made.command ≡ m.command → made.pieces.items ≡ pieces_within s.patterns m.pattern → made.priority ≡ m.priority → made.asks ≡ has_flag SEND_FLOW_REM m
+    → Added made.command made.pieces.items made.priority made.asks number ∷ [] ≡ Added m.command (pieces_within s.patterns m.pattern) m.priority (has_flag SEND_FLOW_REM m) number ∷ []
+added_same made m s number command pieces priority asks = λ i. Added (command i) (pieces i) (priority i) (asks i) number ∷ []
+
+pub modified : (s : Settings) (sight : Sight) (message : List ℕ) (m number : ℕ) (made : Modification) (old : SliceState) (bucket : Bucket) (xids : Requests) (book : Book) → m ≡ max made.moment old.moment
+    → Asks m old.bucket bucket
+    → ((slot : ℕ) (calls : List RequestCall) → RequestsStand slot calls old.xids → RequestsStand slot (Issue made.asked ∷ calls) xids)
+    → ((slot : ℕ) (calls : List RequestCall) → RequestsStand slot calls old.xids → number ≡ issued calls)
+    → ((calls : List BookCall) → BookStands calls old.book → BookStands (Added made.command made.pieces.items made.priority made.asks number ∷ calls) book)
+    → SliceStands s sight old → IsChange s sight (Msg message made.moment) (Modified made)
+    → SliceStands s (with_item (Msg message made.moment) sight) (record old { moment = m; bucket = bucket; xids = xids; book = book })
+modified s sight message m number made old bucket xids book at asks issues numbers books stands is =
+    let so = is.1 in
+    let asking : asks_switch (read_controller message) ≡ true = ap asks_switch so.is_read in
+    let plain = question_is_plain (read_controller message) asking in
+    let now : m ≡ max made.moment (latest sight.view) = at ∙ ap (max made.moment) stands.moment in
+    let calls = request_calls s (past_of s sight.view) in
+    stands_with s sight message made.moment false true true None old (record old { moment = m; bucket = bucket; xids = xids; book = book })
+    (record { ending = plain.0; asking = both_true (is_up sight.view) (is_question message) is.0 asking; sending = so.sent; setting = plain.1 })
+    stands
+    (record {
+      moment_is = now;
+      up_is = stands.up;
+      length_is = refl;
+      requests = subst (λ (asked : Asked). RequestsStand s.slot (Issue asked ∷ calls) xids) so.asked (issues s.slot calls stands.requests);
+      collections = stands.collections;
+      bucket = subst (λ (at_ : ℕ). BucketStands (at_ ∷ questions (past_of s sight.view)) bucket) now (asks.stands (questions (past_of s sight.view)) stands.bucket);
+      rate = asks.rate;
+      burst = asks.burst;
+      book = subst (λ (made : List BookCall). BookStands (made ++ book_calls s (past_of s sight.view)) book)
+          (ap (λ (n : ℕ). Added made.command made.pieces.items made.priority made.asks n ∷ []) (numbers s.slot calls stands.requests)
+          ∙ added_same made so.flow_mod s (issued calls) so.command so.pieces so.priority so.asks ∙ sym (bookings_of s (issued calls) (read_controller message) so.flow_mod so.is_read))
+          (books (book_calls s (past_of s sight.view)) stands.book);
+    })

@@ -1,0 +1,168 @@
+//! Flow-mods of a slice, line by line (OpenFlow 1.0.0, section 5.3.3; the order of the lines is this proxy's
+//! own rule).
+
+ghost use Rattle.std.specs.Prelude.{ℕ, ◌≡◌, ◌≢◌, ◌≤◌, ◌<◌, ◌==◌, ◌&&◌, not, ◌∷◌, [], length, map, AllPairs, IfOk, All, List};
+ghost use Rattle.of10_action.specs.Actions.{HasAddress};
+ghost use Rattle.of10_flow.specs.declared.protocol.TheConstants.{CHECK_OVERLAP, EMERG};
+ghost use Rattle.of10_flow.specs.Tables.{is_delete, has_flag};
+ghost use Rattle.slice_words.specs.FlowMods.{Ground, pieces_on, first_some, wrong_command, emergency, buffer_not_held, overlapping, over_quota};
+ghost use Rattle.slice_side.specs.Reactions.{ground_at};
+ghost use Rattle.flowmod_expand.specs.Pieces.{pieces_of};
+ghost use Rattle.flow_book.specs.Books.{overlaps_in};
+ghost use Rattle.slice_side.specs.Checking.{IsListed, PassesEarly, IsOutcome, HasLists};
+
+use crate::pieces::{Listing, Ways, list_pieces, no_actions};
+use crate::replying::Around;
+use flow_book::SliceState;
+use flowmod_expand::{BuildFault, build, pieces};
+use of10_action::Actions;
+use of10_action::error::{
+    ALL_TABLES_FULL, BAD_ACTION, BAD_COMMAND, BAD_REQUEST, FLOW_MOD_FAILED, FLOW_MOD_NOT_PERMITTED,
+    OVERLAP, TOO_MANY_ACTIONS, UNKNOWN_BUFFER,
+};
+use of10_ctl::Frame;
+use of10_flow::FlowMod;
+use of10_flow::protocol::{ADD, CHECK_OVERLAP, DELETE, DELETE_STRICT, EMERG, NO_BUFFER};
+use of10_match::Match;
+use std::alloc::{AllocError, Global};
+
+/// What becomes of a flow-mod.
+#[derive(Debug, Drop)]
+pub(crate) enum Outcome {
+    /// It is refused with this class and code (OpenFlow 1.0.0, section 5.4.4).
+    Refused(u16, u16),
+    /// These messages are sent on, one for each of the pieces.
+    Sent(Vec<Frame>, Vec<Match>),
+}
+
+fn is_delete(m: &FlowMod) -> bool
+    ensures { result ≡ is_delete m.now }
+{
+    m.command >= DELETE
+}
+
+/// The lines that look at the flow-mod alone: its command, its flags and its buffer.
+fn early_fault(m: &FlowMod) -> Option<(u16, u16)>
+    ensures { result ≡ first_some (wrong_command m.now ∷ emergency m.now ∷ buffer_not_held m.now ∷ []) }
+{
+    if m.command > DELETE_STRICT {
+        return Some((FLOW_MOD_FAILED, BAD_COMMAND));
+    }
+    if m.flags / EMERG % 2 == 1 {
+        return Some((FLOW_MOD_FAILED, FLOW_MOD_NOT_PERMITTED));
+    }
+    if !is_delete(m) && m.buffer != NO_BUFFER {
+        return Some((BAD_REQUEST, UNKNOWN_BUFFER));
+    }
+    None
+}
+
+/// Whether the slice may write nothing of the match; a delete then deletes nothing.
+fn is_outside(m: &FlowMod, pieces: &[Match]) -> bool
+    ensures { result ≡ (not (is_delete m.now) && length pieces.now == 0) }
+{
+    !is_delete(m) && pieces.is_empty()
+}
+
+/// Whether it asks to be refused where it overlaps, and does.
+fn is_overlapping(state: &SliceState, m: &FlowMod, pieces: &[Match]) -> bool
+    ensures { result ≡ (m.now.command == ADD && has_flag CHECK_OVERLAP m.now && overlaps_in pieces.now m.now.priority state.now.book.booked) }
+{
+    m.command == ADD && m.flags / CHECK_OVERLAP % 2 == 1 && state.book.overlaps(pieces, m.priority)
+}
+
+/// The lines that look at the book.
+fn late_fault(state: &SliceState, m: &FlowMod, pieces: &[Match], quota: u32) -> Option<(u16, u16)>
+    requires distinct { AllPairs (λ a b. a ≢ b) pieces.now }
+    requires few { length pieces.now ≤ 256 }
+    ensures { (g : Ground) → pieces.now ≡ pieces_on g m.now → state.now.book.booked ≡ g.booked → quota ≡ g.quota → result ≡ first_some (overlapping g m.now ∷ over_quota g m.now ∷ []) }
+{
+    if is_overlapping(state, m, pieces) {
+        return Some((FLOW_MOD_FAILED, OVERLAP));
+    }
+    if !state.book.fits(m.command, pieces, m.priority, quota) {
+        return Some((FLOW_MOD_FAILED, ALL_TABLES_FULL));
+    }
+    None
+}
+
+/// The action lists of the pieces.
+fn lists(
+    alloc: Global,
+    around: &Around<'_>,
+    m: &FlowMod,
+    pieces: &[Match],
+) -> Result<Listing, AllocError>
+    requires { pieces.now ≡ pieces_of around.now.policy.now.rules around.now.slot m.now.pattern }
+    ensures { (quota xid : ℕ) → IfOk result (IsListed (ground_at around.now.policy.now.rules around.now.slot around.now.ports.now quota xid around.now.state.now) m.now) }
+{
+    if is_delete(m) {
+        return Ok(Listing::Given(no_actions(alloc, pieces)?));
+    }
+    let flood = around
+        .ports
+        .flood_ports(alloc, around.policy, around.slot, false)?;
+    let all = around
+        .ports
+        .flood_ports(alloc, around.policy, around.slot, true)?;
+    let ways = Ways {
+        policy: around.policy,
+        slot: around.slot,
+        flood: &flood,
+        all: &all,
+    };
+    list_pieces(alloc, &ways, pieces, m.actions.as_slice())
+}
+
+/// What becomes of a flow-mod whose pieces have these lists.
+fn built(
+    alloc: Global,
+    around: &Around<'_>,
+    quota: u32,
+    xid: u32,
+    m: &FlowMod,
+    pieces: Vec<Match>,
+    lists: &[Actions],
+) -> Result<Outcome, AllocError>
+    requires command { m.now.command ≤ 4 }
+    requires pieces { pieces.items ≡ pieces_of around.now.policy.now.rules around.now.slot m.now.pattern }
+    requires distinct { AllPairs (λ a b. a ≢ b) pieces.items }
+    requires few { length pieces.items ≤ 256 }
+    requires lists { length lists.now ≡ length pieces.items }
+    ensures { PassesEarly (ground_at around.now.policy.now.rules around.now.slot around.now.ports.now quota xid around.now.state.now) m.now → HasLists (ground_at around.now.policy.now.rules around.now.slot around.now.ports.now quota xid around.now.state.now) m.now lists.now → IfOk result (IsOutcome (ground_at around.now.policy.now.rules around.now.slot around.now.ports.now quota xid around.now.state.now) m.now) }
+{
+    match build(alloc, m, xid, &pieces, lists, None) {
+        Err(BuildFault::TooLarge) => Ok(Outcome::Refused(BAD_ACTION, TOO_MANY_ACTIONS)),
+        Err(BuildFault::Memory) => Err(AllocError),
+        Ok(frames) => match late_fault(around.state, m, &pieces, quota) {
+            Some((class, code)) => Ok(Outcome::Refused(class, code)),
+            None => Ok(Outcome::Sent(frames, pieces)),
+        },
+    }
+}
+
+/// What becomes of a flow-mod: the first line that applies refuses it, and else it is sent on piece by
+/// piece, under this transaction id.
+pub(crate) fn outcome_of(
+    alloc: Global,
+    around: &Around<'_>,
+    quota: u32,
+    xid: u32,
+    m: &FlowMod,
+) -> Result<Outcome, AllocError>
+    ensures { IfOk result (IsOutcome (ground_at around.now.policy.now.rules around.now.slot around.now.ports.now quota xid around.now.state.now) m.now) }
+{
+    match early_fault(m) {
+        Some((class, code)) => return Ok(Outcome::Refused(class, code)),
+        None => {}
+    }
+    let pieces = pieces(alloc, around.policy, around.slot, &m.pattern)?;
+    if is_outside(m, &pieces) {
+        return Ok(Outcome::Refused(FLOW_MOD_FAILED, FLOW_MOD_NOT_PERMITTED));
+    }
+    match lists(alloc, around, m, &pieces)? {
+        Listing::Forbidden(code) => Ok(Outcome::Refused(BAD_ACTION, code)),
+        Listing::TooMany => Ok(Outcome::Refused(BAD_ACTION, TOO_MANY_ACTIONS)),
+        Listing::Given(lists) => built(alloc, around, quota, xid, m, pieces, &lists),
+    }
+}

@@ -1,0 +1,144 @@
+//! Messages that ask something of the switch: the rate is asked for each of them.
+
+ghost use Rattle.std.specs.Prelude.{ℕ, ◌≡◌, ◌++◌, ◌∷◌, [], true, false, length, take, min, slice_get, IfOk, Some, Ok, option_map};
+ghost use Rattle.of10_action.specs.Actions.{padding};
+ghost use Rattle.of10_message.specs.Heads.{xid_of};
+ghost use Rattle.of10_message.specs.declared.controller.FromController.TheVariants as said;
+ghost use Rattle.of10_flow.specs.declared.protocol.TheConstants.{SEND_FLOW_REM};
+ghost use Rattle.of10_flow.specs.Tables.{has_flag};
+ghost use Rattle.slice_words.specs.Messages.{asks_switch, asked_of};
+ghost use Rattle.slice_words.specs.Answers.{error_for};
+ghost use Rattle.slice_side.specs.declared.change.Change.TheVariants.{Rated};
+ghost use Rattle.slice_words.specs.Items.{Settings, Sight};
+ghost use Rattle.slice_words.specs.Standing.{SliceStands, past_of};
+ghost use Rattle.slice_words.specs.FlowMods.{ground_of};
+ghost use Rattle.slice_words.specs.Answers.{flow_mod_answer, rated_answer};
+ghost use Rattle.slice_side.specs.Reactions.{Sees, Follows, IsSound};
+
+use crate::answered::Reaction;
+use crate::change::{Change, Modification};
+use crate::flow_mods::{Outcome, outcome_of};
+use crate::replying::{Around, refusal};
+use flowspace::SwitchPolicy;
+use of10_action::error::{BAD_REQUEST, REQUEST_NOT_PERMITTED};
+use of10_ctl::Frame;
+use of10_flow::FlowMod;
+use of10_flow::protocol::SEND_FLOW_REM;
+use of10_match::Match;
+use of10_message::FromController;
+use std::alloc::{AllocError, Global};
+use xid_map::{AskKind, Asked};
+
+/// How many entries the slice at a slot may have.
+fn quota(policy: &SwitchPolicy, slot: u8) -> u32
+    ensures { (quota : ℕ) → option_map (λ slice. slice.quota) (slice_get policy.now.slices slot) ≡ Some quota → result ≡ quota }
+{
+    match policy.slices().get(usize::from(slot)) {
+        Some(slice) => slice.quota,
+        None => 0,
+    }
+}
+
+/// The first 64 bytes of a message, with zeros behind a shorter one.
+fn first_bytes(bytes: &[u8]) -> [u8; 64]
+    ensures { result ≡ take 64 (bytes.now ++ padding 64) }
+{
+    let mut first = [0; 64];
+    let size = bytes.len().min(64);
+    first[..size].copy_from_slice(&bytes[..size]);
+    first
+}
+
+/// A message as the request that is remembered.
+fn asked(frame: &Frame, kind: AskKind, port: u16) -> Asked
+    ensures { result ≡ record { xid = xid_of frame.now; first = take 64 (frame.now ++ padding 64); first_len = min (length frame.now) 64; kind = kind; port = port } }
+{
+    let bytes = frame.as_slice();
+    Asked {
+        xid: frame.head().xid,
+        first: first_bytes(bytes),
+        first_len: bytes.len().min(64) as u8,
+        kind,
+        port,
+    }
+}
+
+/// A flow-mod that is sent on for these pieces.
+fn modification(frame: &Frame, m: &FlowMod, pieces: Vec<Match>, moment: u64) -> Modification
+    ensures { result ≡ record { moment = moment; asked = asked_of (Ok (said.FlowMod m.now)) frame.now; command = m.now.command; pieces = pieces; priority = m.now.priority; asks = has_flag SEND_FLOW_REM m.now } }
+{
+    Modification {
+        moment,
+        asked: asked(frame, AskKind::FlowMod, 0),
+        command: m.command,
+        pieces,
+        priority: m.priority,
+        asks: m.flags / SEND_FLOW_REM % 2 == 1,
+    }
+}
+
+/// A message that is refused, or for which nothing is sent on, once it has asked the rate.
+fn refused(
+    alloc: Global,
+    class: u16,
+    code: u16,
+    frame: &Frame,
+    moment: u64,
+) -> Result<Reaction, AllocError>
+    ensures sound { IfOk result (λ r. IsSound r.change) }
+    ensures to_slice { IfOk result (λ r. r.to_slice.items ≡ error_for (class, code) frame.now ∷ []) }
+    ensures to_switch { IfOk result (λ r. r.to_switch.items ≡ []) }
+    ensures change { IfOk result (λ r. r.change ≡ Rated moment) }
+    ensures close { IfOk result (λ r. r.close ≡ false) }
+{
+    let reply = refusal(alloc, class, code, frame)?;
+    Reaction::replying(alloc, reply, Change::Rated { moment })
+}
+
+/// A flow-mod that keeps the rate.
+fn flow_mod(
+    alloc: Global,
+    around: &Around<'_>,
+    m: &FlowMod,
+    frame: &Frame,
+    moment: u64,
+) -> Result<Reaction, AllocError>
+    ensures sound { IfOk result (λ r. IsSound r.change) }
+    ensures follows { (s : Settings) (sight : Sight) → SliceStands s sight around.now.state.now → Sees s sight.view around.now.policy.now around.now.ports.now around.now.features.now around.now.slot → IfOk result (Follows s.patterns frame.now (Ok (said.FlowMod m.now)) (flow_mod_answer (ground_of s sight.view (past_of s sight.view)) m.now frame.now) moment) }
+{
+    let quota = quota(around.policy, around.slot);
+    let (_, xid) = around.state.xids.next();
+    match outcome_of(alloc, around, quota, xid, m)? {
+        Outcome::Refused(class, code) => refused(alloc, class, code, frame, moment),
+        Outcome::Sent(frames, pieces) => {
+            if frames.is_empty() {
+                return Ok(Reaction::silent(alloc, Change::Rated { moment }));
+            }
+            let change = Change::Modified(modification(frame, m, pieces, moment));
+            Ok(Reaction::forwarding(alloc, frames, change))
+        }
+    }
+}
+
+/// A message that asks something of the switch: one that passes the rate is refused, and of the others
+/// flow-mods are sent on.
+pub(crate) fn question(
+    alloc: Global,
+    around: &Around<'_>,
+    message: &FromController,
+    frame: &Frame,
+    moment: u64,
+) -> Result<Reaction, AllocError>
+    requires { asks_switch (Ok message.now) ≡ true }
+    ensures sound { IfOk result (λ r. IsSound r.change) }
+    ensures follows { (s : Settings) (sight : Sight) → SliceStands s sight around.now.state.now → Sees s sight.view around.now.policy.now around.now.ports.now around.now.features.now around.now.slot → IfOk result (Follows s.patterns frame.now (Ok message.now) (rated_answer s sight.view (past_of s sight.view) moment message.now frame.now) moment) }
+{
+    let latest = moment.max(around.state.moment);
+    if !around.state.bucket.conforms(latest) {
+        return refused(alloc, BAD_REQUEST, REQUEST_NOT_PERMITTED, frame, moment);
+    }
+    match message {
+        FromController::FlowMod(m) => flow_mod(alloc, around, m, frame, moment),
+        _ => Ok(Reaction::silent(alloc, Change::Rated { moment })),
+    }
+}

@@ -1,0 +1,174 @@
+-- What follows from a flow-mod of a slice (OpenFlow 1.0.0, section 5.3.3). Which lines refuse it, and in which order, is this proxy's own rule.
+use Rattle.std.specs.Prelude.{ℕ, ◌==◌, ◌&&◌, ◌||◌, not, nat_lt, Bool, true, false, if◌then◌else◌, List, [], ◌∷◌, map, length, Option, Some, None, option_map, Result, Ok, Err}
+use Rattle.std.specs.List.{list_any}
+use Rattle.std.specs.Option.{option_or}
+use Rattle.of10_model.specs.declared.pattern.Pattern.{Pattern}
+use Rattle.of10_action.specs.declared.action.Action.{Action}
+use Rattle.of10_action.specs.Actions.{spelling}
+use Rattle.of10_flow.specs.declared.protocol.TheConstants.{NO_BUFFER, ADD, DELETE_STRICT, CHECK_OVERLAP, EMERG}
+use Rattle.of10_flow.specs.declared.flow_mod.FlowMod.{FlowMod}
+use Rattle.of10_flow.specs.FlowMods.{spell_flow_mod}
+use Rattle.of10_flow.specs.Tables.{is_delete, has_flag}
+use Rattle.action_check.specs.declared.origin.Origin.TheVariants.{Piece}
+use Rattle.action_check.specs.Permitted.{permitted}
+use Rattle.flowmod_expand.specs.Messages.{sent_from, are_too_large}
+use Rattle.flowmod_expand.specs.Pieces.{pieces_within}
+use Rattle.flow_book.specs.declared.booked.Booked.{Booked}
+use Rattle.flow_book.specs.Books.{book, overlaps_in, fits_in}
+use Rattle.port_view.specs.SlicePorts.{flooded}
+use Rattle.xid_map.specs.Requests.{issued, physical_of}
+use Rattle.slice_words.specs.Items.{Settings, Item, lone_rules, known_ports}
+use Rattle.slice_words.specs.Pasts.{Outgoing, Modifies, Past}
+use Rattle.slice_words.specs.Calls.{request_calls, book_calls}
+
+-- ---- what a flow-mod is answered by
+
+-- the slice's slot, the matches of the rules that it writes, the ports that it knows, what it has booked, how much it may book, and the transaction id that its next request gets
+pub record Ground : Type 0 where
+  pub slot : ℕ
+  pub patterns : List Pattern
+  pub ports : List (List ℕ)
+  pub booked : List Booked
+  pub quota : ℕ
+  pub xid : ℕ
+
+-- these of a slice after a view with its answers
+abbrev pub ground_of : Settings → List Item → List Past → Ground
+ground_of s view past = record {
+  slot = s.slot;
+  patterns = s.patterns;
+  ports = known_ports view;
+  booked = book (book_calls s past);
+  quota = s.quota;
+  xid = physical_of s.slot (issued (request_calls s past));
+}
+
+-- what the slice may write of the match, piece by piece
+abbrev pub pieces_on : Ground → FlowMod → List Pattern
+pieces_on g m = pieces_within g.patterns m.pattern
+
+-- ---- actions
+
+-- the action list that the slice may have for a piece, where FLOOD and ALL stand for its known ports; or the code of the first action that is forbidden
+abbrev pub permitted_on : Ground → FlowMod → Pattern → Result (List Action) ℕ
+permitted_on g m piece = permitted (lone_rules g.slot g.patterns) g.slot (Piece piece) m.actions (flooded false g.ports) (flooded true g.ports)
+
+-- the first code among those of the pieces
+abbrev pub first_refusal : {A : Type 0} → List (Result A ℕ) → Option ℕ
+first_refusal [] = None
+first_refusal (Ok x ∷ others) = first_refusal others
+first_refusal (Err code ∷ others) = Some code
+
+-- the list that is given, and none where a code is
+abbrev pub list_given : Result (List Action) ℕ → List Action
+list_given (Ok actions) = actions
+list_given (Err code) = []
+
+-- the code of the first action that is forbidden, by piece and then by action; a delete's actions are disregarded
+abbrev pub first_forbidden : Ground → FlowMod → Option ℕ
+first_forbidden g m = if is_delete m then None else first_refusal (map (permitted_on g m) (pieces_on g m))
+
+-- the action list of each piece; a delete has none
+abbrev pub lists_on : Ground → FlowMod → List (List Action)
+lists_on g m = map (λ piece. if is_delete m then [] else list_given (permitted_on g m piece)) (pieces_on g m)
+
+-- ---- what is sent on
+
+-- the flow-mods that are sent for the pieces, under the transaction id that the slice gets next
+abbrev pub flow_mods_on : Ground → FlowMod → List FlowMod
+flow_mods_on g m = sent_from 0 m g.xid (pieces_on g m) (lists_on g m) None
+
+-- the same for the switch: none of them names a packet
+abbrev pub sent_on : Ground → FlowMod → List Outgoing
+sent_on g m = map (λ sent. Modifies sent None) (flow_mods_on g m)
+
+-- ---- refusals (section 5.4.4): class and code
+
+-- BAD_REQUEST, BUFFER_UNKNOWN
+abbrev pub unknown_buffer : ℕ × ℕ
+unknown_buffer = (1, 8)
+
+-- BAD_ACTION with a code
+abbrev pub bad_action : ℕ → ℕ × ℕ
+bad_action code = (2, code)
+
+-- BAD_ACTION, TOO_MANY
+abbrev pub too_many_actions : ℕ × ℕ
+too_many_actions = (2, 7)
+
+-- FLOW_MOD_FAILED, ALL_TABLES_FULL
+abbrev pub tables_full : ℕ × ℕ
+tables_full = (3, 0)
+
+-- FLOW_MOD_FAILED, OVERLAP
+abbrev pub overlap : ℕ × ℕ
+overlap = (3, 1)
+
+-- FLOW_MOD_FAILED, EPERM
+abbrev pub entry_not_permitted : ℕ × ℕ
+entry_not_permitted = (3, 2)
+
+-- FLOW_MOD_FAILED, BAD_COMMAND
+abbrev pub bad_command : ℕ × ℕ
+bad_command = (3, 4)
+
+-- ---- the lines that refuse
+
+-- a line refuses with a class and code where it applies
+abbrev pub refused_where : Bool → ℕ × ℕ → Option (ℕ × ℕ)
+refused_where applies fault = if applies then Some fault else None
+
+-- there are five commands (section 5.3.3)
+abbrev pub wrong_command : FlowMod → Option (ℕ × ℕ)
+wrong_command m = refused_where (nat_lt DELETE_STRICT m.command) bad_command
+
+-- emergency entries are left out
+abbrev pub emergency : FlowMod → Option (ℕ × ℕ)
+emergency m = refused_where (has_flag EMERG m) entry_not_permitted
+
+-- no packet is held yet, so that any number of a buffer is unknown; a delete's is disregarded
+abbrev pub buffer_not_held : FlowMod → Option (ℕ × ℕ)
+buffer_not_held m = refused_where (not (is_delete m) && not (m.buffer == NO_BUFFER)) unknown_buffer
+
+-- the slice may write nothing of the match; a delete then deletes nothing
+abbrev pub outside_flowspace : Ground → FlowMod → Option (ℕ × ℕ)
+outside_flowspace g m = refused_where (not (is_delete m) && length (pieces_on g m) == 0) entry_not_permitted
+
+-- an action is forbidden
+abbrev pub forbidden_action : Ground → FlowMod → Option (ℕ × ℕ)
+forbidden_action g m = option_map bad_action (first_forbidden g m)
+
+-- a list has more bytes than a flow-mod has beside its fields
+abbrev pub is_too_long : List Action → Bool
+is_too_long actions = nat_lt 65463 (length (spelling actions))
+
+-- a piece's list is too long, or the messages are too large
+abbrev pub too_large : Ground → FlowMod → Option (ℕ × ℕ)
+too_large g m = refused_where (list_any is_too_long (lists_on g m) || are_too_large (map spell_flow_mod (flow_mods_on g m))) too_many_actions
+
+-- an ADD that asks for it shares a header with a booked match of its priority
+abbrev pub overlapping : Ground → FlowMod → Option (ℕ × ℕ)
+overlapping g m = refused_where (m.command == ADD && has_flag CHECK_OVERLAP m && overlaps_in (pieces_on g m) m.priority g.booked) overlap
+
+-- more would be booked than the slice's quota
+abbrev pub over_quota : Ground → FlowMod → Option (ℕ × ℕ)
+over_quota g m = refused_where (not (fits_in m.command (pieces_on g m) m.priority g.quota g.booked)) tables_full
+
+-- the first that is there
+abbrev pub first_some : {A : Type 0} → List (Option A) → Option A
+first_some [] = None
+first_some (option ∷ others) = option_or option (first_some others)
+
+-- the class and code of the first line that applies
+unfoldable pub flow_mod_fault : Ground → FlowMod → Option (ℕ × ℕ)
+flow_mod_fault g m =
+    first_some
+    (wrong_command m
+    ∷ emergency m
+    ∷ buffer_not_held m
+    ∷ outside_flowspace g m
+    ∷ forbidden_action g m
+    ∷ too_large g m
+    ∷ overlapping g m
+    ∷ over_quota g m
+    ∷ [])

@@ -1,0 +1,104 @@
+//! Errors of a switch for what slices asked of it (OpenFlow 1.0.0, section 5.4.4).
+
+ghost use Rattle.std.specs.Prelude.{ℕ, ◌≡◌, ◌/◌, ◌^◌, List, Option, Some, IfOk, option_map, option_to_list};
+ghost use Rattle.of10_ctl.specs.declared.kind.TheConstants.{ERROR};
+ghost use Rattle.of10_ctl.specs.Frames.{error_of};
+ghost use Rattle.of10_ctl.specs.Kinds.{IsOf};
+ghost use Rattle.of10_message.specs.Heads.{xid_of};
+ghost use Rattle.of10_message.specs.Errors.{error_of_view, read_error};
+ghost use Rattle.slice_words.specs.Messages.{quoted};
+ghost use Rattle.slice_words.specs.Answers.{error_told};
+ghost use Rattle.desk_words.specs.Openings.{well_formed};
+ghost use Rattle.switch_side.specs.Carrying.{carried, Called, AllCalled, while_up, failure_turn, error_turn, turning};
+
+use crate::change::Change;
+use crate::dispatch::Dispatch;
+use flow_book::SliceState;
+use of10_ctl::{Frame, error_frame};
+use of10_message::{ErrorView, pair_in};
+use std::alloc::{AllocError, Global};
+use xid_map::{Asked, Issued};
+
+/// The error for a slice's request, under the slice's own transaction id and with the request's first bytes.
+fn own_error(alloc: Global, asked: &Asked, error: &ErrorView<'_>) -> Result<Frame, AllocError>
+    ensures { IfOk result (λ f. f ≡ error_of asked.now.xid error.now.class error.now.code (quoted asked.now)) }
+{
+    let length = usize::from(asked.first_len).min(asked.first.len());
+    error_frame(
+        alloc,
+        asked.xid,
+        error.class,
+        error.code,
+        &asked.first[..length],
+    )
+}
+
+/// The message to a slice that is up, where it is the first error for the request.
+fn told(
+    alloc: Global,
+    state: &SliceState,
+    request: &Issued,
+    error: &ErrorView<'_>,
+) -> Result<Option<Frame>, AllocError>
+    ensures { IfOk result (λ f. option_to_list f ≡ while_up state.now.up (error_told (Some request.now) error.now.class error.now.code)) }
+{
+    if !state.up || request.failed {
+        return Ok(None);
+    }
+    Ok(Some(own_error(alloc, &request.asked, error)?))
+}
+
+/// The request has failed, and with it the pair that the error carries.
+fn failed(
+    alloc: Global,
+    xid: u32,
+    slot: u8,
+    state: &SliceState,
+    request: &Issued,
+    error: &ErrorView<'_>,
+) -> Result<Dispatch, AllocError>
+    ensures { IfOk result (λ d. carried d ≡ turning (Some (failure_turn xid (error_of_view error.now) slot state.now request.now))) }
+{
+    let message = told(alloc, state, request, error)?;
+    let change = Change::Failed {
+        number: request.number,
+        pair: pair_in(xid, error.cause),
+    };
+    Dispatch::turning(alloc, slot, message, change)
+}
+
+/// What follows from an error under a transaction id: the slice whose slot is the id's top byte is asked for
+/// the request.
+fn answered(
+    alloc: Global,
+    states: &[SliceState],
+    xid: u32,
+    error: &ErrorView<'_>,
+) -> Result<Dispatch, AllocError>
+    ensures { (called : ℕ → Called) → AllCalled called states.now → IfOk result (λ d. carried d ≡ turning (error_turn called states.now xid (Some (error_of_view error.now)))) }
+{
+    let slot = (xid >> 24) as u8;
+    let Some(state) = states.get(usize::from(slot)) else {
+        return Ok(Dispatch::nothing(alloc));
+    };
+    match state.xids.find(xid) {
+        None => Ok(Dispatch::nothing(alloc)),
+        Some(request) => failed(alloc, xid, slot, state, &request, error),
+    }
+}
+
+/// What follows from an ERROR; from one that isn't well formed, or is for no request that is remembered,
+/// nothing.
+pub(crate) fn error(
+    alloc: Global,
+    states: &[SliceState],
+    frame: &Frame,
+) -> Result<Dispatch, AllocError>
+    requires { IsOf ERROR frame.now }
+    ensures { (called : ℕ → Called) → AllCalled called states.now → IfOk result (λ d. carried d ≡ turning (error_turn called states.now (xid_of frame.now) (well_formed (read_error frame.now)))) }
+{
+    match ErrorView::decode(frame) {
+        Ok(error) => answered(alloc, states, frame.head().xid, &error),
+        Err(_) => Ok(Dispatch::nothing(alloc)),
+    }
+}

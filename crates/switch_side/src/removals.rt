@@ -1,0 +1,100 @@
+//! Entries that a switch removed from its table (OpenFlow 1.0.0, section 5.4.2).
+
+ghost use Rattle.std.specs.Prelude.{ℕ, ◌≡◌, Some, IfOk, IfSome, option_to_list};
+ghost use Rattle.of10_model.specs.Normal.{IsNormal};
+ghost use Rattle.of10_ctl.specs.declared.kind.TheConstants.{FLOW_REMOVED};
+ghost use Rattle.of10_ctl.specs.Kinds.{IsOf};
+ghost use Rattle.of10_flow.specs.FlowRemoveds.{read_flow_removed};
+ghost use Rattle.slice_words.specs.Answers.{removal_told};
+ghost use Rattle.desk_words.specs.Openings.{well_formed};
+ghost use Rattle.switch_side.specs.declared.change.Change.TheVariants.{Released};
+ghost use Rattle.switch_side.specs.Carrying.{carried, Called, AllCalled, while_up, owner_turn, removed_turn, turning};
+
+use crate::change::Change;
+use crate::dispatch::Dispatch;
+use flow_book::{Booked, SliceState};
+use flowspace::SwitchPolicy;
+use of10_ctl::Frame;
+use of10_flow::FlowRemoved;
+use std::alloc::{AllocError, Global};
+
+/// The message to a slice that is up, where it booked the entry's pair and asked to be told.
+fn told(
+    alloc: Global,
+    up: bool,
+    booked: Option<Booked>,
+    entry: &FlowRemoved,
+) -> Result<Option<Frame>, AllocError>
+    ensures { IfOk result (λ f. option_to_list f ≡ while_up up (removal_told booked entry.now)) }
+{
+    match booked {
+        Some(booked) if up && booked.asked => {
+            let message = FlowRemoved { xid: 0, ..*entry };
+            Ok(Some(message.encode(alloc)?))
+        }
+        _ => Ok(None),
+    }
+}
+
+/// The entry's pair leaves the book of the slice at a slot.
+fn released(
+    alloc: Global,
+    slot: u8,
+    up: bool,
+    booked: Option<Booked>,
+    entry: &FlowRemoved,
+) -> Result<Dispatch, AllocError>
+    ensures { IfOk result (λ d. carried d ≡ turning (Some (record { slot = slot; messages = while_up up (removal_told booked entry.now); change = Released entry.now.pattern entry.now.priority }))) }
+{
+    let message = told(alloc, up, booked, entry)?;
+    let change = Change::Released {
+        pattern: entry.pattern,
+        priority: entry.priority,
+    };
+    Dispatch::turning(alloc, slot, message, change)
+}
+
+/// What follows for the slice that owns the entry's match.
+fn owned(
+    alloc: Global,
+    states: &[SliceState],
+    slot: u8,
+    entry: &FlowRemoved,
+) -> Result<Dispatch, AllocError>
+    ensures { (called : ℕ → Called) → AllCalled called states.now → IfOk result (λ d. carried d ≡ turning (owner_turn called states.now entry.now (Some slot))) }
+{
+    let Some(state) = states.get(usize::from(slot)) else {
+        return Ok(Dispatch::nothing(alloc));
+    };
+    let booked = state.book.booked(&entry.pattern, entry.priority);
+    released(alloc, slot, state.up, booked, entry)
+}
+
+/// The entry that a well-formed message tells of.
+fn removed(frame: &Frame) -> Option<FlowRemoved>
+    requires { IsOf FLOW_REMOVED frame.now }
+    ensures value { result ≡ well_formed (read_flow_removed frame.now) }
+    ensures normal { IfSome result (λ entry. IsNormal entry.pattern) }
+{
+    FlowRemoved::decode(frame).ok()
+}
+
+/// What follows from a FLOW_REMOVED; from one that isn't well formed, or whose match nobody owns, nothing.
+pub(crate) fn flow_removed(
+    alloc: Global,
+    policy: &SwitchPolicy,
+    states: &[SliceState],
+    frame: &Frame,
+) -> Result<Dispatch, AllocError>
+    requires { IsOf FLOW_REMOVED frame.now }
+    ensures value { (called : ℕ → Called) → AllCalled called states.now → IfOk result (λ d. carried d ≡ turning (removed_turn called policy.now.rules states.now (well_formed (read_flow_removed frame.now)))) }
+    ensures normal { IfSome (well_formed (read_flow_removed frame.now)) (λ entry. IsNormal entry.pattern) }
+{
+    let Some(entry) = removed(frame) else {
+        return Ok(Dispatch::nothing(alloc));
+    };
+    match policy.owner_of(&entry.pattern) {
+        None => Ok(Dispatch::nothing(alloc)),
+        Some(slot) => owned(alloc, states, slot, &entry),
+    }
+}
