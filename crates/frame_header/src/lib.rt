@@ -10,6 +10,3 @@ mod probe;
 
 pub use header::header_of;
 pub use probe::{probe_slot, probe_trailer};
-
-#[cfg(test)]
-mod tests;

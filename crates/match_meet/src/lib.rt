@@ -9,6 +9,3 @@ mod sets;
 pub use cover::rewrite;
 pub use rewriting::rewrite_header;
 pub use sets::{disjoint, includes, includes_aside, meet};
-
-#[cfg(test)]
-mod tests;

@@ -1,5 +1,6 @@
-//! Messages of all types, spelled out as the bytes of OpenFlow 1.0.0, section 5: what the codecs read them as,
-//! and, but for STATS_REPLY, which no call writes, that they write the same bytes again. There are tests here alone.
+//! Messages of OpenFlow 1.0.0, section 5, spelled out as bytes: what the codecs read them as or refuse them with,
+//! and, but for STATS_REPLY, which no call writes, that they write the same bytes again; and the numbers, actions,
+//! frames and ports in them. There are tests here alone.
 #![tactic(auto)]
 
 #[cfg(test)]

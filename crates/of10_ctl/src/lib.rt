@@ -13,6 +13,3 @@ pub use frame::{Frame, is_frame};
 pub use framer::{Framer, Next};
 pub use head::Head;
 pub use messages::{begin, echo_reply, error_frame, message};
-
-#[cfg(test)]
-mod tests;

@@ -11,6 +11,3 @@ mod status;
 pub use features::{Features, has_whole_ports};
 pub use port::{Port, Ports};
 pub use status::PortStatus;
-
-#[cfg(test)]
-mod tests;

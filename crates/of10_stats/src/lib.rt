@@ -10,6 +10,3 @@ mod request;
 pub use entries::{entry_port, entry_size, flow_entry};
 pub use reply::{StatsPart, part};
 pub use request::StatsRequest;
-
-#[cfg(test)]
-mod tests;

@@ -5,6 +5,3 @@ pub mod laws;
 mod queue;
 
 pub use queue::Outbox;
-
-#[cfg(test)]
-mod tests;

@@ -9,6 +9,3 @@ mod view;
 
 pub use answer::Kept;
 pub use view::PortView;
-
-#[cfg(test)]
-mod tests;

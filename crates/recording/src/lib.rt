@@ -15,6 +15,3 @@ pub use item::{
 };
 pub use reading::items;
 pub use writing::{add_item, begin_recording};
-
-#[cfg(test)]
-mod tests;

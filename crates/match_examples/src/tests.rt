@@ -1,0 +1,3 @@
+mod matches;
+mod packets;
+mod sets;

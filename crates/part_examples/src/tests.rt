@@ -1,0 +1,6 @@
+mod bookings;
+mod ports;
+mod queues;
+mod rates;
+mod recordings;
+mod requests;
