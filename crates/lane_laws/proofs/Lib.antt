@@ -3,3 +3,4 @@ pub mod Forwarded
 pub mod Own
 pub mod Sent
 pub mod Whole
+pub mod Reacting

@@ -4,16 +4,20 @@ ghost use Rattle.std.specs.Prelude.{ℕ, ◌≡◌, ◌<◌, ◌⊎◌, true, fa
 ghost use Rattle.of10_model.specs.declared.pattern.Pattern.{Pattern};
 ghost use Rattle.of10_flow.specs.declared.flow_mod.FlowMod.{FlowMod};
 ghost use Rattle.of10_flow.specs.FlowMods.{spell_flow_mod};
-ghost use Rattle.flowspace.specs.Policies.{PolicyView, IsPolicy, AreNormal};
+ghost use Rattle.of10_port.specs.declared.features.Features.{Features};
+ghost use Rattle.flowspace.specs.Policies.{PolicyView, SwitchView, IsPolicy, IsSwitchPolicy, AreNormal};
 ghost use Rattle.port_view.specs.SlicePorts.{flooded};
 ghost use Rattle.flowmod_expand.specs.Pieces.{pieces_of};
 ghost use Rattle.action_check.specs.declared.origin.Origin.TheVariants.{Piece};
 ghost use Rattle.action_check.specs.Permitted.{permitted};
+ghost use Rattle.slice_words.specs.Items.{Settings, Sight, Msg};
 ghost use Rattle.slice_words.specs.FlowMods.{pieces_on, permitted_on, flow_mods_on};
 ghost use Rattle.desk_words.specs.declared.event.Event.TheVariants.{SliceMsg};
 ghost use Rattle.desk_words.specs.declared.event.Timed.{Timed};
 ghost use Rattle.desk_words.specs.Histories.{is_slice_up};
 ghost use Rattle.desk_words.specs.Sent.{lane_by};
+ghost use Rattle.slice_side.specs.declared.answered.Reaction.{Reaction};
+ghost use Rattle.slice_side.specs.Reactions.{Sees, IsReaction};
 ghost use Rattle.lane_laws.specs.Lane.{IsFlowModThat, LiesInFlowspace, OutputsToOwnPorts, LeavesOtherHeaders, StaysWithin, IsReadAs, rules_in, ports_in, ground_at, IsPermitted};
 
 /// Whatever a message of a slice has sent to the switch is a flow-mod, and the slice writes each header of its
@@ -54,4 +58,14 @@ pub fn permitted_flow_mods_are_sent()
         → permitted_on (ground_at policy slot h) m piece ≡ permitted (rules_in policy h) slot (Piece piece) m.actions (flooded false (ports_in policy slot h)) (flooded true (ports_in policy slot h)) }
     ensures nothing_else { (policy : PolicyView) (h : List Timed) (timed : Timed) (slot : ℕ) (message : List ℕ) → timed.event ≡ SliceMsg slot message
         → (lane_by policy h timed ≡ []) ⊎ ((is_slice_up policy slot h ≡ true) × ((m : FlowMod) × IsPermitted policy slot h timed.moment message m)) }
+{}
+
+/// All this holds of what `slice_side::react` has sent on, for the policy and the ports that it is given.
+pub fn reactions_stay_within_the_slice()
+    ensures flowspace { (s : Settings) (sight : Sight) (policy : SwitchView) (known : List (List ℕ)) (features : Features) (slot : ℕ) (message : List ℕ) (moment : ℕ) (r : Reaction)
+        → IsSwitchPolicy policy.slices policy.rules → Sees s sight.view policy known features slot → IsReaction s sight (Msg message moment) r → All (IsFlowModThat (LiesInFlowspace policy.rules slot)) r.to_switch.items }
+    ensures ports { (s : Settings) (sight : Sight) (policy : SwitchView) (known : List (List ℕ)) (features : Features) (slot : ℕ) (message : List ℕ) (moment : ℕ) (r : Reaction)
+        → Sees s sight.view policy known features slot → IsReaction s sight (Msg message moment) r → All (IsFlowModThat (OutputsToOwnPorts policy.rules slot)) r.to_switch.items }
+    ensures headers { (s : Settings) (sight : Sight) (policy : SwitchView) (known : List (List ℕ)) (features : Features) (slot : ℕ) (message : List ℕ) (moment : ℕ) (r : Reaction)
+        → IsSwitchPolicy policy.slices policy.rules → Sees s sight.view policy known features slot → IsReaction s sight (Msg message moment) r → All (IsFlowModThat (LeavesOtherHeaders policy.rules slot)) r.to_switch.items }
 {}
