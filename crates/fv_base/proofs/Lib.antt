@@ -1,3 +1,4 @@
 pub mod Appending
 pub mod Loaded
 pub mod Raised
+pub mod Filed

@@ -1,3 +1,4 @@
 pub mod Told
+pub mod Counts
 pub mod Memory
 pub mod Words

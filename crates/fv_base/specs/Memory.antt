@@ -1,5 +1,5 @@
 -- What the outside in memory tells.
-use Rattle.std.specs.Prelude.{ℕ, List, [], ◌∷◌, ◌+◌, ◌-◌, ◌^◌, length, Bool, false, Option, Some, None, option_map, if◌then◌else◌, not, ◌≡◌, ◌==◌, ◌||◌, min}
+use Rattle.std.specs.Prelude.{ℕ, List, [], ◌∷◌, ◌+◌, ◌-◌, ◌^◌, length, Option, Some, None, option_map, if◌then◌else◌, ◌≡◌, ◌==◌, ◌||◌, min}
 use Rattle.std.specs.Option.{option_or}
 use Rattle.std.specs.List.{list_any}
 use Rattle.std.specs.Str.{bytes_eq}
@@ -8,7 +8,7 @@ use Rattle.fv_base.specs.declared.memory.Plan.{Plan}
 use Rattle.fv_base.specs.declared.memory.MemorySink.{MemorySink}
 use Rattle.fv_base.specs.declared.memory.MemoryFiles.{MemoryFiles}
 use Rattle.fv_base.specs.declared.memory.NeverSink.{NeverSink}
-use Rattle.fv_base.specs.declared.memory.Entry.{Entry}
+use Rattle.fv_base.specs.declared.memory.File.{File}
 
 -- how many bytes a call moves where this many are there: none where it is to fail
 abbrev pub moved : Plan → ℕ → Option ℕ
@@ -41,42 +41,10 @@ files_plan files = files.plan
 abbrev pub bytes_taken : NeverSink → ℕ
 bytes_taken sink = sink.taken
 
--- the bytes of an entry, where it is of this path and has a file
-abbrev pub entry_at : Entry → List ℕ → Option (List ℕ)
-entry_at entry path = if bytes_eq (string_bytes entry.path) path then option_map (λ bytes. bytes.items) entry.bytes else None
-
 -- the bytes of the first file at a path
-abbrev pub file_at : List Entry → List ℕ → Option (List ℕ)
+abbrev pub file_at : List File → List ℕ → Option (List ℕ)
 file_at [] path = None
-file_at (entry ∷ others) path = option_or (entry_at entry path) (file_at others path)
-
--- the path was added, or declared as missing
-abbrev pub is_declared : List Entry → List ℕ → Bool
-is_declared [] path = false
-is_declared (entry ∷ others) path = bytes_eq (string_bytes entry.path) path || is_declared others path
-
--- the count of the first entry of a path, or that of the paths without one
-abbrev pub count_at : ℕ → List Entry → List ℕ → ℕ
-count_at elsewhere [] path = elsewhere
-count_at elsewhere (entry ∷ others) path = if bytes_eq (string_bytes entry.path) path then entry.faults else count_at elsewhere others path
-
--- a count after one fault more; it stays at the last value of a u64
-abbrev pub one_more : ℕ → ℕ
-one_more count = min (count + 1) (2 ^ 64 - 1)
-
--- two paths have one count: they are the same, or nothing was told of either
-abbrev pub share_count : List Entry → List ℕ → List ℕ → Bool
-share_count entries path at = bytes_eq path at || not (is_declared entries path || is_declared entries at)
-
--- the count of a path after one fault more of this path
-abbrev pub raised_at : ℕ → List Entry → List ℕ → List ℕ → ℕ
-raised_at elsewhere entries path at =
-    if share_count entries path at then one_more (count_at elsewhere entries at) else count_at elsewhere entries at
-
--- where the first entry of a path stands, or how many entries there are
-abbrev pub place_of : List Entry → List ℕ → ℕ
-place_of [] path = 0
-place_of (entry ∷ others) path = if bytes_eq (string_bytes entry.path) path then 0 else place_of others path + 1
+file_at (file ∷ others) path = if bytes_eq (string_bytes file.path) path then Some file.bytes.items else file_at others path
 
 -- what is told at a path after a file was added behind the others
 abbrev pub with_file : (List ℕ → Option (List ℕ)) → List ℕ → List ℕ → List ℕ → Option (List ℕ)

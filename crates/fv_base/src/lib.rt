@@ -2,11 +2,13 @@
 //! the program's words.
 #![tactic(auto)]
 
+mod counts;
 mod memory;
 mod outside;
 mod transfer;
 mod words;
 
+pub use counts::Counts;
 pub use memory::{MemoryFiles, MemorySink, NeverSink, Plan};
 pub use outside::{Failed, Files, Sink, one_more};
 pub use transfer::{LoadFault, load_file, put_all};

@@ -3,10 +3,11 @@
 ghost use Rattle.std.specs.Prelude.{◌≡◌, ◌≤◌, ◌<◌, ◌+◌, ◌-◌, ◌^◌, min, ℕ, List, [], Some, None, length, drop, ◌||◌, ◌&&◌, is_ok, vec_len, vec_capacity, take, option_map, IsTrue, IsFalse, IfOk, IfSome, IsOkAnd, OnOk, OnErr};
 ghost use Rattle.std.specs.Result.{result_ok};
 ghost use Rattle.std.specs.Str.{bytes_eq};
-ghost use Rattle.fv_base.specs.Memory.{Starts, bytes_taken, called, files_plan, moved, read_count, sink_plan, file_at, count_at, is_declared, one_more, place_of, raised_at, with_file};
+ghost use Rattle.fv_base.specs.Counts.{count_at, is_declared, one_more, raised_at};
+ghost use Rattle.fv_base.specs.Memory.{Starts, bytes_taken, called, file_at, files_plan, moved, read_count, sink_plan, with_file};
 ghost use Rattle.fv_base.specs.Told.{Gives, Rose, appended};
 
-use super::{Failed, Files, Sink, one_more};
+use super::{Counts, Failed, Files, Sink, one_more};
 use std::alloc::{AllocError, Global};
 
 /// How the calls on an object in memory go: how many bytes one moves at most, and which calls fail.
@@ -161,56 +162,23 @@ impl Sink for NeverSink {
     }
 }
 
-// A path, its file where there is one, and how many calls for it failed.
+// A path and its file.
 #[derive(Drop)]
-struct Entry {
+struct File {
     path: String,
-    bytes: Option<Vec<u8>>,
-    faults: u64,
+    bytes: Vec<u8>,
 }
 
 // The bytes of the first file at the path.
-fn bytes_at<'a>(entries: &'a [Entry], path: &str) -> Option<&'a [u8]>
-    ensures { option_map (λ bytes. bytes.now) result ≡ file_at entries.now path.now }
+fn bytes_at<'a>(files: &'a [File], path: &str) -> Option<&'a [u8]>
+    ensures { option_map (λ bytes. bytes.now) result ≡ file_at files.now path.now }
 {
-    for entry in entries {
-        if entry.path.as_str() == path {
-            if let Some(bytes) = &entry.bytes {
-                return Some(bytes);
-            }
+    for file in files {
+        if file.path.as_str() == path {
+            return Some(&file.bytes);
         }
     }
     None
-}
-
-// The place of the first entry of the path, or how many entries there are.
-fn place(entries: &[Entry], path: &str) -> usize
-    ensures { result ≡ place_of entries.now path.now }
-{
-    for (i, entry) in entries.iter().enumerate() {
-        if entry.path.as_str() == path {
-            return i;
-        }
-    }
-    entries.len()
-}
-
-// One more fault for the path, on the count of its first entry or on that of the paths without one.
-fn raise(entries: &mut [Entry], elsewhere: &mut u64, path: &str)
-    ensures told { (at : List ℕ) → file_at entries.new at ≡ file_at entries.old at }
-    ensures rose { Rose (count_at elsewhere.old entries.old path.now) (count_at elsewhere.new entries.new path.now) }
-    ensures count { (at : List ℕ) → count_at elsewhere.old entries.old at ≤ count_at elsewhere.new entries.new at }
-    ensures exact { (at : List ℕ) → count_at elsewhere.new entries.new at ≡ raised_at elsewhere.old entries.old path.now at }
-    ensures own { (at : List ℕ) → IsFalse (bytes_eq path.now at) → IsTrue (is_declared entries.old at) → count_at elsewhere.new entries.new at ≡ count_at elsewhere.old entries.old at }
-    ensures declared { (at : List ℕ) → is_declared entries.new at ≡ is_declared entries.old at }
-{
-    let at = place(entries, path);
-    if at < entries.len() {
-        let entry = &mut entries[at];
-        entry.faults = one_more(entry.faults);
-    } else {
-        *elsewhere = one_more(*elsewhere);
-    }
 }
 
 // Copies the bytes from place `from` on over the front of `into`, as many as there are, `most` at most.
@@ -237,8 +205,8 @@ fn copy(bytes: &[u8], from: u64, most: usize, into: &mut [u8]) -> usize
 #[derive(Drop)]
 pub struct MemoryFiles {
     alloc: Global,
-    entries: Vec<Entry>,
-    elsewhere: u64,
+    files: Vec<File>,
+    counts: Counts,
     plan: Plan,
 }
 
@@ -261,8 +229,8 @@ impl MemoryFiles {
     {
         MemoryFiles {
             alloc,
-            entries: Vec::new(alloc),
-            elsewhere: 0,
+            files: Vec::new(alloc),
+            counts: Counts::new(alloc),
             plan: Plan::new(most, failing),
         }
     }
@@ -272,17 +240,14 @@ impl MemoryFiles {
         ensures told { OnOk result ((at : List ℕ) → ⟦<MemoryFiles as Files>⟧.contents self.new at ≡ with_file (⟦<MemoryFiles as Files>⟧.contents self.old) path.now bytes.now at) }
         ensures same { OnErr result ((at : List ℕ) → ⟦<MemoryFiles as Files>⟧.contents self.new at ≡ ⟦<MemoryFiles as Files>⟧.contents self.old at) }
         ensures count { (at : List ℕ) → ⟦<MemoryFiles as Files>⟧.faults self.new at ≡ ⟦<MemoryFiles as Files>⟧.faults self.old at }
-        ensures declared { (at : List ℕ) → is_declared self.new.entries.items at ≡ (is_declared self.old.entries.items at || (is_ok result && bytes_eq path.now at)) }
+        ensures declared { (at : List ℕ) → is_declared self.new.counts at ≡ (is_declared self.old.counts at || (is_ok result && bytes_eq path.now at)) }
         ensures plan { files_plan self.new ≡ files_plan self.old }
     {
-        let path = String::from_str(self.alloc, path)?;
+        let own = String::from_str(self.alloc, path)?;
         let bytes = Vec::from_slice(self.alloc, bytes)?;
-        let faults = self.elsewhere;
-        self.entries.push(Entry {
-            path,
-            bytes: Some(bytes),
-            faults,
-        })?;
+        self.files.reserve(1)?;
+        self.counts.declare(path)?;
+        self.files.push_reserved(File { path: own, bytes });
         Ok(())
     }
 
@@ -292,59 +257,47 @@ impl MemoryFiles {
     pub fn expect_missing(&mut self, path: &str) -> Result<(), AllocError>
         ensures told { (at : List ℕ) → ⟦<MemoryFiles as Files>⟧.contents self.new at ≡ ⟦<MemoryFiles as Files>⟧.contents self.old at }
         ensures count { (at : List ℕ) → ⟦<MemoryFiles as Files>⟧.faults self.new at ≡ ⟦<MemoryFiles as Files>⟧.faults self.old at }
-        ensures declared { (at : List ℕ) → is_declared self.new.entries.items at ≡ (is_declared self.old.entries.items at || (is_ok result && bytes_eq path.now at)) }
+        ensures declared { (at : List ℕ) → is_declared self.new.counts at ≡ (is_declared self.old.counts at || (is_ok result && bytes_eq path.now at)) }
         ensures plan { files_plan self.new ≡ files_plan self.old }
     {
-        let path = String::from_str(self.alloc, path)?;
-        let faults = self.elsewhere;
-        self.entries.push(Entry {
-            path,
-            bytes: None,
-            faults,
-        })?;
-        Ok(())
+        self.counts.declare(path)
     }
 
     /// How many reads of the path failed.
     pub fn faults(&self, path: &str) -> u64
         ensures { result ≡ ⟦<MemoryFiles as Files>⟧.faults self.now path.now }
     {
-        let at = place(&self.entries, path);
-        if at < self.entries.len() {
-            self.entries[at].faults
-        } else {
-            self.elsewhere
-        }
+        self.counts.of(path)
     }
 }
 
 impl Files for MemoryFiles {
-    ghost contents = { λ files. file_at files.entries.items };
+    ghost contents = { λ files. file_at files.files.items };
 
-    ghost faults = { λ files. count_at files.elsewhere files.entries.items };
+    ghost faults = { λ files. count_at files.counts };
 
     fn read(&mut self, path: &str, from: u64, into: &mut [u8]) -> Result<usize, Failed>
         requires { 0 < length into.old }
         ensures within { IfOk result (λ n. n ≤ length into.old) }
-        ensures given { IfOk result (λ n. IfSome (file_at self.old.entries.items path.now) (λ file. Gives (drop from file) into.old n into.new)) }
-        ensures cause { OnErr result (Rose (count_at self.old.elsewhere self.old.entries.items path.now) (count_at self.new.elsewhere self.new.entries.items path.now)) }
-        ensures same { (at : List ℕ) → file_at self.new.entries.items at ≡ file_at self.old.entries.items at }
-        ensures count { (at : List ℕ) → count_at self.old.elsewhere self.old.entries.items at ≤ count_at self.new.elsewhere self.new.entries.items at }
-        ensures exact { result_ok result ≡ read_count (files_plan self.old) (file_at self.old.entries.items path.now) from (length into.old) }
+        ensures given { IfOk result (λ n. IfSome (file_at self.old.files.items path.now) (λ file. Gives (drop from file) into.old n into.new)) }
+        ensures cause { OnErr result (Rose (count_at self.old.counts path.now) (count_at self.new.counts path.now)) }
+        ensures same { (at : List ℕ) → file_at self.new.files.items at ≡ file_at self.old.files.items at }
+        ensures count { (at : List ℕ) → count_at self.old.counts at ≤ count_at self.new.counts at }
+        ensures exact { result_ok result ≡ read_count (files_plan self.old) (file_at self.old.files.items path.now) from (length into.old) }
         ensures unread { OnErr result (into.new ≡ into.old) }
-        ensures calm { OnOk result ((at : List ℕ) → count_at self.new.elsewhere self.new.entries.items at ≡ count_at self.old.elsewhere self.old.entries.items at) }
-        ensures counted { OnErr result ((at : List ℕ) → count_at self.new.elsewhere self.new.entries.items at ≡ raised_at self.old.elsewhere self.old.entries.items path.now at) }
-        ensures own { (at : List ℕ) → IsFalse (bytes_eq path.now at) → IsTrue (is_declared self.old.entries.items at) → count_at self.new.elsewhere self.new.entries.items at ≡ count_at self.old.elsewhere self.old.entries.items at }
-        ensures declared { (at : List ℕ) → is_declared self.new.entries.items at ≡ is_declared self.old.entries.items at }
+        ensures calm { OnOk result ((at : List ℕ) → count_at self.new.counts at ≡ count_at self.old.counts at) }
+        ensures counted { OnErr result ((at : List ℕ) → count_at self.new.counts at ≡ raised_at self.old.counts path.now at) }
+        ensures own { (at : List ℕ) → IsFalse (bytes_eq path.now at) → IsTrue (is_declared self.old.counts at) → count_at self.new.counts at ≡ count_at self.old.counts at }
+        ensures declared { (at : List ℕ) → is_declared self.new.counts at ≡ is_declared self.old.counts at }
         ensures plan { files_plan self.new ≡ called (files_plan self.old) }
     {
         let next = self.plan.next(into.len());
         if let Some(most) = next {
-            if let Some(bytes) = bytes_at(&self.entries, path) {
+            if let Some(bytes) = bytes_at(&self.files, path) {
                 return Ok(copy(bytes, from, most, into));
             }
         }
-        raise(&mut self.entries, &mut self.elsewhere, path);
+        self.counts.raise(path);
         Err(Failed)
     }
 }

@@ -5,7 +5,7 @@
 //! in memory tell their contents, files and sockets don't, and a caller can't see which it has.
 
 ghost use Rattle.std.specs.Prelude.{◌≡◌, ◌≤◌, ◌<◌, ℕ, List, Option, length, drop, take, IfOk, OnOk, OnErr, IfSome};
-ghost use Rattle.fv_base.specs.Memory.{one_more};
+ghost use Rattle.fv_base.specs.Counts.{one_more};
 ghost use Rattle.fv_base.specs.Told.{appended, Gives, Rose};
 
 /// A call on the outside failed. Its cause is that the object's count of faults rose.

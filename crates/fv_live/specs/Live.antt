@@ -1,5 +1,5 @@
 -- What calls on the outside of a live proxy say of what is told. This proxy's own rules.
-use Rattle.std.specs.Prelude.{ℕ, ◌≡◌, List, [], ◌∷◌, ◌++◌, Option, Some, None}
+use Rattle.std.specs.Prelude.{ℕ, ◌≡◌, ◌+◌, List, [], ◌∷◌, ◌++◌, Option, Some, None}
 
 -- these bytes were moved from the front of what was left, where it is told
 abbrev pub Moved : Option (List ℕ) → List ℕ → Option (List ℕ) → Type 0
@@ -27,3 +27,8 @@ abbrev pub Asked : Option (List ℕ) → List ℕ → Option (List ℕ) → Type
 Asked None answers rest = rest ≡ None
 Asked (Some coming) [] rest = rest ≡ Some coming
 Asked (Some coming) (answer ∷ answers) rest = (answer ≡ moment_of coming) × Asked (Some (moments_after coming)) answers rest
+
+-- a number that is told, and so many more
+abbrev pub counted : Option ℕ → ℕ → Option ℕ
+counted None more = None
+counted (Some n) more = Some (n + more)

@@ -2,8 +2,9 @@
 
 ghost use Rattle.std.specs.Prelude.{◌≡◌, ◌≤◌, ◌<◌, ℕ, List, [], Option, Some, None, length, drop, take, min, option_map, vec_len, IfOk, OnOk, OnErr};
 ghost use Rattle.std.specs.Result.{result_ok};
+ghost use Rattle.fv_base.specs.Counts.{one_more};
+ghost use Rattle.fv_base.specs.Memory.{Starts, called, moved};
 ghost use Rattle.fv_base.specs.Told.{Rose};
-ghost use Rattle.fv_base.specs.Memory.{Starts, called, moved, one_more};
 ghost use Rattle.fv_live.specs.Live.{Moved, IsUsedUp};
 
 use fv_base::{Failed, Plan, one_more};

@@ -2,4 +2,10 @@
 #![tactic(auto)]
 
 #[cfg(test)]
+mod connections;
+#[cfg(test)]
+mod notes;
+#[cfg(test)]
 mod tests;
+#[cfg(test)]
+mod works;

@@ -2,5 +2,5 @@ use Rattle.std.proofs.Common.{◌≡◌, drop}
 use Rattle.fv_base.specs.Memory.{file_at}
 use Rattle.fv_base.proofs.memory.bytes_at.Given as goal
 
-abbrev pub invariant-loop-entry : goal.invariant-loop-entry
-invariant-loop-entry l = file_at (drop l.entry-index l.entries) l.path ≡ file_at l.entries l.path
+abbrev pub invariant-loop-file : goal.invariant-loop-file
+invariant-loop-file l = file_at (drop l.file-index l.files) l.path ≡ file_at l.files l.path
