@@ -1,5 +1,6 @@
 pub mod Origins
 pub mod ActionRules
+pub mod Verdicts
 pub mod Permitted
 pub mod Soundness
 pub mod Refusals

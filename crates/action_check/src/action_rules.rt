@@ -6,15 +6,17 @@ ghost use Rattle.of10_model.specs.Pattern.{has};
 ghost use Rattle.of10_model.specs.Inclusion.{includes_of, any_in_port};
 ghost use Rattle.flowspace.specs.Rules.{is_written_by};
 ghost use Rattle.action_check.specs.ActionRules.{argument_fits, port_of, has_way_back, is_own_way, is_other_way, has_way, sees_in_port, counted, passes_at, may_go, is_covered, probe_code, code_of};
+ghost use Rattle.action_check.specs.Verdicts.{AreVerdicts};
 
 use crate::fault::{BAD_ARGUMENT, BAD_OUT_PORT, NOT_PERMITTED};
 use crate::origin::Origin;
+use crate::verdicts::{Verdicts, may_go_kept};
 use flowspace::{Rule, SwitchPolicy};
 use match_meet::{includes, includes_aside};
 use of10_action::Action;
 use of10_match::{Header12, Match};
 use of10_model::protocol::{LAST_VLAN, LAST_VLAN_PRIORITY};
-use of10_port::protocol::{ALL, CONTROLLER, FLOOD, IN_PORT, TABLE};
+use of10_port::protocol::{ALL, CONTROLLER, FLOOD, IN_PORT, NONE, TABLE};
 
 fn argument_fits(action: &Action) -> bool
     ensures { result ≡ argument_fits action.now }
@@ -73,7 +75,7 @@ fn has_way(policy: &SwitchPolicy, slot: u8, image: &Origin, action: &Action) -> 
     }
 }
 
-fn sees_in_port(port: u16) -> bool
+pub(crate) fn sees_in_port(port: u16) -> bool
     ensures { result ≡ sees_in_port port }
 {
     port == CONTROLLER || port == TABLE
@@ -161,7 +163,15 @@ fn is_header_written(policy: &SwitchPolicy, slot: u8, header: &Header12, port: u
     is_header_among(policy.rules(), policy.write_places(slot), header, port)
 }
 
-fn may_go(policy: &SwitchPolicy, slot: u8, image: &Origin, port: u16) -> bool
+/// Whether some rule by which the slice at the slot writes has the header, by whichever port the packet came
+/// in (this proxy's own rule).
+pub fn writes_by_some_port(policy: &SwitchPolicy, slot: u8, header: &Header12) -> bool
+    ensures { result ≡ list_any (λ rule. is_written_by slot rule && has (any_in_port rule.pattern) header.now) policy.now.rules }
+{
+    is_header_written(policy, slot, header, NONE)
+}
+
+pub(crate) fn may_go(policy: &SwitchPolicy, slot: u8, image: &Origin, port: u16) -> bool
     ensures { result ≡ may_go policy.now.rules slot image.now port }
 {
     match image {
@@ -171,12 +181,20 @@ fn may_go(policy: &SwitchPolicy, slot: u8, image: &Origin, port: u16) -> bool
     }
 }
 
-fn is_covered(policy: &SwitchPolicy, slot: u8, image: &Origin, action: &Action) -> bool
-    ensures { result ≡ is_covered policy.now.rules slot image.now action.now }
+fn is_covered(
+    policy: &SwitchPolicy,
+    slot: u8,
+    image: &Origin,
+    verdicts: &mut Verdicts,
+    action: &Action,
+) -> bool
+    requires { AreVerdicts policy.now.rules slot image.now verdicts.old }
+    ensures value { result ≡ is_covered policy.now.rules slot image.now action.now }
+    ensures kept { AreVerdicts policy.now.rules slot image.now verdicts.new }
 {
     match port_of(action) {
         None => true,
-        Some(port) => may_go(policy, slot, image, port),
+        Some(port) => may_go_kept(policy, slot, image, verdicts, port),
     }
 }
 
@@ -192,15 +210,19 @@ fn probe_code(image: &Origin, action: &Action) -> Option<u16>
     }
 }
 
-/// The code of the first rule that an action breaks, for the image of what the list is applied to.
+/// The code of the first rule that an action breaks, for the image of what the list is applied to. What was
+/// found of the image is kept.
 #[tactic(auto, unfolding(crate::specs::ActionRules::code_of))]
 pub(crate) fn code_of(
     policy: &SwitchPolicy,
     slot: u8,
     image: &Origin,
+    verdicts: &mut Verdicts,
     action: &Action,
 ) -> Option<u16>
-    ensures { result ≡ code_of policy.now.rules slot image.now action.now }
+    requires { AreVerdicts policy.now.rules slot image.now verdicts.old }
+    ensures value { result ≡ code_of policy.now.rules slot image.now action.now }
+    ensures kept { AreVerdicts policy.now.rules slot image.now verdicts.new }
 {
     if !argument_fits(action) {
         return Some(BAD_ARGUMENT);
@@ -208,7 +230,7 @@ pub(crate) fn code_of(
     if !has_way(policy, slot, image, action) {
         return Some(BAD_OUT_PORT);
     }
-    if !is_covered(policy, slot, image, action) {
+    if !is_covered(policy, slot, image, verdicts, action) {
         return Some(NOT_PERMITTED);
     }
     probe_code(image, action)

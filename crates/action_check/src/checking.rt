@@ -1,13 +1,18 @@
-ghost use Rattle.std.specs.Prelude.{◌≡◌, ◌≤◌, length, Ok, IfOk};
+ghost use Rattle.std.specs.Prelude.{ℕ, ◌≡◌, ◌≤◌, List, length, Ok, IfOk, IsTrue};
+ghost use Rattle.flowspace.specs.declared.rules.Rule.{Rule};
 ghost use Rattle.std.specs.List.{All};
 ghost use Rattle.of10_action.specs.Actions.{IsAction, HasAddress, spelling};
 ghost use Rattle.flowspace.specs.Owners.{HasPort};
+ghost use Rattle.action_check.specs.declared.origin.Origin.{Origin as Image};
+ghost use Rattle.action_check.specs.Origins.{after};
+ghost use Rattle.action_check.specs.Verdicts.{AreVerdicts};
 ghost use Rattle.action_check.specs.Permitted.{first_code, permitted, answer_of, Gives};
 
 use crate::action_rules::code_of;
 use crate::expansion::{expanded_bytes, expansion};
 use crate::fault::CheckFault;
 use crate::origin::{Origin, after};
+use crate::verdicts::Verdicts;
 use flowspace::SwitchPolicy;
 use of10_action::{Action, Actions};
 use std::alloc::Global;
@@ -15,17 +20,37 @@ use std::alloc::Global;
 /// The fewest bytes that an action takes (OpenFlow 1.0.0, section 5.2.4).
 const ACTION_BYTES: usize = 8;
 
+/// Whether an action leaves every header as it is: OUTPUT and ENQUEUE do.
+fn keeps_headers(action: &Action) -> bool
+    ensures { IsTrue result → (image : Image) → after image action.now ≡ image }
+{
+    matches!(*action, Action::Output { .. } | Action::Enqueue { .. })
+}
+
+/// The image by one more action, and what is known of it.
+fn advance(image: &mut Origin, verdicts: &mut Verdicts, action: &Action)
+    requires { HasAddress action.now }
+    ensures image { image.new ≡ after image.old action.now }
+    ensures kept { (rules : List Rule) (slot : ℕ) → AreVerdicts rules slot image.old verdicts.old → AreVerdicts rules slot image.new verdicts.new }
+{
+    if !keeps_headers(action) {
+        *image = after(image, action);
+        *verdicts = Verdicts::new();
+    }
+}
+
 fn first_code(policy: &SwitchPolicy, slot: u8, origin: &Origin, actions: &[Action]) -> Option<u16>
     requires { All HasAddress actions.now }
     ensures { result ≡ first_code policy.now.rules slot origin.now actions.now }
 {
     let mut image = *origin;
+    let mut verdicts = Verdicts::new();
     for action in actions {
-        let code = code_of(policy, slot, &image, action);
+        let code = code_of(policy, slot, &image, &mut verdicts, action);
         if code.is_some() {
             return code;
         }
-        image = after(&image, action);
+        advance(&mut image, &mut verdicts, action);
     }
     None
 }

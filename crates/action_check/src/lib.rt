@@ -8,7 +8,9 @@ mod expansion;
 mod fault;
 pub mod laws;
 mod origin;
+mod verdicts;
 
+pub use action_rules::writes_by_some_port;
 pub use checking::check;
 pub use fault::{BAD_ARGUMENT, BAD_OUT_PORT, CheckFault, NOT_PERMITTED};
 pub use origin::Origin;

@@ -1,10 +1,10 @@
 pub mod Order
 pub mod SamePairs
 pub mod Places
+pub mod Stored
+pub mod Searches
 pub mod Steps
-pub mod Priorities
 pub mod Counts
 pub mod Standing
 pub mod Histories
 pub mod Once
-pub mod Together

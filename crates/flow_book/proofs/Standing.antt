@@ -1,10 +1,10 @@
 -- The book stands for one call more.
-use Rattle.std.proofs.Common.{ℕ, ◌≡◌, ◌≢◌, ◌+◌, ◌<◌, ◌==◌, ◌&&◌, ◌||◌, not, List, [], ◌∷◌, ◌++◌, length, get_or, take, drop, map, append-nil, Bool, refl, sym, ap, subst, ◌∙◌, arith, true, false, if◌then◌else◌, inl, inr}
+use Rattle.std.proofs.Common.{ℕ, ◌≡◌, ◌≢◌, ◌+◌, ◌<◌, ◌==◌, ◌&&◌, ◌||◌, not, List, [], ◌∷◌, ◌++◌, length, get_or, map, Bool, refl, sym, ap, subst, ◌∙◌, arith, true, false, if◌then◌else◌, inl, inr}
 use Rattle.std.specs.Prelude.{filter, find, All, AllPairs}
 use Rattle.std.specs.List.{list_any}
 use Rattle.std.specs.List.Sorted.{IsPermutation, IsStrictlySortedBy}
 use Rattle.std.proofs.lemmas.Bool.{cases_Bool}
-use Rattle.std.proofs.lemmas.List.{get_or-map, length-map, take_all, drop_all}
+use Rattle.std.proofs.lemmas.List.{get_or-map, length-map}
 use Rattle.std.proofs.lemmas.List.Elements.{filter_agree, filter_passes, All-head, All-tail, All-cons, All-nil}
 use Rattle.std.proofs.lemmas.List.Kept.{AllPairs-filter}
 use Rattle.of10_model.specs.declared.pattern.Pattern.{Pattern}
@@ -56,12 +56,7 @@ stands-added command ms p asked number calls xs after same h = record {
       ∙ HaveSame-IsPermutation (fresh_of command ms p asked number xs ++ map again xs) after.booked h test;
 }
 
--- ---- what is written back
-
--- pairs that are written over pairs, as many
-pub written_over : (xs ys : List Booked) (n : ℕ) → length ys ≡ length xs → length xs ≡ n → take n (ys ++ drop (length ys) xs) ≡ ys
-written_over xs ys n long all =
-    ap (take n) (ap (λ l. ys ++ l) (drop_all (length ys) xs (omega (arith, long))) ∙ append-nil ys) ∙ take_all n ys (omega (arith, long, all))
+-- ---- what stays
 
 pub booked_again_other : (command : ℕ) (ms : List Pattern) (p : ℕ) (asked : Bool) (xs : List Booked) → (command == 0) ≡ false → map (booked_again command ms p asked) xs ≡ xs
 booked_again_other command ms p asked [] other = refl
@@ -129,16 +124,12 @@ fresh_new command ms p asked number xs distinct normal =
 
 -- ---- the steps of a flow-mod together
 
-module _ (command : ℕ) (ms : List Pattern) (p : ℕ) (asked : Bool) (number : ℕ) (xs fresh over : List Booked) (n : ℕ) (gathered : fresh ≡ fresh_of command ms p asked number xs)
-    (again : over ≡ map (booked_again command ms p asked) xs) (long : length xs ≡ n) where
-  back : take n (over ++ drop (length over) xs) ≡ map (booked_again command ms p asked) xs
-  back = written_over xs over n (ap length again ∙ length-map xs (booked_again command ms p asked)) long ∙ again
-
-  pub unbooked_written : AllPairs (λ a b. a ≢ b) ms → All (λ b. IsNormal b.pattern) fresh → AreNew fresh (take n (over ++ drop (length over) xs))
-  unbooked_written distinct normal =
-      subst (AreNew fresh) (sym back)
+module _ (command : ℕ) (ms : List Pattern) (p : ℕ) (asked : Bool) (number : ℕ) (xs fresh over : List Booked) (gathered : fresh ≡ fresh_of command ms p asked number xs)
+    (again : over ≡ map (booked_again command ms p asked) xs) where
+  pub unbooked_all : AllPairs (λ a b. a ≢ b) ms → All (λ b. IsNormal b.pattern) fresh → AreNew fresh over
+  unbooked_all distinct normal =
+      subst (AreNew fresh) (sym again)
       (subst (λ l. AreNew l (map (booked_again command ms p asked) xs)) (sym gathered) (fresh_new command ms p asked number xs distinct (subst (All (λ b. IsNormal b.pattern)) gathered normal)))
 
-  pub added_written : (after : List Booked) → IsPermutation (fresh ++ take n (over ++ drop (length over) xs)) after
-      → IsPermutation (fresh_of command ms p asked number xs ++ map (booked_again command ms p asked) xs) after
-  added_written after h = subst (λ l. IsPermutation (l ++ map (booked_again command ms p asked) xs) after) gathered (subst (λ l. IsPermutation (fresh ++ l) after) back h)
+  pub added_all : (after : List Booked) → IsPermutation (fresh ++ over) after → IsPermutation (fresh_of command ms p asked number xs ++ map (booked_again command ms p asked) xs) after
+  added_all after h = subst (λ l. IsPermutation (l ++ map (booked_again command ms p asked) xs) after) gathered (subst (λ l. IsPermutation (fresh ++ l) after) again h)

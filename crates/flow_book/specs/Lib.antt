@@ -1,4 +1,5 @@
 pub mod Order
+pub mod Store
 pub mod Books
 pub mod Pairs
 pub mod Adding

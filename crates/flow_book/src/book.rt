@@ -4,7 +4,9 @@ ghost use Rattle.flow_book.specs.Books.{BookCall, Added, Removed, Failed, is_pai
 
 use crate::adding::{book_again, gather, settle_all};
 use crate::booked::Booked;
-use crate::entry::{Entry, place_of};
+use crate::entries::Entries;
+use crate::entry::Entry;
+use crate::finding::place_of;
 use crate::pairs;
 use of10_match::Match;
 use std::alloc::{AllocError, Global};
@@ -15,22 +17,22 @@ use std::marker::Model;
 #[derive(Drop)]
 pub struct FlowBook {
     // in ascending order of priority, then of the 40 bytes of the match
-    entries: Vec<Entry>,
+    entries: Entries,
     // empty between calls: a flow-mod's newcomers are compared with what was booked before it, so all are
     // collected before the first of them is booked
     fresh: Vec<Entry>,
 }
 
 impl Model for FlowBook {
-    ghost use Rattle.std.specs.Prelude.{◌≡◌, ◌-◌, ◌^◌, ◌<◌, [], length, min, vec_len, vec_capacity};
+    ghost use Rattle.std.specs.Prelude.{◌≡◌, ◌^◌, ◌<◌, [], length, min, vec_len, vec_capacity};
     ghost use Rattle.flow_book.specs.Order.{IsInOrder};
     ghost use Rattle.flow_book.specs.Books.{Book};
 
     ghost Value = { Book };
 
-    ghost view = { λ b. record { booked = b.entries.items; room = min (vec_capacity b.entries - vec_len b.entries) (vec_capacity b.fresh) } };
+    ghost view = { λ b. record { booked = b.entries.booked; room = min b.entries.room (vec_capacity b.fresh) } };
 
-    ghost invariant = { λ b. IsInOrder b.entries.items × (vec_len b.entries < 2 ^ 32) × (b.fresh.items ≡ []) × (vec_len b.fresh ≡ 0) };
+    ghost invariant = { λ b. IsInOrder b.entries.booked × (length b.entries.booked < 2 ^ 32) × (b.fresh.items ≡ []) × (vec_len b.fresh ≡ 0) };
 }
 
 impl FlowBook {
@@ -41,13 +43,14 @@ impl FlowBook {
         ensures booked { result.booked ≡ [] }
     {
         FlowBook {
-            entries: Vec::new(alloc),
+            entries: Entries::new(alloc),
             fresh: Vec::new(alloc),
         }
     }
 
-    /// How many pairs are booked.
+    /// How many pairs are booked. They are in ascending order of priority, then of the 40 bytes of the match.
     pub fn count(&self) -> u32
+        ensures order { IsInOrder self.now.booked }
         ensures answer { (calls : List BookCall) → BookStands calls self.now → result ≡ length (book calls) }
         ensures value { result ≡ length self.now.booked }
     {
@@ -129,7 +132,7 @@ impl FlowBook {
         ensures value { result ≡ find (is_pair pattern.now priority) self.now.booked }
     {
         match place_of(&self.entries, pattern, priority) {
-            Ok(place) => Some(*self.entries[place].booked()),
+            Ok(place) => Some(*self.entries.at(place).booked()),
             Err(_) => None,
         }
     }
@@ -143,7 +146,7 @@ impl FlowBook {
         ensures kept { self.old.room ≤ self.new.room }
     {
         match place_of(&self.entries, pattern, priority) {
-            Ok(place) => Some(*self.entries.remove(place).booked()),
+            Ok(place) => Some(self.entries.remove(place)),
             Err(_) => None,
         }
     }

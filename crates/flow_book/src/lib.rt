@@ -4,7 +4,9 @@
 mod adding;
 mod book;
 mod booked;
+mod entries;
 mod entry;
+mod finding;
 pub mod laws;
 mod pairs;
 mod state;

@@ -2,6 +2,7 @@ ghost use Rattle.std.specs.Prelude.{◌≤◌, IfOk};
 ghost use Rattle.flow_book.specs.States.{IsFreshState};
 
 use crate::book::FlowBook;
+use buffer_map::BufferMap;
 use flowspace::Slice;
 use rate_bucket::RateBucket;
 use std::alloc::{AllocError, Global};
@@ -18,6 +19,8 @@ pub struct SliceState {
     pub xids: XidMap,
     /// The statistics that are collected for it.
     pub collections: Collections,
+    /// The packets that the switch keeps for it.
+    pub buffers: BufferMap,
     /// The rate of its messages.
     pub bucket: RateBucket,
     /// The pairs that it has booked.
@@ -40,6 +43,7 @@ impl SliceState {
         Ok(SliceState {
             xids: XidMap::new(alloc, slot)?,
             collections: Collections::new(alloc)?,
+            buffers: BufferMap::new(alloc)?,
             bucket: RateBucket::new(of.rate, of.burst),
             book: FlowBook::new(alloc),
             up: false,

@@ -9,15 +9,15 @@ use Rattle.flow_book.proofs.adding.settle.Goals as goal
 
 pub unreachable-requires : goal.unreachable-requires
 unreachable-requires c =
-    both_ways (is_booked c.args.entry.pattern c.args.entry.priority c.args.entries.now.items) c.requires.absent
-    (is_booked-at c.args.entries.now.items c.args.entry.pattern c.args.entry.priority c.in-Ok.field-0 c.requires.order c.place_for.ensures.normal (rw c.deref.ensures.value at c.in-Ok.ensures.found))
+    both_ways (is_booked c.args.entry.pattern c.args.entry.priority c.args.entries.now.booked) c.requires.absent
+    (is_booked-at c.args.entries.now.booked c.args.entry.pattern c.args.entry.priority c.in-Ok.field-0 c.requires.order c.place_for.ensures.normal c.in-Ok.ensures.found)
 
 pub returns-clause-added : goal.returns-clause-added
 returns-clause-added c =
-    subst (λ items. IsPermutation (c.args.entry ∷ c.args.entries.now.items) items) (sym c.in-Ok-insert.ensures.items)
-    (IsPermutation-insert c.args.entries.now.items c.in-Err.place c.args.entry)
+    subst (λ items. IsPermutation (c.args.entry ∷ c.args.entries.now.booked) items) (sym c.insert.ensures.booked)
+    (IsPermutation-insert c.args.entries.now.booked c.in-Err.place c.args.entry)
 
 pub returns-clause-order : goal.returns-clause-order
 returns-clause-order c =
-    subst IsInOrder (sym c.in-Ok-insert.ensures.items)
-    (IsInOrder-insert c.args.entries.now.items c.in-Err.place c.args.entry c.requires.order c.place_for.ensures.normal (rw c.deref.ensures.value at c.in-Err.ensures.absent))
+    subst IsInOrder (sym c.insert.ensures.booked)
+    (IsInOrder-insert c.args.entries.now.booked c.in-Err.place c.args.entry c.requires.order c.place_for.ensures.normal c.in-Err.ensures.absent)

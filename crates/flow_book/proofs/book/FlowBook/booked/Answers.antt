@@ -7,7 +7,7 @@ pub returns-in-Ok-clause-value : goal.returns-in-Ok-clause-value
 returns-in-Ok-clause-value c =
     rw (← c.self.view_is) (
     ap Some c.booked.ensures
-    ∙ sym (find_pair-at c.self.inside.entries.items c.args.pattern.now c.args.priority c.in-Ok.place c.index.result.now c.self.invariant.0 c.place_of.ensures.normal (rw c.deref.ensures.value at c.in-Ok.ensures.found) c.index.ensures))
+    ∙ sym (find_pair-at c.self.inside.entries.booked c.args.pattern.now c.args.priority c.in-Ok.place c.at.result.now c.self.invariant.0 c.place_of.ensures.normal c.in-Ok.ensures.found (sym (c.at.ensures c.at.result.now))))
 
 pub returns-in-Ok-clause-answer : goal.returns-in-Ok-clause-answer
 returns-in-Ok-clause-answer c calls s =
@@ -15,7 +15,7 @@ returns-in-Ok-clause-answer c calls s =
 
 pub returns-in-Err-clause-value : goal.returns-in-Err-clause-value
 returns-in-Err-clause-value c =
-    rw (← c.self.view_is) (sym (find_pair-gap c.self.inside.entries.items c.args.pattern.now c.args.priority c.in-Err.field-0 (rw c.deref.ensures.value at c.in-Err.ensures.absent)))
+    rw (← c.self.view_is) (sym (find_pair-gap c.self.inside.entries.booked c.args.pattern.now c.args.priority c.in-Err.field-0 c.in-Err.ensures.absent))
 
 pub returns-in-Err-clause-answer : goal.returns-in-Err-clause-answer
 returns-in-Err-clause-answer c calls s =

@@ -1,0 +1,4 @@
+pub mod Places
+pub mod Index
+pub mod Standing
+pub mod Calls
