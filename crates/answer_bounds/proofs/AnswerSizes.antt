@@ -1,12 +1,15 @@
 -- What is answered to an item is at most one message, and what is put for the switch is small. A new kind of answer is a case more of `answer_size`.
-use Rattle.std.proofs.Common.{◌≡◌, ℕ, ◌+◌, ◌-◌, ◌^◌, ◌%◌, ◌==◌, ◌≤◌, Bool, true, false, if◌then◌else◌, List, [], ◌∷◌, map, length, take, append-nil, Option, Some, None, arith}
+use Rattle.std.proofs.Common.{◌≡◌, ℕ, ◌+◌, ◌-◌, ◌^◌, ◌%◌, ◌==◌, ◌≤◌, Bool, true, false, if◌then◌else◌, List, [], ◌∷◌, ◌++◌, map, length, take, filter, suc, append-nil, true≢false, refl, Option, Some, None, option_map, arith}
 use Rattle.std.specs.List.{All}
+use Rattle.std.proofs.lemmas.Bool.{ltb-false}
 use Rattle.std.proofs.lemmas.List.{length-take}
 use Rattle.of10_ctl.specs.declared.kind.TheConstants.{HELLO}
 use Rattle.of10_ctl.specs.Frames.{message_of, error_of, echo_reply_to}
 use Rattle.of10_flow.specs.declared.protocol.TheConstants.{NO_BUFFER}
 use Rattle.of10_flow.specs.declared.flow_mod.FlowMod.{FlowMod}
 use Rattle.of10_flow.specs.declared.flow_removed.FlowRemoved.{FlowRemoved}
+use Rattle.of10_flow.specs.declared.packet_out.PacketOut.{PacketOut}
+use Rattle.of10_flow.specs.PacketOuts.{spell_packet_out}
 use Rattle.of10_flow.specs.FlowMods.{spell_flow_mod}
 use Rattle.of10_message.specs.Heads.{xid_of}
 use Rattle.of10_port.specs.Ports.{IsPort}
@@ -19,16 +22,17 @@ use Rattle.flow_book.specs.Books.{booking}
 use Rattle.xid_map.specs.declared.asked.Issued.{Issued}
 use Rattle.slice_words.specs.Messages.{quoted}
 use Rattle.slice_words.specs.Items.{Settings, Share, Writer, Reader, Probe, Packet, Item, Opened, Up, Down, Msg, Lost, Handed, Removed, Status, Fault, Barrier, Queues, Entry, Last, End, is_up, miss_send_len, buffered_count, known_ports}
-use Rattle.slice_words.specs.Pasts.{Answer, Past, silence, told, dismissal, forwarded}
+use Rattle.slice_words.specs.Pasts.{SendsOut, Answer, Past, silence, told, dismissal, forwarded}
 use Rattle.slice_words.specs.Calls.{request_calls, request_for, book_calls}
-use Rattle.slice_words.specs.FlowMods.{Ground, ground_of, flow_mods_on, sent_on, flow_mod_fault}
+use Rattle.slice_words.specs.FlowMods.{Ground, ground_of, packet_at, sent_on, flow_mod_fault}
+use Rattle.slice_words.specs.PacketOuts.{packet_out_on, packet_out_size, sent_out, packet_out_fault}
 use Rattle.slice_words.specs.Answers.{error_for, refused, no_common_version, bad_length, config_reply, packet_message, packet_told, message_answer, removal_told, error_told, answer}
-use Rattle.slice_words.specs.Alone.{rendered, played, answer_to, sent_for, put_for}
+use Rattle.slice_words.specs.Alone.{number_of, rendered, played, answer_to, sent_for, put_for}
 use Rattle.of10_model.proofs.Results.{either}
 use Rattle.slice_words.proofs.AnswerKinds.{message_holds}
-use Rattle.slice_words.proofs.Forwarding.{rendered_sent, not_large}
+use Rattle.slice_words.proofs.Forwarding.{flow_mods_numbered, rendered_sent, not_large_numbered, out_not_large}
 use Rattle.answer_bounds.specs.Bounds.{AreFew, AreSmall}
-use Rattle.answer_bounds.proofs.Messages.{IsShort, few-none, few-one, few-next, small-none, short-message, short-echo, short-config, short-error, short-features, short-status, short-packet, short-removed}
+use Rattle.answer_bounds.proofs.Messages.{IsShort, few-none, few-one, few-next, small-none, small-few, short-message, short-echo, short-config, short-error, short-features, short-status, short-packet, short-packet_out, short-removed}
 
 -- ---- what bounds an answer
 
@@ -67,13 +71,28 @@ small_refused fault message = small_told (error_for fault message) (short-error 
 -- ---- flow-mods
 
 small_forwarded : (g : Ground) (m : FlowMod) → flow_mod_fault g m ≡ None → IsSmall (forwarded (sent_on g m))
-small_forwarded g m none =
-    let messages = map spell_flow_mod (flow_mods_on g m) in
-    let fit = not_large g m none in
-    record {
-      to_slice = few-none 1;
-      to_switch = λ came. rw (rendered_sent came (flow_mods_on g m)) (record { small = together_within messages fit; short = sizes_within messages fit });
-    }
+small_forwarded g m none = record {
+  to_slice = few-none 1;
+  to_switch = λ came.
+      let messages = map spell_flow_mod (flow_mods_numbered came g m) in
+      let fit = not_large_numbered came g m none in
+      rw (rendered_sent came g m) (record { small = together_within messages fit; short = sizes_within messages fit });
+}
+
+-- ---- packet-outs
+
+-- one message that fits is small
+small_out : (came : List ℕ) (m : PacketOut) (packet : Option ℕ) → packet_out_size m ≤ 65535 → AreSmall 262144 (rendered came (SendsOut m packet) ∷ [])
+small_out came m None fits = small-few 1 262144 (rendered came (SendsOut m None) ∷ []) (omega arith) (few-one (spell_packet_out m) (short-packet_out m fits))
+small_out came m (Some k) fits =
+    let sent : PacketOut = record m { buffer = number_of came k } in
+    small-few 1 262144 (spell_packet_out sent ∷ []) (omega arith) (few-one (spell_packet_out sent) (short-packet_out sent fits))
+
+small_sent_out : (g : Ground) (m : PacketOut) → packet_out_fault g m ≡ None → IsSmall (forwarded (sent_out g m))
+small_sent_out g m none = record {
+  to_slice = few-none 1;
+  to_switch = λ came. small_out came (packet_out_on g m) (option_map (λ packet. packet.ordinal) (packet_at g m.buffer)) (ltb-false 65535 (packet_out_size (packet_out_on g m)) (out_not_large g m none));
+}
 
 -- ---- messages of the controller
 
@@ -87,6 +106,7 @@ message_size s view past moment message short ports = message_holds (λ (ends : 
   tells_features = λ features. small_told (spell_features (features_with features (known_ports view)) (xid_of message)) (short-features (features_with features (known_ports view)) (xid_of message) ports.whole ports.few);
   tells_configuration = small_told (config_reply (miss_send_len view) message) (short-config (xid_of message) (miss_send_len view));
   forwards = λ m read none. small_forwarded (ground_of s view past) m none;
+  sends_out = λ m read none. small_sent_out (ground_of s view past) m none;
 })
 
 -- ---- packets
@@ -150,11 +170,49 @@ abbrev pub AreBounded : List Item → List Item → Type 0
 AreBounded view [] = Unit {0}
 AreBounded view (item ∷ items) = IsBounded view item × AreBounded (item ∷ view) items
 
-pub sent_size : (s : Settings) (view items : List Item) → AreBounded view items → AreFew (length items) (sent_for s view items)
+-- of what is lost nothing is sent
+abbrev pub speaks : Item → Bool
+speaks (Lost k) = false
+speaks item = true
+
+-- how many of these items may have a message to the slice
+abbrev pub speaking : List Item → ℕ
+speaking items = length (filter speaks items)
+
+lost_silent : (up : Bool) → (if up then silence else silence).to_slice ≡ []
+lost_silent true = refl
+lost_silent false = refl
+
+few_or_none : (n : ℕ) (b : Bool) (some others : List (List ℕ)) → (b ≡ false → some ≡ []) → AreFew 1 some → AreFew n others → AreFew (if b then suc n else n) (some ++ others)
+few_or_none n true some others none one few = few-next n some others one few
+few_or_none n false some others none one few = rw (none refl) few
+
+silent_lost : (s : Settings) (view : List Item) (item : Item) → speaks item ≡ false → (answer_to s view item).to_slice ≡ []
+silent_lost s view (Lost k) is = lost_silent (is_up view)
+silent_lost s view Up is = absurd (true≢false is)
+silent_lost s view Down is = absurd (true≢false is)
+silent_lost s view (Msg message moment) is = absurd (true≢false is)
+silent_lost s view (Handed packet) is = absurd (true≢false is)
+silent_lost s view (Opened features) is = absurd (true≢false is)
+silent_lost s view (Removed entry) is = absurd (true≢false is)
+silent_lost s view (Status status) is = absurd (true≢false is)
+silent_lost s view (Fault x class code pair) is = absurd (true≢false is)
+silent_lost s view (Barrier x) is = absurd (true≢false is)
+silent_lost s view (Queues x body) is = absurd (true≢false is)
+silent_lost s view (Entry x kind bytes) is = absurd (true≢false is)
+silent_lost s view (Last x kind) is = absurd (true≢false is)
+silent_lost s view End is = absurd (true≢false is)
+
+count_if : (b : Bool) (item : Item) (items : List Item) → length (if b then item ∷ items else items) ≡ (if b then suc (length items) else length items)
+count_if true item items = refl
+count_if false item items = refl
+
+pub sent_size : (s : Settings) (view items : List Item) → AreBounded view items → AreFew (speaking items) (sent_for s view items)
 sent_size s view [] h = few-none 0
 sent_size s view (item ∷ items) h =
-    few-next (length items) (answer_to s view item).to_slice (sent_for s (item ∷ view) items)
-    (answer_size s view (played (answer s) view) item h.0).to_slice (sent_size s (item ∷ view) items h.1)
+    rw (count_if (speaks item) item (filter speaks items))
+    (few_or_none (speaking items) (speaks item) (answer_to s view item).to_slice (sent_for s (item ∷ view) items) (silent_lost s view item)
+    (answer_size s view (played (answer s) view) item h.0).to_slice (sent_size s (item ∷ view) items h.1))
 
 -- one item has little sent to the switch
 pub put_size : (s : Settings) (view : List Item) (item : Item) (came : List ℕ) → IsBounded view item → AreSmall 262144 (map (rendered came) (put_for s view (item ∷ [])))

@@ -1,5 +1,5 @@
 -- What follows from one event is little, and so fits the limits of the queues.
-use Rattle.std.proofs.Common.{◌≡◌, ℕ, ◌==◌, ◌&&◌, Bool, true, false, if◌then◌else◌, List, [], ◌∷◌, map, length, refl, arith}
+use Rattle.std.proofs.Common.{◌≡◌, ℕ, ◌==◌, ◌&&◌, Bool, true, false, if◌then◌else◌, List, [], ◌∷◌, map, refl, arith}
 use Rattle.flowspace.specs.Policies.{PolicyView}
 use Rattle.slice_words.specs.Items.{Settings, Item, Msg, is_up}
 use Rattle.slice_words.specs.Alone.{rendered, put_for}
@@ -14,19 +14,19 @@ use Rattle.desk_words.specs.Sent.{sent_by, slice_lane}
 use Rattle.desk_words.specs.Operations.{slice_limit}
 use Rattle.answer_bounds.specs.Bounds.{IsFramed, AreFramed, Fits, AreFew, AreSmall, SendsLittle}
 use Rattle.answer_bounds.proofs.Messages.{few-more, small-none, small-few}
-use Rattle.answer_bounds.proofs.AnswerSizes.{IsBounded, sent_size, put_size}
+use Rattle.answer_bounds.proofs.AnswerSizes.{IsBounded, speaking, sent_size, put_size}
 use Rattle.answer_bounds.proofs.Items.{items_few}
 use Rattle.answer_bounds.proofs.Lane.{IsSmallOfSlice, lane_small}
 use Rattle.answer_bounds.proofs.Ports.{few_ports}
 
 -- ---- to the slices
 
--- to a slice at most as many messages as the event shows it items
+-- to a slice at most as many messages as the event shows it items that may have one
 slice_few : (policy : PolicyView) (slot : ℕ) (h : List Timed) (timed : Timed) → AreFramed h → IsFramed timed.event → AreFew 2 (sent_by policy slot h timed)
 slice_few policy slot h timed framed one =
     let shown = items_of policy slot (switch_of h) (side_of policy slot h) timed in
     let few = items_few policy slot h timed framed one in
-    few-more (length shown) 2 (sent_by policy slot h timed) few.few
+    few-more (speaking shown) 2 (sent_by policy slot h timed) few.few
     (sent_size (settings_at policy slot (opening_of h)) (view_of policy slot h) shown few.bounded)
 
 -- ---- to the switch

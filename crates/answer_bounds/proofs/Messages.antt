@@ -12,6 +12,9 @@ use Rattle.of10_ctl.specs.Frames.{message_of, error_of, echo_reply_to}
 use Rattle.of10_ctl.proofs.Reading.{length-message}
 use Rattle.of10_flow.specs.declared.flow_removed.FlowRemoved.{FlowRemoved}
 use Rattle.of10_flow.specs.FlowRemoveds.{spell_flow_removed}
+use Rattle.of10_action.specs.Actions.{spelling}
+use Rattle.of10_flow.specs.declared.packet_out.PacketOut.{PacketOut}
+use Rattle.of10_flow.specs.PacketOuts.{spell_packet_out}
 use Rattle.of10_flow.specs.declared.packet_in.PacketIn.{PacketIn}
 use Rattle.of10_flow.specs.PacketIns.{spell_packet_in}
 use Rattle.of10_port.specs.declared.features.Features.{Features}
@@ -101,6 +104,12 @@ short-features f xid ports few = (IsOf-features f xid (length-port_bytes f.ports
 
 pub short-status : (status : PortStatus) (xid : ℕ) → IsPort status.port → IsShort (spell_port_status status xid)
 short-status status xid whole = (IsOf-port_status status xid whole).0.small
+
+pub short-packet_out : (m : PacketOut) → 16 + length (spelling m.actions) + length m.payload ≤ 65535 → IsShort (spell_packet_out m)
+unfolding spell_packet_out
+short-packet_out m fits =
+    let whole = length-append (spelling m.actions) m.payload in
+    omega (arith, whole, fits)
 
 pub short-packet : (packet : PacketIn) → 18 + length packet.payload ≤ 65535 → IsShort (spell_packet_in packet)
 unfolding spell_packet_in

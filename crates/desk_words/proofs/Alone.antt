@@ -67,12 +67,12 @@ untold_before phase (Some features) event none = none
 none_begun : (policy : PolicyView) (slot : ℕ) (told : Option Features) → told ≡ None → opening_items policy slot told ≡ []
 none_begun policy slot told none = rw none refl
 
-pub none_in : (policy : PolicyView) (slot : ℕ) (switch : Switch) (view : List Item) (timed : Timed) (phase : Phase)
-    → is_open phase ≡ false → opening_with phase timed.event ≡ None → phase_items policy slot switch view timed phase ≡ []
-none_in policy slot switch view timed Fresh shut none = refl
-none_in policy slot switch view timed Begun shut none = none_begun policy slot (opening_with Begun timed.event) none
-none_in policy slot switch view timed Opened shut none = absurd (true≢false shut)
-none_in policy slot switch view timed Ended shut none = refl
+pub none_in : (policy : PolicyView) (slot : ℕ) (switch : Switch) (side : Side) (timed : Timed) (phase : Phase)
+    → is_open phase ≡ false → opening_with phase timed.event ≡ None → phase_items policy slot switch side timed phase ≡ []
+none_in policy slot switch side timed Fresh shut none = refl
+none_in policy slot switch side timed Begun shut none = none_begun policy slot (opening_with Begun timed.event) none
+none_in policy slot switch side timed Opened shut none = absurd (true≢false shut)
+none_in policy slot switch side timed Ended shut none = refl
 
 shut_of : (opened : Bool) (told : Option Features) → (opened ≡ true → has_told told ≡ true) → told ≡ None → opened ≡ false
 shut_of true None tells none = sym (tells refl)
@@ -83,14 +83,23 @@ opening_none : (phase : Phase) (told : Option Features) (event : Event) → told
 opening_none phase None event is none = none
 opening_none phase (Some features) event is none = absurd (true≢false (ap has_told is))
 
+-- in such a phase no packet is handed up
+unnumbered : (phase : Phase) (timed : Timed) (side : Side) → is_open phase ≡ false → with_shown phase timed [] side ≡ side
+unnumbered Fresh timed side shut = refl
+unnumbered Begun timed side shut = refl
+unnumbered Opened timed side shut = absurd (true≢false shut)
+unnumbered Ended timed side shut = refl
+
 pub blind : (policy : PolicyView) (slot : ℕ) (h : List Timed) → IsBlindBefore policy slot h
 blind policy slot [] none = refl
 blind policy slot (timed ∷ h) none =
     let before : opening_of h ≡ None = untold_before (phase_of h) (opening_of h) timed.event none in
     let shut : is_open (phase_of h) ≡ false = shut_of (is_open (phase_of h)) (opening_of h) (opened_told h) before in
-    let nothing = either_none (is_slot policy slot) (phase_items policy slot (switch_of h) (side_of policy slot h).sight.view timed (phase_of h))
-    (none_in policy slot (switch_of h) (side_of policy slot h).sight.view timed (phase_of h) shut (opening_none (phase_of h) (opening_of h) timed.event before none)) in
-    ap (λ items. with_shown timed items (side_of policy slot h)) nothing ∙ blind policy slot h before
+    let nothing = either_none (is_slot policy slot) (phase_items policy slot (switch_of h) (side_of policy slot h) timed (phase_of h))
+    (none_in policy slot (switch_of h) (side_of policy slot h) timed (phase_of h) shut (opening_none (phase_of h) (opening_of h) timed.event before none)) in
+    ap (λ items. with_shown (phase_of h) timed items (side_of policy slot h)) nothing
+    ∙ unnumbered (phase_of h) timed (side_of policy slot h) shut
+    ∙ blind policy slot h before
 
 -- ---- what is sent alone
 
@@ -100,7 +109,7 @@ opening_unsent s policy slot None = refl
 opening_unsent s policy slot (Some features) = refl
 
 early_in : (s : Settings) (policy : PolicyView) (slot : ℕ) (switch : Switch) (timed : Timed) (phase : Phase) → is_open phase ≡ false
-    → sent_for s [] (phase_items policy slot switch [] timed phase) ≡ []
+    → sent_for s [] (phase_items policy slot switch side_start timed phase) ≡ []
 early_in s policy slot switch timed Fresh shut = refl
 early_in s policy slot switch timed Begun shut = opening_unsent s policy slot (opening_with Begun timed.event)
 early_in s policy slot switch timed Opened shut = absurd (true≢false shut)
@@ -121,7 +130,7 @@ unsent_before : (s : Settings) (policy : PolicyView) (slot : ℕ) (switch : Swit
     → sent_for s side.sight.view (items_of policy slot switch side timed) ≡ []
 unsent_before s policy slot switch side timed start shut =
     ap (λ (other : Side). sent_for s other.sight.view (items_of policy slot switch other timed)) start
-    ∙ early_unsent (is_slot policy slot) s (phase_items policy slot switch [] timed switch.phase) (early_in s policy slot switch timed switch.phase shut)
+    ∙ early_unsent (is_slot policy slot) s (phase_items policy slot switch side_start timed switch.phase) (early_in s policy slot switch timed switch.phase shut)
 
 -- one event more, by whether the switch has told what it is
 alone_after : (policy : PolicyView) (slot : ℕ) (timed : Timed) (h : List Timed) (told : Option Features) → opening_of h ≡ told → IsAlone policy slot h → IsAlone policy slot (timed ∷ h)

@@ -4,14 +4,13 @@ use Rattle.std.proofs.lemmas.Bool.{not-true}
 use Rattle.of10_model.proofs.Results.{either_none}
 use Rattle.of10_port.specs.declared.features.Features.{Features}
 use Rattle.flowspace.specs.Policies.{PolicyView}
-use Rattle.slice_words.specs.Items.{Item}
 use Rattle.desk_words.specs.declared.event.Event.{Event}
 use Rattle.desk_words.specs.declared.event.Event.TheVariants.{SwitchUp, SwitchMsg, SwitchDown, SliceUp, SliceMsg, SliceDown}
 use Rattle.desk_words.specs.declared.event.Timed.{Timed}
 use Rattle.desk_words.specs.declared.phase.Phase.{Phase}
 use Rattle.desk_words.specs.declared.phase.Phase.TheVariants.{Fresh, Begun, Opened, Ended}
 use Rattle.slice_words.specs.Alone.{sent_for}
-use Rattle.desk_words.specs.Openings.{phase_after, opening_after, known_after, Switch, switch_after, switch_of, opening_of}
+use Rattle.desk_words.specs.Openings.{phase_of, phase_after, opening_after, known_after, Switch, switch_after, switch_of, opening_of}
 use Rattle.desk_words.specs.Histories.{is_slot, settings_at, Side, items_of, phase_items, event_items, with_shown, side_of, view_of}
 use Rattle.desk_words.specs.Sent.{sent_with, sent_by, sent}
 use Rattle.desk_words.specs.Laws.{is_others, erased, AreSame, IsErasable}
@@ -80,35 +79,47 @@ others_slices slot (SwitchMsg message) is = absurd (true≢false (sym is))
 others_slices slot SwitchDown is = absurd (true≢false (sym is))
 
 -- after the opening it shows nothing
-others_shown : (policy : PolicyView) (slot : ℕ) (switch : Switch) (view : List Item) (moment : ℕ) (event : Event)
-    → is_others slot event ≡ true → event_items policy slot switch view moment event ≡ []
-others_shown policy slot switch view moment (SliceUp other) is = rw (not-true (other == slot) is) refl
-others_shown policy slot switch view moment (SliceMsg other message) is = rw (not-true (other == slot) is) refl
-others_shown policy slot switch view moment (SliceDown other) is = rw (not-true (other == slot) is) refl
-others_shown policy slot switch view moment SwitchUp is = refl
-others_shown policy slot switch view moment (SwitchMsg message) is = absurd (true≢false (sym is))
-others_shown policy slot switch view moment SwitchDown is = absurd (true≢false (sym is))
+others_shown : (policy : PolicyView) (slot : ℕ) (switch : Switch) (side : Side) (moment : ℕ) (event : Event)
+    → is_others slot event ≡ true → event_items policy slot switch side moment event ≡ []
+others_shown policy slot switch side moment (SliceUp other) is = rw (not-true (other == slot) is) refl
+others_shown policy slot switch side moment (SliceMsg other message) is = rw (not-true (other == slot) is) refl
+others_shown policy slot switch side moment (SliceDown other) is = rw (not-true (other == slot) is) refl
+others_shown policy slot switch side moment SwitchUp is = refl
+others_shown policy slot switch side moment (SwitchMsg message) is = absurd (true≢false (sym is))
+others_shown policy slot switch side moment SwitchDown is = absurd (true≢false (sym is))
 
-others_begun : (policy : PolicyView) (slot : ℕ) (switch : Switch) (view : List Item) (timed : Timed) (event : Event)
-    → timed.event ≡ event → is_others slot event ≡ true → phase_items policy slot switch view timed Begun ≡ []
-others_begun policy slot switch view timed (SliceUp other) e is = rw e refl
-others_begun policy slot switch view timed (SliceMsg other message) e is = rw e refl
-others_begun policy slot switch view timed (SliceDown other) e is = rw e refl
-others_begun policy slot switch view timed SwitchUp e is = rw e refl
-others_begun policy slot switch view timed (SwitchMsg message) e is = absurd (true≢false (sym is))
-others_begun policy slot switch view timed SwitchDown e is = rw e refl
+others_begun : (policy : PolicyView) (slot : ℕ) (switch : Switch) (side : Side) (timed : Timed) (event : Event)
+    → timed.event ≡ event → is_others slot event ≡ true → phase_items policy slot switch side timed Begun ≡ []
+others_begun policy slot switch side timed (SliceUp other) e is = rw e refl
+others_begun policy slot switch side timed (SliceMsg other message) e is = rw e refl
+others_begun policy slot switch side timed (SliceDown other) e is = rw e refl
+others_begun policy slot switch side timed SwitchUp e is = rw e refl
+others_begun policy slot switch side timed (SwitchMsg message) e is = absurd (true≢false (sym is))
+others_begun policy slot switch side timed SwitchDown e is = rw e refl
 
-others_in : (policy : PolicyView) (slot : ℕ) (switch : Switch) (view : List Item) (timed : Timed) (phase : Phase)
-    → is_others slot timed.event ≡ true → phase_items policy slot switch view timed phase ≡ []
-others_in policy slot switch view timed Fresh is = refl
-others_in policy slot switch view timed Begun is = others_begun policy slot switch view timed timed.event refl is
-others_in policy slot switch view timed Opened is = others_shown policy slot switch view timed.moment timed.event is
-others_in policy slot switch view timed Ended is = refl
+others_in : (policy : PolicyView) (slot : ℕ) (switch : Switch) (side : Side) (timed : Timed) (phase : Phase)
+    → is_others slot timed.event ≡ true → phase_items policy slot switch side timed phase ≡ []
+others_in policy slot switch side timed Fresh is = refl
+others_in policy slot switch side timed Begun is = others_begun policy slot switch side timed timed.event refl is
+others_in policy slot switch side timed Opened is = others_shown policy slot switch side timed.moment timed.event is
+others_in policy slot switch side timed Ended is = refl
 
 pub others_items : (policy : PolicyView) (slot : ℕ) (switch : Switch) (side : Side) (timed : Timed)
     → is_others slot timed.event ≡ true → items_of policy slot switch side timed ≡ []
 others_items policy slot switch side timed is =
-    either_none (is_slot policy slot) (phase_items policy slot switch side.sight.view timed switch.phase) (others_in policy slot switch side.sight.view timed switch.phase is)
+    either_none (is_slot policy slot) (phase_items policy slot switch side timed switch.phase) (others_in policy slot switch side timed switch.phase is)
+
+-- nothing that a slice does hands a packet up
+slices_unnumbered : (phase : Phase) (event : Event) (moment : ℕ) (side : Side) → is_slices event ≡ true → with_shown phase (record { event = event; moment = moment }) [] side ≡ side
+slices_unnumbered Opened (SliceUp other) moment side is = refl
+slices_unnumbered Opened (SliceMsg other message) moment side is = refl
+slices_unnumbered Opened (SliceDown other) moment side is = refl
+slices_unnumbered Opened SwitchUp moment side is = absurd (true≢false (sym is))
+slices_unnumbered Opened (SwitchMsg message) moment side is = absurd (true≢false (sym is))
+slices_unnumbered Opened SwitchDown moment side is = absurd (true≢false (sym is))
+slices_unnumbered Fresh event moment side is = refl
+slices_unnumbered Begun event moment side is = refl
+slices_unnumbered Ended event moment side is = refl
 
 -- ---- histories
 
@@ -116,7 +127,7 @@ others_items policy slot switch side timed is =
 keeps : (policy : PolicyView) (slot : ℕ) (g h : List Timed) (timed : Timed) → AreSame policy slot g h → AreSame policy slot (timed ∷ g) (timed ∷ h)
 keeps policy slot g h timed same = record {
   switch = ap (λ switch. switch_after switch timed.event) same.switch;
-  side = ap₂ (λ switch side. with_shown timed (items_of policy slot switch side timed) side) same.switch same.side;
+  side = ap₂ (λ switch side. with_shown switch.phase timed (items_of policy slot switch side timed) side) same.switch same.side;
   sends = ap₂ (λ (a b : List (List ℕ)). a ++ b) same.sends (ap₂ (λ switch side. sent_with policy slot switch side timed) same.switch same.side);
 }
 
@@ -127,7 +138,7 @@ skips policy slot g h timed is same =
     let unsent : sent_by policy slot h timed ≡ [] = ap (λ items. sent_for (settings_at policy slot (opening_of h)) (view_of policy slot h) items) none in
     record {
       switch = same.switch ∙ sym (slices_switch (switch_of h) timed.event (others_slices slot timed.event is));
-      side = same.side ∙ sym (ap (λ items. with_shown timed items (side_of policy slot h)) none);
+      side = same.side ∙ sym (ap (λ items. with_shown (phase_of h) timed items (side_of policy slot h)) none ∙ slices_unnumbered (phase_of h) timed.event timed.moment (side_of policy slot h) (others_slices slot timed.event is));
       sends = same.sends ∙ sym (append-nil (sent policy slot h)) ∙ ap (λ (m : List (List ℕ)). sent policy slot h ++ m) (sym unsent);
     }
 

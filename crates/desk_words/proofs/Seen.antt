@@ -31,7 +31,7 @@ use Rattle.desk_words.specs.declared.phase.Phase.TheVariants.{Fresh, Begun, Open
 use Rattle.of10_ctl.specs.Kinds.{is_of}
 use Rattle.desk_words.specs.Openings.{well_formed, features_told, status_told, phase_of, opening_after, opening_of, rules_of, known_after, known_of, Switch, switch_of}
 use Rattle.desk_words.specs.Verdicts.{is_before}
-use Rattle.desk_words.specs.Histories.{is_slot, settings_at, own_ports, own_features, packet_items, status_items, removed_items, error_items, message_items, event_items, phase_items, Side, view_of}
+use Rattle.desk_words.specs.Histories.{is_slot, settings_at, own_ports, own_features, packet_in_items, status_items, removed_items, error_items, message_items, event_items, phase_items, Side, side_start, side_of, view_of}
 use Rattle.desk_words.specs.Laws.{HasSeen, SeesItsSwitch, AreKnownInOrder}
 use Rattle.desk_words.proofs.Alone.{blind}
 use Rattle.desk_words.proofs.Silence.{none_or, none_of_packet, none_of_removed, none_of_error, untold}
@@ -165,43 +165,43 @@ by_test : (P : List Item → Type 0) (test : Bool) (one other : List Item) → (
 by_test P true one other is isnt = is refl
 by_test P false one other is isnt = isnt
 
-by_message : (policy : PolicyView) (slot : ℕ) (switch : Switch) (view : List Item) (message : List ℕ)
-    → IsAscending switch.known → known_ports view ≡ own_ports (settings_at policy slot switch.features) switch.known
-    → Follows (settings_at policy slot switch.features) view (with_items (message_items policy slot switch view message) view) (known_after Opened switch.known (SwitchMsg message))
+by_message : (policy : PolicyView) (slot : ℕ) (switch : Switch) (side : Side) (message : List ℕ)
+    → IsAscending switch.known → known_ports side.sight.view ≡ own_ports (settings_at policy slot switch.features) switch.known
+    → Follows (settings_at policy slot switch.features) side.sight.view (with_items (message_items policy slot switch side message) side.sight.view) (known_after Opened switch.known (SwitchMsg message))
 unfolding message_items
-by_message policy slot switch view message order same =
-    let P : List Item → Type 0 = λ items. Follows (settings_at policy slot switch.features) view (with_items items view) (known_after Opened switch.known (SwitchMsg message)) in
-    by_test P (is_bad message) _ _ (λ is. by_other policy slot switch view (End ∷ []) message refl (bad_untold message is) same)
+by_message policy slot switch side message order same =
+    let P : List Item → Type 0 = λ items. Follows (settings_at policy slot switch.features) side.sight.view (with_items items side.sight.view) (known_after Opened switch.known (SwitchMsg message)) in
+    by_test P (is_bad message) _ _ (λ is. by_other policy slot switch side.sight.view (End ∷ []) message refl (bad_untold message is) same)
     (by_test P (is_of PACKET_IN message) _ _
-    (λ is. by_other policy slot switch view (elim (well_formed (read_packet_in message)) as (λ x. List Item) [ None ↦ [] | Some p ↦ packet_items (rules_of policy switch.features) slot view p ]) message (none_of_packet tells_switch (rules_of policy switch.features) slot view (well_formed (read_packet_in message)) (λ p share. refl)) (other_untold PACKET_IN message refl is) same)
+    (λ is. by_other policy slot switch side.sight.view (elim (well_formed (read_packet_in message)) as (λ x. List Item) [ None ↦ [] | Some p ↦ packet_in_items policy (rules_of policy switch.features) slot side p ]) message (none_of_packet tells_switch policy (rules_of policy switch.features) slot side (well_formed (read_packet_in message)) (λ p share. refl) (λ k. refl)) (other_untold PACKET_IN message refl is) same)
     (by_test P (is_of FLOW_REMOVED message) _ _
-    (λ is. by_other policy slot switch view (removed_items (settings_at policy slot switch.features) (well_formed (read_flow_removed message))) message (none_of_removed tells_switch (settings_at policy slot switch.features) (well_formed (read_flow_removed message)) (λ entry. refl)) (other_untold FLOW_REMOVED message refl is) same)
+    (λ is. by_other policy slot switch side.sight.view (removed_items (settings_at policy slot switch.features) (well_formed (read_flow_removed message))) message (none_of_removed tells_switch (settings_at policy slot switch.features) (well_formed (read_flow_removed message)) (λ entry. refl)) (other_untold FLOW_REMOVED message refl is) same)
     (by_test P (is_of ERROR message) _ _
-    (λ is. by_other policy slot switch view (error_items (settings_at policy slot switch.features) (xid_of message) (well_formed (read_error message))) message (none_of_error tells_switch (settings_at policy slot switch.features) (xid_of message) (well_formed (read_error message)) (λ x class code pair. refl)) (other_untold ERROR message refl is) same)
-    (by_told (settings_at policy slot switch.features) view switch.known (status_told message) order same))))
+    (λ is. by_other policy slot switch side.sight.view (error_items (settings_at policy slot switch.features) (xid_of message) (well_formed (read_error message))) message (none_of_error tells_switch (settings_at policy slot switch.features) (xid_of message) (well_formed (read_error message)) (λ x class code pair. refl)) (other_untold ERROR message refl is) same)
+    (by_told (settings_at policy slot switch.features) side.sight.view switch.known (status_told message) order same))))
 
-by_event : (policy : PolicyView) (slot moment : ℕ) (switch : Switch) (view : List Item) (event : Event)
-    → IsAscending switch.known → known_ports view ≡ own_ports (settings_at policy slot switch.features) switch.known
-    → Follows (settings_at policy slot switch.features) view (with_items (event_items policy slot switch view moment event) view) (known_after Opened switch.known event)
-by_event policy slot moment switch view SwitchUp order same = record { features_stay = refl; ports_follow = same }
-by_event policy slot moment switch view (SwitchMsg message) order same = by_message policy slot switch view message order same
-by_event policy slot moment switch view SwitchDown order same = record { features_stay = refl; ports_follow = same }
-by_event policy slot moment switch view (SliceUp other) order same =
-    by_untelling (settings_at policy slot switch.features) view (if other == slot then Up ∷ [] else []) switch.known switch.known (none_or tells_switch (other == slot) (Up ∷ []) refl) refl same
-by_event policy slot moment switch view (SliceMsg other message) order same =
-    by_untelling (settings_at policy slot switch.features) view (if other == slot && is_up view then Msg message moment ∷ [] else []) switch.known switch.known (none_or tells_switch (other == slot && is_up view) (Msg message moment ∷ []) refl) refl same
-by_event policy slot moment switch view (SliceDown other) order same =
-    by_untelling (settings_at policy slot switch.features) view (if other == slot then Down ∷ [] else []) switch.known switch.known (none_or tells_switch (other == slot) (Down ∷ []) refl) refl same
+by_event : (policy : PolicyView) (slot moment : ℕ) (switch : Switch) (side : Side) (event : Event)
+    → IsAscending switch.known → known_ports side.sight.view ≡ own_ports (settings_at policy slot switch.features) switch.known
+    → Follows (settings_at policy slot switch.features) side.sight.view (with_items (event_items policy slot switch side moment event) side.sight.view) (known_after Opened switch.known event)
+by_event policy slot moment switch side SwitchUp order same = record { features_stay = refl; ports_follow = same }
+by_event policy slot moment switch side (SwitchMsg message) order same = by_message policy slot switch side message order same
+by_event policy slot moment switch side SwitchDown order same = record { features_stay = refl; ports_follow = same }
+by_event policy slot moment switch side (SliceUp other) order same =
+    by_untelling (settings_at policy slot switch.features) side.sight.view (if other == slot then Up ∷ [] else []) switch.known switch.known (none_or tells_switch (other == slot) (Up ∷ []) refl) refl same
+by_event policy slot moment switch side (SliceMsg other message) order same =
+    by_untelling (settings_at policy slot switch.features) side.sight.view (if other == slot && is_up side.sight.view then Msg message moment ∷ [] else []) switch.known switch.known (none_or tells_switch (other == slot && is_up side.sight.view) (Msg message moment ∷ []) refl) refl same
+by_event policy slot moment switch side (SliceDown other) order same =
+    by_untelling (settings_at policy slot switch.features) side.sight.view (if other == slot then Down ∷ [] else []) switch.known switch.known (none_or tells_switch (other == slot) (Down ∷ []) refl) refl same
 
 -- ---- histories
 
-by_phase : (policy : PolicyView) (slot : ℕ) (switch : Switch) (view : List Item) (timed : Timed) (phase : Phase) → is_before phase ≡ false
-    → IsAscending switch.known → known_ports view ≡ own_ports (settings_at policy slot switch.features) switch.known
-    → Follows (settings_at policy slot switch.features) view (with_items (phase_items policy slot switch view timed phase) view) (known_after phase switch.known timed.event)
-by_phase policy slot switch view timed Fresh late order same = absurd (true≢false late)
-by_phase policy slot switch view timed Begun late order same = absurd (true≢false late)
-by_phase policy slot switch view timed Opened late order same = by_event policy slot timed.moment switch view timed.event order same
-by_phase policy slot switch view timed Ended late order same = record { features_stay = refl; ports_follow = same }
+by_phase : (policy : PolicyView) (slot : ℕ) (switch : Switch) (side : Side) (timed : Timed) (phase : Phase) → is_before phase ≡ false
+    → IsAscending switch.known → known_ports side.sight.view ≡ own_ports (settings_at policy slot switch.features) switch.known
+    → Follows (settings_at policy slot switch.features) side.sight.view (with_items (phase_items policy slot switch side timed phase) side.sight.view) (known_after phase switch.known timed.event)
+by_phase policy slot switch side timed Fresh late order same = absurd (true≢false late)
+by_phase policy slot switch side timed Begun late order same = absurd (true≢false late)
+by_phase policy slot switch side timed Opened late order same = by_event policy slot timed.moment switch side timed.event order same
+by_phase policy slot switch side timed Ended late order same = record { features_stay = refl; ports_follow = same }
 
 abbrev known_begun : List (List ℕ) → Option Features → List (List ℕ)
 known_begun known told = elim told [ None ↦ known | Some features ↦ first_known features.ports ]
@@ -264,8 +264,8 @@ ascending h = known_holds IsAscending (record {
 -- the opening shows the features with the slice's own ports
 seen_first : (policy : PolicyView) (slot : ℕ) (switch : Switch) (timed : Timed) (event : Event) (phase : Phase) (features : Features)
     → timed.event ≡ event → opening_after phase None event ≡ Some features
-    → (features_in (with_items (phase_items policy slot switch [] timed phase) []) ≡ Some (own_features (settings_at policy slot (Some features)) features))
-    × (known_ports (with_items (phase_items policy slot switch [] timed phase) []) ≡ own_ports (settings_at policy slot (Some features)) (known_after phase switch.known event))
+    → (features_in (with_items (phase_items policy slot switch side_start timed phase) []) ≡ Some (own_features (settings_at policy slot (Some features)) features))
+    × (known_ports (with_items (phase_items policy slot switch side_start timed phase) []) ≡ own_ports (settings_at policy slot (Some features)) (known_after phase switch.known event))
 seen_first policy slot switch timed event Fresh features e told = absurd (none-some features told)
 seen_first policy slot switch timed event Opened features e told = absurd (none-some features told)
 seen_first policy slot switch timed event Ended features e told = absurd (none-some features told)
@@ -284,7 +284,7 @@ seen_more policy slot h timed features is here before =
     let s = settings_at policy slot (Some features) in
     let same_settings : settings_at policy slot (opening_of h) ≡ s = ap (settings_at policy slot) is in
     let late : is_before (phase_of h) ≡ false = false_from_ne_true (is_before (phase_of h)) (λ early. none-some features (sym (untold h early) ∙ is)) in
-    let follows = by_phase policy slot (switch_of h) (view_of policy slot h) timed (phase_of h) late (ascending h) (before.ports_known ∙ ap (λ (t : Settings). own_ports t (known_of h)) (sym same_settings)) in
+    let follows = by_phase policy slot (switch_of h) (side_of policy slot h) timed (phase_of h) late (ascending h) (before.ports_known ∙ ap (λ (t : Settings). own_ports t (known_of h)) (sym same_settings)) in
     record {
       features_seen = rw here (follows.features_stay ∙ before.features_seen);
       ports_known = rw here (follows.ports_follow ∙ ap (λ (t : Settings). own_ports t (known_after (phase_of h) (known_of h) timed.event)) same_settings);
@@ -296,8 +296,8 @@ seen_now policy slot h timed features is here told =
     let both = seen_first policy slot (switch_of h) timed timed.event (phase_of h) features refl told in
     let start = blind policy slot h is in
     record {
-      features_seen = rw here (ap (λ (side : Side). features_in (with_items (phase_items policy slot (switch_of h) side.sight.view timed (phase_of h)) side.sight.view)) start ∙ both.0);
-      ports_known = rw here (ap (λ (side : Side). known_ports (with_items (phase_items policy slot (switch_of h) side.sight.view timed (phase_of h)) side.sight.view)) start ∙ both.1);
+      features_seen = rw here (ap (λ (side : Side). features_in (with_items (phase_items policy slot (switch_of h) side timed (phase_of h)) side.sight.view)) start ∙ both.0);
+      ports_known = rw here (ap (λ (side : Side). known_ports (with_items (phase_items policy slot (switch_of h) side timed (phase_of h)) side.sight.view)) start ∙ both.1);
     }
 
 -- by whether the switch had told what it is before

@@ -1,5 +1,5 @@
 -- A slice that is down is sent nothing until it comes up.
-use Rattle.std.proofs.Common.{◌≡◌, ℕ, ◌/◌, ◌%◌, ◌^◌, ◌==◌, ◌&&◌, ◌||◌, Bool, true, false, cond, if◌then◌else◌, List, [], ◌∷◌, ◌++◌, map, refl, ap, ap₂, sym, ◌∙◌, append-nil, true≢false, Option, Some, None, inl, inr, ◌⊎◌}
+use Rattle.std.proofs.Common.{◌≡◌, ℕ, ◌/◌, ◌%◌, ◌^◌, ◌==◌, ◌&&◌, ◌||◌, Bool, true, false, cond, if◌then◌else◌, List, [], ◌∷◌, ◌++◌, map, refl, ap, ap₂, sym, ◌∙◌, append-nil, true≢false, Option, Some, None, option_and_then, inl, inr, ◌⊎◌}
 use Rattle.std.proofs.lemmas.Bool.{and_right, eq-eqb, or_parts}
 use Rattle.std.specs.List.{filter, list_any}
 use Rattle.of10_model.proofs.Results.{either, either_none}
@@ -30,7 +30,7 @@ use Rattle.desk_words.specs.declared.phase.Phase.TheVariants.{Fresh, Begun, Open
 use Rattle.of10_ctl.specs.Kinds.{is_of}
 use Rattle.desk_words.specs.Openings.{well_formed, status_told, features_told, phase_after, phase_of, opening_with, opening_after, opening_of, rules_of, Switch, switch_of}
 use Rattle.desk_words.specs.Verdicts.{is_before}
-use Rattle.desk_words.specs.Histories.{is_slot, settings_at, Side, side_start, side_of, view_of, handed, shares_of, is_plain, packet_items, status_items, removed_items, error_items, message_items, opening_items, event_items, phase_items, items_of, is_open, is_slice_up}
+use Rattle.desk_words.specs.Histories.{is_slot, settings_at, Side, side_start, side_of, view_of, handed, shares_of, packet_items, packet_in_items, lost_items, holder, number_given, number_told, came_with, status_items, removed_items, error_items, message_items, opening_items, event_items, phase_items, items_of, is_open, is_slice_up}
 use Rattle.port_view.specs.KnownPorts.{is_kept}
 use Rattle.desk_words.specs.Sent.{sent, sent_by}
 use Rattle.desk_words.specs.Laws.{is_up_of, IsSilentUntilUp, IsDownAfterDown}
@@ -46,13 +46,26 @@ none_handed test packet [] none = refl
 none_handed test packet (share ∷ others) none =
     ap (λ (one : Bool). one || list_any test (map (λ other. handed other packet) others)) (none share) ∙ none_handed test packet others none
 
--- a packet shows a slice nothing but the packet
-pub none_of_packet : (test : Item → Bool) (rules : List Rule) (slot : ℕ) (view : List Item) (told : Option PacketIn) → ((packet : PacketIn) (share : Share) → test (handed share packet) ≡ false)
-    → list_any test (elim told [ None ↦ [] | Some packet ↦ packet_items rules slot view packet ]) ≡ false
-none_of_packet test rules slot view None none = refl
-none_of_packet test rules slot view (Some packet) none =
-    none_or test (is_plain packet && is_up view) (map (λ share. handed share packet) (shares_of rules slot packet))
-    (none_handed test packet (shares_of rules slot packet) (none packet))
+-- nor of two lists of items
+pub none_both : (test : Item → Bool) (items others : List Item) → list_any test items ≡ false → list_any test others ≡ false → list_any test (items ++ others) ≡ false
+none_both test [] others none none_of_others = none_of_others
+none_both test (item ∷ items) others none none_of_others =
+    let parts = or_parts (test item) (list_any test items) none in
+    rw (parts.0) (none_both test items others parts.1 none_of_others)
+
+none_lost : (test : Item → Bool) (lost : Option ℕ) → ((k : ℕ) → test (Lost k) ≡ false) → list_any test (elim lost [ None ↦ [] | Some k ↦ Lost k ∷ [] ]) ≡ false
+none_lost test None none = refl
+none_lost test (Some k) none = ap (λ (one : Bool). one || false) (none k)
+
+-- a packet shows a slice nothing but what is lost and the packet
+pub none_of_packet : (test : Item → Bool) (policy : PolicyView) (rules : List Rule) (slot : ℕ) (side : Side) (told : Option PacketIn) → ((packet : PacketIn) (share : Share) → test (handed share packet) ≡ false) → ((k : ℕ) → test (Lost k) ≡ false)
+    → list_any test (elim told [ None ↦ [] | Some packet ↦ packet_in_items policy rules slot side packet ]) ≡ false
+none_of_packet test policy rules slot side None none lost = refl
+none_of_packet test policy rules slot side (Some packet) none lost =
+    none_both test (lost_items side.numbered packet) (packet_items policy rules slot side.sight.view packet)
+    (none_lost test (option_and_then (λ number. holder number side.numbered) (number_given packet)) lost)
+    (none_or test (is_up side.sight.view) (map (λ share. handed share packet) (shares_of policy rules slot packet))
+    (none_handed test packet (shares_of policy rules slot packet) (none packet)))
 
 -- ---- items that say nothing of the connection
 
@@ -79,12 +92,12 @@ none_of_error test s xid (Some error) none =
     (ap (λ (one : Bool). one || false) (none (xid % 2 ^ 24) error.class error.code (pair_in xid error.cause)))
 
 -- what a message of the switch shows says nothing of the slice's connection
-pub plain_message : (policy : PolicyView) (slot : ℕ) (switch : Switch) (view : List Item) (message : List ℕ) → are_plain (message_items policy slot switch view message) ≡ false
+pub plain_message : (policy : PolicyView) (slot : ℕ) (switch : Switch) (side : Side) (message : List ℕ) → are_plain (message_items policy slot switch side message) ≡ false
 unfolding message_items
-plain_message policy slot switch view message =
+plain_message policy slot switch side message =
     either (λ (items : List Item). are_plain items ≡ false) (is_bad message) (End ∷ []) _ refl
     (either (λ (items : List Item). are_plain items ≡ false) (is_of PACKET_IN message) _ _
-    (none_of_packet is_forgetting (rules_of policy switch.features) slot view (well_formed (read_packet_in message)) (λ packet share. refl))
+    (none_of_packet is_forgetting policy (rules_of policy switch.features) slot side (well_formed (read_packet_in message)) (λ packet share. refl) (λ k. refl))
     (either (λ (items : List Item). are_plain items ≡ false) (is_of FLOW_REMOVED message) _ _
     (none_of_removed is_forgetting (settings_at policy slot switch.features) (well_formed (read_flow_removed message)) (λ entry. refl))
     (either (λ (items : List Item). are_plain items ≡ false) (is_of ERROR message) _ _
@@ -142,22 +155,22 @@ plain_none (item ∷ items) plain =
     rw (plain_no_up item ((or_parts (is_forgetting item) (are_plain items) plain).0)) (plain_none items ((or_parts (is_forgetting item) (are_plain items) plain).1))
 
 -- an event that isn't the slice's up shows no up
-none_event : (policy : PolicyView) (slot : ℕ) (switch : Switch) (view : List Item) (moment : ℕ) (timed : Timed) (event : Event) → timed.event ≡ event → is_up_of slot timed ≡ false
-    → list_any is_coming (event_items policy slot switch view moment event) ≡ false
-none_event policy slot switch view moment timed SwitchUp e still = refl
-none_event policy slot switch view moment timed (SwitchMsg message) e still = plain_none (message_items policy slot switch view message) (plain_message policy slot switch view message)
-none_event policy slot switch view moment timed SwitchDown e still = refl
-none_event policy slot switch view moment timed (SliceUp other) e still =
+none_event : (policy : PolicyView) (slot : ℕ) (switch : Switch) (side : Side) (moment : ℕ) (timed : Timed) (event : Event) → timed.event ≡ event → is_up_of slot timed ≡ false
+    → list_any is_coming (event_items policy slot switch side moment event) ≡ false
+none_event policy slot switch side moment timed SwitchUp e still = refl
+none_event policy slot switch side moment timed (SwitchMsg message) e still = plain_none (message_items policy slot switch side message) (plain_message policy slot switch side message)
+none_event policy slot switch side moment timed SwitchDown e still = refl
+none_event policy slot switch side moment timed (SliceUp other) e still =
     let other_slot : (other == slot) ≡ false = (rw e at still) in rw other_slot refl
-none_event policy slot switch view moment timed (SliceMsg other message) e still = none_or is_coming (other == slot && is_up view) (Msg message moment ∷ []) refl
-none_event policy slot switch view moment timed (SliceDown other) e still = none_or is_coming (other == slot) (Down ∷ []) refl
+none_event policy slot switch side moment timed (SliceMsg other message) e still = none_or is_coming (other == slot && is_up side.sight.view) (Msg message moment ∷ []) refl
+none_event policy slot switch side moment timed (SliceDown other) e still = none_or is_coming (other == slot) (Down ∷ []) refl
 
-none_in : (policy : PolicyView) (slot : ℕ) (switch : Switch) (view : List Item) (timed : Timed) (phase : Phase) → is_up_of slot timed ≡ false
-    → list_any is_coming (phase_items policy slot switch view timed phase) ≡ false
-none_in policy slot switch view timed Fresh still = refl
-none_in policy slot switch view timed Begun still = plain_none (opening_items policy slot (opening_with Begun timed.event)) (plain_opening policy slot (opening_with Begun timed.event))
-none_in policy slot switch view timed Opened still = none_event policy slot switch view timed.moment timed timed.event refl still
-none_in policy slot switch view timed Ended still = refl
+none_in : (policy : PolicyView) (slot : ℕ) (switch : Switch) (side : Side) (timed : Timed) (phase : Phase) → is_up_of slot timed ≡ false
+    → list_any is_coming (phase_items policy slot switch side timed phase) ≡ false
+none_in policy slot switch side timed Fresh still = refl
+none_in policy slot switch side timed Begun still = plain_none (opening_items policy slot (opening_with Begun timed.event)) (plain_opening policy slot (opening_with Begun timed.event))
+none_in policy slot switch side timed Opened still = none_event policy slot switch side timed.moment timed timed.event refl still
+none_in policy slot switch side timed Ended still = refl
 
 -- ---- before the opening nobody is up
 
@@ -207,14 +220,15 @@ one_silent : (policy : PolicyView) (slot : ℕ) (h : List Timed) (timed : Timed)
     → (is_up (view_of policy slot h) ≡ false) ⊎ (phase_of h ≡ Ended)
     → (sent_by policy slot h timed ≡ []) × (is_slice_up policy slot (timed ∷ h) ≡ false)
 one_silent policy slot h timed still (inl down) =
+    let side = side_of policy slot h in
     let view = view_of policy slot h in
     let items = items_of policy slot (switch_of h) (side_of policy slot h) timed in
-    let none = none_or is_coming (is_slot policy slot) (phase_items policy slot (switch_of h) view timed (phase_of h)) (none_in policy slot (switch_of h) view timed (phase_of h) still) in
+    let none = none_or is_coming (is_slot policy slot) (phase_items policy slot (switch_of h) side timed (phase_of h)) (none_in policy slot (switch_of h) side timed (phase_of h) still) in
     let both = silent_items (settings_at policy slot (opening_of h)) view items down none in
     (both.0, and_right (is_open (phase_after (phase_of h) timed.event)) (is_up (with_items items view)) both.1)
 one_silent policy slot h timed still (inr ended) =
     let items = items_of policy slot (switch_of h) (side_of policy slot h) timed in
-    let none : items ≡ [] = ap (λ (phase : Phase). cond (is_slot policy slot) (phase_items policy slot (switch_of h) (view_of policy slot h) timed phase) []) ended ∙ either_none (is_slot policy slot) [] refl in (
+    let none : items ≡ [] = ap (λ (phase : Phase). cond (is_slot policy slot) (phase_items policy slot (switch_of h) (side_of policy slot h) timed phase) []) ended ∙ either_none (is_slot policy slot) [] refl in (
       ap (λ (shown : List Item). sent_for (settings_at policy slot (opening_of h)) (view_of policy slot h) shown) none,
       ap (λ (phase : Phase). is_open (phase_after phase timed.event) && is_up (view_of policy slot (timed ∷ h))) ended,
     )
@@ -232,22 +246,29 @@ until_up policy slot (timed ∷ later) h down none =
 
 -- ---- a connection that ended
 
--- a slot that no slice has sees nothing
-pub sees_nothing : (policy : PolicyView) (slot : ℕ) (h : List Timed) → is_slot policy slot ≡ false → side_of policy slot h ≡ side_start
-sees_nothing policy slot [] out = refl
-sees_nothing policy slot (timed ∷ h) out = rw out (sees_nothing policy slot h out)
+-- no packet came to it
+none_came : (number : Option ℕ) (came : List ℕ) → came_with number [] came ≡ came
+none_came None came = refl
+none_came (Some number) came = refl
 
-down_in_view : (policy : PolicyView) (slot moment : ℕ) (switch : Switch) (view : List Item) (here : Bool) → (here ≡ false → view ≡ [])
-    → is_up (with_items (cond here (event_items policy slot switch view moment (SliceDown slot)) []) view) ≡ false
-down_in_view policy slot moment switch view true out = rw (eq-eqb slot slot refl) refl
-down_in_view policy slot moment switch view false out = ap is_up (out refl)
+-- a slot that no slice has sees nothing
+pub sees_nothing : (policy : PolicyView) (slot : ℕ) (h : List Timed) → is_slot policy slot ≡ false → (side_of policy slot h).sight ≡ side_start.sight
+sees_nothing policy slot [] out = refl
+sees_nothing policy slot (timed ∷ h) out =
+    let before = sees_nothing policy slot h out in
+    rw out (λ i. record { view = (before i).view; came = (none_came (number_told (phase_of h) timed.event) (side_of policy slot h).sight.came ∙ ap (λ sight. sight.came) before) i })
+
+down_in_view : (policy : PolicyView) (slot moment : ℕ) (switch : Switch) (side : Side) (here : Bool) → (here ≡ false → side.sight.view ≡ [])
+    → is_up (with_items (cond here (event_items policy slot switch side moment (SliceDown slot)) []) side.sight.view) ≡ false
+down_in_view policy slot moment switch side true out = rw (eq-eqb slot slot refl) refl
+down_in_view policy slot moment switch side false out = ap is_up (out refl)
 
 down_at : (policy : PolicyView) (slot moment : ℕ) (h : List Timed) (phase : Phase) → phase_of h ≡ phase → IsDownAfterDown policy slot moment h
 down_at policy slot moment h Fresh is = rw is refl
 down_at policy slot moment h Begun is = rw is refl
 down_at policy slot moment h Ended is = rw is refl
 down_at policy slot moment h Opened is =
-    rw is (down_in_view policy slot moment (switch_of h) (view_of policy slot h) (is_slot policy slot) (λ out. ap (λ (side : Side). side.sight.view) (sees_nothing policy slot h out)))
+    rw is (down_in_view policy slot moment (switch_of h) (side_of policy slot h) (is_slot policy slot) (λ out. ap (λ sight. sight.view) (sees_nothing policy slot h out)))
 
 pub after_down : (policy : PolicyView) (slot moment : ℕ) (h : List Timed) → IsDownAfterDown policy slot moment h
 after_down policy slot moment h = down_at policy slot moment h (phase_of h) refl

@@ -1,31 +1,24 @@
 -- What of a recording isn't built yet: the first frame that would need it, and the record that completes it. Numbers are the types of messages (OpenFlow 1.0.0, section 5.1).
-use Rattle.std.specs.Prelude.{ℕ, ◌==◌, ◌||◌, ◌&&◌, not, Bool, false, if◌then◌else◌, List, [], ◌∷◌, ◌-◌, find, Option, Some, None}
+use Rattle.std.specs.Prelude.{ℕ, ◌==◌, Bool, if◌then◌else◌, List, [], ◌∷◌, ◌-◌, find, Option, Some, None}
 use Rattle.std.specs.List.{list_any}
-use Rattle.of10_ctl.specs.declared.kind.TheConstants.{PACKET_IN, PACKET_OUT, STATS_REQUEST, STATS_REPLY, BARRIER_REQUEST, BARRIER_REPLY, QUEUE_GET_CONFIG_REQUEST, QUEUE_GET_CONFIG_REPLY}
-use Rattle.of10_flow.specs.PacketIns.{read_packet_in}
+use Rattle.of10_ctl.specs.declared.kind.TheConstants.{STATS_REQUEST, STATS_REPLY, BARRIER_REQUEST, BARRIER_REPLY, QUEUE_GET_CONFIG_REQUEST, QUEUE_GET_CONFIG_REPLY}
 use Rattle.recording.specs.declared.item.Item.{Item}
 use Rattle.recording.specs.Recordings.{Told, switch_bytes, slice_bytes}
 use Rattle.of10_message.specs.Heads.{kind_of}
 use Rattle.of10_ctl.specs.Kinds.{is_of}
-use Rattle.desk_words.specs.Openings.{well_formed}
-use Rattle.desk_words.specs.Histories.{is_plain}
 use Rattle.desk_words.specs.Recorded.{completed}
 
 -- a message is of one of these types
 abbrev pub is_one_of : List ℕ → List ℕ → Bool
 is_one_of kinds message = list_any (λ kind. is_of kind message) kinds
 
--- what a slice's controller sends that isn't built: what is sent on to the switch, but for flow-mods
+-- what a slice's controller sends that isn't built: requests for statistics, barriers and questions for queues
 abbrev pub is_unbuilt_of_slice : List ℕ → Bool
-is_unbuilt_of_slice message = is_one_of (PACKET_OUT ∷ STATS_REQUEST ∷ BARRIER_REQUEST ∷ QUEUE_GET_CONFIG_REQUEST ∷ []) message
+is_unbuilt_of_slice message = is_one_of (STATS_REQUEST ∷ BARRIER_REQUEST ∷ QUEUE_GET_CONFIG_REQUEST ∷ []) message
 
--- a PACKET_IN of a packet that is buffered, or that bears a probe's mark (section 5.4.1)
-abbrev pub is_special_packet_in : List ℕ → Bool
-is_special_packet_in message = is_of PACKET_IN message && elim (well_formed (read_packet_in message)) [ None ↦ false | Some packet ↦ not (is_plain packet) ]
-
--- what a switch sends that isn't built: what it answers to requests that aren't sent on, and such packets
+-- what a switch sends that isn't built: the replies to these
 abbrev pub is_unbuilt_of_switch : List ℕ → Bool
-is_unbuilt_of_switch message = is_one_of (STATS_REPLY ∷ BARRIER_REPLY ∷ QUEUE_GET_CONFIG_REPLY ∷ []) message || is_special_packet_in message
+is_unbuilt_of_switch message = is_one_of (STATS_REPLY ∷ BARRIER_REPLY ∷ QUEUE_GET_CONFIG_REPLY ∷ []) message
 
 -- the first frame that a record completes and that isn't built
 abbrev pub unbuilt_in : Told → List Told → Option (List ℕ)

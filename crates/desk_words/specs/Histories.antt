@@ -1,5 +1,5 @@
 -- What a slice sees of a history: its view, which is a filter of the history (this proxy's own rule). An event of another slice shows it nothing.
-use Rattle.std.specs.Prelude.{ℕ, ◌/◌, ◌%◌, ◌^◌, ◌==◌, ◌&&◌, ltb, Bool, true, false, if◌then◌else◌, List, [], ◌∷◌, ◌++◌, length, map, slice_get, Option, Some, None, is_none}
+use Rattle.std.specs.Prelude.{ℕ, ◌/◌, ◌%◌, ◌^◌, ◌==◌, ◌&&◌, ltb, Bool, true, false, if◌then◌else◌, List, [], ◌∷◌, ◌++◌, length, map, find, slice_get, Option, Some, None, is_some, option_and_then}
 use Rattle.of10_model.specs.Header.{Header}
 use Rattle.std.specs.List.{list_any}
 use Rattle.of10_model.specs.Normal.{is_value, bit}
@@ -23,7 +23,7 @@ use Rattle.flowspace.specs.Order.{writer_of, readers_of}
 use Rattle.flowspace.specs.Policies.{PolicyView}
 use Rattle.port_view.specs.KnownPorts.{first_known, is_kept}
 use Rattle.port_view.specs.SlicePorts.{ports_of_slice}
-use Rattle.slice_words.specs.Items.{Settings, settings_of, own_rules, is_own_port, Share, Writer, Reader, Item, Up, Down, Msg, Handed, Removed, Status, Fault, End, Sight, is_up}
+use Rattle.slice_words.specs.Items.{Settings, settings_of, own_rules, is_own_port, Share, Writer, Reader, Probe, Item, Up, Down, Msg, Lost, Handed, Removed, Status, Fault, End, Sight, is_up, is_buffered, buffered_count}
 use Rattle.slice_words.specs.Items as items
 use Rattle.slice_words.specs.Alone.{with_items}
 use Rattle.desk_words.specs.declared.event.Event.{Event}
@@ -55,7 +55,7 @@ pub record Numbered : Type 0 where
   pub number : ℕ
   pub ordinal : Option ℕ
 
--- what a slice sees, and beside it all packet-ins with numbers since the opening, newest first, by which it can be told when a number of one of its packets is used again. They are noted once packets are buffered
+-- what a slice sees, and beside it all packet-ins with numbers since the opening, newest first, by which it can be told when a number of one of its packets is used again
 pub record Side : Type 0 where
   pub sight : Sight
   pub numbered : List Numbered
@@ -83,20 +83,43 @@ handed share packet =
 abbrev pub header_in : PacketIn → Header
 header_in packet = header_of_packet packet.in_port packet.payload
 
--- the first rule that has the packet's header says who may write it, and who reads it
-abbrev pub shares_of : List Rule → ℕ → PacketIn → List Share
-shares_of rules slot packet =
-    (if is_value slot (writer_of rules (header_in packet)) then Writer false ∷ [] else [])
+-- what a message says of a packet, where it hands one up (section 5.4.1)
+abbrev pub packet_told : List ℕ → Option PacketIn
+packet_told message = if is_of PACKET_IN message then well_formed (read_packet_in message) else None
+
+-- the number by which the switch keeps a packet that it hands up, if it keeps it (section 5.4.1)
+abbrev pub number_given : PacketIn → Option ℕ
+number_given packet = if packet.buffer == NO_BUFFER then None else Some packet.buffer
+
+-- the slot of the policy whose mark a packet bears
+abbrev pub marked_slot : PolicyView → PacketIn → Option ℕ
+marked_slot policy packet = elim (probe_slot_of packet.payload) [ None ↦ None | Some slot ↦ if is_slot policy slot then Some slot else None ]
+
+-- the first rule that has the packet's header says who may write it, and who reads it. The writer may use by number what the switch keeps
+abbrev pub shares_by : List Rule → ℕ → PacketIn → List Share
+shares_by rules slot packet =
+    (if is_value slot (writer_of rules (header_in packet)) then Writer (is_some (number_given packet)) ∷ [] else [])
     ++ (if bit (readers_of rules (header_in packet)) slot then Reader ∷ [] else [])
 
--- the packet is neither buffered nor a probe
-abbrev pub is_plain : PacketIn → Bool
-is_plain packet = packet.buffer == NO_BUFFER && is_none (probe_slot_of packet.payload)
+-- a packet that bears the mark of a slot of the policy is a probe of that slice alone
+abbrev pub shares_of : PolicyView → List Rule → ℕ → PacketIn → List Share
+shares_of policy rules slot packet = elim (marked_slot policy packet) [ None ↦ shares_by rules slot packet | Some other ↦ if other == slot then Probe ∷ [] else [] ]
 
--- a packet-in shows the slice its packet once for each of its shares, where it is up. What is buffered, and what bears a probe's mark of a slot of the policy, comes later; until then a packet with any mark shows nothing
-abbrev pub packet_items : List Rule → ℕ → List Item → PacketIn → List Item
-packet_items rules slot view packet =
-    if is_plain packet && is_up view then map (λ share. handed share packet) (shares_of rules slot packet) else []
+-- a packet-in shows the slice its packet once for each of its shares, where it is up
+abbrev pub packet_items : PolicyView → List Rule → ℕ → List Item → PacketIn → List Item
+packet_items policy rules slot view packet = if is_up view then map (λ share. handed share packet) (shares_of policy rules slot packet) else []
+
+-- the packet of the slice that came last under a number, by how many the slice was given before it; none where another's packet came under it since
+abbrev pub holder : ℕ → List Numbered → Option ℕ
+holder number numbered = option_and_then (λ n. n.ordinal) (find (λ n. n.number == number) numbered)
+
+-- a packet whose number comes again is lost
+abbrev pub lost_items : List Numbered → PacketIn → List Item
+lost_items numbered packet = elim (option_and_then (λ number. holder number numbered) (number_given packet)) [ None ↦ [] | Some k ↦ Lost k ∷ [] ]
+
+-- first what is lost, then the packet
+abbrev pub packet_in_items : PolicyView → List Rule → ℕ → Side → PacketIn → List Item
+packet_in_items policy rules slot side packet = lost_items side.numbered packet ++ packet_items policy rules slot side.sight.view packet
 
 -- a change that is kept is shown to the slices that have the port
 abbrev pub status_items : Settings → List (List ℕ) → PortStatus → List Item
@@ -113,10 +136,10 @@ error_items s xid None = []
 error_items s xid (Some error) = if xid / 2 ^ 24 == s.slot then Fault (xid % 2 ^ 24) error.class error.code (pair_in xid error.cause) ∷ [] else []
 
 -- a message of the switch that came after it told what it is. Barriers, queues and statistics come later
-unfoldable pub message_items : PolicyView → ℕ → Switch → List Item → List ℕ → List Item
-message_items policy slot switch view message =
+unfoldable pub message_items : PolicyView → ℕ → Switch → Side → List ℕ → List Item
+message_items policy slot switch side message =
     if is_bad message then End ∷ []
-    else if is_of PACKET_IN message then elim (well_formed (read_packet_in message)) [ None ↦ [] | Some packet ↦ packet_items (rules_of policy switch.features) slot view packet ]
+    else if is_of PACKET_IN message then elim (well_formed (read_packet_in message)) [ None ↦ [] | Some packet ↦ packet_in_items policy (rules_of policy switch.features) slot side packet ]
     else if is_of FLOW_REMOVED message then removed_items (settings_at policy slot switch.features) (well_formed (read_flow_removed message))
     else if is_of ERROR message then error_items (settings_at policy slot switch.features) (xid_of message) (well_formed (read_error message))
     else elim (status_told message) [ None ↦ [] | Some status ↦ status_items (settings_at policy slot switch.features) switch.known status ]
@@ -127,39 +150,62 @@ opening_items policy slot None = []
 opening_items policy slot (Some features) = items.Opened (own_features (settings_at policy slot (Some features)) features) ∷ []
 
 -- an event after the opening shows a slice what concerns it: its own connection and messages, while it is up, and what the switch says of it
-abbrev pub event_items : PolicyView → ℕ → Switch → List Item → ℕ → Event → List Item
-event_items policy slot switch view moment SwitchUp = []
-event_items policy slot switch view moment (SwitchMsg message) = message_items policy slot switch view message
-event_items policy slot switch view moment SwitchDown = End ∷ []
-event_items policy slot switch view moment (SliceUp other) = if other == slot then Up ∷ [] else []
-event_items policy slot switch view moment (SliceMsg other message) = if other == slot && is_up view then Msg message moment ∷ [] else []
-event_items policy slot switch view moment (SliceDown other) = if other == slot then Down ∷ [] else []
+abbrev pub event_items : PolicyView → ℕ → Switch → Side → ℕ → Event → List Item
+event_items policy slot switch side moment SwitchUp = []
+event_items policy slot switch side moment (SwitchMsg message) = message_items policy slot switch side message
+event_items policy slot switch side moment SwitchDown = End ∷ []
+event_items policy slot switch side moment (SliceUp other) = if other == slot then Up ∷ [] else []
+event_items policy slot switch side moment (SliceMsg other message) = if other == slot && is_up side.sight.view then Msg message moment ∷ [] else []
+event_items policy slot switch side moment (SliceDown other) = if other == slot then Down ∷ [] else []
 
 -- the opening is the first event that shows anything, and the end the last
-abbrev pub phase_items : PolicyView → ℕ → Switch → List Item → Timed → Phase → List Item
-phase_items policy slot switch view timed Fresh = []
-phase_items policy slot switch view timed Begun = opening_items policy slot (opening_with Begun timed.event)
-phase_items policy slot switch view timed Opened = event_items policy slot switch view timed.moment timed.event
-phase_items policy slot switch view timed Ended = []
-
--- a packet whose number comes again is lost to the slice that holds it. None is held yet
-abbrev pub lost_items : Side → Event → List Item
-lost_items side event = []
+abbrev pub phase_items : PolicyView → ℕ → Switch → Side → Timed → Phase → List Item
+phase_items policy slot switch side timed Fresh = []
+phase_items policy slot switch side timed Begun = opening_items policy slot (opening_with Begun timed.event)
+phase_items policy slot switch side timed Opened = event_items policy slot switch side timed.moment timed.event
+phase_items policy slot switch side timed Ended = []
 
 -- what an event shows the slice at a slot of the policy, after what is known of the switch and what the slice sees, the oldest first
 abbrev pub items_of : PolicyView → ℕ → Switch → Side → Timed → List Item
-items_of policy slot switch side timed = if is_slot policy slot then lost_items side timed.event ++ phase_items policy slot switch side.sight.view timed switch.phase else []
+items_of policy slot switch side timed = if is_slot policy slot then phase_items policy slot switch side timed switch.phase else []
 
 -- ---- what a history shows a slice
 
--- what a slice sees with these items of an event. No packet is shown as buffered yet, so that no number comes to those that there are
-abbrev pub with_shown : Timed → List Item → Side → Side
-with_shown timed items side = record { sight = record { view = with_items items side.sight.view; came = side.sight.came }; numbered = side.numbered }
+-- the number of the packet that an event hands up, once the switch has told what it is
+abbrev pub number_told : Phase → Event → Option ℕ
+number_told Opened (SwitchMsg message) = option_and_then number_given (packet_told message)
+number_told phase event = None
+
+-- an item hands up a packet that the slice may use by number
+abbrev pub is_given : Item → Bool
+is_given (Handed packet) = is_buffered packet.share
+is_given item = false
+
+-- one of these does
+abbrev pub is_any_given : List Item → Bool
+is_any_given items = list_any is_given items
+
+-- the numbers of a slice's packets with these items, one of which came under a number, if one is given here
+abbrev pub came_with : Option ℕ → List Item → List ℕ → List ℕ
+came_with None items came = came
+came_with (Some number) items came = if is_any_given items then number ∷ came else came
+
+-- a packet-in with a number, which gave the slice a packet or not, after such a view, if one is given here
+abbrev pub numbered_with : Option ℕ → List Item → List Item → List Numbered → List Numbered
+numbered_with None items view numbered = numbered
+numbered_with (Some number) items view numbered = record { number = number; ordinal = if is_any_given items then Some (buffered_count view) else None } ∷ numbered
+
+-- what a slice sees with these items of an event in a phase
+abbrev pub with_shown : Phase → Timed → List Item → Side → Side
+with_shown phase timed items side = record {
+  sight = record { view = with_items items side.sight.view; came = came_with (number_told phase timed.event) items side.sight.came };
+  numbered = numbered_with (number_told phase timed.event) items side.sight.view side.numbered;
+}
 
 -- what a history shows the slice at a slot: each event its items, after what the events before it showed
 abbrev pub side_of : PolicyView → ℕ → List Timed → Side
 side_of policy slot [] = side_start
-side_of policy slot (timed ∷ h) = with_shown timed (items_of policy slot (switch_of h) (side_of policy slot h) timed) (side_of policy slot h)
+side_of policy slot (timed ∷ h) = with_shown (phase_of h) timed (items_of policy slot (switch_of h) (side_of policy slot h) timed) (side_of policy slot h)
 
 -- the view of the slice at a slot after a history
 abbrev pub view_of : PolicyView → ℕ → List Timed → List Item

@@ -1,5 +1,6 @@
 pub mod Openings
 pub mod Histories
+pub mod Numbers
 pub mod Sent
 pub mod Verdicts
 pub mod Operations

@@ -1,6 +1,6 @@
 //! Laws of the definitions. Each function's contract is the law; its body does nothing.
 
-ghost use Rattle.std.specs.Prelude.{ℕ, ◌≡◌, ◌↔◌, List, Some, None, Result};
+ghost use Rattle.std.specs.Prelude.{ℕ, ◌≡◌, ◌↔◌, true, List, Some, None, Result};
 ghost use Rattle.std.specs.declared.alloc.AllocError.{AllocError};
 ghost use Rattle.of10_port.specs.declared.features.Features.{Features};
 ghost use Rattle.flowspace.specs.Policies.{PolicyView};
@@ -9,6 +9,9 @@ ghost use Rattle.recording.specs.Recordings.{Told};
 ghost use Rattle.desk_words.specs.declared.event.Event.TheVariants.{SwitchDown, SliceDown};
 ghost use Rattle.desk_words.specs.declared.event.Timed.{Timed};
 ghost use Rattle.desk_words.specs.declared.answer.Verdict.{Verdict};
+ghost use Rattle.slice_words.specs.Items.{Settings};
+ghost use Rattle.desk_words.specs.Histories.{is_slot, side_of};
+ghost use Rattle.desk_words.specs.Numbers.{AreNumbered};
 ghost use Rattle.desk_words.specs.Operations.{Operation, IsLegal, queue_of, lane_of};
 ghost use Rattle.desk_words.specs.Reports.{Place};
 ghost use Rattle.desk_words.specs.Built.{Lack, first_lack};
@@ -75,6 +78,12 @@ pub fn frames_are_completed_once()
 pub fn slice_sees_its_switch()
     ensures seen { (policy : PolicyView) (slot : ℕ) (h : List Timed) (features : Features) → SeesItsSwitch policy slot h features }
     ensures order { (h : List Timed) → AreKnownInOrder h }
+{}
+
+/// Each buffered packet of a slice came with a number. Under the number of one that the slice holds no packet
+/// came since; and what came last under a number is the slice's packet that came with it, or none of the slice's.
+pub fn held_packets_keep_their_numbers()
+    ensures { (policy : PolicyView) (slot : ℕ) (s : Settings) (h : List Timed) → is_slot policy slot ≡ true → AreNumbered s (side_of policy slot h) }
 {}
 
 /// No port is known before the switch tells what it is. Then the known ports are those of its features,

@@ -5,7 +5,7 @@ use crate::expanding::{send, split};
 use crate::messages::Messages;
 use crate::parts::Part;
 use crate::policies::{check, largest};
-use crate::reporting::report;
+use crate::reporting::{Keeping, report};
 use crate::sampling::Samples;
 use match_meet::{includes, meet};
 use std::alloc::{AllocError, Global};
@@ -41,12 +41,12 @@ pub enum Benchmark {
     Policies,
     /// A call to a part of a slice.
     Of(Part),
-    /// Writing the report of a recording.
-    Report,
+    /// Writing the report of a recording of packets.
+    Report(Keeping),
 }
 
 /// Those that `all` runs, in the order in which they are made.
-pub const ALL: [Benchmark; 16] = [
+pub const ALL: [Benchmark; 17] = [
     Benchmark::Asks(Question::Matches),
     Benchmark::Asks(Question::Meet),
     Benchmark::Asks(Question::Includes),
@@ -62,7 +62,8 @@ pub const ALL: [Benchmark; 16] = [
     Benchmark::Of(Part::Booked),
     Benchmark::Of(Part::Overlaps),
     Benchmark::Of(Part::Newcomers),
-    Benchmark::Report,
+    Benchmark::Report(Keeping::Nothing),
+    Benchmark::Report(Keeping::EachPacket),
 ];
 
 impl Benchmark {
@@ -80,7 +81,8 @@ impl Benchmark {
             Benchmark::Checking => "actions",
             Benchmark::Policies => "check",
             Benchmark::Of(part) => part.name(),
-            Benchmark::Report => "report",
+            Benchmark::Report(Keeping::Nothing) => "report",
+            Benchmark::Report(Keeping::EachPacket) => "report-buffered",
         }
     }
 
@@ -89,8 +91,10 @@ impl Benchmark {
         match self {
             Benchmark::Policies => 10,
             Benchmark::Of(part) => part.least_measured(),
-            Benchmark::Splitting | Benchmark::Sending | Benchmark::Checking | Benchmark::Report =>
-                10_000,
+            Benchmark::Splitting
+            | Benchmark::Sending
+            | Benchmark::Checking
+            | Benchmark::Report(_) => 10_000,
             _ => 1_000_000,
         }
     }
@@ -104,7 +108,7 @@ impl Benchmark {
             | Benchmark::Checking
             | Benchmark::Policies
             | Benchmark::Of(_)
-            | Benchmark::Report => None,
+            | Benchmark::Report(_) => None,
             Benchmark::Framing => Some(Messages::PIECE as u64),
             Benchmark::SmallPackets => Some(messages.small().as_slice().len() as u64),
             Benchmark::LargePackets => Some(messages.large().as_slice().len() as u64),
@@ -149,6 +153,6 @@ pub fn run(
         Benchmark::Checking => give(alloc, count),
         Benchmark::Policies => Ok(check(alloc, &largest(alloc)?, count)),
         Benchmark::Of(part) => part.run(alloc, count),
-        Benchmark::Report => report(alloc, count),
+        Benchmark::Report(keeping) => report(alloc, keeping, count),
     }
 }

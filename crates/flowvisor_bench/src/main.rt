@@ -27,7 +27,7 @@ use std::{env, io};
 const MOST_CALLS: u64 = 100_000_000_000;
 
 const USAGE: &str =
-    "usage: flowvisor_bench matches|meet|includes|framing|packet-in-64|packet-in-1500|pieces|build|actions|check|issue|find|ask|booked|overlaps|newcomers|report|all COUNT\n";
+    "usage: flowvisor_bench matches|meet|includes|framing|packet-in-64|packet-in-1500|pieces|build|actions|check|issue|find|ask|booked|overlaps|newcomers|report|report-buffered|all COUNT\n";
 
 /// What the words ask for.
 #[derive(Drop)]
@@ -74,7 +74,7 @@ fn measure(
     let (each, unit) = match benchmark.bytes(messages) {
         Some(bytes) => (bytes, "MB"),
         None if benchmark == Benchmark::Policies => (1_000_000, "policies"),
-        None if benchmark == Benchmark::Report => (1_000_000, "events"),
+        None if matches!(benchmark, Benchmark::Report(_)) => (1_000_000, "events"),
         None if benchmark.least_measured() < 1_000_000 => (1_000, "thousand"),
         None => (1, "million"),
     };

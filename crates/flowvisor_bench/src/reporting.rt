@@ -25,7 +25,7 @@ const FEATURES: [u8; 32] = [
     0, 0x0f, 0xff,
 ];
 
-/// A packet-in of 54 bytes at port 1 that isn't buffered: TCP to port 80.
+/// A packet-in of 54 bytes at port 1 that the switch doesn't keep: TCP to port 80.
 const PACKET: [u8; 72] = [
     1, 10, 0, 72, 0, 0, 0, 0, 0xff, 0xff, 0xff, 0xff, 0, 54, 0, 1, 0, 0, 0, 0, 0, 0, 0, 2, 0, 0, 0,
     0, 0, 1, 8, 0, 0x45, 0, 0, 40, 0, 0, 0, 0, 64, 6, 0, 0, 10, 0, 0, 1, 10, 0, 0, 2, 4, 0, 0, 80,
@@ -38,11 +38,31 @@ const PACKETS: u64 = 233_016;
 /// Bytes of the shortest line that reports one: that of event 4.
 const LINE: u64 = 158;
 
+/// Whether the switch keeps the packets that it hands up.
+#[derive(Clone, Copy, Debug, PartialEq, Eq)]
+pub enum Keeping {
+    Nothing,
+    /// Each packet, under the numbers 0 to 255 in turn.
+    EachPacket,
+}
+
+/// A packet-in, as so many came before it.
+fn packet(keeping: Keeping, before: u64) -> [u8; 72] {
+    let mut bytes = PACKET;
+    if keeping == Keeping::EachPacket {
+        bytes[8] = 0;
+        bytes[9] = 0;
+        bytes[10] = 0;
+        bytes[11] = (before % 256) as u8;
+    }
+    bytes
+}
+
 /// So many packets.
-fn packets(alloc: Global, count: u64) -> Result<Vec<u8>, AllocError> {
+fn packets(alloc: Global, keeping: Keeping, count: u64) -> Result<Vec<u8>, AllocError> {
     let mut out = Vec::new(alloc);
-    for _ in 0..count {
-        out.extend_from_slice(&PACKET)?;
+    for before in 0..count {
+        out.extend_from_slice(&packet(keeping, before))?;
     }
     Ok(out)
 }
@@ -54,26 +74,26 @@ fn put_bytes(out: &mut Vec<u8>, bytes: &[u8]) -> Result<(), AllocError> {
 }
 
 /// The recording of so many packets, in records that are as long as may be.
-fn recording_of(alloc: Global, count: u64) -> Result<Vec<u8>, AllocError> {
+fn recording_of(alloc: Global, keeping: Keeping, count: u64) -> Result<Vec<u8>, AllocError> {
     let mut out = Vec::new(alloc);
     begin_recording(&mut out)?;
     add_item(&mut out, SWITCH_UP, 0, 0, 0, &[])?;
     put_bytes(&mut out, &FEATURES)?;
     add_item(&mut out, SLICE_UP, 0, 0, 0, &[])?;
-    let most = packets(alloc, PACKETS.min(count))?;
+    let most = packets(alloc, keeping, PACKETS.min(count))?;
     for _ in 0..count / PACKETS {
         put_bytes(&mut out, &most)?;
     }
-    put_bytes(&mut out, &packets(alloc, count % PACKETS)?)?;
+    put_bytes(&mut out, &packets(alloc, keeping, count % PACKETS)?)?;
     Ok(out)
 }
 
 /// Writes the report of a recording of so many packets, and counts their lines.
-pub fn report(alloc: Global, count: u64) -> Result<u64, AllocError> {
+pub fn report(alloc: Global, keeping: Keeping, count: u64) -> Result<u64, AllocError> {
     let Ok(policy) = read(alloc, POLICY.as_bytes()) else {
         return Err(AllocError);
     };
-    let recording = recording_of(alloc, count)?;
+    let recording = recording_of(alloc, keeping, count)?;
     let Ok(items) = items(alloc, &recording, policy.slice_count()) else {
         return Err(AllocError);
     };

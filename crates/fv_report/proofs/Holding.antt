@@ -15,7 +15,7 @@ use Rattle.desk_words.specs.declared.answer.Verdict.TheVariants.{Go, Close}
 use Rattle.desk_words.specs.declared.answer.Taken.{Taken}
 use Rattle.desk_words.specs.declared.answer.Taken.TheVariants.{Message, Nothing, Choked, Ended, NotOpen}
 use Rattle.desk_words.specs.Openings.{phase_of}
-use Rattle.desk_words.specs.Histories.{is_slot, is_open, is_slice_up, Side, view_of}
+use Rattle.desk_words.specs.Histories.{is_slot, is_open, is_slice_up, view_of}
 use Rattle.desk_words.specs.Verdicts.{is_ended, is_fresh, is_over, closes}
 use Rattle.desk_words.specs.Sent.{sent_by, lane_by}
 use Rattle.desk_words.specs.Operations.{Step, Take, takes_in, events_of, slice_limit, lane_limit, empties_slice, ends, queue_of, lane_of, empty_reply}
@@ -128,7 +128,7 @@ ask_up p h slot old new taken takes quiet =
     let evs = events_of quiet.operations in
     ap is_nothing answered.right
     ∙ ap (λ (q : Queue). is_nothing (elim q.pending [ [] ↦ empty_reply p evs (Slice slot) q.choked | message ∷ later ↦ Message message ])) (quiet.queues slot)
-    ∙ up_when (phase_of evs) (is_slot p slot) (is_up (view_of p slot evs)) (λ out. ap (λ (side : Side). is_up side.sight.view) (sees_nothing p slot evs out))
+    ∙ up_when (phase_of evs) (is_slot p slot) (is_up (view_of p slot evs)) (λ out. ap (λ sight. is_up sight.view) (sees_nothing p slot evs out))
     ∙ ap (is_slice_up p slot) quiet.events
 
 -- ---- steps

@@ -4,22 +4,20 @@ ghost use Rattle.std.specs.Prelude.{◌≡◌, [], zip, IfOk, option_map};
 ghost use Rattle.std.specs.List.{All};
 ghost use Rattle.recording.specs.Recordings.{IsItem};
 ghost use Rattle.desk_words.specs.Recorded.{told_by, told_in};
-ghost use Rattle.desk_words.specs.Built.{is_one_of, is_special_packet_in, is_unbuilt_of_switch, is_unbuilt_of_slice, first_lack};
+ghost use Rattle.desk_words.specs.Built.{is_one_of, is_unbuilt_of_switch, is_unbuilt_of_slice, first_lack};
 ghost use Rattle.fv_report.specs.Switches.{IsRecord};
 ghost use Rattle.fv_report.specs.Lacks.{is_unbuilt, FindsIn, FindsInBytes, FindsAtSlot, FindsAt, AllFresh, lack_at, lack_seen};
 
 use crate::run::carried;
 use crate::streams::{Streams, next_frame, restart};
 use of10_ctl::kind::{
-    BARRIER_REPLY, BARRIER_REQUEST, PACKET_IN, PACKET_OUT, QUEUE_GET_CONFIG_REPLY,
-    QUEUE_GET_CONFIG_REQUEST, STATS_REPLY, STATS_REQUEST,
+    BARRIER_REPLY, BARRIER_REQUEST, QUEUE_GET_CONFIG_REPLY, QUEUE_GET_CONFIG_REQUEST, STATS_REPLY,
+    STATS_REQUEST,
 };
 use of10_ctl::{Frame, Framer};
-use of10_flow::PacketInView;
 use proxy_core::Dest;
 use recording::{Item, RECORD_HEAD, SLICE_BYTES, SLICE_UP, SWITCH_BYTES, SWITCH_UP, SWITCHES};
 use std::alloc::{AllocError, Global};
-use switch_side::is_plain;
 
 /// A message that isn't built yet.
 #[derive(Clone, Copy, Debug, PartialEq, Eq)]
@@ -37,35 +35,17 @@ fn is_one_of(frame: &Frame, kinds: &[u8]) -> bool
     kinds.iter().any(|kind| frame.is_of(*kind))
 }
 
-/// Whether a message is a PACKET_IN of a packet that the switch buffers, or that bears a probe's mark.
-fn is_special_packet_in(frame: &Frame) -> bool
-    ensures { result ≡ is_special_packet_in frame.now }
-{
-    if !frame.is_of(PACKET_IN) {
-        return false;
-    }
-    match PacketInView::decode(frame) {
-        Ok(packet) => !is_plain(&packet),
-        Err(_) => false,
-    }
-}
-
 fn is_unbuilt_of_switch(frame: &Frame) -> bool
     ensures { result ≡ is_unbuilt_of_switch frame.now }
 {
     let kinds = [STATS_REPLY, BARRIER_REPLY, QUEUE_GET_CONFIG_REPLY];
-    is_one_of(frame, &kinds) || is_special_packet_in(frame)
+    is_one_of(frame, &kinds)
 }
 
 fn is_unbuilt_of_slice(frame: &Frame) -> bool
     ensures { result ≡ is_unbuilt_of_slice frame.now }
 {
-    let kinds = [
-        PACKET_OUT,
-        STATS_REQUEST,
-        BARRIER_REQUEST,
-        QUEUE_GET_CONFIG_REQUEST,
-    ];
+    let kinds = [STATS_REQUEST, BARRIER_REQUEST, QUEUE_GET_CONFIG_REQUEST];
     is_one_of(frame, &kinds)
 }
 

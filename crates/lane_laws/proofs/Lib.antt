@@ -1,6 +1,9 @@
+pub mod Marks
+pub mod Keeping
 pub mod Reading
-pub mod Forwarded
 pub mod Own
+pub mod Outs
+pub mod Forwarded
 pub mod Sent
 pub mod Whole
 pub mod Reacting

@@ -1,5 +1,5 @@
--- Each field of a flow-mod that is read of bytes lies in its range.
-use Rattle.std.proofs.Common.{◌≡◌, refl, sym, ◌∙◌, ap, subst, ℕ, zero, suc, ◌<◌, ◌^◌, ◌==◌, not, nat_lt, Bool, true, false, if◌then◌else◌, List, [], ◌∷◌, length, take, drop, slice_index, inl, inr, All, Result, Ok, Err, arith}
+-- Each field of a flow-mod, of a packet-out and of a packet-in that is read of bytes lies in its range.
+use Rattle.std.proofs.Common.{◌≡◌, refl, sym, ◌∙◌, ap, subst, ℕ, ◌+◌, zero, suc, ◌<◌, ◌^◌, ◌==◌, not, nat_lt, Bool, true, false, if◌then◌else◌, List, [], ◌∷◌, length, take, drop, slice_index, inl, inr, All, Result, Ok, Err, arith}
 use Rattle.std.proofs.lemmas.Bool.{cases_lt}
 use Rattle.std.proofs.lemmas.List.{get_or-take, get_or_past, length-take}
 use Rattle.std.proofs.lemmas.List.Elements.{All-nil, All-cons}
@@ -18,6 +18,9 @@ use Rattle.of10_ctl.specs.declared.kind.TheConstants.{HELLO, ERROR, ECHO_REQUEST
 use Rattle.of10_ctl.specs.Frames.{is_bad}
 use Rattle.of10_flow.specs.declared.flow_mod.FlowMod.{FlowMod}
 use Rattle.of10_flow.specs.FlowMods.{flow_mod_with, read_flow_mod}
+use Rattle.of10_flow.specs.declared.packet_in.PacketIn.{PacketIn}
+use Rattle.of10_flow.specs.declared.packet_out.PacketOut.{PacketOut}
+use Rattle.of10_flow.specs.PacketIns.{read_packet_in}
 use Rattle.of10_flow.specs.PacketOuts.{read_packet_out}
 use Rattle.of10_stats.specs.Requests.{read_request}
 use Rattle.of10_message.specs.declared.controller.FromController.{FromController}
@@ -108,39 +111,104 @@ read_flow bytes m h e =
     subst IsRead (ok_is (flow_mod_with list.0 bytes) m list.2)
     (read_with list.0 bytes h (AreActions (length (drop 72 bytes)) (drop 72 bytes) list.0 (bytes-drop bytes 72 h) list.1))
 
+-- ---- packet-outs
+
+-- but for its length, and its number, which isn't sent on, each field lies in its range
+pub record IsReadOut (m : PacketOut) : Type 0 where
+  pub in_port : m.in_port < 2 ^ 16
+  pub actions : All IsAction m.actions
+
+read_out : (bytes : List ℕ) (m : PacketOut) → ((k : ℕ) → slice_index bytes k < 256) → read_packet_out bytes ≡ Ok m → IsReadOut m
+unfolding read_packet_out
+read_out bytes m h e =
+    let size = number_at bytes 14 2 in
+    let given = λ (actions : List Action). Ok (record {
+      xid = number_at bytes 4 4;
+      buffer = number_at bytes 8 4;
+      in_port = number_at bytes 12 2;
+      actions = actions;
+      payload = drop (16 + size) bytes;
+    }) in
+    let list_read = read_all (take size (drop 16 bytes)) >>= given in
+    let fields = passed (nat_lt (length bytes) 16) (Length (length bytes)) (if nat_lt (length bytes) (16 + size) then Err (Length (length bytes)) else list_read) m e in
+    let long = passed (nat_lt (length bytes) (16 + size)) (Length (length bytes)) list_read m fields.1 in
+    let list = bind_ok (read_all (take size (drop 16 bytes))) given m long.1 in
+    let behind = bytes-take size (drop 16 bytes) (bytes-drop bytes 16 h) in
+    subst IsReadOut (ok_is (record { xid = number_at bytes 4 4; buffer = number_at bytes 8 4; in_port = number_at bytes 12 2; actions = list.0; payload = drop (16 + size) bytes }) m list.2)
+    (record { in_port = number_at-lt bytes 12 2 h; actions = AreActions (length (take size (drop 16 bytes))) (take size (drop 16 bytes)) list.0 behind list.1 })
+
+-- ---- packet-ins
+
+-- its number and its port lie in their ranges
+pub record IsReadIn (packet : PacketIn) : Type 0 where
+  pub buffer : packet.buffer < 2 ^ 32
+  pub in_port : packet.in_port < 2 ^ 16
+
+pub read_in : (bytes : List ℕ) (packet : PacketIn) → ((k : ℕ) → slice_index bytes k < 256) → read_packet_in bytes ≡ Ok packet → IsReadIn packet
+unfolding read_packet_in
+read_in bytes packet h e =
+    let found : PacketIn = record {
+      xid = number_at bytes 4 4;
+      buffer = number_at bytes 8 4;
+      total_len = number_at bytes 12 2;
+      in_port = number_at bytes 14 2;
+      reason = number_at bytes 16 1;
+      payload = drop 18 bytes;
+    } in
+    let fields = passed (nat_lt (length bytes) 18) (Length (length bytes)) (Ok found) packet e in
+    subst IsReadIn (ok_is found packet fields.1) (record { buffer = number_at-lt bytes 8 4 h; in_port = number_at-lt bytes 14 2 h })
+
 -- ---- messages of a controller
 
-abbrev Reads : FlowMod → Result FromController Unread → Type 0
-Reads m read = read ≡ Ok (said.FlowMod m)
+abbrev Reads : FromController → Result FromController Unread → Type 0
+Reads asked read = read ≡ Ok asked
 
--- another kind of message isn't a flow-mod
-abbrev is_flow_mod : Result FromController Unread → Bool
-is_flow_mod (Ok (said.FlowMod m)) = true
-is_flow_mod read = false
+-- a flow-mod or a packet-out was read
+abbrev is_either : Result FromController Unread → Bool
+is_either (Ok (said.FlowMod m)) = true
+is_either (Ok (said.PacketOut m)) = true
+is_either read = false
 
-not_sized : (size : ℕ) (message : FromController) (bytes : List ℕ) → is_flow_mod (Ok message) ≡ false → is_flow_mod (sized size message bytes) ≡ false
-not_sized size message bytes isnt = either (λ (read : Result FromController Unread). is_flow_mod read ≡ false) (length bytes == size) (Ok message) _ isnt refl
+not_sized : (size : ℕ) (message : FromController) (bytes : List ℕ) → is_either (Ok message) ≡ false → is_either (sized size message bytes) ≡ false
+not_sized size message bytes isnt = either (λ (read : Result FromController Unread). is_either read ≡ false) (length bytes == size) (Ok message) _ isnt refl
 
-not_formed : {A : Type 0} (message : A → FromController) (read : Result A WireFault) → ((x : A) → is_flow_mod (Ok (message x)) ≡ false) → is_flow_mod (formed message read) ≡ false
+not_formed : {A : Type 0} (message : A → FromController) (read : Result A WireFault) → ((x : A) → is_either (Ok (message x)) ≡ false) → is_either (formed message read) ≡ false
 not_formed message (Ok x) isnt = isnt x
 not_formed message (Err fault) isnt = refl
 
 abbrev IsOther : Result FromController Unread → Type 0
-IsOther read = is_flow_mod read ≡ false
+IsOther read = is_either read ≡ false
 
--- one that isn't is passed over
-over : (m : FlowMod) (b : Bool) (other rest : Result FromController Unread) → is_flow_mod other ≡ false → Reads m (if b then other else rest) → Reads m rest
-over m false other rest isnt e = e
-over m true other rest isnt e = absurd (let clash : false ≡ true = sym isnt ∙ ap is_flow_mod e in cc)
+none_in : (asked : FromController) → is_either (Ok asked) ≡ true → (read : Result FromController Unread) {P : Type 0} → IsOther read → Reads asked read → P
+none_in asked is read isnt e = absurd (let clash : false ≡ true = sym isnt ∙ ap is_either e ∙ is in cc)
 
-none_in : (m : FlowMod) (read : Result FromController Unread) {P : Type 0} → is_flow_mod read ≡ false → Reads m read → P
-none_in m read isnt e = absurd (let clash : false ≡ true = sym isnt ∙ ap is_flow_mod e in cc)
+-- another message is passed over
+over : (asked : FromController) → is_either (Ok asked) ≡ true → (b : Bool) (other rest : Result FromController Unread) → IsOther other → Reads asked (if b then other else rest) → Reads asked rest
+over asked is false other rest isnt e = e
+over asked is true other rest isnt e = none_in asked is other isnt e
 
-formed_is : (m : FlowMod) (read : Result FlowMod WireFault) → Reads m (formed said.FlowMod read) → read ≡ Ok m
-formed_is m (Ok x) e = cc
-formed_is m (Err fault) e = absurd (let clash : false ≡ true = ap is_flow_mod e in cc)
+flow_formed : (m : FlowMod) (read : Result FlowMod WireFault) → Reads (said.FlowMod m) (formed said.FlowMod read) → read ≡ Ok m
+flow_formed m (Ok x) e = cc
+flow_formed m (Err fault) e = absurd (let clash : false ≡ true = ap is_either e in cc)
 
-module _ (bytes : List ℕ) (m : FlowMod) where
+out_formed : (m : PacketOut) (read : Result PacketOut WireFault) → Reads (said.PacketOut m) (formed said.PacketOut read) → read ≡ Ok m
+out_formed m (Ok x) e = cc
+out_formed m (Err fault) e = absurd (let clash : false ≡ true = ap is_either e in cc)
+
+-- a flow-mod isn't a packet-out
+abbrev is_out : Result FromController Unread → Bool
+is_out (Ok (said.PacketOut m)) = true
+is_out read = false
+
+not_out : (m : FlowMod) (read : Result PacketOut WireFault) {P : Type 0} → Reads (said.FlowMod m) (formed said.PacketOut read) → P
+not_out m (Ok x) e = absurd (let clash : true ≡ false = ap is_out e in cc)
+not_out m (Err fault) e = absurd (let clash : false ≡ true = ap is_either e in cc)
+
+not_flow : (m : PacketOut) (read : Result FlowMod WireFault) {P : Type 0} → Reads (said.PacketOut m) (formed said.FlowMod read) → P
+not_flow m (Ok x) e = absurd (let clash : false ≡ true = ap is_out e in cc)
+not_flow m (Err fault) e = absurd (let clash : false ≡ true = ap is_either e in cc)
+
+module _ (bytes : List ℕ) where
   abbrev behind : Result FromController Unread
   behind =
       if is_kind PORT_MOD bytes then Ok said.PortMod
@@ -150,38 +218,49 @@ module _ (bytes : List ℕ) (m : FlowMod) where
       else Err BadType
 
   -- no type behind flow-mods is one
-  behind_isnt : is_flow_mod behind ≡ false
+  behind_isnt : IsOther behind
   behind_isnt =
       either IsOther (is_kind PORT_MOD bytes) _ _ refl
       (either IsOther (is_kind STATS_REQUEST bytes) _ _ (not_formed said.StatsRequest (read_request bytes) (λ request. refl))
       (either IsOther (is_kind BARRIER_REQUEST bytes) _ _ (not_sized 8 said.BarrierRequest bytes refl)
       (either IsOther (is_kind QUEUE_GET_CONFIG_REQUEST bytes) _ _ (not_sized 12 (said.QueueGetConfigRequest (number_at bytes 8 2)) bytes refl) refl)))
 
-  here : (b : Bool) → Reads m (if b then formed said.FlowMod (read_flow_mod bytes) else behind) → read_flow_mod bytes ≡ Ok m
-  here true e = formed_is m (read_flow_mod bytes) e
-  here false e = none_in m behind behind_isnt e
+  -- what is read from packet-outs on
+  abbrev late : Bool → Bool → Result FromController Unread
+  late of_out of_flow = if of_out then formed said.PacketOut (read_packet_out bytes) else if of_flow then formed said.FlowMod (read_flow_mod bytes) else behind
 
-  of_typed : Reads m (read_typed bytes) → read_flow_mod bytes ≡ Ok m
+  of_typed : (asked : FromController) → is_either (Ok asked) ≡ true → Reads asked (read_typed bytes) → Reads asked (late (is_kind PACKET_OUT bytes) (is_kind FLOW_MOD bytes))
   unfolding read_typed
-  of_typed e =
-      here (is_kind FLOW_MOD bytes)
-      (over m (is_kind PACKET_OUT bytes) (formed said.PacketOut (read_packet_out bytes)) _ (not_formed said.PacketOut (read_packet_out bytes) (λ packet. refl))
-      (over m (is_kind SET_CONFIG bytes) (sized 12 (said.SetConfig (config_in bytes)) bytes) _ (not_sized 12 (said.SetConfig (config_in bytes)) bytes refl)
-      (over m (is_kind GET_CONFIG_REQUEST bytes) (sized 8 said.GetConfigRequest bytes) _ (not_sized 8 said.GetConfigRequest bytes refl)
-      (over m (is_kind FEATURES_REQUEST bytes) (sized 8 said.FeaturesRequest bytes) _ (not_sized 8 said.FeaturesRequest bytes refl)
-      (over m (is_kind VENDOR bytes) (Ok said.Vendor) _ refl
-      (over m (is_kind ECHO_REPLY bytes) (Ok said.EchoReply) _ refl
-      (over m (is_kind ECHO_REQUEST bytes) (Ok said.EchoRequest) _ refl
-      (over m (is_kind ERROR bytes) (Ok said.Error) _ refl e))))))))
+  of_typed asked is e =
+      over asked is (is_kind SET_CONFIG bytes) (sized 12 (said.SetConfig (config_in bytes)) bytes) _ (not_sized 12 (said.SetConfig (config_in bytes)) bytes refl)
+      (over asked is (is_kind GET_CONFIG_REQUEST bytes) (sized 8 said.GetConfigRequest bytes) _ (not_sized 8 said.GetConfigRequest bytes refl)
+      (over asked is (is_kind FEATURES_REQUEST bytes) (sized 8 said.FeaturesRequest bytes) _ (not_sized 8 said.FeaturesRequest bytes refl)
+      (over asked is (is_kind VENDOR bytes) (Ok said.Vendor) _ refl
+      (over asked is (is_kind ECHO_REPLY bytes) (Ok said.EchoReply) _ refl
+      (over asked is (is_kind ECHO_REQUEST bytes) (Ok said.EchoRequest) _ refl
+      (over asked is (is_kind ERROR bytes) (Ok said.Error) _ refl e))))))
 
-  -- a controller's message that reads as a flow-mod has the bytes of that
-  pub of_controller : Reads m (read_controller bytes) → read_flow_mod bytes ≡ Ok m
+  of_controller : (asked : FromController) → is_either (Ok asked) ≡ true → Reads asked (read_controller bytes) → Reads asked (late (is_kind PACKET_OUT bytes) (is_kind FLOW_MOD bytes))
   unfolding read_controller
-  of_controller e =
-      of_typed
-      (over m (not (version_of bytes == 1)) (Err BadVersion) _ refl
-      (over m (is_kind HELLO bytes) (read_hello bytes) _ (either IsOther (version_of bytes == 0) (Err NoCommonVersion) (Ok said.Hello) refl refl)
-      (over m (is_bad bytes) (Err BadLength) _ refl e)))
+  of_controller asked is e =
+      of_typed asked is
+      (over asked is (not (version_of bytes == 1)) (Err BadVersion) _ refl
+      (over asked is (is_kind HELLO bytes) (read_hello bytes) _ (either IsOther (version_of bytes == 0) (Err NoCommonVersion) (Ok said.Hello) refl refl)
+      (over asked is (is_bad bytes) (Err BadLength) _ refl e)))
 
-  pub read_of : ((k : ℕ) → slice_index bytes k < 256) → read_controller bytes ≡ Ok (said.FlowMod m) → IsRead m
-  read_of h e = read_flow bytes m h (of_controller e)
+  flow_late : (m : FlowMod) (of_out of_flow : Bool) → Reads (said.FlowMod m) (late of_out of_flow) → read_flow_mod bytes ≡ Ok m
+  flow_late m true of_flow e = not_out m (read_packet_out bytes) e
+  flow_late m false true e = flow_formed m (read_flow_mod bytes) e
+  flow_late m false false e = none_in (said.FlowMod m) refl behind behind_isnt e
+
+  out_late : (m : PacketOut) (of_out of_flow : Bool) → Reads (said.PacketOut m) (late of_out of_flow) → read_packet_out bytes ≡ Ok m
+  out_late m true of_flow e = out_formed m (read_packet_out bytes) e
+  out_late m false true e = not_flow m (read_flow_mod bytes) e
+  out_late m false false e = none_in (said.PacketOut m) refl behind behind_isnt e
+
+  -- a controller's message that reads as a flow-mod or a packet-out has the bytes of that
+  pub read_of : (m : FlowMod) → ((k : ℕ) → slice_index bytes k < 256) → read_controller bytes ≡ Ok (said.FlowMod m) → IsRead m
+  read_of m h e = read_flow bytes m h (flow_late m (is_kind PACKET_OUT bytes) (is_kind FLOW_MOD bytes) (of_controller (said.FlowMod m) refl e))
+
+  pub read_out_of : (m : PacketOut) → ((k : ℕ) → slice_index bytes k < 256) → read_controller bytes ≡ Ok (said.PacketOut m) → IsReadOut m
+  read_out_of m h e = read_out bytes m h (out_late m (is_kind PACKET_OUT bytes) (is_kind FLOW_MOD bytes) (of_controller (said.PacketOut m) refl e))

@@ -1,51 +1,66 @@
 -- What a message of a slice has sent to the switch after a history.
-use Rattle.std.proofs.Common.{◌≡◌, refl, sym, ◌∙◌, ap, subst, ℕ, ◌==◌, ◌&&◌, ◌⊎◌, inl, inr, Bool, true, false, true≢false, if◌then◌else◌, List, [], ◌∷◌, length, map, slice_get, get_or, All, append-nil, Option, Some, None}
+use Rattle.std.proofs.Common.{◌≡◌, refl, sym, ◌∙◌, ap, subst, ℕ, ◌+◌, ◌==◌, ◌&&◌, ◌⊎◌, inl, inr, Bool, true, false, true≢false, if◌then◌else◌, List, [], ◌∷◌, length, map, slice_get, get_or, All, append-nil, Option, Some, None, Ok, option_map, arith}
 use Rattle.std.proofs.lemmas.Bool.{cases_Bool, and_parts, eq-eqb, le-ltb}
+use Rattle.std.proofs.lemmas.Bool.Decides.{eqb_tells}
 use Rattle.std.proofs.lemmas.Option.{slice_get_cases}
-use Rattle.std.proofs.lemmas.List.Elements.{All-nil, All-map, All-weaker}
+use Rattle.std.proofs.lemmas.List.Elements.{All-nil, All-cons, All-map, All-weaker}
+use Rattle.std.proofs.lemmas.List.Quantifiers.{position-Some}
 use Rattle.of10_model.specs.declared.pattern.Pattern.{Pattern}
+use Rattle.of10_model.specs.Header.{Header}
+use Rattle.of10_model.specs.Pattern.{Has, has}
+use Rattle.of10_model.proofs.Membership.{Has-has}
 use Rattle.of10_model.proofs.Results.{either}
 use Rattle.of10_action.specs.declared.action.Action.{Action}
 use Rattle.of10_port.specs.declared.features.Features.{Features}
 use Rattle.of10_flow.specs.declared.flow_mod.FlowMod.{FlowMod}
+use Rattle.of10_flow.specs.declared.packet_out.PacketOut.{PacketOut}
 use Rattle.of10_flow.specs.declared.protocol.TheConstants.{NO_BUFFER}
 use Rattle.of10_flow.specs.FlowMods.{spell_flow_mod}
+use Rattle.of10_flow.specs.PacketOuts.{spell_packet_out}
 use Rattle.of10_flow.specs.Tables.{is_delete}
 use Rattle.of10_flow.proofs.Keeping.{Treatment-Apply}
+use Rattle.of10_message.specs.declared.controller.FromController.TheVariants as said
+use Rattle.of10_message.specs.Controller.{read_controller}
 use Rattle.flowspace.specs.declared.slices.Slice.{Slice}
 use Rattle.flowspace.specs.declared.rules.Rule.{Rule}
 use Rattle.flowspace.specs.Policies.{PolicyView, IsPolicy}
-use Rattle.flowspace.specs.Owners.{Owns}
+use Rattle.flowspace.specs.Owners.{Owns, Writes}
 use Rattle.flowspace.specs.Order.{rules_on}
 use Rattle.flowspace.proofs.Parts.{IsSwitchPolicy-rules_on}
 use Rattle.port_view.specs.SlicePorts.{ports_of_slice, flooded}
 use Rattle.flowmod_expand.specs.Pieces.{pieces_within, writes_of, pieces_of}
-use Rattle.flowmod_expand.specs.Messages.{sent_for}
+use Rattle.flowmod_expand.specs.Messages.{buffer_at, sent_for}
 use Rattle.flowmod_expand.proofs.Space.{Owns-pieces_of}
+use Rattle.action_check.specs.declared.origin.Origin.{Origin}
 use Rattle.action_check.specs.declared.origin.Origin.TheVariants.{Piece}
 use Rattle.action_check.specs.Permitted.{permitted}
-use Rattle.slice_words.specs.Items.{Settings, lone_rules, Item, Msg, is_up, known_ports}
-use Rattle.slice_words.specs.Pasts.{Answer, Past, silence}
-use Rattle.slice_words.specs.FlowMods.{Ground, ground_of, pieces_on, permitted_on, list_given, flow_mods_on}
+use Rattle.action_check.specs.Soundness.{HasWay}
+use Rattle.slice_words.specs.Items.{Settings, Sight, lone_rules, Item, Msg, is_up, known_ports}
+use Rattle.slice_words.specs.Pasts.{SendsOut, Answer, silence}
+use Rattle.slice_words.specs.Buffers.{HeldPacket, held_packets}
+use Rattle.slice_words.specs.FlowMods.{Ground, ground_of, pieces_on, permitted_on, list_given, packet_at, packet_of, place_of, carrier_of, flow_mod_fault}
+use Rattle.slice_words.specs.PacketOuts.{origin_with, permitted_out, packet_out_on, packet_out_fault}
 use Rattle.slice_words.specs.Answers.{message_answer}
-use Rattle.slice_words.specs.Alone.{rendered, answer_to, put_for}
+use Rattle.slice_words.specs.Alone.{number_of, rendered, answer_to, put_for}
 use Rattle.slice_words.specs.Standing.{past_of}
 use Rattle.slice_words.proofs.LoneRules.{same_ports}
-use Rattle.slice_words.proofs.Forwarding.{rendered_sent}
+use Rattle.slice_words.proofs.Forwarding.{numbered, flow_mods_numbered, rendered_sent}
 use Rattle.desk_words.specs.declared.event.Event.TheVariants.{SliceMsg}
 use Rattle.desk_words.specs.declared.event.Timed.{Timed}
 use Rattle.desk_words.specs.declared.phase.Phase.{Phase}
 use Rattle.desk_words.specs.declared.phase.Phase.TheVariants.{Fresh, Begun, Opened, Ended}
 use Rattle.desk_words.specs.Openings.{phase_of, opening_of, rules_of, known_of}
-use Rattle.desk_words.specs.Histories.{is_slot, settings_at, Side, side_of, view_of, is_open, is_slice_up}
+use Rattle.desk_words.specs.Histories.{is_slot, settings_at, header_in, Side, side_start, side_of, view_of, is_open, is_slice_up}
 use Rattle.desk_words.specs.Sent.{lane_by}
 use Rattle.desk_words.specs.Laws.{HasSeen}
-use Rattle.desk_words.proofs.Alone.{blind}
+use Rattle.desk_words.proofs.Alone.{has_told, opened_told, blind}
 use Rattle.desk_words.proofs.Silence.{sees_nothing}
 use Rattle.desk_words.proofs.Seen.{seen}
-use Rattle.lane_laws.specs.Lane.{IsFlowModThat, LiesInFlowspace, NamesOwnPort, OutputsToOwnPorts, LeavesOtherHeaders, rules_in, settings_in, ports_in, ground_at, IsPermitted}
-use Rattle.lane_laws.proofs.Forwarded.{put_whole, put_or_none}
-use Rattle.lane_laws.proofs.Own.{each_sent, sent_within, permitted_own, permitted_alike, HoldsOfLists, given_holds, sent_holds}
+use Rattle.lane_laws.specs.Lane.{IsEitherThat, LiesInFlowspace, NamesOwnPort, OutputsToOwnPorts, LeavesOtherHeaders, SendsOwnPacket, SendsToOwnPorts, ChangesNoTable, IsBufferHeader, CarriesOwnBuffer, SendsOwnBuffer, IsOwnBuffer, HoldsWritten, rules_in, settings_in, ports_in, ground_at, switch_number, flow_mods_at, packet_out_at, IsPermitted, IsPermittedOut}
+use Rattle.lane_laws.proofs.Keeping.{IsKept, kept_now}
+use Rattle.lane_laws.proofs.Forwarded.{put_whole, out_whole, put_or_none}
+use Rattle.lane_laws.proofs.Own.{each_sent, sent_within, permitted_own, permitted_ways, permitted_alike, HoldsOfLists, given_holds, sent_holds}
+use Rattle.lane_laws.proofs.Outs.{list_for, out_with, out_holds, packet_holds, out_lies, out_outputs}
 
 -- ---- the lane at a message of a slice
 
@@ -53,7 +68,7 @@ use Rattle.lane_laws.proofs.Own.{each_sent, sent_within, permitted_own, permitte
 here_of : (policy : PolicyView) (slot : ℕ) (h : List Timed) → is_up (view_of policy slot h) ≡ true → is_slot policy slot ≡ true
 here_of policy slot h up = elim (cases_Bool (is_slot policy slot)) [
   | inl here ↦ here
-  | inr out ↦ absurd (true≢false (sym up ∙ ap (λ (side : Side). is_up side.sight.view) (sees_nothing policy slot h out)))
+  | inr out ↦ absurd (true≢false (sym up ∙ ap (λ (sight : Sight). is_up sight.view) (sees_nothing policy slot h out)))
 ]
 
 -- what follows from a message of the slice
@@ -98,18 +113,35 @@ up_here policy slot h Opened at up = here_of policy slot h up
 
 -- ---- what is sent
 
+-- the packet-out, with the switch's number where it names a packet
+pub rendered_out : (came : List ℕ) (m : PacketOut) (named : Option HeldPacket)
+    → rendered came (SendsOut m (option_map (λ packet. packet.ordinal) named)) ≡ spell_packet_out (elim named [ None ↦ m | Some packet ↦ record m { buffer = number_of came packet.ordinal } ])
+rendered_out came m None = refl
+rendered_out came m (Some packet) = refl
+
 pub lane_whole : (policy : PolicyView) (h : List Timed) (timed : Timed) (slot : ℕ) (message : List ℕ) (m : FlowMod) → timed.event ≡ SliceMsg slot message → is_slice_up policy slot h ≡ true
-    → IsPermitted policy slot h timed.moment message m → lane_by policy h timed ≡ map spell_flow_mod (flow_mods_on (ground_at policy slot h) m)
+    → IsPermitted policy slot h timed.moment message m → lane_by policy h timed ≡ map spell_flow_mod (flow_mods_at policy slot h m)
 lane_whole policy h timed slot message m is up p =
     let s = settings_in policy slot h in
     let view = view_of policy slot h in
     let came = (side_of policy slot h).sight.came in
     lane_of_up policy h timed slot message (phase_of h) refl is up
     ∙ ap (map (rendered came)) (put_whole s view (past_of s view) timed.moment message m (record { read = p.read; rate = p.rate; no_fault = p.no_fault }))
-    ∙ rendered_sent came (flow_mods_on (ground_at policy slot h) m)
+    ∙ rendered_sent came (ground_at policy slot h) m
+
+pub out_lane_whole : (policy : PolicyView) (h : List Timed) (timed : Timed) (slot : ℕ) (message : List ℕ) (m : PacketOut) → timed.event ≡ SliceMsg slot message → is_slice_up policy slot h ≡ true
+    → IsPermittedOut policy slot h timed.moment message m → lane_by policy h timed ≡ spell_packet_out (packet_out_at policy slot h m) ∷ []
+out_lane_whole policy h timed slot message m is up p =
+    let s = settings_in policy slot h in
+    let view = view_of policy slot h in
+    let came = (side_of policy slot h).sight.came in
+    let g = ground_at policy slot h in
+    lane_of_up policy h timed slot message (phase_of h) refl is up
+    ∙ ap (map (rendered came)) (out_whole s view (past_of s view) timed.moment message m (record { read = p.read; rate = p.rate; no_fault = p.no_fault }))
+    ∙ ap (λ (bytes : List ℕ). bytes ∷ []) (rendered_out came (packet_out_on g m) (packet_at g m.buffer))
 
 pub lane_or_none : (policy : PolicyView) (h : List Timed) (timed : Timed) (slot : ℕ) (message : List ℕ) → timed.event ≡ SliceMsg slot message
-    → (lane_by policy h timed ≡ []) ⊎ ((is_slice_up policy slot h ≡ true) × ((m : FlowMod) × IsPermitted policy slot h timed.moment message m))
+    → (lane_by policy h timed ≡ []) ⊎ ((is_slice_up policy slot h ≡ true) × (((m : FlowMod) × IsPermitted policy slot h timed.moment message m) ⊎ ((m : PacketOut) × IsPermittedOut policy slot h timed.moment message m)))
 lane_or_none policy h timed slot message is =
     let s = settings_in policy slot h in
     let view = view_of policy slot h in
@@ -119,22 +151,67 @@ lane_or_none policy h timed slot message is =
       | inl up ↦
           elim (put_or_none s view (past_of s view) timed.moment message) [
             | inl none ↦ inl (lane_of_up policy h timed slot message (phase_of h) refl is up ∙ ap (map (rendered came)) none)
-            | inr some ↦ inr (up, (some.0, record { read = some.1.read; rate = some.1.rate; no_fault = some.1.no_fault }))
+            | inr (inl some) ↦ inr (up, inl (some.0, record { read = some.1.read; rate = some.1.rate; no_fault = some.1.no_fault }))
+            | inr (inr some) ↦ inr (up, inr (some.0, record { read = some.1.read; rate = some.1.rate; no_fault = some.1.no_fault }))
           ]
     ]
 
--- what holds of the flow-mods that the slice can have sent holds of each message
-pub each_in_lane : (P : FlowMod → Type 0) (policy : PolicyView) (h : List Timed) (timed : Timed) (slot : ℕ) (message : List ℕ) → timed.event ≡ SliceMsg slot message
-    → (is_slot policy slot ≡ true → (m : FlowMod) → IsPermitted policy slot h timed.moment message m → All P (flow_mods_on (ground_at policy slot h) m)) → All (IsFlowModThat P) (lane_by policy h timed)
-each_in_lane P policy h timed slot message is each =
+-- ---- by what the switch told of itself
+
+-- what a message is answered by where the switch told this
+abbrev pub ground_by : PolicyView → ℕ → List Timed → Option Features → Ground
+ground_by policy slot h told = ground_of (settings_at policy slot told) (view_of policy slot h) (past_of (settings_at policy slot told) (view_of policy slot h))
+
+-- what is sent for a flow-mod
+abbrev pub flow_mods_by : PolicyView → ℕ → List Timed → Ground → FlowMod → List FlowMod
+flow_mods_by policy slot h g m = flow_mods_numbered (side_of policy slot h).sight.came g m
+
+-- and for a packet-out
+abbrev pub packet_out_by : PolicyView → ℕ → List Timed → Ground → PacketOut → PacketOut
+packet_out_by policy slot h g m = out_with (side_of policy slot h).sight.came g m (packet_at g m.buffer)
+
+some_told : (told : Option Features) → has_told told ≡ true → (features : Features) × (told ≡ Some features)
+some_told None is = absurd (true≢false (sym is))
+some_told (Some features) is = (features, refl)
+
+-- where a slice is up the switch has told what it is
+pub told_up : (policy : PolicyView) (slot : ℕ) (h : List Timed) → is_slice_up policy slot h ≡ true → (features : Features) × (opening_of h ≡ Some features)
+told_up policy slot h up = some_told (opening_of h) (opened_told h (and_parts (is_open (phase_of h)) (is_up (view_of policy slot h)) up).0)
+
+-- what holds of all that a slice can have sent: of the flow-mods, and of the packet-outs
+pub record HoldsOfSent (P : List Rule → FlowMod → Type 0) (Q : List Rule → PacketOut → Type 0) (policy : PolicyView) (slot : ℕ) (h : List Timed) (message : List ℕ) : Type 0 where
+  pub flow_mods : (features : Features) → opening_of h ≡ Some features → is_slot policy slot ≡ true → (m : FlowMod) → read_controller message ≡ Ok (said.FlowMod m)
+      → flow_mod_fault (ground_by policy slot h (Some features)) m ≡ None → All (P (rules_on features.datapath policy.rules)) (flow_mods_by policy slot h (ground_by policy slot h (Some features)) m)
+  pub packet_outs : (features : Features) → opening_of h ≡ Some features → is_slot policy slot ≡ true → (m : PacketOut) → read_controller message ≡ Ok (said.PacketOut m)
+      → packet_out_fault (ground_by policy slot h (Some features)) m ≡ None → Q (rules_on features.datapath policy.rules) (packet_out_by policy slot h (ground_by policy slot h (Some features)) m)
+
+-- holds of each message
+pub each_in_lane : (P : List Rule → FlowMod → Type 0) (Q : List Rule → PacketOut → Type 0) (policy : PolicyView) (h : List Timed) (timed : Timed) (slot : ℕ) (message : List ℕ) → timed.event ≡ SliceMsg slot message
+    → HoldsOfSent P Q policy slot h message → All (IsEitherThat (P (rules_in policy h)) (Q (rules_in policy h))) (lane_by policy h timed)
+each_in_lane P Q policy h timed slot message is holds =
+    let Either = IsEitherThat (P (rules_in policy h)) (Q (rules_in policy h)) in
     elim (lane_or_none policy h timed slot message is) [
-      | inl none ↦ rw none (All-nil (IsFlowModThat P))
-      | inr some ↦
-          let m = some.1.0 in
-          let ms = flow_mods_on (ground_at policy slot h) m in
-          rw (lane_whole policy h timed slot message m is some.0 some.1.1)
-          (All-map (IsFlowModThat P) spell_flow_mod ms
-          (All-weaker P (λ sent. IsFlowModThat P (spell_flow_mod sent)) (λ sent holds. (sent, refl, holds)) ms (each (up_here policy slot h (phase_of h) refl some.0) m some.1.1)))
+      | inl none ↦ rw none (All-nil Either)
+      | inr (up, inl some) ↦
+          let m = some.0 in
+          let told = told_up policy slot h up in
+          let ms = flow_mods_at policy slot h m in
+          let no_fault = subst (λ (found : Option Features). flow_mod_fault (ground_by policy slot h found) m ≡ None) told.1 some.1.no_fault in
+          let all = holds.flow_mods told.0 told.1 (up_here policy slot h (phase_of h) refl up) m some.1.read no_fault in
+          let each : All (P (rules_in policy h)) ms =
+          subst (λ (found : Option Features). All (P (rules_of policy found)) (flow_mods_by policy slot h (ground_by policy slot h found) m)) (sym told.1) all in
+          rw (lane_whole policy h timed slot message m is up some.1)
+          (All-map Either spell_flow_mod ms
+          (All-weaker (P (rules_in policy h)) (λ sent. Either (spell_flow_mod sent)) (λ sent own. inl (sent, refl, own)) ms each))
+      | inr (up, inr some) ↦
+          let m = some.0 in
+          let told = told_up policy slot h up in
+          let no_fault = subst (λ (found : Option Features). packet_out_fault (ground_by policy slot h found) m ≡ None) told.1 some.1.no_fault in
+          let one = holds.packet_outs told.0 told.1 (up_here policy slot h (phase_of h) refl up) m some.1.read no_fault in
+          let sent : Q (rules_in policy h) (packet_out_at policy slot h m) =
+          subst (λ (found : Option Features). Q (rules_of policy found) (packet_out_by policy slot h (ground_by policy slot h found) m)) (sym told.1) one in
+          rw (out_lane_whole policy h timed slot message m is up some.1)
+          (All-cons Either (spell_packet_out (packet_out_at policy slot h m)) [] (inr (packet_out_at policy slot h m, refl, sent)) (All-nil Either))
     ]
 
 -- ---- the settings of a slice
@@ -154,45 +231,44 @@ pieces_are policy h slot m up = ap (λ patterns. pieces_within patterns m.patter
 
 -- ---- one flow-mod for each piece
 
-module _ (s : Settings) (view : List Item) (past : List Past) (m : FlowMod) where
-  abbrev pub ground : Ground
-  ground = ground_of s view past
+-- the number that a piece's flow-mod carries: none, or that of the packet that is named where the piece has the packet's header
+abbrev pub MayCarry : List ℕ → Option HeldPacket → Pattern → ℕ → Type 0
+MayCarry came named piece buffer = (buffer ≡ NO_BUFFER) ⊎ ((packet : HeldPacket) × (named ≡ Some packet) × (buffer ≡ number_of came packet.ordinal) × (has piece packet.header ≡ true))
 
-  abbrev pub list : Pattern → List Action
-  list piece = if is_delete m then [] else list_given (permitted_on ground m piece)
+carries_at : (came : List ℕ) (packet : HeldPacket) (pieces : List Pattern) (k : ℕ) (d : Pattern) (place : Option ℕ) → place_of packet.header pieces ≡ place
+    → MayCarry came (Some packet) (get_or pieces k d) (buffer_at (option_map (λ (own : ℕ × ℕ). (own.0, number_of came own.1)) (option_map (λ (first : ℕ). (first, packet.ordinal)) place)) k)
+carries_at came packet pieces k d None is = inl refl
+carries_at came packet pieces k d (Some place) is = elim (eqb_tells place k) [
+  | inl here ↦
+      let found : has (get_or pieces place d) packet.header ≡ true = (position-Some (λ piece. has piece packet.header) pieces place d is).1 in
+      rw here.0 (inr (packet, refl, refl, subst (λ n. has (get_or pieces n d) packet.header ≡ true) here.1 found))
+  | inr other ↦ rw other.0 (inl refl)
+]
 
-  -- what holds of the flow-mod of each piece holds of all
-  pub each_on : (P : FlowMod → Type 0) (patterns : List Pattern) → s.patterns ≡ patterns → All (λ piece. P (sent_for m ground.xid piece (list piece) NO_BUFFER)) (pieces_within patterns m.pattern)
-      → All P (flow_mods_on ground m)
-  each_on P patterns is each =
-      each_sent P m ground.xid list 0 (pieces_on ground m)
-      (subst (λ ps. All (λ piece. P (sent_for m ground.xid piece (list piece) NO_BUFFER)) (pieces_within ps m.pattern)) (sym is) each)
+carries : (came : List ℕ) (named : Option HeldPacket) (pieces : List Pattern) (k : ℕ) (d : Pattern)
+    → MayCarry came named (get_or pieces k d) (buffer_at (option_map (λ (own : ℕ × ℕ). (own.0, number_of came own.1)) (carrier_of named pieces)) k)
+carries came None pieces k d = inl refl
+carries came (Some packet) pieces k d = carries_at came packet pieces k d (place_of packet.header pieces) refl
 
-  pub none_on : (P : FlowMod → Type 0) → s.patterns ≡ [] → All P (flow_mods_on ground m)
-  none_on P is = each_on P [] is (All-nil (λ piece. P (sent_for m ground.xid piece (list piece) NO_BUFFER)))
+-- the list of a piece
+abbrev pub list : Ground → FlowMod → Pattern → List Action
+list g m piece = if is_delete m then [] else list_given (permitted_on g m piece)
 
--- ---- headers
+-- what holds of the flow-mod of each piece holds of all
+pub each_on : (P : FlowMod → Type 0) (came : List ℕ) (g : Ground) (m : FlowMod) (patterns : List Pattern) → g.patterns ≡ patterns
+    → All (λ piece. (buffer : ℕ) → MayCarry came (packet_of g m) piece buffer → P (sent_for m g.xid piece (list g m piece) buffer)) (pieces_within patterns m.pattern)
+    → All P (flow_mods_numbered came g m)
+each_on P came g m patterns is each =
+    let carrier = numbered came (carrier_of (packet_of g m) (pieces_on g m)) in
+    let own : All (λ piece. (buffer : ℕ) → MayCarry came (packet_of g m) piece buffer → P (sent_for m g.xid piece (list g m piece) buffer)) (pieces_on g m) =
+    subst (λ ps. All (λ piece. (buffer : ℕ) → MayCarry came (packet_of g m) piece buffer → P (sent_for m g.xid piece (list g m piece) buffer)) (pieces_within ps m.pattern)) (sym is) each in
+    each_sent P m g.xid (list g m) carrier 0 (pieces_on g m)
+    (λ k d within.
+    let piece = get_or (pieces_on g m) k d in
+    subst (λ n. P (sent_for m g.xid piece (list g m piece) (buffer_at carrier n))) {x = k} {y = 0 + k} (omega arith)
+    (own k d within (buffer_at carrier k) (carries came (packet_of g m) (pieces_on g m) k d)))
 
-lies_on : (policy : PolicyView) → IsPolicy policy.slices policy.rules → (slot : ℕ) (told : Option Features) → is_slot policy slot ≡ true → (view : List Item) (past : List Past) (m : FlowMod)
-    → All (LiesInFlowspace (rules_of policy told) slot) (flow_mods_on (ground_of (settings_at policy slot told) view past) m)
-lies_on policy accepted slot None here view past m = none_on (settings_at policy slot None) view past m (LiesInFlowspace [] slot) (patterns_are policy slot None here)
-lies_on policy accepted slot (Some features) here view past m =
-    let s = settings_at policy slot (Some features) in
-    let rules = rules_on features.datapath policy.rules in
-    let xid = (ground_of s view past).xid in
-    let P = LiesInFlowspace rules slot in
-    each_on s view past m P (writes_of rules slot) (patterns_are policy slot (Some features) here)
-    (All-weaker (Owns rules slot) (λ piece. P (sent_for m xid piece (list s view past m piece) NO_BUFFER))
-    (λ piece owns. sent_within policy.slices rules (IsSwitchPolicy-rules_on policy.slices policy.rules features.datapath accepted) slot m xid piece (list s view past m piece) NO_BUFFER owns)
-    (pieces_of rules slot m.pattern) (Owns-pieces_of rules slot m.pattern))
-
-pub each_lies : (policy : PolicyView) → IsPolicy policy.slices policy.rules → (h : List Timed) (timed : Timed) (slot : ℕ) (message : List ℕ) → timed.event ≡ SliceMsg slot message
-    → All (IsFlowModThat (LiesInFlowspace (rules_in policy h) slot)) (lane_by policy h timed)
-each_lies policy accepted h timed slot message is =
-    each_in_lane (LiesInFlowspace (rules_in policy h) slot) policy h timed slot message is
-    (λ here m permits. lies_on policy accepted slot (opening_of h) here (view_of policy slot h) (past_of (settings_in policy slot h) (view_of policy slot h)) m)
-
--- ---- ports
+-- ---- ports and actions
 
 own_ports_are : (rules : List Rule) (slot own_slot : ℕ) (patterns : List Pattern) (known : List (List ℕ)) → own_slot ≡ slot → patterns ≡ writes_of rules slot
     → ports_of_slice (lone_rules own_slot patterns) own_slot known ≡ ports_of_slice rules slot known
@@ -207,66 +283,253 @@ ports_are policy slot h features is here =
     has.ports_known
     ∙ own_ports_are (rules_on features.datapath policy.rules) slot s.slot s.patterns (known_of h) (slot_is policy slot (Some features) (slice_get policy.slices slot) refl) (patterns_are policy slot (Some features) here)
 
--- by the rules of the switch and these ports its actions are judged
-actions_by : (policy : PolicyView) (slot : ℕ) (h : List Timed) (told : Option Features) → opening_of h ≡ told → is_up (view_of policy slot h) ≡ true → (past : List Past) (m : FlowMod) (piece : Pattern)
-    → permitted_on (ground_of (settings_at policy slot told) (view_of policy slot h) past) m piece
-    ≡ permitted (rules_of policy told) slot (Piece piece) m.actions (flooded false (ports_of_slice (rules_of policy told) slot (known_of h))) (flooded true (ports_of_slice (rules_of policy told) slot (known_of h)))
-actions_by policy slot h None is up past m piece = absurd (true≢false (sym up ∙ ap (λ (side : Side). is_up side.sight.view) (blind policy slot h is)))
-actions_by policy slot h (Some features) is up past m piece =
+-- by the rules of the switch and these ports the actions are judged
+judged : (policy : PolicyView) (slot : ℕ) (h : List Timed) (features : Features) → opening_of h ≡ Some features → is_slot policy slot ≡ true → (origin : Origin) (actions : List Action)
+    → permitted (lone_rules (settings_at policy slot (Some features)).slot (settings_at policy slot (Some features)).patterns) (settings_at policy slot (Some features)).slot origin actions
+    (flooded false (known_ports (view_of policy slot h))) (flooded true (known_ports (view_of policy slot h)))
+    ≡ permitted (rules_on features.datapath policy.rules) slot origin actions
+    (flooded false (ports_of_slice (rules_on features.datapath policy.rules) slot (known_of h))) (flooded true (ports_of_slice (rules_on features.datapath policy.rules) slot (known_of h)))
+judged policy slot h features is here origin actions =
     let s = settings_at policy slot (Some features) in
-    let here = here_of policy slot h up in
-    permitted_alike (rules_on features.datapath policy.rules) slot s.slot s.patterns (known_ports (view_of policy slot h)) (known_of h) piece m.actions
+    permitted_alike (rules_on features.datapath policy.rules) slot s.slot s.patterns (known_ports (view_of policy slot h)) (known_of h) origin actions
     (slot_is policy slot (Some features) (slice_get policy.slices slot) refl) (patterns_are policy slot (Some features) here) (ports_are policy slot h features is here)
+
+-- the same by whatever the switch told
+judged_by : (policy : PolicyView) (slot : ℕ) (h : List Timed) → is_slice_up policy slot h ≡ true → (origin : Ground → Origin) (actions : List Action)
+    → permitted (lone_rules (settings_in policy slot h).slot (settings_in policy slot h).patterns) (settings_in policy slot h).slot (origin (ground_at policy slot h)) actions
+    (flooded false (known_ports (view_of policy slot h))) (flooded true (known_ports (view_of policy slot h)))
+    ≡ permitted (rules_in policy h) slot (origin (ground_at policy slot h)) actions (flooded false (ports_in policy slot h)) (flooded true (ports_in policy slot h))
+judged_by policy slot h up origin actions =
+    let told = told_up policy slot h up in
+    let here = up_here policy slot h (phase_of h) refl up in
+    subst (λ (found : Option Features).
+    permitted (lone_rules (settings_at policy slot found).slot (settings_at policy slot found).patterns) (settings_at policy slot found).slot (origin (ground_by policy slot h found)) actions
+    (flooded false (known_ports (view_of policy slot h))) (flooded true (known_ports (view_of policy slot h)))
+    ≡ permitted (rules_of policy found) slot (origin (ground_by policy slot h found)) actions
+    (flooded false (ports_of_slice (rules_of policy found) slot (known_of h))) (flooded true (ports_of_slice (rules_of policy found) slot (known_of h))))
+    (sym told.1) (judged policy slot h told.0 told.1 here (origin (ground_by policy slot h (Some told.0))) actions)
 
 pub actions_are : (policy : PolicyView) (h : List Timed) (slot : ℕ) (m : FlowMod) (piece : Pattern) → is_slice_up policy slot h ≡ true
     → permitted_on (ground_at policy slot h) m piece ≡ permitted (rules_in policy h) slot (Piece piece) m.actions (flooded false (ports_in policy slot h)) (flooded true (ports_in policy slot h))
-actions_are policy h slot m piece up =
-    actions_by policy slot h (opening_of h) refl (and_parts (is_open (phase_of h)) (is_up (view_of policy slot h)) up).1 (past_of (settings_in policy slot h) (view_of policy slot h)) m piece
+actions_are policy h slot m piece up = judged_by policy slot h up (λ g. Piece piece) m.actions
 
--- what holds of the lists that a slice may have for a piece holds of the actions that it has sent for it
+pub out_actions_are : (policy : PolicyView) (h : List Timed) (slot : ℕ) (m : PacketOut) → is_slice_up policy slot h ≡ true
+    → permitted_out (ground_at policy slot h) m
+    ≡ permitted (rules_in policy h) slot (origin_with (packet_at (ground_at policy slot h) m.buffer) m) m.actions (flooded false (ports_in policy slot h)) (flooded true (ports_in policy slot h))
+out_actions_are policy h slot m up = judged_by policy slot h up (λ g. origin_with (packet_at g m.buffer) m) m.actions
+
+-- what holds of the lists that a slice may have for an origin holds of the one that it has
+pub lists_hold : (P : List Action → Type 0) (policy : PolicyView) (slot : ℕ) (h : List Timed) (features : Features) → opening_of h ≡ Some features → is_slot policy slot ≡ true
+    → (origin : Origin) (actions : List Action) → HoldsOfLists P (rules_on features.datapath policy.rules) slot origin actions
+    → P (list_given (permitted (lone_rules (settings_at policy slot (Some features)).slot (settings_at policy slot (Some features)).patterns) (settings_at policy slot (Some features)).slot origin actions
+    (flooded false (known_ports (view_of policy slot h))) (flooded true (known_ports (view_of policy slot h)))))
+lists_hold P policy slot h features is here origin actions holds =
+    let s = settings_at policy slot (Some features) in
+    given_holds P (rules_on features.datapath policy.rules) slot s.slot s.patterns (known_ports (view_of policy slot h)) (known_of h) origin actions
+    (slot_is policy slot (Some features) (slice_get policy.slices slot) refl) (patterns_are policy slot (Some features) here) (ports_are policy slot h features is here) holds
+
+-- so it holds of the actions that are sent for a piece
 pub actions_hold : (P : List Action → Type 0) (policy : PolicyView) (slot : ℕ) (h : List Timed) (features : Features) → opening_of h ≡ Some features → is_slot policy slot ≡ true
-    → (past : List Past) (m : FlowMod) (xid : ℕ) (piece : Pattern) → HoldsOfLists P (rules_on features.datapath policy.rules) slot piece m.actions
-    → P (sent_for m xid piece (list (settings_at policy slot (Some features)) (view_of policy slot h) past m piece) NO_BUFFER).actions
-actions_hold P policy slot h features is here past m xid piece holds =
-    let s = settings_at policy slot (Some features) in
-    let view = view_of policy slot h in
-    let rules = rules_on features.datapath policy.rules in
-    let known = known_of h in
-    let on_slot = slot_is policy slot (Some features) (slice_get policy.slices slot) refl in
-    let on_patterns = patterns_are policy slot (Some features) here in
-    let on_ports = ports_are policy slot h features is here in
-    sent_holds P m xid piece (list s view past m piece) NO_BUFFER holds.none
-    (either P (is_delete m) [] (list_given (permitted_on (ground_of s view past) m piece)) holds.none
-    (given_holds P rules slot s.slot s.patterns (known_ports view) known piece m.actions on_slot on_patterns on_ports holds))
+    → (m : FlowMod) (xid : ℕ) (piece : Pattern) (buffer : ℕ) → HoldsOfLists P (rules_on features.datapath policy.rules) slot (Piece piece) m.actions
+    → P (sent_for m xid piece (list (ground_by policy slot h (Some features)) m piece) buffer).actions
+actions_hold P policy slot h features is here m xid piece buffer holds =
+    let g = ground_by policy slot h (Some features) in
+    sent_holds P m xid piece (list g m piece) buffer holds.none
+    (either P (is_delete m) [] (list_given (permitted_on g m piece)) holds.none (lists_hold P policy slot h features is here (Piece piece) m.actions holds))
 
-outputs_on : (policy : PolicyView) (slot : ℕ) (h : List Timed) (told : Option Features) → opening_of h ≡ told → is_slot policy slot ≡ true → (past : List Past) (m : FlowMod)
-    → All (OutputsToOwnPorts (rules_of policy told) slot) (flow_mods_on (ground_of (settings_at policy slot told) (view_of policy slot h) past) m)
-outputs_on policy slot h None is here past m = none_on (settings_at policy slot None) (view_of policy slot h) past m (OutputsToOwnPorts [] slot) (patterns_are policy slot None here)
-outputs_on policy slot h (Some features) is here past m =
-    let s = settings_at policy slot (Some features) in
+-- each action of such a list sends where it may
+pub ways_hold : (policy : PolicyView) (slot : ℕ) (h : List Timed) (features : Features) → opening_of h ≡ Some features → is_slot policy slot ≡ true → (m : PacketOut) (origin : Origin)
+    → All (HasWay (rules_on features.datapath policy.rules) slot origin) (list_for (ground_by policy slot h (Some features)) m origin)
+ways_hold policy slot h features is here m origin =
+    let rules = rules_on features.datapath policy.rules in
+    lists_hold (All (HasWay rules slot origin)) policy slot h features is here origin m.actions (record {
+      none = All-nil (HasWay rules slot origin);
+      some = λ flood all given on_flood on_all permits. permitted_ways rules slot origin m.actions flood all given on_flood on_all permits;
+    })
+
+-- ---- the law on the flowspace
+
+lies_on : (policy : PolicyView) → IsPolicy policy.slices policy.rules → (slot : ℕ) (h : List Timed) (features : Features) → is_slot policy slot ≡ true → (m : FlowMod)
+    → All (LiesInFlowspace (rules_on features.datapath policy.rules) slot) (flow_mods_by policy slot h (ground_by policy slot h (Some features)) m)
+lies_on policy accepted slot h features here m =
+    let g = ground_by policy slot h (Some features) in
+    let rules = rules_on features.datapath policy.rules in
+    let P = LiesInFlowspace rules slot in
+    let came = (side_of policy slot h).sight.came in
+    each_on P came g m (writes_of rules slot) (patterns_are policy slot (Some features) here)
+    (All-weaker (Owns rules slot) (λ piece. (buffer : ℕ) → MayCarry came (packet_of g m) piece buffer → P (sent_for m g.xid piece (list g m piece) buffer))
+    (λ piece owns buffer carrying. sent_within policy.slices rules (IsSwitchPolicy-rules_on policy.slices policy.rules features.datapath accepted) slot m g.xid piece (list g m piece) buffer owns)
+    (pieces_of rules slot m.pattern) (Owns-pieces_of rules slot m.pattern))
+
+-- under the number of each packet that is held there is a header that the slice writes
+pub held_written : (policy : PolicyView) (slot : ℕ) (h : List Timed) (features : Features) → opening_of h ≡ Some features → is_slot policy slot ≡ true
+    → All (λ packet. (header : Header) × IsBufferHeader h (switch_number policy slot h packet.ordinal) header × Writes (rules_on features.datapath policy.rules) slot header) (ground_by policy slot h (Some features)).held
+held_written policy slot h features is here =
+    let g = ground_by policy slot h (Some features) in
+    let rules = rules_on features.datapath policy.rules in
+    All-weaker (λ packet. IsKept policy slot rules h (switch_number policy slot h packet.ordinal) packet)
+    (λ packet. (header : Header) × IsBufferHeader h (switch_number policy slot h packet.ordinal) header × Writes rules slot header)
+    (λ packet kept. (header_in kept.arrival.packet, ap (option_map (λ arrival. header_in arrival.packet)) kept.is_last, kept.written))
+    g.held (kept_now policy slot (settings_at policy slot (Some features)) h features here is)
+
+pub out_lies_on : (policy : PolicyView) → IsPolicy policy.slices policy.rules → (slot : ℕ) (h : List Timed) (features : Features) → opening_of h ≡ Some features → is_slot policy slot ≡ true → (m : PacketOut)
+    → packet_out_fault (ground_by policy slot h (Some features)) m ≡ None
+    → SendsOwnPacket (IsBufferHeader h) (rules_on features.datapath policy.rules) slot (packet_out_by policy slot h (ground_by policy slot h (Some features)) m)
+out_lies_on policy accepted slot h features is here m none =
+    let g = ground_by policy slot h (Some features) in
+    let rules = rules_on features.datapath policy.rules in
+    let came = (side_of policy slot h).sight.came in
+    out_holds (SendsOwnPacket (IsBufferHeader h) rules slot) came g m none
+    (out_lies (IsBufferHeader h) policy.slices rules (IsSwitchPolicy-rules_on policy.slices policy.rules features.datapath accepted) came g slot m
+    (slot_is policy slot (Some features) (slice_get policy.slices slot) refl) (patterns_are policy slot (Some features) here) (held_written policy slot h features is here))
+
+pub each_lies : (policy : PolicyView) → IsPolicy policy.slices policy.rules → (h : List Timed) (timed : Timed) (slot : ℕ) (message : List ℕ) → timed.event ≡ SliceMsg slot message
+    → All (IsEitherThat (LiesInFlowspace (rules_in policy h) slot) (SendsOwnPacket (IsBufferHeader h) (rules_in policy h) slot)) (lane_by policy h timed)
+each_lies policy accepted h timed slot message is =
+    each_in_lane (λ rules. LiesInFlowspace rules slot) (λ rules. SendsOwnPacket (IsBufferHeader h) rules slot) policy h timed slot message is (record {
+      flow_mods = λ features opened here m read none. lies_on policy accepted slot h features here m;
+      packet_outs = λ features opened here m read none. out_lies_on policy accepted slot h features opened here m none;
+    })
+
+-- ---- the law on ports
+
+outputs_on : (policy : PolicyView) (slot : ℕ) (h : List Timed) (features : Features) → opening_of h ≡ Some features → is_slot policy slot ≡ true → (m : FlowMod)
+    → All (OutputsToOwnPorts (rules_on features.datapath policy.rules) slot) (flow_mods_by policy slot h (ground_by policy slot h (Some features)) m)
+outputs_on policy slot h features is here m =
+    let g = ground_by policy slot h (Some features) in
     let rules = rules_on features.datapath policy.rules in
     let P = All (NamesOwnPort rules slot) in
-    each_on s (view_of policy slot h) past m (OutputsToOwnPorts rules slot) (writes_of rules slot) (patterns_are policy slot (Some features) here)
-    (λ k d within.
+    each_on (OutputsToOwnPorts rules slot) (side_of policy slot h).sight.came g m (writes_of rules slot) (patterns_are policy slot (Some features) here)
+    (λ k d within buffer carrying.
     let piece = get_or (pieces_of rules slot m.pattern) k d in
-    actions_hold P policy slot h features is here past m (ground_of s (view_of policy slot h) past).xid piece (record {
+    actions_hold P policy slot h features is here m g.xid piece buffer (record {
       none = All-nil (NamesOwnPort rules slot);
       some = λ flood all given on_flood on_all permits. permitted_own rules slot piece m.actions flood all given on_flood on_all permits;
     }))
 
-pub each_outputs : (policy : PolicyView) (h : List Timed) (timed : Timed) (slot : ℕ) (message : List ℕ) → timed.event ≡ SliceMsg slot message
-    → All (IsFlowModThat (OutputsToOwnPorts (rules_in policy h) slot)) (lane_by policy h timed)
-each_outputs policy h timed slot message is =
-    each_in_lane (OutputsToOwnPorts (rules_in policy h) slot) policy h timed slot message is
-    (λ here m permits. outputs_on policy slot h (opening_of h) refl here (past_of (settings_in policy slot h) (view_of policy slot h)) m)
+pub out_outputs_on : (policy : PolicyView) (slot : ℕ) (h : List Timed) (features : Features) → opening_of h ≡ Some features → is_slot policy slot ≡ true → (m : PacketOut)
+    → packet_out_fault (ground_by policy slot h (Some features)) m ≡ None → SendsToOwnPorts (rules_on features.datapath policy.rules) slot (packet_out_by policy slot h (ground_by policy slot h (Some features)) m)
+out_outputs_on policy slot h features is here m none =
+    let g = ground_by policy slot h (Some features) in
+    let rules = rules_on features.datapath policy.rules in
+    let came = (side_of policy slot h).sight.came in
+    out_holds (SendsToOwnPorts rules slot) came g m none (out_outputs rules came g slot m (ways_hold policy slot h features is here m))
 
--- ---- flow tables
+pub each_outputs : (policy : PolicyView) (h : List Timed) (timed : Timed) (slot : ℕ) (message : List ℕ) → timed.event ≡ SliceMsg slot message
+    → All (IsEitherThat (OutputsToOwnPorts (rules_in policy h) slot) (SendsToOwnPorts (rules_in policy h) slot)) (lane_by policy h timed)
+each_outputs policy h timed slot message is =
+    each_in_lane (λ rules. OutputsToOwnPorts rules slot) (λ rules. SendsToOwnPorts rules slot) policy h timed slot message is (record {
+      flow_mods = λ features opened here m read none. outputs_on policy slot h features opened here m;
+      packet_outs = λ features opened here m read none. out_outputs_on policy slot h features opened here m none;
+    })
+
+-- ---- the law on flow tables
 
 pub leaves : (rules : List Rule) (slot : ℕ) (m : FlowMod) → LiesInFlowspace rules slot m → LeavesOtherHeaders rules slot m
 leaves rules slot m lies h range outside table = Treatment-Apply table m h (λ has. outside (lies h range has))
 
 pub each_leaves : (policy : PolicyView) → IsPolicy policy.slices policy.rules → (h : List Timed) (timed : Timed) (slot : ℕ) (message : List ℕ) → timed.event ≡ SliceMsg slot message
-    → All (IsFlowModThat (LeavesOtherHeaders (rules_in policy h) slot)) (lane_by policy h timed)
+    → All (IsEitherThat (LeavesOtherHeaders (rules_in policy h) slot) ChangesNoTable) (lane_by policy h timed)
 each_leaves policy accepted h timed slot message is =
-    All-weaker (IsFlowModThat (LiesInFlowspace (rules_in policy h) slot)) (IsFlowModThat (LeavesOtherHeaders (rules_in policy h) slot)) (λ sent lies. (lies.0, lies.1, leaves (rules_in policy h) slot lies.0 lies.2)) (lane_by policy h timed)
-    (each_lies policy accepted h timed slot message is)
+    each_in_lane (λ rules. LeavesOtherHeaders rules slot) (λ rules. ChangesNoTable) policy h timed slot message is (record {
+      flow_mods = λ features opened here m read none.
+          let rules = rules_on features.datapath policy.rules in
+          let ms = flow_mods_by policy slot h (ground_by policy slot h (Some features)) m in
+          All-weaker (LiesInFlowspace rules slot) (LeavesOtherHeaders rules slot) (λ sent lies. leaves rules slot sent lies) ms (lies_on policy accepted slot h features here m);
+      packet_outs = λ features opened here m read none. tt;
+    })
+
+-- ---- the law on buffers
+
+-- the number of a packet that is held is one of the slice's own
+abbrev own_buffer : (policy : PolicyView) (slot : ℕ) (h : List Timed) (features : Features) (number : ℕ) (packet : HeldPacket) → opening_of h ≡ Some features
+    → IsKept policy slot (rules_on features.datapath policy.rules) h number packet → IsOwnBuffer policy slot h number
+own_buffer policy slot h features number packet is kept = record {
+  arrival = kept.arrival;
+  is_last = kept.is_last;
+  given = kept.given;
+  written = subst (λ (found : Option Features). Writes (rules_of policy found) slot (header_in kept.arrival.packet)) (sym is) kept.written;
+}
+
+pattern_sent : (m : FlowMod) (xid : ℕ) (piece : Pattern) (actions : List Action) (buffer : ℕ) → (sent_for m xid piece actions buffer).pattern ≡ piece
+unfolding sent_for
+pattern_sent m xid piece actions buffer = refl
+
+buffer_sent : (m : FlowMod) (xid : ℕ) (piece : Pattern) (actions : List Action) (buffer : ℕ) → ((sent_for m xid piece actions buffer).buffer ≡ NO_BUFFER) ⊎ ((sent_for m xid piece actions buffer).buffer ≡ buffer)
+unfolding sent_for
+buffer_sent m xid piece actions buffer = either (λ n. (n ≡ NO_BUFFER) ⊎ (n ≡ buffer)) (is_delete m) NO_BUFFER buffer (inl refl) (inr refl)
+
+module _ (policy : PolicyView) (slot : ℕ) (h : List Timed) (features : Features) (is : opening_of h ≡ Some features) (here : is_slot policy slot ≡ true) where
+  abbrev pub rules : List Rule
+  rules = rules_on features.datapath policy.rules
+
+  abbrev pub ground : Ground
+  ground = ground_by policy slot h (Some features)
+
+  pub kept_all : All (λ packet. IsKept policy slot rules h (switch_number policy slot h packet.ordinal) packet) ground.held
+  kept_all = kept_now policy slot (settings_at policy slot (Some features)) h features here is
+
+  carried_sent : (sent : FlowMod) (piece : Pattern) (buffer : ℕ) (packet : HeldPacket) → sent.pattern ≡ piece → sent.buffer ≡ buffer → buffer ≡ switch_number policy slot h packet.ordinal → has piece packet.header ≡ true
+      → IsKept policy slot rules h (switch_number policy slot h packet.ordinal) packet → CarriesOwnBuffer policy slot h sent
+  carried_sent sent piece buffer packet on_pattern on_buffer on_number has_header kept =
+      let number : switch_number policy slot h packet.ordinal ≡ sent.buffer = sym (on_buffer ∙ on_number) in
+      let kept_there : IsKept policy slot rules h sent.buffer packet = subst (λ n. IsKept policy slot rules h n packet) number kept in
+      let in_piece : Has piece packet.header = Has-has piece packet.header has_header in
+      inr (own_buffer policy slot h features sent.buffer packet is kept_there, subst (λ header. Has sent.pattern header) kept_there.header (subst (λ p. Has p packet.header) (sym on_pattern) in_piece))
+
+  pub packet_named : (m : FlowMod) (deletes : Bool) (packet : HeldPacket) → (if deletes then None else packet_at ground m.buffer) ≡ Some packet → IsKept policy slot rules h (switch_number policy slot h packet.ordinal) packet
+  packet_named m true packet named = absurd cc
+  packet_named m false packet named = packet_holds (λ held. IsKept policy slot rules h (switch_number policy slot h held.ordinal) held) ground m.buffer packet kept_all named
+
+  buffers_on : (m : FlowMod) → All (CarriesOwnBuffer policy slot h) (flow_mods_by policy slot h ground m)
+  buffers_on m =
+      each_on (CarriesOwnBuffer policy slot h) (side_of policy slot h).sight.came ground m (writes_of rules slot) (patterns_are policy slot (Some features) here)
+      (λ k d within buffer carrying.
+      let piece = get_or (pieces_of rules slot m.pattern) k d in
+      let sent = sent_for m ground.xid piece (list ground m piece) buffer in
+      elim (buffer_sent m ground.xid piece (list ground m piece) buffer) [
+        | inl none ↦ inl none
+        | inr same ↦
+            elim carrying [
+              | inl none ↦ inl (same ∙ none)
+              | inr (packet, named, number, has_header) ↦
+                  carried_sent sent piece buffer packet (pattern_sent m ground.xid piece (list ground m piece) buffer) same number has_header (packet_named m (is_delete m) packet named)
+            ]
+      ])
+
+  out_buffers_on : (m : PacketOut) → packet_out_fault ground m ≡ None → SendsOwnBuffer policy slot h (packet_out_by policy slot h ground m)
+  out_buffers_on m none =
+      out_holds (SendsOwnBuffer policy slot h) (side_of policy slot h).sight.came ground m none (record {
+        held = λ packet named.
+            inr (own_buffer policy slot h features (switch_number policy slot h packet.ordinal) packet is
+            (packet_holds (λ held. IsKept policy slot rules h (switch_number policy slot h held.ordinal) held) ground m.buffer packet kept_all named));
+        probe = λ comes probe. inl refl;
+        carried = λ comes probe lies. inl refl;
+      })
+
+-- after every history the slice writes the header of each packet that it holds
+pub held_are_written : (policy : PolicyView) (h : List Timed) (slot : ℕ) → HoldsWritten (rules_in policy h) slot (settings_in policy slot h) (side_of policy slot h).sight
+held_are_written policy h slot = elim (cases_Bool (is_slot policy slot)) [
+  | inl here ↦ by_opening here (opening_of h) refl
+  | inr out ↦ none_seen (sees_nothing policy slot h out)
+]
+  where
+    none_seen : (side_of policy slot h).sight ≡ side_start.sight → HoldsWritten (rules_in policy h) slot (settings_in policy slot h) (side_of policy slot h).sight
+    none_seen is = subst (HoldsWritten (rules_in policy h) slot (settings_in policy slot h)) (sym is) (All-nil (λ (packet : HeldPacket). Writes (rules_in policy h) slot packet.header))
+
+    by_opening : is_slot policy slot ≡ true → (found : Option Features) → opening_of h ≡ found → HoldsWritten (rules_in policy h) slot (settings_in policy slot h) (side_of policy slot h).sight
+    by_opening here None is = none_seen (ap (λ (side : Side). side.sight) (blind policy slot h is))
+    by_opening here (Some features) is =
+        let s = settings_in policy slot h in
+        let rules = rules_on features.datapath policy.rules in
+        subst (λ (found : Option Features). All (λ packet. Writes (rules_of policy found) slot packet.header) (held_packets (past_of s (view_of policy slot h)))) (sym is)
+        (All-weaker (λ packet. IsKept policy slot rules h (switch_number policy slot h packet.ordinal) packet) (λ packet. Writes rules slot packet.header)
+        (λ packet kept. subst (Writes rules slot) (sym kept.header) kept.written) (held_packets (past_of s (view_of policy slot h))) (kept_now policy slot s h features here is))
+
+pub each_buffer : (policy : PolicyView) (h : List Timed) (timed : Timed) (slot : ℕ) (message : List ℕ) → timed.event ≡ SliceMsg slot message
+    → All (IsEitherThat (CarriesOwnBuffer policy slot h) (SendsOwnBuffer policy slot h)) (lane_by policy h timed)
+each_buffer policy h timed slot message is =
+    each_in_lane (λ rules. CarriesOwnBuffer policy slot h) (λ rules. SendsOwnBuffer policy slot h) policy h timed slot message is (record {
+      flow_mods = λ features opened here m read none. buffers_on policy slot h features opened here m;
+      packet_outs = λ features opened here m read none. out_buffers_on policy slot h features opened here m none;
+    })

@@ -1,5 +1,6 @@
-//! What a slice has sent to the switch: flow-mods that lie in its flowspace, that send only to its ports, and
-//! that leave every flow table treating all other headers as before.
+//! What a slice has sent to the switch: flow-mods and packet-outs that lie in its flowspace, that send only to its
+//! ports, that name only packets which it was given as their writer, and that leave every flow table treating all
+//! other headers as before.
 #![tactic(auto)]
 
 pub mod laws;

@@ -40,7 +40,7 @@ empty_after p switch sides qs timed slot none empty =
 beyond_after : (p : PolicyView) (switch : Switch) (sides : ℕ → Side) (qs : ℕ → Queue) (timed : Timed) (slot : ℕ) → is_slot p slot ≡ false → qs slot ≡ no_messages
     → queues_after p switch sides qs timed slot ≡ no_messages
 beyond_after p switch sides qs timed slot out empty =
-    empty_after p switch sides qs timed slot (ap (λ (b : Bool). if b then phase_items p slot switch (sides slot).sight.view timed switch.phase else []) out) empty
+    empty_after p switch sides qs timed slot (ap (λ (b : Bool). if b then phase_items p slot switch (sides slot) timed switch.phase else []) out) empty
 
 pub body_after : (p : PolicyView) (switch : Switch) (sides : ℕ → Side) (qs : ℕ → Queue) (ql : Queue) (timed : Timed) (old new : Desk)
     → Body p switch sides qs ql old → new.policy ≡ old.policy → new.phase ≡ phase_after switch.phase timed.event
@@ -81,8 +81,8 @@ pub still_none : (p : PolicyView) (switch : Switch) (sides : ℕ → Side) (qs :
 still_none p switch sides qs timed fit opens none = (
   ap (λ (told : Option Features). opening_after switch.phase told timed.event) opens.0 ∙ none,
   λ slot. empty_after p switch sides qs timed slot
-      (either_none (is_slot p slot) (phase_items p slot switch (sides slot).sight.view timed switch.phase)
-      (none_in p slot switch (sides slot).sight.view timed switch.phase (shut_in switch.phase switch.features fit.open_told opens.0) none))
+      (either_none (is_slot p slot) (phase_items p slot switch (sides slot) timed switch.phase)
+      (none_in p slot switch (sides slot) timed switch.phase (shut_in switch.phase switch.features fit.open_told opens.0) none))
       (opens.1 slot),
 )
 

@@ -61,6 +61,8 @@ first_stands slice s slot features state same rate burst fresh = record {
   miss_send_len = fresh.miss_send_len;
   moment = fresh.moment;
   requests = subst (λ (k : ℕ). RequestsStand k [] state.xids) (sym same) fresh.xids;
+  given = fresh.given;
+  held = fresh.held;
   collections = fresh.collections;
   bucket = fresh.bucket;
   book = fresh.book;
@@ -75,7 +77,7 @@ opens_now switch message features begun none told = ap₂ (λ (phase : Phase) (t
 shown_first : (p : PolicyView) (slot : ℕ) (switch : Switch) (side : Side) (moment : ℕ) (message : List ℕ) (features : Features) → switch.phase ≡ Begun → features_told message ≡ Some features → is_slot p slot ≡ true
     → items_of p slot switch side (told_at moment message) ≡ Told (own_features (settings_at p slot (Some features)) features) ∷ []
 shown_first p slot switch side moment message features begun told here =
-    ap₂ (λ (b : Bool) (phase : Phase). if b then phase_items p slot switch side.sight.view (told_at moment message) phase else []) here begun
+    ap₂ (λ (b : Bool) (phase : Phase). if b then phase_items p slot switch side (told_at moment message) phase else []) here begun
     ∙ ap (opening_items p slot) told
 
 -- one slot of the session
@@ -89,7 +91,8 @@ slot_begins p switch sides qs moment message features slot slice state queue beg
     let own = own_features (settings_at p slot (Some features)) features in
     let shown = shown_first p slot switch (sides slot) moment message features begun told (within p.slices slot slice at) in
     let side : sides_after p switch sides timed slot ≡ record { sight = record { view = Told own ∷ []; came = [] }; numbered = [] } =
-    ap₂ (λ (items : List Item) (before : Side). with_shown timed items before) shown start in
+    ap₂ (λ (items : List Item) (before : Side). with_shown switch.phase timed items before) shown start
+    ∙ ap (λ (phase : Phase). with_shown phase timed (Told own ∷ []) side_start) begun in
     let known = settings_known p slot (Some features) slice at in
     record {
       state_stands =

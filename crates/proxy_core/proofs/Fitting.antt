@@ -11,6 +11,7 @@ use Rattle.desk_words.specs.Histories.{is_slot, settings_at, own_ports, side_of,
 use Rattle.desk_words.proofs.Alone.{has_told, opened_told, blind}
 use Rattle.desk_words.proofs.Silence.{untold, sees_nothing}
 use Rattle.desk_words.proofs.Seen.{seen}
+use Rattle.desk_words.proofs.Numbering.{numbered}
 use Rattle.slice_words.proofs.LoneRules.{same_ports}
 use Rattle.proxy_core.specs.Desks.{Coherent}
 use Rattle.proxy_core.proofs.Lists.{there}
@@ -39,4 +40,5 @@ coherent policy h = record {
   blind = λ none slot. blind policy slot h none;
   beyond = λ slot out. sees_nothing policy slot h out;
   seen = λ features told slot here. seen policy slot h features told here;
+  numbered = λ slot here. numbered policy slot (settings_at policy slot (opening_of h)) h here;
 }

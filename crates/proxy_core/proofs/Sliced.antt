@@ -184,7 +184,7 @@ hears_slot : (p : PolicyView) (switch : Switch) (sides : ℕ → Side) (qs : ℕ
     → SlotStands p slot switch (sides_after p switch sides (record { event = SliceMsg slot message; moment = moment }) slot) (queues_after p switch sides qs (record { event = SliceMsg slot message; moment = moment }) slot) z w
 hears_slot p switch sides qs slot moment message on lane new_lane x y z w opened here up one heard =
     slot_after p switch sides qs (record { event = SliceMsg slot message; moment = moment }) slot (Msg message moment ∷ []) false z w
-    (shown_msg p switch (sides slot) slot moment message opened here up) refl (
+    (shown_msg p switch (sides slot) slot moment message opened here up) refl refl (
       heard.stands,
       subst (λ (m : List (List ℕ)). QueueStands slice_limit (push_all slice_limit (qs slot) m) w)
           (sym (append-nil (answer_to (settings_at p slot switch.features) (sides slot).sight.view (Msg message moment)).to_slice)) (heard.to_slice slice_limit (qs slot) one.queue_stands),

@@ -107,7 +107,7 @@ pub comes_slot : (p : PolicyView) (switch : Switch) (sides : ℕ → Side) (qs :
 comes_slot p switch sides qs slot moment a b x y opened here stands comes =
     let timed : Timed = record { event = SliceUp slot; moment = moment } in
     slot_after p switch sides qs timed slot (Up ∷ []) true x y
-    (shown_up p switch (sides slot) slot moment opened here)
+    (shown_up p switch (sides slot) slot moment opened here) refl
     (ap₂ (λ (a b : Bool). a && b) (eq-eqb slot slot refl) (up_comes p switch sides slot moment opened here))
     (comes.0 (settings_at p slot switch.features) (sides slot).sight stands.state_stands, comes.1 _ (qs slot) stands.queue_stands)
 
@@ -117,7 +117,7 @@ pub goes_slot : (p : PolicyView) (switch : Switch) (sides : ℕ → Side) (qs : 
 goes_slot p switch sides qs slot moment a b x y opened here stands goes =
     let timed : Timed = record { event = SliceDown slot; moment = moment } in
     slot_after p switch sides qs timed slot (Down ∷ []) true x y
-    (shown_down p switch (sides slot) slot moment opened here) (eq-eqb slot slot refl) (
+    (shown_down p switch (sides slot) slot moment opened here) refl (eq-eqb slot slot refl) (
       goes.0 (settings_at p slot switch.features) (sides slot).sight stands.state_stands,
       subst (λ (m : List (List ℕ)). QueueStands slice_limit (push_all slice_limit no_messages m) y) (sym (down_sent (settings_at p slot switch.features) (sides slot).sight.view (is_up (sides slot).sight.view) refl))
           (goes.1 _ (qs slot) stands.queue_stands),

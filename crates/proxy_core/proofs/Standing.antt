@@ -1,19 +1,19 @@
 -- One slot after an event, and all slots.
-use Rattle.std.proofs.Common.{◌≡◌, ◌≢◌, ℕ, ltb, Bool, true, false, if◌then◌else◌, List, [], ◌∷◌, length, slice_get, refl, ap, subst, sym, ◌∙◌, inl, inr, Option, Some}
+use Rattle.std.proofs.Common.{◌≡◌, ◌≢◌, ℕ, ltb, Bool, true, false, if◌then◌else◌, List, [], ◌∷◌, length, slice_get, refl, ap, subst, sym, ◌∙◌, inl, inr, Option, Some, None}
 use Rattle.std.proofs.lemmas.Bool.{cases_eq}
 use Rattle.of10_port.specs.declared.features.Features.{Features}
 use Rattle.flowspace.specs.Policies.{PolicyView, SwitchView}
 use Rattle.flow_book.specs.declared.state.SliceState.{SliceState}
 use Rattle.outbox.specs.Queues.{Queue, no_messages, push_all, Kept, QueueStands}
 use Rattle.slice_words.specs.Items.{Item, End, is_up}
-use Rattle.slice_words.specs.Alone.{sent_for}
+use Rattle.slice_words.specs.Alone.{with_items, sent_for}
 use Rattle.slice_words.specs.Standing.{SliceStands}
 use Rattle.desk_words.specs.declared.event.Event.{Event}
 use Rattle.desk_words.specs.declared.event.Timed.{Timed}
 use Rattle.desk_words.specs.declared.phase.Phase.{Phase}
 use Rattle.desk_words.specs.declared.phase.Phase.TheVariants.{Opened}
 use Rattle.desk_words.specs.Openings.{rules_of, opening_after, known_after, Switch, switch_after}
-use Rattle.desk_words.specs.Histories.{is_slot, settings_at, Side, items_of, phase_items, event_items, with_shown}
+use Rattle.desk_words.specs.Histories.{is_slot, settings_at, Side, items_of, phase_items, event_items, is_any_given, number_told, came_with, with_shown}
 use Rattle.desk_words.specs.Sent.{sent_with}
 use Rattle.desk_words.specs.Operations.{slice_limit, empties}
 use Rattle.proxy_core.specs.declared.parts.Session.{Session}
@@ -28,16 +28,22 @@ use Rattle.proxy_core.proofs.Lists.{both_same, there, within}
 -- what a slot's state and queue are to be after an event that shows these items, and empties the queue or doesn't
 abbrev pub SlotAfter : PolicyView → ℕ → Switch → Side → Queue → Timed → List Item → Bool → SliceState → Kept → Type 0
 SlotAfter p slot switch side q timed items emptied state queue =
-    SliceStands (settings_at p slot switch.features) (with_shown timed items side).sight state
+    SliceStands (settings_at p slot switch.features) (record { view = with_items items side.sight.view; came = side.sight.came }) state
     × QueueStands slice_limit (push_all slice_limit (if emptied then no_messages else q) (sent_for (settings_at p slot switch.features) side.sight.view items)) queue
+
+-- items that give no packet bring no number
+same_came : (number : Option ℕ) (items : List Item) (came : List ℕ) → is_any_given items ≡ false → came_with number items came ≡ came
+same_came None items came none = refl
+same_came (Some number) items came none = rw none refl
 
 -- so it stands after the event
 pub slot_after : (p : PolicyView) (switch : Switch) (sides : ℕ → Side) (qs : ℕ → Queue) (timed : Timed) (slot : ℕ) (items : List Item) (emptied : Bool) (state : SliceState) (queue : Kept)
-    → items_of p slot switch (sides slot) timed ≡ items → empties slot (up_after p switch sides timed slot) timed.event ≡ emptied
+    → items_of p slot switch (sides slot) timed ≡ items → is_any_given items ≡ false → empties slot (up_after p switch sides timed slot) timed.event ≡ emptied
     → SlotAfter p slot switch (sides slot) (qs slot) timed items emptied state queue
     → SlotStands p slot switch (sides_after p switch sides timed slot) (queues_after p switch sides qs timed slot) state queue
-slot_after p switch sides qs timed slot items emptied state queue shown emptying after = record {
-  state_stands = subst (λ (is : List Item). SliceStands (settings_at p slot switch.features) (with_shown timed is (sides slot)).sight state) (sym shown) after.0;
+slot_after p switch sides qs timed slot items emptied state queue shown none emptying after = record {
+  state_stands = subst (λ (is : List Item). SliceStands (settings_at p slot switch.features) (with_shown switch.phase timed is (sides slot)).sight state) (sym shown)
+      (subst (λ (came : List ℕ). SliceStands (settings_at p slot switch.features) (record { view = with_items items (sides slot).sight.view; came = came }) state) (sym (same_came (number_told switch.phase timed.event) items (sides slot).sight.came none)) after.0);
   queue_stands =
       subst (λ (b : Bool). QueueStands slice_limit (push_all slice_limit (if b then no_messages else qs slot) (sent_with p slot switch (sides slot) timed)) queue) (sym emptying)
       (subst (λ (is : List Item). QueueStands slice_limit (push_all slice_limit (if emptied then no_messages else qs slot) (sent_for (settings_at p slot switch.features) (sides slot).sight.view is)) queue) (sym shown) after.1);
@@ -50,7 +56,7 @@ pub passes : (p : PolicyView) (switch : Switch) (sides : ℕ → Side) (qs : ℕ
     → SlotStands p slot switch (sides_after p switch sides timed slot) (queues_after p switch sides qs timed slot) state queue
 unfolding push_all
 passes p switch sides qs timed slot state queue shown emptying stands =
-    slot_after p switch sides qs timed slot [] false state queue shown emptying (stands.state_stands, stands.queue_stands)
+    slot_after p switch sides qs timed slot [] false state queue shown refl emptying (stands.state_stands, stands.queue_stands)
 
 -- the end of the switch is seen, and nothing is sent for it
 pub ends_slot : (p : PolicyView) (switch : Switch) (sides : ℕ → Side) (qs : ℕ → Queue) (timed : Timed) (slot : ℕ) (state : SliceState) (queue : Kept)
@@ -59,7 +65,7 @@ pub ends_slot : (p : PolicyView) (switch : Switch) (sides : ℕ → Side) (qs : 
     → SlotStands p slot switch (sides_after p switch sides timed slot) (queues_after p switch sides qs timed slot) state queue
 unfolding push_all
 ends_slot p switch sides qs timed slot state queue shown emptying stands =
-    slot_after p switch sides qs timed slot (End ∷ []) false state queue shown emptying (
+    slot_after p switch sides qs timed slot (End ∷ []) false state queue shown refl emptying (
       end_stands (settings_at p slot switch.features) (sides slot).sight state stands.state_stands,
       subst (λ (m : List (List ℕ)). QueueStands slice_limit (push_all slice_limit (qs slot) m) queue)
           (sym (end_sent (settings_at p slot switch.features) (sides slot).sight.view (is_up (sides slot).sight.view) refl)) stands.queue_stands,
@@ -67,9 +73,9 @@ ends_slot p switch sides qs timed slot state queue shown emptying stands =
 
 -- what an event shows after the opening
 pub items_opened : (p : PolicyView) (slot : ℕ) (switch : Switch) (side : Side) (timed : Timed) → switch.phase ≡ Opened
-    → items_of p slot switch side timed ≡ (if is_slot p slot then event_items p slot switch side.sight.view timed.moment timed.event else [])
+    → items_of p slot switch side timed ≡ (if is_slot p slot then event_items p slot switch side timed.moment timed.event else [])
 items_opened p slot switch side timed opened =
-    ap (λ (phase : Phase). if is_slot p slot then phase_items p slot switch side.sight.view timed phase else []) opened
+    ap (λ (phase : Phase). if is_slot p slot then phase_items p slot switch side timed phase else []) opened
 
 -- ---- all slots
 

@@ -24,7 +24,7 @@ use Rattle.desk_words.specs.Sent.{preparation, echo_for, lane_in, put_with}
 use Rattle.desk_words.specs.Verdicts.{is_fresh, is_ended, is_before, is_closing}
 use Rattle.desk_words.specs.Operations.{slice_limit, lane_limit}
 use Rattle.switch_side.specs.declared.dispatch.Dispatch.{Dispatch}
-use Rattle.switch_side.specs.Dispatches.{Surrounds, AllStand, IsDispatch, AreChanges, told_at, sent_from}
+use Rattle.switch_side.specs.Dispatches.{Surrounds, AllStand, AllNumbered, IsDispatch, AreChanges, told_at, sent_from}
 use Rattle.proxy_core.specs.declared.parts.Session.{Session}
 use Rattle.proxy_core.specs.declared.parts.Desk.{Desk}
 use Rattle.proxy_core.specs.Slots.{HasOnly, HasMore}
@@ -138,9 +138,9 @@ opened_bad message bad = ap (λ (b : Bool). if b then Ended else Opened) bad
 opened_good : (message : List ℕ) → is_bad message ≡ false → phase_after Opened (SwitchMsg message) ≡ Opened
 opened_good message good = ap (λ (b : Bool). if b then Ended else Opened) good
 
-bad_shown : (p : PolicyView) (slot : ℕ) (switch : Switch) (view : List Item) (message : List ℕ) → is_bad message ≡ true → message_items p slot switch view message ≡ End ∷ []
+bad_shown : (p : PolicyView) (slot : ℕ) (switch : Switch) (side : Side) (message : List ℕ) → is_bad message ≡ true → message_items p slot switch side message ≡ End ∷ []
 unfolding message_items
-bad_shown p slot switch view message bad = rw bad refl
+bad_shown p slot switch side message bad = rw bad refl
 
 -- the session of a switch that ends
 pub bad_ends : (p : PolicyView) (switch : Switch) (sides : ℕ → Side) (qs : ℕ → Queue) (moment : ℕ) (message : List ℕ) (session : Session) → SessionStands p switch sides qs session → switch.phase ≡ Opened → is_bad message ≡ true
@@ -149,7 +149,7 @@ bad_ends p switch sides qs moment message session stands open_ bad =
     session_ends p switch sides qs (told_at moment message) session stands
     (ap (λ (k : Phase). known_after k switch.known (SwitchMsg message)) open_ ∙ ap (λ (t : Option PortStatus). elim t [ None ↦ switch.known | Some status ↦ changed status switch.known ]) (bad_untold message bad))
     (λ slot here. items_opened p slot switch (sides slot) (told_at moment message) open_
-    ∙ ap₂ (λ (b : Bool) (items : List Item). if b then items else []) here (bad_shown p slot switch (sides slot).sight.view message bad))
+    ∙ ap₂ (λ (b : Bool) (items : List Item). if b then items else []) here (bad_shown p slot switch (sides slot) message bad))
     (λ slot. refl)
 
 opens_bad : (p : PolicyView) (switch : Switch) (sides : ℕ → Side) (qs : ℕ → Queue) (moment : ℕ) (message : List ℕ) (session : Option Session) → Coherent p switch sides → switch.phase ≡ Opened → is_bad message ≡ true → Opens p switch sides qs session
@@ -222,36 +222,36 @@ kept_queues old new policy features states ports same p switch sides qs s =
     record { state_stands = was.2.state_stands; queue_stands = same.each slot was.0 y was.1 gy slice_limit (qs slot) was.2.queue_stands })
 
 -- all that follows from a message, for the session and the lane
-pub carried_out : (moment : ℕ) (message : List ℕ) (old new : Session) (lane new_lane : Kept) (rooms : List Kept) (p : PolicyView) (switch : Switch) (sides : ℕ → Side) (qs : ℕ → Queue) (d : Dispatch) → switch.phase ≡ Opened → SessionStands p switch sides qs old
-    → ((p : PolicyView) (switch : Switch) (sides : ℕ → Side) (moment : ℕ) → Surrounds p switch old.policy old.ports → AllStand p switch sides old.states.items → IsDispatch p switch sides moment message d)
+pub carried_out : (moment : ℕ) (message : List ℕ) (old new : Session) (lane new_lane : Kept) (rooms : List Kept) (p : PolicyView) (switch : Switch) (sides : ℕ → Side) (qs : ℕ → Queue) (d : Dispatch) → switch.phase ≡ Opened → AllNumbered p switch sides → SessionStands p switch sides qs old
+    → ((p : PolicyView) (switch : Switch) (sides : ℕ → Side) (moment : ℕ) → Surrounds p switch old.policy old.ports → AllStand p switch sides old.states.items → AllNumbered p switch sides → IsDispatch p switch sides moment message d)
     → d.close ≡ false → new.policy ≡ old.policy → new.features ≡ old.features → length new.states.items ≡ length old.states.items
     → (AllStand p switch sides old.states.items → AreChanges p switch sides moment message d.changes.items → AllStand p switch (sides_after p switch sides (told_at moment message)) new.states.items)
     → new.ports ≡ kept_by d.port old.ports
     → AreSame old.queues.items rooms → AreHanded d.to_slices.items rooms new.queues.items → HasMore d.to_switch.items lane new_lane
     → CarriedOut p switch sides qs moment message true old lane new new_lane
-carried_out moment message old new lane new_lane rooms p switch sides qs d open_ s dispatched goes policy features count stand ports same handed more =
-    let is = dispatched p switch sides moment (surrounds p switch sides qs old s open_) (all_stand p switch sides qs old s) in (
+carried_out moment message old new lane new_lane rooms p switch sides qs d open_ numbered s dispatched goes policy features count stand ports same handed more =
+    let is = dispatched p switch sides moment (surrounds p switch sides qs old s open_) (all_stand p switch sides qs old s) numbered in (
       sym is.close ∙ goes,
       carried_session p switch sides qs moment message old new rooms s open_ policy features count (stand (all_stand p switch sides qs old s) is.changes) (ports ∙ ap (λ (t : Option PortStatus). kept_by t old.ports) is.port) same
           (subst (λ (m : List (ℕ × List ℕ)). AreHanded m rooms new.queues.items) is.to_slices handed),
       subst (λ (m : List (List ℕ)). HasMore m lane new_lane) is.to_switch more,
     )
 
-pub closed_bad : (moment : ℕ) (message : List ℕ) (old : Session) (p : PolicyView) (switch : Switch) (sides : ℕ → Side) (qs : ℕ → Queue) (d : Dispatch) → switch.phase ≡ Opened → SessionStands p switch sides qs old
-    → ((p : PolicyView) (switch : Switch) (sides : ℕ → Side) (moment : ℕ) → Surrounds p switch old.policy old.ports → AllStand p switch sides old.states.items → IsDispatch p switch sides moment message d)
+pub closed_bad : (moment : ℕ) (message : List ℕ) (old : Session) (p : PolicyView) (switch : Switch) (sides : ℕ → Side) (qs : ℕ → Queue) (d : Dispatch) → switch.phase ≡ Opened → AllNumbered p switch sides → SessionStands p switch sides qs old
+    → ((p : PolicyView) (switch : Switch) (sides : ℕ → Side) (moment : ℕ) → Surrounds p switch old.policy old.ports → AllStand p switch sides old.states.items → AllNumbered p switch sides → IsDispatch p switch sides moment message d)
     → d.close ≡ true → is_bad message ≡ true
-closed_bad moment message old p switch sides qs d open_ s dispatched goes =
-    sym (dispatched p switch sides moment (surrounds p switch sides qs old s open_) (all_stand p switch sides qs old s)).close ∙ goes
+closed_bad moment message old p switch sides qs d open_ numbered s dispatched goes =
+    sym (dispatched p switch sides moment (surrounds p switch sides qs old s open_) (all_stand p switch sides qs old s) numbered).close ∙ goes
 
 -- ---- the desk hands a message on
 
 pub passes_on : (moment : ℕ) (message : List ℕ) (go : Bool) (old : Desk) (a b : Session) (lane : Kept) → old.session ≡ Some a → Carries moment message go a old.lane b lane
     → PassesOn moment message go old (record old { lane = lane; session = Some b })
 passes_on moment message true old a b lane was carries p switch sides qs ql fit body open_ =
-    let r = carries p switch sides qs open_ (subst (λ (o : Option Session). Opens p switch sides qs o) was body.opens) in
+    let r = carries p switch sides qs open_ fit.numbered (subst (λ (o : Option Session). Opens p switch sides qs o) was body.opens) in
     (r.0, refl, refl, r.1, r.2)
 passes_on moment message false old a b lane was carries p switch sides qs ql fit body open_ =
-    let r = carries p switch sides qs open_ (subst (λ (o : Option Session). Opens p switch sides qs o) was body.opens) in
+    let r = carries p switch sides qs open_ fit.numbered (subst (λ (o : Option Session). Opens p switch sides qs o) was body.opens) in
     (r.0, ap₂ (λ (l : Kept) (o : Option Session). let d : Desk = record old { lane = l; session = o } in d) r.2 (ap (λ (s : Session). Some s) r.1 ∙ sym was))
 
 -- ---- phases

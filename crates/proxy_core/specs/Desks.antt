@@ -20,6 +20,7 @@ use Rattle.desk_words.specs.declared.answer.Taken.TheVariants.{Message, NotOpen}
 use Rattle.desk_words.specs.declared.answer.Verdict.{Verdict}
 use Rattle.desk_words.specs.Openings.{rules_of, phase_after, Switch as Known, switch_after, switch_of}
 use Rattle.desk_words.specs.Histories.{is_slot, settings_at, Side, side_start, items_of, with_shown, side_of, is_open}
+use Rattle.desk_words.specs.Numbers.{AreNumbered}
 use Rattle.desk_words.specs.Sent.{sent_with, put_with, lane_in, echo_for}
 use Rattle.desk_words.specs.Verdicts.{is_ended, is_before, is_closing}
 use Rattle.desk_words.specs.Operations.{Operation, Step, Take, events_of, slice_limit, lane_limit, empties, is_ending, is_slice, is_switch, queue_of, lane_of, waiting_in, silence, take_reply, IsReply}
@@ -66,8 +67,9 @@ pub record Coherent (policy : PolicyView) (switch : Known) (sides : ℕ → Side
   pub open_told : switch.phase ≡ Opened → (features : Features) × (switch.features ≡ Some features)
   pub before_untold : is_before switch.phase ≡ true → switch.features ≡ None
   pub blind : switch.features ≡ None → (slot : ℕ) → sides slot ≡ side_start
-  pub beyond : (slot : ℕ) → is_slot policy slot ≡ false → sides slot ≡ side_start
+  pub beyond : (slot : ℕ) → is_slot policy slot ≡ false → (sides slot).sight ≡ side_start.sight
   pub seen : (features : Features) → switch.features ≡ Some features → (slot : ℕ) → is_slot policy slot ≡ true → HasSeen policy slot features switch.known (sides slot).sight.view
+  pub numbered : (slot : ℕ) → is_slot policy slot ≡ true → AreNumbered (settings_at policy slot switch.features) (sides slot)
 
 -- whether each slice is up
 abbrev pub up_now : Known → (ℕ → Side) → ℕ → Bool
@@ -77,7 +79,7 @@ up_now switch sides slot = is_open switch.phase && is_up (sides slot).sight.view
 
 -- what each slice sees after an event
 abbrev pub sides_after : PolicyView → Known → (ℕ → Side) → Timed → ℕ → Side
-sides_after policy switch sides timed slot = with_shown timed (items_of policy slot switch (sides slot) timed) (sides slot)
+sides_after policy switch sides timed slot = with_shown switch.phase timed (items_of policy slot switch (sides slot) timed) (sides slot)
 
 -- whether each slice is up after it
 abbrev pub up_after : PolicyView → Known → (ℕ → Side) → Timed → ℕ → Bool

@@ -18,7 +18,7 @@ use Rattle.desk_words.specs.Openings.{Switch, switch_after}
 use Rattle.desk_words.specs.Histories.{Side}
 use Rattle.desk_words.specs.Sent.{echo_for}
 use Rattle.desk_words.specs.Operations.{slice_limit}
-use Rattle.switch_side.specs.Dispatches.{told_at}
+use Rattle.switch_side.specs.Dispatches.{told_at, AllNumbered}
 use Rattle.proxy_core.specs.declared.parts.Session.{Session}
 use Rattle.proxy_core.specs.Slots.{IsSeen, HasOnly, HasMore}
 use Rattle.proxy_core.specs.Desks.{SessionStands, sides_after, queues_after}
@@ -71,7 +71,7 @@ CarriedOut policy switch sides queues moment message false old lane new new_lane
 -- what a session that has told what it is makes of a message of the switch
 abbrev pub Carries : ℕ → List ℕ → Bool → Session → Kept → Session → Kept → Type 0
 Carries moment message on old lane new new_lane =
-    (policy : PolicyView) (switch : Switch) (sides : ℕ → Side) (queues : ℕ → Queue) → switch.phase ≡ Opened → SessionStands policy switch sides queues old
+    (policy : PolicyView) (switch : Switch) (sides : ℕ → Side) (queues : ℕ → Queue) → switch.phase ≡ Opened → AllNumbered policy switch sides → SessionStands policy switch sides queues old
     → CarriedOut policy switch sides queues moment message on old lane new new_lane
 
 -- what a session stood for it stands for still

@@ -5,6 +5,7 @@ ghost use Rattle.flowspace.specs.Slices.{IsPlainSlice};
 ghost use Rattle.proxy_core.specs.Opening.{AreFresh, AreEmpty, Begins};
 ghost use Rattle.proxy_core.specs.Handing.{HasRoomAt, HasRoomForAll, HaveRoom, AreSame, AreHanded, kept_by};
 
+use crate::indexed::IndexedPolicy;
 use crate::lane::make_room;
 use crate::parts::Session;
 use flow_book::SliceState;
@@ -53,8 +54,9 @@ impl Session {
         ensures { IfOk result (λ s. Begins policy.now features s) }
     {
         let slices = policy.slices();
+        let own = policy.of_switch(alloc, features.datapath)?;
         Ok(Session {
-            policy: policy.of_switch(alloc, features.datapath)?,
+            policy: IndexedPolicy::of(alloc, own)?,
             ports: PortView::new(alloc, &features)?,
             states: fresh_states(alloc, slices)?,
             queues: empty_queues(alloc, slices.len())?,

@@ -1,15 +1,16 @@
+use crate::indexed::IndexedPolicy;
 use desk_words::Phase;
 use flow_book::SliceState;
-use flowspace::{Policy, SwitchPolicy};
+use flowspace::Policy;
 use of10_port::Features;
 use outbox::Outbox;
 use port_view::PortView;
 
-/// What there is once the switch has told what it is: its part of the policy, what it told of itself first,
-/// its known ports, and for each slice of the policy a state and the messages that wait for its controller.
+/// What there is once the switch has told what it is: its part of the policy with the index of its rules, what
+/// it told of itself first, its known ports, and for each slice of the policy a state and the messages that wait for its controller.
 #[derive(Drop)]
 pub(crate) struct Session {
-    pub(crate) policy: SwitchPolicy,
+    pub(crate) policy: IndexedPolicy,
     pub(crate) features: Features,
     pub(crate) ports: PortView,
     pub(crate) states: Vec<SliceState>,

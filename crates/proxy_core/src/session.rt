@@ -77,7 +77,7 @@ impl Session {
         let at = usize::from(slot);
         hear(
             alloc,
-            &self.policy,
+            self.policy.policy(),
             &self.ports,
             &self.features,
             &mut self.states[at],
@@ -100,7 +100,7 @@ impl Session {
         ensures err { OnErr result (StandsOn self.old self.new) }
         ensures lane { OnErr result (SameQueue lane.old lane.new) }
     {
-        if self.states.len() != self.policy.slices().len() {
+        if self.states.len() != self.policy.policy().slices().len() {
             return Ok(false);
         }
         let Dispatch {
@@ -109,7 +109,14 @@ impl Session {
             changes,
             port,
             close,
-        } = react(alloc, &self.policy, &self.ports, &self.states, frame)?;
+        } = react(
+            alloc,
+            self.policy.policy(),
+            self.policy.index(),
+            &self.ports,
+            &self.states,
+            frame,
+        )?;
         if close {
             return Ok(false);
         }

@@ -36,12 +36,12 @@ abbrev pub answer_read : Settings → List Item → ℕ → List ℕ → Reading
 answer_read s view moment message read = elim read [ Err fault ↦ unread_answer fault message | Ok asked ↦ read_answer s view (past_of s view) moment asked message ]
 
 pub reaction_of : (s : Settings) (sight : Sight) (message : List ℕ) (moment : ℕ) (r : Reaction) (read : Reading) → is_up sight.view ≡ true → read_controller message ≡ read
-    → Follows s.patterns message read (answer_read s sight.view moment message read) moment r → IsReaction s sight (Msg message moment) r
+    → Follows s sight message read (answer_read s sight.view moment message read) moment r → IsReaction s sight (Msg message moment) r
 reaction_of s sight message moment r read up is follows =
     let same : answer_read s sight.view moment message read ≡ answer_to s sight.view (Msg message moment) =
     ap (answer_read s sight.view moment message) (sym is) ∙ ap (λ (b : Bool). if b then message_answer s sight.view (past_of s sight.view) moment message else silence) (sym up) in
-    let so = subst (λ (a : Answer). Follows s.patterns message (read_controller message) a moment r) same (subst (λ (k : Reading). Follows s.patterns message k (answer_read s sight.view moment message read) moment r) (sym is) follows) in
-    record { to_slice = so.to_slice; to_switch = so.to_switch sight.came; close = so.close; change = (up, so.change) }
+    let so = subst (λ (a : Answer). Follows s sight message (read_controller message) a moment r) same (subst (λ (k : Reading). Follows s sight message k (answer_read s sight.view moment message read) moment r) (sym is) follows) in
+    record { to_slice = so.to_slice; to_switch = so.to_switch; close = so.close; change = (up, so.change) }
 
 -- what asks something of the switch is answered by the rate
 pub asked_answer : (s : Settings) (view : List Item) (past : List Past) (moment : ℕ) (message : List ℕ) (asked : FromController) → asks_switch (Ok asked) ≡ true → rated_answer s view past moment asked message ≡ read_answer s view past moment asked message

@@ -1,28 +1,32 @@
 -- What a message of a slice makes of the calls of the parts of its state.
-use Rattle.std.proofs.Common.{◌≡◌, ℕ, ◌&&◌, Bool, true, false, if◌then◌else◌, List, [], ◌∷◌, ◌++◌, max, map, refl, sym, ap, ap₂, ◌∙◌, subst, Option, Some, None, is_some, unwrap_or, true≢false, Ok, Err}
+use Rattle.std.proofs.Common.{◌≡◌, ℕ, ◌&&◌, not, Bool, true, false, if◌then◌else◌, List, [], ◌∷◌, ◌++◌, max, map, filter, length, le-leb, arith, refl, sym, ap, ap₂, ◌∙◌, subst, Option, Some, None, is_some, unwrap_or, true≢false, Ok, Err}
 use Rattle.of10_message.specs.declared.controller.FromController.TheVariants as said
 use Rattle.of10_message.specs.Controller.{read_controller}
-use Rattle.xid_map.specs.Requests.{RequestCall, Issue, Forget, Requests, RequestsStand, issued}
-use Rattle.xid_map.specs.Collections.{CollectionCall, EndAll, CollectionsStand}
+use Rattle.xid_map.specs.Requests.{RequestCall, Issue, Forget, RequestsStand, issued}
+use Rattle.xid_map.specs.Collections.{CollectionCall, EndAll, Collected, CollectionsStand}
 use Rattle.rate_bucket.specs.Rates.{Bucket, BucketStands}
 use Rattle.flow_book.specs.Books.{BookCall, Added, Book, BookStands}
 use Rattle.flow_book.specs.declared.state.SliceState.{SliceState}
 use Rattle.slice_words.specs.Messages.{Reading, ends_connection, is_dismissing, length_wanted, length_set, asks_switch, is_question, asked_of}
 use Rattle.slice_words.specs.Items.{Settings, Sight, Item, Msg, is_up, latest}
-use Rattle.slice_words.specs.Pasts.{Answer, Past, view_in, is_any, silence}
+use Rattle.buffer_map.specs.declared.held.Held.{Held}
+use Rattle.slice_words.specs.Pasts.{Outgoing, Answer, Past, view_in, is_any, silence}
+use Rattle.slice_words.specs.Buffers.{HeldPacket, is_named, held_packets}
 use Rattle.slice_words.specs.Calls.{request_calls, collection_calls, questions, bookings, book_calls}
 use Rattle.slice_words.specs.Answers.{answer, message_answer}
 use Rattle.slice_words.specs.Alone.{Answering, played, answer_to}
-use Rattle.slice_words.specs.Standing.{SliceStands, past_of}
+use Rattle.slice_words.specs.Standing.{SliceStands, past_of, held_as}
+use Rattle.slice_words.proofs.Holding.{filter_of_map, filter_same, filter_all}
 use Rattle.slice_words.proofs.AnswerKinds.{message_holds}
 use Rattle.of10_flow.specs.declared.flow_mod.FlowMod.{FlowMod}
 use Rattle.of10_flow.specs.declared.protocol.TheConstants.{SEND_FLOW_REM}
 use Rattle.of10_flow.specs.Tables.{has_flag}
 use Rattle.flowmod_expand.specs.Pieces.{pieces_within}
 use Rattle.xid_map.specs.declared.asked.Asked.{Asked}
-use Rattle.slice_side.specs.declared.change.Change.TheVariants.{Heard, Set, Dismissed, Rated, Modified}
+use Rattle.slice_side.specs.declared.change.Change.TheVariants.{Heard, Set, Dismissed, Rated, Modified, SentOut}
 use Rattle.slice_side.specs.declared.change.Modification.{Modification}
-use Rattle.slice_side.specs.Reactions.{IsChange, with_item}
+use Rattle.slice_side.specs.Reactions.{kept, is_used, Uses, IsChange, with_item}
+use Rattle.slice_side.specs.Requesting.{IsRequested}
 
 -- ---- readings
 
@@ -83,6 +87,7 @@ unasked s view past moment message none =
       tells_features = λ features. refl;
       tells_configuration = refl;
       forwards = λ m read fault. absurd (true≢false (ap asks_switch (sym read) ∙ none));
+      sends_out = λ m read fault. absurd (true≢false (ap asks_switch (sym read) ∙ none));
     })
 
 by_up : (up : Bool) (a : Answer) → a.to_switch ≡ [] → (if up then a else silence).to_switch ≡ []
@@ -118,17 +123,22 @@ questions_made asks at asked = if asks then at ∷ asked else asked
 abbrev bookings_made : Bool → Settings → ℕ → List ℕ → List BookCall → List BookCall
 bookings_made sends s number message calls = (if sends then bookings s number (read_controller message) else []) ++ calls
 
+abbrev held_with : Bool → Answer → List HeldPacket → List HeldPacket
+held_with ends a held = if ends then [] else filter (λ packet. not (is_named packet.ordinal a.to_switch)) held
+
 -- a state with these changes belongs to what the slice sees with the message
-pub record Changed (s : Settings) (view : List Item) (message : List ℕ) (moment : ℕ) (ends asks sends : Bool) (set : Option ℕ) (old new : SliceState) : Type 0 where
-  pub moment_is : new.moment ≡ max moment (latest view)
-  pub up_is : new.up ≡ (if ends then false else is_up view)
+pub record Changed (s : Settings) (sight : Sight) (message : List ℕ) (moment : ℕ) (ends asks sends : Bool) (set : Option ℕ) (old new : SliceState) : Type 0 where
+  pub moment_is : new.moment ≡ max moment (latest sight.view)
+  pub up_is : new.up ≡ (if ends then false else is_up sight.view)
   pub length_is : new.miss_send_len ≡ (if ends then 128 else unwrap_or set old.miss_send_len)
-  pub requests : RequestsStand s.slot (requests_made ends sends message (request_calls s (past_of s view))) new.xids
-  pub collections : CollectionsStand (collections_made ends (collection_calls (past_of s view))) new.collections
-  pub bucket : BucketStands (questions_made asks (max moment (latest view)) (questions (past_of s view))) new.bucket
+  pub requests : RequestsStand s.slot (requests_made ends sends message (request_calls s (past_of s sight.view))) new.xids
+  pub collections : CollectionsStand (collections_made ends (collection_calls (past_of s sight.view))) new.collections
+  pub bucket : BucketStands (questions_made asks (max moment (latest sight.view)) (questions (past_of s sight.view))) new.bucket
   pub rate : new.bucket.rate ≡ old.bucket.rate
   pub burst : new.bucket.burst ≡ old.bucket.burst
-  pub book : BookStands (bookings_made sends s (issued (request_calls s (past_of s view))) message (book_calls s (past_of s view))) new.book
+  pub book : BookStands (bookings_made sends s (issued (request_calls s (past_of s sight.view))) message (book_calls s (past_of s sight.view))) new.book
+  pub given : new.buffers.given ≡ old.buffers.given
+  pub held : new.buffers.held ≡ map (held_as sight.came) (held_with ends (answer_to s sight.view (Msg message moment)) (held_packets (past_of s sight.view)))
 
 questions_with : (s : Settings) (view : List Item) (message : List ℕ) (moment : ℕ) (asks : Bool) → (is_up view && is_question message) ≡ asks
     → questions (past_of s (Msg message moment ∷ view)) ≡ questions_made asks (max moment (latest view)) (questions (past_of s view))
@@ -141,7 +151,7 @@ collections_with true now before = refl
 collections_with false now before = refl
 
 pub stands_with : (s : Settings) (sight : Sight) (message : List ℕ) (moment : ℕ) (ends asks sends : Bool) (set : Option ℕ) (old new : SliceState)
-    → Does s sight.view message moment ends asks sends set → SliceStands s sight old → Changed s sight.view message moment ends asks sends set old new
+    → Does s sight.view message moment ends asks sends set → SliceStands s sight old → Changed s sight message moment ends asks sends set old new
     → SliceStands s (with_item (Msg message moment) sight) new
 stands_with s sight message moment ends asks sends set old new does stands changed = record {
   up = changed.up_is ∙ rw does.ending refl;
@@ -151,9 +161,35 @@ stands_with s sight message moment ends asks sends set old new does stands chang
   collections = subst (λ (calls : List CollectionCall). CollectionsStand calls new.collections) (rw does.ending (collections_with ends _ _)) changed.collections;
   bucket = subst (λ (asked : List ℕ). BucketStands asked new.bucket) (sym (questions_with s sight.view message moment asks does.asking)) changed.bucket;
   book = subst (λ (calls : List BookCall). BookStands calls new.book) (rw does.sending refl) changed.book;
+  given = changed.given ∙ stands.given;
+  held = changed.held ∙ rw does.ending refl;
   rate = changed.rate ∙ stands.rate;
   burst = changed.burst ∙ stands.burst;
 }
+
+-- ---- the packets that are held
+
+none_sent : {A : Type 0} (messages : List A) → is_any messages ≡ false → messages ≡ []
+none_sent [] none = refl
+none_sent (message ∷ messages) none = absurd (true≢false (sym (le-leb 1 (length (message ∷ messages)) (omega arith)) ∙ none))
+
+-- where nothing is sent on, the same are held
+held_still : (s : Settings) (sight : Sight) (message : List ℕ) (moment : ℕ) (held : List Held) → is_any (answer_to s sight.view (Msg message moment)).to_switch ≡ false → held ≡ map (held_as sight.came) (held_packets (past_of s sight.view))
+    → held ≡ map (held_as sight.came) (held_with false (answer_to s sight.view (Msg message moment)) (held_packets (past_of s sight.view)))
+held_still s sight message moment held none are =
+    are
+    ∙ ap (map (held_as sight.came))
+    (sym (ap (λ (messages : List Outgoing). filter (λ (packet : HeldPacket). not (is_named packet.ordinal messages)) (held_packets (past_of s sight.view))) (none_sent (answer_to s sight.view (Msg message moment)).to_switch none)
+    ∙ filter_all (λ (packet : HeldPacket). not (is_named packet.ordinal [])) (held_packets (past_of s sight.view)) (λ k d within. refl)))
+
+-- where messages are sent on, all but the one that they use up
+held_used : (came : List ℕ) (used : Option ℕ) (packets : List HeldPacket) (messages : List Outgoing) (old new : List Held) → Uses used packets messages → old ≡ map (held_as came) packets
+    → new ≡ filter (λ packet. not (is_used used (kept packet))) old → new ≡ map (held_as came) (filter (λ packet. not (is_named packet.ordinal messages)) packets)
+held_used came used packets messages old new uses are is =
+    is
+    ∙ ap (filter (λ (packet : Held). not (is_used used (kept packet)))) are
+    ∙ filter_of_map (λ (packet : Held). not (is_used used (kept packet))) (λ (packet : HeldPacket). not (is_used used packet)) (held_as came) packets (λ k d within. refl)
+    ∙ ap (map (held_as came)) (filter_same (λ (packet : HeldPacket). not (is_used used packet)) (λ (packet : HeldPacket). not (is_named packet.ordinal messages)) packets (λ k d within. sym (ap not (uses k d within))))
 
 -- ---- the changes, one after the other
 
@@ -171,7 +207,7 @@ heard s sight (Msg message moment) t m old at stands is =
     stands_with s sight message moment false false false None old (record old { moment = m })
     (record { ending = facts.0; asking = no_and (is_up sight.view) (is_question message) facts.2; sending = sends_nothing s sight.view moment message facts.2; setting = facts.1 })
     stands
-    (record { moment_is = at ∙ ap₂ max facts.3 stands.moment; up_is = stands.up; length_is = refl; requests = stands.requests; collections = stands.collections; bucket = stands.bucket; rate = refl; burst = refl; book = stands.book })
+    (record { moment_is = at ∙ ap₂ max facts.3 stands.moment; up_is = stands.up; length_is = refl; requests = stands.requests; collections = stands.collections; bucket = stands.bucket; rate = refl; burst = refl; book = stands.book; given = refl; held = held_still s sight message moment old.buffers.held (sends_nothing s sight.view moment message facts.2) stands.held })
 heard s sight item t m old at stands is = absurd is
 
 pub set : (s : Settings) (sight : Sight) (item : Item) (t wanted m : ℕ) (old : SliceState) → m ≡ max t old.moment → SliceStands s sight old → IsChange s sight item (Set t wanted)
@@ -182,7 +218,7 @@ set s sight (Msg message moment) t wanted m old at stands is =
     stands_with s sight message moment false false false (Some wanted) old (record old { moment = m; miss_send_len = wanted })
     (record { ending = plain.0; asking = no_and (is_up sight.view) (is_question message) plain.1; sending = sends_nothing s sight.view moment message plain.1; setting = facts.0 })
     stands
-    (record { moment_is = at ∙ ap₂ max facts.1 stands.moment; up_is = stands.up; length_is = refl; requests = stands.requests; collections = stands.collections; bucket = stands.bucket; rate = refl; burst = refl; book = stands.book })
+    (record { moment_is = at ∙ ap₂ max facts.1 stands.moment; up_is = stands.up; length_is = refl; requests = stands.requests; collections = stands.collections; bucket = stands.bucket; rate = refl; burst = refl; book = stands.book; given = refl; held = held_still s sight message moment old.buffers.held (sends_nothing s sight.view moment message plain.1) stands.held })
 set s sight item t wanted m old at stands is = absurd is
 
 -- a state that forgot what belongs to one connection
@@ -193,6 +229,8 @@ pub record Forgot (old new : SliceState) : Type 0 where
   pub same_bucket : new.bucket ≡ old.bucket
   pub same_book : new.book ≡ old.book
   pub same_moment : new.moment ≡ old.moment
+  pub same_given : new.buffers.given ≡ old.buffers.given
+  pub none_held : new.buffers.held ≡ []
 
 pub dismissed : (s : Settings) (sight : Sight) (item : Item) (t m : ℕ) (old new : SliceState) → m ≡ max t old.moment → Forgot (record old { moment = m }) new → SliceStands s sight old → IsChange s sight item (Dismissed t)
     → SliceStands s (with_item item sight) (record new { up = false })
@@ -212,6 +250,8 @@ dismissed s sight (Msg message moment) t m old new at forgot stands is =
       rate = ap (λ bucket. bucket.rate) forgot.same_bucket;
       burst = ap (λ bucket. bucket.burst) forgot.same_bucket;
       book = subst (λ book. BookStands (book_calls s (past_of s sight.view)) book) (sym forgot.same_book) stands.book;
+      given = forgot.same_given;
+      held = forgot.none_held;
     })
 dismissed s sight item t m old new at forgot stands is = absurd is
 
@@ -240,6 +280,8 @@ rated s sight (Msg message moment) t m old bucket at asks stands is =
       rate = asks.rate;
       burst = asks.burst;
       book = stands.book;
+      given = refl;
+      held = held_still s sight message moment old.buffers.held facts.1 stands.held;
     })
 rated s sight item t m old bucket at asks stands is = absurd is
 
@@ -250,33 +292,54 @@ added_same : (made : Modification) (m : FlowMod) (s : Settings) (number : ℕ) �
     → Added made.command made.pieces.items made.priority made.asks number ∷ [] ≡ Added m.command (pieces_within s.patterns m.pattern) m.priority (has_flag SEND_FLOW_REM m) number ∷ []
 added_same made m s number command pieces priority asks = λ i. Added (command i) (pieces i) (priority i) (asks i) number ∷ []
 
-pub modified : (s : Settings) (sight : Sight) (message : List ℕ) (m number : ℕ) (made : Modification) (old : SliceState) (bucket : Bucket) (xids : Requests) (book : Book) → m ≡ max made.moment old.moment
-    → Asks m old.bucket bucket
-    → ((slot : ℕ) (calls : List RequestCall) → RequestsStand slot calls old.xids → RequestsStand slot (Issue made.asked ∷ calls) xids)
+-- what is sent on for a message changes all but the book
+module _ (s : Settings) (sight : Sight) (message : List ℕ) (at : ℕ) (asked : Asked) (used : Option ℕ) (old new : SliceState) where
+  requested : (book : Book) → IsRequested at asked used old new → SliceStands s sight old → is_up sight.view ≡ true → asks_switch (read_controller message) ≡ true → is_any (answer_to s sight.view (Msg message at)).to_switch ≡ true
+      → asked ≡ asked_of (read_controller message) message → Uses used (held_packets (past_of s sight.view)) (answer_to s sight.view (Msg message at)).to_switch
+      → BookStands (bookings s (issued (request_calls s (past_of s sight.view))) (read_controller message) ++ book_calls s (past_of s sight.view)) book
+      → SliceStands s (with_item (Msg message at) sight) (record new { book = book })
+  requested book made stands up asking sent same uses booked =
+      let plain = question_is_plain (read_controller message) asking in
+      let now : new.moment ≡ max at (latest sight.view) = made.moment ∙ ap (max at) stands.moment in
+      let calls = request_calls s (past_of s sight.view) in
+      stands_with s sight message at false true true None old (record new { book = book })
+      (record { ending = plain.0; asking = both_true (is_up sight.view) (is_question message) up asking; sending = sent; setting = plain.1 })
+      stands
+      (record {
+        moment_is = now;
+        up_is = made.same_up ∙ stands.up;
+        length_is = made.same_length;
+        requests = subst (λ (a : Asked). RequestsStand s.slot (Issue a ∷ calls) new.xids) same (made.xids s.slot calls stands.requests);
+        collections = subst (λ (collected : List Collected). CollectionsStand (collection_calls (past_of s sight.view)) collected) (sym made.same_collections) stands.collections;
+        bucket = subst (λ (at_ : ℕ). BucketStands (at_ ∷ questions (past_of s sight.view)) new.bucket) now (made.bucket (questions (past_of s sight.view)) stands.bucket);
+        rate = made.rate;
+        burst = made.burst;
+        book = booked;
+        given = made.given;
+        held = held_used sight.came used (held_packets (past_of s sight.view)) (answer_to s sight.view (Msg message at)).to_switch old.buffers.held new.buffers.held uses stands.held made.held;
+      })
+
+pub modified : (s : Settings) (sight : Sight) (message : List ℕ) (number : ℕ) (made : Modification) (old new : SliceState) (book : Book) → IsRequested made.moment made.asked made.used old new
     → ((slot : ℕ) (calls : List RequestCall) → RequestsStand slot calls old.xids → number ≡ issued calls)
-    → ((calls : List BookCall) → BookStands calls old.book → BookStands (Added made.command made.pieces.items made.priority made.asks number ∷ calls) book)
-    → SliceStands s sight old → IsChange s sight (Msg message made.moment) (Modified made)
-    → SliceStands s (with_item (Msg message made.moment) sight) (record old { moment = m; bucket = bucket; xids = xids; book = book })
-modified s sight message m number made old bucket xids book at asks issues numbers books stands is =
+    → ((calls : List BookCall) → BookStands calls new.book → BookStands (Added made.command made.pieces.items made.priority made.asks number ∷ calls) book)
+    → SliceStands s sight old → IsChange s sight (Msg message made.moment) (Modified made) → SliceStands s (with_item (Msg message made.moment) sight) (record new { book = book })
+modified s sight message number made old new book requests numbers books stands is =
+    let so = is.1 in
+    let calls = request_calls s (past_of s sight.view) in
+    let asking : asks_switch (read_controller message) ≡ true = ap asks_switch so.is_read in
+    requested s sight message made.moment made.asked made.used old new book requests stands is.0 asking so.sent so.asked so.uses
+    (subst (λ (added : List BookCall). BookStands (added ++ book_calls s (past_of s sight.view)) book)
+    (ap (λ (n : ℕ). Added made.command made.pieces.items made.priority made.asks n ∷ []) (numbers s.slot calls stands.requests)
+    ∙ added_same made so.flow_mod s (issued calls) so.command so.pieces so.priority so.asks ∙ sym (bookings_of s (issued calls) (read_controller message) so.flow_mod so.is_read))
+    (books (book_calls s (past_of s sight.view)) (subst (λ (b : Book). BookStands (book_calls s (past_of s sight.view)) b) (sym requests.same_book) stands.book)))
+
+pub sent_out : (s : Settings) (sight : Sight) (item : Item) (at : ℕ) (asked : Asked) (used : Option ℕ) (old new : SliceState) → IsRequested at asked used old new → SliceStands s sight old → IsChange s sight item (SentOut at asked used)
+    → SliceStands s (with_item item sight) new
+sent_out s sight (Msg message moment) at asked used old new requests stands is =
     let so = is.1 in
     let asking : asks_switch (read_controller message) ≡ true = ap asks_switch so.is_read in
-    let plain = question_is_plain (read_controller message) asking in
-    let now : m ≡ max made.moment (latest sight.view) = at ∙ ap (max made.moment) stands.moment in
-    let calls = request_calls s (past_of s sight.view) in
-    stands_with s sight message made.moment false true true None old (record old { moment = m; bucket = bucket; xids = xids; book = book })
-    (record { ending = plain.0; asking = both_true (is_up sight.view) (is_question message) is.0 asking; sending = so.sent; setting = plain.1 })
-    stands
-    (record {
-      moment_is = now;
-      up_is = stands.up;
-      length_is = refl;
-      requests = subst (λ (asked : Asked). RequestsStand s.slot (Issue asked ∷ calls) xids) so.asked (issues s.slot calls stands.requests);
-      collections = stands.collections;
-      bucket = subst (λ (at_ : ℕ). BucketStands (at_ ∷ questions (past_of s sight.view)) bucket) now (asks.stands (questions (past_of s sight.view)) stands.bucket);
-      rate = asks.rate;
-      burst = asks.burst;
-      book = subst (λ (made : List BookCall). BookStands (made ++ book_calls s (past_of s sight.view)) book)
-          (ap (λ (n : ℕ). Added made.command made.pieces.items made.priority made.asks n ∷ []) (numbers s.slot calls stands.requests)
-          ∙ added_same made so.flow_mod s (issued calls) so.command so.pieces so.priority so.asks ∙ sym (bookings_of s (issued calls) (read_controller message) so.flow_mod so.is_read))
-          (books (book_calls s (past_of s sight.view)) stands.book);
-    })
+    let same : at ≡ moment = so.same_moment in
+    requested s sight message moment asked used old new new.book (subst (λ (t : ℕ). IsRequested t asked used old new) same requests) stands is.0 asking so.sent so.same_asked so.uses
+    (subst (λ (added : List BookCall). BookStands (added ++ book_calls s (past_of s sight.view)) new.book) (sym (ap (bookings s (issued (request_calls s (past_of s sight.view)))) so.is_read))
+    (subst (λ (b : Book). BookStands (book_calls s (past_of s sight.view)) b) (sym requests.same_book) stands.book))
+sent_out s sight item at asked used old new requests stands is = absurd is

@@ -5,3 +5,5 @@ mod Grounds
 mod Changing
 mod Answering
 mod Bytes
+mod Packets
+mod Outs

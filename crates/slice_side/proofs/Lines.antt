@@ -7,25 +7,32 @@ use Rattle.std.specs.List.{list_any}
 use Rattle.of10_flow.specs.declared.flow_mod.FlowMod.{FlowMod}
 use Rattle.of10_flow.specs.FlowMods.{spell_flow_mod}
 use Rattle.of10_flow.specs.Tables.{is_delete}
+use Rattle.of10_flow.specs.declared.protocol.TheConstants.{NO_BUFFER}
 use Rattle.of10_model.specs.declared.pattern.Pattern.{Pattern}
 use Rattle.of10_action.specs.declared.action.Action.{Action}
 use Rattle.flowmod_expand.specs.Messages.{are_too_large, flow_messages, Gives}
 use Rattle.flowmod_expand.specs.declared.fault.BuildFault.{BuildFault}
 use Rattle.flowmod_expand.specs.declared.fault.BuildFault.TheVariants.{TooLarge}
-use Rattle.slice_words.specs.FlowMods.{Ground, first_refusal, list_given, permitted_on, entry_not_permitted, bad_command, first_some, wrong_command, emergency, buffer_not_held, outside_flowspace, forbidden_action, first_forbidden, too_large, is_too_long, pieces_on, lists_on, flow_mods_on, overlapping, over_quota, flow_mod_fault, too_many_actions, bad_action, refused_where}
-use Rattle.slice_side.specs.Checking.{PassesEarly, HasLists, IsListing, IsListed}
+use Rattle.slice_words.specs.FlowMods.{Ground, first_refusal, list_given, permitted_on, entry_not_permitted, bad_command, first_some, wrong_command, emergency, buffer_not_held, outside_flowspace, forbidden_action, first_forbidden, too_large, is_too_long, pieces_on, lists_on, packet_of, carrier_of, sent_on, flow_mods_on, is_packet_in, unknown_buffer, overlapping, over_quota, flow_mod_fault, too_many_actions, bad_action, refused_where}
+use Rattle.slice_words.specs.Alone.{rendered}
+use Rattle.slice_words.proofs.Forwarding.{numbered, rendered_sent, same_large}
+use Rattle.flow_book.specs.declared.state.SliceState.{SliceState}
+use Rattle.slice_words.specs.Buffers.{HeldPacket}
+use Rattle.slice_side.specs.Reactions.{kept}
+use Rattle.slice_side.proofs.Packets.{kept_for}
+use Rattle.slice_side.specs.Checking.{not_held_in, PassesEarly, HasLists, IsListing, IsListed}
 use Rattle.slice_side.specs.declared.pieces.Listing.{Listing}
 use Rattle.slice_side.specs.declared.pieces.Listing.TheVariants.{Given, TooMany, Forbidden}
 
 -- ---- three lines before others
 
-before : {A : Type 0} (a b c : Option A) (rest : List (Option A)) (x : A) → first_some (a ∷ b ∷ c ∷ []) ≡ Some x → first_some (a ∷ b ∷ c ∷ rest) ≡ Some x
+pub before : {A : Type 0} (a b c : Option A) (rest : List (Option A)) (x : A) → first_some (a ∷ b ∷ c ∷ []) ≡ Some x → first_some (a ∷ b ∷ c ∷ rest) ≡ Some x
 before (Some a) b c rest x e = e
 before None (Some b) c rest x e = e
 before None None (Some c) rest x e = e
 before None None None rest x e = absurd (true≢false (sym (ap is_some e)))
 
-behind : {A : Type 0} (a b c : Option A) (rest : List (Option A)) → first_some (a ∷ b ∷ c ∷ []) ≡ None → first_some (a ∷ b ∷ c ∷ rest) ≡ first_some rest
+pub behind : {A : Type 0} (a b c : Option A) (rest : List (Option A)) → first_some (a ∷ b ∷ c ∷ []) ≡ None → first_some (a ∷ b ∷ c ∷ rest) ≡ first_some rest
 behind (Some a) b c rest e = absurd (true≢false (ap is_some e))
 behind None (Some b) c rest e = absurd (true≢false (ap is_some e))
 behind None None (Some c) rest e = absurd (true≢false (ap is_some e))
@@ -37,17 +44,24 @@ module _ (g : Ground) (m : FlowMod) where
   abbrev from_space : List (Option (ℕ × ℕ))
   from_space = outside_flowspace g m ∷ forbidden_action g m ∷ too_large g m ∷ overlapping g m ∷ over_quota g m ∷ []
 
-  pub refused_early : (fault : ℕ × ℕ) → first_some (wrong_command m ∷ emergency m ∷ buffer_not_held m ∷ []) ≡ Some fault → flow_mod_fault g m ≡ Some fault
-  unfolding flow_mod_fault
-  refused_early fault e = before (wrong_command m) (emergency m) (buffer_not_held m) from_space fault e
+  -- the packets of the state are those that the slice holds
+  pub early_here : (state : SliceState) → g.held ≡ map kept state.buffers.held
+      → first_some (wrong_command m ∷ emergency m ∷ refused_where (not_held_in state m) unknown_buffer ∷ []) ≡ first_some (wrong_command m ∷ emergency m ∷ buffer_not_held g m ∷ [])
+  early_here state same =
+      ap (λ (packet : Option HeldPacket). first_some (wrong_command m ∷ emergency m ∷ refused_where (not (is_delete m) && not (m.buffer == NO_BUFFER) && not (is_packet_in m.pattern packet)) unknown_buffer ∷ []))
+      (kept_for state g m same)
 
-  pub refused_space : (fault : ℕ × ℕ) → first_some (wrong_command m ∷ emergency m ∷ buffer_not_held m ∷ []) ≡ None → outside_flowspace g m ≡ Some fault → flow_mod_fault g m ≡ Some fault
+  pub refused_early : (fault : ℕ × ℕ) → first_some (wrong_command m ∷ emergency m ∷ buffer_not_held g m ∷ []) ≡ Some fault → flow_mod_fault g m ≡ Some fault
   unfolding flow_mod_fault
-  refused_space fault none e = behind (wrong_command m) (emergency m) (buffer_not_held m) from_space none ∙ rw e refl
+  refused_early fault e = before (wrong_command m) (emergency m) (buffer_not_held g m) from_space fault e
+
+  pub refused_space : (fault : ℕ × ℕ) → first_some (wrong_command m ∷ emergency m ∷ buffer_not_held g m ∷ []) ≡ None → outside_flowspace g m ≡ Some fault → flow_mod_fault g m ≡ Some fault
+  unfolding flow_mod_fault
+  refused_space fault none e = behind (wrong_command m) (emergency m) (buffer_not_held g m) from_space none ∙ rw e refl
 
   passed : PassesEarly g m → flow_mod_fault g m ≡ first_some (forbidden_action g m ∷ too_large g m ∷ overlapping g m ∷ over_quota g m ∷ [])
   unfolding flow_mod_fault
-  passed passes = behind (wrong_command m) (emergency m) (buffer_not_held m) from_space passes.0 ∙ rw passes.1 refl
+  passed passes = behind (wrong_command m) (emergency m) (buffer_not_held g m) from_space passes.0 ∙ rw passes.1 refl
 
   pub refused_action : (code : ℕ) → PassesEarly g m → first_forbidden g m ≡ Some code → flow_mod_fault g m ≡ Some (bad_action code)
   refused_action code passes e = passed passes ∙ rw e refl
@@ -61,26 +75,37 @@ module _ (g : Ground) (m : FlowMod) where
   pub refused_late : PassesEarly g m → first_forbidden g m ≡ None → list_any is_too_long (lists_on g m) ≡ false → are_too_large (map spell_flow_mod (flow_mods_on g m)) ≡ false → flow_mod_fault g m ≡ first_some (overlapping g m ∷ over_quota g m ∷ [])
   refused_late passes none short fits = passed passes ∙ rw (none, short, fits) refl
 
+  -- the messages have one size with the number of a packet and without
+  sizes_same : (pieces : List Pattern) (lists : List (List Action)) (buffer : Option (ℕ × ℕ)) → HasLists g m lists → pieces ≡ pieces_on g m
+      → are_too_large (map spell_flow_mod (flow_mods_on g m)) ≡ are_too_large (flow_messages m g.xid pieces lists buffer)
+  sizes_same pieces lists buffer has same =
+      sym (ap₂ (λ (ps : List Pattern) (ls : List (List Action)). are_too_large (flow_messages m g.xid ps ls None)) same has.1) ∙ same_large m g.xid pieces lists None buffer
+
   -- the messages for the pieces with their lists are too large
-  pub built_large : (pieces : List Pattern) (lists : List (List Action)) → PassesEarly g m → HasLists g m lists → pieces ≡ pieces_on g m → are_too_large (flow_messages m g.xid pieces lists None) ≡ true → flow_mod_fault g m ≡ Some too_many_actions
-  built_large pieces lists passes has same large =
-      refused_large passes has.0 has.2 (sym (ap₂ (λ (ps : List Pattern) (ls : List (List Action)). are_too_large (flow_messages m g.xid ps ls None)) same has.1) ∙ large)
+  pub built_large : (pieces : List Pattern) (lists : List (List Action)) (buffer : Option (ℕ × ℕ)) → PassesEarly g m → HasLists g m lists → pieces ≡ pieces_on g m → are_too_large (flow_messages m g.xid pieces lists buffer) ≡ true
+      → flow_mod_fault g m ≡ Some too_many_actions
+  built_large pieces lists buffer passes has same large = refused_large passes has.0 has.2 (sizes_same pieces lists buffer has same ∙ large)
 
   -- they aren't, so that the book is asked
-  pub built_late : (pieces : List Pattern) (lists : List (List Action)) (fault : Option (ℕ × ℕ)) → PassesEarly g m → HasLists g m lists → pieces ≡ pieces_on g m → are_too_large (flow_messages m g.xid pieces lists None) ≡ false
-      → fault ≡ first_some (overlapping g m ∷ over_quota g m ∷ []) → flow_mod_fault g m ≡ fault
-  built_late pieces lists fault passes has same small is =
-      refused_late passes has.0 has.2 (sym (ap₂ (λ (ps : List Pattern) (ls : List (List Action)). are_too_large (flow_messages m g.xid ps ls None)) same has.1) ∙ small) ∙ sym is
+  pub built_late : (pieces : List Pattern) (lists : List (List Action)) (buffer : Option (ℕ × ℕ)) (fault : Option (ℕ × ℕ)) → PassesEarly g m → HasLists g m lists → pieces ≡ pieces_on g m
+      → are_too_large (flow_messages m g.xid pieces lists buffer) ≡ false → fault ≡ first_some (overlapping g m ∷ over_quota g m ∷ []) → flow_mod_fault g m ≡ fault
+  built_late pieces lists buffer fault passes has same small is = refused_late passes has.0 has.2 (sizes_same pieces lists buffer has same ∙ small) ∙ sym is
 
-  pub built_messages : (pieces : List Pattern) (lists : List (List Action)) (frames : List (List ℕ)) → HasLists g m lists → pieces ≡ pieces_on g m → frames ≡ flow_messages m g.xid pieces lists None → frames ≡ map spell_flow_mod (flow_mods_on g m)
-  built_messages pieces lists frames has same is = is ∙ ap₂ (λ (ps : List Pattern) (ls : List (List Action)). flow_messages m g.xid ps ls None) same has.1
+  -- they are the messages for the switch, with the number of the packet that one carries
+  pub built_messages : (came : List ℕ) (pieces : List Pattern) (lists : List (List Action)) (buffer : Option (ℕ × ℕ)) (frames : List (List ℕ)) → HasLists g m lists → pieces ≡ pieces_on g m → frames ≡ flow_messages m g.xid pieces lists buffer
+      → buffer ≡ numbered came (carrier_of (packet_of g m) pieces) → frames ≡ map (rendered came) (sent_on g m)
+  built_messages came pieces lists buffer frames has same is carried =
+      is
+      ∙ ap (flow_messages m g.xid pieces lists) carried
+      ∙ ap₂ (λ (ps : List Pattern) (ls : List (List Action)). flow_messages m g.xid ps ls (numbered came (carrier_of (packet_of g m) ps))) same has.1
+      ∙ sym (rendered_sent came g m)
 
-  pub outside_refused : (pieces : List Pattern) → first_some (wrong_command m ∷ emergency m ∷ buffer_not_held m ∷ []) ≡ None → pieces ≡ pieces_on g m → (not (is_delete m) && length pieces == 0) ≡ true
+  pub outside_refused : (pieces : List Pattern) → first_some (wrong_command m ∷ emergency m ∷ buffer_not_held g m ∷ []) ≡ None → pieces ≡ pieces_on g m → (not (is_delete m) && length pieces == 0) ≡ true
       → flow_mod_fault g m ≡ Some entry_not_permitted
   outside_refused pieces none same is =
       refused_space entry_not_permitted none (ap (λ (outside : Bool). refused_where outside entry_not_permitted) (ap (λ (ps : List Pattern). not (is_delete m) && length ps == 0) (sym same) ∙ is))
 
-  pub passes_early : (pieces : List Pattern) → first_some (wrong_command m ∷ emergency m ∷ buffer_not_held m ∷ []) ≡ None → pieces ≡ pieces_on g m → (not (is_delete m) && length pieces == 0) ≡ false → PassesEarly g m
+  pub passes_early : (pieces : List Pattern) → first_some (wrong_command m ∷ emergency m ∷ buffer_not_held g m ∷ []) ≡ None → pieces ≡ pieces_on g m → (not (is_delete m) && length pieces == 0) ≡ false → PassesEarly g m
   passes_early pieces none same isnt =
       (none, ap (λ (outside : Bool). refused_where outside entry_not_permitted) (ap (λ (ps : List Pattern). not (is_delete m) && length ps == 0) (sym same) ∙ isnt))
 
@@ -120,9 +145,9 @@ module _ (g : Ground) (m : FlowMod) where
   one_list_each pieces lists has same = ap length has.1 ∙ length-map (pieces_on g m) _ ∙ ap length (sym same)
 
 -- the command of a flow-mod that passes the first line
-pub command_known : (m : FlowMod) → first_some (wrong_command m ∷ emergency m ∷ buffer_not_held m ∷ []) ≡ None → m.command ≤ 4
-command_known m none = elim (leb_tells 5 m.command) [
-  | inl many ↦ absurd (true≢false (ap (λ (o : Option (ℕ × ℕ)). is_some o) (sym (ap (λ (b : Bool). option_or (refused_where b bad_command) (first_some (emergency m ∷ buffer_not_held m ∷ []))) many.0) ∙ none)))
+pub command_known : (g : Ground) (m : FlowMod) → first_some (wrong_command m ∷ emergency m ∷ buffer_not_held g m ∷ []) ≡ None → m.command ≤ 4
+command_known g m none = elim (leb_tells 5 m.command) [
+  | inl many ↦ absurd (true≢false (ap (λ (o : Option (ℕ × ℕ)). is_some o) (sym (ap (λ (b : Bool). option_or (refused_where b bad_command) (first_some (emergency m ∷ buffer_not_held g m ∷ []))) many.0) ∙ none)))
   | inr few ↦ (let less = few.1 in omega arith)
 ]
 

@@ -1,11 +1,23 @@
--- What comes of the actions of a flow-mod, and of the whole flow-mod, in words of the code.
-use Rattle.std.specs.Prelude.{ℕ, ◌≡◌, ◌≢◌, ◌≤◌, Bool, true, false, List, [], ◌∷◌, length, map, AllPairs, Some, None, Result, Ok, Err}
+-- What comes of actions, flow-mods and packet-outs, in words of the code.
+use Rattle.std.specs.Prelude.{ℕ, ◌≡◌, ◌≢◌, ◌≤◌, ◌==◌, ◌&&◌, not, Bool, true, false, if◌then◌else◌, List, [], ◌∷◌, length, map, AllPairs, Option, Some, None, option_map, Result, Ok, Err}
 use Rattle.std.specs.List.{list_any}
 use Rattle.of10_model.specs.declared.pattern.Pattern.{Pattern}
 use Rattle.of10_action.specs.declared.action.Action.{Action}
 use Rattle.of10_flow.specs.declared.flow_mod.FlowMod.{FlowMod}
-use Rattle.of10_flow.specs.FlowMods.{spell_flow_mod}
-use Rattle.slice_words.specs.FlowMods.{Ground, pieces_on, first_refusal, list_given, is_too_long, first_forbidden, lists_on, flow_mods_on, first_some, wrong_command, emergency, buffer_not_held, outside_flowspace, flow_mod_fault}
+use Rattle.of10_action.specs.declared.action.Action.TheVariants.{Output}
+use Rattle.of10_flow.specs.declared.packet_out.PacketOut.{PacketOut}
+use Rattle.of10_flow.specs.declared.protocol.TheConstants.{NO_BUFFER}
+use Rattle.of10_flow.specs.Tables.{is_delete}
+use Rattle.buffer_map.specs.declared.held.Held.{Held}
+use Rattle.buffer_map.specs.Buffers.{held_under}
+use Rattle.flow_book.specs.declared.state.SliceState.{SliceState}
+use Rattle.slice_words.specs.Alone.{rendered}
+use Rattle.slice_words.specs.Standing.{held_as}
+use Rattle.slice_words.specs.PacketOuts.{permitted_out, sent_out, names_no_packet, comes_by_another, carries_another, packet_out_fault}
+use Rattle.slice_side.specs.Reactions.{kept}
+use Rattle.slice_side.specs.declared.packet_outs.PacketOutcome.{PacketOutcome}
+use Rattle.slice_side.specs.declared.packet_outs.PacketOutcome.TheVariants as packet_outcome
+use Rattle.slice_words.specs.FlowMods.{Ground, pieces_on, first_refusal, list_given, is_too_long, first_forbidden, lists_on, first_some, packet_at, packet_of, is_packet_in, place_of, carrier_of, sent_on, wrong_command, emergency, buffer_not_held, outside_flowspace, flow_mod_fault}
 use Rattle.slice_side.specs.declared.pieces.Checked.{Checked}
 use Rattle.slice_side.specs.declared.pieces.Checked.TheVariants as checked
 use Rattle.slice_side.specs.declared.pieces.Listing.{Listing}
@@ -13,7 +25,46 @@ use Rattle.slice_side.specs.declared.pieces.Listing.TheVariants as listing
 use Rattle.slice_side.specs.declared.flow_mods.Outcome.{Outcome}
 use Rattle.slice_side.specs.declared.flow_mods.Outcome.TheVariants as outcome
 
--- ---- one piece
+-- ---- packets that are held
+
+-- the packet that a state holds under a number, where a message has one
+abbrev pub packet_in : SliceState → ℕ → Option Held
+packet_in state buffer = if buffer == NO_BUFFER then None else held_under buffer state.buffers.held
+
+-- the packet that a flow-mod names; a delete's number is disregarded
+abbrev pub packet_for : SliceState → FlowMod → Option Held
+packet_for state m = if is_delete m then None else packet_in state m.buffer
+
+-- a flow-mod names a packet that the state doesn't hold, or whose header isn't in its match; a delete's number is disregarded
+abbrev pub not_held_in : SliceState → FlowMod → Bool
+not_held_in state m = not (is_delete m) && not (m.buffer == NO_BUFFER) && not (is_packet_in m.pattern (option_map kept (packet_for state m)))
+
+-- the switch's numbers of these packets are those with which they came
+abbrev pub HaveCome : List ℕ → List Held → Type 0
+HaveCome came held = held ≡ map (held_as came) (map kept held)
+
+-- the place of the first piece that has a packet's header, and the switch's number of the packet
+abbrev pub carrier_in : Option Held → List Pattern → Option (ℕ × ℕ)
+carrier_in None pieces = None
+carrier_in (Some packet) pieces = option_map (λ place. (place, packet.physical)) (place_of packet.header pieces)
+
+-- the switch's number of a packet, where there is one
+abbrev pub number_in : Option Held → ℕ
+number_in None = NO_BUFFER
+number_in (Some packet) = packet.physical
+
+-- ---- ports
+
+-- an action sends to a port by OUTPUT
+abbrev pub is_sent_to : ℕ → Action → Bool
+is_sent_to port (Output other max_len) = other == port
+is_sent_to port action = false
+
+-- the ports for which a port stands, where an action sends there
+abbrev pub ports_named : ℕ → List Action → List ℕ → List ℕ
+ports_named port actions ports = if list_any (is_sent_to port) actions then ports else []
+
+-- ---- one list
 
 -- a list that may be had, one that is too long, or the code of the first action that is forbidden
 abbrev pub IsChecked : Result (List Action) ℕ → Checked → Type 0
@@ -47,13 +98,34 @@ IsListed g m (listing.Forbidden code) = first_forbidden g m ≡ Some code
 
 -- ---- the flow-mod
 
--- the lines that look at the flow-mod alone, or whether there are pieces, let it pass
+-- the lines that look at the flow-mod and its packet, or whether there are pieces, let it pass
 abbrev pub PassesEarly : Ground → FlowMod → Type 0
-PassesEarly g m = (first_some (wrong_command m ∷ emergency m ∷ buffer_not_held m ∷ []) ≡ None) × (outside_flowspace g m ≡ None)
+PassesEarly g m = (first_some (wrong_command m ∷ emergency m ∷ buffer_not_held g m ∷ []) ≡ None) × (outside_flowspace g m ≡ None)
 
--- the class and code of the first line that refuses it, or what is sent on for its pieces
-abbrev pub IsOutcome : Ground → FlowMod → Outcome → Type 0
-IsOutcome g m (outcome.Refused class code) = flow_mod_fault g m ≡ Some (class, code)
-IsOutcome g m (outcome.Sent frames pieces) =
-    (flow_mod_fault g m ≡ None) × (frames.items ≡ map spell_flow_mod (flow_mods_on g m)) × (pieces.items ≡ pieces_on g m)
-    × AllPairs (λ a b. a ≢ b) pieces.items × (length pieces.items ≤ 256)
+-- the class and code of the first line that refuses it, or what is sent on for its pieces under the numbers with which packets came, and the number of the packet that is used up
+abbrev pub IsOutcome : List ℕ → Ground → FlowMod → Outcome → Type 0
+IsOutcome came g m (outcome.Refused class code) = flow_mod_fault g m ≡ Some (class, code)
+IsOutcome came g m (outcome.Sent frames pieces used) =
+    (flow_mod_fault g m ≡ None) × (frames.items ≡ map (rendered came) (sent_on g m)) × (pieces.items ≡ pieces_on g m)
+    × (used ≡ option_map (λ own. m.buffer) (carrier_of (packet_of g m) (pieces_on g m)))
+
+-- the pieces of one that is sent on differ, and are few
+abbrev pub HasDistinctPieces : Outcome → Type 0
+HasDistinctPieces (outcome.Refused class code) = Unit {0}
+HasDistinctPieces (outcome.Sent frames pieces used) = AllPairs (λ a b. a ≢ b) pieces.items × (length pieces.items ≤ 256)
+
+-- ---- the packet-out
+
+-- the lines before its actions
+abbrev pub early : Ground → PacketOut → List (Option (ℕ × ℕ))
+early g m = names_no_packet g m ∷ comes_by_another g m ∷ carries_another g m ∷ []
+
+-- no line before its size refuses it, and it may have these actions
+abbrev pub MayBeSent : Ground → PacketOut → List Action → Type 0
+MayBeSent g m actions = (first_some (early g m) ≡ None) × (permitted_out g m ≡ Ok actions) × (is_too_long actions ≡ false)
+
+-- the class and code of the first line that refuses it, or what is sent on for it under the numbers with which packets came, and the number of the packet that is used up
+abbrev pub IsPacketOutcome : List ℕ → Ground → PacketOut → PacketOutcome → Type 0
+IsPacketOutcome came g m (packet_outcome.Refused class code) = packet_out_fault g m ≡ Some (class, code)
+IsPacketOutcome came g m (packet_outcome.Sent frame used) =
+    (packet_out_fault g m ≡ None) × (frame ∷ [] ≡ map (rendered came) (sent_out g m)) × (used ≡ option_map (λ packet. m.buffer) (packet_at g m.buffer))

@@ -1,2 +1,3 @@
 pub mod Reactions
 pub mod Checking
+pub mod Requesting

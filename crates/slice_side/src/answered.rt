@@ -70,4 +70,22 @@ impl Reaction {
             close: false,
         }
     }
+
+    /// One message is sent on to the switch.
+    pub(crate) fn sending(
+        alloc: Global,
+        message: Frame,
+        change: Change,
+    ) -> Result<Reaction, AllocError>
+        requires { IsSound change }
+        ensures sound { IfOk result (λ r. IsSound r.change) }
+        ensures to_slice { IfOk result (λ r. r.to_slice.items ≡ []) }
+        ensures to_switch { IfOk result (λ r. r.to_switch.items ≡ message ∷ []) }
+        ensures change { IfOk result (λ r. r.change ≡ change) }
+        ensures close { IfOk result (λ r. r.close ≡ false) }
+    {
+        let mut reaction = Reaction::silent(alloc, change);
+        reaction.to_switch.push(message)?;
+        Ok(reaction)
+    }
 }

@@ -1,25 +1,31 @@
-ghost use Rattle.std.specs.Prelude.{ℕ, ◌≡◌, ◌≢◌, ◌≤◌, length, AllPairs, List, ◌∷◌};
+ghost use Rattle.std.specs.Prelude.{ℕ, ◌≡◌, ◌≢◌, ◌≤◌, ◌<◌, ◌^◌, not, filter, length, AllPairs, List, [], ◌∷◌};
 ghost use Rattle.xid_map.specs.Requests.{RequestCall, Forget, RequestsStand};
 ghost use Rattle.xid_map.specs.Collections.{CollectionCall, EndAll, CollectionsStand};
 ghost use Rattle.slice_words.specs.Items.{Settings, Sight, Item, Up, Down, Msg};
 ghost use Rattle.slice_words.specs.Standing.{SliceStands};
 ghost use Rattle.slice_side.specs.declared.change.Change.TheVariants.{Modified};
-ghost use Rattle.slice_side.specs.Reactions.{IsChange, IsSound, HasRoom, with_item};
+ghost use Rattle.slice_side.specs.Reactions.{kept, is_used, IsChange, IsSound, HasRoom, with_item};
+ghost use Rattle.slice_side.specs.Requesting.{IsRequested};
 
 use crate::change::{Change, Modification};
+use buffer_map::BufferMap;
 use flow_book::{MISS_SEND_LEN, SliceState};
+use xid_map::Asked;
 
 /// Forgets what belongs to one connection. The rate, the book and the numbering go on.
 fn forget(state: &mut SliceState)
     ensures requests { (slot : ℕ) (calls : List RequestCall) → RequestsStand slot calls state.old.xids → RequestsStand slot (Forget ∷ calls) state.new.xids }
     ensures collections { (calls : List CollectionCall) → CollectionsStand calls state.old.collections → CollectionsStand (EndAll ∷ calls) state.new.collections }
     ensures miss_send_len { state.new.miss_send_len ≡ 128 }
+    ensures given { state.new.buffers.given ≡ state.old.buffers.given }
+    ensures held { state.new.buffers.held ≡ [] }
     ensures bucket { state.new.bucket ≡ state.old.bucket }
     ensures book { state.new.book ≡ state.old.book }
     ensures moment { state.new.moment ≡ state.old.moment }
 {
     state.xids.forget_all();
     state.collections.forget_all();
+    state.buffers.drop_all();
     state.miss_send_len = MISS_SEND_LEN;
 }
 
@@ -39,7 +45,32 @@ pub fn go_down(state: &mut SliceState)
     state.up = false;
 }
 
-/// A flow-mod is remembered, has used its share of the rate, and is booked.
+/// Uses up the packet of the number, where there is one.
+fn use_up(buffers: &mut BufferMap, used: Option<u32>)
+    ensures given { buffers.new.given ≡ buffers.old.given }
+    ensures held { buffers.new.held ≡ filter (λ packet. not (is_used used (kept packet))) buffers.old.held }
+{
+    match used {
+        None => {}
+        Some(number) => {
+            buffers.use_up(number);
+        }
+    }
+}
+
+/// A request is remembered, has used its share of the rate, and uses up the packet of the number, where there
+/// is one.
+fn request(state: &mut SliceState, moment: u64, asked: Asked, used: Option<u32>)
+    requires { state.old.xids.issued < 2 ^ 62 }
+    ensures { IsRequested moment asked used state.old state.new }
+{
+    state.moment = moment.max(state.moment);
+    state.bucket.ask(state.moment);
+    state.xids.issue(asked);
+    use_up(&mut state.buffers, used);
+}
+
+/// A flow-mod is requested, and booked.
 fn modify(state: &mut SliceState, m: &Modification)
     requires distinct { AllPairs (λ a b. a ≢ b) m.now.pieces.items }
     requires few { length m.now.pieces.items ≤ 256 }
@@ -47,9 +78,7 @@ fn modify(state: &mut SliceState, m: &Modification)
     ensures { (s : Settings) (sight : Sight) (message : List ℕ) → SliceStands s sight state.old → IsChange s sight (Msg message m.now.moment) (Modified m.now) → SliceStands s (with_item (Msg message m.now.moment) sight) state.new }
 {
     let (number, _) = state.xids.next();
-    state.moment = m.moment.max(state.moment);
-    state.bucket.ask(state.moment);
-    state.xids.issue(m.asked);
+    request(state, m.moment, m.asked, m.used);
     state
         .book
         .added(m.command, &m.pieces, m.priority, m.asks, number);
@@ -80,5 +109,10 @@ pub fn apply(state: &mut SliceState, change: Change)
             state.bucket.ask(state.moment);
         }
         Change::Modified(m) => modify(state, &m),
+        Change::SentOut {
+            moment,
+            asked,
+            used,
+        } => request(state, moment, asked, used),
     }
 }

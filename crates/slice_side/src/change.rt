@@ -14,20 +14,38 @@ pub struct Modification {
     pub priority: u16,
     /// Whether the controller wants to be told when the entry goes (SEND_FLOW_REM).
     pub asks: bool,
+    /// The slice's number of the packet that it uses up, where it uses one.
+    pub used: Option<u32>,
 }
 
 /// What a message of a slice changes in the slice's state. Moments are milliseconds.
 #[derive(Debug, Drop)]
 pub enum Change {
     /// A message came.
-    Heard { moment: u64 },
+    Heard {
+        moment: u64,
+    },
     /// A message came that sets how many bytes of a packet the controller wants (OpenFlow 1.0.0, section
     /// 5.3.2).
-    Set { moment: u64, miss_send_len: u16 },
+    Set {
+        moment: u64,
+        miss_send_len: u16,
+    },
     /// A message came that ends its connection.
-    Dismissed { moment: u64 },
+    Dismissed {
+        moment: u64,
+    },
     /// A message came that is to be sent on, and asked the rate for its share; nothing is sent on for it.
-    Rated { moment: u64 },
+    Rated {
+        moment: u64,
+    },
     /// A flow-mod came that is sent on.
     Modified(Modification),
+    /// A packet-out came that is sent on (OpenFlow 1.0.0, section 5.3.6): the request as it is remembered,
+    /// and the slice's number of the packet that it uses up, where it uses one.
+    SentOut {
+        moment: u64,
+        asked: Asked,
+        used: Option<u32>,
+    },
 }

@@ -1,18 +1,20 @@
 //! Flow-mods of a slice, line by line (OpenFlow 1.0.0, section 5.3.3; the order of the lines is this proxy's
 //! own rule).
 
-ghost use Rattle.std.specs.Prelude.{ℕ, ◌≡◌, ◌≢◌, ◌≤◌, ◌<◌, ◌==◌, ◌&&◌, not, ◌∷◌, [], length, map, AllPairs, IfOk, All, List};
-ghost use Rattle.of10_action.specs.Actions.{HasAddress};
+ghost use Rattle.std.specs.Prelude.{ℕ, ◌≡◌, ◌≢◌, ◌≤◌, ◌<◌, ◌==◌, ◌&&◌, not, ◌∷◌, [], length, map, AllPairs, IfOk, List, option_map};
 ghost use Rattle.of10_flow.specs.declared.protocol.TheConstants.{CHECK_OVERLAP, EMERG};
 ghost use Rattle.of10_flow.specs.Tables.{is_delete, has_flag};
-ghost use Rattle.slice_words.specs.FlowMods.{Ground, pieces_on, first_some, wrong_command, emergency, buffer_not_held, overlapping, over_quota};
-ghost use Rattle.slice_side.specs.Reactions.{ground_at};
+ghost use Rattle.slice_words.specs.FlowMods.{Ground, pieces_on, first_some, is_packet_in, wrong_command, emergency, refused_where, unknown_buffer, overlapping, over_quota};
+ghost use Rattle.slice_side.specs.Reactions.{kept, ground_at};
 ghost use Rattle.flowmod_expand.specs.Pieces.{pieces_of};
 ghost use Rattle.flow_book.specs.Books.{overlaps_in};
-ghost use Rattle.slice_side.specs.Checking.{IsListed, PassesEarly, IsOutcome, HasLists};
+ghost use Rattle.slice_side.specs.Checking.{packet_for, not_held_in, HaveCome, IsListed, PassesEarly, IsOutcome, HasDistinctPieces, HasLists};
 
-use crate::pieces::{Listing, Ways, list_pieces, no_actions};
+use crate::held::{carrier, packet_at};
+use crate::pieces::{Listing, list_pieces, no_actions};
+use crate::ports::floods_for;
 use crate::replying::Around;
+use buffer_map::Held;
 use flow_book::SliceState;
 use flowmod_expand::{BuildFault, build, pieces};
 use of10_action::Actions;
@@ -31,8 +33,13 @@ use std::alloc::{AllocError, Global};
 pub(crate) enum Outcome {
     /// It is refused with this class and code (OpenFlow 1.0.0, section 5.4.4).
     Refused(u16, u16),
-    /// These messages are sent on, one for each of the pieces.
-    Sent(Vec<Frame>, Vec<Match>),
+    /// These messages are sent on, one for each of the pieces; one of them uses up the packet of this number
+    /// of the slice, where there is a number.
+    Sent {
+        frames: Vec<Frame>,
+        pieces: Vec<Match>,
+        used: Option<u32>,
+    },
 }
 
 fn is_delete(m: &FlowMod) -> bool
@@ -41,9 +48,36 @@ fn is_delete(m: &FlowMod) -> bool
     m.command >= DELETE
 }
 
-/// The lines that look at the flow-mod alone: its command, its flags and its buffer.
-fn early_fault(m: &FlowMod) -> Option<(u16, u16)>
-    ensures { result ≡ first_some (wrong_command m.now ∷ emergency m.now ∷ buffer_not_held m.now ∷ []) }
+/// The packet that the flow-mod names; a delete's number is disregarded.
+fn packet_for(state: &SliceState, m: &FlowMod) -> Option<Held>
+    ensures { result ≡ packet_for state.now m.now }
+{
+    if is_delete(m) {
+        return None;
+    }
+    packet_at(state, m.buffer)
+}
+
+/// Whether its match has the header of the packet that it names.
+fn has_packet(state: &SliceState, m: &FlowMod) -> bool
+    ensures { result ≡ is_packet_in m.now.pattern (option_map kept (packet_for state.now m.now)) }
+{
+    match packet_for(state, m) {
+        Some(packet) => m.pattern.matches(&packet.header),
+        None => false,
+    }
+}
+
+/// Whether it names a packet that isn't held, or whose header isn't in its match.
+fn names_another(state: &SliceState, m: &FlowMod) -> bool
+    ensures { result ≡ not_held_in state.now m.now }
+{
+    !is_delete(m) && m.buffer != NO_BUFFER && !has_packet(state, m)
+}
+
+/// The lines that look at the flow-mod and its packet alone: its command, its flags and its buffer.
+fn early_fault(state: &SliceState, m: &FlowMod) -> Option<(u16, u16)>
+    ensures { result ≡ first_some (wrong_command m.now ∷ emergency m.now ∷ refused_where (not_held_in state.now m.now) unknown_buffer ∷ []) }
 {
     if m.command > DELETE_STRICT {
         return Some((FLOW_MOD_FAILED, BAD_COMMAND));
@@ -51,7 +85,7 @@ fn early_fault(m: &FlowMod) -> Option<(u16, u16)>
     if m.flags / EMERG % 2 == 1 {
         return Some((FLOW_MOD_FAILED, FLOW_MOD_NOT_PERMITTED));
     }
-    if !is_delete(m) && m.buffer != NO_BUFFER {
+    if names_another(state, m) {
         return Some((BAD_REQUEST, UNKNOWN_BUFFER));
     }
     None
@@ -99,19 +133,19 @@ fn lists(
     if is_delete(m) {
         return Ok(Listing::Given(no_actions(alloc, pieces)?));
     }
-    let flood = around
-        .ports
-        .flood_ports(alloc, around.policy, around.slot, false)?;
-    let all = around
-        .ports
-        .flood_ports(alloc, around.policy, around.slot, true)?;
-    let ways = Ways {
-        policy: around.policy,
-        slot: around.slot,
-        flood: &flood,
-        all: &all,
-    };
-    list_pieces(alloc, &ways, pieces, m.actions.as_slice())
+    let actions = m.actions.as_slice();
+    let floods = floods_for(alloc, around, actions)?;
+    list_pieces(alloc, around, &floods, pieces, actions)
+}
+
+/// The number of the packet that is used up, where a piece carries it.
+fn used(m: &FlowMod, carrier: &Option<(u32, u32)>) -> Option<u32>
+    ensures { result ≡ option_map (λ own. m.now.buffer) carrier.now }
+{
+    match carrier {
+        Some(_) => Some(m.buffer),
+        None => None,
+    }
 }
 
 /// What becomes of a flow-mod whose pieces have these lists.
@@ -129,14 +163,20 @@ fn built(
     requires distinct { AllPairs (λ a b. a ≢ b) pieces.items }
     requires few { length pieces.items ≤ 256 }
     requires lists { length lists.now ≡ length pieces.items }
-    ensures { PassesEarly (ground_at around.now.policy.now.rules around.now.slot around.now.ports.now quota xid around.now.state.now) m.now → HasLists (ground_at around.now.policy.now.rules around.now.slot around.now.ports.now quota xid around.now.state.now) m.now lists.now → IfOk result (IsOutcome (ground_at around.now.policy.now.rules around.now.slot around.now.ports.now quota xid around.now.state.now) m.now) }
+    ensures sound { IfOk result HasDistinctPieces }
+    ensures outcome { (came : List ℕ) → HaveCome came around.now.state.now.buffers.held → PassesEarly (ground_at around.now.policy.now.rules around.now.slot around.now.ports.now quota xid around.now.state.now) m.now → HasLists (ground_at around.now.policy.now.rules around.now.slot around.now.ports.now quota xid around.now.state.now) m.now lists.now → IfOk result (IsOutcome came (ground_at around.now.policy.now.rules around.now.slot around.now.ports.now quota xid around.now.state.now) m.now) }
 {
-    match build(alloc, m, xid, &pieces, lists, None) {
+    let carrier = carrier(&packet_for(around.state, m), &pieces);
+    match build(alloc, m, xid, &pieces, lists, carrier) {
         Err(BuildFault::TooLarge) => Ok(Outcome::Refused(BAD_ACTION, TOO_MANY_ACTIONS)),
         Err(BuildFault::Memory) => Err(AllocError),
         Ok(frames) => match late_fault(around.state, m, &pieces, quota) {
             Some((class, code)) => Ok(Outcome::Refused(class, code)),
-            None => Ok(Outcome::Sent(frames, pieces)),
+            None => Ok(Outcome::Sent {
+                frames,
+                pieces,
+                used: used(m, &carrier),
+            }),
         },
     }
 }
@@ -150,9 +190,10 @@ pub(crate) fn outcome_of(
     xid: u32,
     m: &FlowMod,
 ) -> Result<Outcome, AllocError>
-    ensures { IfOk result (IsOutcome (ground_at around.now.policy.now.rules around.now.slot around.now.ports.now quota xid around.now.state.now) m.now) }
+    ensures sound { IfOk result HasDistinctPieces }
+    ensures outcome { (came : List ℕ) → HaveCome came around.now.state.now.buffers.held → IfOk result (IsOutcome came (ground_at around.now.policy.now.rules around.now.slot around.now.ports.now quota xid around.now.state.now) m.now) }
 {
-    match early_fault(m) {
+    match early_fault(around.state, m) {
         Some((class, code)) => return Ok(Outcome::Refused(class, code)),
         None => {}
     }

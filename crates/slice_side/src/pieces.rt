@@ -1,4 +1,4 @@
-//! The actions that a slice may have for the pieces of a flow-mod.
+//! The actions that a slice may have for the pieces of a flow-mod, and for a packet-out.
 
 ghost use Rattle.std.specs.Prelude.{◌≡◌, map, IfOk, All, []};
 ghost use Rattle.of10_action.specs.Actions.{IsAction, HasAddress};
@@ -7,13 +7,14 @@ ghost use Rattle.action_check.specs.Permitted.{permitted};
 ghost use Rattle.flowspace.specs.Owners.{HasPort};
 ghost use Rattle.slice_side.specs.Checking.{IsChecked, IsListing};
 
+use crate::ports::Floods;
+use crate::replying::Around;
 use action_check::{CheckFault, Origin, check};
-use flowspace::SwitchPolicy;
 use of10_action::{Action, Actions};
 use of10_match::Match;
 use std::alloc::{AllocError, Global};
 
-/// What a slice may have of its actions for one piece.
+/// What a slice may have of its actions for one piece or packet.
 #[derive(Debug, Drop)]
 pub(crate) enum Checked {
     /// This list.
@@ -35,36 +36,27 @@ pub(crate) enum Listing {
     Forbidden(u16),
 }
 
-/// Where a slice may send, and for what FLOOD and ALL stand.
-#[derive(Clone, Copy)]
-pub(crate) struct Ways<'a> {
-    pub(crate) policy: &'a SwitchPolicy,
-    pub(crate) slot: u8,
-    pub(crate) flood: &'a [u16],
-    pub(crate) all: &'a [u16],
-}
-
-/// What the slice may have of the actions for a piece.
-fn check_piece(
+/// What the slice may have of the actions for what they are applied to.
+pub(crate) fn check_actions(
     alloc: Global,
-    ways: &Ways<'_>,
-    piece: &Match,
+    around: &Around<'_>,
+    floods: &Floods,
+    origin: &Origin,
     actions: &[Action],
 ) -> Result<Checked, AllocError>
     requires addresses { All HasAddress actions.now }
-    requires flood { All (HasPort ways.now.policy.now.rules ways.now.slot) ways.now.flood.now }
-    requires all { All (HasPort ways.now.policy.now.rules ways.now.slot) ways.now.all.now }
-    ensures { IfOk result (IsChecked (permitted ways.now.policy.now.rules ways.now.slot (Piece piece.now) actions.now ways.now.flood.now ways.now.all.now)) }
+    requires flood { All (HasPort around.now.policy.now.rules around.now.slot) floods.now.flood.items }
+    requires all { All (HasPort around.now.policy.now.rules around.now.slot) floods.now.all.items }
+    ensures { IfOk result (IsChecked (permitted around.now.policy.now.rules around.now.slot origin.now actions.now floods.now.flood.items floods.now.all.items)) }
 {
-    let origin = Origin::Piece(*piece);
     match check(
         alloc,
-        ways.policy,
-        ways.slot,
-        &origin,
+        around.policy,
+        around.slot,
+        origin,
         actions,
-        ways.flood,
-        ways.all,
+        &floods.flood,
+        &floods.all,
     ) {
         Ok(list) => Ok(Checked::Given(list)),
         Err(CheckFault::TooMany) => Ok(Checked::TooMany),
@@ -77,19 +69,20 @@ fn check_piece(
 /// long for any.
 pub(crate) fn list_pieces(
     alloc: Global,
-    ways: &Ways<'_>,
+    around: &Around<'_>,
+    floods: &Floods,
     pieces: &[Match],
     actions: &[Action],
 ) -> Result<Listing, AllocError>
     requires addresses { All HasAddress actions.now }
-    requires flood { All (HasPort ways.now.policy.now.rules ways.now.slot) ways.now.flood.now }
-    requires all { All (HasPort ways.now.policy.now.rules ways.now.slot) ways.now.all.now }
-    ensures { IfOk result (IsListing (λ piece. permitted ways.now.policy.now.rules ways.now.slot (Piece piece) actions.now ways.now.flood.now ways.now.all.now) pieces.now) }
+    requires flood { All (HasPort around.now.policy.now.rules around.now.slot) floods.now.flood.items }
+    requires all { All (HasPort around.now.policy.now.rules around.now.slot) floods.now.all.items }
+    ensures { IfOk result (IsListing (λ piece. permitted around.now.policy.now.rules around.now.slot (Piece piece) actions.now floods.now.flood.items floods.now.all.items) pieces.now) }
 {
     let mut lists = Vec::new(alloc);
     let mut is_long = false;
     for piece in pieces {
-        match check_piece(alloc, ways, piece, actions)? {
+        match check_actions(alloc, around, floods, &Origin::Piece(*piece), actions)? {
             Checked::Given(list) => lists.push(list)?,
             Checked::TooMany => is_long = true,
             Checked::Forbidden(code) => return Ok(Listing::Forbidden(code)),

@@ -7,23 +7,22 @@ ghost use Rattle.of10_message.specs.declared.controller.FromController.TheVarian
 ghost use Rattle.of10_flow.specs.declared.protocol.TheConstants.{SEND_FLOW_REM};
 ghost use Rattle.of10_flow.specs.Tables.{has_flag};
 ghost use Rattle.slice_words.specs.Messages.{asks_switch, asked_of};
-ghost use Rattle.slice_words.specs.Answers.{error_for};
-ghost use Rattle.slice_side.specs.declared.change.Change.TheVariants.{Rated};
 ghost use Rattle.slice_words.specs.Items.{Settings, Sight};
 ghost use Rattle.slice_words.specs.Standing.{SliceStands, past_of};
 ghost use Rattle.slice_words.specs.FlowMods.{ground_of};
-ghost use Rattle.slice_words.specs.Answers.{flow_mod_answer, rated_answer};
+ghost use Rattle.slice_words.specs.Answers.{flow_mod_answer, packet_out_answer, rated_answer};
 ghost use Rattle.slice_side.specs.Reactions.{Sees, Follows, IsSound};
 
 use crate::answered::Reaction;
 use crate::change::{Change, Modification};
 use crate::flow_mods::{Outcome, outcome_of};
-use crate::replying::{Around, refusal};
+use crate::packet_outs::{PacketOutcome, packet_outcome};
+use crate::replying::{Around, refused};
 use flowspace::SwitchPolicy;
 use of10_action::error::{BAD_REQUEST, REQUEST_NOT_PERMITTED};
 use of10_ctl::Frame;
-use of10_flow::FlowMod;
 use of10_flow::protocol::SEND_FLOW_REM;
+use of10_flow::{FlowMod, PacketOut};
 use of10_match::Match;
 use of10_message::FromController;
 use std::alloc::{AllocError, Global};
@@ -64,8 +63,14 @@ fn asked(frame: &Frame, kind: AskKind, port: u16) -> Asked
 }
 
 /// A flow-mod that is sent on for these pieces.
-fn modification(frame: &Frame, m: &FlowMod, pieces: Vec<Match>, moment: u64) -> Modification
-    ensures { result ≡ record { moment = moment; asked = asked_of (Ok (said.FlowMod m.now)) frame.now; command = m.now.command; pieces = pieces; priority = m.now.priority; asks = has_flag SEND_FLOW_REM m.now } }
+fn modification(
+    frame: &Frame,
+    m: &FlowMod,
+    pieces: Vec<Match>,
+    used: Option<u32>,
+    moment: u64,
+) -> Modification
+    ensures { result ≡ record { moment = moment; asked = asked_of (Ok (said.FlowMod m.now)) frame.now; command = m.now.command; pieces = pieces; priority = m.now.priority; asks = has_flag SEND_FLOW_REM m.now; used = used } }
 {
     Modification {
         moment,
@@ -74,25 +79,8 @@ fn modification(frame: &Frame, m: &FlowMod, pieces: Vec<Match>, moment: u64) -> 
         pieces,
         priority: m.priority,
         asks: m.flags / SEND_FLOW_REM % 2 == 1,
+        used,
     }
-}
-
-/// A message that is refused, or for which nothing is sent on, once it has asked the rate.
-fn refused(
-    alloc: Global,
-    class: u16,
-    code: u16,
-    frame: &Frame,
-    moment: u64,
-) -> Result<Reaction, AllocError>
-    ensures sound { IfOk result (λ r. IsSound r.change) }
-    ensures to_slice { IfOk result (λ r. r.to_slice.items ≡ error_for (class, code) frame.now ∷ []) }
-    ensures to_switch { IfOk result (λ r. r.to_switch.items ≡ []) }
-    ensures change { IfOk result (λ r. r.change ≡ Rated moment) }
-    ensures close { IfOk result (λ r. r.close ≡ false) }
-{
-    let reply = refusal(alloc, class, code, frame)?;
-    Reaction::replying(alloc, reply, Change::Rated { moment })
 }
 
 /// A flow-mod that keeps the rate.
@@ -104,24 +92,62 @@ fn flow_mod(
     moment: u64,
 ) -> Result<Reaction, AllocError>
     ensures sound { IfOk result (λ r. IsSound r.change) }
-    ensures follows { (s : Settings) (sight : Sight) → SliceStands s sight around.now.state.now → Sees s sight.view around.now.policy.now around.now.ports.now around.now.features.now around.now.slot → IfOk result (Follows s.patterns frame.now (Ok (said.FlowMod m.now)) (flow_mod_answer (ground_of s sight.view (past_of s sight.view)) m.now frame.now) moment) }
+    ensures follows { (s : Settings) (sight : Sight) → SliceStands s sight around.now.state.now → Sees s sight.view around.now.policy.now around.now.ports.now around.now.features.now around.now.slot → IfOk result (Follows s sight frame.now (Ok (said.FlowMod m.now)) (flow_mod_answer (ground_of s sight.view (past_of s sight.view)) m.now frame.now) moment) }
 {
     let quota = quota(around.policy, around.slot);
     let (_, xid) = around.state.xids.next();
     match outcome_of(alloc, around, quota, xid, m)? {
-        Outcome::Refused(class, code) => refused(alloc, class, code, frame, moment),
-        Outcome::Sent(frames, pieces) => {
+        Outcome::Refused(class, code) => refused(
+            alloc,
+            class,
+            code,
+            frame,
+            Change::Rated { moment },
+        ),
+        Outcome::Sent {
+            frames,
+            pieces,
+            used,
+        } => {
             if frames.is_empty() {
                 return Ok(Reaction::silent(alloc, Change::Rated { moment }));
             }
-            let change = Change::Modified(modification(frame, m, pieces, moment));
+            let change = Change::Modified(modification(frame, m, pieces, used, moment));
             Ok(Reaction::forwarding(alloc, frames, change))
         }
     }
 }
 
+/// A packet-out that keeps the rate.
+fn packet_out(
+    alloc: Global,
+    around: &Around<'_>,
+    m: &PacketOut,
+    frame: &Frame,
+    moment: u64,
+) -> Result<Reaction, AllocError>
+    ensures sound { IfOk result (λ r. IsSound r.change) }
+    ensures follows { (s : Settings) (sight : Sight) → SliceStands s sight around.now.state.now → Sees s sight.view around.now.policy.now around.now.ports.now around.now.features.now around.now.slot → IfOk result (Follows s sight frame.now (Ok (said.PacketOut m.now)) (packet_out_answer (ground_of s sight.view (past_of s sight.view)) m.now frame.now) moment) }
+{
+    let (_, xid) = around.state.xids.next();
+    match packet_outcome(alloc, around, xid, m)? {
+        PacketOutcome::Refused(class, code) => {
+            refused(alloc, class, code, frame, Change::Rated { moment })
+        }
+        PacketOutcome::Sent { frame: sent, used } => {
+            let asked = asked(frame, AskKind::PacketOut, 0);
+            let change = Change::SentOut {
+                moment,
+                asked,
+                used,
+            };
+            Reaction::sending(alloc, sent, change)
+        }
+    }
+}
+
 /// A message that asks something of the switch: one that passes the rate is refused, and of the others
-/// flow-mods are sent on.
+/// flow-mods and packet-outs are sent on.
 pub(crate) fn question(
     alloc: Global,
     around: &Around<'_>,
@@ -131,14 +157,21 @@ pub(crate) fn question(
 ) -> Result<Reaction, AllocError>
     requires { asks_switch (Ok message.now) ≡ true }
     ensures sound { IfOk result (λ r. IsSound r.change) }
-    ensures follows { (s : Settings) (sight : Sight) → SliceStands s sight around.now.state.now → Sees s sight.view around.now.policy.now around.now.ports.now around.now.features.now around.now.slot → IfOk result (Follows s.patterns frame.now (Ok message.now) (rated_answer s sight.view (past_of s sight.view) moment message.now frame.now) moment) }
+    ensures follows { (s : Settings) (sight : Sight) → SliceStands s sight around.now.state.now → Sees s sight.view around.now.policy.now around.now.ports.now around.now.features.now around.now.slot → IfOk result (Follows s sight frame.now (Ok message.now) (rated_answer s sight.view (past_of s sight.view) moment message.now frame.now) moment) }
 {
     let latest = moment.max(around.state.moment);
     if !around.state.bucket.conforms(latest) {
-        return refused(alloc, BAD_REQUEST, REQUEST_NOT_PERMITTED, frame, moment);
+        return refused(
+            alloc,
+            BAD_REQUEST,
+            REQUEST_NOT_PERMITTED,
+            frame,
+            Change::Rated { moment },
+        );
     }
     match message {
         FromController::FlowMod(m) => flow_mod(alloc, around, m, frame, moment),
+        FromController::PacketOut(m) => packet_out(alloc, around, m, frame, moment),
         _ => Ok(Reaction::silent(alloc, Change::Rated { moment })),
     }
 }

@@ -1,10 +1,9 @@
 //! What this proxy answers itself: messages that aren't read, and those that ask nothing of the switch.
 
 ghost use Rattle.std.specs.Prelude.{ℕ, ◌≡◌, true, false, [], ◌∷◌, IfOk, List, Ok, Err};
-ghost use Rattle.of10_model.specs.declared.pattern.Pattern.{Pattern};
 ghost use Rattle.of10_message.specs.declared.controller.FromController.TheVariants as said;
 ghost use Rattle.slice_words.specs.Messages.{asks_switch};
-ghost use Rattle.slice_words.specs.Items.{Settings, Item};
+ghost use Rattle.slice_words.specs.Items.{Settings, Sight};
 ghost use Rattle.slice_words.specs.Pasts.{Past};
 ghost use Rattle.slice_words.specs.Answers.{error_for, unread_answer, config_reply, setting_answer, read_answer};
 ghost use Rattle.of10_port.specs.Features.{spell_features};
@@ -41,34 +40,30 @@ pub(crate) struct Around<'a> {
 }
 
 /// The error that refuses a message.
-pub(crate) fn refusal(
-    alloc: Global,
-    class: u16,
-    code: u16,
-    frame: &Frame,
-) -> Result<Frame, AllocError>
+fn refusal(alloc: Global, class: u16, code: u16, frame: &Frame) -> Result<Frame, AllocError>
     ensures { IfOk result (λ reply. reply ≡ error_for (class, code) frame.now) }
 {
     let xid = frame.head().xid;
     error_frame(alloc, xid, class, code, frame.as_slice())
 }
 
-/// A message that is refused and changes nothing else.
-fn refused(
+/// A message that is refused, with what it changes.
+pub(crate) fn refused(
     alloc: Global,
     class: u16,
     code: u16,
     frame: &Frame,
-    moment: u64,
+    change: Change,
 ) -> Result<Reaction, AllocError>
+    requires { IsSound change }
     ensures sound { IfOk result (λ r. IsSound r.change) }
     ensures to_slice { IfOk result (λ r. r.to_slice.items ≡ error_for (class, code) frame.now ∷ []) }
     ensures to_switch { IfOk result (λ r. r.to_switch.items ≡ []) }
-    ensures change { IfOk result (λ r. r.change ≡ Heard moment) }
+    ensures change { IfOk result (λ r. r.change ≡ change) }
     ensures close { IfOk result (λ r. r.close ≡ false) }
 {
     let reply = refusal(alloc, class, code, frame)?;
-    Reaction::replying(alloc, reply, Change::Heard { moment })
+    Reaction::replying(alloc, reply, change)
 }
 
 /// A message that ends its connection, with what is said last.
@@ -94,7 +89,7 @@ pub(crate) fn unread(
     moment: u64,
 ) -> Result<Reaction, AllocError>
     ensures sound { IfOk result (λ r. IsSound r.change) }
-    ensures follows { (patterns : List Pattern) → IfOk result (Follows patterns frame.now (Err fault) (unread_answer fault frame.now) moment) }
+    ensures follows { (s : Settings) (sight : Sight) → IfOk result (Follows s sight frame.now (Err fault) (unread_answer fault frame.now) moment) }
 {
     match fault {
         Unread::BadLength => {
@@ -106,11 +101,23 @@ pub(crate) fn unread(
             let reply = error_frame(alloc, xid, HELLO_FAILED, INCOMPATIBLE, &[])?;
             dismissed(alloc, reply, moment)
         }
-        Unread::BadVersion => refused(alloc, BAD_REQUEST, BAD_VERSION, frame, moment),
-        Unread::BadType => refused(alloc, BAD_REQUEST, BAD_TYPE, frame, moment),
+        Unread::BadVersion => refused(
+            alloc,
+            BAD_REQUEST,
+            BAD_VERSION,
+            frame,
+            Change::Heard { moment },
+        ),
+        Unread::BadType => refused(
+            alloc,
+            BAD_REQUEST,
+            BAD_TYPE,
+            frame,
+            Change::Heard { moment },
+        ),
         Unread::BadForm(fault) => {
             let (class, code) = code(fault);
-            refused(alloc, class, code, frame, moment)
+            refused(alloc, class, code, frame, Change::Heard { moment })
         }
     }
 }
@@ -133,10 +140,16 @@ fn setting(
     moment: u64,
 ) -> Result<Reaction, AllocError>
     ensures sound { IfOk result (λ r. IsSound r.change) }
-    ensures follows { (patterns : List Pattern) → IfOk result (Follows patterns frame.now (Ok (said.SetConfig config.now)) (setting_answer config.now frame.now) moment) }
+    ensures follows { (s : Settings) (sight : Sight) → IfOk result (Follows s sight frame.now (Ok (said.SetConfig config.now)) (setting_answer config.now frame.now) moment) }
 {
     if config.flags != 0 {
-        return refused(alloc, BAD_REQUEST, REQUEST_NOT_PERMITTED, frame, moment);
+        return refused(
+            alloc,
+            BAD_REQUEST,
+            REQUEST_NOT_PERMITTED,
+            frame,
+            Change::Heard { moment },
+        );
     }
     let miss_send_len = config.miss_send_len;
     Ok(Reaction::silent(
@@ -181,11 +194,17 @@ pub(crate) fn local(
 ) -> Result<Reaction, AllocError>
     requires { asks_switch (Ok message.now) ≡ false }
     ensures sound { IfOk result (λ r. IsSound r.change) }
-    ensures follows { (s : Settings) (view : List Item) (past : List Past) (patterns : List Pattern) → Shown view around.now.policy.now.rules around.now.ports.now around.now.features.now around.now.slot around.now.state.now.miss_send_len → IfOk result (Follows patterns frame.now (Ok message.now) (read_answer s view past moment message.now frame.now) moment) }
+    ensures follows { (s : Settings) (sight : Sight) (past : List Past) → Shown sight.view around.now.policy.now.rules around.now.ports.now around.now.features.now around.now.slot around.now.state.now.miss_send_len → IfOk result (Follows s sight frame.now (Ok message.now) (read_answer s sight.view past moment message.now frame.now) moment) }
 {
     match message {
         FromController::EchoRequest => replied(alloc, echo_reply(alloc, frame)?, moment),
-        FromController::Vendor => refused(alloc, BAD_REQUEST, BAD_VENDOR, frame, moment),
+        FromController::Vendor => refused(
+            alloc,
+            BAD_REQUEST,
+            BAD_VENDOR,
+            frame,
+            Change::Heard { moment },
+        ),
         FromController::FeaturesRequest => {
             replied(alloc, features(alloc, around, frame)?, moment)
         }
@@ -198,7 +217,13 @@ pub(crate) fn local(
         }
         FromController::SetConfig(config) => setting(alloc, config, frame, moment),
         FromController::PortMod => {
-            refused(alloc, BAD_REQUEST, REQUEST_NOT_PERMITTED, frame, moment)
+            refused(
+                alloc,
+                BAD_REQUEST,
+                REQUEST_NOT_PERMITTED,
+                frame,
+                Change::Heard { moment },
+            )
         }
         _ => Ok(Reaction::silent(alloc, Change::Heard { moment })),
     }

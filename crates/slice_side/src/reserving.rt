@@ -21,10 +21,21 @@ fn reserve_for(state: &mut SliceState, m: &Modification) -> Result<(), AllocErro
 {
     let newcomers = state.book.newcomers(m.command, &m.pieces, m.priority);
     let booked = u64::from(state.book.count()) + u64::from(newcomers);
-    if state.xids.next().0 >= REQUESTS || booked > u64::from(u32::MAX) {
+    if booked > u64::from(u32::MAX) {
         return Err(AllocError);
     }
+    reserve_request(state)?;
     state.book.reserve(newcomers)
+}
+
+/// One request more has a number.
+fn reserve_request(state: &SliceState) -> Result<(), AllocError>
+    ensures { OnOk result (state.now.xids.issued < 2 ^ 62) }
+{
+    if state.xids.next().0 >= REQUESTS {
+        return Err(AllocError);
+    }
+    Ok(())
 }
 
 /// Makes the room that `apply` of the change needs. What the state stands for stays as it is; so it does
@@ -36,6 +47,7 @@ pub fn reserve(state: &mut SliceState, change: &Change) -> Result<(), AllocError
 {
     match change {
         Change::Modified(m) => reserve_for(state, m),
+        Change::SentOut { .. } => reserve_request(state),
         _ => Ok(()),
     }
 }

@@ -3,6 +3,7 @@ use Rattle.std.proofs.Common.{◌≡◌, refl, ℕ, ◌==◌, Bool, true, false,
 use Rattle.of10_model.proofs.Results.{either}
 use Rattle.of10_ctl.specs.Frames.{error_of, echo_reply_to}
 use Rattle.of10_flow.specs.declared.flow_mod.FlowMod.{FlowMod}
+use Rattle.of10_flow.specs.declared.packet_out.PacketOut.{PacketOut}
 use Rattle.of10_port.specs.declared.features.Features.{Features}
 use Rattle.of10_port.specs.Features.{spell_features}
 use Rattle.of10_message.specs.declared.controller.FromController.{FromController}
@@ -15,6 +16,7 @@ use Rattle.slice_words.specs.Messages.{Reading, ends_connection, is_dismissing}
 use Rattle.slice_words.specs.Items.{Settings, Item, miss_send_len, features_in, known_ports}
 use Rattle.slice_words.specs.Pasts.{Answer, Past, silence, told as answered, dismissal, forwarded}
 use Rattle.slice_words.specs.FlowMods.{ground_of, flow_mod_fault, sent_on}
+use Rattle.slice_words.specs.PacketOuts.{packet_out_fault, sent_out}
 use Rattle.slice_words.specs.Answers.{error_for, refused, refusal_of, no_common_version, bad_length, bad_vendor, not_permitted, config_reply, unread_answer, forwarded_answer, keeps_rate, rated_answer, read_answer, message_answer}
 
 -- a property of answers, beside whether the connection is to end, holds of each kind of answer to a message
@@ -27,6 +29,7 @@ pub record HoldsOfEach (P : Bool → Answer → Type 0) (s : Settings) (view : L
   pub tells_features : (features : Features) → P false (answered (spell_features (features_with features (known_ports view)) (xid_of message) ∷ []))
   pub tells_configuration : P false (answered (config_reply (miss_send_len view) message ∷ []))
   pub forwards : (m : FlowMod) → read_controller message ≡ Ok (said.FlowMod m) → flow_mod_fault (ground_of s view past) m ≡ None → P false (forwarded (sent_on (ground_of s view past) m))
+  pub sends_out : (m : PacketOut) → read_controller message ≡ Ok (said.PacketOut m) → packet_out_fault (ground_of s view past) m ≡ None → P false (forwarded (sent_out (ground_of s view past) m))
 
 features_holds : (P : Bool → Answer → Type 0) (s : Settings) (view : List Item) (past : List Past) (message : List ℕ) (found : Option Features) → HoldsOfEach P s view past message
     → P false (elim found [ None ↦ silence | Some features ↦ answered (spell_features (features_with features (known_ports view)) (xid_of message) ∷ []) ])
@@ -39,6 +42,12 @@ flow_mod_holds : (P : Bool → Answer → Type 0) (s : Settings) (view : List It
 flow_mod_holds P s view past message m None each read is = each.forwards m read is
 flow_mod_holds P s view past message m (Some fault) each read is = each.refuses fault
 
+packet_out_holds : (P : Bool → Answer → Type 0) (s : Settings) (view : List Item) (past : List Past) (message : List ℕ) (m : PacketOut) (fault : Option (ℕ × ℕ)) → HoldsOfEach P s view past message
+    → read_controller message ≡ Ok (said.PacketOut m) → packet_out_fault (ground_of s view past) m ≡ fault
+    → P false (elim fault [ Some found ↦ refused found message | None ↦ forwarded (sent_out (ground_of s view past) m) ])
+packet_out_holds P s view past message m None each read is = each.sends_out m read is
+packet_out_holds P s view past message m (Some fault) each read is = each.refuses fault
+
 forwarded_holds : (P : Bool → Answer → Type 0) (s : Settings) (view : List Item) (past : List Past) (message : List ℕ) (asked : FromController) → HoldsOfEach P s view past message
     → read_controller message ≡ Ok asked → P false (forwarded_answer s view past asked message)
 forwarded_holds P s view past message said.Hello each read = each.nothing
@@ -49,7 +58,7 @@ forwarded_holds P s view past message said.Vendor each read = each.nothing
 forwarded_holds P s view past message said.FeaturesRequest each read = each.nothing
 forwarded_holds P s view past message said.GetConfigRequest each read = each.nothing
 forwarded_holds P s view past message (said.SetConfig config) each read = each.nothing
-forwarded_holds P s view past message (said.PacketOut m) each read = each.nothing
+forwarded_holds P s view past message (said.PacketOut m) each read = packet_out_holds P s view past message m (packet_out_fault (ground_of s view past) m) each read refl
 forwarded_holds P s view past message (said.FlowMod m) each read = flow_mod_holds P s view past message m (flow_mod_fault (ground_of s view past) m) each read refl
 forwarded_holds P s view past message said.PortMod each read = each.nothing
 forwarded_holds P s view past message (said.StatsRequest request) each read = each.nothing

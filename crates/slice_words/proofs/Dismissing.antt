@@ -19,6 +19,7 @@ message_ends s view past moment message =
       tells_features = λ features. refl;
       tells_configuration = refl;
       forwards = λ m read fault. refl;
+      sends_out = λ m read fault. refl;
     })
 
 -- what isn't asked for ends nothing, and while the slice is up the answer says

@@ -5,3 +5,4 @@ pub mod Wanting
 pub mod Moments
 pub mod LoneRules
 pub mod Forwarding
+pub mod Holding

@@ -8,6 +8,7 @@ use Rattle.of10_flow.specs.declared.protocol.TheConstants.{NO_BUFFER}
 use Rattle.of10_flow.specs.declared.flow_mod.FlowMod.{FlowMod}
 use Rattle.of10_flow.specs.declared.flow_removed.FlowRemoved.{FlowRemoved}
 use Rattle.of10_flow.specs.FlowRemoveds.{spell_flow_removed}
+use Rattle.of10_flow.specs.declared.packet_out.PacketOut.{PacketOut}
 use Rattle.of10_flow.specs.PacketIns.{spell_packet_in}
 use Rattle.of10_port.specs.Features.{spell_features}
 use Rattle.of10_port.specs.PortStatus.{spell_port_status}
@@ -28,6 +29,7 @@ use Rattle.slice_words.specs.Items.{Settings, Share, Writer, Reader, Probe, Pack
 use Rattle.slice_words.specs.Pasts.{Answer, Past, silence, told, dismissal, forwarded}
 use Rattle.slice_words.specs.Calls.{questions, request_calls, request_for, book_calls}
 use Rattle.slice_words.specs.FlowMods.{Ground, ground_of, flow_mod_fault, sent_on}
+use Rattle.slice_words.specs.PacketOuts.{packet_out_fault, sent_out}
 
 -- ---- refusals (section 5.4.4): class and code
 
@@ -95,8 +97,13 @@ setting_answer config message = if config.flags == 0 then silence else refused n
 abbrev pub flow_mod_answer : Ground → FlowMod → List ℕ → Answer
 flow_mod_answer g m message = elim (flow_mod_fault g m) [ Some fault ↦ refused fault message | None ↦ forwarded (sent_on g m) ]
 
--- what is to be sent on to the switch. Packet-outs, statistics requests, barriers and questions for queues come later
+-- a packet-out is refused by the first line that applies, or sent on (section 5.3.6)
+abbrev pub packet_out_answer : Ground → PacketOut → List ℕ → Answer
+packet_out_answer g m message = elim (packet_out_fault g m) [ Some fault ↦ refused fault message | None ↦ forwarded (sent_out g m) ]
+
+-- what is to be sent on to the switch. Statistics requests, barriers and questions for queues come later
 abbrev pub forwarded_answer : Settings → List Item → List Past → FromController → List ℕ → Answer
+forwarded_answer s view past (said.PacketOut m) message = packet_out_answer (ground_of s view past) m message
 forwarded_answer s view past (said.FlowMod m) message = flow_mod_answer (ground_of s view past) m message
 forwarded_answer s view past other message = silence
 

@@ -1,4 +1,4 @@
--- The calls that a view with its answers makes of each part of a slice's state, newest first (this proxy's own rule). Each item is read after the calls of those before it. Which buffered packets the slice holds, and what is collected of statistics, comes later; a connection that comes or ends forgets requests and collections.
+-- The calls that a view with its answers makes of each part of a slice's state, newest first (this proxy's own rule). Each item is read after the calls of those before it. What is collected of statistics comes later; a connection that comes or ends forgets requests and collections.
 use Rattle.std.specs.Prelude.{ℕ, ◌&&◌, Bool, false, if◌then◌else◌, List, [], ◌∷◌, ◌++◌, filter, map, Option, Some, None, Ok}
 use Rattle.of10_model.specs.declared.pattern.Pattern.{Pattern}
 use Rattle.of10_flow.specs.declared.protocol.TheConstants.{SEND_FLOW_REM}

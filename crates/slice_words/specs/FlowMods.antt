@@ -1,8 +1,10 @@
 -- What follows from a flow-mod of a slice (OpenFlow 1.0.0, section 5.3.3). Which lines refuse it, and in which order, is this proxy's own rule.
-use Rattle.std.specs.Prelude.{ℕ, ◌==◌, ◌&&◌, ◌||◌, not, nat_lt, Bool, true, false, if◌then◌else◌, List, [], ◌∷◌, map, length, Option, Some, None, option_map, Result, Ok, Err}
+use Rattle.std.specs.Prelude.{ℕ, ◌+◌, ◌==◌, ◌&&◌, ◌||◌, not, nat_lt, Bool, true, false, if◌then◌else◌, List, [], ◌∷◌, map, length, position, Option, Some, None, option_map, Result, Ok, Err}
 use Rattle.std.specs.List.{list_any}
 use Rattle.std.specs.Option.{option_or}
 use Rattle.of10_model.specs.declared.pattern.Pattern.{Pattern}
+use Rattle.of10_model.specs.Header.{Header}
+use Rattle.of10_model.specs.Pattern.{has}
 use Rattle.of10_action.specs.declared.action.Action.{Action}
 use Rattle.of10_action.specs.Actions.{spelling}
 use Rattle.of10_flow.specs.declared.protocol.TheConstants.{NO_BUFFER, ADD, DELETE_STRICT, CHECK_OVERLAP, EMERG}
@@ -19,15 +21,17 @@ use Rattle.port_view.specs.SlicePorts.{flooded}
 use Rattle.xid_map.specs.Requests.{issued, physical_of}
 use Rattle.slice_words.specs.Items.{Settings, Item, lone_rules, known_ports}
 use Rattle.slice_words.specs.Pasts.{Outgoing, Modifies, Past}
+use Rattle.slice_words.specs.Buffers.{HeldPacket, held_packets, held_under}
 use Rattle.slice_words.specs.Calls.{request_calls, book_calls}
 
--- ---- what a flow-mod is answered by
+-- ---- what flow-mods and packet-outs are answered by
 
--- the slice's slot, the matches of the rules that it writes, the ports that it knows, what it has booked, how much it may book, and the transaction id that its next request gets
+-- the slice's slot, the matches of the rules that it writes, the ports that it knows, the packets that it holds, what it has booked, how much it may book, and the transaction id that its next request gets
 pub record Ground : Type 0 where
   pub slot : ℕ
   pub patterns : List Pattern
   pub ports : List (List ℕ)
+  pub held : List HeldPacket
   pub booked : List Booked
   pub quota : ℕ
   pub xid : ℕ
@@ -38,6 +42,7 @@ ground_of s view past = record {
   slot = s.slot;
   patterns = s.patterns;
   ports = known_ports view;
+  held = held_packets past;
   booked = book (book_calls s past);
   quota = s.quota;
   xid = physical_of s.slot (issued (request_calls s past));
@@ -72,15 +77,39 @@ first_forbidden g m = if is_delete m then None else first_refusal (map (permitte
 abbrev pub lists_on : Ground → FlowMod → List (List Action)
 lists_on g m = map (λ piece. if is_delete m then [] else list_given (permitted_on g m piece)) (pieces_on g m)
 
+-- ---- packets
+
+-- the packet that the slice holds under a number, where a message has one
+abbrev pub packet_at : Ground → ℕ → Option HeldPacket
+packet_at g buffer = if buffer == NO_BUFFER then None else held_under buffer g.held
+
+-- the packet that a flow-mod names; a delete's number is disregarded
+abbrev pub packet_of : Ground → FlowMod → Option HeldPacket
+packet_of g m = if is_delete m then None else packet_at g m.buffer
+
 -- ---- what is sent on
 
 -- the flow-mods that are sent for the pieces, under the transaction id that the slice gets next
 abbrev pub flow_mods_on : Ground → FlowMod → List FlowMod
 flow_mods_on g m = sent_from 0 m g.xid (pieces_on g m) (lists_on g m) None
 
--- the same for the switch: none of them names a packet
+-- the place of the first piece that has a packet's header
+abbrev pub place_of : Header → List Pattern → Option ℕ
+place_of header pieces = position (λ piece. has piece header) pieces
+
+-- flow-mods for the switch, counted from a place on: the one at a place names a packet, the others none
+abbrev pub naming : Option (ℕ × ℕ) → ℕ → List FlowMod → List Outgoing
+naming carrier place [] = []
+naming carrier place (m ∷ others) = Modifies m (elim carrier [ None ↦ None | Some own ↦ if own.0 == place then Some own.1 else None ]) ∷ naming carrier (place + 1) others
+
+-- the place of the first piece that has the header of the packet that is named, and the packet
+abbrev pub carrier_of : Option HeldPacket → List Pattern → Option (ℕ × ℕ)
+carrier_of None pieces = None
+carrier_of (Some packet) pieces = option_map (λ place. (place, packet.ordinal)) (place_of packet.header pieces)
+
+-- the flow-mods for the switch: that of the first piece which has the packet's header names the packet
 abbrev pub sent_on : Ground → FlowMod → List Outgoing
-sent_on g m = map (λ sent. Modifies sent None) (flow_mods_on g m)
+sent_on g m = naming (carrier_of (packet_of g m) (pieces_on g m)) 0 (flow_mods_on g m)
 
 -- ---- refusals (section 5.4.4): class and code
 
@@ -126,9 +155,14 @@ wrong_command m = refused_where (nat_lt DELETE_STRICT m.command) bad_command
 abbrev pub emergency : FlowMod → Option (ℕ × ℕ)
 emergency m = refused_where (has_flag EMERG m) entry_not_permitted
 
--- no packet is held yet, so that any number of a buffer is unknown; a delete's is disregarded
-abbrev pub buffer_not_held : FlowMod → Option (ℕ × ℕ)
-buffer_not_held m = refused_where (not (is_delete m) && not (m.buffer == NO_BUFFER)) unknown_buffer
+-- a packet is there, and a match has its header
+abbrev pub is_packet_in : Pattern → Option HeldPacket → Bool
+is_packet_in m None = false
+is_packet_in m (Some packet) = has m packet.header
+
+-- it names a packet that isn't held, or whose header isn't in its match; a delete's number is disregarded
+abbrev pub buffer_not_held : Ground → FlowMod → Option (ℕ × ℕ)
+buffer_not_held g m = refused_where (not (is_delete m) && not (m.buffer == NO_BUFFER) && not (is_packet_in m.pattern (packet_of g m))) unknown_buffer
 
 -- the slice may write nothing of the match; a delete then deletes nothing
 abbrev pub outside_flowspace : Ground → FlowMod → Option (ℕ × ℕ)
@@ -165,7 +199,7 @@ flow_mod_fault g m =
     first_some
     (wrong_command m
     ∷ emergency m
-    ∷ buffer_not_held m
+    ∷ buffer_not_held g m
     ∷ outside_flowspace g m
     ∷ forbidden_action g m
     ∷ too_large g m

@@ -1,8 +1,10 @@
 pub mod Messages
 pub mod Items
 pub mod Pasts
+pub mod Buffers
 pub mod Calls
 pub mod FlowMods
+pub mod PacketOuts
 pub mod Answers
 pub mod Alone
 pub mod Standing

@@ -8,3 +8,5 @@ pub mod Turns
 pub mod Answered
 pub mod Making
 pub mod Sharing
+pub mod Holding
+pub mod Giving

@@ -1,98 +1,146 @@
 -- What most items of the switch show changes nothing that a slice's state keeps.
-use Rattle.std.proofs.Common.{ℕ, ◌&&◌, Bool, if◌then◌else◌, List, [], ◌∷◌, ◌++◌, map, ◌≡◌, false, refl, ap, sym, ◌∙◌, Option, Some, None}
-use Rattle.std.proofs.lemmas.Bool.{cond_both}
+use Rattle.std.proofs.Common.{◌≡◌, ℕ, ◌&&◌, Bool, false, if◌then◌else◌, List, [], ◌∷◌, ◌++◌, map, refl, ap, sym, ◌∙◌, Option, Some, None}
+use Rattle.std.specs.List.{list_any}
+use Rattle.std.proofs.lemmas.Bool.{cond_both, or_parts}
 use Rattle.of10_model.specs.declared.pattern.Pattern.{Pattern}
 use Rattle.of10_ctl.specs.declared.kind.TheConstants.{ERROR, PACKET_IN, FLOW_REMOVED}
 use Rattle.of10_ctl.specs.Frames.{is_bad}
 use Rattle.of10_ctl.specs.Kinds.{is_of}
 use Rattle.of10_flow.specs.declared.packet_in.PacketIn.{PacketIn}
-use Rattle.of10_flow.specs.PacketIns.{read_packet_in}
 use Rattle.of10_port.specs.declared.status.PortStatus.{PortStatus}
 use Rattle.of10_port.specs.Ports.{port_number}
-use Rattle.flowspace.specs.declared.rules.Rule.{Rule}
 use Rattle.flowspace.specs.Policies.{PolicyView}
+use Rattle.port_view.specs.KnownPorts.{is_kept}
 use Rattle.xid_map.specs.declared.asked.Issued.{Issued}
 use Rattle.flow_book.specs.declared.state.SliceState.{SliceState}
-use Rattle.slice_words.specs.Items.{Settings, is_own_port, Share, Item, Sight, Status, Fault, End, is_up, miss_send_len, latest}
+use Rattle.slice_words.specs.Items.{Settings, is_own_port, Share, Item, Lost, Status, Fault, End, Sight, is_up, miss_send_len, latest, is_buffered, buffered_count}
+use Rattle.slice_words.specs.Alone.{with_items}
+use Rattle.slice_words.specs.Buffers.{held_packets}
 use Rattle.slice_words.specs.Calls.{request_for, error_marks, failure, request_calls, collection_calls, questions, book_calls}
-use Rattle.slice_words.specs.Standing.{SliceStands, past_of}
-use Rattle.desk_words.specs.Openings.{well_formed, status_told, rules_of, Switch}
-use Rattle.desk_words.specs.Histories.{settings_at, handed, shares_of, is_plain, packet_items, status_items, message_items}
-use Rattle.port_view.specs.KnownPorts.{is_kept}
+use Rattle.slice_words.specs.Standing.{SliceStands, past_of, held_as}
+use Rattle.desk_words.specs.Openings.{status_told, Switch}
+use Rattle.desk_words.specs.Histories.{settings_at, handed, status_items, message_items, Side}
 use Rattle.switch_side.specs.Changes.{seen_with}
 
--- a state belongs to what is seen after as it did before, where these parts of the view are the same
-passing : (s : Settings) (before after : Sight) (state : SliceState) → is_up after.view ≡ is_up before.view → miss_send_len after.view ≡ miss_send_len before.view → latest after.view ≡ latest before.view
-    → request_calls s (past_of s after.view) ≡ request_calls s (past_of s before.view) → collection_calls (past_of s after.view) ≡ collection_calls (past_of s before.view)
-    → questions (past_of s after.view) ≡ questions (past_of s before.view) → book_calls s (past_of s after.view) ≡ book_calls s (past_of s before.view)
-    → SliceStands s before state → SliceStands s after state
-passing s before after state up wanted moment requests collections asked books stands = record {
-  up = stands.up ∙ sym up;
-  miss_send_len = stands.miss_send_len ∙ sym wanted;
-  moment = stands.moment ∙ sym moment;
-  requests = rw requests stands.requests;
-  collections = rw collections stands.collections;
-  bucket = rw asked stands.bucket;
-  book = rw books stands.book;
-  rate = stands.rate;
-  burst = stands.burst;
+-- ---- what a state keeps
+
+-- what a state keeps of a view beside the packets that are held is the same of both
+pub record SameParts (s : Settings) (before after : List Item) : Type 0 where
+  pub up : is_up after ≡ is_up before
+  pub miss_send_len : miss_send_len after ≡ miss_send_len before
+  pub moment : latest after ≡ latest before
+  pub requests : request_calls s (past_of s after) ≡ request_calls s (past_of s before)
+  pub collections : collection_calls (past_of s after) ≡ collection_calls (past_of s before)
+  pub asked : questions (past_of s after) ≡ questions (past_of s before)
+  pub book : book_calls s (past_of s after) ≡ book_calls s (past_of s before)
+
+-- a state of which only the packets that are held may be others
+pub record Holds (old new : SliceState) : Type 0 where
+  pub xids : new.xids ≡ old.xids
+  pub collections : new.collections ≡ old.collections
+  pub bucket : new.bucket ≡ old.bucket
+  pub book : new.book ≡ old.book
+  pub up : new.up ≡ old.up
+  pub miss_send_len : new.miss_send_len ≡ old.miss_send_len
+  pub moment : new.moment ≡ old.moment
+
+-- such a state belongs to a view with the same parts where it holds what the slice holds after it
+pub stands_again : (s : Settings) (before after : Sight) (old new : SliceState) → SameParts s before.view after.view → Holds old new → SliceStands s before old
+    → new.buffers.given ≡ buffered_count after.view → new.buffers.held ≡ map (held_as after.came) (held_packets (past_of s after.view)) → SliceStands s after new
+stands_again s before after old new parts same stands given held = record {
+  up = same.up ∙ stands.up ∙ sym parts.up;
+  miss_send_len = same.miss_send_len ∙ stands.miss_send_len ∙ sym parts.miss_send_len;
+  moment = same.moment ∙ stands.moment ∙ sym parts.moment;
+  requests = rw (parts.requests, same.xids) stands.requests;
+  collections = rw (parts.collections, same.collections) stands.collections;
+  given = given;
+  held = held;
+  bucket = rw (parts.asked, same.bucket) stands.bucket;
+  book = rw (parts.book, same.book) stands.book;
+  rate = rw same.bucket stands.rate;
+  burst = rw same.bucket stands.burst;
 }
+
+same_state : (state : SliceState) → Holds state state
+same_state state = record { xids = refl; collections = refl; bucket = refl; book = refl; up = refl; miss_send_len = refl; moment = refl }
+
+-- the same state, where the slice holds what it held
+passing : (s : Settings) (before after : Sight) (state : SliceState) → SameParts s before.view after.view → buffered_count after.view ≡ buffered_count before.view
+    → map (held_as after.came) (held_packets (past_of s after.view)) ≡ map (held_as before.came) (held_packets (past_of s before.view)) → SliceStands s before state → SliceStands s after state
+passing s before after state parts given held stands = stands_again s before after state state parts (same_state state) stands (stands.given ∙ sym given) (stands.held ∙ sym held)
 
 -- ---- one item
 
-pub end_stands : (s : Settings) (sight : Sight) (state : SliceState) → SliceStands s sight state → SliceStands s (seen_with (End ∷ []) sight) state
-end_stands s sight state stands = passing s sight (seen_with (End ∷ []) sight) state refl refl refl refl refl refl refl stands
+pub same_none : (s : Settings) (view : List Item) → SameParts s view view
+same_none s view = record { up = refl; miss_send_len = refl; moment = refl; requests = refl; collections = refl; asked = refl; book = refl }
 
-status_stands : (s : Settings) (sight : Sight) (state : SliceState) (status : PortStatus) → SliceStands s sight state → SliceStands s (seen_with (Status status ∷ []) sight) state
-status_stands s sight state status stands = passing s sight (seen_with (Status status ∷ []) sight) state refl refl refl refl refl refl refl stands
+pub same_lost : (s : Settings) (view : List Item) (k : ℕ) → SameParts s view (Lost k ∷ view)
+same_lost s view k = record { up = refl; miss_send_len = refl; moment = refl; requests = refl; collections = refl; asked = refl; book = refl }
 
-share_stands : (s : Settings) (sight : Sight) (state : SliceState) (packet : PacketIn) (share : Share) → SliceStands s sight state → SliceStands s (seen_with (handed share packet ∷ []) sight) state
-share_stands s sight state packet share stands = passing s sight (seen_with (handed share packet ∷ []) sight) state refl refl refl refl refl refl refl stands
+pub same_handed : (s : Settings) (view : List Item) (share : Share) (packet : PacketIn) → SameParts s view (handed share packet ∷ view)
+same_handed s view share packet = record { up = refl; miss_send_len = refl; moment = refl; requests = refl; collections = refl; asked = refl; book = refl }
+
+same_end : (s : Settings) (view : List Item) → SameParts s view (End ∷ view)
+same_end s view = record { up = refl; miss_send_len = refl; moment = refl; requests = refl; collections = refl; asked = refl; book = refl }
+
+same_status : (s : Settings) (view : List Item) (status : PortStatus) → SameParts s view (Status status ∷ view)
+same_status s view status = record { up = refl; miss_send_len = refl; moment = refl; requests = refl; collections = refl; asked = refl; book = refl }
+
+same_fault : (s : Settings) (view : List Item) (x class code : ℕ) (pair : Option (Pattern × ℕ)) → request_for s x (request_calls s (past_of s view)) ≡ None → SameParts s view (Fault x class code pair ∷ view)
+same_fault s view x class code pair none = record {
+  up = refl;
+  miss_send_len = refl;
+  moment = refl;
+  requests = ap (λ (found : Option Issued). error_marks found ++ request_calls s (past_of s view)) none;
+  collections = refl;
+  asked = refl;
+  book = ap (λ (found : Option Issued). failure found pair ++ book_calls s (past_of s view)) none;
+}
+
+pub end_stands : (s : Settings) (sight : Sight) (state : SliceState) → SliceStands s sight state → SliceStands s (seen_with None (End ∷ []) sight) state
+end_stands s sight state stands = passing s sight (seen_with None (End ∷ []) sight) state (same_end s sight.view) refl refl stands
+
+status_stands : (s : Settings) (sight : Sight) (state : SliceState) (status : PortStatus) → SliceStands s sight state → SliceStands s (seen_with None (Status status ∷ []) sight) state
+status_stands s sight state status stands = passing s sight (seen_with None (Status status ∷ []) sight) state (same_status s sight.view status) refl refl stands
 
 -- an error for no request that is remembered
 pub fault_stands : (s : Settings) (sight : Sight) (state : SliceState) (x class code : ℕ) (pair : Option (Pattern × ℕ)) → request_for s x (request_calls s (past_of s sight.view)) ≡ None
-    → SliceStands s sight state → SliceStands s (seen_with (Fault x class code pair ∷ []) sight) state
+    → SliceStands s sight state → SliceStands s (seen_with None (Fault x class code pair ∷ []) sight) state
 fault_stands s sight state x class code pair none stands =
-    passing s sight (seen_with (Fault x class code pair ∷ []) sight) state refl refl refl
-    (ap (λ (found : Option Issued). error_marks found ++ request_calls s (past_of s sight.view)) none) refl refl
-    (ap (λ (found : Option Issued). failure found pair ++ book_calls s (past_of s sight.view)) none) stands
+    passing s sight (seen_with None (Fault x class code pair ∷ []) sight) state (same_fault s sight.view x class code pair none) refl refl stands
+
+-- a packet that the slice may not use by number
+share_stands : (s : Settings) (view : List Item) (came : List ℕ) (state : SliceState) (packet : PacketIn) (share : Share) → is_buffered share ≡ false
+    → SliceStands s (record { view = view; came = came }) state → SliceStands s (record { view = handed share packet ∷ view; came = came }) state
+share_stands s view came state packet share none stands =
+    passing s (record { view = view; came = came }) (record { view = handed share packet ∷ view; came = came }) state (same_handed s view share packet) (rw none refl) (rw none refl) stands
+
+pub shares_stand : (s : Settings) (view : List Item) (came : List ℕ) (state : SliceState) (packet : PacketIn) (shares : List Share) → list_any is_buffered shares ≡ false
+    → SliceStands s (record { view = view; came = came }) state → SliceStands s (record { view = with_items (map (λ share. handed share packet) shares) view; came = came }) state
+shares_stand s view came state packet [] none stands = stands
+shares_stand s view came state packet (share ∷ others) none stands =
+    let parts = or_parts (is_buffered share) (list_any is_buffered others) none in
+    shares_stand s (handed share packet ∷ view) came state packet others parts.1 (share_stands s view came state packet share parts.0 stands)
 
 -- ---- all items of a message
 
-shares_stand : (s : Settings) (sight : Sight) (state : SliceState) (packet : PacketIn) (shares : List Share) → SliceStands s sight state
-    → SliceStands s (seen_with (map (λ share. handed share packet) shares) sight) state
-shares_stand s sight state packet [] stands = stands
-shares_stand s sight state packet (share ∷ others) stands =
-    shares_stand s (seen_with (handed share packet ∷ []) sight) state packet others (share_stands s sight state packet share stands)
-
 -- of two lists of items that change nothing either may be shown
-either : (s : Settings) (sight : Sight) (state : SliceState) (b : Bool) (some others : List Item) → SliceStands s (seen_with some sight) state → SliceStands s (seen_with others sight) state
-    → SliceStands s (seen_with (if b then some else others) sight) state
-either s sight state b some others one other = cond_both b some others (λ items. SliceStands s (seen_with items sight) state) (λ is. one) (λ isnt. other)
-
-packet_stands : (s : Settings) (sight : Sight) (state : SliceState) (rules : List Rule) (slot : ℕ) (found : Option PacketIn) → SliceStands s sight state
-    → SliceStands s (seen_with (elim found [ None ↦ [] | Some packet ↦ packet_items rules slot sight.view packet ]) sight) state
-packet_stands s sight state rules slot None stands = stands
-packet_stands s sight state rules slot (Some packet) stands =
-    either s sight state (is_plain packet && is_up sight.view) (map (λ share. handed share packet) (shares_of rules slot packet)) []
-    (shares_stand s sight state packet (shares_of rules slot packet) stands) stands
+either : (s : Settings) (sight : Sight) (state : SliceState) (b : Bool) (some others : List Item) → SliceStands s (seen_with None some sight) state → SliceStands s (seen_with None others sight) state
+    → SliceStands s (seen_with None (if b then some else others) sight) state
+either s sight state b some others one other = cond_both b some others (λ items. SliceStands s (seen_with None items sight) state) (λ is. one) (λ isnt. other)
 
 port_stands : (s : Settings) (sight : Sight) (state : SliceState) (known : List (List ℕ)) (told : Option PortStatus) → SliceStands s sight state
-    → SliceStands s (seen_with (elim told [ None ↦ [] | Some status ↦ status_items s known status ]) sight) state
+    → SliceStands s (seen_with None (elim told [ None ↦ [] | Some status ↦ status_items s known status ]) sight) state
 port_stands s sight state known None stands = stands
 port_stands s sight state known (Some status) stands =
     either s sight state (is_kept status known && is_own_port s (port_number status.port)) (Status status ∷ []) [] (status_stands s sight state status stands) stands
 
--- a message that tells neither of an entry that is gone nor of an error
-pub message_stands : (p : PolicyView) (slot : ℕ) (switch : Switch) (sight : Sight) (message : List ℕ) (state : SliceState) → is_of FLOW_REMOVED message ≡ false → is_of ERROR message ≡ false
-    → SliceStands (settings_at p slot switch.features) sight state
-    → SliceStands (settings_at p slot switch.features) (seen_with (message_items p slot switch sight.view message) sight) state
+-- a message that tells neither of a packet, nor of an entry that is gone, nor of an error
+pub message_stands : (p : PolicyView) (slot : ℕ) (switch : Switch) (side : Side) (message : List ℕ) (state : SliceState) → is_of PACKET_IN message ≡ false → is_of FLOW_REMOVED message ≡ false → is_of ERROR message ≡ false
+    → SliceStands (settings_at p slot switch.features) side.sight state
+    → SliceStands (settings_at p slot switch.features) (seen_with None (message_items p slot switch side message) side.sight) state
 unfolding message_items
-message_stands p slot switch sight message state no_removal no_error stands =
+message_stands p slot switch side message state no_packet no_removal no_error stands =
     let s = settings_at p slot switch.features in
-    let packet_in : List Item = elim (well_formed (read_packet_in message)) [ None ↦ [] | Some packet ↦ packet_items (rules_of p switch.features) slot sight.view packet ] in
-    let port_status : List Item = elim (status_told message) [ None ↦ [] | Some status ↦ status_items s switch.known status ] in
-    either s sight state (is_bad message) (End ∷ []) _ (end_stands s sight state stands)
-    (rw (no_removal, no_error) (either s sight state (is_of PACKET_IN message) packet_in port_status
-    (packet_stands s sight state (rules_of p switch.features) slot (well_formed (read_packet_in message)) stands)
-    (port_stands s sight state switch.known (status_told message) stands)))
+    either s side.sight state (is_bad message) (End ∷ []) _ (end_stands s side.sight state stands)
+    (rw (no_packet, no_removal, no_error) (port_stands s side.sight state switch.known (status_told message) stands))

@@ -3,13 +3,11 @@ use Rattle.std.proofs.Common.{◌≡◌, ℕ, zero, suc, ◌+◌, ◌<◌, Bool,
 use Rattle.std.proofs.lemmas.Option.{slice_get_within}
 use Rattle.std.proofs.lemmas.Bool.{lt-ltb}
 use Rattle.of10_ctl.specs.declared.kind.TheConstants.{ERROR, PACKET_IN, FLOW_REMOVED}
-use Rattle.of10_model.specs.Header.{Header}
 use Rattle.of10_flow.specs.declared.packet_in.PacketIn.{PacketIn}
-use Rattle.of10_flow.specs.PacketIns.{read_packet_in, spell_packet_in}
+use Rattle.of10_flow.specs.PacketIns.{read_packet_in}
 use Rattle.of10_port.specs.declared.status.PortStatus.{PortStatus}
 use Rattle.flowspace.specs.declared.rules.Rule.{Rule}
 use Rattle.flowspace.specs.declared.slices.Slice.{Slice}
-use Rattle.flowspace.specs.Order.{writer_of, readers_of}
 use Rattle.flowspace.specs.Owners.{has_port}
 use Rattle.flowspace.specs.Policies.{PolicyView}
 use Rattle.flow_book.specs.declared.state.SliceState.{SliceState}
@@ -19,60 +17,52 @@ use Rattle.desk_words.specs.declared.event.Timed.{Timed}
 use Rattle.desk_words.specs.declared.phase.Phase.TheVariants.{Opened}
 use Rattle.of10_ctl.specs.Kinds.{is_of}
 use Rattle.desk_words.specs.Openings.{well_formed, status_kept, rules_of, Switch}
-use Rattle.desk_words.specs.Histories.{settings_at, Side, header_in, is_plain}
+use Rattle.desk_words.specs.Histories.{settings_at, Side}
 use Rattle.desk_words.specs.Sent.{sent_with}
 use Rattle.switch_side.specs.Dispatches.{addressed, sent_from, told_at, AllStand}
-use Rattle.switch_side.specs.Carrying.{unnumbered, packet_for, said_from, packet_told, packet_in_told, port_told}
+use Rattle.switch_side.specs.Audiences.{audience_of}
+use Rattle.switch_side.specs.Carrying.{packet_for, said_from, packet_in_told, port_told}
 use Rattle.switch_side.proofs.Slots.{say_status, say_found, say, slot_sent}
 
 -- ---- what is said to all is what is told
 
 abbrev Say : Type 0
-Say = ℕ → Bool → List (List ℕ)
+Say = ℕ → SliceState → List (List ℕ)
 
 abbrev nothing : Say
-nothing slot up = []
+nothing slot state = []
 
 said_none : (slot : ℕ) (states : List SliceState) → said_from nothing slot states ≡ []
 said_none slot [] = refl
 said_none slot (state ∷ others) = said_none (slot + 1) others
 
-said_packet : (rules : List Rule) (states : List SliceState) (packet : PacketIn) (plain : Bool)
-    → said_from (λ slot up. if plain then packet_for (writer_of rules (header_in packet)) (readers_of rules (header_in packet)) (spell_packet_in (unnumbered packet)) slot up else []) 0 states
-    ≡ (if plain then said_from (packet_for (writer_of rules (header_in packet)) (readers_of rules (header_in packet)) (spell_packet_in (unnumbered packet))) 0 states else [])
-said_packet rules states packet true = refl
-said_packet rules states packet false = said_none 0 states
+-- a packet that is told among so many slices
+abbrev told_among : ℕ → List Rule → List SliceState → Option PacketIn → List (ℕ × List ℕ)
+told_among count rules states found = elim found [ None ↦ [] | Some packet ↦ said_from (packet_for (audience_of count rules packet) packet) 0 states ]
 
--- a packet that is plain is told to those that the first rule of its header names
-pub plain_told : (rules : List Rule) (states : List SliceState) (packet : PacketIn) (header : Header) (writer : Option ℕ) (readers : ℕ)
-    → is_plain packet ≡ true → header ≡ header_in packet → writer ≡ writer_of rules header → readers ≡ readers_of rules header
-    → said_from (packet_for writer readers (spell_packet_in (unnumbered packet))) 0 states ≡ packet_told rules states packet
-plain_told rules states packet header writer readers plain head writes reads = rw (plain, writes, reads, head) refl
-
-said_found : (rules : List Rule) (states : List SliceState) (found : Option PacketIn)
-    → said_from (say_found rules found) 0 states ≡ elim found [ None ↦ [] | Some packet ↦ packet_told rules states packet ]
-said_found rules states None = said_none 0 states
-said_found rules states (Some packet) = said_packet rules states packet (is_plain packet)
+said_found : (count : ℕ) (rules : List Rule) (states : List SliceState) (found : Option PacketIn) → said_from (say_found count rules found) 0 states ≡ told_among count rules states found
+said_found count rules states None = said_none 0 states
+said_found count rules states (Some packet) = refl
 
 said_status : (rules : List Rule) (states : List SliceState) (status : Option PortStatus) → said_from (say_status rules status) 0 states ≡ port_told rules states status
 said_status rules states None = said_none 0 states
 said_status rules states (Some status) = refl
 
-said_kind : (rules : List Rule) (states : List SliceState) (packet_in : Bool) (found : Option PacketIn) (status : Option PortStatus)
-    → said_from (λ slot up. if packet_in then say_found rules found slot up else say_status rules status slot up) 0 states
-    ≡ (if packet_in then elim found [ None ↦ [] | Some packet ↦ packet_told rules states packet ] else port_told rules states status)
-said_kind rules states true found status = said_found rules states found
-said_kind rules states false found status = said_status rules states status
+said_kind : (count : ℕ) (rules : List Rule) (states : List SliceState) (packet_in : Bool) (found : Option PacketIn) (status : Option PortStatus)
+    → said_from (λ slot state. if packet_in then say_found count rules found slot state else say_status rules status slot state) 0 states
+    ≡ (if packet_in then told_among count rules states found else port_told rules states status)
+said_kind count rules states true found status = said_found count rules states found
+said_kind count rules states false found status = said_status rules states status
 
-said_told : (rules : List Rule) (known : List (List ℕ)) (states : List SliceState) (message : List ℕ)
-    → said_from (say rules known message) 0 states ≡ (if is_of PACKET_IN message then packet_in_told rules states message else port_told rules states (status_kept known message))
-said_told rules known states message = said_kind rules states (is_of PACKET_IN message) (well_formed (read_packet_in message)) (status_kept known message)
+said_told : (count : ℕ) (rules : List Rule) (known : List (List ℕ)) (states : List SliceState) (message : List ℕ)
+    → said_from (say count rules known message) 0 states ≡ (if is_of PACKET_IN message then told_among count rules states (well_formed (read_packet_in message)) else port_told rules states (status_kept known message))
+said_told count rules known states message = said_kind count rules states (is_of PACKET_IN message) (well_formed (read_packet_in message)) (status_kept known message)
 
 -- ---- what is said to each is what it is sent
 
 all_sent : (p : PolicyView) (switch : Switch) (sides : ℕ → Side) (timed : Timed) (said : Say) (slot : ℕ) (slices : List Slice) (states : List SliceState)
     → length states ≡ length slices
-    → ((i k : ℕ) (state : SliceState) → slot + i ≡ k → slice_get states i ≡ Some state → said k state.up ≡ sent_with p k switch (sides k) timed)
+    → ((i k : ℕ) (state : SliceState) → slot + i ≡ k → slice_get states i ≡ Some state → said k state ≡ sent_with p k switch (sides k) timed)
     → said_from said slot states ≡ sent_from p switch sides timed slot slices
 all_sent p switch sides timed said slot [] [] same each = refl
 all_sent p switch sides timed said slot (slice ∷ slices) (state ∷ states) same each =
@@ -96,14 +86,13 @@ has_item (x ∷ xs) (suc i) lt = has_item xs i (omega (arith, lt))
 one_sent : (p : PolicyView) (switch : Switch) (sides : ℕ → Side) (moment : ℕ) (message : List ℕ) (states : List SliceState)
     → switch.phase ≡ Opened → length states ≡ length p.slices → AllStand p switch sides states → is_of FLOW_REMOVED message ≡ false → is_of ERROR message ≡ false
     → (slot k : ℕ) (state : SliceState) → 0 + slot ≡ k → slice_get states slot ≡ Some state
-    → say (rules_of p switch.features) switch.known message k state.up ≡ sent_with p k switch (sides k) (told_at moment message)
+    → say (length p.slices) (rules_of p switch.features) switch.known message k state ≡ sent_with p k switch (sides k) (told_at moment message)
 one_sent p switch sides moment message states opened same stand no_removal no_error slot k state at found =
     let lt : k < length p.slices = omega (arith, slice_get_within states slot state found, same, at) in
     let slice = has_item p.slices k lt in
     let same_slot : slot ≡ k = omega (arith, at) in
     let here : slice_get states k ≡ Some state = subst (λ x. slice_get states x ≡ Some state) same_slot found in
-    ap (say (rules_of p switch.features) switch.known message k) (stand k state here).up
-    ∙ sym (slot_sent p k moment switch (sides k) message opened (lt-ltb k (length p.slices) lt) no_removal no_error (λ port. own_ports p switch k port slice.0 slice.1))
+    sym (slot_sent p k moment switch (sides k) message state opened (lt-ltb k (length p.slices) lt) no_removal no_error (stand k state here) (λ port. own_ports p switch k port slice.0 slice.1))
 
 -- what the states are told is what the slices are sent, where no entry is gone and no error came
 pub told_sent : (p : PolicyView) (switch : Switch) (sides : ℕ → Side) (moment : ℕ) (message : List ℕ) (states : List SliceState)
@@ -111,6 +100,7 @@ pub told_sent : (p : PolicyView) (switch : Switch) (sides : ℕ → Side) (momen
     → (if is_of PACKET_IN message then packet_in_told (rules_of p switch.features) states message else port_told (rules_of p switch.features) states (status_kept switch.known message))
     ≡ sent_from p switch sides (told_at moment message) 0 p.slices
 told_sent p switch sides moment message states opened same stand no_removal no_error =
-    sym (said_told (rules_of p switch.features) switch.known states message)
-    ∙ all_sent p switch sides (told_at moment message) (say (rules_of p switch.features) switch.known message) 0 p.slices states same
+    ap (λ (count : ℕ). if is_of PACKET_IN message then told_among count (rules_of p switch.features) states (well_formed (read_packet_in message)) else port_told (rules_of p switch.features) states (status_kept switch.known message)) same
+    ∙ sym (said_told (length p.slices) (rules_of p switch.features) switch.known states message)
+    ∙ all_sent p switch sides (told_at moment message) (say (length p.slices) (rules_of p switch.features) switch.known message) 0 p.slices states same
     (one_sent p switch sides moment message states opened same stand no_removal no_error)

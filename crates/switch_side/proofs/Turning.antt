@@ -7,7 +7,8 @@ use Rattle.slice_words.specs.Items.{Settings, Sight, Item}
 use Rattle.slice_words.specs.Alone.{sent_for}
 use Rattle.desk_words.specs.declared.event.Timed.{Timed}
 use Rattle.desk_words.specs.Openings.{Switch}
-use Rattle.desk_words.specs.Histories.{is_slot, settings_at, Side, items_of}
+use Rattle.desk_words.specs.Histories.{is_slot, settings_at, Side, items_of, number_told}
+use Rattle.desk_words.specs.declared.event.Event.TheVariants.{SwitchMsg}
 use Rattle.desk_words.specs.Sent.{sent_with}
 use Rattle.switch_side.specs.declared.change.Change.{Change}
 use Rattle.switch_side.specs.Changes.{changes_for, IsChange, SlotChanges}
@@ -68,8 +69,8 @@ changes_by false slot k change isnt = rw isnt refl
 
 -- what follows from items for a slice: nothing, or this turn
 abbrev pub FollowsFrom : Settings → Sight → List Item → Option Turn → Type 0
-FollowsFrom s sight items None = (sent_for s sight.view items ≡ []) × SlotChanges s sight items []
-FollowsFrom s sight items (Some turn) = (sent_for s sight.view items ≡ turn.messages) × IsChange s sight items turn.change
+FollowsFrom s sight items None = (sent_for s sight.view items ≡ []) × SlotChanges s None sight items []
+FollowsFrom s sight items (Some turn) = (sent_for s sight.view items ≡ turn.messages) × IsChange s None sight items turn.change
 
 pub nothing_follows : (s : Settings) (sight : Sight) → FollowsFrom s sight [] None
 nothing_follows s sight = (refl, λ state stands. stands)
@@ -87,12 +88,12 @@ module _ (p : PolicyView) (switch : Switch) (sides : ℕ → Side) (moment : ℕ
   EachFollows turn = (slot : ℕ) → is_slot p slot ≡ true → Follows slot (turn_at slot turn)
 
   abbrev changed : ℕ → List Change → Type 0
-  changed slot listed = SlotChanges (settings_at p slot switch.features) (sides slot).sight (items slot) listed
+  changed slot listed = SlotChanges (settings_at p slot switch.features) None (sides slot).sight (items slot) listed
 
   -- a slot of no slice sees nothing
   pub unseen : (slot : ℕ) → is_slot p slot ≡ false → changed slot []
   unseen slot none =
-      subst (λ (shown : List Item). SlotChanges (settings_at p slot switch.features) (sides slot).sight shown []) (sym (items_none p slot moment switch (sides slot) message none)) (λ state stands. stands)
+      subst (λ (shown : List Item). SlotChanges (settings_at p slot switch.features) None (sides slot).sight shown []) (sym (items_none p slot moment switch (sides slot) message none)) (λ state stands. stands)
 
   own_follows : (turn : Turn) (slot : ℕ) → (turn.slot == slot) ≡ true → Follows slot (turn_at slot (Some turn)) → Follows slot (Some turn)
   own_follows turn slot is follows = subst (Follows slot) (turn_at-own slot turn is) follows
@@ -118,8 +119,12 @@ module _ (p : PolicyView) (switch : Switch) (sides : ℕ → Side) (moment : ℕ
   by_slot slot true here each = (each here).1
   by_slot slot false none each = unseen slot none
 
-  pub changed_turn : (turn : Option Turn) → IsWithin p turn → EachFollows turn → AreChanges p switch sides moment message (turn_changes turn)
-  changed_turn None within each = λ slot. by_slot slot (is_slot p slot) refl (each slot)
-  changed_turn (Some turn) within each = λ slot.
+  changed_all : (turn : Option Turn) → IsWithin p turn → EachFollows turn → (slot : ℕ) → changed slot (changes_for slot (turn_changes turn))
+  changed_all None within each slot = by_slot slot (is_slot p slot) refl (each slot)
+  changed_all (Some turn) within each slot =
       subst (changed slot) (sym (changes_by (turn.slot == slot) slot turn.slot turn.change refl))
       (by_place turn slot (turn.slot == slot) refl within (each slot) (is_slot p slot) refl)
+
+  pub changed_turn : (turn : Option Turn) → number_told switch.phase (SwitchMsg message) ≡ None → IsWithin p turn → EachFollows turn → AreChanges p switch sides moment message (turn_changes turn)
+  changed_turn turn none within each slot =
+      subst (λ (number : Option ℕ). SlotChanges (settings_at p slot switch.features) number (sides slot).sight (items slot) (changes_for slot (turn_changes turn))) (sym none) (changed_all turn within each slot)

@@ -138,7 +138,7 @@ module _ (p : PolicyView) (switch : Switch) (sides : ℕ → Side) (states : Lis
   removal_follows slot state entry there = (
     removal_sent (settings slot) (sight slot).view entry (is_up (sight slot).view) refl
         ∙ ap (λ up. while_up up (removal_told (booking entry.pattern entry.priority (called slot).book) entry)) (sym (stand slot state there).up),
-    record { entry = record entry { xid = 0 }; shown = refl; same_pattern = refl; same_priority = refl },
+    (refl, record { entry = record entry { xid = 0 }; shown = refl; same_pattern = refl; same_priority = refl }),
   )
 
   own_turn : (slot one : ℕ) (state : SliceState) (entry : FlowRemoved) → slice_get states slot ≡ Some state → (one == slot) ≡ true
@@ -184,7 +184,7 @@ module _ (p : PolicyView) (switch : Switch) (sides : ℕ → Side) (states : Lis
   removals_follow slices moment message opened is policy normal = λ slot here.
       let told = well_formed (read_flow_removed message) in
       subst (λ items. FollowsFrom (settings slot) (sight slot) items (turn_at slot (removed_turn called (rules_of p switch.features) states told)))
-      (sym (items_at p slot moment switch (sides slot) message opened here ∙ removal_items p slot switch (sight slot).view message is))
+      (sym (items_at p slot moment switch (sides slot) message opened here ∙ removal_items p slot switch (sides slot) message is))
       (removed_follows slices slot told policy normal here)
 
   -- ---- an error
@@ -207,7 +207,7 @@ module _ (p : PolicyView) (switch : Switch) (sides : ℕ → Side) (states : Lis
       (sym (turn_at-own slot (failure_turn xid error slot state request) (eq-eqb slot slot refl))) (
         fault_sent (settings slot) (sight slot).view (xid % 2 ^ 24) error.class error.code (pair_in xid error.cause) (is_up (sight slot).view) refl
             ∙ ap₂ (λ (up : Bool) (request_ : Option Issued). while_up up (error_told request_ error.class error.code)) (sym (stand slot state there).up) is,
-        record { x = xid % 2 ^ 24; class = error.class; code = error.code; request = request; shown = refl; found = is; same_number = refl },
+        (refl, record { x = xid % 2 ^ 24; class = error.class; code = error.code; request = request; shown = refl; found = is; same_number = refl }),
       )
 
   own_sought : (slot top xid : ℕ) (state : SliceState) (error : ErrorMessage) → slice_get states slot ≡ Some state → (top == slot) ≡ true
@@ -241,7 +241,7 @@ module _ (p : PolicyView) (switch : Switch) (sides : ℕ → Side) (states : Lis
   errors_follow moment message opened is = λ slot here.
       let told = well_formed (read_error message) in
       subst (λ items. FollowsFrom (settings slot) (sight slot) items (turn_at slot (error_turn called states (xid_of message) told)))
-      (sym (items_at p slot moment switch (sides slot) message opened here ∙ fault_items p slot switch (sight slot).view message is))
+      (sym (items_at p slot moment switch (sides slot) message opened here ∙ fault_items p slot switch (sides slot) message is))
       (error_follows slot (xid_of message) told here)
 
 -- ---- the same of what the code finds

@@ -1,5 +1,6 @@
 -- The same by the slices' states, in place of what each slice sees. The parts of the code are proved by this.
-use Rattle.std.specs.Prelude.{ℕ, ◌≡◌, ◌&&◌, ◌+◌, ◌/◌, ◌^◌, Bool, false, if◌then◌else◌, List, [], ◌∷◌, ◌++◌, slice_get, Option, Some, None, option_map, option_and_then}
+use Rattle.std.specs.Prelude.{ℕ, ◌≡◌, ◌&&◌, ◌+◌, ◌-◌, ◌/◌, ◌%◌, ◌^◌, ◌==◌, Bool, false, if◌then◌else◌, List, [], ◌∷◌, ◌++◌, length, take, slice_get, Option, Some, None, option_map, option_and_then}
+use Rattle.of10_model.specs.Header.{Header}
 use Rattle.of10_model.specs.Normal.{is_value, bit}
 use Rattle.of10_ctl.specs.declared.kind.TheConstants.{ERROR, PACKET_IN, FLOW_REMOVED}
 use Rattle.of10_ctl.specs.Frames.{is_bad}
@@ -15,7 +16,6 @@ use Rattle.of10_port.specs.declared.status.PortStatus.{PortStatus}
 use Rattle.of10_port.specs.Ports.{port_number}
 use Rattle.of10_port.specs.PortStatus.{spell_port_status}
 use Rattle.flowspace.specs.declared.rules.Rule.{Rule}
-use Rattle.flowspace.specs.Order.{writer_of, readers_of}
 use Rattle.flowspace.specs.Owners.{has_port, owner_of_match}
 use Rattle.xid_map.specs.declared.asked.Issued.{Issued}
 use Rattle.xid_map.specs.Requests.{RequestCall, RequestsStand, found}
@@ -23,11 +23,14 @@ use Rattle.flow_book.specs.declared.state.SliceState.{SliceState}
 use Rattle.flow_book.specs.Books.{BookCall, BookStands, booking}
 use Rattle.slice_words.specs.Answers.{removal_told, error_told}
 use Rattle.desk_words.specs.Openings.{well_formed, status_kept}
-use Rattle.desk_words.specs.Histories.{header_in, is_plain}
+use Rattle.desk_words.specs.Histories.{header_in}
 use Rattle.desk_words.specs.Sent.{echo_for}
+use Rattle.switch_side.specs.declared.audience.Audience.{Audience}
+use Rattle.switch_side.specs.declared.audience.Audience.TheVariants.{Prober, Named}
 use Rattle.switch_side.specs.declared.change.Change.{Change}
-use Rattle.switch_side.specs.declared.change.Change.TheVariants.{Released, Failed}
+use Rattle.switch_side.specs.declared.change.Change.TheVariants.{Released, Failed, Lost, Given}
 use Rattle.switch_side.specs.declared.dispatch.Dispatch.{Dispatch}
+use Rattle.switch_side.specs.Audiences.{audience_of, writes}
 use Rattle.switch_side.specs.Dispatches.{addressed}
 
 -- what a dispatch carries
@@ -59,34 +62,85 @@ AllCalled called states =
 
 -- ---- what several slices may be told
 
--- a packet as slices are told it: whole, without a number
-abbrev pub unnumbered : PacketIn → PacketIn
-unnumbered packet = record packet { xid = 0; buffer = NO_BUFFER }
-
 -- a message where it is due
 abbrev pub once : Bool → List ℕ → List (List ℕ)
 once due message = if due then message ∷ [] else []
 
--- a packet for the slice at a slot, if it is up: for the writer, and for each reader
-abbrev pub packet_for : Option ℕ → ℕ → List ℕ → ℕ → Bool → List (List ℕ)
-packet_for writer readers message slot up = if up then once (is_value slot writer) message ++ once (bit readers slot) message else []
+-- what is said to each slice from a slot on
+abbrev pub said_from : (ℕ → SliceState → List (List ℕ)) → ℕ → List SliceState → List (ℕ × List ℕ)
+said_from say slot [] = []
+said_from say slot (state ∷ others) = addressed slot (say slot state) ++ said_from say (slot + 1) others
 
 -- the change of a port for the slice at a slot, if it is up and has the port
-abbrev pub status_for : List Rule → PortStatus → ℕ → Bool → List (List ℕ)
-status_for rules status slot up = once (up && has_port rules slot (port_number status.port)) (spell_port_status status 0)
+abbrev pub status_for : List Rule → PortStatus → ℕ → SliceState → List (List ℕ)
+status_for rules status slot state = once (state.up && has_port rules slot (port_number status.port)) (spell_port_status status 0)
 
--- what is said to each slice from a slot on
-abbrev pub said_from : (ℕ → Bool → List (List ℕ)) → ℕ → List SliceState → List (ℕ × List ℕ)
-said_from say slot [] = []
-said_from say slot (state ∷ others) = addressed slot (say slot state.up) ++ said_from say (slot + 1) others
+-- ---- packets
+
+-- a packet as readers are told it: whole, without a number
+abbrev pub unnumbered : PacketIn → PacketIn
+unnumbered packet = record packet { xid = 0; buffer = NO_BUFFER }
+
+-- a probe without its mark
+abbrev pub unmarked : PacketIn → PacketIn
+unmarked packet = record packet { xid = 0; buffer = NO_BUFFER; total_len = packet.total_len - 8; payload = take (length packet.payload - 8) packet.payload }
+
+-- of a packet that is kept for a slice so many bytes where no entry matched it
+abbrev pub wanted : ℕ → PacketIn → List ℕ
+wanted count packet = if packet.reason == 0 then take count packet.payload else packet.payload
+
+-- a packet for its writer, who wants so many bytes and was given so many packets: by number where the switch keeps it
+abbrev pub written_as : ℕ → ℕ → PacketIn → PacketIn
+written_as wants given packet =
+    if packet.buffer == NO_BUFFER then unnumbered packet else record packet { xid = 0; buffer = given % 2 ^ 24; payload = wanted wants packet }
+
+-- a packet as the slice of a state is told it that may write it
+abbrev pub written : SliceState → PacketIn → PacketIn
+written state packet = written_as state.miss_send_len state.buffers.given packet
+
+-- a packet for a slice that is up and that a rule names: as its writer, and as a reader
+abbrev pub named_told : Bool → Bool → SliceState → PacketIn → List (List ℕ)
+named_told writes reads state packet = once writes (spell_packet_in (written state packet)) ++ once reads (spell_packet_in (unnumbered packet))
+
+-- a packet for a slice that is up
+abbrev pub told_up : Audience → PacketIn → ℕ → SliceState → List (List ℕ)
+told_up (Prober other) packet slot state = once (other == slot) (spell_packet_in (unmarked packet))
+told_up (Named writer readers) packet slot state = named_told (is_value slot writer) (bit readers slot) state packet
+
+-- a packet for the slice at a slot
+abbrev pub packet_for : Audience → PacketIn → ℕ → SliceState → List (List ℕ)
+packet_for audience packet slot state = if state.up then told_up audience packet slot state else []
+
+-- what changes for the slice at a slot where the switch keeps the packet under a number: the writer that is up is given it, and to all others what they held under the number is lost
+abbrev pub change_for : Audience → ℕ → Header → ℕ → Bool → Change
+change_for audience physical header slot up = if up && writes audience slot then Given physical header else Lost physical
+
+-- changes of each slice from a slot on
+abbrev pub changes_from : (ℕ → Bool → Change) → ℕ → List SliceState → List (ℕ × Change)
+changes_from change slot [] = []
+changes_from change slot (state ∷ others) = (slot, change slot state.up) ∷ changes_from change (slot + 1) others
+
+-- what changes with a packet: nothing where the switch doesn't keep it
+abbrev pub changes_with : Audience → PacketIn → List SliceState → List (ℕ × Change)
+changes_with audience packet states = if packet.buffer == NO_BUFFER then [] else changes_from (change_for audience packet.buffer (header_in packet)) 0 states
 
 -- a packet that is handed up, for all slices
 abbrev pub packet_told : List Rule → List SliceState → PacketIn → List (ℕ × List ℕ)
-packet_told rules states packet =
-    if is_plain packet then said_from (packet_for (writer_of rules (header_in packet)) (readers_of rules (header_in packet)) (spell_packet_in (unnumbered packet))) 0 states else []
+packet_told rules states packet = said_from (packet_for (audience_of (length states) rules packet) packet) 0 states
 
 abbrev pub packet_in_told : List Rule → List SliceState → List ℕ → List (ℕ × List ℕ)
 packet_in_told rules states message = elim (well_formed (read_packet_in message)) [ None ↦ [] | Some packet ↦ packet_told rules states packet ]
+
+-- and what changes
+abbrev pub packet_changes : List Rule → List SliceState → PacketIn → List (ℕ × Change)
+packet_changes rules states packet = changes_with (audience_of (length states) rules packet) packet states
+
+abbrev pub packet_in_changes : List Rule → List SliceState → List ℕ → List (ℕ × Change)
+packet_in_changes rules states message = elim (well_formed (read_packet_in message)) [ None ↦ [] | Some packet ↦ packet_changes rules states packet ]
+
+-- messages for slices, and what changes in their states
+abbrev pub handing : List (ℕ × List ℕ) → List (ℕ × Change) → Carried
+handing messages changes = record (telling messages None) { changes = changes }
 
 -- the change of a port, for all slices
 abbrev pub port_told : List Rule → List SliceState → Option PortStatus → List (ℕ × List ℕ)
@@ -171,12 +225,17 @@ message_told called rules known states message =
     else if is_of ERROR message then turn_told (turn_for called rules states message)
     else port_told rules states (status_kept known message)
 
+-- what a message changes
+abbrev pub message_changes : (ℕ → Called) → List Rule → List SliceState → List ℕ → List (ℕ × Change)
+message_changes called rules states message =
+    if is_of PACKET_IN message then packet_in_changes rules states message else turn_changes (turn_for called rules states message)
+
 -- all that follows from a message
 abbrev pub carried_for : (ℕ → Called) → List Rule → List (List ℕ) → List SliceState → List ℕ → Carried
 carried_for called rules known states message = record {
   messages = message_told called rules known states message;
   replies = echo_for message;
-  changes = turn_changes (turn_for called rules states message);
+  changes = message_changes called rules states message;
   status = status_kept known message;
   ends = is_bad message;
 }

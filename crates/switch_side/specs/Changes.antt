@@ -1,27 +1,31 @@
 -- What a message of the switch changes in the slices' states (this proxy's own rule).
-use Rattle.std.specs.Prelude.{ℕ, ◌≡◌, ◌==◌, false, List, [], ◌∷◌, length, map, filter, slice_get, Option, Some}
+use Rattle.std.specs.Prelude.{ℕ, ◌≡◌, ◌+◌, ◌≤◌, ◌^◌, ◌==◌, Bool, true, false, List, [], ◌∷◌, ◌++◌, length, map, filter, slice_get, Option, Some, None}
+use Rattle.std.specs.List.{All, list_any}
+use Rattle.of10_model.specs.Header.{Header}
+use Rattle.of10_flow.specs.declared.packet_in.PacketIn.{PacketIn}
 use Rattle.of10_model.specs.declared.pattern.Pattern.{Pattern}
 use Rattle.of10_flow.specs.declared.flow_removed.FlowRemoved.{FlowRemoved}
 use Rattle.flowspace.specs.Policies.{PolicyView}
 use Rattle.xid_map.specs.declared.asked.Issued.{Issued}
 use Rattle.flow_book.specs.declared.state.SliceState.{SliceState}
-use Rattle.slice_words.specs.Items.{Settings, Sight, Item, Removed, Fault}
-use Rattle.slice_words.specs.Alone.{with_items}
+use Rattle.slice_words.specs.Items.{Settings, Sight, Share, Writer, Item, Lost, Removed, Fault, is_buffered, buffered_count}
+use Rattle.slice_words.specs.Buffers.{HeldPacket, held_packets}
+use Rattle.slice_words.specs.Alone.{with_items, number_of}
 use Rattle.slice_words.specs.Calls.{request_for, request_calls}
 use Rattle.slice_words.specs.Standing.{SliceStands, past_of}
 use Rattle.desk_words.specs.declared.event.Timed.{Timed}
 use Rattle.desk_words.specs.Openings.{Switch}
-use Rattle.desk_words.specs.Histories.{Side, items_of, with_shown}
+use Rattle.desk_words.specs.Histories.{Side, header_in, handed, items_of, came_with, with_shown}
 use Rattle.switch_side.specs.declared.change.Change.{Change}
 use Rattle.switch_side.specs.declared.change.Change.TheVariants as changes
 
--- what a slice sees with items that come one after another, of which none is a buffered packet
-abbrev pub seen_with : List Item → Sight → Sight
-seen_with items sight = record { view = with_items items sight.view; came = sight.came }
+-- what a slice sees with items that come one after another with an event, where a packet that is given by number has this number
+abbrev pub seen_with : Option ℕ → List Item → Sight → Sight
+seen_with number items sight = record { view = with_items items sight.view; came = came_with number items sight.came }
 
 -- what a slice sees after an event
 abbrev pub side_after : PolicyView → ℕ → Switch → Side → Timed → Side
-side_after p slot switch side timed = with_shown timed (items_of p slot switch side timed) side
+side_after p slot switch side timed = with_shown switch.phase timed (items_of p slot switch side timed) side
 
 -- ---- one change
 
@@ -42,10 +46,45 @@ pub record IsFailure (s : Settings) (sight : Sight) (items : List Item) (number 
   pub found : request_for s x (request_calls s (past_of s sight.view)) ≡ Some request
   pub same_number : request.number ≡ number
 
--- the change that items ask for after what a slice sees
-abbrev pub IsChange : Settings → Sight → List Item → Change → Type 0
-IsChange s sight items (changes.Released pattern priority) = IsRemoval items pattern priority
-IsChange s sight items (changes.Failed number pair) = IsFailure s sight items number pair
+-- the items of a packet-in: the packet that is lost, if one is, and then a packet with each of these shares
+abbrev pub packet_shown : Option ℕ → List Share → PacketIn → List Item
+packet_shown lost shares packet = (elim lost [ None ↦ [] | Some k ↦ Lost k ∷ [] ]) ++ map (λ share. handed share packet) shares
+
+-- a packet is the one that is lost
+abbrev pub is_lost : Option ℕ → HeldPacket → Bool
+is_lost None packet = false
+is_lost (Some k) packet = packet.ordinal == k
+
+-- of the packets that a slice holds the lost one, and no other, came with this number
+abbrev pub IsLost : Settings → Sight → ℕ → Option ℕ → Type 0
+IsLost s sight physical lost = All (λ packet. (number_of sight.came packet.ordinal == physical) ≡ is_lost lost packet) (held_packets (past_of s sight.view))
+
+-- the switch keeps another packet under a number, and the slice may not use that one by number
+pub record IsLoss (s : Settings) (sight : Sight) (items : List Item) (physical : ℕ) : Type 0 where
+  pub lost : Option ℕ
+  pub shares : List Share
+  pub packet : PacketIn
+  pub shown : items ≡ packet_shown lost shares packet
+  pub only : IsLost s sight physical lost
+  pub none_given : list_any is_buffered shares ≡ false
+
+-- the switch keeps another packet under a number, and the slice may write that one by number; each of the slice's buffered packets so far came with one
+pub record IsGift (s : Settings) (sight : Sight) (items : List Item) (physical : ℕ) (header : Header) : Type 0 where
+  pub lost : Option ℕ
+  pub shares : List Share
+  pub packet : PacketIn
+  pub shown : items ≡ packet_shown lost (Writer true ∷ shares) packet
+  pub only : IsLost s sight physical lost
+  pub same_header : header_in packet ≡ header
+  pub none_given : list_any is_buffered shares ≡ false
+  pub counted : length sight.came ≡ buffered_count sight.view
+
+-- the change that items of an event ask for after what a slice sees, where the event hands up a packet with this number, or without one
+abbrev pub IsChange : Settings → Option ℕ → Sight → List Item → Change → Type 0
+IsChange s number sight items (changes.Released pattern priority) = (number ≡ None) × IsRemoval items pattern priority
+IsChange s number sight items (changes.Failed request pair) = (number ≡ None) × IsFailure s sight items request pair
+IsChange s number sight items (changes.Lost physical) = (number ≡ Some physical) × IsLoss s sight items physical
+IsChange s number sight items (changes.Given physical header) = (number ≡ Some physical) × IsGift s sight items physical header
 
 -- ---- the changes of one slice
 
@@ -54,19 +93,24 @@ abbrev pub changes_for : ℕ → List (ℕ × Change) → List Change
 changes_for slot listed = map (λ c. c.1) (filter (λ c. c.0 == slot) listed)
 
 -- what items change after what a slice sees: nothing, so that each state that belonged to it before does so after; or this
-abbrev pub SlotChanges : Settings → Sight → List Item → List Change → Type 0
-SlotChanges s sight items [] = (state : SliceState) → SliceStands s sight state → SliceStands s (seen_with items sight) state
-SlotChanges s sight items (change ∷ []) = IsChange s sight items change
-SlotChanges s sight items (change ∷ other ∷ others) = ⊥
+abbrev pub SlotChanges : Settings → Option ℕ → Sight → List Item → List Change → Type 0
+SlotChanges s number sight items [] = (state : SliceState) → SliceStands s sight state → SliceStands s (seen_with number items sight) state
+SlotChanges s number sight items (change ∷ []) = IsChange s number sight items change
+SlotChanges s number sight items (change ∷ other ∷ others) = ⊥
 
 -- ---- changes that are made
 
 -- a change is made in a state: one that belonged to what a slice saw before belongs to what it sees after
 abbrev pub IsMade : Change → SliceState → SliceState → Type 0
-IsMade change old new = (s : Settings) (sight : Sight) (items : List Item) → SliceStands s sight old → IsChange s sight items change → SliceStands s (seen_with items sight) new
+IsMade change old new =
+    (s : Settings) (number : Option ℕ) (sight : Sight) (items : List Item) → SliceStands s sight old → IsChange s number sight items change → SliceStands s (seen_with number items sight) new
 
 -- it is made in the state at a slot, if there is one, and in no other
 pub record IsMadeAt (slot : ℕ) (change : Change) (old new : List SliceState) : Type 0 where
   pub count : length new ≡ length old
   pub own : (before after : SliceState) → slice_get old slot ≡ Some before → slice_get new slot ≡ Some after → IsMade change before after
   pub others : (other : ℕ) → (slot == other) ≡ false → slice_get new other ≡ slice_get old other
+
+-- a slice's state has room for so many packets more. A desk sees fewer events
+abbrev pub HasRoom : ℕ → SliceState → Type 0
+HasRoom count state = state.buffers.given + count ≤ 2 ^ 62

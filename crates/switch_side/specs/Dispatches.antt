@@ -1,5 +1,5 @@
 -- What follows from one message of a switch that has told what it is, for all slices at once (this proxy's own rule).
-use Rattle.std.specs.Prelude.{ℕ, ◌≡◌, ◌+◌, List, [], ◌∷◌, ◌++◌, map, slice_get, Some}
+use Rattle.std.specs.Prelude.{ℕ, ◌≡◌, ◌+◌, true, List, [], ◌∷◌, ◌++◌, map, slice_get, Some}
 use Rattle.of10_ctl.specs.Frames.{is_bad}
 use Rattle.flowspace.specs.declared.slices.Slice.{Slice}
 use Rattle.flowspace.specs.Policies.{PolicyView, SwitchView}
@@ -9,7 +9,8 @@ use Rattle.desk_words.specs.declared.event.Event.TheVariants.{SwitchMsg}
 use Rattle.desk_words.specs.declared.event.Timed.{Timed}
 use Rattle.desk_words.specs.declared.phase.Phase.TheVariants.{Opened}
 use Rattle.desk_words.specs.Openings.{status_kept, rules_of, Switch}
-use Rattle.desk_words.specs.Histories.{settings_at, items_of, Side}
+use Rattle.desk_words.specs.Histories.{is_slot, settings_at, items_of, number_told, Side}
+use Rattle.desk_words.specs.Numbers.{AreNumbered}
 use Rattle.desk_words.specs.Sent.{sent_with, echo_for}
 use Rattle.switch_side.specs.declared.change.Change.{Change}
 use Rattle.switch_side.specs.declared.dispatch.Dispatch.{Dispatch}
@@ -28,6 +29,10 @@ pub record Surrounds (p : PolicyView) (switch : Switch) (policy : SwitchView) (p
 abbrev pub AllStand : PolicyView → Switch → (ℕ → Side) → List SliceState → Type 0
 AllStand p switch sides states =
     (slot : ℕ) (state : SliceState) → slice_get states slot ≡ Some state → SliceStands (settings_at p slot switch.features) (sides slot).sight state
+
+-- the switch's numbers of each slice's packets are those that the slice sees
+abbrev pub AllNumbered : PolicyView → Switch → (ℕ → Side) → Type 0
+AllNumbered p switch sides = (slot : ℕ) → is_slot p slot ≡ true → AreNumbered (settings_at p slot switch.features) (sides slot)
 
 -- ---- what follows
 
@@ -48,7 +53,7 @@ told_at moment message = record { event = SwitchMsg message; moment = moment }
 -- of these changes each slice's are what the message changes in its state
 abbrev pub AreChanges : PolicyView → Switch → (ℕ → Side) → ℕ → List ℕ → List (ℕ × Change) → Type 0
 AreChanges p switch sides moment message listed =
-    (slot : ℕ) → SlotChanges (settings_at p slot switch.features) (sides slot).sight (items_of p slot switch (sides slot) (told_at moment message)) (changes_for slot listed)
+    (slot : ℕ) → SlotChanges (settings_at p slot switch.features) (number_told switch.phase (SwitchMsg message)) (sides slot).sight (items_of p slot switch (sides slot) (told_at moment message)) (changes_for slot listed)
 
 -- what follows from a message of the switch: what each slice is sent, what the switch is sent, what changes in the slices' states, the change of a port, and whether the switch's connection ends
 pub record IsDispatch (p : PolicyView) (switch : Switch) (sides : ℕ → Side) (moment : ℕ) (message : List ℕ) (d : Dispatch) : Type 0 where

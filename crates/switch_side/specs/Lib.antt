@@ -1,3 +1,4 @@
+pub mod Audiences
 pub mod Changes
 pub mod Dispatches
 pub mod Carrying

@@ -1,4 +1,4 @@
-use of10_match::Match;
+use of10_match::{Header12, Match};
 
 /// What a message of a switch changes in the state of a slice.
 #[derive(Clone, Copy, Debug, PartialEq, Eq)]
@@ -13,5 +13,14 @@ pub enum Change {
     Failed {
         number: u64,
         pair: Option<(Match, u16)>,
+    },
+    /// The switch keeps another packet under this number: what the slice held under it is lost.
+    Lost {
+        physical: u32,
+    },
+    /// The same, and the slice is given the packet that the switch keeps now.
+    Given {
+        physical: u32,
+        header: Header12,
     },
 }

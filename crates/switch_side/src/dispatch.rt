@@ -1,5 +1,5 @@
 ghost use Rattle.std.specs.Prelude.{◌≡◌, [], ◌∷◌, true, Some, None, IfOk, option_to_list};
-ghost use Rattle.switch_side.specs.Carrying.{carried, telling, turning};
+ghost use Rattle.switch_side.specs.Carrying.{carried, telling, handing, turning};
 
 use crate::change::Change;
 use of10_ctl::Frame;
@@ -36,6 +36,20 @@ impl Dispatch {
             changes: Vec::new(alloc),
             port,
             close: false,
+        }
+    }
+
+    /// Messages for slices, and what changes in their states.
+    pub(crate) fn handing(
+        alloc: Global,
+        to_slices: Vec<(u8, Frame)>,
+        changes: Vec<(u8, Change)>,
+    ) -> Dispatch
+        ensures { carried result ≡ handing to_slices.items changes.items }
+    {
+        Dispatch {
+            changes,
+            ..Dispatch::telling(alloc, to_slices, None)
         }
     }
 

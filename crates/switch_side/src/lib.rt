@@ -4,6 +4,7 @@
 
 mod answer;
 mod applying;
+mod audience;
 mod change;
 mod dispatch;
 mod errors;
@@ -15,4 +16,3 @@ pub use answer::react;
 pub use applying::{apply, apply_all, reserve};
 pub use change::Change;
 pub use dispatch::Dispatch;
-pub use packets::is_plain;

@@ -1,63 +1,79 @@
 //! Packets that the switch hands up (OpenFlow 1.0.0, section 5.4.1).
 
-ghost use Rattle.std.specs.Prelude.{◌≡◌, ◌+◌, ◌≤◌, ◌++◌, [], ◌∷◌, length, IfOk, OnOk, None};
-ghost use Rattle.of10_model.specs.Normal.{is_value, bit};
+ghost use Rattle.std.specs.Prelude.{◌≡◌, ◌+◌, ◌≤◌, ◌++◌, ◌∷◌, [], length, IfOk, OnOk};
 ghost use Rattle.of10_ctl.specs.declared.kind.TheConstants.{PACKET_IN};
 ghost use Rattle.of10_ctl.specs.Kinds.{IsOf};
 ghost use Rattle.of10_flow.specs.PacketIns.{packet_of, spell_packet_in};
-ghost use Rattle.flowspace.specs.Order.{writer_of, readers_of};
-ghost use Rattle.desk_words.specs.Histories.{is_plain};
+ghost use Rattle.desk_words.specs.Histories.{header_in};
 ghost use Rattle.switch_side.specs.Dispatches.{addressed};
-ghost use Rattle.switch_side.specs.Carrying.{carried, telling, packet_for, said_from, packet_told, packet_in_told};
+ghost use Rattle.switch_side.specs.Carrying.{carried, once, said_from, unnumbered, unmarked, wanted, written, named_told, packet_for, change_for, changes_from, changes_with, packet_told, packet_changes, packet_in_told, packet_in_changes, handing};
 
+use crate::audience::Audience;
+use crate::change::Change;
 use crate::dispatch::Dispatch;
 use flow_book::SliceState;
 use flowspace::{SwitchPolicy, has_slot};
-use frame_header::{header_of, probe_slot};
+use frame_header::header_of;
 use of10_ctl::Frame;
 use of10_flow::PacketInView;
 use of10_flow::protocol::NO_BUFFER;
 use of10_match::Header12;
+use rule_index::RuleIndex;
 use std::alloc::{AllocError, Global};
 
-/// Who is handed the packets of one header.
-#[derive(Drop)]
-struct Audience {
-    writer: Option<u8>,
-    /// Bit k stands for the slot k.
-    readers: u32,
+/// Bytes of a probe's mark.
+const MARK: u16 = 8;
+
+/// The packet as readers are told it: whole, without a number.
+fn unnumbered<'a>(packet: &PacketInView<'a>) -> PacketInView<'a>
+    ensures value { packet_of result ≡ unnumbered (packet_of packet.now) }
+    ensures size { length result.payload.now ≡ length packet.now.payload.now }
+{
+    PacketInView {
+        xid: 0,
+        buffer: NO_BUFFER,
+        ..*packet
+    }
 }
 
-impl Audience {
-    /// The slices that the first rule of the header names.
-    fn of(policy: &SwitchPolicy, header: &Header12) -> Audience
-        ensures writer { result.writer ≡ writer_of policy.now.rules header.now }
-        ensures readers { result.readers ≡ readers_of policy.now.rules header.now }
-    {
-        match policy.first_rule(header) {
-            None => Audience {
-                writer: None,
-                readers: 0,
-            },
-            Some(rule) => Audience {
-                writer: rule.writer,
-                readers: rule.readers,
-            },
-        }
+/// A probe as its slice is told it: without its mark.
+fn unmarked<'a>(packet: &PacketInView<'a>) -> PacketInView<'a>
+    ensures value { packet_of result ≡ unmarked (packet_of packet.now) }
+    ensures size { length result.payload.now ≤ length packet.now.payload.now }
+{
+    let end = packet.payload.len().saturating_sub(usize::from(MARK));
+    PacketInView {
+        total_len: packet.total_len.saturating_sub(MARK),
+        payload: &packet.payload[..end],
+        ..unnumbered(packet)
     }
+}
 
-    /// The slice at a slot writes such packets.
-    fn has_writer(&self, slot: u8) -> bool
-        ensures { result ≡ is_value slot self.now.writer }
-    {
-        self.writer == Some(slot)
+/// What the slice wants of a packet that is kept for it.
+fn wanted<'a>(state: &SliceState, packet: &PacketInView<'a>) -> &'a [u8]
+    ensures value { result.now ≡ wanted state.now.miss_send_len (packet_of packet.now) }
+    ensures size { length result.now ≤ length packet.now.payload.now }
+{
+    if packet.reason != 0 {
+        return packet.payload;
     }
+    let end = usize::from(state.miss_send_len).min(packet.payload.len());
+    &packet.payload[..end]
+}
 
-    /// The slice at a slot reads such packets.
-    fn has_reader(&self, slot: u8) -> bool
-        ensures { result ≡ bit self.now.readers slot }
-    {
-        has_slot(self.readers, slot)
+/// The packet as its writer is told it: with a number of the writer's own, where the switch keeps it.
+fn written<'a>(state: &SliceState, packet: &PacketInView<'a>) -> PacketInView<'a>
+    ensures value { packet_of result ≡ written state.now (packet_of packet.now) }
+    ensures size { length result.payload.now ≤ length packet.now.payload.now }
+{
+    if packet.buffer == NO_BUFFER {
+        return unnumbered(packet);
+    }
+    PacketInView {
+        xid: 0,
+        buffer: state.buffers.next(),
+        payload: wanted(state, packet),
+        ..*packet
     }
 }
 
@@ -75,6 +91,45 @@ fn put(
     Ok(())
 }
 
+/// The packet for a slice that is up and that a rule names: as its writer, and as a reader.
+fn put_named(
+    alloc: Global,
+    to_slices: &mut Vec<(u8, Frame)>,
+    slot: u8,
+    state: &SliceState,
+    packet: &PacketInView<'_>,
+    writes: bool,
+    reads: bool,
+) -> Result<(), AllocError>
+    requires { 18 + length packet.now.payload.now ≤ 65535 }
+    ensures { OnOk result (to_slices.new.items ≡ to_slices.old.items ++ addressed slot (named_told writes reads state.now (packet_of packet.now))) }
+{
+    if writes {
+        put(alloc, to_slices, slot, &written(state, packet))?;
+    }
+    if reads {
+        put(alloc, to_slices, slot, &unnumbered(packet))?;
+    }
+    Ok(())
+}
+
+/// A probe for a slice that is up, if it is the slice's own.
+fn put_probe(
+    alloc: Global,
+    to_slices: &mut Vec<(u8, Frame)>,
+    slot: u8,
+    packet: &PacketInView<'_>,
+    is_own: bool,
+) -> Result<(), AllocError>
+    requires { 18 + length packet.now.payload.now ≤ 65535 }
+    ensures { OnOk result (to_slices.new.items ≡ to_slices.old.items ++ addressed slot (once is_own (spell_packet_in (unmarked (packet_of packet.now))))) }
+{
+    if is_own {
+        put(alloc, to_slices, slot, &unmarked(packet))?;
+    }
+    Ok(())
+}
+
 /// The packet for the slice at a slot, if it is up.
 fn put_for_slice(
     alloc: Global,
@@ -82,32 +137,37 @@ fn put_for_slice(
     slot: u8,
     state: &SliceState,
     packet: &PacketInView<'_>,
-    audience: &Audience,
+    audience: Audience,
 ) -> Result<(), AllocError>
     requires { 18 + length packet.now.payload.now ≤ 65535 }
-    ensures value { OnOk result (to_slices.new.items ≡ to_slices.old.items ++ addressed slot (packet_for audience.now.writer audience.now.readers (spell_packet_in (packet_of packet.now)) slot state.now.up)) }
+    ensures { OnOk result (to_slices.new.items ≡ to_slices.old.items ++ addressed slot (packet_for audience (packet_of packet.now) slot state.now)) }
 {
     if !state.up {
         return Ok(());
     }
-    if audience.has_writer(slot) {
-        put(alloc, to_slices, slot, packet)?;
+    match audience {
+        Audience::Prober(prober) => put_probe(alloc, to_slices, slot, packet, prober == slot),
+        Audience::Named { writer, readers } => put_named(
+            alloc,
+            to_slices,
+            slot,
+            state,
+            packet,
+            writer == Some(slot),
+            has_slot(readers, slot),
+        ),
     }
-    if audience.has_reader(slot) {
-        put(alloc, to_slices, slot, packet)?;
-    }
-    Ok(())
 }
 
 fn put_for_all(
     alloc: Global,
     states: &[SliceState],
     packet: &PacketInView<'_>,
-    audience: &Audience,
+    audience: Audience,
 ) -> Result<Vec<(u8, Frame)>, AllocError>
     requires few { length states.now ≤ 32 }
     requires fits { 18 + length packet.now.payload.now ≤ 65535 }
-    ensures value { IfOk result (λ v. v.items ≡ said_from (packet_for audience.now.writer audience.now.readers (spell_packet_in (packet_of packet.now))) 0 states.now) }
+    ensures { IfOk result (λ v. v.items ≡ said_from (packet_for audience (packet_of packet.now)) 0 states.now) }
 {
     let mut to_slices = Vec::new(alloc);
     for (place, state) in states.iter().enumerate() {
@@ -116,54 +176,93 @@ fn put_for_all(
     Ok(to_slices)
 }
 
-/// Whether a packet is neither buffered nor a probe. Of any other packet nothing follows.
-pub fn is_plain(packet: &PacketInView<'_>) -> bool
-    ensures { result ≡ is_plain (packet_of packet.now) }
+/// What changes for the slice at a slot where the switch keeps the packet under a number: the writer that is
+/// up is given it, and to all others what they held under the number is lost.
+fn change_for(slot: u8, up: bool, physical: u32, header: &Header12, audience: Audience) -> Change
+    ensures { result ≡ change_for audience physical header.now slot up }
 {
-    packet.buffer == NO_BUFFER && probe_slot(packet.payload).is_none()
+    if up && audience.has_writer(slot) {
+        Change::Given {
+            physical,
+            header: *header,
+        }
+    } else {
+        Change::Lost { physical }
+    }
 }
 
-/// A packet for the slices that are up of those that the first rule of its header names. One that is
-/// buffered or a probe is for nobody.
+/// What changes for all slices where the switch keeps the packet under a number.
+fn changes_for_all(
+    alloc: Global,
+    states: &[SliceState],
+    physical: u32,
+    header: &Header12,
+    audience: Audience,
+) -> Result<Vec<(u8, Change)>, AllocError>
+    requires { length states.now ≤ 32 }
+    ensures { IfOk result (λ v. v.items ≡ changes_from (change_for audience physical header.now) 0 states.now) }
+{
+    let mut changes = Vec::with_capacity(alloc, states.len())?;
+    for (place, state) in states.iter().enumerate() {
+        let slot = place as u8;
+        changes.push((slot, change_for(slot, state.up, physical, header, audience)))?;
+    }
+    Ok(changes)
+}
+
+/// What changes with a packet: nothing where the switch doesn't keep it.
+fn changes(
+    alloc: Global,
+    states: &[SliceState],
+    packet: &PacketInView<'_>,
+    header: &Header12,
+    audience: Audience,
+) -> Result<Vec<(u8, Change)>, AllocError>
+    requires few { length states.now ≤ 32 }
+    requires header { header.now ≡ header_in (packet_of packet.now) }
+    ensures { IfOk result (λ v. v.items ≡ changes_with audience (packet_of packet.now) states.now) }
+{
+    if packet.buffer == NO_BUFFER {
+        return Ok(Vec::new(alloc));
+    }
+    changes_for_all(alloc, states, packet.buffer, header, audience)
+}
+
+/// What follows from a packet.
 fn handed(
     alloc: Global,
     policy: &SwitchPolicy,
+    index: &RuleIndex,
     states: &[SliceState],
     packet: &PacketInView<'_>,
-) -> Result<Vec<(u8, Frame)>, AllocError>
+) -> Result<Dispatch, AllocError>
     requires few { length states.now ≤ 32 }
     requires fits { 18 + length packet.now.payload.now ≤ 65535 }
-    ensures value { IfOk result (λ v. v.items ≡ packet_told policy.now.rules states.now (packet_of packet.now)) }
+    requires index { index.now ≡ policy.now.rules }
+    ensures { IfOk result (λ d. carried d ≡ handing (packet_told policy.now.rules states.now (packet_of packet.now)) (packet_changes policy.now.rules states.now (packet_of packet.now))) }
 {
-    if !is_plain(packet) {
-        return Ok(Vec::new(alloc));
-    }
     let header = header_of(packet.in_port, packet.payload);
-    let audience = Audience::of(policy, &header);
-    let told = PacketInView {
-        xid: 0,
-        buffer: NO_BUFFER,
-        ..*packet
-    };
-    put_for_all(alloc, states, &told, &audience)
+    let audience = Audience::of(policy, index, states.len(), packet, &header);
+    let to_slices = put_for_all(alloc, states, packet, audience)?;
+    let changes = changes(alloc, states, packet, &header, audience)?;
+    Ok(Dispatch::handing(alloc, to_slices, changes))
 }
 
 /// What follows from a PACKET_IN; from one that isn't well formed nothing.
 pub(crate) fn packet_in(
     alloc: Global,
     policy: &SwitchPolicy,
+    index: &RuleIndex,
     states: &[SliceState],
     frame: &Frame,
 ) -> Result<Dispatch, AllocError>
     requires kind { IsOf PACKET_IN frame.now }
     requires few { length states.now ≤ 32 }
-    ensures value { IfOk result (λ d. carried d ≡ telling (packet_in_told policy.now.rules states.now frame.now) None) }
+    requires index { index.now ≡ policy.now.rules }
+    ensures { IfOk result (λ d. carried d ≡ handing (packet_in_told policy.now.rules states.now frame.now) (packet_in_changes policy.now.rules states.now frame.now)) }
 {
     match PacketInView::decode(frame) {
-        Ok(packet) => {
-            let to_slices = handed(alloc, policy, states, &packet)?;
-            Ok(Dispatch::telling(alloc, to_slices, None))
-        }
+        Ok(packet) => handed(alloc, policy, index, states, &packet),
         Err(_) => Ok(Dispatch::nothing(alloc)),
     }
 }

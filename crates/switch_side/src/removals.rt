@@ -13,9 +13,9 @@ ghost use Rattle.switch_side.specs.Carrying.{carried, Called, AllCalled, while_u
 use crate::change::Change;
 use crate::dispatch::Dispatch;
 use flow_book::{Booked, SliceState};
-use flowspace::SwitchPolicy;
 use of10_ctl::Frame;
 use of10_flow::FlowRemoved;
+use rule_index::RuleIndex;
 use std::alloc::{AllocError, Global};
 
 /// The message to a slice that is up, where it booked the entry's pair and asked to be told.
@@ -82,18 +82,18 @@ fn removed(frame: &Frame) -> Option<FlowRemoved>
 /// What follows from a FLOW_REMOVED; from one that isn't well formed, or whose match nobody owns, nothing.
 pub(crate) fn flow_removed(
     alloc: Global,
-    policy: &SwitchPolicy,
+    index: &RuleIndex,
     states: &[SliceState],
     frame: &Frame,
 ) -> Result<Dispatch, AllocError>
     requires { IsOf FLOW_REMOVED frame.now }
-    ensures value { (called : ℕ → Called) → AllCalled called states.now → IfOk result (λ d. carried d ≡ turning (removed_turn called policy.now.rules states.now (well_formed (read_flow_removed frame.now)))) }
+    ensures value { (called : ℕ → Called) → AllCalled called states.now → IfOk result (λ d. carried d ≡ turning (removed_turn called index.now states.now (well_formed (read_flow_removed frame.now)))) }
     ensures normal { IfSome (well_formed (read_flow_removed frame.now)) (λ entry. IsNormal entry.pattern) }
 {
     let Some(entry) = removed(frame) else {
         return Ok(Dispatch::nothing(alloc));
     };
-    match policy.owner_of(&entry.pattern) {
+    match index.owner_of(&entry.pattern) {
         None => Ok(Dispatch::nothing(alloc)),
         Some(slot) => owned(alloc, states, slot, &entry),
     }

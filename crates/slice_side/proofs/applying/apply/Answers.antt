@@ -1,7 +1,7 @@
 use Rattle.std.proofs.Common.{subst}
 use Rattle.slice_side.specs.declared.change.Change.{Change}
 use Rattle.slice_side.specs.Reactions.{IsChange}
-use Rattle.slice_side.proofs.Changing.{heard, set, rated}
+use Rattle.slice_side.proofs.Changing.{heard, set, rated, sent_out}
 use Rattle.slice_side.proofs.applying.apply.Goals as goal
 
 pub returns-in-Heard : goal.returns-in-Heard
@@ -16,3 +16,7 @@ pub returns-in-Rated : goal.returns-in-Rated
 returns-in-Rated c s sight item stands is =
     rated s sight item c.in-Rated.moment c.max-state-in-Rated.result c.args.state.now c.ask.new.self c.max-state-in-Rated.ensures
     (record { stands = c.ask.ensures.stands; rate = c.ask.ensures.rate; burst = c.ask.ensures.burst }) stands (subst (λ (k : Change). IsChange s sight item k) c.in-Rated.is is)
+
+pub returns-in-SentOut : goal.returns-in-SentOut
+returns-in-SentOut c s sight item stands is =
+    sent_out s sight item c.in-SentOut.moment c.in-SentOut.asked c.in-SentOut.used c.args.state.now c.request.new.state c.request.ensures stands (subst (λ (k : Change). IsChange s sight item k) c.in-SentOut.is is)

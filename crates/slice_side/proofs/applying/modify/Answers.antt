@@ -6,7 +6,5 @@ use Rattle.slice_side.proofs.applying.modify.Goals as goal
 
 pub returns : goal.returns
 returns c s sight message stands is =
-    modified s sight message c.max-state.result _ c.args.m.now c.args.state.now c.ask.new.self c.issue.new.self c.added.new.self c.max-state.ensures
-    (record { stands = c.ask.ensures.stands; rate = c.ask.ensures.rate; burst = c.ask.ensures.burst })
-    c.issue.ensures.stands (λ slot calls h. ap (λ p. p.0) (c.next-number.ensures.value slot calls h))
+    modified s sight message _ c.args.m.now c.args.state.now c.request.new.state c.added.new.self c.request.ensures (λ slot calls h. ap (λ p. p.0) (c.next-number.ensures.value slot calls h))
     (λ calls h. subst (λ (pieces : List Pattern). BookStands (Added c.args.m.now.command pieces c.args.m.now.priority c.args.m.now.asks c.next-number.result.0 ∷ calls) c.added.new.self) c.deref.ensures.value (c.added.ensures.stands calls h)) stands is

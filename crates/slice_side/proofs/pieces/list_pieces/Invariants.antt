@@ -6,4 +6,4 @@ use Rattle.slice_side.proofs.pieces.list_pieces.Given as goal
 
 abbrev pub invariant-loop-piece : goal.invariant-loop-piece
 invariant-loop-piece l =
-    AreListed (λ piece. permitted l.ways.policy.now.rules l.ways.slot (Piece piece) l.actions l.ways.flood.now l.ways.all.now) (take l.piece-index l.pieces) l.lists.items l.is_long
+    AreListed (λ piece. permitted l.around.policy.now.rules l.around.slot (Piece piece) l.actions l.floods.flood.items l.floods.all.items) (take l.piece-index l.pieces) l.lists.items l.is_long

@@ -10,15 +10,15 @@ use Rattle.slice_side.proofs.reacting.react.Goals as goal
 pub returns-in-Err-clause-reaction : goal.returns-in-Err-clause-reaction
 returns-in-Err-clause-reaction c s sight stands sees = IfOk-weaker c.unread.result _ _
     (λ r follows. reaction_of s sight c.args.frame.now c.args.moment r (Err c.in-Unread.found) sees.up
-    (unread_is c.in-Err.fault c.in-Unread.found (read_controller c.args.frame.now) c.in-Unread.is c.in-Err.ensures) follows) (c.unread.ensures.follows s.patterns)
+    (unread_is c.in-Err.fault c.in-Unread.found (read_controller c.args.frame.now) c.in-Unread.is c.in-Err.ensures) follows) (c.unread.ensures.follows s sight)
 
 pub returns-then-asks_switch-clause-reaction : goal.returns-then-asks_switch-clause-reaction
 returns-then-asks_switch-clause-reaction c s sight stands sees = IfOk-weaker c.question.result _ _
     (λ r follows. reaction_of s sight c.args.frame.now c.args.moment r (Ok c.in-Ok.message) sees.up c.in-Ok.ensures
-    (subst (λ (a : Answer). Follows s.patterns c.args.frame.now (Ok c.in-Ok.message) a c.args.moment r)
+    (subst (λ (a : Answer). Follows s sight c.args.frame.now (Ok c.in-Ok.message) a c.args.moment r)
     (asked_answer s sight.view (past_of s sight.view) c.args.moment c.args.frame.now c.in-Ok.message (sym c.asks_switch.ensures ∙ c.if-asks_switch.true)) follows)) (c.question.ensures.follows s sight stands sees)
 
 pub returns-clause-reaction : goal.returns-clause-reaction
 returns-clause-reaction c s sight stands sees = IfOk-weaker c.local.result _ _
     (λ r follows. reaction_of s sight c.args.frame.now c.args.moment r (Ok c.in-Ok.message) sees.up c.in-Ok.ensures follows)
-    (c.local.ensures.follows s sight.view (past_of s sight.view) s.patterns (shown s sight c.args.state.now c.args.policy.now c.args.ports.now c.args.features.now c.args.slot stands sees))
+    (c.local.ensures.follows s sight (past_of s sight.view) (shown s sight c.args.state.now c.args.policy.now c.args.ports.now c.args.features.now c.args.slot stands sees))

@@ -6,5 +6,5 @@ use Rattle.slice_side.proofs.replying.local.Goals as goal
 
 pub returns-in-SetConfig-clause-follows : goal.returns-in-SetConfig-clause-follows
 unfolding read_answer
-returns-in-SetConfig-clause-follows c s view past patterns shown =
-    subst (λ (m : FromController). IfOk c.setting.result (Follows patterns c.args.frame.now (Ok m) (read_answer s view past c.args.moment m c.args.frame.now) c.args.moment)) (sym c.in-SetConfig.is) (c.setting.ensures.follows patterns)
+returns-in-SetConfig-clause-follows c s sight past shown =
+    subst (λ (m : FromController). IfOk c.setting.result (Follows s sight c.args.frame.now (Ok m) (read_answer s sight.view past c.args.moment m c.args.frame.now) c.args.moment)) (sym c.in-SetConfig.is) (c.setting.ensures.follows s sight)

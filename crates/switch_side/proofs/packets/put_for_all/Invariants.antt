@@ -1,9 +1,8 @@
 use Rattle.std.proofs.Common.{◌≡◌, ◌++◌, drop}
-use Rattle.of10_flow.specs.PacketIns.{packet_of, spell_packet_in}
+use Rattle.of10_flow.specs.PacketIns.{packet_of}
 use Rattle.switch_side.specs.Carrying.{packet_for, said_from}
 use Rattle.switch_side.proofs.packets.put_for_all.Given as goal
 
 abbrev pub invariant-loop-place : goal.invariant-loop-place
 invariant-loop-place l =
-    l.to_slices.items ++ said_from (packet_for l.audience.writer l.audience.readers (spell_packet_in (packet_of l.packet))) l.place (drop l.place l.states)
-    ≡ said_from (packet_for l.audience.writer l.audience.readers (spell_packet_in (packet_of l.packet))) 0 l.states
+    l.to_slices.items ++ said_from (packet_for l.audience (packet_of l.packet)) l.place (drop l.place l.states) ≡ said_from (packet_for l.audience (packet_of l.packet)) 0 l.states

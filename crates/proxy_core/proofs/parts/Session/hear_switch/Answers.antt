@@ -1,14 +1,14 @@
 use Rattle.std.proofs.Common.{length, refl, sym, ap, subst, ◌∙◌}
-use Rattle.switch_side.specs.Dispatches.{AllStand}
+use Rattle.switch_side.specs.Dispatches.{Surrounds, AllStand}
 use Rattle.std.proofs.lemmas.Result.{err_from_is_err_and}
 use Rattle.proxy_core.proofs.Lists.{written_back}
 use Rattle.proxy_core.proofs.Switched.{kept_queues, carried_out, closed_bad}
 use Rattle.proxy_core.proofs.parts.Session.hear_switch.Goals as goal
 
 pub returns-then-close-clause-ok : goal.returns-then-close-clause-ok
-returns-then-close-clause-ok c moment p switch sides qs open_ s = (
-  closed_bad moment c.args.frame.now c.args.self.now p switch sides qs c.in_ok-to_slices.field-0 open_ s
-      (λ p2 switch2 sides2 moment2 around stand. c.in_ok-to_slices.ensures.dispatch p2 switch2 sides2 moment2 around (subst (AllStand p2 switch2 sides2) (sym c.deref.ensures.value) stand)) c.if-close.true,
+returns-then-close-clause-ok c moment p switch sides qs open_ numbered s = (
+  closed_bad moment c.args.frame.now c.args.self.now p switch sides qs c.in_ok-to_slices.field-0 open_ numbered s
+      (λ p2 switch2 sides2 moment2 around stand numbered2. c.in_ok-to_slices.ensures.dispatch p2 switch2 sides2 moment2 (subst (λ v. Surrounds p2 switch2 v c.args.self.now.ports) (sym c.policy-2.ensures) around) (subst (AllStand p2 switch2 sides2) (sym c.deref.ensures.value) stand) numbered2) c.if-close.true,
   refl,
   refl,
 )
@@ -24,8 +24,13 @@ returns-in_err-keep-clause-err c =
     rw p.1 (kept_queues c.args.self.now _ refl refl (written_back c.args.self.now.states.items c.reserve.new.states c.args.self.now.states.len (c.reserve.ensures.same ∙ c.deref_mut.ensures.value) (sym c.deref_mut.ensures.len ∙ ap length c.deref_mut.ensures.value)) c.in_err-keep.ensures.err c.make_rooms.ensures.same)
 
 pub returns-clause-ok : goal.returns-clause-ok
-returns-clause-ok c moment p switch sides qs open_ s =
-    carried_out moment c.args.frame.now c.args.self.now _ c.args.lane.now c.push_all.new.waiting c.make_rooms.new.queues.items p switch sides qs c.in_ok-to_slices.field-0 open_ s
-    (λ p2 switch2 sides2 moment2 around stand. c.in_ok-to_slices.ensures.dispatch p2 switch2 sides2 moment2 around (subst (AllStand p2 switch2 sides2) (sym c.deref.ensures.value) stand)) c.if-close.false
+returns-clause-ok c moment p switch sides qs open_ numbered s =
+    carried_out moment c.args.frame.now c.args.self.now _ c.args.lane.now c.push_all.new.waiting c.make_rooms.new.queues.items p switch sides qs c.in_ok-to_slices.field-0 open_ numbered s
+    (λ p2 switch2 sides2 moment2 around stand numbered2. c.in_ok-to_slices.ensures.dispatch p2 switch2 sides2 moment2 (subst (λ v. Surrounds p2 switch2 v c.args.self.now.ports) (sym c.policy-2.ensures) around) (subst (AllStand p2 switch2 sides2) (sym c.deref.ensures.value) stand) numbered2) c.if-close.false
     refl refl (c.apply_all.ensures.count ∙ ap length (written_back c.args.self.now.states.items c.reserve.new.states c.args.self.now.states.len (c.reserve.ensures.same ∙ c.deref_mut.ensures.value) (sym c.deref_mut.ensures.len ∙ ap length c.deref_mut.ensures.value)))
-    (λ all changes. c.apply_all.ensures.stands p switch sides moment c.args.frame.now open_ (subst (AllStand p switch sides) (sym (written_back c.args.self.now.states.items c.reserve.new.states c.args.self.now.states.len (c.reserve.ensures.same ∙ c.deref_mut.ensures.value) (sym c.deref_mut.ensures.len ∙ ap length c.deref_mut.ensures.value))) all) changes) c.in_ok-keep.ensures.ok c.make_rooms.ensures.same c.hand_out.ensures (λ limit q h. c.push_all.ensures limit q (c.make_room.ensures.stands limit q h))
+    (λ all changes. c.apply_all.ensures.stands p switch sides moment c.args.frame.now (subst (AllStand p switch sides) (sym (written_back c.args.self.now.states.items c.reserve.new.states c.args.self.now.states.len (c.reserve.ensures.same ∙ c.deref_mut.ensures.value) (sym c.deref_mut.ensures.len ∙ ap length c.deref_mut.ensures.value))) all) changes) c.in_ok-keep.ensures.ok c.make_rooms.ensures.same c.hand_out.ensures (λ limit q h. c.push_all.ensures limit q (c.make_room.ensures.stands limit q h))
+
+pub returns-in_err-reserve-clause-err : goal.returns-in_err-reserve-clause-err
+returns-in_err-reserve-clause-err c =
+    let p = err_from_is_err_and c.from_residual-in_err-reserve.result c.from_residual-in_err-reserve.ensures.1 in
+    rw p.1 (kept_queues c.args.self.now _ refl refl (written_back c.args.self.now.states.items c.reserve.new.states c.args.self.now.states.len (c.reserve.ensures.same ∙ c.deref_mut.ensures.value) (sym c.deref_mut.ensures.len ∙ ap length c.deref_mut.ensures.value)) refl c.make_rooms.ensures.same)

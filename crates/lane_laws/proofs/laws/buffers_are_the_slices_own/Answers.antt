@@ -1,0 +1,5 @@
+use Rattle.lane_laws.proofs.Sent.{each_buffer, held_are_written}
+use Rattle.lane_laws.proofs.laws.buffers_are_the_slices_own.Goals as goal
+
+pub returns : goal.returns
+returns c = record { messages = each_buffer; held = held_are_written }

@@ -1,5 +1,0 @@
-use Rattle.lane_laws.proofs.Sent.{each_lies}
-use Rattle.lane_laws.proofs.laws.flow_mods_lie_in_the_flowspace.Goals as goal
-
-pub returns : goal.returns
-returns c = each_lies

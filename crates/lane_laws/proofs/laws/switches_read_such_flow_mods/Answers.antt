@@ -1,5 +1,0 @@
-use Rattle.lane_laws.proofs.Whole.{each_read}
-use Rattle.lane_laws.proofs.laws.switches_read_such_flow_mods.Goals as goal
-
-pub returns : goal.returns
-returns c = each_read

@@ -1,0 +1,57 @@
+//! Laws of what the parts of a slice's state stand for, for all settings and every view. Each function's
+//! contract is the law; its body does nothing.
+
+ghost use Rattle.std.specs.Prelude.{ℕ, ◌≡◌, ◌+◌, ◌*◌, ◌%◌, ◌^◌, ◌↔◌, IsTrue, true, List, ◌∷◌, ◌++◌, Bool, All, take, reverse, slice_get, Some};
+ghost use Rattle.of10_model.specs.declared.pattern.Pattern.{Pattern};
+ghost use Rattle.of10_model.specs.Normal.{IsNormal};
+ghost use Rattle.of10_message.specs.Heads.{xid_of};
+ghost use Rattle.rate_bucket.specs.Rates.{Conforms, accepted};
+ghost use Rattle.xid_map.specs.declared.asked.Issued.{Issued};
+ghost use Rattle.xid_map.specs.Requests.{issued};
+ghost use Rattle.flow_book.specs.declared.booked.Booked.{Booked};
+ghost use Rattle.slice_words.specs.Messages.{Reading, asked_of, quoted};
+ghost use Rattle.slice_words.specs.Items.{Settings, Item, Msg, latest};
+ghost use Rattle.slice_words.specs.Alone.{answer_to};
+ghost use Rattle.slice_words.specs.Calls.{request_calls, questions};
+ghost use Rattle.slice_words.specs.Answers.{keeps_rate};
+ghost use Rattle.slice_words.specs.Standing.{past_of};
+ghost use Rattle.view_laws.specs.Requests.{is_request, requests_in, next_number, IsUnder, remembered_for, IsRemembered};
+ghost use Rattle.view_laws.specs.Bookings.{booking_after, IsBooked, IsLastBooked, IsFirstBooked};
+ghost use Rattle.view_laws.specs.Rates.{counted};
+
+/// As many requests were issued as messages put something for the switch; and the n-th of these, from 0 and
+/// the oldest first, is the one before which n were issued. All that a message has sent to the switch has the
+/// slot in the top byte of its transaction id, and below it the low 24 bits of that number. A request is
+/// remembered with the slice's own transaction id, and an error carries back its first 64 bytes.
+pub fn requests_are_numbered()
+    ensures count { (s : Settings) (view : List Item) → issued (request_calls s (past_of s view)) ≡ next_number s view }
+    ensures place { (s : Settings) (later : List Item) (item : Item) (earlier : List Item) → is_request s earlier item ≡ true → slice_get (reverse (requests_in s (later ++ (item ∷ earlier)))) (next_number s earlier) ≡ Some item }
+    ensures under { (s : Settings) (view : List Item) (item : Item) → All (IsUnder (s.slot * 2 ^ 24 + next_number s view % 2 ^ 24)) (answer_to s view item).to_switch }
+    ensures own { (read : Reading) (message : List ℕ) → (asked_of read message).xid ≡ xid_of message }
+    ensures first { (read : Reading) (message : List ℕ) → quoted (asked_of read message) ≡ take 64 message }
+{}
+
+/// The request that is remembered for the low 24 bits of a transaction id is the one of the last 4,096 whose
+/// number has these bits, where no item since forgets; and it has failed where an error came for it since.
+pub fn request_is_remembered_among_the_last()
+    ensures { (s : Settings) (view : List Item) (x : ℕ) (request : Issued) → (remembered_for s view x ≡ Some request) ↔ IsRemembered s view x request }
+{}
+
+/// A pair is booked exactly where the last item that books or releases it books it.
+pub fn pair_is_booked_by_the_last_item()
+    ensures { (s : Settings) (view : List Item) (pattern : Pattern) (priority : ℕ) → IsNormal pattern → IsBooked s pattern priority view ↔ ((wish : Bool) × IsLastBooked s pattern priority wish view) }
+{}
+
+/// A booked pair asks to be told of its removal as the last item asked that booked it, and it is of the
+/// request that booked it first since it was last released.
+pub fn booked_pair_is_as_its_items_say()
+    ensures asked { (s : Settings) (view : List Item) (pattern : Pattern) (priority : ℕ) (b : Booked) → IsNormal pattern → booking_after s pattern priority view ≡ Some b → IsLastBooked s pattern priority b.asked view }
+    ensures number { (s : Settings) (view : List Item) (pattern : Pattern) (priority : ℕ) (b : Booked) → IsNormal pattern → booking_after s pattern priority view ≡ Some b → IsFirstBooked s pattern priority b.number view }
+{}
+
+/// The moments that count for the rate are those of the messages that passed it, each the greatest moment up
+/// to it: one that was refused doesn't count. A message keeps the rate where its moment conforms with them.
+pub fn moments_count_where_messages_pass()
+    ensures count { (s : Settings) (view : List Item) → accepted s.rate s.burst (questions (past_of s view)) ≡ counted s view }
+    ensures keeps { (s : Settings) (view : List Item) (message : List ℕ) (moment : ℕ) → IsTrue (keeps_rate s view (past_of s view) moment) ↔ Conforms s.rate s.burst (counted s view) (latest (Msg message moment ∷ view)) }
+{}
