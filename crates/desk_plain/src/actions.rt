@@ -6,7 +6,7 @@ use crate::settings::{Settings, has_port, may_write};
 use of10_action::Action;
 use of10_model::wire::{put_u8, put_u16, put_u32, put_u48};
 use of10_port::Port;
-use of10_port::protocol::{ALL, CONTROLLER, FLOOD, IN_PORT, LOCAL, NO_FLOOD};
+use of10_port::protocol::{ALL, CONTROLLER, FLOOD, IN_PORT, LOCAL, NO_FLOOD, TABLE};
 use std::alloc::{AllocError, Global};
 
 /// A list of more actions is longer than any message.
@@ -96,7 +96,7 @@ fn rewritten(cover: &Headers, action: &Action) -> Headers {
 }
 
 /// Whether a slice may write these headers, whatever port they come in by.
-fn may_write_from_any_port(settings: &Settings<'_>, cover: &Headers) -> bool {
+pub(crate) fn may_write_from_any_port(settings: &Settings<'_>, cover: &Headers) -> bool {
     settings.writes.iter().any(|rule| {
         let rule = Headers {
             in_port: Constraint::ANY,
@@ -106,42 +106,92 @@ fn may_write_from_any_port(settings: &Settings<'_>, cover: &Headers) -> bool {
     })
 }
 
-/// What forbids an output of packets with these headers.
-fn forbidden_output(settings: &Settings<'_>, cover: &Headers, port: u16) -> Option<u16> {
-    let is_permitted = match port {
-        CONTROLLER => may_write(settings, cover),
-        IN_PORT | FLOOD | ALL => may_write_from_any_port(settings, cover),
-        _ if has_port(settings, port) => may_write_from_any_port(settings, cover),
-        _ => return Some(BAD_PORT),
-    };
-    if is_permitted {
+/// What actions are for.
+#[derive(Clone, Copy, PartialEq, Eq)]
+pub(crate) enum Purpose {
+    /// An entry of the flow table.
+    Entry,
+    /// A packet that counts as received by this port.
+    Packet { in_port: u16 },
+    /// A probe that does.
+    Probe { in_port: u16 },
+}
+
+/// Whether packets may go back to where they came from; those of a flow entry came from a port of the slice.
+fn may_go_back(settings: &Settings<'_>, purpose: Purpose) -> bool {
+    match purpose {
+        Purpose::Entry => true,
+        Purpose::Packet { in_port } | Purpose::Probe { in_port } => has_port(settings, in_port),
+    }
+}
+
+/// Whether an output may name a port, whatever goes there.
+fn may_go_to(settings: &Settings<'_>, purpose: Purpose, port: u16) -> bool {
+    match port {
+        FLOOD | ALL => true,
+        CONTROLLER => !matches!(purpose, Purpose::Probe { .. }),
+        TABLE => matches!(purpose, Purpose::Packet { .. }),
+        IN_PORT => may_go_back(settings, purpose),
+        _ => has_port(settings, port),
+    }
+}
+
+/// Whether packets with these headers may go to a port: to the controller and through the flow table they go with
+/// the port that they came in by.
+fn may_be_sent(settings: &Settings<'_>, cover: &Headers, port: u16) -> bool {
+    match port {
+        CONTROLLER | TABLE => may_write(settings, cover),
+        _ => may_write_from_any_port(settings, cover),
+    }
+}
+
+/// What forbids an output of packets with these headers. What a probe looks like doesn't matter.
+fn forbidden_output(
+    settings: &Settings<'_>,
+    purpose: Purpose,
+    cover: &Headers,
+    port: u16,
+) -> Option<u16> {
+    if !may_go_to(settings, purpose, port) {
+        return Some(BAD_PORT);
+    }
+    if matches!(purpose, Purpose::Probe { .. }) || may_be_sent(settings, cover, port) {
         None
     } else {
         Some(NOT_PERMITTED)
     }
 }
 
-/// What forbids an action of a flow-mod where packets have these headers.
-fn forbidden(settings: &Settings<'_>, cover: &Headers, action: &Action) -> Option<u16> {
+/// What forbids an action where packets have these headers. A probe can't be rewritten.
+fn forbidden(
+    settings: &Settings<'_>,
+    purpose: Purpose,
+    cover: &Headers,
+    action: &Action,
+) -> Option<u16> {
     match action {
         Action::SetVlanVid(vlan) if *vlan > 4095 => Some(BAD_ARGUMENT),
         Action::SetVlanPcp(priority) if *priority > 7 => Some(BAD_ARGUMENT),
-        Action::Output { port, .. } => forbidden_output(settings, cover, *port),
-        Action::Enqueue { port, .. } if matches!(*port, CONTROLLER | FLOOD | ALL) => Some(BAD_PORT),
-        Action::Enqueue { port, .. } => forbidden_output(settings, cover, *port),
+        Action::Output { port, .. } => forbidden_output(settings, purpose, cover, *port),
+        Action::Enqueue { port, .. } if matches!(*port, CONTROLLER | FLOOD | ALL | TABLE) => {
+            Some(BAD_PORT)
+        }
+        Action::Enqueue { port, .. } => forbidden_output(settings, purpose, cover, *port),
+        _ if matches!(purpose, Purpose::Probe { .. }) => Some(NOT_PERMITTED),
         _ => None,
     }
 }
 
-/// The code of the first action that is forbidden for packets of a piece.
+/// The code of the first action that is forbidden for packets with these headers.
 pub(crate) fn first_forbidden(
     settings: &Settings<'_>,
-    piece: &Headers,
+    purpose: Purpose,
+    headers: &Headers,
     actions: &[Action],
 ) -> Option<u16> {
-    let mut cover = *piece;
+    let mut cover = *headers;
     for action in actions {
-        if let Some(code) = forbidden(settings, &cover, action) {
+        if let Some(code) = forbidden(settings, purpose, &cover, action) {
             return Some(code);
         }
         cover = rewritten(&cover, action);

@@ -1,23 +1,24 @@
 //! What follows for a slice from each thing that it sees.
 
-use crate::answer::{Answer, nothing, told};
+use crate::answer::{Answer, Refusal, nothing, told};
 use crate::book::{Pair, asks, first_booking, is_booked};
 use crate::events::is_dismissing;
 use crate::flow_mods::flow_mod_answer;
 use crate::headers::headers_of;
+use crate::packet_outs::packet_out_answer;
+use crate::packets::packet_told;
 use crate::rate::conforms;
 use crate::requests::{has_failed, message_at, remembered};
 use crate::settings::Settings;
 use crate::view::{Fault, Item, Seen, is_up, known_ports, miss_send_len, opened_in};
-use of10_action::{Bytes, DecodeFault, WireFault, code};
+use of10_action::{DecodeFault, WireFault, code};
 use of10_ctl::kind::{
     BARRIER_REQUEST, ECHO_REPLY, ECHO_REQUEST, ERROR, FEATURES_REQUEST, FLOW_MOD, GET_CONFIG_REPLY,
     GET_CONFIG_REQUEST, HELLO, PACKET_OUT, PORT_MOD, QUEUE_GET_CONFIG_REQUEST, SET_CONFIG,
     STATS_REQUEST, VENDOR,
 };
 use of10_ctl::{Frame, error_frame, message};
-use of10_flow::protocol::NO_BUFFER;
-use of10_flow::{FlowMod, FlowRemoved, PacketIn, PacketOut};
+use of10_flow::{FlowMod, FlowRemoved, PacketOut};
 use of10_model::wire::{put_u16, u16_at};
 use of10_port::{Features, Port, Ports};
 use of10_stats::StatsRequest;
@@ -28,9 +29,6 @@ const MOST_BUFFERS: u32 = 256;
 
 /// The most ports that fit a FEATURES_REPLY; no more are known.
 const MOST_PORTS: usize = 1364;
-
-/// The most bytes of a packet that fit a PACKET_IN; no packet came with more.
-const MOST_PAYLOAD: usize = 65517;
 
 /// An error of a class and a code about a message (OpenFlow 1.0.0, section 5.4.4).
 fn error(
@@ -53,7 +51,7 @@ pub(crate) fn echo_reply(alloc: Global, request: &Frame) -> Result<Frame, AllocE
 /// 5.3.1).
 fn features_reply(
     alloc: Global,
-    view: &[Seen<'_>],
+    view: &[Seen],
     request: &Frame,
 ) -> Result<Option<Frame>, AllocError> {
     let Some(opened) = opened_in(view) else {
@@ -73,7 +71,7 @@ fn features_reply(
 }
 
 /// GET_CONFIG_REPLY without flags (section 5.3.2).
-fn config_reply(alloc: Global, view: &[Seen<'_>], request: &Frame) -> Result<Frame, AllocError> {
+fn config_reply(alloc: Global, view: &[Seen], request: &Frame) -> Result<Frame, AllocError> {
     let mut body = Vec::new(alloc);
     put_u16(&mut body, 0)?;
     put_u16(&mut body, miss_send_len(view))?;
@@ -119,7 +117,7 @@ fn form_fault(alloc: Global, message: &Frame) -> Result<Option<WireFault>, Alloc
 /// The answer to a well-formed message that isn't sent on.
 fn local_answer(
     alloc: Global,
-    view: &[Seen<'_>],
+    view: &[Seen],
     message: &Frame,
 ) -> Result<Option<Frame>, AllocError> {
     let bytes = message.as_slice();
@@ -160,19 +158,40 @@ fn early_answer(alloc: Global, message: &Frame) -> Result<Option<Answer>, AllocE
     }
 }
 
-/// What follows from a well-formed flow-mod.
-fn change_answer(
+/// What follows from a well-formed message that may be sent on: nothing but a refusal, or else an answer.
+fn sent_answer(
     alloc: Global,
     settings: &Settings<'_>,
-    view: &[Seen<'_>],
+    view: &[Seen],
+    message: &Frame,
+) -> Result<(Answer, Option<Refusal>), AllocError> {
+    if message.is_of(FLOW_MOD) {
+        return match FlowMod::decode(alloc, message) {
+            Ok(change) => flow_mod_answer(alloc, settings, view, &change),
+            Err(_) => Err(AllocError),
+        };
+    }
+    if message.is_of(PACKET_OUT) {
+        return match PacketOut::decode(alloc, message) {
+            Ok(packet_out) => packet_out_answer(alloc, settings, view, &packet_out),
+            Err(_) => Err(AllocError),
+        };
+    }
+    Ok((nothing(alloc), None))
+}
+
+/// What follows from a well-formed message that the rate counts.
+fn counted_answer(
+    alloc: Global,
+    settings: &Settings<'_>,
+    view: &[Seen],
     message: &Frame,
     moment: u64,
-    change: &FlowMod,
 ) -> Result<Answer, AllocError> {
     if !conforms(alloc, settings, view, moment)? {
         return Ok(told(alloc, error(alloc, message, 1, 5)?));
     }
-    let (answer, refusal) = flow_mod_answer(alloc, settings, view, change)?;
+    let (answer, refusal) = sent_answer(alloc, settings, view, message)?;
     let to_slice = match refusal {
         Some(refusal) => error(alloc, message, refusal.class, refusal.code)?,
         None => None,
@@ -188,7 +207,7 @@ fn change_answer(
 fn message_answer(
     alloc: Global,
     settings: &Settings<'_>,
-    view: &[Seen<'_>],
+    view: &[Seen],
     message: &Frame,
     moment: u64,
 ) -> Result<Answer, AllocError> {
@@ -199,11 +218,8 @@ fn message_answer(
         let (class, code) = code(fault);
         return Ok(told(alloc, error(alloc, message, class, code)?));
     }
-    if message.is_of(FLOW_MOD) {
-        return match FlowMod::decode(alloc, message) {
-            Ok(change) => change_answer(alloc, settings, view, message, moment, &change),
-            Err(_) => Err(AllocError),
-        };
+    if message.is_of(FLOW_MOD) || message.is_of(PACKET_OUT) {
+        return counted_answer(alloc, settings, view, message, moment);
     }
     Ok(told(alloc, local_answer(alloc, view, message)?))
 }
@@ -212,7 +228,7 @@ fn message_answer(
 /// and asked for that (section 5.4.2).
 fn removed_answer(
     alloc: Global,
-    view: &[Seen<'_>],
+    view: &[Seen],
     removed: &FlowRemoved,
 ) -> Result<Answer, AllocError> {
     let pair = Pair {
@@ -233,7 +249,7 @@ fn removed_answer(
 
 /// What follows from an error of the switch: the first for a request that is remembered goes to the slice,
 /// and each releases the pair that it names where that request booked it first.
-fn fault_answer(alloc: Global, view: &[Seen<'_>], fault: &Fault) -> Result<Answer, AllocError> {
+fn fault_answer(alloc: Global, view: &[Seen], fault: &Fault) -> Result<Answer, AllocError> {
     let Some(place) = remembered(alloc, view, fault.low)? else {
         return Ok(nothing(alloc));
     };
@@ -253,33 +269,22 @@ fn fault_answer(alloc: Global, view: &[Seen<'_>], fault: &Fault) -> Result<Answe
     })
 }
 
-/// The packet as it came, without a transaction and a buffer (section 5.4.1).
-fn packet_told(alloc: Global, packet: &PacketIn) -> Result<Frame, AllocError> {
-    let payload = packet.payload.as_slice();
-    let told = PacketIn {
-        xid: 0,
-        buffer: NO_BUFFER,
-        total_len: packet.total_len,
-        in_port: packet.in_port,
-        reason: packet.reason,
-        payload: Bytes::of(alloc, &payload[..payload.len().min(MOST_PAYLOAD)])?,
-    };
-    told.encode(alloc)
-}
-
 /// What follows from an item after a view. A slice that isn't up gets nothing; one that comes up is greeted.
 pub(crate) fn answer(
     alloc: Global,
     settings: &Settings<'_>,
-    view: &[Seen<'_>],
-    item: &Item<'_>,
+    view: &[Seen],
+    item: &Item,
 ) -> Result<Answer, AllocError> {
     match item {
         Item::Up => Ok(told(alloc, Some(message(alloc, HELLO, 0, &[])?))),
         Item::Removed(removed) => removed_answer(alloc, view, removed),
         _ if !is_up(view) => Ok(nothing(alloc)),
         Item::Msg { message, moment } => message_answer(alloc, settings, view, message, *moment),
-        Item::Packet(packet) => Ok(told(alloc, Some(packet_told(alloc, packet)?))),
+        Item::Packet { packet, share } => Ok(told(
+            alloc,
+            Some(packet_told(alloc, view, packet, *share)?),
+        )),
         Item::Status(status) => Ok(told(alloc, Some(status.encode(alloc, 0)?))),
         Item::Fault(fault) => fault_answer(alloc, view, fault),
         _ => Ok(nothing(alloc)),

@@ -12,11 +12,11 @@ pub(crate) struct Pair {
     pub(crate) priority: u16,
 }
 
-fn books(seen: &Seen<'_>, pair: &Pair) -> bool {
+fn books(seen: &Seen, pair: &Pair) -> bool {
     seen.answer.books.contains(pair)
 }
 
-fn releases(seen: &Seen<'_>, pair: &Pair) -> bool {
+fn releases(seen: &Seen, pair: &Pair) -> bool {
     match &seen.answer.releases {
         Some(released) => released == pair,
         None => false,
@@ -24,7 +24,7 @@ fn releases(seen: &Seen<'_>, pair: &Pair) -> bool {
 }
 
 /// The place of the item that booked a pair first since it was last released; `None` where it isn't booked.
-pub(crate) fn first_booking(view: &[Seen<'_>], pair: &Pair) -> Option<usize> {
+pub(crate) fn first_booking(view: &[Seen], pair: &Pair) -> Option<usize> {
     let mut first = None;
     for (place, seen) in view.iter().enumerate() {
         if releases(seen, pair) {
@@ -37,12 +37,12 @@ pub(crate) fn first_booking(view: &[Seen<'_>], pair: &Pair) -> Option<usize> {
 }
 
 /// Whether the last item that books or releases a pair books it.
-pub(crate) fn is_booked(view: &[Seen<'_>], pair: &Pair) -> bool {
+pub(crate) fn is_booked(view: &[Seen], pair: &Pair) -> bool {
     first_booking(view, pair).is_some()
 }
 
 /// Whether the last message that booked a pair asked to be told when it goes.
-pub(crate) fn asks(view: &[Seen<'_>], pair: &Pair) -> bool {
+pub(crate) fn asks(view: &[Seen], pair: &Pair) -> bool {
     let mut asks = false;
     for seen in view {
         if books(seen, pair) {
@@ -53,11 +53,12 @@ pub(crate) fn asks(view: &[Seen<'_>], pair: &Pair) -> bool {
 }
 
 /// All booked pairs, each once.
-pub(crate) fn booked(alloc: Global, view: &[Seen<'_>]) -> Result<Vec<Pair>, AllocError> {
+pub(crate) fn booked(alloc: Global, view: &[Seen]) -> Result<Vec<Pair>, AllocError> {
     let mut booked = Vec::new(alloc);
     for seen in view {
+        booked.retain(|pair| !releases(seen, pair));
         for pair in &seen.answer.books {
-            if is_booked(view, pair) && !booked.contains(pair) {
+            if !booked.contains(pair) {
                 booked.push(*pair)?;
             }
         }

@@ -1,20 +1,20 @@
 //! What becomes of a slice's flow-mods (OpenFlow 1.0.0, sections 4.6 and 5.3.3). Which are refused, in which
 //! order and with which errors, is this proxy's own rule.
 
-use crate::actions::{first_forbidden, sent_actions};
-use crate::answer::{Answer, nothing};
+use crate::actions::{Purpose, first_forbidden, sent_actions};
+use crate::answer::{Answer, Draft, Refusal, first_refusal, nothing};
 use crate::book::{Pair, booked, bookings, count_with, overlaps};
-use crate::headers::{Headers, headers_of, put_headers};
+use crate::buffers::{Held, held_under};
+use crate::headers::{Headers, headers_of, includes, put_headers};
 use crate::requests::next_xid;
 use crate::settings::{Settings, pieces};
 use crate::view::{Seen, known_ports};
 use of10_ctl::kind::FLOW_MOD;
-use of10_ctl::{Frame, message};
 use of10_flow::FlowMod;
 use of10_flow::protocol::{
     ADD, CHECK_OVERLAP, DELETE, DELETE_STRICT, EMERG, NO_BUFFER, SEND_FLOW_REM,
 };
-use of10_model::wire::{put_u16, put_u32, put_u64};
+use of10_model::wire::{put_u16, put_u64};
 use std::alloc::{AllocError, Global};
 
 /// The bytes of a flow-mod before its actions, the most in its actions, and the most in all messages for one.
@@ -24,25 +24,13 @@ const MOST_ACTION_BYTES: usize = 65_463;
 
 const MOST_BYTES: usize = 262_144;
 
-/// The most bytes behind the head of a message.
-const MOST_BODY: usize = 65_527;
-
-/// The class and the code of an error.
-#[derive(Clone, Copy)]
-pub(crate) struct Refusal {
-    pub(crate) class: u16,
-    pub(crate) code: u16,
-}
-
-fn first_refusal(class: u16, code: u16) -> Option<Refusal> {
-    Some(Refusal { class, code })
-}
-
 /// A flow-mod with what is looked up for it.
 #[derive(Drop)]
 struct Case<'m> {
     change: &'m FlowMod,
     pieces: Vec<Headers>,
+    /// The packet that it sends, too: one that is held under its buffer number, with a header of its match.
+    held: Option<Held>,
     /// How its actions are spelled where they are sent.
     actions: Vec<u8>,
     /// What is booked before it, and what it books.
@@ -54,10 +42,26 @@ fn is_delete(change: &FlowMod) -> bool {
     change.command == DELETE || change.command == DELETE_STRICT
 }
 
+/// Whether it names a buffer; that of a delete says nothing.
+fn names_buffer(change: &FlowMod) -> bool {
+    !is_delete(change) && change.buffer != NO_BUFFER
+}
+
+/// The packet that a flow-mod sends, too.
+fn held_for(alloc: Global, view: &[Seen], change: &FlowMod) -> Result<Option<Held>, AllocError> {
+    if !names_buffer(change) {
+        return Ok(None);
+    }
+    match held_under(alloc, view, change.buffer)? {
+        Some(held) if includes(&headers_of(&change.pattern), &held.header) => Ok(Some(held)),
+        _ => Ok(None),
+    }
+}
+
 fn case_of<'m>(
     alloc: Global,
     settings: &Settings<'_>,
-    view: &[Seen<'_>],
+    view: &[Seen],
     change: &'m FlowMod,
 ) -> Result<Case<'m>, AllocError> {
     let pieces = pieces(alloc, settings, &headers_of(&change.pattern))?;
@@ -72,6 +76,7 @@ fn case_of<'m>(
     Ok(Case {
         change,
         pieces,
+        held: held_for(alloc, view, change)?,
         actions,
         booked,
         books,
@@ -85,6 +90,7 @@ fn forbidden_code(settings: &Settings<'_>, case: &Case<'_>) -> Option<u16> {
     }
     case.pieces.iter().find_map(|piece| first_forbidden(
         settings,
+        Purpose::Entry,
         piece,
         case.change.actions.as_slice(),
     ))
@@ -111,7 +117,7 @@ fn refused(settings: &Settings<'_>, case: &Case<'_>) -> Option<Refusal> {
     if change.flags & EMERG != 0 {
         return first_refusal(3, 2);
     }
-    if !is_delete(change) && change.buffer != NO_BUFFER {
+    if names_buffer(change) && case.held.is_none() {
         return first_refusal(1, 8);
     }
     if !is_delete(change) && case.pieces.is_empty() {
@@ -132,49 +138,72 @@ fn refused(settings: &Settings<'_>, case: &Case<'_>) -> Option<Refusal> {
     None
 }
 
-/// The message for one piece.
-fn piece_message(
-    alloc: Global,
-    case: &Case<'_>,
-    xid: u32,
-    piece: &Headers,
-) -> Result<Frame, AllocError> {
+/// The fields of the message for a piece before its buffer number.
+fn fields_before(alloc: Global, change: &FlowMod, piece: &Headers) -> Result<Vec<u8>, AllocError> {
+    let mut fields = Vec::new(alloc);
+    put_headers(&mut fields, piece)?;
+    put_u64(&mut fields, change.cookie)?;
+    put_u16(&mut fields, change.command)?;
+    put_u16(&mut fields, change.idle)?;
+    put_u16(&mut fields, change.hard)?;
+    put_u16(&mut fields, change.priority)?;
+    Ok(fields)
+}
+
+/// What stands behind it in the message for any piece.
+fn fields_behind(alloc: Global, case: &Case<'_>) -> Result<Vec<u8>, AllocError> {
     let change = case.change;
-    let mut body = Vec::new(alloc);
-    put_headers(&mut body, piece)?;
-    put_u64(&mut body, change.cookie)?;
-    put_u16(&mut body, change.command)?;
-    put_u16(&mut body, change.idle)?;
-    put_u16(&mut body, change.hard)?;
-    put_u16(&mut body, change.priority)?;
-    put_u32(&mut body, NO_BUFFER)?;
-    put_u16(&mut body, change.out_port)?;
-    put_u16(&mut body, if is_delete(change) { 0 } else { SEND_FLOW_REM })?;
-    body.extend_from_slice(&case.actions)?;
-    let size = body.len().min(MOST_BODY);
-    message(alloc, FLOW_MOD, xid, &body[..size])
+    let mut fields = Vec::new(alloc);
+    put_u16(&mut fields, change.out_port)?;
+    put_u16(
+        &mut fields,
+        if is_delete(change) { 0 } else { SEND_FLOW_REM },
+    )?;
+    fields.extend_from_slice(&case.actions)?;
+    Ok(fields)
+}
+
+/// The piece whose message sends the held packet: the first that has its header.
+fn sending_piece(case: &Case<'_>, held: &Held) -> Option<usize> {
+    case.pieces
+        .iter()
+        .position(|piece| includes(piece, &held.header))
+}
+
+/// The buffered packet that the message for the piece at a place sends.
+fn sent_packet(case: &Case<'_>, place: usize) -> Option<usize> {
+    match &case.held {
+        Some(held) if sending_piece(case, held) == Some(place) => Some(held.ordinal),
+        _ => None,
+    }
 }
 
 /// A message for each piece, under one transaction.
 fn sent_on(
     alloc: Global,
     settings: &Settings<'_>,
-    view: &[Seen<'_>],
+    view: &[Seen],
     case: &Case<'_>,
-) -> Result<Vec<Frame>, AllocError> {
+) -> Result<Vec<Draft>, AllocError> {
     let xid = next_xid(settings.slot, view);
-    let mut messages = Vec::new(alloc);
-    for piece in &case.pieces {
-        messages.push(piece_message(alloc, case, xid, piece)?)?;
+    let mut drafts = Vec::new(alloc);
+    for (place, piece) in case.pieces.iter().enumerate() {
+        drafts.push(Draft {
+            kind: FLOW_MOD,
+            xid,
+            before: fields_before(alloc, case.change, piece)?,
+            behind: fields_behind(alloc, case)?,
+            buffer: sent_packet(case, place),
+        })?;
     }
-    Ok(messages)
+    Ok(drafts)
 }
 
 /// What follows from a flow-mod that the rate counted: it is refused, or sent on.
 pub(crate) fn flow_mod_answer(
     alloc: Global,
     settings: &Settings<'_>,
-    view: &[Seen<'_>],
+    view: &[Seen],
     change: &FlowMod,
 ) -> Result<(Answer, Option<Refusal>), AllocError> {
     let case = case_of(alloc, settings, view, change)?;

@@ -1,7 +1,7 @@
 //! Sets of headers, as a match describes them, and what is done with them (OpenFlow 1.0.0, sections 3.1 and
 //! 5.2.3).
 
-use of10_match::Match;
+use of10_match::{Header12, Match};
 use of10_model::wire::{put_u8, put_u16, put_u32, put_u48, u8_at, u16_at, u32_at, u48_at};
 use std::alloc::{AllocError, Global};
 
@@ -186,6 +186,24 @@ pub(crate) fn headers_of(pattern: &Match) -> Headers {
         nw_dst: address((wildcards >> 14) & 63, u32_at(&bytes, 32)),
         tp_src: field(wildcards, 1 << 6, u64::from(u16_at(&bytes, 36))),
         tp_dst: field(wildcards, 1 << 7, u64::from(u16_at(&bytes, 38))),
+    }
+}
+
+/// This header alone.
+pub(crate) fn header_alone(header: &Header12) -> Headers {
+    Headers {
+        in_port: Constraint::equal(u64::from(header.in_port)),
+        dl_src: Constraint::equal(header.dl_src),
+        dl_dst: Constraint::equal(header.dl_dst),
+        dl_vlan: Constraint::equal(u64::from(header.dl_vlan)),
+        dl_vlan_pcp: Constraint::equal(u64::from(header.dl_vlan_pcp)),
+        dl_type: Constraint::equal(u64::from(header.dl_type)),
+        nw_tos: Constraint::equal(u64::from(header.nw_tos)),
+        nw_proto: Constraint::equal(u64::from(header.nw_proto)),
+        nw_src: Constraint::address(header.nw_src),
+        nw_dst: Constraint::address(header.nw_dst),
+        tp_src: Constraint::equal(u64::from(header.tp_src)),
+        tp_dst: Constraint::equal(u64::from(header.tp_dst)),
     }
 }
 

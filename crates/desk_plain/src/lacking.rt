@@ -1,13 +1,11 @@
-//! What of a recording isn't built yet: messages but flow-mods that are sent on to the switch, what comes of
-//! them, and packets that are buffered or probes.
+//! What of a recording isn't built yet: statistics, barriers and the configuration of queues.
 
 use crate::recorded::completed;
-use frame_header::probe_slot;
-use of10_action::DecodeFault;
 use of10_ctl::Frame;
-use of10_ctl::kind::PACKET_IN;
-use of10_flow::PacketIn;
-use of10_flow::protocol::NO_BUFFER;
+use of10_ctl::kind::{
+    BARRIER_REPLY, BARRIER_REQUEST, QUEUE_GET_CONFIG_REPLY, QUEUE_GET_CONFIG_REQUEST, STATS_REPLY,
+    STATS_REQUEST,
+};
 use recording::{Item, SLICE_BYTES, SWITCH_BYTES};
 use std::alloc::{AllocError, Global};
 
@@ -18,30 +16,15 @@ pub(crate) struct Lack {
     pub(crate) at: usize,
 }
 
-/// A packet-in that is well formed, and has a buffer or a probe's mark.
-fn is_special_packet(alloc: Global, frame: &Frame) -> Result<bool, AllocError> {
-    if !frame.is_of(PACKET_IN) {
-        return Ok(false);
-    }
-    match PacketIn::decode(alloc, frame) {
-        Ok(packet) => {
-            Ok(packet.buffer != NO_BUFFER || probe_slot(packet.payload.as_slice()).is_some())
-        }
-        Err(DecodeFault::Wire(_)) => Ok(false),
-        Err(DecodeFault::Memory) => Err(AllocError),
-    }
-}
-
-fn is_lacking(alloc: Global, of: u8, frame: &Frame) -> Result<bool, AllocError> {
+fn is_lacking(of: u8, frame: &Frame) -> bool {
     let head = frame.head();
     if head.version != 1 || frame.bad_length() {
-        return Ok(false);
+        return false;
     }
     match (of, head.kind) {
-        (SLICE_BYTES, 13 | 16 | 18 | 20) => Ok(true),
-        (SWITCH_BYTES, 17 | 19 | 21) => Ok(true),
-        (SWITCH_BYTES, PACKET_IN) => is_special_packet(alloc, frame),
-        _ => Ok(false),
+        (SLICE_BYTES, STATS_REQUEST | BARRIER_REQUEST | QUEUE_GET_CONFIG_REQUEST) => true,
+        (SWITCH_BYTES, STATS_REPLY | BARRIER_REPLY | QUEUE_GET_CONFIG_REPLY) => true,
+        _ => false,
     }
 }
 
@@ -56,7 +39,7 @@ pub(crate) fn first_lack(
             continue;
         }
         for frame in &completed(alloc, file, &items[..place], item)? {
-            if is_lacking(alloc, item.kind, frame)? {
+            if is_lacking(item.kind, frame) {
                 return Ok(Some(Lack {
                     kind: frame.head().kind,
                     at: item.from.saturating_sub(16),

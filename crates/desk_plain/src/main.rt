@@ -1,19 +1,22 @@
 //! What the proxy must answer, read off its rules: `desk_plain [replay] POLICY RECORDING` prints the
-//! report of a recording under a policy. It has no desk. It keeps the list of events of each switch, and at
-//! each event it looks everything up anew in that list: who is up, which ports are known, what a slice sees,
-//! and what follows. It is slow, and there to be compared with.
+//! report of a recording under a policy. It has no desk. It keeps the list of events of each switch, and for each slice
+//! the list of what it sees of them and what follows; at each event it looks everything up anew in these lists: who is
+//! up, which ports are known, which buffers are held. It is slow, and there to be compared with.
 #![tactic(auto)]
 
 mod actions;
 mod answer;
 mod answers;
 mod book;
+mod buffers;
 mod ending;
 mod events;
 mod flow_mods;
 mod headers;
 mod history;
 mod lacking;
+mod packet_outs;
+mod packets;
 mod ports;
 mod rate;
 mod recorded;

@@ -5,7 +5,7 @@ use crate::view::{Item, Seen};
 use std::alloc::{AllocError, Global};
 
 /// The greatest moment of the slice's messages up to each message that the rate counted.
-fn counted(alloc: Global, view: &[Seen<'_>]) -> Result<Vec<u64>, AllocError> {
+fn counted(alloc: Global, view: &[Seen]) -> Result<Vec<u64>, AllocError> {
     let mut counted = Vec::new(alloc);
     let mut greatest = 0u64;
     for seen in view {
@@ -20,7 +20,7 @@ fn counted(alloc: Global, view: &[Seen<'_>]) -> Result<Vec<u64>, AllocError> {
 }
 
 /// The greatest moment of a message and of those before it.
-fn greatest(view: &[Seen<'_>], moment: u64) -> u64 {
+fn greatest(view: &[Seen], moment: u64) -> u64 {
     let mut greatest = moment;
     for seen in view {
         if let Item::Msg { moment, .. } = &seen.item {
@@ -42,7 +42,7 @@ fn fit(settings: &Settings<'_>, count: usize, since: u64) -> bool {
 pub(crate) fn conforms(
     alloc: Global,
     settings: &Settings<'_>,
-    view: &[Seen<'_>],
+    view: &[Seen],
     moment: u64,
 ) -> Result<bool, AllocError> {
     let counted = counted(alloc, view)?;

@@ -4,10 +4,45 @@ use crate::events::Event;
 use crate::history::{has_ended, is_up};
 use crate::recorded::{happenings, happens};
 use crate::sent::{lane, sent};
+use crate::view::{Seen, see_last};
 use flowspace::Policy;
 use of10_ctl::Frame;
 use recording::{Item, SWITCHES};
 use std::alloc::{AllocError, Global};
+
+/// What happened at a switch, the oldest first, and what each slice saw of it, by slot.
+#[derive(Drop)]
+struct Session {
+    history: Vec<Event>,
+    views: Vec<Vec<Seen>>,
+}
+
+fn fresh_session(alloc: Global, policy: &Policy) -> Result<Session, AllocError> {
+    let mut views = Vec::new(alloc);
+    for _ in 0..policy.slice_count() {
+        views.push(Vec::new(alloc))?;
+    }
+    Ok(Session {
+        history: Vec::new(alloc),
+        views,
+    })
+}
+
+/// An event happens, and each slice sees what is for it.
+fn happen(
+    alloc: Global,
+    policy: &Policy,
+    session: &mut Session,
+    event: Event,
+) -> Result<(), AllocError> {
+    session.history.push(event)?;
+    for slot in 0..policy.slice_count() {
+        if let Some(view) = session.views.get_mut(usize::from(slot)) {
+            see_last(alloc, policy, slot, &session.history, view)?;
+        }
+    }
+    Ok(())
+}
 
 /// The number of an event over the whole recording, and its switch.
 #[derive(Clone, Copy)]
@@ -32,23 +67,23 @@ fn put_message(out: &mut String, alloc: Global, message: &Frame) -> Result<(), A
     write!(out, "{digits}\n")
 }
 
-/// A line for each message at the last event of a history.
+/// A line for each message at the last event of a session.
 fn put_messages(
     out: &mut String,
     alloc: Global,
     place: Place,
     policy: &Policy,
-    history: &[Event],
+    session: &Session,
 ) -> Result<(), AllocError> {
-    let last = history.len().saturating_sub(1);
-    for message in &lane(alloc, policy, history, last)? {
+    let last = session.history.len().saturating_sub(1);
+    for message in &lane(alloc, &session.history, &session.views, last)? {
         put_place(out, place)?;
         out.push_str("lane ")?;
         put_message(out, alloc, message)?;
     }
-    for slot in 0..policy.slice_count() {
-        for message in &sent(alloc, policy, slot, history, last)? {
-            let name = name_of(policy, slot);
+    for (slot, view) in session.views.iter().enumerate() {
+        for message in &sent(alloc, view, last)? {
+            let name = name_of(policy, slot.min(255) as u8);
             put_place(out, place)?;
             write!(out, "to {name} ")?;
             put_message(out, alloc, message)?;
@@ -81,18 +116,19 @@ fn put_close(
     write!(out, "close {name}\n")
 }
 
-/// The lines of the last event of a history.
+/// The lines of the last event of a session.
 fn put_event(
     out: &mut String,
     alloc: Global,
     place: Place,
     policy: &Policy,
-    history: &[Event],
+    session: &Session,
 ) -> Result<(), AllocError> {
+    let history = session.history.as_slice();
     let Some((event, before)) = history.split_last() else {
         return Ok(());
     };
-    put_messages(out, alloc, place, policy, history)?;
+    put_messages(out, alloc, place, policy, session)?;
     put_close(out, place, policy, closed_slot(alloc, history, event)?)?;
     if has_ended(history) && !has_ended(before) {
         put_place(out, place)?;
@@ -107,23 +143,24 @@ fn put_next(
     alloc: Global,
     place: Place,
     policy: &Policy,
-    history: &mut Vec<Event>,
+    session: &mut Session,
     event: Event,
 ) -> Result<(), AllocError> {
-    if has_ended(history) {
-        return put_close(out, place, policy, closed_slot(alloc, history, &event)?);
+    if has_ended(&session.history) {
+        let slot = closed_slot(alloc, &session.history, &event)?;
+        return put_close(out, place, policy, slot);
     }
-    history.push(event)?;
-    put_event(out, alloc, place, policy, history)
+    happen(alloc, policy, session, event)?;
+    put_event(out, alloc, place, policy, session)
 }
 
-/// A history for each switch that a recording can name.
-fn fresh_histories(alloc: Global) -> Result<Vec<Vec<Event>>, AllocError> {
-    let mut histories = Vec::new(alloc);
+/// A session for each switch that a recording can name.
+fn fresh_sessions(alloc: Global, policy: &Policy) -> Result<Vec<Session>, AllocError> {
+    let mut sessions = Vec::new(alloc);
     for _ in 0..SWITCHES {
-        histories.push(Vec::new(alloc))?;
+        sessions.push(fresh_session(alloc, policy)?)?;
     }
-    Ok(histories)
+    Ok(sessions)
 }
 
 /// The report of a recording under a policy: for each event, by its number, a line for each message that
@@ -135,24 +172,24 @@ pub(crate) fn report(
     items: &[Item],
 ) -> Result<String, AllocError> {
     let mut out = String::new(alloc);
-    let mut histories = fresh_histories(alloc)?;
+    let mut sessions = fresh_sessions(alloc, policy)?;
     let mut number = 0u64;
     for (at, item) in items.iter().enumerate() {
-        let Some(history) = histories.get_mut(usize::from(item.switch)) else {
+        let Some(session) = sessions.get_mut(usize::from(item.switch)) else {
             continue;
         };
         for event in happenings(alloc, file, &items[..at], item)? {
             if let Event::SwitchUp = &event {
-                history.clear();
+                *session = fresh_session(alloc, policy)?;
             }
-            if happens(alloc, history, &event)? {
+            if happens(alloc, &session.history, &event)? {
                 let switch = item.switch;
                 put_next(
                     &mut out,
                     alloc,
                     Place { number, switch },
                     policy,
-                    history,
+                    session,
                     event,
                 )?;
                 number = number.saturating_add(1);

@@ -11,12 +11,12 @@ const REMEMBERED: usize = 4096;
 const NUMBERS: usize = 0x100_0000;
 
 /// Whether the item is a message that was sent on.
-fn is_request(seen: &Seen<'_>) -> bool {
+fn is_request(seen: &Seen) -> bool {
     !seen.answer.to_switch.is_empty()
 }
 
 /// The transaction of the next request: the slot, and the number of requests before it.
-pub(crate) fn next_xid(slot: u8, view: &[Seen<'_>]) -> u32 {
+pub(crate) fn next_xid(slot: u8, view: &[Seen]) -> u32 {
     let mut number = 0usize;
     for seen in view {
         if is_request(seen) {
@@ -34,7 +34,7 @@ struct Request {
 }
 
 /// The requests since the last connection began or ended.
-fn requests(alloc: Global, view: &[Seen<'_>]) -> Result<Vec<Request>, AllocError> {
+fn requests(alloc: Global, view: &[Seen]) -> Result<Vec<Request>, AllocError> {
     let mut requests = Vec::new(alloc);
     let mut number = 0usize;
     for (place, seen) in view.iter().enumerate() {
@@ -52,7 +52,7 @@ fn requests(alloc: Global, view: &[Seen<'_>]) -> Result<Vec<Request>, AllocError
 /// The place of the request that an answer under the low 24 bits of a transaction is for.
 pub(crate) fn remembered(
     alloc: Global,
-    view: &[Seen<'_>],
+    view: &[Seen],
     low: u32,
 ) -> Result<Option<usize>, AllocError> {
     let requests = requests(alloc, view)?;
@@ -66,7 +66,7 @@ pub(crate) fn remembered(
 }
 
 /// The message that the item at a place of the view is.
-pub(crate) fn message_at<'a>(view: &'a [Seen<'_>], place: usize) -> Option<&'a Frame> {
+pub(crate) fn message_at<'a>(view: &'a [Seen], place: usize) -> Option<&'a Frame> {
     match &view.get(place)?.item {
         Item::Msg { message, .. } => Some(message),
         _ => None,
@@ -74,7 +74,7 @@ pub(crate) fn message_at<'a>(view: &'a [Seen<'_>], place: usize) -> Option<&'a F
 }
 
 /// Whether an error came for a request before.
-pub(crate) fn has_failed(view: &[Seen<'_>], place: usize, low: u32) -> bool {
+pub(crate) fn has_failed(view: &[Seen], place: usize, low: u32) -> bool {
     view.iter().skip(place).any(|seen| match &seen.item {
         Item::Fault(fault) => fault.low == low,
         _ => false,

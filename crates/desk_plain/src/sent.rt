@@ -1,30 +1,28 @@
 //! What is sent at the events of a history: to the slices, and to the switch in its lane.
 
+use crate::answer::Draft;
 use crate::answers::echo_reply;
+use crate::buffers::switch_number;
 use crate::events::Event;
 use crate::history::{has_ended, opening_of, since_up};
-use crate::view::view;
-use flowspace::Policy;
+use crate::view::Seen;
 use of10_action::Actions;
 use of10_ctl::kind::{BARRIER_REQUEST, ECHO_REQUEST, FEATURES_REQUEST, HELLO, SET_CONFIG};
 use of10_ctl::{Frame, message};
 use of10_flow::FlowMod;
 use of10_flow::protocol::{DELETE, NO_BUFFER};
 use of10_match::Match;
+use of10_model::wire::put_u32;
 use of10_port::protocol;
 use std::alloc::{AllocError, Global};
 
+/// The most bytes behind the head of a message.
+const MOST_BODY: usize = 65_527;
+
 /// What a slice is sent at the event of a number: the answers to what it sees of that event.
-pub(crate) fn sent(
-    alloc: Global,
-    policy: &Policy,
-    slot: u8,
-    history: &[Event],
-    number: usize,
-) -> Result<Vec<Frame>, AllocError> {
-    let view = view(alloc, policy, slot, history)?;
+pub(crate) fn sent(alloc: Global, view: &[Seen], number: usize) -> Result<Vec<Frame>, AllocError> {
     let mut sent = Vec::new(alloc);
-    for seen in &view {
+    for seen in view {
         if seen.number == number
             && let Some(message) = &seen.answer.to_slice
         {
@@ -34,20 +32,36 @@ pub(crate) fn sent(
     Ok(sent)
 }
 
+/// A message for the switch with the number that the switch gave the buffer.
+fn numbered(
+    alloc: Global,
+    history: &[Event],
+    view: &[Seen],
+    draft: &Draft,
+) -> Result<Frame, AllocError> {
+    let number = match draft.buffer {
+        Some(ordinal) => switch_number(history, view, ordinal),
+        None => None,
+    };
+    let mut body = Vec::from_slice(alloc, &draft.before)?;
+    put_u32(&mut body, number.unwrap_or(NO_BUFFER))?;
+    body.extend_from_slice(&draft.behind)?;
+    let size = body.len().min(MOST_BODY);
+    message(alloc, draft.kind, draft.xid, &body[..size])
+}
+
 /// What a slice's message at the event of a number is sent on as.
 fn sent_on(
     alloc: Global,
-    policy: &Policy,
-    slot: u8,
     history: &[Event],
+    view: &[Seen],
     number: usize,
 ) -> Result<Vec<Frame>, AllocError> {
-    let view = view(alloc, policy, slot, history)?;
     let mut lane = Vec::new(alloc);
-    for seen in &view {
+    for seen in view {
         if seen.number == number {
-            for message in &seen.answer.to_switch {
-                lane.push(message.copy(alloc)?)?;
+            for draft in &seen.answer.to_switch {
+                lane.push(numbered(alloc, history, view, draft)?)?;
             }
         }
     }
@@ -98,11 +112,11 @@ fn opens(alloc: Global, history: &[Event], number: usize) -> Result<bool, AllocE
     }
 }
 
-/// What the switch is sent at the event of a number, the last of a history.
+/// What the switch is sent at the event of a number, the last of a history that each slot has a view of.
 pub(crate) fn lane(
     alloc: Global,
-    policy: &Policy,
     history: &[Event],
+    views: &[Vec<Seen>],
     number: usize,
 ) -> Result<Vec<Frame>, AllocError> {
     let Some(event) = history.get(number) else {
@@ -120,7 +134,10 @@ pub(crate) fn lane(
             lane.push(echo_reply(alloc, frame)?)?;
             Ok(lane)
         }
-        Event::SliceMsg { slot, .. } => sent_on(alloc, policy, *slot, history, number),
+        Event::SliceMsg { slot, .. } => match views.get(usize::from(*slot)) {
+            Some(view) => sent_on(alloc, history, view, number),
+            None => Ok(Vec::new(alloc)),
+        },
         _ => Ok(Vec::new(alloc)),
     }
 }

@@ -3,16 +3,16 @@
 use crate::answer::Answer;
 use crate::answers::answer;
 use crate::book::Pair;
-use crate::events::{Event, is_dismissing, is_end};
+use crate::buffers::{buffer_in, lost};
+use crate::events::{Event, is_dismissing};
 use crate::headers::headers_of;
 use crate::history::{Opening, is_last_up, known, opening_of, status_in};
+use crate::packets::{Share, shown};
 use crate::ports::{changed, is_kept};
 use crate::settings::{Settings, may_write, settings_of};
 use flowspace::{Policy, SwitchPolicy};
-use frame_header::header_of;
-use of10_action::DecodeFault;
 use of10_ctl::Frame;
-use of10_ctl::kind::{ERROR, FLOW_MOD, FLOW_REMOVED, PACKET_IN, SET_CONFIG};
+use of10_ctl::kind::{ERROR, FLOW_MOD, FLOW_REMOVED, SET_CONFIG};
 use of10_flow::{FlowRemoved, PacketIn};
 use of10_match::Match;
 use of10_model::wire::{u16_at, u32_at};
@@ -45,14 +45,16 @@ pub(crate) struct Fault {
 
 /// One thing that a slice sees.
 #[derive(Drop)]
-pub(crate) enum Item<'h> {
+pub(crate) enum Item {
     Opened(Opened),
     Up,
     Down,
     /// A message of its own, and when it came.
-    Msg { message: &'h Frame, moment: u64 },
-    /// A packet that it may write or read, which isn't buffered.
-    Packet(PacketIn),
+    Msg { message: Frame, moment: u64 },
+    /// A packet, and why it sees it.
+    Packet { packet: PacketIn, share: Share },
+    /// One of its buffered packets, counted from 0: its buffer was used for another.
+    Lost(usize),
     /// An entry of a match that it may write was removed.
     Removed(FlowRemoved),
     Status(PortStatus),
@@ -62,9 +64,9 @@ pub(crate) enum Item<'h> {
 
 /// An item, the number of the event that made it, and what follows from it.
 #[derive(Drop)]
-pub(crate) struct Seen<'h> {
+pub(crate) struct Seen {
     pub(crate) number: usize,
-    pub(crate) item: Item<'h>,
+    pub(crate) item: Item,
     pub(crate) answer: Answer,
 }
 
@@ -99,30 +101,6 @@ fn opened_item(
         actions: features.actions,
         ports: own_ports(alloc, policy, slot, &known)?,
     })
-}
-
-/// Whether the first rule that has the packet's header is written or read by the slice.
-fn is_of_slice(policy: &SwitchPolicy, slot: u8, packet: &PacketIn) -> bool {
-    let header = header_of(packet.in_port, packet.payload.as_slice());
-    let readers = policy.readers(&header);
-    policy.writer(&header) == Some(slot) || (slot < 32 && (readers >> slot) & 1 == 1)
-}
-
-/// What a PACKET_IN shows a slice that is up.
-fn packet_item(
-    alloc: Global,
-    policy: &SwitchPolicy,
-    slot: u8,
-    frame: &Frame,
-) -> Result<Option<PacketIn>, AllocError> {
-    if !frame.is_of(PACKET_IN) {
-        return Ok(None);
-    }
-    match PacketIn::decode(alloc, frame) {
-        Ok(packet) if is_of_slice(policy, slot, &packet) => Ok(Some(packet)),
-        Err(DecodeFault::Memory) => Err(AllocError),
-        _ => Ok(None),
-    }
 }
 
 /// What a PORT_STATUS shows a slice, up or not: the status, where it is kept and the port is the slice's.
@@ -186,19 +164,19 @@ fn fault_item(settings: &Settings<'_>, frame: &Frame) -> Option<Fault> {
 }
 
 /// What a message of the switch after the opening and other events shows a slice.
-fn switch_item<'h>(
+fn switch_item(
     alloc: Global,
     settings: &Settings<'_>,
     opening: &Opening<'_>,
     before: &[Event],
     event: &Event,
     frame: &Frame,
-) -> Result<Option<Item<'h>>, AllocError> {
+) -> Result<Option<Item>, AllocError> {
     let (policy, slot) = (settings.policy, settings.slot);
     if is_last_up(slot, before)
-        && let Some(packet) = packet_item(alloc, policy, slot, frame)?
+        && let Some((packet, share)) = shown(alloc, policy, slot, frame)?
     {
-        return Ok(Some(Item::Packet(packet)));
+        return Ok(Some(Item::Packet { packet, share }));
     }
     if let Some(removed) = removed_item(settings, frame) {
         return Ok(Some(Item::Removed(removed)));
@@ -213,13 +191,13 @@ fn switch_item<'h>(
 }
 
 /// What an event after the opening and other events shows a slice.
-fn item_of<'h>(
+fn item_of(
     alloc: Global,
     settings: &Settings<'_>,
-    opening: &Opening<'h>,
-    before: &'h [Event],
-    event: &'h Event,
-) -> Result<Option<Item<'h>>, AllocError> {
+    opening: &Opening<'_>,
+    before: &[Event],
+    event: &Event,
+) -> Result<Option<Item>, AllocError> {
     let slot = settings.slot;
     match event {
         Event::SliceUp(other) if *other == slot => Ok(Some(Item::Up)),
@@ -229,7 +207,7 @@ fn item_of<'h>(
             frame,
             moment,
         } if *other == slot && is_last_up(slot, before) => Ok(Some(Item::Msg {
-            message: frame,
+            message: frame.copy(alloc)?,
             moment: *moment,
         })),
         Event::SwitchDown => Ok(Some(Item::End)),
@@ -239,54 +217,65 @@ fn item_of<'h>(
     }
 }
 
-/// An item after a view, with what follows from it.
-fn answered<'h>(
+/// What a slice, up or not, loses where an event after the opening and other events names a buffer.
+fn lost_item(
+    view: &[Seen],
+    opening: &Opening<'_>,
+    before: &[Event],
+    event: &Event,
+) -> Option<Item> {
+    let first = opening.number.saturating_add(1);
+    let ordinal = lost(view, first, before, buffer_in(event)?)?;
+    Some(Item::Lost(ordinal))
+}
+
+/// An item comes to a view, with what follows from it.
+fn see(
     alloc: Global,
     settings: &Settings<'_>,
-    view: &[Seen<'h>],
+    view: &mut Vec<Seen>,
     number: usize,
-    item: Item<'h>,
-) -> Result<Seen<'h>, AllocError> {
+    item: Option<Item>,
+) -> Result<(), AllocError> {
+    let Some(item) = item else {
+        return Ok(());
+    };
     let answer = answer(alloc, settings, view, &item)?;
-    Ok(Seen {
+    view.push(Seen {
         number,
         item,
         answer,
-    })
+    })?;
+    Ok(())
 }
 
-/// What a slice sees of a history, and what follows from it.
-pub(crate) fn view<'h>(
+/// A slice's view of a history without its last event comes to what it sees of all of it: by the items of that event,
+/// and what follows from each.
+pub(crate) fn see_last(
     alloc: Global,
     policy: &Policy,
     slot: u8,
-    history: &'h [Event],
-) -> Result<Vec<Seen<'h>>, AllocError> {
-    let mut view = Vec::new(alloc);
+    history: &[Event],
+    view: &mut Vec<Seen>,
+) -> Result<(), AllocError> {
     let Some(opening) = opening_of(alloc, history)? else {
-        return Ok(view);
+        return Ok(());
     };
     let policy = policy.of_switch(alloc, opening.features.datapath)?;
     let settings = settings_of(alloc, &policy, slot)?;
-    let opened = Item::Opened(opened_item(alloc, &policy, slot, &opening)?);
-    let first = answered(alloc, &settings, &view, opening.number, opened)?;
-    view.push(first)?;
-    for (place, event) in opening.later.iter().enumerate() {
-        let before = &opening.later[..place];
-        if before.iter().any(|event| is_end(event)) {
-            break;
-        }
-        if let Some(item) = item_of(alloc, &settings, &opening, before, event)? {
-            let number = opening.number.saturating_add(1).saturating_add(place);
-            let next = answered(alloc, &settings, &view, number, item)?;
-            view.push(next)?;
-        }
-    }
-    Ok(view)
+    let number = opening.number.saturating_add(opening.later.len());
+    let Some((event, before)) = opening.later.split_last() else {
+        let opened = Item::Opened(opened_item(alloc, &policy, slot, &opening)?);
+        return see(alloc, &settings, view, number, Some(opened));
+    };
+    let lost = lost_item(view, &opening, before, event);
+    see(alloc, &settings, view, number, lost)?;
+    let item = item_of(alloc, &settings, &opening, before, event)?;
+    see(alloc, &settings, view, number, item)
 }
 
 /// What an item says of whether the slice is up: a forgetting item.
-pub(crate) fn says_up(item: &Item<'_>) -> Option<bool> {
+pub(crate) fn says_up(item: &Item) -> Option<bool> {
     match item {
         Item::Up => Some(true),
         Item::Down => Some(false),
@@ -296,7 +285,7 @@ pub(crate) fn says_up(item: &Item<'_>) -> Option<bool> {
 }
 
 /// Whether the last forgetting item of a view is an up.
-pub(crate) fn is_up(view: &[Seen<'_>]) -> bool {
+pub(crate) fn is_up(view: &[Seen]) -> bool {
     view.iter()
         .rev()
         .find_map(|seen| says_up(&seen.item))
@@ -314,7 +303,7 @@ fn length_set(frame: &Frame) -> Option<u16> {
 }
 
 /// What an item says of how much of a packet the slice wants.
-fn says_length(item: &Item<'_>) -> Option<u16> {
+fn says_length(item: &Item) -> Option<u16> {
     match item {
         Item::Msg { message, .. } => match length_set(message) {
             Some(length) => Some(length),
@@ -328,7 +317,7 @@ fn says_length(item: &Item<'_>) -> Option<u16> {
 
 /// How much of a packet the slice wants: the length of its last SET_CONFIG that was taken since the last
 /// forgetting item.
-pub(crate) fn miss_send_len(view: &[Seen<'_>]) -> u16 {
+pub(crate) fn miss_send_len(view: &[Seen]) -> u16 {
     view.iter()
         .rev()
         .find_map(|seen| says_length(&seen.item))
@@ -336,7 +325,7 @@ pub(crate) fn miss_send_len(view: &[Seen<'_>]) -> u16 {
 }
 
 /// What the switch told of itself.
-pub(crate) fn opened_in<'a>(view: &'a [Seen<'_>]) -> Option<&'a Opened> {
+pub(crate) fn opened_in<'a>(view: &'a [Seen]) -> Option<&'a Opened> {
     view.iter().find_map(|seen| match &seen.item {
         Item::Opened(opened) => Some(opened),
         _ => None,
@@ -344,7 +333,7 @@ pub(crate) fn opened_in<'a>(view: &'a [Seen<'_>]) -> Option<&'a Opened> {
 }
 
 /// The known ports of the slice: those of the opening, changed by each later status.
-pub(crate) fn known_ports(alloc: Global, view: &[Seen<'_>]) -> Result<Vec<Port>, AllocError> {
+pub(crate) fn known_ports(alloc: Global, view: &[Seen]) -> Result<Vec<Port>, AllocError> {
     let mut known = Vec::new(alloc);
     for seen in view {
         match &seen.item {

@@ -1,10 +1,13 @@
 //! Whole calls over files and sinks in memory.
 
+mod buffers;
 mod checks;
 mod entries;
 mod flow_mods;
+mod flow_mods_refused;
 mod names;
 mod outside;
+mod packet_outs;
 mod recordings;
 mod records;
 mod sessions;

@@ -1,6 +1,7 @@
 //! What is answered to the messages of a slice, and what they change.
 
 mod given;
+mod packet_outs;
 
 ghost use Rattle.std.specs.Prelude.{IfOk};
 ghost use Rattle.slice_side.specs.Reactions.{IsSound};

@@ -1,11 +1,13 @@
 //! What follows from the messages of a switch, for each slice.
 
 mod given;
+mod packet_ins;
 
 use flow_book::SliceState;
 use flowspace::{Rule, SwitchPolicy};
 use given::{ports, states};
 use of10_ctl::Frame;
+use rule_index::RuleIndex;
 use samples::{frame, rule, switch_policy, tcp};
 use std::alloc::{AllocError, Global};
 use std::process::Abort;
@@ -33,7 +35,8 @@ fn answer(
     if states.len() != policy.slices().len() {
         return Err(AllocError);
     }
-    react(alloc, policy, &ports(alloc)?, states, message)
+    let index = RuleIndex::build(alloc, policy)?;
+    react(alloc, policy, &index, &ports(alloc)?, states, message)
 }
 
 fn push_digits(text: &mut String, message: &Frame) -> Result<(), AllocError> {
@@ -97,6 +100,10 @@ const MESSAGE_ROWS: &str = "\
 010a004800000063ffffffff003600010000[tcp 0050] => stays, slot 0: 010a004800000000ffffffff003600010000[tcp 0050]
 010a004800000063ffffffff00ff000201ee[tcp 0016] => stays, slot 1: 010a004800000000ffffffff00ff00020100[tcp 0016]
 010a004800000063ffffffff003600020000[tcp 0050] => stays
+010a004800000063000000070036000101ff[tcp 0050] => stays, slot 0: 010a00480000000000000000003600010100[tcp 0050]
+010a004800000063000000070036000200ff[tcp 0050] => stays
+010a002a00000063000000090018000200000180c200000e00000000000188cc00004656534c01000000 => stays, slot 1: 010a002200000000ffffffff0010000200000180c200000e00000000000188cc0000
+010a002a00000063ffffffff0018000200000180c200000e00000000000188cc00004656534c02000000 => stays
 010c00400000000702000000000000000002[port] => stays, slot 1: 010c00400000000002000000000000000002[port], port 2
 010c00400000000701ffffffffffffff0001[port] => stays, slot 0: 010c00400000000001000000000000000001[port], slot 1: 010c00400000000001000000000000000001[port], port 1
 010c00400000000701000000000000000009[port] => stays

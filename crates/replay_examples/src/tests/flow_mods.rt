@@ -1,10 +1,7 @@
-//! Flow-mods of slices, and what the switch says of them: what is sent on, what is refused, and the report of it, line
-//! by line (OpenFlow 1.0.0, sections 5.3.3, 5.4.2 and 5.4.4). Which lines refuse, and in which order, is this proxy's
-//! own rule.
+//! Flow-mods of slices that are sent on, the entries that they make, and what the switch says of them: the report of it,
+//! line by line (OpenFlow 1.0.0, sections 5.3.3, 5.4.2 and 5.4.4).
 
-use super::records::Cut;
 use super::sessions::{PORT_POLICY, expect_reports};
-use super::tables::expect_cut;
 use super::{ALICE, BOB, POLICY, SHELL_RULE, WEB_RULE};
 use std::test::Fail;
 
@@ -106,173 +103,6 @@ OPENED
 end 18
 ";
 
-/// Flow-mods that are refused.
-const REFUSED: &str = "\
-# An ADD of what alice doesn't write. A DELETE of it deletes nothing, and isn't told.
-> opened
-> alice 010e00500000002a+MATCH_SHELL+ADD_10+PLAIN+TO_2
-> alice 010e00480000002b+MATCH_SHELL+DELETE_0+PLAIN
-> alice 010e00500000002c+MATCH_SHELL+MODIFY_10+PLAIN+TO_2
-> alice 010e00500000002d+MATCH_SHELL+STRICT_11+PLAIN+TO_2
-> alice 010e00500000002e+MATCH_WEB+ADD_10+PLAIN+TO_2
-OPENED
-4 0 to alice 0101004c0000002a00030002+010e00500000002a+MATCH_SHELL+ADD_10
-6 0 to alice 0101004c0000002c00030002+010e00500000002c+MATCH_SHELL+MODIFY_10
-7 0 to alice 0101004c0000002d00030002+010e00500000002d+MATCH_SHELL+STRICT_11
-8 0 lane 010e005000000000+MATCH_WEB+ADD_10+ASKED+TO_2
-end 9
-
-# A command that there isn't, an emergency entry, and both.
-> opened
-> alice 010e004800000001+MATCH_WEB+0000000000000000000500000000000a+PLAIN
-> alice 010e004800000002+MATCH_WEB+ADD_10+ffffffffffff0004
-> alice 010e004800000003+MATCH_WEB+DELETE_0+ffffffffffff0007
-> alice 010e004800000004+MATCH_WEB+0000000000000000ffff00000000000a+00000007ffff0004
-OPENED
-4 0 to alice 0101004c0000000100030004+010e004800000001+MATCH_WEB+0000000000000000000500000000000a
-5 0 to alice 0101004c0000000200030002+010e004800000002+MATCH_WEB+ADD_10
-6 0 to alice 0101004c0000000300030002+010e004800000003+MATCH_WEB+DELETE_0
-7 0 to alice 0101004c0000000400030004+010e004800000004+MATCH_WEB+0000000000000000ffff00000000000a
-end 8
-
-# A buffer that isn't held; this comes before a match that alice doesn't write and before forbidden actions, an
-# emergency entry before it.
-> opened
-> alice 010e004800000001+MATCH_WEB+ADD_10+00000000ffff0000
-> alice 010e005000000002+MATCH_WEB+MODIFY_10+00000007ffff0000+TO_NORMAL
-> alice 010e004800000003+MATCH_SHELL+STRICT_11+fffffffeffff0000
-> alice 010e004800000004+MATCH_WEB+ADD_10+00000007ffff0004
-OPENED
-4 0 to alice 0101004c0000000100010008+010e004800000001+MATCH_WEB+ADD_10
-5 0 to alice 0101004c0000000200010008+010e005000000002+MATCH_WEB+MODIFY_10
-6 0 to alice 0101004c0000000300010008+010e004800000003+MATCH_SHELL+STRICT_11
-7 0 to alice 0101004c0000000400030002+010e004800000004+MATCH_WEB+ADD_10
-end 8
-
-# Flow-mods of 71 bytes and of 8.
-> opened
-> alice 010e004700000001+MATCH_WEB+ADD_10+ffffffffffff00
-> alice 010e000800000002
-OPENED
-4 0 to alice 0101004c0000000100010006+010e004700000001+MATCH_WEB+ADD_10
-5 0 to alice 010100140000000200010006010e000800000002
-end 6
-";
-
-/// Actions that are refused.
-const FORBIDDEN: &str = "\
-# Actions that aren't well formed: an unknown type, a wrong length, four bytes, two bytes, those of a vendor, and a
-# vendor's of a wrong length.
-> opened
-> alice 010e005000000001+MATCH_WEB+ADD_10+PLAIN+000c000800000000
-> alice 010e005000000002+MATCH_WEB+ADD_10+PLAIN+0000000700020000
-> alice 010e004c00000003+MATCH_WEB+ADD_10+PLAIN+00000004
-> alice 010e004a00000004+MATCH_WEB+ADD_10+PLAIN+0000
-> alice 010e005000000005+MATCH_WEB+ADD_10+PLAIN+ffff000800000000
-> alice 010e005000000006+MATCH_WEB+ADD_10+PLAIN+ffff000700000000
-OPENED
-4 0 to alice 0101004c0000000100020000+010e005000000001+MATCH_WEB+ADD_10
-5 0 to alice 0101004c0000000200020001+010e005000000002+MATCH_WEB+ADD_10
-6 0 to alice 0101004c0000000300020001+010e004c00000003+MATCH_WEB+ADD_10
-7 0 to alice 0101004c0000000400020001+010e004a00000004+MATCH_WEB+ADD_10
-8 0 to alice 0101004c0000000500020002+010e005000000005+MATCH_WEB+ADD_10
-9 0 to alice 0101004c0000000600020001+010e005000000006+MATCH_WEB+ADD_10
-end 10
-
-# This comes before all else that is wrong, also for a delete: the command, and a match that alice doesn't write. Of the
-# actions the first that isn't well formed counts.
-> opened
-> alice 010e005000000001+MATCH_WEB+DELETE_0+PLAIN+000c000800000000
-> alice 010e005000000002+MATCH_SHELL+0000000000000000000500000000000a+PLAIN+0004000800000000
-> alice 010e006000000003+MATCH_WEB+ADD_10+PLAIN+TO_NORMAL+ffff000800000000+000c000800000000
-OPENED
-4 0 to alice 0101004c0000000100020000+010e005000000001+MATCH_WEB+DELETE_0
-5 0 to alice 0101004c0000000200020001+010e005000000002+MATCH_SHELL+0000000000000000000500000000000a
-6 0 to alice 0101004c0000000300020002+010e006000000003+MATCH_WEB+ADD_10
-end 7
-
-# VLAN 4096, and VLAN priority 8.
-> opened
-> alice 010e005000000001+MATCH_WEB+ADD_10+PLAIN+0001000810000000
-> alice 010e005000000002+MATCH_WEB+ADD_10+PLAIN+0002000808000000
-OPENED
-4 0 to alice 0101004c0000000100020005+010e005000000001+MATCH_WEB+ADD_10
-5 0 to alice 0101004c0000000200020005+010e005000000002+MATCH_WEB+ADD_10
-end 6
-
-# OUTPUT to NORMAL, to TABLE, to NONE and to a number that no port has; ENQUEUE to CONTROLLER and to FLOOD.
-> opened
-> alice 010e005000000001+MATCH_WEB+ADD_10+PLAIN+TO_NORMAL
-> alice 010e005000000002+MATCH_WEB+ADD_10+PLAIN+00000008fff90000
-> alice 010e005000000003+MATCH_WEB+ADD_10+PLAIN+00000008ffff0000
-> alice 010e005000000004+MATCH_WEB+ADD_10+PLAIN+00000008ff010000
-> alice 010e005800000005+MATCH_WEB+ADD_10+PLAIN+000b0010fffd00000000000000000001
-> alice 010e005800000006+MATCH_WEB+ADD_10+PLAIN+000b0010fffb00000000000000000001
-OPENED
-4 0 to alice 0101004c0000000100020004+010e005000000001+MATCH_WEB+ADD_10
-5 0 to alice 0101004c0000000200020004+010e005000000002+MATCH_WEB+ADD_10
-6 0 to alice 0101004c0000000300020004+010e005000000003+MATCH_WEB+ADD_10
-7 0 to alice 0101004c0000000400020004+010e005000000004+MATCH_WEB+ADD_10
-8 0 to alice 0101004c0000000500020004+010e005800000005+MATCH_WEB+ADD_10
-9 0 to alice 0101004c0000000600020004+010e005800000006+MATCH_WEB+ADD_10
-end 10
-
-# An output of what alice doesn't write; to NORMAL it is the port that is wrong, and of two the first action counts.
-> opened
-> alice 010e005800000001+MATCH_WEB+ADD_10+PLAIN+INTO_SHELL+TO_2
-> alice 010e005800000002+MATCH_WEB+ADD_10+PLAIN+INTO_SHELL+TO_NORMAL
-> alice 010e006000000003+MATCH_WEB+ADD_10+PLAIN+INTO_SHELL+TO_2+TO_NORMAL
-> alice 010e006000000004+MATCH_WEB+ADD_10+PLAIN+INTO_SHELL+0001000810000000+TO_2
-OPENED
-4 0 to alice 0101004c0000000100020006+010e005800000001+MATCH_WEB+ADD_10
-5 0 to alice 0101004c0000000200020004+010e005800000002+MATCH_WEB+ADD_10
-6 0 to alice 0101004c0000000300020006+010e006000000003+MATCH_WEB+ADD_10
-7 0 to alice 0101004c0000000400020005+010e006000000004+MATCH_WEB+ADD_10
-end 8
-";
-
-/// Packets to 10.1.0.0/16 are alice's, those to 10.2.0.0/16 bob's.
-const NETWORKS: &[&str] = &[
-    ALICE,
-    BOB,
-    "\
-[[rule]]
-priority = 100
-write = \"alice\"
-dl_type = 2048
-nw_dst = \"10.1.0.0/16\"
-[[rule]]
-priority = 50
-write = \"bob\"
-dl_type = 2048
-nw_dst = \"10.2.0.0/16\"
-",
-];
-
-/// Actions that set the address by which packets are whose.
-const REWRITTEN: &str = "\
-# SET_NW_DST into bob's network, behind which OUTPUT to port 2 and to CONTROLLER are refused; within alice's; and to
-# NORMAL.
-> opened
-> alice 010e005800000001+MATCH_IP+ADD_10+PLAIN+000700080a020001+TO_2
-> alice 010e005800000002+MATCH_IP+ADD_10+PLAIN+000700080a020001+00000008fffd0000
-> alice 010e005800000003+MATCH_IP+ADD_10+PLAIN+000700080a010909+TO_2
-> alice 010e005800000004+MATCH_IP+ADD_10+PLAIN+000700080a010909+TO_NORMAL
-OPENED
-4 0 to alice 0101004c0000000100020006+010e005800000001+MATCH_IP+ADD_10
-5 0 to alice 0101004c0000000200020006+010e005800000002+MATCH_IP+ADD_10
-6 0 lane 010e005800000000+MATCH_IP_NET+ADD_10+ASKED+000700080a010909+TO_2
-7 0 to alice 0101004c0000000400020004+010e005800000004+MATCH_IP+ADD_10
-end 8
-
-# There and back: only what goes out counts.
-> opened
-> alice 010e006000000001+MATCH_IP+ADD_10+PLAIN+000700080a020001+000700080a010909+TO_2
-OPENED
-4 0 lane 010e006000000000+MATCH_IP_NET+ADD_10+ASKED+000700080a020001+000700080a010909+TO_2
-end 5
-";
-
 /// Where FLOOD and ALL go, each with the length that they ask for.
 const FLOODS: &str = "\
 # Port 2 isn't flooded, and LOCAL is in neither; then it is, and port 3 has gone.
@@ -315,7 +145,7 @@ end 9
 ";
 
 /// Alice has what goes to a network, what comes from it, and once more the TCP of the first. She may have two entries.
-const PIECES: &[&str] = &[
+pub(super) const PIECES: &[&str] = &[
     ALICE,
     "quota = 2\n",
     BOB,
@@ -613,155 +443,6 @@ OPENED
 end 11
 ";
 
-/// Alice may send one message a second, and two at once.
-const SLOW: &[&str] = &[ALICE, "rate = 1\nburst = 2\n", BOB, WEB_RULE, SHELL_RULE];
-
-const RATES: &str = "\
-# The third at moment 0 is one too many. After a second there is room for one; then the moment goes back, and there is
-# none. bob's rate is his own.
-> opened
-> alice 010e004800000001+MATCH_ALL+DELETE_0+PLAIN
-> alice 010e004800000002+MATCH_ALL+DELETE_0+PLAIN
-> alice 010e004800000003+MATCH_ALL+DELETE_0+PLAIN
-> bob 010e004800000004+MATCH_ALL+DELETE_0+PLAIN
-> moment 1000
-> alice 010e004800000005+MATCH_ALL+DELETE_0+PLAIN
-> moment 500
-> alice 010e004800000006+MATCH_ALL+DELETE_0+PLAIN
-OPENED
-4 0 lane 010e004800000000+MATCH_WEB+DELETE_0+PLAIN
-5 0 lane 010e004800000001+MATCH_WEB+DELETE_0+PLAIN
-6 0 to alice 0101004c0000000300010005+010e004800000003+MATCH_ALL+DELETE_0
-7 0 lane 010e004801000000+MATCH_SHELL+DELETE_0+PLAIN
-8 0 lane 010e004800000002+MATCH_WEB+DELETE_0+PLAIN
-9 0 to alice 0101004c0000000600010005+010e004800000006+MATCH_ALL+DELETE_0
-end 10
-
-# A moment that other messages bring counts too: an echo's, which takes no share.
-> opened
-> alice 010e004800000001+MATCH_ALL+DELETE_0+PLAIN
-> alice 010e004800000002+MATCH_ALL+DELETE_0+PLAIN
-> moment 999
-> alice 010e004800000003+MATCH_ALL+DELETE_0+PLAIN
-> moment 1000
-> alice 0102000800000004
-> moment 0
-> alice 010e004800000005+MATCH_ALL+DELETE_0+PLAIN
-OPENED
-4 0 lane 010e004800000000+MATCH_WEB+DELETE_0+PLAIN
-5 0 lane 010e004800000001+MATCH_WEB+DELETE_0+PLAIN
-6 0 to alice 0101004c0000000300010005+010e004800000003+MATCH_ALL+DELETE_0
-7 0 to alice 0103000800000004
-8 0 lane 010e004800000002+MATCH_WEB+DELETE_0+PLAIN
-end 9
-
-# A flow-mod that is refused has used its share, and so has a delete of nothing; one that isn't well formed hasn't. Where
-# there is no share left nothing else is told.
-> opened
-> alice 010e005000000001+MATCH_ALL+ADD_10+PLAIN+000c000800000000
-> alice 010e005000000002+MATCH_SHELL+ADD_10+PLAIN+TO_2
-> alice 010e004800000003+MATCH_SHELL+DELETE_0+PLAIN
-> alice 010e005000000004+MATCH_ALL+ADD_10+PLAIN+TO_2
-> alice 010e004800000005+MATCH_SHELL+0000000000000000000500000000000a+PLAIN
-> alice 010e000800000006
-OPENED
-4 0 to alice 0101004c0000000100020000+010e005000000001+MATCH_ALL+ADD_10
-5 0 to alice 0101004c0000000200030002+010e005000000002+MATCH_SHELL+ADD_10
-7 0 to alice 0101004c0000000400010005+010e005000000004+MATCH_ALL+ADD_10
-8 0 to alice 0101004c0000000500010005+010e004800000005+MATCH_SHELL+0000000000000000000500000000000a
-9 0 to alice 010100140000000600010006010e000800000006
-end 10
-
-# A controller that goes and comes has no new share.
-> opened
-> alice 010e004800000001+MATCH_ALL+DELETE_0+PLAIN
-> alice 010e004800000002+MATCH_ALL+DELETE_0+PLAIN
-> alice down
-> alice up
-> alice 010e004800000003+MATCH_ALL+DELETE_0+PLAIN
-OPENED
-4 0 lane 010e004800000000+MATCH_WEB+DELETE_0+PLAIN
-5 0 lane 010e004800000001+MATCH_WEB+DELETE_0+PLAIN
-7 0 to alice 0100000800000000
-8 0 to alice 0101004c0000000300010005+010e004800000003+MATCH_ALL+DELETE_0
-end 9
-";
-
-/// FLOODs of three ports each: as many as a message has room for, and one more.
-const LARGE: &str = "\
-# The list has 65,448 bytes, and then 65,472, where a message has room for 65,463.
-> opened
-> alice 010e558000000001+MATCH_WEB+ADD_10+PLAIN+2727*TO_FLOOD
-> alice 010e558800000002+MATCH_WEB+ADD_10+PLAIN+2728*TO_FLOOD
-OPENED
-4 0 lane 010efff000000000+MATCH_WEB+ADD_10+ASKED+2727*TO_ALL_THREE
-5 0 to alice 0101004c0000000200020007+010e558800000002+MATCH_WEB+ADD_10
-end 6
-";
-
-/// Alice has the TCP packets to five ports.
-const FIVE_PORTS: &[&str] = &[
-    ALICE,
-    BOB,
-    "\
-[[rule]]
-priority = 5
-write = \"alice\"
-dl_type = 2048
-nw_proto = 6
-tp_dst = 80
-[[rule]]
-priority = 4
-write = \"alice\"
-dl_type = 2048
-nw_proto = 6
-tp_dst = 22
-[[rule]]
-priority = 3
-write = \"alice\"
-dl_type = 2048
-nw_proto = 6
-tp_dst = 23
-[[rule]]
-priority = 2
-write = \"alice\"
-dl_type = 2048
-nw_proto = 6
-tp_dst = 24
-[[rule]]
-priority = 1
-write = \"alice\"
-dl_type = 2048
-nw_proto = 6
-tp_dst = 25
-",
-];
-
-/// The messages for all pieces may have 262,144 bytes.
-const LARGE_IN_ALL: &str = "\
-# Five messages of 52,440 bytes are too many, one isn't; a forbidden action is told before.
-> opened
-> alice 010e447800000001+MATCH_ALL+ADD_10+PLAIN+2182*TO_FLOOD
-> alice 010e448800000002+MATCH_ALL+ADD_10+PLAIN+2182*TO_FLOOD+INTO_SHELL+TO_NORMAL
-> alice 010e447800000003+MATCH_WEB+ADD_10+PLAIN+2182*TO_FLOOD
-OPENED
-4 0 to alice 0101004c0000000100020007+010e447800000001+MATCH_ALL+ADD_10
-5 0 to alice 0101004c0000000200020004+010e448800000002+MATCH_ALL+ADD_10
-6 0 lane 010eccd800000000+MATCH_WEB+ADD_10+ASKED+2182*TO_ALL_THREE
-end 7
-
-# Five of 52,416 bytes aren't.
-> opened
-> alice 010e447000000001+MATCH_ALL+ADD_10+PLAIN+2181*TO_FLOOD
-OPENED
-4 0 lane 010eccc000000000+MATCH_WEB+ADD_10+ASKED+2181*TO_ALL_THREE
-4 0 lane 010eccc000000000+MATCH_SHELL+ADD_10+ASKED+2181*TO_ALL_THREE
-4 0 lane 010eccc000000000+MATCH_23+ADD_10+ASKED+2181*TO_ALL_THREE
-4 0 lane 010eccc000000000+MATCH_24+ADD_10+ASKED+2181*TO_ALL_THREE
-4 0 lane 010eccc000000000+MATCH_25+ADD_10+ASKED+2181*TO_ALL_THREE
-end 5
-";
-
 #[test]
 fn what_a_slice_may_do_to_the_flow_table_is_sent_on(rt: HostRuntime) -> Result<(), Fail> {
     let alloc = rt.alloc();
@@ -769,18 +450,6 @@ fn what_a_slice_may_do_to_the_flow_table_is_sent_on(rt: HostRuntime) -> Result<(
     expect_reports(&rt, alloc, PIECES, IN_PIECES)?;
     expect_reports(&rt, alloc, POLICY, FLOODS)?;
     expect_reports(&rt, alloc, PORT_POLICY, FROM_PORT_1)
-}
-
-#[test]
-fn what_a_slice_may_not_do_is_refused_with_its_code(rt: HostRuntime) -> Result<(), Fail> {
-    expect_reports(&rt, rt.alloc(), POLICY, REFUSED)
-}
-
-#[test]
-fn forbidden_actions_are_refused_with_their_code(rt: HostRuntime) -> Result<(), Fail> {
-    let alloc = rt.alloc();
-    expect_reports(&rt, alloc, POLICY, FORBIDDEN)?;
-    expect_reports(&rt, alloc, NETWORKS, REWRITTEN)
 }
 
 #[test]
@@ -794,16 +463,4 @@ fn entries_count_until_they_are_gone(rt: HostRuntime) -> Result<(), Fail> {
 #[test]
 fn errors_of_the_switch_reach_whom_they_concern(rt: HostRuntime) -> Result<(), Fail> {
     expect_reports(&rt, rt.alloc(), ONE_ENTRY, ERRORS)
-}
-
-#[test]
-fn each_slice_keeps_its_rate(rt: HostRuntime) -> Result<(), Fail> {
-    expect_reports(&rt, rt.alloc(), SLOW, RATES)
-}
-
-#[test]
-fn flow_mods_that_grow_too_large_are_refused(rt: HostRuntime) -> Result<(), Fail> {
-    let alloc = rt.alloc();
-    expect_cut(&rt, alloc, (POLICY, 0, Cut::Whole), LARGE)?;
-    expect_cut(&rt, alloc, (FIVE_PORTS, 0, Cut::Whole), LARGE_IN_ALL)
 }

@@ -61,14 +61,6 @@ recording: torn record at 48
 /// A message that isn't built comes after the opening, in the record at 296.
 const UNBUILT: &str = "\
 > opened
-> alice 010d000800000001
-not built: type 13 at 296
-
-> opened
-> bob 010d00180000000100000007fffd00080000000800020000
-not built: type 13 at 296
-
-> opened
 > bob 0110000c0000000100030000
 not built: type 16 at 296
 
@@ -100,16 +92,6 @@ not built: type 19 at 296
 > opened
 > switch 01150010000000010001000000000000
 not built: type 21 at 296
-
-# A packet-in of no bytes in buffer 7.
-> opened
-> switch 010a00120000000000000007000000010000
-not built: type 10 at 296
-
-# A packet-in that isn't buffered and bears the mark of slot 9.
-> opened
-> switch 010a002a00000000ffffffff0018000100000180c200000e00000000000188cc00004656534c09000000
-not built: type 10 at 296
 ";
 
 /// Recordings with messages that aren't built, and which of them is named.
@@ -135,8 +117,8 @@ not built: type 18 at 320
 # The switch has ended.
 > opened
 > switch 0103000700000001
-> alice 010d000800000002
-not built: type 13 at 320
+> alice 0110000800000002
+not built: type 16 at 320
 
 # Four messages in one record, of which the first is built.
 > opened

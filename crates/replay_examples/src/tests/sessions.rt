@@ -494,7 +494,7 @@ end 11
 ";
 
 /// Bob writes what alice reads.
-const SHARED: &[&str] = &[
+pub(super) const SHARED: &[&str] = &[
     ALICE,
     BOB,
     "\
@@ -519,7 +519,7 @@ end 5
 ";
 
 /// Bob reads what nobody writes.
-const WATCHED: &[&str] = &[
+pub(super) const WATCHED: &[&str] = &[
     ALICE,
     BOB,
     WEB_RULE,
