@@ -1,3 +1,4 @@
 pub mod Heads
 pub mod Controller
 pub mod Errors
+pub mod Replies

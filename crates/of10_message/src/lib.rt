@@ -5,9 +5,11 @@
 mod controller;
 mod error;
 mod fault;
+mod queues;
 mod reading;
 
 pub use controller::{FromController, SwitchConfig};
 pub use error::{ErrorView, pair_in};
 pub use fault::{MessageFault, Unread};
+pub use queues::{QueuesView, is_bare};
 pub use reading::read_controller;

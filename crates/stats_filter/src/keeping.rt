@@ -1,0 +1,54 @@
+//! Which entries are a slice's.
+
+ghost use Rattle.std.specs.Prelude.{◌≡◌};
+ghost use Rattle.of10_stats.specs.declared.protocol.TheConstants.{FLOW};
+ghost use Rattle.of10_stats.specs.Replies.{IsEntry, IsPortEntry};
+ghost use Rattle.of10_model.specs.Normal.{number_at, match_at};
+ghost use Rattle.flowspace.specs.Owners.{has_port};
+ghost use Rattle.stats_filter.specs.Keeping.{lies_within, is_kept, MayCome};
+
+use flowspace::SwitchPolicy;
+use match_meet::includes;
+use of10_match::Match;
+use of10_stats::{entry_port, flow_entry};
+use xid_map::AskKind;
+
+/// Whether the match lies in one of the rules that the slice writes.
+fn lies_within(policy: &SwitchPolicy, slot: u8, m: &Match) -> bool
+    ensures { result ≡ lies_within policy.now.rules slot m.now }
+{
+    let rules = policy.rules();
+    policy
+        .write_places(slot)
+        .iter()
+        .any(|place| includes(&rules[usize::from(*place)].pattern, m))
+}
+
+fn keeps_flow(policy: &SwitchPolicy, slot: u8, entry: &[u8]) -> bool
+    requires { IsEntry FLOW entry.now }
+    ensures { result ≡ lies_within policy.now.rules slot (match_at entry.now 4) }
+{
+    let (pattern, _, _) = flow_entry(entry);
+    lies_within(policy, slot, &pattern)
+}
+
+fn keeps_port(policy: &SwitchPolicy, slot: u8, entry: &[u8]) -> bool
+    requires { IsPortEntry entry.now }
+    ensures { result ≡ has_port policy.now.rules slot (number_at entry.now 0 2) }
+{
+    policy.has_port(slot, entry_port(entry))
+}
+
+/// Whether a well-formed entry that came for a request of the kind is the slice's: a flow where its match lies
+/// in one of the slice's write rules, a port or a queue where its port is the slice's, and each description of
+/// the switch. Takes no memory.
+pub fn keep(policy: &SwitchPolicy, slot: u8, kind: AskKind, entry: &[u8]) -> bool
+    requires { MayCome kind entry.now }
+    ensures { result ≡ is_kept policy.now.rules slot kind entry.now }
+{
+    match kind {
+        AskKind::Flow | AskKind::Aggregate => keeps_flow(policy, slot, entry),
+        AskKind::Port | AskKind::Queue => keeps_port(policy, slot, entry),
+        _ => true,
+    }
+}
