@@ -1,10 +1,10 @@
 -- What a slice sees of a history: its view, which is a filter of the history (this proxy's own rule). An event of another slice shows it nothing.
-use Rattle.std.specs.Prelude.{ℕ, ◌/◌, ◌%◌, ◌^◌, ◌==◌, ◌&&◌, ltb, Bool, true, false, if◌then◌else◌, List, [], ◌∷◌, ◌++◌, length, map, find, slice_get, Option, Some, None, is_some, option_and_then}
+use Rattle.std.specs.Prelude.{ℕ, ◌/◌, ◌%◌, ◌^◌, ◌==◌, ◌&&◌, ◌||◌, not, ltb, Bool, true, false, if◌then◌else◌, List, [], ◌∷◌, ◌++◌, length, drop, map, filter, find, slice_get, Option, Some, None, is_some, option_and_then}
 use Rattle.of10_model.specs.Header.{Header}
 use Rattle.std.specs.List.{list_any}
 use Rattle.of10_model.specs.Normal.{is_value, bit}
 use Rattle.of10_model.specs.Inclusion.{includes_of}
-use Rattle.of10_ctl.specs.declared.kind.TheConstants.{ERROR, PACKET_IN, FLOW_REMOVED}
+use Rattle.of10_ctl.specs.declared.kind.TheConstants.{ERROR, PACKET_IN, FLOW_REMOVED, STATS_REPLY, BARRIER_REPLY, QUEUE_GET_CONFIG_REPLY}
 use Rattle.of10_ctl.specs.Frames.{is_bad}
 use Rattle.of10_flow.specs.declared.protocol.TheConstants.{NO_BUFFER}
 use Rattle.of10_flow.specs.declared.packet_in.PacketIn.{PacketIn}
@@ -13,6 +13,10 @@ use Rattle.of10_flow.specs.FlowRemoveds.{read_flow_removed}
 use Rattle.of10_flow.specs.PacketIns.{read_packet_in}
 use Rattle.of10_message.specs.Heads.{xid_of}
 use Rattle.of10_message.specs.Errors.{ErrorMessage, read_error, pair_in}
+use Rattle.of10_message.specs.Replies.{is_bare, QueuesMessage, read_queues}
+use Rattle.of10_stats.specs.declared.protocol.TheConstants as statistics
+use Rattle.of10_stats.specs.declared.reply.StatsPart.{StatsPart}
+use Rattle.of10_stats.specs.Replies.{part_of}
 use Rattle.of10_port.specs.declared.features.Features.{Features}
 use Rattle.of10_port.specs.declared.status.PortStatus.{PortStatus}
 use Rattle.of10_port.specs.Ports.{port_number}
@@ -23,7 +27,8 @@ use Rattle.flowspace.specs.Order.{writer_of, readers_of}
 use Rattle.flowspace.specs.Policies.{PolicyView}
 use Rattle.port_view.specs.KnownPorts.{first_known, is_kept}
 use Rattle.port_view.specs.SlicePorts.{ports_of_slice}
-use Rattle.slice_words.specs.Items.{Settings, settings_of, own_rules, is_own_port, Share, Writer, Reader, Probe, Item, Up, Down, Msg, Lost, Handed, Removed, Status, Fault, End, Sight, is_up, is_buffered, buffered_count}
+use Rattle.stats_filter.specs.Keeping.{entries_in, is_own_entry}
+use Rattle.slice_words.specs.Items.{Settings, settings_of, own_rules, is_own_port, Share, Writer, Reader, Probe, Item, Up, Down, Msg, Lost, Handed, Removed, Status, Fault, Barrier, Queues, Entry, Last, End, Sight, is_up, is_buffered, buffered_count}
 use Rattle.slice_words.specs.Items as items
 use Rattle.slice_words.specs.Alone.{with_items}
 use Rattle.desk_words.specs.declared.event.Event.{Event}
@@ -130,18 +135,56 @@ abbrev pub removed_items : Settings → Option FlowRemoved → List Item
 removed_items s None = []
 removed_items s (Some entry) = if list_any (λ pattern. includes_of pattern entry.pattern) s.patterns then Removed (record entry { xid = 0 }) ∷ [] else []
 
--- an error under a transaction id is shown to the slice whose slot is the id's top byte, with the match and priority of the flow-mod that it carries, if it carries one under that id
+-- what the switch replies under a transaction id is for the slice whose slot is the id's top byte
+abbrev pub is_reply_to : Settings → ℕ → Bool
+is_reply_to s xid = xid / 2 ^ 24 == s.slot
+
+-- an error is shown to that slice, with the match and priority of the flow-mod that it carries, if it carries one under that id
 abbrev pub error_items : Settings → ℕ → Option ErrorMessage → List Item
 error_items s xid None = []
-error_items s xid (Some error) = if xid / 2 ^ 24 == s.slot then Fault (xid % 2 ^ 24) error.class error.code (pair_in xid error.cause) ∷ [] else []
+error_items s xid (Some error) = if is_reply_to s xid then Fault (xid % 2 ^ 24) error.class error.code (pair_in xid error.cause) ∷ [] else []
 
--- a message of the switch that came after it told what it is. Barriers, queues and statistics come later
+-- a reply to a barrier
+abbrev pub barrier_items : Settings → List ℕ → List Item
+barrier_items s message = if is_reply_to s (xid_of message) && is_bare message then Barrier (xid_of message % 2 ^ 24) ∷ [] else []
+
+-- what the switch says of the queues of a port of the slice
+abbrev pub queues_items : Settings → ℕ → Option QueuesMessage → List Item
+queues_items s xid None = []
+queues_items s xid (Some queues) = if is_reply_to s xid && is_own_port s queues.port then Queues (xid % 2 ^ 24) queues.body ∷ [] else []
+
+-- the types of statistics that the switch is asked for: what it is, flows, ports and queues
+abbrev pub is_type_asked : ℕ → Bool
+is_type_asked kind = kind == statistics.DESC || kind == statistics.FLOW || kind == statistics.PORT || kind == statistics.QUEUE
+
+-- of a part of statistics the slice's own entries, up to the first that isn't well formed
+abbrev pub own_entries : Settings → ℕ → List ℕ → List (List ℕ)
+own_entries s kind body = filter (is_own_entry (own_rules s) s.slot kind) (entries_in kind body)
+
+-- what the switch is is told whole in one entry, and in no other form; other statistics come in any number of entries
+abbrev pub is_part : ℕ → List ℕ → Bool
+is_part kind body = is_type_asked kind && (not (kind == statistics.DESC) || length body == 1056)
+
+-- its own entries, and the end of the reply where no more parts follow
+abbrev pub part_items : Settings → ℕ → StatsPart → List ℕ → List Item
+part_items s x part body = map (Entry x part.kind) (own_entries s part.kind body) ++ (if part.more then [] else Last x part.kind ∷ [])
+
+-- a part of statistics
+abbrev pub statistics_items : Settings → ℕ → Option StatsPart → List ℕ → List Item
+statistics_items s xid None message = []
+statistics_items s xid (Some part) message =
+    if is_reply_to s xid && is_part part.kind (drop part.from message) then part_items s (xid % 2 ^ 24) part (drop part.from message) else []
+
+-- a message of the switch that came after it told what it is
 unfoldable pub message_items : PolicyView → ℕ → Switch → Side → List ℕ → List Item
 message_items policy slot switch side message =
     if is_bad message then End ∷ []
     else if is_of PACKET_IN message then elim (well_formed (read_packet_in message)) [ None ↦ [] | Some packet ↦ packet_in_items policy (rules_of policy switch.features) slot side packet ]
     else if is_of FLOW_REMOVED message then removed_items (settings_at policy slot switch.features) (well_formed (read_flow_removed message))
     else if is_of ERROR message then error_items (settings_at policy slot switch.features) (xid_of message) (well_formed (read_error message))
+    else if is_of BARRIER_REPLY message then barrier_items (settings_at policy slot switch.features) message
+    else if is_of QUEUE_GET_CONFIG_REPLY message then queues_items (settings_at policy slot switch.features) (xid_of message) (well_formed (read_queues message))
+    else if is_of STATS_REPLY message then statistics_items (settings_at policy slot switch.features) (xid_of message) (well_formed (part_of message)) message
     else elim (status_told message) [ None ↦ [] | Some status ↦ status_items (settings_at policy slot switch.features) switch.known status ]
 
 -- the opening shows the slice the features of the switch

@@ -10,6 +10,7 @@ use Rattle.of10_flow.specs.declared.flow_removed.FlowRemoved.{FlowRemoved}
 use Rattle.of10_flow.specs.FlowRemoveds.{spell_flow_removed}
 use Rattle.of10_flow.specs.declared.packet_out.PacketOut.{PacketOut}
 use Rattle.of10_flow.specs.PacketIns.{spell_packet_in}
+use Rattle.of10_stats.specs.declared.request.StatsRequest.{StatsRequest}
 use Rattle.of10_port.specs.Features.{spell_features}
 use Rattle.of10_port.specs.PortStatus.{spell_port_status}
 use Rattle.of10_message.specs.declared.controller.FromController.{FromController}
@@ -27,9 +28,11 @@ use Rattle.flow_book.specs.Books.{booking}
 use Rattle.slice_words.specs.Messages.{quoted}
 use Rattle.slice_words.specs.Items.{Settings, Share, Writer, Reader, Probe, Packet, Item, Up, Msg, Handed, Removed, Status, Fault, Barrier, Queues, Last, is_up, miss_send_len, latest, buffered_count, features_in, known_ports}
 use Rattle.slice_words.specs.Pasts.{Answer, Past, silence, told, dismissal, forwarded}
-use Rattle.slice_words.specs.Calls.{questions, request_calls, request_for, book_calls}
+use Rattle.slice_words.specs.Statistics.{barrier_told, queues_told, statistics_told}
+use Rattle.slice_words.specs.Calls.{questions, request_calls, request_for, collection_calls, book_calls}
 use Rattle.slice_words.specs.FlowMods.{Ground, ground_of, flow_mod_fault, sent_on}
 use Rattle.slice_words.specs.PacketOuts.{packet_out_fault, sent_out}
+use Rattle.slice_words.specs.Questions.{is_port_on, may_ask, statistics_asked, barrier_asked, queues_asked}
 
 -- ---- refusals (section 5.4.4): class and code
 
@@ -101,10 +104,21 @@ flow_mod_answer g m message = elim (flow_mod_fault g m) [ Some fault ↦ refused
 abbrev pub packet_out_answer : Ground → PacketOut → List ℕ → Answer
 packet_out_answer g m message = elim (packet_out_fault g m) [ Some fault ↦ refused fault message | None ↦ forwarded (sent_out g m) ]
 
--- what is to be sent on to the switch. Statistics requests, barriers and questions for queues come later
+-- a request for statistics of a port that isn't the slice's is refused (section 5.3.5)
+abbrev pub statistics_answer : Ground → StatsRequest → List ℕ → Answer
+statistics_answer g request message = if may_ask g request then statistics_asked g request message else refused not_permitted message
+
+-- so is a question for the queues of such a port (section 5.3.4)
+abbrev pub queues_answer : Ground → ℕ → List ℕ → Answer
+queues_answer g port message = if is_port_on g port then queues_asked g message else refused not_permitted message
+
+-- what is to be sent on to the switch
 abbrev pub forwarded_answer : Settings → List Item → List Past → FromController → List ℕ → Answer
 forwarded_answer s view past (said.PacketOut m) message = packet_out_answer (ground_of s view past) m message
 forwarded_answer s view past (said.FlowMod m) message = flow_mod_answer (ground_of s view past) m message
+forwarded_answer s view past (said.StatsRequest request) message = statistics_answer (ground_of s view past) request message
+forwarded_answer s view past said.BarrierRequest message = barrier_asked (ground_of s view past)
+forwarded_answer s view past (said.QueueGetConfigRequest port) message = queues_answer (ground_of s view past) port message
 forwarded_answer s view past other message = silence
 
 -- a message that is to be sent on keeps the rate: its moment is the greatest of the slice's moments so far
@@ -165,7 +179,7 @@ error_told (Some request) class code = if request.failed then [] else error_of r
 
 -- ---- all items
 
--- what follows for a slice that is up. Of the switch's replies to what isn't sent on yet nothing follows
+-- what follows for a slice that is up
 abbrev pub answer_up : Settings → List Item → List Past → Item → Answer
 answer_up s view past Up = silence
 answer_up s view past (Msg message moment) = message_answer s view past moment message
@@ -173,9 +187,9 @@ answer_up s view past (Handed packet) = told (packet_told view packet packet.sha
 answer_up s view past (Removed entry) = told (removal_told (booking entry.pattern entry.priority (book_calls s past)) entry)
 answer_up s view past (Status status) = told (spell_port_status status 0 ∷ [])
 answer_up s view past (Fault x class code pair) = told (error_told (request_for s x (request_calls s past)) class code)
-answer_up s view past (Barrier x) = silence
-answer_up s view past (Queues x body) = silence
-answer_up s view past (Last x kind) = silence
+answer_up s view past (Barrier x) = told (barrier_told (request_for s x (request_calls s past)))
+answer_up s view past (Queues x body) = told (queues_told (request_for s x (request_calls s past)) body)
+answer_up s view past (Last x kind) = told (statistics_told (request_for s x (request_calls s past)) kind (collection_calls s past))
 answer_up s view past item = silence
 
 -- an up is greeted (section 5.5); of anything else nothing follows while the slice isn't up

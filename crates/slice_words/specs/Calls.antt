@@ -1,5 +1,5 @@
--- The calls that a view with its answers makes of each part of a slice's state, newest first (this proxy's own rule). Each item is read after the calls of those before it. What is collected of statistics comes later; a connection that comes or ends forgets requests and collections.
-use Rattle.std.specs.Prelude.{ℕ, ◌&&◌, Bool, false, if◌then◌else◌, List, [], ◌∷◌, ◌++◌, filter, map, Option, Some, None, Ok}
+-- The calls that a view with its answers makes of each part of a slice's state, newest first (this proxy's own rule). Each item is read after the calls of those before it. A connection that comes or ends forgets requests and collections.
+use Rattle.std.specs.Prelude.{ℕ, ◌&&◌, Bool, false, if◌then◌else◌, List, [], ◌∷◌, ◌++◌, Option, Some, None, Ok}
 use Rattle.of10_model.specs.declared.pattern.Pattern.{Pattern}
 use Rattle.of10_flow.specs.declared.protocol.TheConstants.{SEND_FLOW_REM}
 use Rattle.of10_flow.specs.Tables.{has_flag}
@@ -7,13 +7,14 @@ use Rattle.of10_message.specs.declared.controller.FromController.TheVariants as 
 use Rattle.of10_message.specs.Controller.{read_controller}
 use Rattle.flowmod_expand.specs.Pieces.{pieces_within}
 use Rattle.xid_map.specs.declared.asked.Issued.{Issued}
-use Rattle.xid_map.specs.Requests.{RequestCall, Issue, MarkError, Forget, issued, found, physical_of}
+use Rattle.xid_map.specs.Requests.{RequestCall, Issue, MarkError, MarkDone, Forget, issued, found, physical_of}
 use Rattle.xid_map.specs.Collections.{CollectionCall, EndAll}
 use Rattle.flow_book.specs.Books.{BookCall}
 use Rattle.flow_book.specs.Books as books
-use Rattle.slice_words.specs.Messages.{Reading, is_dismissing, is_question, asked_of}
-use Rattle.slice_words.specs.Items.{Settings, Item, Up, Down, Msg, Removed, Fault, is_forgetting, is_up, latest}
+use Rattle.slice_words.specs.Messages.{Reading, is_dismissing, is_question, kind_asked, asked_of}
+use Rattle.slice_words.specs.Items.{Settings, Item, Up, Down, Msg, Removed, Fault, Barrier, Queues, Entry, Last, is_up, latest}
 use Rattle.slice_words.specs.Pasts.{Answer, Past, view_in, is_any}
+use Rattle.slice_words.specs.Statistics.{begun, entry_kept, finished}
 
 -- ---- requests
 
@@ -26,13 +27,21 @@ abbrev pub error_marks : Option Issued → List RequestCall
 error_marks None = []
 error_marks (Some request) = MarkError request.number ∷ []
 
--- a message that has something sent to the switch is a request; a connection that comes or ends forgets them; and an error marks the one that it is for
+-- a reply that the slice is told of marks the request that it is for
+abbrev pub reply_marks : Answer → Option Issued → List RequestCall
+reply_marks answer None = []
+reply_marks answer (Some request) = if is_any answer.to_slice then MarkDone request.number ∷ [] else []
+
+-- a message that has something sent to the switch is a request; a connection that comes or ends forgets them; and errors and replies mark the one that they are for
 abbrev pub requests_by : Settings → List RequestCall → Item → Answer → List RequestCall
 requests_by s before Up answer = Forget ∷ []
 requests_by s before Down answer = Forget ∷ []
 requests_by s before (Msg message moment) answer =
     if is_dismissing message then Forget ∷ [] else if is_any answer.to_switch then Issue (asked_of (read_controller message) message) ∷ [] else []
 requests_by s before (Fault x class code pair) answer = error_marks (request_for s x before)
+requests_by s before (Barrier x) answer = reply_marks answer (request_for s x before)
+requests_by s before (Queues x body) answer = reply_marks answer (request_for s x before)
+requests_by s before (Last x kind) answer = reply_marks answer (request_for s x before)
 requests_by s before item answer = []
 
 -- requests that are issued, marked and forgotten
@@ -42,9 +51,21 @@ request_calls s (p ∷ past) = requests_by s (request_calls s past) p.item p.ans
 
 -- ---- statistics
 
--- statistics that are collected: so far they are only ended
-abbrev pub collection_calls : List Past → List CollectionCall
-collection_calls past = map (λ p. EndAll) (filter (λ p. is_forgetting p.item) past)
+-- a request for statistics that is sent on begins to collect; entries are kept for it; an error and the last part of its reply end that, and a connection that comes or ends ends all
+abbrev pub collected_by : Settings → List RequestCall → List CollectionCall → Item → Answer → List CollectionCall
+collected_by s requests before Up answer = EndAll ∷ []
+collected_by s requests before Down answer = EndAll ∷ []
+collected_by s requests before (Msg message moment) answer =
+    if is_dismissing message then EndAll ∷ [] else if is_any answer.to_switch then begun (issued requests) (kind_asked (read_controller message)) else []
+collected_by s requests before (Fault x class code pair) answer = finished (request_for s x requests)
+collected_by s requests before (Entry x kind entry) answer = entry_kept (request_for s x requests) kind entry before
+collected_by s requests before (Last x kind) answer = if is_any answer.to_slice then finished (request_for s x requests) else []
+collected_by s requests before item answer = []
+
+-- statistics that are collected
+abbrev pub collection_calls : Settings → List Past → List CollectionCall
+collection_calls s [] = []
+collection_calls s (p ∷ past) = collected_by s (request_calls s past) (collection_calls s past) p.item p.answer ++ collection_calls s past
 
 -- ---- the rate
 

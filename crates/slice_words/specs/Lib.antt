@@ -2,9 +2,11 @@ pub mod Messages
 pub mod Items
 pub mod Pasts
 pub mod Buffers
+pub mod Statistics
 pub mod Calls
 pub mod FlowMods
 pub mod PacketOuts
+pub mod Questions
 pub mod Answers
 pub mod Alone
 pub mod Standing

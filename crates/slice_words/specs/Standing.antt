@@ -27,7 +27,7 @@ pub record SliceStands (s : Settings) (sight : Sight) (state : SliceState) : Typ
   pub miss_send_len : state.miss_send_len ≡ miss_send_len sight.view
   pub moment : state.moment ≡ latest sight.view
   pub requests : RequestsStand s.slot (request_calls s (past_of s sight.view)) state.xids
-  pub collections : CollectionsStand (collection_calls (past_of s sight.view)) state.collections
+  pub collections : CollectionsStand (collection_calls s (past_of s sight.view)) state.collections
   pub given : state.buffers.given ≡ buffered_count sight.view
   pub held : state.buffers.held ≡ map (held_as sight.came) (held_packets (past_of s sight.view))
   pub bucket : BucketStands (questions (past_of s sight.view)) state.bucket

@@ -1,0 +1,41 @@
+-- What follows from a slice's requests for statistics (OpenFlow 1.0.0, section 5.3.5), questions for queues (5.3.4) and barriers (5.3.7). For which ports a slice may ask is this proxy's own rule.
+use Rattle.std.specs.Prelude.{ℕ, ◌==◌, ◌||◌, Bool, true, if◌then◌else◌, List, [], ◌∷◌, length, drop, Option, Some, None}
+use Rattle.of10_ctl.specs.declared.kind.TheConstants.{BARRIER_REQUEST, QUEUE_GET_CONFIG_REQUEST}
+use Rattle.of10_ctl.specs.Frames.{message_of}
+use Rattle.of10_port.specs.declared.protocol.TheConstants.{NONE, ALL}
+use Rattle.of10_stats.specs.declared.request.StatsRequest.{StatsRequest}
+use Rattle.of10_stats.specs.declared.request.StatsRequest.TheVariants as statistics
+use Rattle.of10_message.specs.Heads.{xid_of}
+use Rattle.flowspace.specs.Owners.{has_port}
+use Rattle.stats_filter.specs.Asking.{question_for}
+use Rattle.stats_filter.specs.Replies.{table_reply}
+use Rattle.slice_words.specs.Items.{lone_rules}
+use Rattle.slice_words.specs.Pasts.{Outgoing, Asks, Answer, told, forwarded}
+use Rattle.slice_words.specs.FlowMods.{Ground}
+
+-- a port is the slice's
+abbrev pub is_port_on : Ground → ℕ → Bool
+is_port_on g port = has_port (lone_rules g.slot g.patterns) g.slot port
+
+-- a slice may ask for its own ports and for all: for statistics of ports NONE names all, for those of queues ALL does
+abbrev pub may_ask : Ground → StatsRequest → Bool
+may_ask g (statistics.Port port) = port == NONE || is_port_on g port
+may_ask g (statistics.Queue port queue) = port == ALL || is_port_on g port
+may_ask g request = true
+
+-- a message that is sent as it is
+abbrev pub asking : List ℕ → Answer
+asking message = forwarded (Asks message ∷ [])
+
+-- a request for statistics is sent on under the transaction id that the slice gets next; its table is told at once
+abbrev pub statistics_asked : Ground → StatsRequest → List ℕ → Answer
+statistics_asked g request message =
+    elim (question_for request g.xid) [ None ↦ told (table_reply (length g.booked) g.quota (xid_of message) ∷ []) | Some question ↦ asking question ]
+
+-- so is a barrier
+abbrev pub barrier_asked : Ground → Answer
+barrier_asked g = asking (message_of BARRIER_REQUEST g.xid [])
+
+-- and a question for queues, as it is
+abbrev pub queues_asked : Ground → List ℕ → Answer
+queues_asked g message = asking (message_of QUEUE_GET_CONFIG_REQUEST g.xid (drop 8 message))
