@@ -1,9 +1,10 @@
 -- What holds of each kind of answer to a message holds of the answer.
-use Rattle.std.proofs.Common.{◌≡◌, refl, ℕ, ◌==◌, Bool, true, false, List, [], ◌∷◌, Option, Some, None, Ok, Err}
+use Rattle.std.proofs.Common.{◌≡◌, refl, ℕ, ◌==◌, Bool, true, false, if◌then◌else◌, List, [], ◌∷◌, length, Option, Some, None, Ok, Err}
 use Rattle.of10_model.proofs.Results.{either}
 use Rattle.of10_ctl.specs.Frames.{error_of, echo_reply_to}
 use Rattle.of10_flow.specs.declared.flow_mod.FlowMod.{FlowMod}
 use Rattle.of10_flow.specs.declared.packet_out.PacketOut.{PacketOut}
+use Rattle.of10_stats.specs.declared.request.StatsRequest.{StatsRequest}
 use Rattle.of10_port.specs.declared.features.Features.{Features}
 use Rattle.of10_port.specs.Features.{spell_features}
 use Rattle.of10_message.specs.declared.controller.FromController.{FromController}
@@ -12,11 +13,14 @@ use Rattle.of10_message.specs.declared.fault.Unread.TheVariants.{BadLength, NoCo
 use Rattle.of10_message.specs.Heads.{xid_of}
 use Rattle.of10_message.specs.Controller.{read_controller}
 use Rattle.port_view.specs.SlicePorts.{features_with}
+use Rattle.stats_filter.specs.Asking.{question_for}
+use Rattle.stats_filter.specs.Replies.{table_reply}
 use Rattle.slice_words.specs.Messages.{Reading, ends_connection, is_dismissing}
 use Rattle.slice_words.specs.Items.{Settings, Item, miss_send_len, features_in, known_ports}
 use Rattle.slice_words.specs.Pasts.{Answer, Past, silence, told as answered, dismissal, forwarded}
 use Rattle.slice_words.specs.FlowMods.{ground_of, flow_mod_fault, sent_on}
 use Rattle.slice_words.specs.PacketOuts.{packet_out_fault, sent_out}
+use Rattle.slice_words.specs.Questions.{is_port_on, may_ask, asking, statistics_asked, barrier_asked, queues_asked}
 use Rattle.slice_words.specs.Answers.{error_for, refused, refusal_of, no_common_version, bad_length, bad_vendor, not_permitted, config_reply, unread_answer, forwarded_answer, keeps_rate, rated_answer, read_answer, message_answer}
 
 -- a property of answers, beside whether the connection is to end, holds of each kind of answer to a message
@@ -30,6 +34,10 @@ pub record HoldsOfEach (P : Bool → Answer → Type 0) (s : Settings) (view : L
   pub tells_configuration : P false (answered (config_reply (miss_send_len view) message ∷ []))
   pub forwards : (m : FlowMod) → read_controller message ≡ Ok (said.FlowMod m) → flow_mod_fault (ground_of s view past) m ≡ None → P false (forwarded (sent_on (ground_of s view past) m))
   pub sends_out : (m : PacketOut) → read_controller message ≡ Ok (said.PacketOut m) → packet_out_fault (ground_of s view past) m ≡ None → P false (forwarded (sent_out (ground_of s view past) m))
+  pub tells_table : P false (answered (table_reply (length (ground_of s view past).booked) s.quota (xid_of message) ∷ []))
+  pub asks_statistics : (request : StatsRequest) (question : List ℕ) → read_controller message ≡ Ok (said.StatsRequest request) → may_ask (ground_of s view past) request ≡ true → question_for request (ground_of s view past).xid ≡ Some question → P false (asking question)
+  pub asks_barrier : read_controller message ≡ Ok said.BarrierRequest → P false (barrier_asked (ground_of s view past))
+  pub asks_queues : (port : ℕ) → read_controller message ≡ Ok (said.QueueGetConfigRequest port) → is_port_on (ground_of s view past) port ≡ true → P false (queues_asked (ground_of s view past) message)
 
 features_holds : (P : Bool → Answer → Type 0) (s : Settings) (view : List Item) (past : List Past) (message : List ℕ) (found : Option Features) → HoldsOfEach P s view past message
     → P false (elim found [ None ↦ silence | Some features ↦ answered (spell_features (features_with features (known_ports view)) (xid_of message) ∷ []) ])
@@ -48,6 +56,24 @@ packet_out_holds : (P : Bool → Answer → Type 0) (s : Settings) (view : List 
 packet_out_holds P s view past message m None each read is = each.sends_out m read is
 packet_out_holds P s view past message m (Some fault) each read is = each.refuses fault
 
+asked_holds : (P : Bool → Answer → Type 0) (s : Settings) (view : List Item) (past : List Past) (message : List ℕ) (request : StatsRequest) (question : Option (List ℕ)) → HoldsOfEach P s view past message
+    → read_controller message ≡ Ok (said.StatsRequest request) → may_ask (ground_of s view past) request ≡ true → question_for request (ground_of s view past).xid ≡ question
+    → P false (elim question [ None ↦ answered (table_reply (length (ground_of s view past).booked) s.quota (xid_of message) ∷ []) | Some sent ↦ asking sent ])
+asked_holds P s view past message request None each read may is = each.tells_table
+asked_holds P s view past message request (Some question) each read may is = each.asks_statistics request question read may is
+
+statistics_holds : (P : Bool → Answer → Type 0) (s : Settings) (view : List Item) (past : List Past) (message : List ℕ) (request : StatsRequest) (may : Bool) → HoldsOfEach P s view past message
+    → read_controller message ≡ Ok (said.StatsRequest request) → may_ask (ground_of s view past) request ≡ may
+    → P false (if may then statistics_asked (ground_of s view past) request message else refused not_permitted message)
+statistics_holds P s view past message request true each read is = asked_holds P s view past message request (question_for request (ground_of s view past).xid) each read is refl
+statistics_holds P s view past message request false each read is = each.refuses not_permitted
+
+queues_holds : (P : Bool → Answer → Type 0) (s : Settings) (view : List Item) (past : List Past) (message : List ℕ) (port : ℕ) (own : Bool) → HoldsOfEach P s view past message
+    → read_controller message ≡ Ok (said.QueueGetConfigRequest port) → is_port_on (ground_of s view past) port ≡ own
+    → P false (if own then queues_asked (ground_of s view past) message else refused not_permitted message)
+queues_holds P s view past message port true each read is = each.asks_queues port read is
+queues_holds P s view past message port false each read is = each.refuses not_permitted
+
 forwarded_holds : (P : Bool → Answer → Type 0) (s : Settings) (view : List Item) (past : List Past) (message : List ℕ) (asked : FromController) → HoldsOfEach P s view past message
     → read_controller message ≡ Ok asked → P false (forwarded_answer s view past asked message)
 forwarded_holds P s view past message said.Hello each read = each.nothing
@@ -61,9 +87,9 @@ forwarded_holds P s view past message (said.SetConfig config) each read = each.n
 forwarded_holds P s view past message (said.PacketOut m) each read = packet_out_holds P s view past message m (packet_out_fault (ground_of s view past) m) each read refl
 forwarded_holds P s view past message (said.FlowMod m) each read = flow_mod_holds P s view past message m (flow_mod_fault (ground_of s view past) m) each read refl
 forwarded_holds P s view past message said.PortMod each read = each.nothing
-forwarded_holds P s view past message (said.StatsRequest request) each read = each.nothing
-forwarded_holds P s view past message said.BarrierRequest each read = each.nothing
-forwarded_holds P s view past message (said.QueueGetConfigRequest port) each read = each.nothing
+forwarded_holds P s view past message (said.StatsRequest request) each read = statistics_holds P s view past message request (may_ask (ground_of s view past) request) each read refl
+forwarded_holds P s view past message said.BarrierRequest each read = each.asks_barrier read
+forwarded_holds P s view past message (said.QueueGetConfigRequest port) each read = queues_holds P s view past message port (is_port_on (ground_of s view past) port) each read refl
 
 rated_holds : (P : Bool → Answer → Type 0) (s : Settings) (view : List Item) (past : List Past) (moment : ℕ) (message : List ℕ) (asked : FromController) → HoldsOfEach P s view past message
     → read_controller message ≡ Ok asked → P false (rated_answer s view past moment asked message)

@@ -4,6 +4,7 @@ use Rattle.std.proofs.lemmas.Bool.{eq-eqb}
 use Rattle.std.proofs.lemmas.List.Elements.{filter_agree}
 use Rattle.std.specs.List.{list_any}
 use Rattle.of10_model.specs.declared.pattern.Pattern.{Pattern}
+use Rattle.of10_model.specs.Normal.{number_at}
 use Rattle.of10_model.specs.Pattern.{has, meets}
 use Rattle.of10_model.specs.Inclusion.{includes_of}
 use Rattle.of10_port.specs.Ports.{port_number}
@@ -17,6 +18,8 @@ use Rattle.action_check.specs.Permitted.{first_code, permitted, expanded}
 use Rattle.flowspace.specs.declared.rules.Rule.{Rule}
 use Rattle.flowspace.specs.Rules.{is_written_by}
 use Rattle.flowspace.specs.Owners.{has_port}
+use Rattle.of10_stats.specs.Replies.{flow_of}
+use Rattle.stats_filter.specs.Keeping.{lies_within, is_own_entry}
 use Rattle.flowmod_expand.specs.Pieces.{writes_of}
 use Rattle.port_view.specs.SlicePorts.{ports_of_slice}
 use Rattle.slice_words.specs.Items.{lone_rule, lone_rules}
@@ -46,6 +49,14 @@ module _ (slot : ℕ) where
 
   pub same_ports : (rules : List Rule) (known : List (List ℕ)) → ports_of_slice (alone rules) slot known ≡ ports_of_slice rules slot known
   same_ports rules known = filter_agree (λ port. has_port (alone rules) slot (port_number port)) (λ port. has_port rules slot (port_number port)) (λ port. same_port rules (port_number port)) known
+
+  same_flow : (rules : List Rule) (m : Pattern) → lies_within (alone rules) slot m ≡ lies_within rules slot m
+  same_flow rules m = any_alone (λ own_. includes_of own_ m) rules
+
+  -- an entry of statistics is the slice's by both
+  pub same_entry : (rules : List Rule) (kind : ℕ) (entry : List ℕ) → is_own_entry (alone rules) slot kind entry ≡ is_own_entry rules slot kind entry
+  unfolding is_own_entry
+  same_entry rules kind entry = rw (same_flow rules ((flow_of entry).0), same_port rules (number_at entry 0 2)) refl
 
   same_back : (rules : List Rule) (image : Origin) → has_way_back (alone rules) slot image ≡ has_way_back rules slot image
   same_back rules (Piece m) = refl

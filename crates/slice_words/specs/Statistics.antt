@@ -40,7 +40,7 @@ begun number kind = if asks_statistics kind then Start number ∷ [] else []
 
 -- an entry is added to what a request collects, or for a sum of flows its packets and bytes are
 abbrev pub entry_call : AskKind → ℕ → List ℕ → CollectionCall
-entry_call kinds.Aggregate number entry = Sum number (flow_of entry).1.0 (flow_of entry).1.1
+entry_call kinds.Aggregate number entry = Sum number (flow_of entry).1 (flow_of entry).2
 entry_call kind number entry = Add number entry
 
 -- an entry of a type is kept for a request that collects it
