@@ -11,6 +11,7 @@ mod packet_outs;
 mod recordings;
 mod records;
 mod sessions;
+mod statistics;
 mod streams;
 mod tables;
 

@@ -1,4 +1,5 @@
-//! Names of what flow-mods and packet-outs are made of, and of what is said of packets and of entries that are gone.
+//! Names of what flow-mods and packet-outs are made of, and of what is said of packets, of entries that are gone and in
+//! statistics.
 
 /// A `#` line says what the lines behind it spell; each of these has a name and its digits.
 const NAMES: &str = "\
@@ -74,6 +75,16 @@ MARK_9 4656534c09000000
 # What a FLOW_REMOVED has behind its priority (section 5.4.2): it was idle for 60 seconds, is 65 seconds old, and had 3
 # packets of 162 bytes.
 GONE 00000000004100000007003c0000000000000000000300000000000000a2
+# An entry of flow statistics (section 5.3.5) of 96 bytes, in front of its match; and behind it: it is 65 seconds old, of
+# priority 10, had 3 packets of 162 bytes, or as many packets as can be counted, or 2 of 163 bytes, and goes to port 2.
+ENTRY 00600000
+AGED 0000004100000007000a000000000000000000000000000000000000000000000000000300000000000000a20000000800020000
+AGED_MOST 0000004100000007000a000000000000000000000000000000000000ffffffffffffffff00000000000000a20000000800020000
+AGED_2 0000004100000007000a000000000000000000000000000000000000000000000000000200000000000000a30000000800020000
+# What a request for flow statistics has behind its match: every table, and no out_port.
+EVERY ff00ffff
+# A table of a slice, up to the number of its entries.
+TABLE_0 00000000666c6f777669736f720000000000000000000000000000000000000000000000003fffff
 ";
 
 /// What a name stands for, if it is one of these; each begins with a capital letter, as no digits do.
