@@ -10,6 +10,5 @@ pub mod Telling
 pub mod Making
 pub mod Reporting
 pub mod Sessions
-pub mod Lacking
 pub mod Ends
 pub mod Numbering

@@ -41,7 +41,7 @@ use Rattle.desk_words.specs.declared.event.Timed.{Timed}
 use Rattle.desk_words.specs.declared.phase.Phase.{Phase}
 use Rattle.desk_words.specs.declared.phase.Phase.TheVariants.{Fresh, Begun, Opened, Ended}
 use Rattle.desk_words.specs.Openings.{well_formed, status_told, opening_with, rules_of, Switch, switch_of, phase_of}
-use Rattle.desk_words.proofs.Silence.{none_or, none_of_removed, none_of_error}
+use Rattle.desk_words.proofs.Silence.{none_or, none_of_removed, none_of_error, none_of_replies}
 use Rattle.desk_words.proofs.Seen.{no_kind}
 
 -- ---- numbers
@@ -385,7 +385,9 @@ none_of_others policy slot switch side message other =
     (none_of_removed is_given (settings_at policy slot switch.features) (well_formed (read_flow_removed message)) (λ entry. refl))
     (either (λ (items : List Item). is_any_given items ≡ false) (is_of ERROR message) _ _
     (none_of_error is_given (settings_at policy slot switch.features) (xid_of message) (well_formed (read_error message)) (λ x class code pair. refl))
-    (none_of_status (settings_at policy slot switch.features) switch.known (status_told message)))))
+    (none_of_replies is_given (settings_at policy slot switch.features) message _
+    (record { barrier = λ x. refl; queues = λ x body. refl; entry = λ x kind bytes. refl; last = λ x kind. refl })
+    (none_of_status (settings_at policy slot switch.features) switch.known (status_told message))))))
   where
     none_of_status : (t : Settings) (known : List (List ℕ)) (status : Option PortStatus) → is_any_given (elim status [ None ↦ [] | Some said ↦ status_items t known said ]) ≡ false
     none_of_status t known None = refl

@@ -3,11 +3,13 @@ use Rattle.std.proofs.Common.{◌≡◌, ℕ, ◌==◌, ◌&&◌, ◌≤◌, not
 use Rattle.std.specs.List.{list_any}
 use Rattle.std.proofs.lemmas.Bool.{false_from_ne_true, or_parts}
 use Rattle.std.proofs.lemmas.Option.{none-some}
-use Rattle.of10_ctl.specs.declared.kind.TheConstants.{ERROR, PACKET_IN, FLOW_REMOVED, PORT_STATUS}
+use Rattle.of10_ctl.specs.declared.kind.TheConstants.{ERROR, PACKET_IN, FLOW_REMOVED, PORT_STATUS, STATS_REPLY, BARRIER_REPLY, QUEUE_GET_CONFIG_REPLY}
 use Rattle.of10_ctl.specs.Frames.{is_bad}
 use Rattle.of10_flow.specs.FlowRemoveds.{read_flow_removed}
 use Rattle.of10_flow.specs.PacketIns.{read_packet_in}
 use Rattle.of10_message.specs.Errors.{read_error}
+use Rattle.of10_message.specs.Replies.{read_queues}
+use Rattle.of10_stats.specs.Replies.{part_of}
 use Rattle.of10_port.specs.declared.features.Features.{Features}
 use Rattle.of10_port.specs.declared.status.PortStatus.{PortStatus}
 use Rattle.of10_port.specs.Ports.{port_number}
@@ -31,10 +33,10 @@ use Rattle.desk_words.specs.declared.phase.Phase.TheVariants.{Fresh, Begun, Open
 use Rattle.of10_ctl.specs.Kinds.{is_of}
 use Rattle.desk_words.specs.Openings.{well_formed, features_told, status_told, phase_of, opening_after, opening_of, rules_of, known_after, known_of, Switch, switch_of}
 use Rattle.desk_words.specs.Verdicts.{is_before}
-use Rattle.desk_words.specs.Histories.{is_slot, settings_at, own_ports, own_features, packet_in_items, status_items, removed_items, error_items, message_items, event_items, phase_items, Side, side_start, side_of, view_of}
+use Rattle.desk_words.specs.Histories.{is_slot, settings_at, own_ports, own_features, packet_in_items, status_items, removed_items, error_items, barrier_items, queues_items, statistics_items, message_items, event_items, phase_items, Side, side_start, side_of, view_of}
 use Rattle.desk_words.specs.Laws.{HasSeen, SeesItsSwitch, AreKnownInOrder}
 use Rattle.desk_words.proofs.Alone.{blind}
-use Rattle.desk_words.proofs.Silence.{none_or, none_of_packet, none_of_removed, none_of_error, untold}
+use Rattle.desk_words.proofs.Silence.{none_or, none_of_packet, none_of_removed, none_of_error, NoReply, none_of_barrier, none_of_queues, none_of_statistics, untold}
 
 -- ---- items that tell nothing of the switch
 
@@ -66,6 +68,9 @@ untelling_all (item ∷ items) view none =
     let rest = untelling_all items (item ∷ view) ((or_parts (tells_switch item) (list_any tells_switch items) none).1) in
     let one = untelling item view ((or_parts (tells_switch item) (list_any tells_switch items) none).0) in
     (rest.0 ∙ one.0, rest.1 ∙ one.1)
+
+untelling_reply : NoReply tells_switch
+untelling_reply = record { barrier = λ x. refl; queues = λ x body. refl; entry = λ x kind bytes. refl; last = λ x kind. refl }
 
 -- ---- the known ports after a status
 
@@ -178,7 +183,13 @@ by_message policy slot switch side message order same =
     (λ is. by_other policy slot switch side.sight.view (removed_items (settings_at policy slot switch.features) (well_formed (read_flow_removed message))) message (none_of_removed tells_switch (settings_at policy slot switch.features) (well_formed (read_flow_removed message)) (λ entry. refl)) (other_untold FLOW_REMOVED message refl is) same)
     (by_test P (is_of ERROR message) _ _
     (λ is. by_other policy slot switch side.sight.view (error_items (settings_at policy slot switch.features) (xid_of message) (well_formed (read_error message))) message (none_of_error tells_switch (settings_at policy slot switch.features) (xid_of message) (well_formed (read_error message)) (λ x class code pair. refl)) (other_untold ERROR message refl is) same)
-    (by_told (settings_at policy slot switch.features) side.sight.view switch.known (status_told message) order same))))
+    (by_test P (is_of BARRIER_REPLY message) _ _
+    (λ is. by_other policy slot switch side.sight.view (barrier_items (settings_at policy slot switch.features) message) message (none_of_barrier tells_switch (settings_at policy slot switch.features) message untelling_reply) (other_untold BARRIER_REPLY message refl is) same)
+    (by_test P (is_of QUEUE_GET_CONFIG_REPLY message) _ _
+    (λ is. by_other policy slot switch side.sight.view (queues_items (settings_at policy slot switch.features) (xid_of message) (well_formed (read_queues message))) message (none_of_queues tells_switch (settings_at policy slot switch.features) (xid_of message) (well_formed (read_queues message)) untelling_reply) (other_untold QUEUE_GET_CONFIG_REPLY message refl is) same)
+    (by_test P (is_of STATS_REPLY message) _ _
+    (λ is. by_other policy slot switch side.sight.view (statistics_items (settings_at policy slot switch.features) (xid_of message) (well_formed (part_of message)) message) message (none_of_statistics tells_switch (settings_at policy slot switch.features) (xid_of message) (well_formed (part_of message)) message untelling_reply) (other_untold STATS_REPLY message refl is) same)
+    (by_told (settings_at policy slot switch.features) side.sight.view switch.known (status_told message) order same)))))))
 
 by_event : (policy : PolicyView) (slot moment : ℕ) (switch : Switch) (side : Side) (event : Event)
     → IsAscending switch.known → known_ports side.sight.view ≡ own_ports (settings_at policy slot switch.features) switch.known

@@ -1,9 +1,9 @@
 -- A slice that is down is sent nothing until it comes up.
-use Rattle.std.proofs.Common.{◌≡◌, ℕ, ◌/◌, ◌%◌, ◌^◌, ◌==◌, ◌&&◌, ◌||◌, Bool, true, false, cond, if◌then◌else◌, List, [], ◌∷◌, ◌++◌, map, refl, ap, ap₂, sym, ◌∙◌, append-nil, true≢false, Option, Some, None, option_and_then, inl, inr, ◌⊎◌}
+use Rattle.std.proofs.Common.{◌≡◌, ℕ, ◌%◌, ◌^◌, ◌==◌, ◌&&◌, ◌||◌, Bool, true, false, cond, if◌then◌else◌, List, [], ◌∷◌, ◌++◌, drop, map, refl, ap, ap₂, sym, ◌∙◌, append-nil, true≢false, Option, Some, None, option_and_then, inl, inr, ◌⊎◌}
 use Rattle.std.proofs.lemmas.Bool.{and_right, eq-eqb, or_parts}
 use Rattle.std.specs.List.{filter, list_any}
 use Rattle.of10_model.proofs.Results.{either, either_none}
-use Rattle.of10_ctl.specs.declared.kind.TheConstants.{ERROR, PACKET_IN, FLOW_REMOVED}
+use Rattle.of10_ctl.specs.declared.kind.TheConstants.{ERROR, PACKET_IN, FLOW_REMOVED, STATS_REPLY, BARRIER_REPLY, QUEUE_GET_CONFIG_REPLY}
 use Rattle.of10_ctl.specs.Frames.{is_bad}
 use Rattle.of10_flow.specs.declared.packet_in.PacketIn.{PacketIn}
 use Rattle.of10_flow.specs.declared.flow_removed.FlowRemoved.{FlowRemoved}
@@ -11,6 +11,9 @@ use Rattle.of10_flow.specs.FlowRemoveds.{read_flow_removed}
 use Rattle.of10_flow.specs.PacketIns.{read_packet_in}
 use Rattle.of10_message.specs.Heads.{xid_of}
 use Rattle.of10_message.specs.Errors.{ErrorMessage, read_error, pair_in}
+use Rattle.of10_message.specs.Replies.{is_bare, QueuesMessage, read_queues}
+use Rattle.of10_stats.specs.declared.reply.StatsPart.{StatsPart}
+use Rattle.of10_stats.specs.Replies.{part_of}
 use Rattle.of10_model.specs.declared.pattern.Pattern.{Pattern}
 use Rattle.of10_model.specs.Inclusion.{includes_of}
 use Rattle.of10_port.specs.declared.features.Features.{Features}
@@ -30,7 +33,7 @@ use Rattle.desk_words.specs.declared.phase.Phase.TheVariants.{Fresh, Begun, Open
 use Rattle.of10_ctl.specs.Kinds.{is_of}
 use Rattle.desk_words.specs.Openings.{well_formed, status_told, features_told, phase_after, phase_of, opening_with, opening_after, opening_of, rules_of, Switch, switch_of}
 use Rattle.desk_words.specs.Verdicts.{is_before}
-use Rattle.desk_words.specs.Histories.{is_slot, settings_at, Side, side_start, side_of, view_of, handed, shares_of, packet_items, packet_in_items, lost_items, holder, number_given, number_told, came_with, status_items, removed_items, error_items, message_items, opening_items, event_items, phase_items, items_of, is_open, is_slice_up}
+use Rattle.desk_words.specs.Histories.{is_slot, settings_at, Side, side_start, side_of, view_of, handed, shares_of, packet_items, packet_in_items, lost_items, holder, number_given, number_told, came_with, status_items, removed_items, is_reply_to, error_items, barrier_items, queues_items, own_entries, is_part, part_items, statistics_items, message_items, opening_items, event_items, phase_items, items_of, is_open, is_slice_up}
 use Rattle.port_view.specs.KnownPorts.{is_kept}
 use Rattle.desk_words.specs.Sent.{sent, sent_by}
 use Rattle.desk_words.specs.Laws.{is_up_of, IsSilentUntilUp, IsDownAfterDown}
@@ -41,10 +44,9 @@ use Rattle.desk_words.proofs.Alone.{blind}
 pub none_or : (test : Item → Bool) (b : Bool) (items : List Item) → list_any test items ≡ false → list_any test (if b then items else []) ≡ false
 none_or test b items none = either (λ (shown : List Item). list_any test shown ≡ false) b items [] none refl
 
-none_handed : (test : Item → Bool) (packet : PacketIn) (shares : List Share) → ((share : Share) → test (handed share packet) ≡ false) → list_any test (map (λ share. handed share packet) shares) ≡ false
-none_handed test packet [] none = refl
-none_handed test packet (share ∷ others) none =
-    ap (λ (one : Bool). one || list_any test (map (λ other. handed other packet) others)) (none share) ∙ none_handed test packet others none
+none_each : {X : Type 0} (test : Item → Bool) (shown : X → Item) (xs : List X) → ((x : X) → test (shown x) ≡ false) → list_any test (map shown xs) ≡ false
+none_each test shown [] none = refl
+none_each test shown (x ∷ xs) none = ap (λ (one : Bool). one || list_any test (map shown xs)) (none x) ∙ none_each test shown xs none
 
 -- nor of two lists of items
 pub none_both : (test : Item → Bool) (items others : List Item) → list_any test items ≡ false → list_any test others ≡ false → list_any test (items ++ others) ≡ false
@@ -65,7 +67,7 @@ none_of_packet test policy rules slot side (Some packet) none lost =
     none_both test (lost_items side.numbered packet) (packet_items policy rules slot side.sight.view packet)
     (none_lost test (option_and_then (λ number. holder number side.numbered) (number_given packet)) lost)
     (none_or test (is_up side.sight.view) (map (λ share. handed share packet) (shares_of policy rules slot packet))
-    (none_handed test packet (shares_of policy rules slot packet) (none packet)))
+    (none_each test (λ share. handed share packet) (shares_of policy rules slot packet) (none packet)))
 
 -- ---- items that say nothing of the connection
 
@@ -88,8 +90,52 @@ none_of_removed test s (Some entry) none =
 pub none_of_error : (test : Item → Bool) (s : Settings) (xid : ℕ) (told : Option ErrorMessage) → ((x class code : ℕ) (pair : Option (Pattern × ℕ)) → test (Fault x class code pair) ≡ false) → list_any test (error_items s xid told) ≡ false
 none_of_error test s xid None none = refl
 none_of_error test s xid (Some error) none =
-    none_or test (xid / 2 ^ 24 == s.slot) (Fault (xid % 2 ^ 24) error.class error.code (pair_in xid error.cause) ∷ [])
+    none_or test (is_reply_to s xid) (Fault (xid % 2 ^ 24) error.class error.code (pair_in xid error.cause) ∷ [])
     (ap (λ (one : Bool). one || false) (none (xid % 2 ^ 24) error.class error.code (pair_in xid error.cause)))
+
+-- no reply to a slice's question passes a test
+pub record NoReply (test : Item → Bool) : Type 0 where
+  pub barrier : (x : ℕ) → test (Barrier x) ≡ false
+  pub queues : (x : ℕ) (body : List ℕ) → test (Queues x body) ≡ false
+  pub entry : (x kind : ℕ) (bytes : List ℕ) → test (Entry x kind bytes) ≡ false
+  pub last : (x kind : ℕ) → test (Last x kind) ≡ false
+
+pub none_of_barrier : (test : Item → Bool) (s : Settings) (message : List ℕ) → NoReply test → list_any test (barrier_items s message) ≡ false
+none_of_barrier test s message none =
+    none_or test (is_reply_to s (xid_of message) && is_bare message) (Barrier (xid_of message % 2 ^ 24) ∷ [])
+    (ap (λ (one : Bool). one || false) (none.barrier (xid_of message % 2 ^ 24)))
+
+pub none_of_queues : (test : Item → Bool) (s : Settings) (xid : ℕ) (told : Option QueuesMessage) → NoReply test → list_any test (queues_items s xid told) ≡ false
+none_of_queues test s xid None none = refl
+none_of_queues test s xid (Some queues) none =
+    none_or test (is_reply_to s xid && is_own_port s queues.port) (Queues (xid % 2 ^ 24) queues.body ∷ [])
+    (ap (λ (one : Bool). one || false) (none.queues (xid % 2 ^ 24) queues.body))
+
+none_of_part : (test : Item → Bool) (s : Settings) (x : ℕ) (part : StatsPart) (body : List ℕ) → NoReply test → list_any test (part_items s x part body) ≡ false
+none_of_part test s x part body none =
+    none_both test (map (Entry x part.kind) (own_entries s part.kind body)) (if part.more then [] else Last x part.kind ∷ [])
+    (none_each test (Entry x part.kind) (own_entries s part.kind body) (none.entry x part.kind))
+    (either (λ (items : List Item). list_any test items ≡ false) part.more [] (Last x part.kind ∷ []) refl (ap (λ (one : Bool). one || false) (none.last x part.kind)))
+
+pub none_of_statistics : (test : Item → Bool) (s : Settings) (xid : ℕ) (told : Option StatsPart) (message : List ℕ) → NoReply test → list_any test (statistics_items s xid told message) ≡ false
+none_of_statistics test s xid None message none = refl
+none_of_statistics test s xid (Some part) message none =
+    none_or test (is_reply_to s xid && is_part part.kind (drop part.from message)) (part_items s (xid % 2 ^ 24) part (drop part.from message))
+    (none_of_part test s (xid % 2 ^ 24) part (drop part.from message) none)
+
+-- a message is such a reply, or something else
+pub none_of_replies : (test : Item → Bool) (s : Settings) (message : List ℕ) (others : List Item) → NoReply test → list_any test others ≡ false
+    → list_any test (
+    if is_of BARRIER_REPLY message then barrier_items s message
+    else if is_of QUEUE_GET_CONFIG_REPLY message then queues_items s (xid_of message) (well_formed (read_queues message))
+    else if is_of STATS_REPLY message then statistics_items s (xid_of message) (well_formed (part_of message)) message
+    else others
+    ) ≡ false
+none_of_replies test s message others none none_of_others =
+    let P : List Item → Type 0 = λ items. list_any test items ≡ false in
+    either P (is_of BARRIER_REPLY message) _ _ (none_of_barrier test s message none)
+    (either P (is_of QUEUE_GET_CONFIG_REPLY message) _ _ (none_of_queues test s (xid_of message) (well_formed (read_queues message)) none)
+    (either P (is_of STATS_REPLY message) _ _ (none_of_statistics test s (xid_of message) (well_formed (part_of message)) message none) none_of_others))
 
 -- what a message of the switch shows says nothing of the slice's connection
 pub plain_message : (policy : PolicyView) (slot : ℕ) (switch : Switch) (side : Side) (message : List ℕ) → are_plain (message_items policy slot switch side message) ≡ false
@@ -102,7 +148,9 @@ plain_message policy slot switch side message =
     (none_of_removed is_forgetting (settings_at policy slot switch.features) (well_formed (read_flow_removed message)) (λ entry. refl))
     (either (λ (items : List Item). are_plain items ≡ false) (is_of ERROR message) _ _
     (none_of_error is_forgetting (settings_at policy slot switch.features) (xid_of message) (well_formed (read_error message)) (λ x class code pair. refl))
-    (plain_status (settings_at policy slot switch.features) switch.known (status_told message)))))
+    (none_of_replies is_forgetting (settings_at policy slot switch.features) message _
+    (record { barrier = λ x. refl; queues = λ x body. refl; entry = λ x kind bytes. refl; last = λ x kind. refl })
+    (plain_status (settings_at policy slot switch.features) switch.known (status_told message))))))
 
 pub plain_opening : (policy : PolicyView) (slot : ℕ) (told : Option Features) → are_plain (opening_items policy slot told) ≡ false
 plain_opening policy slot None = refl

@@ -1,5 +1,5 @@
 -- Statements about histories and operations. `src/laws.rt` has a function for each, which is proved.
-use Rattle.std.specs.Prelude.{ℕ, ◌≡◌, ◌+◌, ◌==◌, ◌&&◌, ◌||◌, not, Bool, true, false, if◌then◌else◌, List, [], ◌∷◌, ◌++◌, filter, filter_map, length, map, take, reverse, is_some, IfSome, ◌-◌, ◌<◌, ◌≤◌, Option, Some, None, Result}
+use Rattle.std.specs.Prelude.{ℕ, ◌≡◌, ◌+◌, ◌==◌, ◌&&◌, ◌||◌, not, Bool, true, false, if◌then◌else◌, List, [], ◌∷◌, ◌++◌, filter, filter_map, length, map, take, reverse, is_some, IfSome, ◌<◌, ◌≤◌, Option, Some, None, Result}
 use Rattle.std.specs.declared.alloc.AllocError.{AllocError}
 use Rattle.std.specs.List.{list_any, take_while, flat_map, enumerate_from, range_with_len}
 use Rattle.std.specs.Option.{option_or}
@@ -9,10 +9,8 @@ use Rattle.of10_port.specs.declared.status.PortStatus.{PortStatus}
 use Rattle.of10_ctl.specs.Streams.{frames_of}
 use Rattle.flowspace.specs.Policies.{PolicyView}
 use Rattle.port_view.specs.KnownPorts.{IsAscending, known_of as known_by}
-use Rattle.recording.specs.declared.item.Item.{Item}
 use Rattle.recording.specs.Recordings.{Told, switch_bytes, slice_bytes}
 use Rattle.outbox.specs.Queues.{Queue, size}
-use Rattle.of10_message.specs.Heads.{kind_of}
 use Rattle.slice_words.specs.Messages.{is_dismissing}
 use Rattle.slice_words.specs.Items.{features_in, known_ports}
 use Rattle.slice_words.specs.Items as items
@@ -30,7 +28,6 @@ use Rattle.desk_words.specs.Verdicts.{is_fresh, is_ended, is_over, is_switch_up}
 use Rattle.desk_words.specs.Operations.{Operation, Step, Take, takes_in, events_of, empties_slice, ends, slice_limit, lane_limit, is_slice, is_switch, queue_of, lane_of}
 use Rattle.desk_words.specs.Recorded.{is_same_stream, begins_stream, stream_before, timed_at, happenings, next_of, next_after, history_of, history_at, events_in, completed}
 use Rattle.desk_words.specs.Reports.{Place, lane_lines, slice_lines, name_at, close_lines, down_lines, event_lines, last_line, report}
-use Rattle.desk_words.specs.Built.{is_unbuilt_of_switch, is_unbuilt_of_slice, Lack}
 
 -- ---- the switch's connection
 
@@ -358,38 +355,3 @@ abbrev pub IsToldAsAlone : PolicyView → ℕ → ℕ → List Told → Type 0
 IsToldAsAlone policy slot switch records =
     let h = history_of policy switch (reverse records) in
     told_over policy slot (since_up switch (all_happened policy records)) ≡ alone (settings_at policy slot (opening_of h)) (view_of policy slot h)
-
--- ---- want of memory
-
--- ---- what isn't built
-
--- a message that came in a record isn't built
-abbrev pub is_unbuilt : Told → List ℕ → Bool
-is_unbuilt r message = if r.kind == switch_bytes then is_unbuilt_of_switch message else r.kind == slice_bytes && is_unbuilt_of_slice message
-
--- the records of a file's items, newest first, with those before them
-abbrev pub told_after : List Told → List (Item × Told) → List Told
-told_after before pairs = reverse (map (λ pair. pair.1) pairs) ++ before
-
--- wherever a record stands among those of a file, it completes no message that isn't built
-abbrev pub AreBuilt : List Told → List (Item × Told) → Type 0
-AreBuilt before pairs =
-    (earlier later : List (Item × Told)) (item : Item) (r : Told) → pairs ≡ earlier ++ (item, r) ∷ later
-    → list_any (is_unbuilt r) (completed r (told_after before earlier)) ≡ false
-
--- a lack is that of the first message that isn't built: all that were completed before it are built, in the records before its own and in that. It tells the message's type, and where the record's head begins
-pub record IsFirstLack (before : List Told) (pairs : List (Item × Told)) (lack : Lack) : Type 0 where
-  pub earlier : List (Item × Told)
-  pub item : Item
-  pub own : Told
-  pub later : List (Item × Told)
-  pub stands : pairs ≡ earlier ++ (item, own) ∷ later
-  pub built : AreBuilt before earlier
-  pub front : List (List ℕ)
-  pub message : List ℕ
-  pub rest : List (List ℕ)
-  pub completes : completed own (told_after before earlier) ≡ front ++ message ∷ rest
-  pub front_built : list_any (is_unbuilt own) front ≡ false
-  pub unbuilt : is_unbuilt own message ≡ true
-  pub kind : lack.kind ≡ kind_of message
-  pub place : lack.at ≡ item.from - 16

@@ -6,5 +6,4 @@ pub mod Verdicts
 pub mod Operations
 pub mod Recorded
 pub mod Reports
-pub mod Built
 pub mod Laws

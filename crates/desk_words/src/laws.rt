@@ -1,10 +1,9 @@
 //! Laws of the definitions. Each function's contract is the law; its body does nothing.
 
-ghost use Rattle.std.specs.Prelude.{ℕ, ◌≡◌, ◌↔◌, true, List, Some, None, Result};
+ghost use Rattle.std.specs.Prelude.{ℕ, ◌≡◌, true, List, Result};
 ghost use Rattle.std.specs.declared.alloc.AllocError.{AllocError};
 ghost use Rattle.of10_port.specs.declared.features.Features.{Features};
 ghost use Rattle.flowspace.specs.Policies.{PolicyView};
-ghost use Rattle.recording.specs.declared.item.Item.{Item};
 ghost use Rattle.recording.specs.Recordings.{Told};
 ghost use Rattle.desk_words.specs.declared.event.Event.TheVariants.{SwitchDown, SliceDown};
 ghost use Rattle.desk_words.specs.declared.event.Timed.{Timed};
@@ -14,8 +13,7 @@ ghost use Rattle.desk_words.specs.Histories.{is_slot, side_of};
 ghost use Rattle.desk_words.specs.Numbers.{AreNumbered};
 ghost use Rattle.desk_words.specs.Operations.{Operation, IsLegal, queue_of, lane_of};
 ghost use Rattle.desk_words.specs.Reports.{Place};
-ghost use Rattle.desk_words.specs.Built.{Lack, first_lack};
-ghost use Rattle.desk_words.specs.Laws.{IsPhaseByEvents, IsAlone, AreAlike, IsErasable, IsBlindBefore, IsSilentUntilUp, IsDownAfterDown, IsUpByEvents, sent_since, taken_since, lane_since, lane_taken_since, AreInOrder, SliceWaits, LaneWaits, AreCompletedOnce, SeesItsSwitch, AreKnownInOrder, AreKnownAsTold, MakesTheFirst, GetsTheFirst, ComeAtTheirSwitch, ComeBeforeLater, HasEachEventOnce, ShowsEachSlice, IsToldAsAlone, AreBuilt, IsFirstLack};
+ghost use Rattle.desk_words.specs.Laws.{IsPhaseByEvents, IsAlone, AreAlike, IsErasable, IsBlindBefore, IsSilentUntilUp, IsDownAfterDown, IsUpByEvents, sent_since, taken_since, lane_since, lane_taken_since, AreInOrder, SliceWaits, LaneWaits, AreCompletedOnce, SeesItsSwitch, AreKnownInOrder, AreKnownAsTold, MakesTheFirst, GetsTheFirst, ComeAtTheirSwitch, ComeBeforeLater, HasEachEventOnce, ShowsEachSlice, IsToldAsAlone};
 
 /// The switch's connection has ended where, after it came, it went or a message of a bad length came; the
 /// opening is the first FEATURES_REPLY between.
@@ -127,11 +125,4 @@ pub fn event_shows_each_slice()
 /// what a proxy sends that serves the slice alone on its view of the switch.
 pub fn slice_is_told_as_alone()
     ensures { (policy : PolicyView) (slot switch : ℕ) (records : List Told) → IsToldAsAlone policy slot switch records }
-{}
-
-/// A recording lacks nothing exactly where each record completes only messages that are built; and its
-/// first lack is exactly that of the first message that isn't, in the first record that completes one.
-pub fn lack_is_the_first()
-    ensures nothing { (before : List Told) (pairs : List (Item × Told)) → (first_lack before pairs ≡ None) ↔ AreBuilt before pairs }
-    ensures first { (before : List Told) (pairs : List (Item × Told)) (lack : Lack) → (first_lack before pairs ≡ Some lack) ↔ IsFirstLack before pairs lack }
 {}
