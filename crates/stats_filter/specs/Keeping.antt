@@ -1,5 +1,5 @@
 -- Which entries of the switch's statistics are a slice's (OpenFlow 1.0.0, section 5.3.5). All of this is this proxy's own rule.
-use Rattle.std.specs.Prelude.{ℕ, zero, suc, ◌≡◌, ◌==◌, ◌||◌, ◌&&◌, Bool, true, false, if◌then◌else◌, List, [], ◌∷◌, length, take, drop, Option, Some, None, IfSome}
+use Rattle.std.specs.Prelude.{ℕ, zero, suc, ◌≡◌, ◌==◌, ◌||◌, ◌&&◌, Bool, true, false, if◌then◌else◌, List, [], ◌∷◌, length, take, drop, Some, None}
 use Rattle.std.specs.List.{list_any}
 use Rattle.of10_model.specs.Normal.{number_at}
 use Rattle.of10_model.specs.Inclusion.{includes_of}

@@ -1,3 +1,4 @@
 pub mod Asking
 pub mod Keeping
 pub mod Replies
+pub mod Laws

@@ -1,5 +1,5 @@
 -- The statistics that a slice gets (OpenFlow 1.0.0, section 5.3.5). How they are cut into replies, and what its table is, is this proxy's own rule.
-use Rattle.std.specs.Prelude.{ℕ, ◌+◌, leb, Bool, true, false, if◌then◌else◌, List, [], ◌∷◌, ◌++◌, length, Option, Some, None, codes}
+use Rattle.std.specs.Prelude.{ℕ, ◌+◌, leb, Bool, true, false, if◌then◌else◌, List, [], ◌∷◌, ◌++◌, length, Some, None, codes}
 use Rattle.byteorder.specs.Endian.{big_bytes}
 use Rattle.of10_action.specs.Actions.{padding}
 use Rattle.of10_ctl.specs.declared.kind.TheConstants.{STATS_REPLY}
@@ -26,6 +26,11 @@ placed filled (entry ∷ later) =
 -- whole entries in their order, as many on each page as fit; one page at least
 abbrev pub pages : List (List ℕ) → List (List ℕ)
 pages entries = (placed 0 entries).0 ∷ (placed 0 entries).1
+
+-- the pages of the entries behind a page: none where there are no more
+abbrev pub later_pages : List (List ℕ) → List (List ℕ)
+later_pages [] = []
+later_pages (entry ∷ later) = pages (entry ∷ later)
 
 -- ---- replies
 

@@ -12,11 +12,7 @@ use xid_map::AskKind;
 /// The message that asks the switch for what a slice requests (OpenFlow 1.0.0, section 5.3.5), under this
 /// transaction id: a sum of flows is asked for as the single flows. None for tables, which this proxy answers
 /// itself.
-pub fn ask(
-    alloc: Global,
-    request: &StatsRequest,
-    xid: u32,
-) -> Result<Option<Frame>, AllocError>
+pub fn ask(alloc: Global, request: &StatsRequest, xid: u32) -> Result<Option<Frame>, AllocError>
     ensures { IfOk result (λ asked. asked ≡ question_for request.now xid) }
 {
     match request {

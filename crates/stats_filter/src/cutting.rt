@@ -1,10 +1,12 @@
 //! The replies that a slice gets.
 
-ghost use Rattle.std.specs.Prelude.{ℕ, ◌≡◌, ◌≤◌, Some, IfOk, length};
+ghost use Rattle.std.specs.Prelude.{ℕ, ◌≡◌, ◌<◌, ◌≤◌, ◌∷◌, Some, IfOk, IsSome, length, take, drop};
 ghost use Rattle.std.specs.List.{All};
+ghost use Rattle.of10_stats.specs.Replies.{entry_size_of};
 ghost use Rattle.stats_filter.specs.Asking.{type_sent};
 ghost use Rattle.stats_filter.specs.Keeping.{entries_in};
-ghost use Rattle.stats_filter.specs.Replies.{reply_with, replies_for, sum_reply, table_reply};
+ghost use Rattle.stats_filter.specs.Replies.{pages, later_pages, reply_with, replies_for, sum_reply, table_reply};
+ghost use Rattle.stats_filter.specs.Laws.{AreSmall};
 
 use crate::asking::type_sent;
 use of10_ctl::kind::STATS_REPLY;
@@ -19,13 +21,7 @@ use xid_map::AskKind;
 const PAGE: usize = 65_523;
 
 /// A reply of a type of statistics with this body, behind which more replies come or none.
-fn reply(
-    alloc: Global,
-    kind: u16,
-    more: bool,
-    xid: u32,
-    body: &[u8],
-) -> Result<Frame, AllocError>
+fn reply(alloc: Global, kind: u16, more: bool, xid: u32, body: &[u8]) -> Result<Frame, AllocError>
     requires { length body.now ≤ 65523 }
     ensures { IfOk result (λ f. f ≡ reply_with kind more xid body.now) }
 {
@@ -39,6 +35,12 @@ fn reply(
 /// How many bytes of the entries, which stand one behind another, the first page takes: whole entries, as many
 /// as fit.
 fn page_end(kind: u16, entries: &[u8]) -> usize
+    requires { AreSmall (entries_in kind entries.now) }
+    ensures within { result ≤ length entries.now }
+    ensures small { result ≤ 65523 }
+    ensures page { pages (entries_in kind entries.now) ≡ take result entries.now ∷ later_pages (entries_in kind (drop result entries.now)) }
+    ensures goes_on { IsSome (entry_size_of kind (drop result entries.now)) → 0 < result }
+    ensures later { AreSmall (entries_in kind (drop result entries.now)) }
 {
     let mut end = 0;
     while let Some(size) = entry_size(kind, &entries[end..]) {
@@ -68,17 +70,18 @@ pub fn replies(
     };
     let mut rest = entries;
     loop {
-        let end = page_end(sent, rest);
-        let more = entry_size(sent, &rest[end..]).is_some();
-        frames.push(reply(alloc, sent, more, xid, &rest[..end])?)?;
+        let (page, later) = rest.split_at(page_end(sent, rest));
+        let more = entry_size(sent, later).is_some();
+        frames.push(reply(alloc, sent, more, xid, page)?)?;
         if !more {
             return Ok(frames);
         }
-        rest = &rest[end..];
+        rest = later;
     }
 }
 
 /// The reply with sums over flows (OpenFlow 1.0.0, section 5.3.5, OFPST_AGGREGATE).
+#[tactic(auto, unfolding(crate::specs::Replies::sum_reply))]
 pub fn aggregate(
     alloc: Global,
     packets: u64,
@@ -98,12 +101,8 @@ pub fn aggregate(
 
 /// The reply with the one table that a slice has (OpenFlow 1.0.0, section 5.3.5, OFPST_TABLE): as many entries
 /// as its quota, so many of them in use.
-pub fn table_reply(
-    alloc: Global,
-    active: u32,
-    quota: u32,
-    xid: u32,
-) -> Result<Frame, AllocError>
+#[tactic(auto, unfolding(crate::specs::Replies::table_reply))]
+pub fn table_reply(alloc: Global, active: u32, quota: u32, xid: u32) -> Result<Frame, AllocError>
     ensures { IfOk result (λ f. f ≡ table_reply active quota xid) }
 {
     let mut body = Vec::with_capacity(alloc, 64)?;

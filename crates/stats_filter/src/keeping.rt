@@ -18,10 +18,12 @@ fn lies_within(policy: &SwitchPolicy, slot: u8, m: &Match) -> bool
     ensures { result ≡ lies_within policy.now.rules slot m.now }
 {
     let rules = policy.rules();
-    policy
-        .write_places(slot)
-        .iter()
-        .any(|place| includes(&rules[usize::from(*place)].pattern, m))
+    for place in policy.write_places(slot) {
+        if includes(&rules[usize::from(*place)].pattern, m) {
+            return true;
+        }
+    }
+    false
 }
 
 fn keeps_flow(policy: &SwitchPolicy, slot: u8, entry: &[u8]) -> bool
@@ -42,6 +44,7 @@ fn keeps_port(policy: &SwitchPolicy, slot: u8, entry: &[u8]) -> bool
 /// Whether a well-formed entry that came for a request of the kind is the slice's: a flow where its match lies
 /// in one of the slice's write rules, a port or a queue where its port is the slice's, and each description of
 /// the switch. Takes no memory.
+#[tactic(auto, unfolding(crate::specs::Keeping::is_own_entry))]
 pub fn keep(policy: &SwitchPolicy, slot: u8, kind: AskKind, entry: &[u8]) -> bool
     requires { MayCome kind entry.now }
     ensures { result ≡ is_kept policy.now.rules slot kind entry.now }

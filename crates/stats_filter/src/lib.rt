@@ -5,6 +5,7 @@
 mod asking;
 mod cutting;
 mod keeping;
+pub mod laws;
 
 pub use asking::{ask, type_sent};
 pub use cutting::{aggregate, replies, table_reply};
