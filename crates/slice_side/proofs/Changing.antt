@@ -3,16 +3,17 @@ use Rattle.std.proofs.Common.{◌≡◌, ℕ, ◌&&◌, not, Bool, true, false, 
 use Rattle.of10_message.specs.declared.controller.FromController.TheVariants as said
 use Rattle.of10_message.specs.Controller.{read_controller}
 use Rattle.xid_map.specs.Requests.{RequestCall, Issue, Forget, RequestsStand, issued}
-use Rattle.xid_map.specs.Collections.{CollectionCall, EndAll, Collected, CollectionsStand}
+use Rattle.xid_map.specs.Collections.{CollectionCall, Start, EndAll, Collected, CollectionsStand}
 use Rattle.rate_bucket.specs.Rates.{Bucket, BucketStands}
 use Rattle.flow_book.specs.Books.{BookCall, Added, Book, BookStands}
 use Rattle.flow_book.specs.declared.state.SliceState.{SliceState}
-use Rattle.slice_words.specs.Messages.{Reading, ends_connection, is_dismissing, length_wanted, length_set, asks_switch, is_question, asked_of}
+use Rattle.slice_words.specs.Messages.{Reading, ends_connection, is_dismissing, length_wanted, length_set, asks_switch, is_question, kind_asked, asked_of}
 use Rattle.slice_words.specs.Items.{Settings, Sight, Item, Msg, is_up, latest}
 use Rattle.buffer_map.specs.declared.held.Held.{Held}
 use Rattle.slice_words.specs.Pasts.{Outgoing, Answer, Past, view_in, is_any, silence}
 use Rattle.slice_words.specs.Buffers.{HeldPacket, is_named, held_packets}
 use Rattle.slice_words.specs.Calls.{request_calls, collection_calls, questions, bookings, book_calls}
+use Rattle.slice_words.specs.Statistics.{begun}
 use Rattle.slice_words.specs.Answers.{answer, message_answer}
 use Rattle.slice_words.specs.Alone.{Answering, played, answer_to}
 use Rattle.slice_words.specs.Standing.{SliceStands, past_of, held_as}
@@ -22,10 +23,12 @@ use Rattle.of10_flow.specs.declared.flow_mod.FlowMod.{FlowMod}
 use Rattle.of10_flow.specs.declared.protocol.TheConstants.{SEND_FLOW_REM}
 use Rattle.of10_flow.specs.Tables.{has_flag}
 use Rattle.flowmod_expand.specs.Pieces.{pieces_within}
+use Rattle.xid_map.specs.declared.asked.AskKind.{AskKind}
 use Rattle.xid_map.specs.declared.asked.Asked.{Asked}
-use Rattle.slice_side.specs.declared.change.Change.TheVariants.{Heard, Set, Dismissed, Rated, Modified, SentOut}
+use Rattle.stats_filter.specs.Asking.{type_sent}
+use Rattle.slice_side.specs.declared.change.Change.TheVariants.{Heard, Set, Dismissed, Rated, Modified, SentOut, Inquired}
 use Rattle.slice_side.specs.declared.change.Modification.{Modification}
-use Rattle.slice_side.specs.Reactions.{kept, is_used, Uses, IsChange, with_item}
+use Rattle.slice_side.specs.Reactions.{kept, is_used, Uses, is_inquiry, IsChange, with_item}
 use Rattle.slice_side.specs.Requesting.{IsRequested}
 
 -- ---- readings
@@ -88,6 +91,10 @@ unasked s view past moment message none =
       tells_configuration = refl;
       forwards = λ m read fault. absurd (true≢false (ap asks_switch (sym read) ∙ none));
       sends_out = λ m read fault. absurd (true≢false (ap asks_switch (sym read) ∙ none));
+      tells_table = refl;
+      asks_statistics = λ request question read may is. absurd (true≢false (ap asks_switch (sym read) ∙ none));
+      asks_barrier = λ read. absurd (true≢false (ap asks_switch (sym read) ∙ none));
+      asks_queues = λ port read own. absurd (true≢false (ap asks_switch (sym read) ∙ none));
     })
 
 by_up : (up : Bool) (a : Answer) → a.to_switch ≡ [] → (if up then a else silence).to_switch ≡ []
@@ -114,8 +121,8 @@ pub record Does (s : Settings) (view : List Item) (message : List ℕ) (moment :
 abbrev requests_made : Bool → Bool → List ℕ → List RequestCall → List RequestCall
 requests_made ends sends message calls = (if ends then Forget ∷ [] else if sends then Issue (asked_of (read_controller message) message) ∷ [] else []) ++ calls
 
-abbrev collections_made : Bool → List CollectionCall → List CollectionCall
-collections_made ends calls = if ends then EndAll ∷ calls else calls
+abbrev collections_made : Bool → Bool → ℕ → List ℕ → List CollectionCall → List CollectionCall
+collections_made ends sends number message calls = (if ends then EndAll ∷ [] else if sends then begun number (kind_asked (read_controller message)) else []) ++ calls
 
 abbrev questions_made : Bool → ℕ → List ℕ → List ℕ
 questions_made asks at asked = if asks then at ∷ asked else asked
@@ -132,7 +139,7 @@ pub record Changed (s : Settings) (sight : Sight) (message : List ℕ) (moment :
   pub up_is : new.up ≡ (if ends then false else is_up sight.view)
   pub length_is : new.miss_send_len ≡ (if ends then 128 else unwrap_or set old.miss_send_len)
   pub requests : RequestsStand s.slot (requests_made ends sends message (request_calls s (past_of s sight.view))) new.xids
-  pub collections : CollectionsStand (collections_made ends (collection_calls (past_of s sight.view))) new.collections
+  pub collections : CollectionsStand (collections_made ends sends (issued (request_calls s (past_of s sight.view))) message (collection_calls s (past_of s sight.view))) new.collections
   pub bucket : BucketStands (questions_made asks (max moment (latest sight.view)) (questions (past_of s sight.view))) new.bucket
   pub rate : new.bucket.rate ≡ old.bucket.rate
   pub burst : new.bucket.burst ≡ old.bucket.burst
@@ -146,10 +153,6 @@ questions_with s view message moment asks is =
     ap (λ (items : List Item). if is_up items && is_question message then max moment (latest items) ∷ questions (past_of s view) else questions (past_of s view)) (view_in-played (answer s) view)
     ∙ rw is refl
 
-collections_with : (ends : Bool) (now : Past) (before : List Past) → collections_made ends (map (λ (p : Past). EndAll) before) ≡ map (λ (p : Past). EndAll) (if ends then now ∷ before else before)
-collections_with true now before = refl
-collections_with false now before = refl
-
 pub stands_with : (s : Settings) (sight : Sight) (message : List ℕ) (moment : ℕ) (ends asks sends : Bool) (set : Option ℕ) (old new : SliceState)
     → Does s sight.view message moment ends asks sends set → SliceStands s sight old → Changed s sight message moment ends asks sends set old new
     → SliceStands s (with_item (Msg message moment) sight) new
@@ -158,7 +161,7 @@ stands_with s sight message moment ends asks sends set old new does stands chang
   miss_send_len = changed.length_is ∙ rw (does.ending, does.setting, stands.miss_send_len) refl;
   moment = changed.moment_is;
   requests = subst (λ (calls : List RequestCall). RequestsStand s.slot calls new.xids) (rw (does.ending, does.sending) refl) changed.requests;
-  collections = subst (λ (calls : List CollectionCall). CollectionsStand calls new.collections) (rw does.ending (collections_with ends _ _)) changed.collections;
+  collections = subst (λ (calls : List CollectionCall). CollectionsStand calls new.collections) (rw (does.ending, does.sending) refl) changed.collections;
   bucket = subst (λ (asked : List ℕ). BucketStands asked new.bucket) (sym (questions_with s sight.view message moment asks does.asking)) changed.bucket;
   book = subst (λ (calls : List BookCall). BookStands calls new.book) (rw does.sending refl) changed.book;
   given = changed.given ∙ stands.given;
@@ -245,7 +248,7 @@ dismissed s sight (Msg message moment) t m old new at forgot stands is =
       up_is = refl;
       length_is = forgot.length_is;
       requests = forgot.requests s.slot (request_calls s (past_of s sight.view)) stands.requests;
-      collections = forgot.collections (collection_calls (past_of s sight.view)) stands.collections;
+      collections = forgot.collections (collection_calls s (past_of s sight.view)) stands.collections;
       bucket = subst (λ bucket. BucketStands (questions (past_of s sight.view)) bucket) (sym forgot.same_bucket) stands.bucket;
       rate = ap (λ bucket. bucket.rate) forgot.same_bucket;
       burst = ap (λ bucket. bucket.burst) forgot.same_bucket;
@@ -292,17 +295,18 @@ added_same : (made : Modification) (m : FlowMod) (s : Settings) (number : ℕ) �
     → Added made.command made.pieces.items made.priority made.asks number ∷ [] ≡ Added m.command (pieces_within s.patterns m.pattern) m.priority (has_flag SEND_FLOW_REM m) number ∷ []
 added_same made m s number command pieces priority asks = λ i. Added (command i) (pieces i) (priority i) (asks i) number ∷ []
 
--- what is sent on for a message changes all but the book
+-- what is sent on for a message changes all but the book and what is collected
 module _ (s : Settings) (sight : Sight) (message : List ℕ) (at : ℕ) (asked : Asked) (used : Option ℕ) (old new : SliceState) where
-  requested : (book : Book) → IsRequested at asked used old new → SliceStands s sight old → is_up sight.view ≡ true → asks_switch (read_controller message) ≡ true → is_any (answer_to s sight.view (Msg message at)).to_switch ≡ true
+  requested : (book : Book) (collections : List Collected) → IsRequested at asked used old new → SliceStands s sight old → is_up sight.view ≡ true → asks_switch (read_controller message) ≡ true → is_any (answer_to s sight.view (Msg message at)).to_switch ≡ true
       → asked ≡ asked_of (read_controller message) message → Uses used (held_packets (past_of s sight.view)) (answer_to s sight.view (Msg message at)).to_switch
       → BookStands (bookings s (issued (request_calls s (past_of s sight.view))) (read_controller message) ++ book_calls s (past_of s sight.view)) book
-      → SliceStands s (with_item (Msg message at) sight) (record new { book = book })
-  requested book made stands up asking sent same uses booked =
+      → CollectionsStand (begun (issued (request_calls s (past_of s sight.view))) (kind_asked (read_controller message)) ++ collection_calls s (past_of s sight.view)) collections
+      → SliceStands s (with_item (Msg message at) sight) (record new { book = book; collections = collections })
+  requested book collections made stands up asking sent same uses booked collected =
       let plain = question_is_plain (read_controller message) asking in
       let now : new.moment ≡ max at (latest sight.view) = made.moment ∙ ap (max at) stands.moment in
       let calls = request_calls s (past_of s sight.view) in
-      stands_with s sight message at false true true None old (record new { book = book })
+      stands_with s sight message at false true true None old (record new { book = book; collections = collections })
       (record { ending = plain.0; asking = both_true (is_up sight.view) (is_question message) up asking; sending = sent; setting = plain.1 })
       stands
       (record {
@@ -310,7 +314,7 @@ module _ (s : Settings) (sight : Sight) (message : List ℕ) (at : ℕ) (asked :
         up_is = made.same_up ∙ stands.up;
         length_is = made.same_length;
         requests = subst (λ (a : Asked). RequestsStand s.slot (Issue a ∷ calls) new.xids) same (made.xids s.slot calls stands.requests);
-        collections = subst (λ (collected : List Collected). CollectionsStand (collection_calls (past_of s sight.view)) collected) (sym made.same_collections) stands.collections;
+        collections = collected;
         bucket = subst (λ (at_ : ℕ). BucketStands (at_ ∷ questions (past_of s sight.view)) new.bucket) now (made.bucket (questions (past_of s sight.view)) stands.bucket);
         rate = made.rate;
         burst = made.burst;
@@ -318,6 +322,12 @@ module _ (s : Settings) (sight : Sight) (message : List ℕ) (at : ℕ) (asked :
         given = made.given;
         held = held_used sight.came used (held_packets (past_of s sight.view)) (answer_to s sight.view (Msg message at)).to_switch old.buffers.held new.buffers.held uses stands.held made.held;
       })
+
+-- where it asks for no statistics, the same is collected
+none_begun : (kind : AskKind) (number : ℕ) (calls : List CollectionCall) (old new : List Collected) → type_sent kind ≡ None → new ≡ old → CollectionsStand calls old → CollectionsStand (begun number kind ++ calls) new
+none_begun kind number calls old new none same collected =
+    subst (λ (begins : List CollectionCall). CollectionsStand (begins ++ calls) new) (sym (ap (λ (sent : Option ℕ). if is_some sent then Start number ∷ [] else []) none))
+    (subst (CollectionsStand calls) (sym same) collected)
 
 pub modified : (s : Settings) (sight : Sight) (message : List ℕ) (number : ℕ) (made : Modification) (old new : SliceState) (book : Book) → IsRequested made.moment made.asked made.used old new
     → ((slot : ℕ) (calls : List RequestCall) → RequestsStand slot calls old.xids → number ≡ issued calls)
@@ -327,11 +337,12 @@ modified s sight message number made old new book requests numbers books stands 
     let so = is.1 in
     let calls = request_calls s (past_of s sight.view) in
     let asking : asks_switch (read_controller message) ≡ true = ap asks_switch so.is_read in
-    requested s sight message made.moment made.asked made.used old new book requests stands is.0 asking so.sent so.asked so.uses
+    requested s sight message made.moment made.asked made.used old new book new.collections requests stands is.0 asking so.sent so.asked so.uses
     (subst (λ (added : List BookCall). BookStands (added ++ book_calls s (past_of s sight.view)) book)
     (ap (λ (n : ℕ). Added made.command made.pieces.items made.priority made.asks n ∷ []) (numbers s.slot calls stands.requests)
     ∙ added_same made so.flow_mod s (issued calls) so.command so.pieces so.priority so.asks ∙ sym (bookings_of s (issued calls) (read_controller message) so.flow_mod so.is_read))
     (books (book_calls s (past_of s sight.view)) (subst (λ (b : Book). BookStands (book_calls s (past_of s sight.view)) b) (sym requests.same_book) stands.book)))
+    (none_begun (kind_asked (read_controller message)) (issued calls) (collection_calls s (past_of s sight.view)) old.collections new.collections (ap (λ (r : Reading). type_sent (kind_asked r)) so.is_read) requests.same_collections stands.collections)
 
 pub sent_out : (s : Settings) (sight : Sight) (item : Item) (at : ℕ) (asked : Asked) (used : Option ℕ) (old new : SliceState) → IsRequested at asked used old new → SliceStands s sight old → IsChange s sight item (SentOut at asked used)
     → SliceStands s (with_item item sight) new
@@ -339,7 +350,49 @@ sent_out s sight (Msg message moment) at asked used old new requests stands is =
     let so = is.1 in
     let asking : asks_switch (read_controller message) ≡ true = ap asks_switch so.is_read in
     let same : at ≡ moment = so.same_moment in
-    requested s sight message moment asked used old new new.book (subst (λ (t : ℕ). IsRequested t asked used old new) same requests) stands is.0 asking so.sent so.same_asked so.uses
+    requested s sight message moment asked used old new new.book new.collections (subst (λ (t : ℕ). IsRequested t asked used old new) same requests) stands is.0 asking so.sent so.same_asked so.uses
     (subst (λ (added : List BookCall). BookStands (added ++ book_calls s (past_of s sight.view)) new.book) (sym (ap (bookings s (issued (request_calls s (past_of s sight.view)))) so.is_read))
     (subst (λ (b : Book). BookStands (book_calls s (past_of s sight.view)) b) (sym requests.same_book) stands.book))
+    (none_begun (kind_asked (read_controller message)) (issued (request_calls s (past_of s sight.view))) (collection_calls s (past_of s sight.view)) old.collections new.collections (ap (λ (r : Reading). type_sent (kind_asked r)) so.is_read) requests.same_collections stands.collections)
 sent_out s sight item at asked used old new requests stands is = absurd is
+
+-- ---- what asks for a reply
+
+-- such a message is to be sent on
+inquiry_asks : (read : Reading) → is_inquiry read ≡ true → asks_switch read ≡ true
+inquiry_asks (Ok (said.StatsRequest request)) is = refl
+inquiry_asks (Ok said.BarrierRequest) is = refl
+inquiry_asks (Ok (said.QueueGetConfigRequest port)) is = refl
+inquiry_asks (Ok (said.PacketOut m)) is = refl
+inquiry_asks (Ok (said.FlowMod m)) is = refl
+inquiry_asks (Ok said.Hello) is = absurd (true≢false (sym is))
+inquiry_asks (Ok said.Error) is = absurd (true≢false (sym is))
+inquiry_asks (Ok said.EchoRequest) is = absurd (true≢false (sym is))
+inquiry_asks (Ok said.EchoReply) is = absurd (true≢false (sym is))
+inquiry_asks (Ok said.Vendor) is = absurd (true≢false (sym is))
+inquiry_asks (Ok said.FeaturesRequest) is = absurd (true≢false (sym is))
+inquiry_asks (Ok said.GetConfigRequest) is = absurd (true≢false (sym is))
+inquiry_asks (Ok (said.SetConfig config)) is = absurd (true≢false (sym is))
+inquiry_asks (Ok said.PortMod) is = absurd (true≢false (sym is))
+inquiry_asks (Err fault) is = absurd (true≢false (sym is))
+
+-- it books nothing
+inquiry_books : (s : Settings) (number : ℕ) (read : Reading) → is_inquiry read ≡ true → bookings s number read ≡ []
+inquiry_books s number (Ok (said.FlowMod m)) is = absurd (true≢false (sym is))
+inquiry_books s number (Ok message) is = refl
+inquiry_books s number (Err fault) is = refl
+
+pub inquired : (s : Settings) (sight : Sight) (item : Item) (number at : ℕ) (asked : Asked) (old new : SliceState) (collections : List Collected) → IsRequested at asked None old new
+    → ((slot : ℕ) (calls : List RequestCall) → RequestsStand slot calls old.xids → number ≡ issued calls)
+    → ((calls : List CollectionCall) → CollectionsStand calls new.collections → CollectionsStand (begun number asked.kind ++ calls) collections)
+    → SliceStands s sight old → IsChange s sight item (Inquired at asked) → SliceStands s (with_item item sight) (record new { collections = collections })
+inquired s sight (Msg message moment) number at asked old new collections requests numbers begins stands is =
+    let so = is.1 in
+    let calls = request_calls s (past_of s sight.view) in
+    requested s sight message moment asked None old new new.book collections (subst (λ (t : ℕ). IsRequested t asked None old new) so.same_moment requests) stands is.0 (inquiry_asks (read_controller message) so.inquires) so.sent so.same_asked so.uses
+    (subst (λ (added : List BookCall). BookStands (added ++ book_calls s (past_of s sight.view)) new.book) (sym (inquiry_books s (issued calls) (read_controller message) so.inquires))
+    (subst (λ (b : Book). BookStands (book_calls s (past_of s sight.view)) b) (sym requests.same_book) stands.book))
+    (subst (λ (started : List CollectionCall). CollectionsStand (started ++ collection_calls s (past_of s sight.view)) collections)
+    (ap₂ (λ (n : ℕ) (a : Asked). begun n a.kind) (numbers s.slot calls stands.requests) so.same_asked)
+    (begins (collection_calls s (past_of s sight.view)) (subst (CollectionsStand (collection_calls s (past_of s sight.view))) (sym requests.same_collections) stands.collections)))
+inquired s sight item number at asked old new collections requests numbers begins stands is = absurd is

@@ -65,7 +65,7 @@ refusal_follows s sight message read moment a fault r is asks said_so none close
     subst (λ (answer : Answer). Follows s sight message read answer moment r) (sym is) (follows s sight message read (refused fault message) moment r (Rated moment) said_so none refl close change (asks, refl, refl))
 
 -- the same of what a call answers
-refusal_result : (result : Result Reaction AllocError) (s : Settings) (sight : Sight) (message : List ℕ) (read : Reading) (moment : ℕ) (a : Answer) (fault : ℕ × ℕ) → a ≡ refused fault message → asks_switch read ≡ true
+pub refusal_result : (result : Result Reaction AllocError) (s : Settings) (sight : Sight) (message : List ℕ) (read : Reading) (moment : ℕ) (a : Answer) (fault : ℕ × ℕ) → a ≡ refused fault message → asks_switch read ≡ true
     → IfOk result (λ r. r.to_slice.items ≡ error_for fault message ∷ []) → IfOk result (λ r. r.to_switch.items ≡ []) → IfOk result (λ r. r.close ≡ false) → IfOk result (λ r. r.change ≡ Rated moment)
     → IfOk result (Follows s sight message read a moment)
 refusal_result (Ok r) s sight message read moment a fault is asks said_so none close change = refusal_follows s sight message read moment a fault r is asks said_so none close change

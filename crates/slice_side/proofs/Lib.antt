@@ -2,6 +2,7 @@ mod Lines
 mod Listing
 mod Following
 mod Grounds
+mod Inquiring
 mod Changing
 mod Answering
 mod Bytes

@@ -26,7 +26,7 @@ use Rattle.slice_words.specs.Alone.{answer_to, rendered}
 use Rattle.slice_words.specs.Standing.{past_of}
 use Rattle.slice_side.specs.declared.answered.Reaction.{Reaction}
 use Rattle.slice_side.specs.declared.change.Change.{Change}
-use Rattle.slice_side.specs.declared.change.Change.TheVariants.{Heard, Set, Dismissed, Rated, Modified, SentOut}
+use Rattle.slice_side.specs.declared.change.Change.TheVariants.{Heard, Set, Dismissed, Rated, Modified, SentOut, Inquired}
 use Rattle.slice_side.specs.declared.change.Modification.{Modification}
 
 -- ---- where a message is answered
@@ -102,7 +102,22 @@ pub record IsSendingOut (held : List HeldPacket) (message : List ℕ) (read : Re
   pub same_moment : at ≡ moment
   pub uses : Uses used held a.to_switch
 
--- the change that a message asks for, by what is read of it and what follows: it only came; it sets how much of a packet is wanted; it ends the connection; it asked the rate, and nothing is sent on; or it is a flow-mod or a packet-out that is
+-- a message asks the switch for a reply: to a barrier, on the queues of a port, or of statistics
+abbrev pub is_inquiry : Reading → Bool
+is_inquiry (Ok (said.StatsRequest request)) = true
+is_inquiry (Ok said.BarrierRequest) = true
+is_inquiry (Ok (said.QueueGetConfigRequest port)) = true
+is_inquiry read = false
+
+-- such a message of a slice that holds these packets is sent on: it is remembered with its first bytes, and names none of the packets
+pub record IsInquiry (held : List HeldPacket) (message : List ℕ) (read : Reading) (a : Answer) (moment at : ℕ) (asked : Asked) : Type 0 where
+  pub inquires : is_inquiry read ≡ true
+  pub sent : is_any a.to_switch ≡ true
+  pub same_asked : asked ≡ asked_of read message
+  pub same_moment : at ≡ moment
+  pub uses : Uses None held a.to_switch
+
+-- the change that a message asks for, by what is read of it and what follows: it only came; it sets how much of a packet is wanted; it ends the connection; it asked the rate, and nothing is sent on; or it is a flow-mod, a packet-out, or what asks for a reply, that is
 abbrev pub IsChangeFor : List Pattern → List HeldPacket → List ℕ → Reading → Answer → ℕ → Change → Type 0
 IsChangeFor patterns held message read a moment (Heard t) = (ends_connection read ≡ false) × (length_wanted read ≡ None) × (asks_switch read ≡ false) × (t ≡ moment)
 IsChangeFor patterns held message read a moment (Set t wanted) = (length_wanted read ≡ Some wanted) × (t ≡ moment)
@@ -110,6 +125,7 @@ IsChangeFor patterns held message read a moment (Dismissed t) = (ends_connection
 IsChangeFor patterns held message read a moment (Rated t) = (asks_switch read ≡ true) × (is_any a.to_switch ≡ false) × (t ≡ moment)
 IsChangeFor patterns held message read a moment (Modified m) = IsModification patterns held message read a moment m
 IsChangeFor patterns held message read a moment (SentOut t asked used) = IsSendingOut held message read a moment t asked used
+IsChangeFor patterns held message read a moment (Inquired t asked) = IsInquiry held message read a moment t asked
 
 -- the change that an item asks for after what a slice sees; of those here only messages ask for one, while the slice is up
 abbrev pub IsChange : Settings → Sight → Item → Change → Type 0
@@ -148,4 +164,5 @@ HasRoom (Modified m) state =
     × (newcomers_in m.command m.pieces.items m.priority state.book.booked ≤ state.book.room)
     × (length state.book.booked + newcomers_in m.command m.pieces.items m.priority state.book.booked < 2 ^ 32)
 HasRoom (SentOut t asked used) state = state.xids.issued < 2 ^ 62
+HasRoom (Inquired t asked) state = state.xids.issued < 2 ^ 62
 HasRoom change state = Unit {0}

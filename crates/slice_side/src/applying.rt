@@ -1,16 +1,18 @@
-ghost use Rattle.std.specs.Prelude.{ℕ, ◌≡◌, ◌≢◌, ◌≤◌, ◌<◌, ◌^◌, not, filter, length, AllPairs, List, [], ◌∷◌};
+ghost use Rattle.std.specs.Prelude.{ℕ, ◌≡◌, ◌≢◌, ◌≤◌, ◌<◌, ◌^◌, not, filter, length, AllPairs, List, [], ◌∷◌, ◌++◌};
 ghost use Rattle.xid_map.specs.Requests.{RequestCall, Forget, RequestsStand};
 ghost use Rattle.xid_map.specs.Collections.{CollectionCall, EndAll, CollectionsStand};
 ghost use Rattle.slice_words.specs.Items.{Settings, Sight, Item, Up, Down, Msg};
+ghost use Rattle.slice_words.specs.Statistics.{begun};
 ghost use Rattle.slice_words.specs.Standing.{SliceStands};
-ghost use Rattle.slice_side.specs.declared.change.Change.TheVariants.{Modified};
+ghost use Rattle.slice_side.specs.declared.change.Change.TheVariants.{Modified, Inquired};
 ghost use Rattle.slice_side.specs.Reactions.{kept, is_used, IsChange, IsSound, HasRoom, with_item};
 ghost use Rattle.slice_side.specs.Requesting.{IsRequested};
 
 use crate::change::{Change, Modification};
 use buffer_map::BufferMap;
 use flow_book::{MISS_SEND_LEN, SliceState};
-use xid_map::Asked;
+use stats_filter::type_sent;
+use xid_map::{AskKind, Asked, Collections};
 
 /// Forgets what belongs to one connection. The rate, the book and the numbering go on.
 fn forget(state: &mut SliceState)
@@ -84,6 +86,25 @@ fn modify(state: &mut SliceState, m: &Modification)
         .added(m.command, &m.pieces, m.priority, m.asks, number);
 }
 
+/// A request for statistics begins to collect.
+fn begin(collections: &mut Collections, number: u64, kind: AskKind)
+    ensures { (calls : List CollectionCall) → CollectionsStand calls collections.old → CollectionsStand (begun number kind ++ calls) collections.new }
+{
+    if type_sent(kind).is_some() {
+        collections.start(number);
+    }
+}
+
+/// A barrier, the queues of a port or statistics are requested.
+fn inquire(state: &mut SliceState, moment: u64, asked: Asked)
+    requires { state.old.xids.issued < 2 ^ 62 }
+    ensures { (s : Settings) (sight : Sight) (item : Item) → SliceStands s sight state.old → IsChange s sight item (Inquired moment asked) → SliceStands s (with_item item sight) state.new }
+{
+    let (number, _) = state.xids.next();
+    request(state, moment, asked, None);
+    begin(&mut state.collections, number, asked.kind);
+}
+
 /// Makes the change in the slice's state. Takes no memory.
 pub fn apply(state: &mut SliceState, change: Change)
     requires sound { IsSound change }
@@ -114,5 +135,6 @@ pub fn apply(state: &mut SliceState, change: Change)
             asked,
             used,
         } => request(state, moment, asked, used),
+        Change::Inquired { moment, asked } => inquire(state, moment, asked),
     }
 }

@@ -4,6 +4,7 @@
 
 mod answered;
 mod applying;
+mod asking;
 mod change;
 mod flow_mods;
 mod held;
@@ -12,6 +13,7 @@ mod pieces;
 mod ports;
 mod questions;
 mod reacting;
+mod remembering;
 mod replying;
 mod reserving;
 

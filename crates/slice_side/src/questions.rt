@@ -1,8 +1,6 @@
 //! Messages that ask something of the switch: the rate is asked for each of them.
 
-ghost use Rattle.std.specs.Prelude.{ℕ, ◌≡◌, ◌++◌, ◌∷◌, [], true, false, length, take, min, slice_get, IfOk, Some, Ok, option_map};
-ghost use Rattle.of10_action.specs.Actions.{padding};
-ghost use Rattle.of10_message.specs.Heads.{xid_of};
+ghost use Rattle.std.specs.Prelude.{◌≡◌, true, IfOk, Ok};
 ghost use Rattle.of10_message.specs.declared.controller.FromController.TheVariants as said;
 ghost use Rattle.of10_flow.specs.declared.protocol.TheConstants.{SEND_FLOW_REM};
 ghost use Rattle.of10_flow.specs.Tables.{has_flag};
@@ -14,11 +12,12 @@ ghost use Rattle.slice_words.specs.Answers.{flow_mod_answer, packet_out_answer, 
 ghost use Rattle.slice_side.specs.Reactions.{Sees, Follows, IsSound};
 
 use crate::answered::Reaction;
+use crate::asking::{barrier, queues, statistics};
 use crate::change::{Change, Modification};
 use crate::flow_mods::{Outcome, outcome_of};
 use crate::packet_outs::{PacketOutcome, packet_outcome};
+use crate::remembering::asked;
 use crate::replying::{Around, refused};
-use flowspace::SwitchPolicy;
 use of10_action::error::{BAD_REQUEST, REQUEST_NOT_PERMITTED};
 use of10_ctl::Frame;
 use of10_flow::protocol::SEND_FLOW_REM;
@@ -26,41 +25,7 @@ use of10_flow::{FlowMod, PacketOut};
 use of10_match::Match;
 use of10_message::FromController;
 use std::alloc::{AllocError, Global};
-use xid_map::{AskKind, Asked};
-
-/// How many entries the slice at a slot may have.
-fn quota(policy: &SwitchPolicy, slot: u8) -> u32
-    ensures { (quota : ℕ) → option_map (λ slice. slice.quota) (slice_get policy.now.slices slot) ≡ Some quota → result ≡ quota }
-{
-    match policy.slices().get(usize::from(slot)) {
-        Some(slice) => slice.quota,
-        None => 0,
-    }
-}
-
-/// The first 64 bytes of a message, with zeros behind a shorter one.
-fn first_bytes(bytes: &[u8]) -> [u8; 64]
-    ensures { result ≡ take 64 (bytes.now ++ padding 64) }
-{
-    let mut first = [0; 64];
-    let size = bytes.len().min(64);
-    first[..size].copy_from_slice(&bytes[..size]);
-    first
-}
-
-/// A message as the request that is remembered.
-fn asked(frame: &Frame, kind: AskKind, port: u16) -> Asked
-    ensures { result ≡ record { xid = xid_of frame.now; first = take 64 (frame.now ++ padding 64); first_len = min (length frame.now) 64; kind = kind; port = port } }
-{
-    let bytes = frame.as_slice();
-    Asked {
-        xid: frame.head().xid,
-        first: first_bytes(bytes),
-        first_len: bytes.len().min(64) as u8,
-        kind,
-        port,
-    }
-}
+use xid_map::AskKind;
 
 /// A flow-mod that is sent on for these pieces.
 fn modification(
@@ -94,7 +59,7 @@ fn flow_mod(
     ensures sound { IfOk result (λ r. IsSound r.change) }
     ensures follows { (s : Settings) (sight : Sight) → SliceStands s sight around.now.state.now → Sees s sight.view around.now.policy.now around.now.ports.now around.now.features.now around.now.slot → IfOk result (Follows s sight frame.now (Ok (said.FlowMod m.now)) (flow_mod_answer (ground_of s sight.view (past_of s sight.view)) m.now frame.now) moment) }
 {
-    let quota = quota(around.policy, around.slot);
+    let quota = around.quota();
     let (_, xid) = around.state.xids.next();
     match outcome_of(alloc, around, quota, xid, m)? {
         Outcome::Refused(class, code) => refused(
@@ -146,8 +111,7 @@ fn packet_out(
     }
 }
 
-/// A message that asks something of the switch: one that passes the rate is refused, and of the others
-/// flow-mods and packet-outs are sent on.
+/// A message that asks something of the switch: one that passes the rate is refused.
 pub(crate) fn question(
     alloc: Global,
     around: &Around<'_>,
@@ -172,6 +136,13 @@ pub(crate) fn question(
     match message {
         FromController::FlowMod(m) => flow_mod(alloc, around, m, frame, moment),
         FromController::PacketOut(m) => packet_out(alloc, around, m, frame, moment),
-        _ => Ok(Reaction::silent(alloc, Change::Rated { moment })),
+        FromController::StatsRequest(request) => {
+            statistics(alloc, around, request, frame, moment)
+        }
+        FromController::BarrierRequest => barrier(alloc, around, frame, moment),
+        FromController::QueueGetConfigRequest(port) => {
+            queues(alloc, around, *port, frame, moment)
+        }
+        _ => unreachable!(),
     }
 }

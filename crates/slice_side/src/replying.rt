@@ -1,6 +1,6 @@
 //! What this proxy answers itself: messages that aren't read, and those that ask nothing of the switch.
 
-ghost use Rattle.std.specs.Prelude.{ℕ, ◌≡◌, true, false, [], ◌∷◌, IfOk, List, Ok, Err};
+ghost use Rattle.std.specs.Prelude.{ℕ, ◌≡◌, true, false, [], ◌∷◌, slice_get, option_map, IfOk, List, Some, Ok, Err};
 ghost use Rattle.of10_message.specs.declared.controller.FromController.TheVariants as said;
 ghost use Rattle.slice_words.specs.Messages.{asks_switch};
 ghost use Rattle.slice_words.specs.Items.{Settings, Sight};
@@ -37,6 +37,18 @@ pub(crate) struct Around<'a> {
     pub(crate) features: &'a Features,
     pub(crate) slot: u8,
     pub(crate) state: &'a SliceState,
+}
+
+impl Around<'_> {
+    /// How many entries the slice may have.
+    pub(crate) fn quota(&self) -> u32
+        ensures { (quota : ℕ) → option_map (λ slice. slice.quota) (slice_get self.now.policy.now.slices self.now.slot) ≡ Some quota → result ≡ quota }
+    {
+        match self.policy.slices().get(usize::from(self.slot)) {
+            Some(slice) => slice.quota,
+            None => 0,
+        }
+    }
 }
 
 /// The error that refuses a message.

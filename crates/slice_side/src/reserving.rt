@@ -47,7 +47,7 @@ pub fn reserve(state: &mut SliceState, change: &Change) -> Result<(), AllocError
 {
     match change {
         Change::Modified(m) => reserve_for(state, m),
-        Change::SentOut { .. } => reserve_request(state),
+        Change::SentOut { .. } | Change::Inquired { .. } => reserve_request(state),
         _ => Ok(()),
     }
 }

@@ -29,7 +29,7 @@ returns-in-Sent-clause-follows c s sight stands sees =
     packet_out_sent c.sending.result s sight c.args.frame.now c.args.moment (ground_of s sight.view (past_of s sight.view)) c.args.m.now c.in-Sent.sent c.asked-asked.result c.in-Sent.used
     (sym (out_fault_same s sight c.args.around.now.state.now c.args.around.now.policy.now c.args.around.now.ports.now c.args.around.now.features.now c.args.around.now.slot s.quota c.next-xid.result.1 c.args.m.now stands sees refl xids) ∙ o.0)
     (o.1 ∙ ap (map (rendered sight.came)) (same_but_booked (λ (g : Ground). sent_out g c.args.m.now) (sent_out_booked c.args.m.now) s sight c.args.around.now.state.now c.args.around.now.policy.now c.args.around.now.ports.now c.args.around.now.features.now c.args.around.now.slot s.quota c.next-xid.result.1 stands sees refl xids))
-    c.asked-asked.ensures
+    c.asked-asked.ensures.value
     (uses_sent_out s sight.view (past_of s sight.view) c.args.m.now c.in-Sent.used
     (o.2 ∙ same_but_booked (λ (g : Ground). option_map (λ (packet : HeldPacket). c.args.m.now.buffer) (packet_at g c.args.m.now.buffer)) (λ g booked. refl) s sight c.args.around.now.state.now c.args.around.now.policy.now c.args.around.now.ports.now c.args.around.now.features.now c.args.around.now.slot s.quota c.next-xid.result.1 stands sees refl xids))
     c.sending.ensures.to_slice c.sending.ensures.to_switch c.sending.ensures.close c.sending.ensures.change
