@@ -6,3 +6,4 @@ pub mod Moments
 pub mod LoneRules
 pub mod Forwarding
 pub mod Holding
+pub mod Forgetting
