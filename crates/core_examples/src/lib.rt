@@ -1,4 +1,5 @@
-//! A slice's messages, a switch's messages, and the desk where they come together. There are tests here alone.
+//! The desk of one switch, where the messages of the switch and of its slices come together. There are tests here
+//! alone.
 #![tactic(auto)]
 
 #[cfg(test)]

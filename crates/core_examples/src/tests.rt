@@ -1,3 +1,1 @@
 mod desks;
-mod slices;
-mod switches;

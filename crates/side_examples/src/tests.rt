@@ -1,0 +1,2 @@
+mod slices;
+mod switches;
