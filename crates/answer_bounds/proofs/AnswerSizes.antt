@@ -1,9 +1,10 @@
--- What is answered to an item is at most one message, and what is put for the switch is small. A new kind of answer is a case more of `answer_size`.
-use Rattle.std.proofs.Common.{◌≡◌, ℕ, ◌+◌, ◌-◌, ◌^◌, ◌%◌, ◌==◌, ◌≤◌, Bool, true, false, if◌then◌else◌, List, [], ◌∷◌, ◌++◌, map, length, take, filter, suc, append-nil, true≢false, refl, Option, Some, None, option_map, arith}
+-- What is answered to an item is at most one message, unless it is the end of statistics, and what is put for the switch is small. A new kind of answer is a case more of `answer_size`.
+use Rattle.std.proofs.Common.{◌≡◌, ℕ, ◌+◌, ◌-◌, ◌^◌, ◌%◌, ◌==◌, ◌&&◌, ◌≤◌, not, Bool, true, false, if◌then◌else◌, List, [], ◌∷◌, ◌++◌, map, length, take, drop, filter, suc, append-nil, true≢false, refl, subst, Option, Some, None, option_map, arith}
 use Rattle.std.specs.List.{All}
 use Rattle.std.proofs.lemmas.Bool.{ltb-false}
 use Rattle.std.proofs.lemmas.List.{length-take}
-use Rattle.of10_ctl.specs.declared.kind.TheConstants.{HELLO}
+use Rattle.std.proofs.lemmas.Option.{same_Some, none-some}
+use Rattle.of10_ctl.specs.declared.kind.TheConstants.{HELLO, BARRIER_REQUEST, BARRIER_REPLY, QUEUE_GET_CONFIG_REQUEST, QUEUE_GET_CONFIG_REPLY}
 use Rattle.of10_ctl.specs.Frames.{message_of, error_of, echo_reply_to}
 use Rattle.of10_flow.specs.declared.protocol.TheConstants.{NO_BUFFER}
 use Rattle.of10_flow.specs.declared.flow_mod.FlowMod.{FlowMod}
@@ -12,6 +13,11 @@ use Rattle.of10_flow.specs.declared.packet_out.PacketOut.{PacketOut}
 use Rattle.of10_flow.specs.PacketOuts.{spell_packet_out}
 use Rattle.of10_flow.specs.FlowMods.{spell_flow_mod}
 use Rattle.of10_message.specs.Heads.{xid_of}
+use Rattle.of10_message.specs.Replies.{port_of_queues}
+use Rattle.of10_stats.specs.declared.request.StatsRequest.{StatsRequest}
+use Rattle.of10_stats.specs.Requests.{spell_request}
+use Rattle.stats_filter.specs.Asking.{asked_as, question_for}
+use Rattle.stats_filter.specs.Replies.{table_reply}
 use Rattle.of10_port.specs.Ports.{IsPort}
 use Rattle.of10_port.specs.Features.{spell_features}
 use Rattle.of10_port.specs.PortStatus.{spell_port_status}
@@ -23,6 +29,8 @@ use Rattle.xid_map.specs.declared.asked.Issued.{Issued}
 use Rattle.slice_words.specs.Messages.{quoted}
 use Rattle.slice_words.specs.Items.{Settings, Share, Writer, Reader, Probe, Packet, Item, Opened, Up, Down, Msg, Lost, Handed, Removed, Status, Fault, Barrier, Queues, Entry, Last, End, is_up, miss_send_len, buffered_count, known_ports}
 use Rattle.slice_words.specs.Pasts.{SendsOut, Answer, Past, silence, told, dismissal, forwarded}
+use Rattle.slice_words.specs.Statistics.{is_barrier, asks_queues, barrier_told, queues_told}
+use Rattle.slice_words.specs.Questions.{asking}
 use Rattle.slice_words.specs.Calls.{request_calls, request_for, book_calls}
 use Rattle.slice_words.specs.FlowMods.{Ground, ground_of, packet_at, sent_on, flow_mod_fault}
 use Rattle.slice_words.specs.PacketOuts.{packet_out_on, packet_out_size, sent_out, packet_out_fault}
@@ -32,7 +40,7 @@ use Rattle.of10_model.proofs.Results.{either}
 use Rattle.slice_words.proofs.AnswerKinds.{message_holds}
 use Rattle.slice_words.proofs.Forwarding.{flow_mods_numbered, rendered_sent, not_large_numbered, out_not_large}
 use Rattle.answer_bounds.specs.Bounds.{AreFew, AreSmall}
-use Rattle.answer_bounds.proofs.Messages.{IsShort, few-none, few-one, few-next, small-none, small-few, short-message, short-echo, short-config, short-error, short-features, short-status, short-packet, short-packet_out, short-removed}
+use Rattle.answer_bounds.proofs.Messages.{IsShort, few-none, few-one, few-next, small-none, small-few, short-message, short-behind, short-echo, short-request, short-table, short-config, short-error, short-features, short-status, short-packet, short-packet_out, short-removed}
 
 -- ---- what bounds an answer
 
@@ -41,11 +49,13 @@ pub record HasFewPorts (view : List Item) : Type 0 where
   pub few : length (known_ports view) ≤ 1364
   pub whole : All IsPort (known_ports view)
 
--- what of an item after a view bounds the answer to it
+-- what of an item after a view bounds the answer to it to one message. At the end of statistics there may be more
 abbrev pub IsBounded : List Item → Item → Type 0
 IsBounded view (Msg message moment) = IsShort message × HasFewPorts view
 IsBounded view (Handed packet) = 18 + length packet.payload ≤ 65535
 IsBounded view (Status status) = IsPort status.port
+IsBounded view (Queues x body) = length body ≤ 65527
+IsBounded view (Last x kind) = ⊥
 IsBounded view item = Unit {0}
 
 -- an answer is one message to the slice at most, and small for the switch
@@ -94,6 +104,18 @@ small_sent_out g m none = record {
   to_switch = λ came. small_out came (packet_out_on g m) (option_map (λ packet. packet.ordinal) (packet_at g m.buffer)) (ltb-false 65535 (packet_out_size (packet_out_on g m)) (out_not_large g m none));
 }
 
+-- ---- questions
+
+small_asking : (message : List ℕ) → IsShort message → IsSmall (asking message)
+small_asking message short = record { to_slice = few-none 1; to_switch = λ came. small-few 1 262144 (message ∷ []) (omega arith) (few-one message short) }
+
+short_question : (request : StatsRequest) (xid : ℕ) (question : List ℕ) → question_for request xid ≡ Some question → IsShort question
+short_question request xid question is = by_sent (asked_as request) is
+  where
+    by_sent : (sent : Option StatsRequest) → option_map (λ asked. spell_request asked xid) sent ≡ Some question → IsShort question
+    by_sent None none = absurd (none-some question none)
+    by_sent (Some asked) some = subst IsShort (same_Some (spell_request asked xid) question some) (short-request asked xid)
+
 -- ---- messages of the controller
 
 message_size : (s : Settings) (view : List Item) (past : List Past) (moment : ℕ) (message : List ℕ) → IsShort message → HasFewPorts view → IsSmall (message_answer s view past moment message)
@@ -107,6 +129,10 @@ message_size s view past moment message short ports = message_holds (λ (ends : 
   tells_configuration = small_told (config_reply (miss_send_len view) message) (short-config (xid_of message) (miss_send_len view));
   forwards = λ m read none. small_forwarded (ground_of s view past) m none;
   sends_out = λ m read none. small_sent_out (ground_of s view past) m none;
+  tells_table = small_told (table_reply (length (ground_of s view past).booked) s.quota (xid_of message)) (short-table (length (ground_of s view past).booked) s.quota (xid_of message));
+  asks_statistics = λ request question read may is. small_asking question (short_question request (ground_of s view past).xid question is);
+  asks_barrier = λ read. small_asking (message_of BARRIER_REQUEST (ground_of s view past).xid []) (short-message BARRIER_REQUEST (ground_of s view past).xid [] (omega arith));
+  asks_queues = λ port read own. small_asking (message_of QUEUE_GET_CONFIG_REQUEST (ground_of s view past).xid (drop 8 message)) (short-behind QUEUE_GET_CONFIG_REQUEST (ground_of s view past).xid message short);
 })
 
 -- ---- packets
@@ -142,6 +168,19 @@ few_error : (request : Option Issued) (class code : ℕ) → AreFew 1 (error_tol
 few_error None class code = few-none 1
 few_error (Some request) class code = either (AreFew 1) request.failed _ _ (few-none 1) (few-one _ (short-error request.asked.xid class code (quoted request.asked)))
 
+-- ---- replies
+
+few_barrier : (request : Option Issued) → AreFew 1 (barrier_told request)
+few_barrier None = few-none 1
+few_barrier (Some request) =
+    either (AreFew 1) (is_barrier request.asked.kind && not request.done) _ _ (few-one _ (short-message BARRIER_REPLY request.asked.xid [] (omega arith))) (few-none 1)
+
+few_queues : (request : Option Issued) (body : List ℕ) → length body ≤ 65527 → AreFew 1 (queues_told request body)
+few_queues None body fits = few-none 1
+few_queues (Some request) body fits =
+    either (AreFew 1) (asks_queues request.asked.kind && request.asked.port == port_of_queues body && not request.done) _ _
+    (few-one _ (short-message QUEUE_GET_CONFIG_REPLY request.asked.xid body fits)) (few-none 1)
+
 -- ---- all items
 
 pub answer_size : (s : Settings) (view : List Item) (past : List Past) (item : Item) → IsBounded view item → IsSmall (answer s view past item)
@@ -158,10 +197,14 @@ answer_size s view past (Removed entry) h =
 answer_size s view past (Fault x class code pair) h =
     let request = request_for s x (request_calls s past) in
     either IsSmall (is_up view) _ _ (small_tells (error_told request class code) (few_error request class code)) small_silence
-answer_size s view past (Barrier x) h = either IsSmall (is_up view) _ _ small_silence small_silence
-answer_size s view past (Queues x body) h = either IsSmall (is_up view) _ _ small_silence small_silence
+answer_size s view past (Barrier x) h =
+    let request = request_for s x (request_calls s past) in
+    either IsSmall (is_up view) _ _ (small_tells (barrier_told request) (few_barrier request)) small_silence
+answer_size s view past (Queues x body) h =
+    let request = request_for s x (request_calls s past) in
+    either IsSmall (is_up view) _ _ (small_tells (queues_told request body) (few_queues request body h)) small_silence
 answer_size s view past (Entry x kind bytes) h = either IsSmall (is_up view) _ _ small_silence small_silence
-answer_size s view past (Last x kind) h = either IsSmall (is_up view) _ _ small_silence small_silence
+answer_size s view past (Last x kind) h = absurd h
 answer_size s view past End h = either IsSmall (is_up view) _ _ small_silence small_silence
 
 -- ---- items one after another

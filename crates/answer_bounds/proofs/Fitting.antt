@@ -8,26 +8,15 @@ use Rattle.desk_words.specs.declared.event.Event.TheVariants.{SwitchUp, SwitchMs
 use Rattle.desk_words.specs.declared.event.Timed.{Timed}
 use Rattle.desk_words.specs.declared.phase.Phase.{Phase}
 use Rattle.desk_words.specs.declared.phase.Phase.TheVariants.{Fresh, Begun, Opened, Ended}
-use Rattle.desk_words.specs.Openings.{phase_of, opening_of, switch_of}
-use Rattle.desk_words.specs.Histories.{is_slot, settings_at, items_of, side_of, view_of}
-use Rattle.desk_words.specs.Sent.{sent_by, slice_lane}
-use Rattle.desk_words.specs.Operations.{slice_limit}
-use Rattle.answer_bounds.specs.Bounds.{IsFramed, AreFramed, Fits, AreFew, AreSmall, SendsLittle}
-use Rattle.answer_bounds.proofs.Messages.{few-more, small-none, small-few}
-use Rattle.answer_bounds.proofs.AnswerSizes.{IsBounded, speaking, sent_size, put_size}
-use Rattle.answer_bounds.proofs.Items.{items_few}
+use Rattle.desk_words.specs.Openings.{phase_of, opening_of}
+use Rattle.desk_words.specs.Histories.{is_slot, settings_at, side_of, view_of}
+use Rattle.desk_words.specs.Sent.{slice_lane}
+use Rattle.answer_bounds.specs.Bounds.{IsFramed, AreFramed, Fits, AreSmall, SendsLittle}
+use Rattle.answer_bounds.proofs.Messages.{small-none}
+use Rattle.answer_bounds.proofs.AnswerSizes.{IsBounded, put_size}
+use Rattle.answer_bounds.proofs.Items.{items_answered}
 use Rattle.answer_bounds.proofs.Lane.{IsSmallOfSlice, lane_small}
 use Rattle.answer_bounds.proofs.Ports.{few_ports}
-
--- ---- to the slices
-
--- to a slice at most as many messages as the event shows it items that may have one
-slice_few : (policy : PolicyView) (slot : ℕ) (h : List Timed) (timed : Timed) → AreFramed h → IsFramed timed.event → AreFew 2 (sent_by policy slot h timed)
-slice_few policy slot h timed framed one =
-    let shown = items_of policy slot (switch_of h) (side_of policy slot h) timed in
-    let few = items_few policy slot h timed framed one in
-    few-more (speaking shown) 2 (sent_by policy slot h timed) few.few
-    (sent_size (settings_at policy slot (opening_of h)) (view_of policy slot h) shown few.bounded)
 
 -- ---- to the switch
 
@@ -59,7 +48,8 @@ of_slice_small policy h timed Opened (SliceMsg slot message) at is framed one =
 pub answers_little : (policy : PolicyView) (h : List Timed) (timed : Timed) → AreFramed h → IsFramed timed.event → SendsLittle policy h timed
 answers_little policy h timed framed one = record {
   lane = lane_small (λ slot. slice_lane policy slot h timed) (phase_of h) timed.event (of_slice_small policy h timed (phase_of h) timed.event refl refl framed one) one;
-  slices = λ slot. slice_few policy slot h timed framed one;
+  slices = λ slot. (items_answered policy slot h timed framed one).small;
+  few = λ plain slot. (items_answered policy slot h timed framed one).few plain;
 }
 
 pub answers_fit : (policy : PolicyView) (h : List Timed) (timed : Timed) → AreFramed h → IsFramed timed.event → Fits policy h timed
@@ -68,5 +58,5 @@ answers_fit policy h timed framed one =
     let lane = little.lane.small in
     record {
       lane = omega arith;
-      slices = λ slot. (small-few 2 slice_limit (sent_by policy slot h timed) (omega arith) (little.slices slot)).small;
+      slices = λ slot. let slice = (little.slices slot).small in omega arith;
     }

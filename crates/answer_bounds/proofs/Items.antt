@@ -1,11 +1,12 @@
--- What one event shows a slice: at most two items, each with a small answer.
-use Rattle.std.proofs.Common.{ℕ, ◌+◌, ◌==◌, ◌&&◌, ◌≤◌, ◌/◌, ◌%◌, ◌^◌, ltb, Bool, true, false, if◌then◌else◌, inl, inr, List, [], ◌∷◌, ◌++◌, map, filter, length, refl, ap, ◌≡◌, Option, Some, None, is_some, IfSome, arith}
+-- What one event shows a slice: at most two items, each with a small answer, or statistics.
+use Rattle.std.proofs.Common.{ℕ, ◌+◌, ◌==◌, ◌&&◌, ◌≤◌, ◌%◌, ◌^◌, ltb, Bool, true, false, if◌then◌else◌, inl, inr, List, [], ◌∷◌, ◌++◌, map, filter, length, refl, ap, ◌≡◌, Option, Some, None, is_some, IfSome, sym, ◌∙◌, true≢false, arith}
 use Rattle.std.specs.Prelude.{option_and_then}
-use Rattle.std.specs.List.{list_any}
+use Rattle.std.specs.List.{All, list_any}
 use Rattle.std.proofs.lemmas.Bool.{cases_Bool, ltb-false}
 use Rattle.std.proofs.lemmas.List.{length-map, length-drop}
+use Rattle.std.proofs.lemmas.List.Elements.{All-nil, All-cons, All-head, All-tail}
 use Rattle.of10_model.specs.Normal.{is_value, bit}
-use Rattle.of10_ctl.specs.declared.kind.TheConstants.{ERROR, PACKET_IN, FLOW_REMOVED}
+use Rattle.of10_ctl.specs.declared.kind.TheConstants.{ERROR, PACKET_IN, FLOW_REMOVED, STATS_REPLY, BARRIER_REPLY, QUEUE_GET_CONFIG_REPLY}
 use Rattle.of10_ctl.specs.Frames.{is_bad}
 use Rattle.of10_flow.specs.declared.packet_in.PacketIn.{PacketIn}
 use Rattle.of10_flow.specs.PacketIns.{read_packet_in}
@@ -13,6 +14,8 @@ use Rattle.of10_flow.specs.declared.flow_removed.FlowRemoved.{FlowRemoved}
 use Rattle.of10_flow.specs.FlowRemoveds.{read_flow_removed}
 use Rattle.of10_message.specs.Heads.{xid_of}
 use Rattle.of10_message.specs.Errors.{ErrorMessage, read_error, pair_in}
+use Rattle.of10_message.specs.Replies.{is_bare, QueuesMessage, read_queues}
+use Rattle.of10_stats.specs.Replies.{part_of}
 use Rattle.of10_model.specs.Inclusion.{includes_of}
 use Rattle.of10_port.specs.declared.features.Features.{Features}
 use Rattle.of10_port.specs.declared.status.PortStatus.{PortStatus}
@@ -20,8 +23,10 @@ use Rattle.of10_port.specs.Ports.{port_number}
 use Rattle.flowspace.specs.declared.rules.Rule.{Rule}
 use Rattle.flowspace.specs.Order.{writer_of, readers_of}
 use Rattle.flowspace.specs.Policies.{PolicyView}
-use Rattle.slice_words.specs.Items.{Settings, is_own_port, Share, Writer, Reader, Probe, Item, Up, Down, Msg, Lost, Removed, Status, Fault, End, is_up}
+use Rattle.slice_words.specs.Items.{Settings, is_own_port, Share, Writer, Reader, Probe, Item, Up, Down, Msg, Lost, Removed, Status, Fault, Barrier, Queues, End, is_up}
 use Rattle.slice_words.specs.Items as items
+use Rattle.slice_words.specs.Alone.{with_items, sent_for}
+use Rattle.slice_words.proofs.Collecting.{IsWholeEntry}
 use Rattle.of10_model.proofs.Results.{either}
 use Rattle.desk_words.specs.declared.event.Event.{Event}
 use Rattle.desk_words.specs.declared.event.Event.TheVariants.{SwitchUp, SwitchMsg, SwitchDown, SliceUp, SliceMsg, SliceDown}
@@ -29,12 +34,14 @@ use Rattle.desk_words.specs.declared.event.Timed.{Timed}
 use Rattle.desk_words.specs.declared.phase.Phase.{Phase}
 use Rattle.desk_words.specs.declared.phase.Phase.TheVariants.{Fresh, Begun, Opened, Ended}
 use Rattle.of10_ctl.specs.Kinds.{is_of}
-use Rattle.desk_words.specs.Openings.{well_formed, status_told, opening_with, rules_of, Switch, switch_of, phase_of}
-use Rattle.desk_words.specs.Histories.{is_slot, settings_at, own_features, handed, header_in, number_given, marked_slot, shares_of, holder, packet_items, packet_in_items, Side, status_items, removed_items, error_items, message_items, opening_items, event_items, phase_items, items_of, side_of, view_of}
+use Rattle.desk_words.specs.Openings.{well_formed, status_told, opening_with, rules_of, Switch, switch_of, phase_of, opening_of}
+use Rattle.desk_words.specs.Histories.{is_slot, settings_at, own_features, handed, header_in, number_given, marked_slot, shares_of, holder, packet_items, packet_in_items, Side, status_items, removed_items, is_reply_to, error_items, barrier_items, queues_items, message_items, opening_items, event_items, phase_items, items_of, side_of, view_of}
 use Rattle.port_view.specs.KnownPorts.{is_kept}
-use Rattle.answer_bounds.specs.Bounds.{IsFramed, AreFramed}
-use Rattle.answer_bounds.proofs.Messages.{IsShort}
-use Rattle.answer_bounds.proofs.AnswerSizes.{HasFewPorts, IsBounded, AreBounded, speaks, speaking}
+use Rattle.desk_words.proofs.Seen.{by_test}
+use Rattle.answer_bounds.specs.Bounds.{IsFramed, AreFramed, AreFew, AreSmall, tells_statistics}
+use Rattle.answer_bounds.proofs.Messages.{IsShort, few-more, small-few}
+use Rattle.answer_bounds.proofs.AnswerSizes.{HasFewPorts, IsBounded, AreBounded, speaks, speaking, sent_size}
+use Rattle.answer_bounds.proofs.Statistics.{AreReplied, part_body, statistics_replied}
 use Rattle.answer_bounds.proofs.Ports.{IsWhole, told_status, few_ports}
 
 -- ---- few items
@@ -42,12 +49,17 @@ use Rattle.answer_bounds.proofs.Ports.{IsWhole, told_status, few_ports}
 pub record AreFewItems (view shown : List Item) : Type 0 where
   pub few : speaking shown ≤ 2
   pub bounded : AreBounded view shown
+  pub whole : All IsWholeEntry shown
 
 no_items : (view : List Item) → AreFewItems view []
-no_items view = record { few = omega arith; bounded = tt }
+no_items view = record { few = omega arith; bounded = tt; whole = All-nil IsWholeEntry }
 
-one_item : (view : List Item) (item : Item) → IsBounded view item → AreFewItems view (item ∷ [])
-one_item view item bounded = record { few = either (λ (l : List Item). length l ≤ 2) (speaks item) (item ∷ []) [] (omega arith) (omega arith); bounded = (bounded, tt) }
+one_item : (view : List Item) (item : Item) → IsBounded view item → IsWholeEntry item → AreFewItems view (item ∷ [])
+one_item view item bounded whole = record {
+  few = either (λ (l : List Item). length l ≤ 2) (speaks item) (item ∷ []) [] (omega arith) (omega arith);
+  bounded = (bounded, tt);
+  whole = All-cons IsWholeEntry item [] whole (All-nil IsWholeEntry);
+}
 
 items_if : (view : List Item) (b : Bool) (shown : List Item) → AreFewItems view shown → AreFewItems view (if b then shown else [])
 items_if view b shown h = either (AreFewItems view) b shown [] h (no_items view)
@@ -69,6 +81,10 @@ bounded_handed : (view : List Item) (packet : PacketIn) (shares : List Share) �
 bounded_handed view packet [] short = tt
 bounded_handed view packet (share ∷ others) short = (short, bounded_handed (handed share packet ∷ view) packet others short)
 
+whole_handed : (packet : PacketIn) (shares : List Share) → All IsWholeEntry (map (λ share. handed share packet) shares)
+whole_handed packet [] = All-nil IsWholeEntry
+whole_handed packet (share ∷ others) = All-cons IsWholeEntry (handed share packet) (map (λ other. handed other packet) others) tt (whole_handed packet others)
+
 -- each packet may have a message
 all_speak : (packet : PacketIn) (shares : List Share) → filter speaks (map (λ share. handed share packet) shares) ≡ map (λ share. handed share packet) shares
 all_speak packet [] = refl
@@ -88,6 +104,7 @@ handed_few policy rules slot view packet short =
     record {
       few = rw (all_speak packet (shares_of policy rules slot packet), length-map (shares_of policy rules slot packet) (λ share. handed share packet)) shares;
       bounded = bounded_handed view packet (shares_of policy rules slot packet) short;
+      whole = whole_handed packet (shares_of policy rules slot packet);
     }
 
 -- what is lost has no message
@@ -95,7 +112,7 @@ lost_few : (view shown : List Item) (lost : Option ℕ) → ((others : List Item
 lost_few view shown None few = few view
 lost_few view shown (Some k) few =
     let rest = few (Lost k ∷ view) in
-    record { few = rest.few; bounded = (tt, rest.bounded) }
+    record { few = rest.few; bounded = (tt, rest.bounded); whole = All-cons IsWholeEntry (Lost k) shown tt rest.whole }
 
 packet_few : (policy : PolicyView) (rules : List Rule) (slot : ℕ) (side : Side) (told : Option PacketIn) → IfSome told IsShortPacket
     → AreFewItems side.sight.view (elim told [ None ↦ [] | Some packet ↦ packet_in_items policy rules slot side packet ])
@@ -110,7 +127,7 @@ status_few : (s : Settings) (view : List Item) (known : List (List ℕ)) (told :
     → AreFewItems view (elim told [ None ↦ [] | Some status ↦ status_items s known status ])
 status_few s view known None whole = no_items view
 status_few s view known (Some status) whole =
-    items_if view (is_kept status known && is_own_port s (port_number status.port)) (Status status ∷ []) (one_item view (Status status) whole)
+    items_if view (is_kept status known && is_own_port s (port_number status.port)) (Status status ∷ []) (one_item view (Status status) whole tt)
 
 -- ---- entries and errors
 
@@ -118,51 +135,121 @@ removed_few : (s : Settings) (view : List Item) (told : Option FlowRemoved) → 
 removed_few s view None = no_items view
 removed_few s view (Some entry) =
     let item = Removed (record entry { xid = 0 }) in
-    items_if view (list_any (λ pattern. includes_of pattern entry.pattern) s.patterns) (item ∷ []) (one_item view item tt)
+    items_if view (list_any (λ pattern. includes_of pattern entry.pattern) s.patterns) (item ∷ []) (one_item view item tt tt)
 
 error_few : (s : Settings) (view : List Item) (xid : ℕ) (told : Option ErrorMessage) → AreFewItems view (error_items s xid told)
 error_few s view xid None = no_items view
 error_few s view xid (Some error) =
     let item = Fault (xid % 2 ^ 24) error.class error.code (pair_in xid error.cause) in
-    items_if view (xid / 2 ^ 24 == s.slot) (item ∷ []) (one_item view item tt)
+    items_if view (is_reply_to s xid) (item ∷ []) (one_item view item tt tt)
+
+-- ---- replies
+
+barrier_few : (s : Settings) (view : List Item) (message : List ℕ) → AreFewItems view (barrier_items s message)
+barrier_few s view message =
+    let item = Barrier (xid_of message % 2 ^ 24) in
+    items_if view (is_reply_to s (xid_of message) && is_bare message) (item ∷ []) (one_item view item tt tt)
+
+queues_few : (s : Settings) (view : List Item) (xid : ℕ) (told : Option QueuesMessage) → IfSome told (λ queues. length queues.body ≤ 65527) → AreFewItems view (queues_items s xid told)
+queues_few s view xid None short = no_items view
+queues_few s view xid (Some queues) short =
+    let item = Queues (xid % 2 ^ 24) queues.body in
+    items_if view (is_reply_to s xid && is_own_port s queues.port) (item ∷ []) (one_item view item short tt)
+
+queues_short : (message : List ℕ) → IsShort message → IfSome (well_formed (read_queues message)) (λ queues. length queues.body ≤ 65527)
+unfolding read_queues
+queues_short message short = elim (cases_Bool (ltb (length message) 16)) [
+  | inl is ↦ rw is tt
+  | inr isnt ↦ (let rest = length-drop 8 message in rw isnt (omega arith))
+]
 
 -- ---- the opening
 
 opening_few : (policy : PolicyView) (slot : ℕ) (view : List Item) (told : Option Features) → AreFewItems view (opening_items policy slot told)
 opening_few policy slot view None = no_items view
-opening_few policy slot view (Some features) = one_item view (items.Opened (own_features (settings_at policy slot (Some features)) features)) tt
+opening_few policy slot view (Some features) = one_item view (items.Opened (own_features (settings_at policy slot (Some features)) features)) tt tt
+
+-- ---- what is sent for them
+
+-- little is sent for the items, and unless they are statistics at most two messages
+pub record AreAnswered (statistics : Bool) (s : Settings) (view shown : List Item) : Type 0 where
+  pub small : AreSmall 1048588 (sent_for s view shown)
+  pub few : statistics ≡ false → AreFew 2 (sent_for s view shown)
+  pub whole : All IsWholeEntry shown
+
+answered_few : (statistics : Bool) (s : Settings) (view shown : List Item) → AreFewItems view shown → AreAnswered statistics s view shown
+answered_few statistics s view shown are =
+    let few = few-more (speaking shown) 2 (sent_for s view shown) are.few (sent_size s view shown are.bounded) in
+    record { small = small-few 2 1048588 (sent_for s view shown) (omega arith) few; few = λ plain. few; whole = are.whole }
+
+answered_statistics : (statistics : Bool) (s : Settings) (view shown : List Item) → statistics ≡ true → AreReplied s view shown → AreAnswered statistics s view shown
+answered_statistics statistics s view shown is are = record { small = are.small; few = λ plain. absurd (true≢false (sym is ∙ plain)); whole = are.whole }
 
 -- ---- events
 
-message_few : (policy : PolicyView) (slot : ℕ) (switch : Switch) (side : Side) (message : List ℕ) → IsShort message → AreFewItems side.sight.view (message_items policy slot switch side message)
+message_answered : (policy : PolicyView) (slot : ℕ) (switch : Switch) (side : Side) (message : List ℕ) → IsShort message → All IsWholeEntry side.sight.view
+    → AreAnswered (is_of STATS_REPLY message) (settings_at policy slot switch.features) side.sight.view (message_items policy slot switch side message)
 unfolding message_items
-message_few policy slot switch side message short =
-    either (AreFewItems side.sight.view) (is_bad message) _ _ (one_item side.sight.view End tt)
-    (either (AreFewItems side.sight.view) (is_of PACKET_IN message) _ _ (packet_few policy (rules_of policy switch.features) slot side (well_formed (read_packet_in message)) (packet_short message short))
-    (either (AreFewItems side.sight.view) (is_of FLOW_REMOVED message) _ _ (removed_few (settings_at policy slot switch.features) side.sight.view (well_formed (read_flow_removed message)))
-    (either (AreFewItems side.sight.view) (is_of ERROR message) _ _ (error_few (settings_at policy slot switch.features) side.sight.view (xid_of message) (well_formed (read_error message)))
-    (status_few (settings_at policy slot switch.features) side.sight.view switch.known (status_told message) (told_status message)))))
+message_answered policy slot switch side message short whole =
+    let s = settings_at policy slot switch.features in
+    let view = side.sight.view in
+    let P : List Item → Type 0 = AreAnswered (is_of STATS_REPLY message) s view in
+    let few : (shown : List Item) → AreFewItems view shown → P shown = answered_few (is_of STATS_REPLY message) s view in
+    either P (is_bad message) _ _ (few _ (one_item view End tt tt))
+    (either P (is_of PACKET_IN message) _ _ (few _ (packet_few policy (rules_of policy switch.features) slot side (well_formed (read_packet_in message)) (packet_short message short)))
+    (either P (is_of FLOW_REMOVED message) _ _ (few _ (removed_few s view (well_formed (read_flow_removed message))))
+    (either P (is_of ERROR message) _ _ (few _ (error_few s view (xid_of message) (well_formed (read_error message))))
+    (either P (is_of BARRIER_REPLY message) _ _ (few _ (barrier_few s view message))
+    (either P (is_of QUEUE_GET_CONFIG_REPLY message) _ _ (few _ (queues_few s view (xid_of message) (well_formed (read_queues message)) (queues_short message short)))
+    (by_test P (is_of STATS_REPLY message) _ _ (λ is. answered_statistics (is_of STATS_REPLY message) s view _ is (statistics_replied s view (xid_of message) (well_formed (part_of message)) message (part_body message short) whole))
+    (few _ (status_few s view switch.known (status_told message) (told_status message)))))))))
 
-event_few : (policy : PolicyView) (slot moment : ℕ) (switch : Switch) (side : Side) (event : Event) → HasFewPorts side.sight.view → IsFramed event
-    → AreFewItems side.sight.view (event_items policy slot switch side moment event)
-event_few policy slot moment switch side SwitchUp ports framed = no_items side.sight.view
-event_few policy slot moment switch side (SwitchMsg message) ports framed = message_few policy slot switch side message framed.small
-event_few policy slot moment switch side SwitchDown ports framed = one_item side.sight.view End tt
-event_few policy slot moment switch side (SliceUp other) ports framed = items_if side.sight.view (other == slot) (Up ∷ []) (one_item side.sight.view Up tt)
-event_few policy slot moment switch side (SliceMsg other message) ports framed =
-    items_if side.sight.view (other == slot && is_up side.sight.view) (Msg message moment ∷ []) (one_item side.sight.view (Msg message moment) (framed.small, ports))
-event_few policy slot moment switch side (SliceDown other) ports framed = items_if side.sight.view (other == slot) (Down ∷ []) (one_item side.sight.view Down tt)
+event_answered : (policy : PolicyView) (slot moment : ℕ) (switch : Switch) (side : Side) (event : Event) → HasFewPorts side.sight.view → All IsWholeEntry side.sight.view → IsFramed event
+    → AreAnswered (tells_statistics event) (settings_at policy slot switch.features) side.sight.view (event_items policy slot switch side moment event)
+event_answered policy slot moment switch side (SwitchMsg message) ports whole framed = message_answered policy slot switch side message framed.small whole
+event_answered policy slot moment switch side SwitchUp ports whole framed = answered_few false (settings_at policy slot switch.features) side.sight.view [] (no_items side.sight.view)
+event_answered policy slot moment switch side SwitchDown ports whole framed = answered_few false (settings_at policy slot switch.features) side.sight.view (End ∷ []) (one_item side.sight.view End tt tt)
+event_answered policy slot moment switch side (SliceUp other) ports whole framed =
+    answered_few false (settings_at policy slot switch.features) side.sight.view _ (items_if side.sight.view (other == slot) (Up ∷ []) (one_item side.sight.view Up tt tt))
+event_answered policy slot moment switch side (SliceMsg other message) ports whole framed =
+    answered_few false (settings_at policy slot switch.features) side.sight.view _
+    (items_if side.sight.view (other == slot && is_up side.sight.view) (Msg message moment ∷ []) (one_item side.sight.view (Msg message moment) (framed.small, ports) tt))
+event_answered policy slot moment switch side (SliceDown other) ports whole framed =
+    answered_few false (settings_at policy slot switch.features) side.sight.view _ (items_if side.sight.view (other == slot) (Down ∷ []) (one_item side.sight.view Down tt tt))
 
-phase_few : (policy : PolicyView) (slot : ℕ) (switch : Switch) (side : Side) (timed : Timed) (phase : Phase) → HasFewPorts side.sight.view → IsFramed timed.event
-    → AreFewItems side.sight.view (phase_items policy slot switch side timed phase)
-phase_few policy slot switch side timed Fresh ports framed = no_items side.sight.view
-phase_few policy slot switch side timed Begun ports framed = opening_few policy slot side.sight.view (opening_with Begun timed.event)
-phase_few policy slot switch side timed Opened ports framed = event_few policy slot timed.moment switch side timed.event ports framed
-phase_few policy slot switch side timed Ended ports framed = no_items side.sight.view
+phase_answered : (policy : PolicyView) (slot : ℕ) (switch : Switch) (side : Side) (timed : Timed) (phase : Phase) → HasFewPorts side.sight.view → All IsWholeEntry side.sight.view → IsFramed timed.event
+    → AreAnswered (tells_statistics timed.event) (settings_at policy slot switch.features) side.sight.view (phase_items policy slot switch side timed phase)
+phase_answered policy slot switch side timed Fresh ports whole framed = answered_few (tells_statistics timed.event) (settings_at policy slot switch.features) side.sight.view [] (no_items side.sight.view)
+phase_answered policy slot switch side timed Begun ports whole framed =
+    answered_few (tells_statistics timed.event) (settings_at policy slot switch.features) side.sight.view _ (opening_few policy slot side.sight.view (opening_with Begun timed.event))
+phase_answered policy slot switch side timed Opened ports whole framed = event_answered policy slot timed.moment switch side timed.event ports whole framed
+phase_answered policy slot switch side timed Ended ports whole framed = answered_few (tells_statistics timed.event) (settings_at policy slot switch.features) side.sight.view [] (no_items side.sight.view)
 
-pub items_few : (policy : PolicyView) (slot : ℕ) (h : List Timed) (timed : Timed) → AreFramed h → IsFramed timed.event
-    → AreFewItems (view_of policy slot h) (items_of policy slot (switch_of h) (side_of policy slot h) timed)
-items_few policy slot h timed framed one = elim (cases_Bool (is_slot policy slot)) [
-  | inl here ↦ rw here (phase_few policy slot (switch_of h) (side_of policy slot h) timed (phase_of h) (few_ports policy slot h framed here) one)
-  | inr isnt ↦ rw isnt (no_items (view_of policy slot h))
+-- ---- histories
+
+-- what an event shows after a view of whole entries
+abbrev pub IsAnswered : PolicyView → ℕ → List Timed → Timed → Type 0
+IsAnswered policy slot h timed =
+    AreAnswered (tells_statistics timed.event) (settings_at policy slot (opening_of h)) (view_of policy slot h) (items_of policy slot (switch_of h) (side_of policy slot h) timed)
+
+answered_after : (policy : PolicyView) (slot : ℕ) (h : List Timed) (timed : Timed) → AreFramed h → IsFramed timed.event → All IsWholeEntry (view_of policy slot h) → IsAnswered policy slot h timed
+answered_after policy slot h timed framed one whole = elim (cases_Bool (is_slot policy slot)) [
+  | inl here ↦ rw here (phase_answered policy slot (switch_of h) (side_of policy slot h) timed (phase_of h) (few_ports policy slot h framed here) whole one)
+  | inr isnt ↦ rw isnt (answered_few (tells_statistics timed.event) (settings_at policy slot (opening_of h)) (view_of policy slot h) [] (no_items (view_of policy slot h)))
 ]
+
+whole_with : (items view : List Item) → All IsWholeEntry items → All IsWholeEntry view → All IsWholeEntry (with_items items view)
+whole_with [] view all whole = whole
+whole_with (item ∷ items) view all whole =
+    whole_with items (item ∷ view) (All-tail IsWholeEntry item items all) (All-cons IsWholeEntry item view (All-head IsWholeEntry item items all) whole)
+
+whole_view : (policy : PolicyView) (slot : ℕ) (h : List Timed) → AreFramed h → All IsWholeEntry (view_of policy slot h)
+whole_view policy slot [] framed = All-nil IsWholeEntry
+whole_view policy slot (timed ∷ h) framed =
+    let before = All-tail (λ (one : Timed). IsFramed one.event) timed h framed in
+    let whole = whole_view policy slot h before in
+    let now = answered_after policy slot h timed before (All-head (λ (one : Timed). IsFramed one.event) timed h framed) whole in
+    whole_with (items_of policy slot (switch_of h) (side_of policy slot h) timed) (view_of policy slot h) now.whole whole
+
+pub items_answered : (policy : PolicyView) (slot : ℕ) (h : List Timed) (timed : Timed) → AreFramed h → IsFramed timed.event → IsAnswered policy slot h timed
+items_answered policy slot h timed framed one = answered_after policy slot h timed framed one (whole_view policy slot h framed)

@@ -17,6 +17,10 @@ use Rattle.of10_flow.specs.declared.packet_out.PacketOut.{PacketOut}
 use Rattle.of10_flow.specs.PacketOuts.{spell_packet_out}
 use Rattle.of10_flow.specs.declared.packet_in.PacketIn.{PacketIn}
 use Rattle.of10_flow.specs.PacketIns.{spell_packet_in}
+use Rattle.of10_stats.specs.declared.request.StatsRequest.{StatsRequest}
+use Rattle.of10_stats.specs.declared.request.StatsRequest.TheVariants.{Desc, Flow, Aggregate, Table, Port, Queue}
+use Rattle.of10_stats.specs.Requests.{spell_request}
+use Rattle.stats_filter.specs.Replies.{sum_reply, table_reply}
 use Rattle.of10_port.specs.declared.features.Features.{Features}
 use Rattle.of10_port.specs.declared.status.PortStatus.{PortStatus}
 use Rattle.of10_port.specs.Ports.{IsPort}
@@ -80,14 +84,34 @@ small-few n most messages fits a =
 pub short-message : (kind xid : ℕ) (body : List ℕ) → length body ≤ 65527 → IsShort (message_of kind xid body)
 short-message kind xid body small = omega (arith, length-message kind xid body)
 
--- an echo's reply is as long as the request
-pub short-echo : (message : List ℕ) → IsShort message → IsShort (echo_reply_to message)
-short-echo message short =
+-- what has the body of another message is as long
+pub short-behind : (kind xid : ℕ) (message : List ℕ) → IsShort message → IsShort (message_of kind xid (drop 8 message))
+short-behind kind xid message short =
     let rest = length-drop 8 message in
-    short-message ECHO_REPLY (number_at message 4 4) (drop 8 message) (omega arith)
+    short-message kind xid (drop 8 message) (omega arith)
+
+pub short-echo : (message : List ℕ) → IsShort message → IsShort (echo_reply_to message)
+short-echo message short = short-behind ECHO_REPLY (number_at message 4 4) message short
 
 pub short-config : (xid wanted : ℕ) → IsShort (message_of GET_CONFIG_REPLY xid (big_bytes 2 0 ++ big_bytes 2 wanted))
 short-config xid wanted = short-message GET_CONFIG_REPLY xid (big_bytes 2 0 ++ big_bytes 2 wanted) (omega arith)
+
+pub short-request : (request : StatsRequest) (xid : ℕ) → IsShort (spell_request request xid)
+unfolding spell_request Spell
+short-request Desc xid = omega arith
+short-request (Flow pattern table out_port) xid = omega arith
+short-request (Aggregate pattern table out_port) xid = omega arith
+short-request Table xid = omega arith
+short-request (Port port) xid = omega arith
+short-request (Queue port queue) xid = omega arith
+
+pub short-sums : (packets bytes flows xid : ℕ) → IsShort (sum_reply packets bytes flows xid)
+unfolding sum_reply
+short-sums packets bytes flows xid = omega arith
+
+pub short-table : (active quota xid : ℕ) → IsShort (table_reply active quota xid)
+unfolding table_reply
+short-table active quota xid = omega arith
 
 pub short-removed : (entry : FlowRemoved) → IsShort (spell_flow_removed entry)
 unfolding spell_flow_removed Spell

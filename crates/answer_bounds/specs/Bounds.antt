@@ -1,7 +1,9 @@
 -- What follows from one event is little, and fits the limits of the queues.
-use Rattle.std.specs.Prelude.{ℕ, ◌≤◌, List, length}
+use Rattle.std.specs.Prelude.{ℕ, ◌≡◌, ◌≤◌, Bool, false, List, length}
 use Rattle.std.specs.List.{All}
+use Rattle.of10_ctl.specs.declared.kind.TheConstants.{STATS_REPLY}
 use Rattle.of10_ctl.specs.Frames.{IsFrame}
+use Rattle.of10_ctl.specs.Kinds.{is_of}
 use Rattle.flowspace.specs.Policies.{PolicyView}
 use Rattle.outbox.specs.Queues.{size}
 use Rattle.desk_words.specs.declared.event.Event.{Event}
@@ -39,7 +41,13 @@ pub record AreSmall (most : ℕ) (messages : List (List ℕ)) : Type 0 where
   pub small : size messages ≤ most
   pub short : AreShort messages
 
--- what follows from an event after a history is at most 262,144 bytes for the switch, and at most two messages for each slice
+-- an event tells statistics (OpenFlow 1.0.0, section 5.3.5)
+abbrev pub tells_statistics : Event → Bool
+tells_statistics (SwitchMsg message) = is_of STATS_REPLY message
+tells_statistics event = false
+
+-- what follows from an event after a history is at most 262,144 bytes for the switch and 1,048,588 for each slice; and where it tells no statistics, at most two messages for each slice
 pub record SendsLittle (policy : PolicyView) (h : List Timed) (timed : Timed) : Type 0 where
   pub lane : AreSmall 262144 (lane_by policy h timed)
-  pub slices : (slot : ℕ) → AreFew 2 (sent_by policy slot h timed)
+  pub slices : (slot : ℕ) → AreSmall 1048588 (sent_by policy slot h timed)
+  pub few : tells_statistics timed.event ≡ false → (slot : ℕ) → AreFew 2 (sent_by policy slot h timed)

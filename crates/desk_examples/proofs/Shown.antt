@@ -23,10 +23,16 @@ use Rattle.of10_action.specs.Reading.{head_at, action_of, action_at, actions_at}
 use Rattle.of10_flow.specs.FlowRemoveds.{read_flow_removed}
 use Rattle.of10_message.specs.Controller.{read_controller, read_typed}
 use Rattle.of10_message.specs.Errors.{read_error, pair_in}
+use Rattle.of10_message.specs.Replies.{read_queues}
 use Rattle.action_check.specs.ActionRules.{code_of}
 use Rattle.flowmod_expand.specs.Messages.{sent_for}
 use Rattle.rate_bucket.specs.Rates.{has_room, is_conforming, accepted, is_accepted}
+use Rattle.of10_stats.specs.Requests.{read_request, request_of, spell_request}
+use Rattle.of10_stats.specs.Replies.{part_of, length_of}
 use Rattle.xid_map.specs.Requests.{requests, remembered, found}
+use Rattle.xid_map.specs.Collections.{collecting, since, added, summed, joined, kept, gathered}
+use Rattle.stats_filter.specs.Keeping.{entries_at, entries_in, is_own_entry}
+use Rattle.stats_filter.specs.Replies.{placed, replies_of, sum_reply, table_reply}
 use Rattle.flow_book.specs.Books.{book}
 use Rattle.slice_words.specs.FlowMods.{flow_mod_fault}
 use Rattle.slice_words.specs.Answers.{read_answer, packet_told}
@@ -36,11 +42,12 @@ use Rattle.desk_examples.specs.Examples.{PacketReaches, PacketPasses, BadLengthC
 use Rattle.desk_examples.specs.Ports.{StatusReachesBob, OwnPortsAreTold}
 use Rattle.desk_examples.specs.Connections.{NothingHappens, SwitchGoes, BadLengthEndsTheSwitch, EarlySliceIsRefused}
 use Rattle.desk_examples.specs.Readers.{WriterIsToldAlone, ReaderIsTold}
+use Rattle.desk_examples.specs.Statistics.{BarrierComesBack, QueuesComeBack, OwnFlowsAreTold, FlowsAreSummed, TableIsTold}
 use Rattle.desk_examples.specs.FlowMods.{FlowModIsCut, FlowModIsRefused, ErrorIsToldOnce}
 
 -- what the examples compute with
 computing : Bool
-unfolding digits encode_with has Spell frames_at frames_of features_front read_features spell_features read_port_status spell_port_status ports_in spell_flow_mod read_packet_in spell_packet_in header_of_packet link_of tagged_link typed arp_of ipv4_of network_of transport_at transport_of probe_slot_of trailer_slot changed changed_plainly first_known kept_of with_port without_port spelled applied includes_of meet_of is_same head_at action_of action_at actions_at flow_mod_with read_flow_mod read_flow_removed read_controller read_typed read_error pair_in code_of sent_for has_room is_conforming accepted is_accepted requests remembered found book flow_mod_fault read_answer packet_told message_items report_from
+unfolding digits encode_with has Spell frames_at frames_of features_front read_features spell_features read_port_status spell_port_status ports_in spell_flow_mod read_packet_in spell_packet_in header_of_packet link_of tagged_link typed arp_of ipv4_of network_of transport_at transport_of probe_slot_of trailer_slot changed changed_plainly first_known kept_of with_port without_port spelled applied includes_of meet_of is_same head_at action_of action_at actions_at flow_mod_with read_flow_mod read_flow_removed read_controller read_typed read_error pair_in code_of sent_for has_room is_conforming accepted is_accepted requests remembered found book flow_mod_fault read_answer packet_told message_items report_from part_of read_request request_of spell_request length_of entries_at entries_in is_own_entry collecting since added summed joined kept gathered placed replies_of sum_reply table_reply read_queues
 computing = true
 
 pub packet_reaches_shown : PacketReaches
@@ -126,3 +133,23 @@ flow_mod_is_refused_shown = refl
 pub error_is_told_once_shown : ErrorIsToldOnce
 unfolding computing
 error_is_told_once_shown = refl
+
+pub barrier_comes_back_shown : BarrierComesBack
+unfolding computing
+barrier_comes_back_shown = refl
+
+pub queues_come_back_shown : QueuesComeBack
+unfolding computing
+queues_come_back_shown = refl
+
+pub own_flows_are_told_shown : OwnFlowsAreTold
+unfolding computing
+own_flows_are_told_shown = refl
+
+pub flows_are_summed_shown : FlowsAreSummed
+unfolding computing
+flows_are_summed_shown = refl
+
+pub table_is_told_shown : TableIsTold
+unfolding computing
+table_is_told_shown = refl

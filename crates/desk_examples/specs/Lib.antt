@@ -3,3 +3,4 @@ pub mod Ports
 pub mod Connections
 pub mod Readers
 pub mod FlowMods
+pub mod Statistics

@@ -6,6 +6,7 @@ ghost use Rattle.desk_examples.specs.Examples.{PacketReaches, PacketPasses, BadL
 ghost use Rattle.desk_examples.specs.Ports.{StatusReachesBob, OwnPortsAreTold};
 ghost use Rattle.desk_examples.specs.Connections.{NothingHappens, SwitchGoes, BadLengthEndsTheSwitch, EarlySliceIsRefused};
 ghost use Rattle.desk_examples.specs.FlowMods.{FlowModIsCut, FlowModIsRefused, ErrorIsToldOnce};
+ghost use Rattle.desk_examples.specs.Statistics.{BarrierComesBack, QueuesComeBack, OwnFlowsAreTold, FlowsAreSummed, TableIsTold};
 ghost use Rattle.desk_examples.specs.Readers.{WriterIsToldAlone, ReaderIsTold};
 
 /// A packet goes to the slice that may write its header, whole and without a buffer, and to no other.
@@ -63,4 +64,19 @@ pub fn flow_mod_is_sent_on()
     ensures cut { FlowModIsCut }
     ensures refused { FlowModIsRefused }
     ensures error { ErrorIsToldOnce }
+{}
+
+/// A barrier and a question for queues are sent on under transaction ids of their own, and the replies come
+/// back under those of the slice, each once.
+pub fn reply_comes_back()
+    ensures barrier { BarrierComesBack }
+    ensures queues { QueuesComeBack }
+{}
+
+/// Of the statistics that the switch tells in parts a slice is told its own, whole or summed, and of its one
+/// table without asking the switch.
+pub fn statistics_are_told()
+    ensures flows { OwnFlowsAreTold }
+    ensures sum { FlowsAreSummed }
+    ensures table { TableIsTold }
 {}

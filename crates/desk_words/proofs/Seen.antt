@@ -166,7 +166,7 @@ by_other policy slot switch view items message none untold same =
     by_untelling (settings_at policy slot switch.features) view items switch.known (known_after Opened switch.known (SwitchMsg message)) none (known_told message switch.known untold) same
 
 -- one of two, by a test that is looked at
-by_test : (P : List Item → Type 0) (test : Bool) (one other : List Item) → (test ≡ true → P one) → P other → P (if test then one else other)
+pub by_test : (P : List Item → Type 0) (test : Bool) (one other : List Item) → (test ≡ true → P one) → P other → P (if test then one else other)
 by_test P true one other is isnt = is refl
 by_test P false one other is isnt = isnt
 

@@ -7,3 +7,4 @@ pub mod LoneRules
 pub mod Forwarding
 pub mod Holding
 pub mod Forgetting
+pub mod Collecting

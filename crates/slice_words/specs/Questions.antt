@@ -1,5 +1,5 @@
 -- What follows from a slice's requests for statistics (OpenFlow 1.0.0, section 5.3.5), questions for queues (5.3.4) and barriers (5.3.7). For which ports a slice may ask is this proxy's own rule.
-use Rattle.std.specs.Prelude.{ℕ, ◌==◌, ◌||◌, Bool, true, if◌then◌else◌, List, [], ◌∷◌, length, drop, Option, Some, None}
+use Rattle.std.specs.Prelude.{ℕ, ◌==◌, ◌||◌, Bool, true, List, [], ◌∷◌, length, drop, Some, None}
 use Rattle.of10_ctl.specs.declared.kind.TheConstants.{BARRIER_REQUEST, QUEUE_GET_CONFIG_REQUEST}
 use Rattle.of10_ctl.specs.Frames.{message_of}
 use Rattle.of10_port.specs.declared.protocol.TheConstants.{NONE, ALL}
@@ -10,7 +10,7 @@ use Rattle.flowspace.specs.Owners.{has_port}
 use Rattle.stats_filter.specs.Asking.{question_for}
 use Rattle.stats_filter.specs.Replies.{table_reply}
 use Rattle.slice_words.specs.Items.{lone_rules}
-use Rattle.slice_words.specs.Pasts.{Outgoing, Asks, Answer, told, forwarded}
+use Rattle.slice_words.specs.Pasts.{Asks, Answer, told, forwarded}
 use Rattle.slice_words.specs.FlowMods.{Ground}
 
 -- a port is the slice's
