@@ -1,17 +1,61 @@
--- What a message of a slice's controller has put for the switch: nothing, or what follows from a flow-mod or a packet-out that is permitted.
-use Rattle.std.proofs.Common.{◌≡◌, ◌⊎◌, inl, inr, refl, ap, ◌∙◌, ℕ, Bool, true, false, if◌then◌else◌, List, [], Option, Some, None, Ok, Err}
+-- What a message of a slice's controller has put for the switch: nothing, or what follows from a flow-mod, a packet-out or a question that is permitted.
+use Rattle.std.proofs.Common.{◌≡◌, ◌⊎◌, inl, inr, refl, sym, ap, ◌∙◌, ℕ, Bool, true, false, if◌then◌else◌, List, [], ◌∷◌, length, drop, Option, Some, None, Ok, Err}
+use Rattle.of10_ctl.specs.declared.kind.TheConstants.{BARRIER_REQUEST, QUEUE_GET_CONFIG_REQUEST}
+use Rattle.of10_ctl.specs.Frames.{message_of}
 use Rattle.of10_flow.specs.declared.flow_mod.FlowMod.{FlowMod}
 use Rattle.of10_flow.specs.declared.packet_out.PacketOut.{PacketOut}
 use Rattle.of10_message.specs.declared.controller.FromController.{FromController}
 use Rattle.of10_message.specs.declared.controller.FromController.TheVariants as said
+use Rattle.of10_message.specs.Heads.{xid_of}
 use Rattle.of10_message.specs.Controller.{read_controller}
-use Rattle.slice_words.specs.Messages.{Reading}
+use Rattle.stats_filter.specs.Asking.{question_for}
+use Rattle.stats_filter.specs.Replies.{table_reply}
+use Rattle.slice_words.specs.Messages.{Reading, asks_switch}
 use Rattle.slice_words.specs.Items.{Settings, Item}
-use Rattle.slice_words.specs.Pasts.{Outgoing, Answer, Past, forwarded}
-use Rattle.slice_words.specs.FlowMods.{ground_of, flow_mod_fault, sent_on}
+use Rattle.slice_words.specs.Pasts.{Outgoing, Asks, Answer, Past, told, forwarded}
+use Rattle.slice_words.specs.FlowMods.{Ground, ground_of, flow_mod_fault, sent_on}
 use Rattle.slice_words.specs.PacketOuts.{packet_out_fault, sent_out}
+use Rattle.slice_words.specs.Questions.{is_port_on, may_ask, asking, statistics_asked, queues_asked}
 use Rattle.slice_words.specs.Answers.{refused, not_permitted, unread_answer, forwarded_answer, keeps_rate, read_answer, message_answer}
 use Rattle.slice_words.proofs.AnswerKinds.{message_holds}
+use Rattle.slice_side.proofs.Answering.{asked_answer}
+
+-- with this message the slice may ask the switch this
+abbrev pub IsQuestion : Ground → List ℕ → FromController → List ℕ → Type 0
+IsQuestion g message (said.StatsRequest request) question = (may_ask g request ≡ true) × (question_for request g.xid ≡ Some question)
+IsQuestion g message said.BarrierRequest question = question ≡ message_of BARRIER_REQUEST g.xid []
+IsQuestion g message (said.QueueGetConfigRequest port) question = (is_port_on g port ≡ true) × (question ≡ message_of QUEUE_GET_CONFIG_REQUEST g.xid (drop 8 message))
+IsQuestion g message asked question = ⊥
+
+-- such a message is to be sent on
+is_question : (g : Ground) (message question : List ℕ) (asked : FromController) → IsQuestion g message asked question → asks_switch (Ok asked) ≡ true
+is_question g message question (said.StatsRequest request) is = refl
+is_question g message question said.BarrierRequest is = refl
+is_question g message question (said.QueueGetConfigRequest port) is = refl
+is_question g message question said.Hello is = absurd is
+is_question g message question said.Error is = absurd is
+is_question g message question said.EchoRequest is = absurd is
+is_question g message question said.EchoReply is = absurd is
+is_question g message question said.Vendor is = absurd is
+is_question g message question said.FeaturesRequest is = absurd is
+is_question g message question said.GetConfigRequest is = absurd is
+is_question g message question (said.SetConfig config) is = absurd is
+is_question g message question (said.PacketOut m) is = absurd is
+is_question g message question (said.FlowMod m) is = absurd is
+is_question g message question said.PortMod is = absurd is
+
+-- what follows from it
+abbrev by_question : Ground → List ℕ → Option (List ℕ) → Answer
+by_question g message found = elim found [ None ↦ told (table_reply (length g.booked) g.quota (xid_of message) ∷ []) | Some question ↦ asking question ]
+
+question_follows : (s : Settings) (view : List Item) (past : List Past) (message question : List ℕ) (asked : FromController) → IsQuestion (ground_of s view past) message asked question
+    → forwarded_answer s view past asked message ≡ asking question
+question_follows s view past message question (said.StatsRequest request) is =
+    ap (λ (b : Bool). if b then statistics_asked (ground_of s view past) request message else refused not_permitted message) is.0 ∙ ap (by_question (ground_of s view past) message) is.1
+question_follows s view past message question said.BarrierRequest is = ap asking (sym is)
+question_follows s view past message question (said.QueueGetConfigRequest port) is =
+    ap (λ (b : Bool). if b then queues_asked (ground_of s view past) message else refused not_permitted message) is.0 ∙ ap asking (sym is.1)
+question_follows s view past message question _ is = absurd is
 
 module _ (s : Settings) (view : List Item) (past : List Past) (moment : ℕ) (message : List ℕ) where
   -- what is put for the switch
@@ -30,6 +74,12 @@ module _ (s : Settings) (view : List Item) (past : List Past) (moment : ℕ) (me
     pub rate : keeps_rate s view past moment ≡ true
     pub no_fault : packet_out_fault (ground_of s view past) m ≡ None
 
+  -- a question that is permitted
+  pub record PermitsQuestion (asked : FromController) (question : List ℕ) : Type 0 where
+    pub read : read_controller message ≡ Ok asked
+    pub rate : keeps_rate s view past moment ≡ true
+    pub may : IsQuestion (ground_of s view past) message asked question
+
   -- what follows by what is read of the message, by whether it keeps the rate, and by the first line that refuses it
   abbrev read_as : Reading → Answer
   read_as read = elim read [ Err fault ↦ unread_answer fault message | Ok asked ↦ read_answer s view past moment asked message ]
@@ -40,34 +90,41 @@ module _ (s : Settings) (view : List Item) (past : List Past) (moment : ℕ) (me
   abbrev lined_as : List Outgoing → Option (ℕ × ℕ) → Answer
   lined_as messages found = elim found [ Some fault ↦ refused fault message | None ↦ forwarded messages ]
 
-  put_unrated : (m : FlowMod) (rate : Bool) → read_controller message ≡ Ok (said.FlowMod m) → keeps_rate s view past moment ≡ rate → put ≡ (rated_as (said.FlowMod m) rate).to_switch
-  unfolding read_answer
-  put_unrated m rate read is = ap (λ (found : Reading). (read_as found).to_switch) read ∙ ap (λ (b : Bool). (rated_as (said.FlowMod m) b).to_switch) is
+  unrated : (asked : FromController) (rate : Bool) → asks_switch (Ok asked) ≡ true → read_controller message ≡ Ok asked → keeps_rate s view past moment ≡ rate → put ≡ (rated_as asked rate).to_switch
+  unrated asked rate asks read is =
+      ap (λ (found : Reading). (read_as found).to_switch) read
+      ∙ ap (λ (a : Answer). a.to_switch) (sym (asked_answer s view past moment message asked asks))
+      ∙ ap (λ (b : Bool). (rated_as asked b).to_switch) is
 
   put_lined : (m : FlowMod) (fault : Option (ℕ × ℕ)) → read_controller message ≡ Ok (said.FlowMod m) → keeps_rate s view past moment ≡ true → flow_mod_fault (ground_of s view past) m ≡ fault
       → put ≡ (lined_as (sent_on (ground_of s view past) m) fault).to_switch
-  put_lined m fault read rate is = put_unrated m true read rate ∙ ap (λ (found : Option (ℕ × ℕ)). (lined_as (sent_on (ground_of s view past) m) found).to_switch) is
+  put_lined m fault read rate is = unrated (said.FlowMod m) true refl read rate ∙ ap (λ (found : Option (ℕ × ℕ)). (lined_as (sent_on (ground_of s view past) m) found).to_switch) is
 
   pub put_whole : (m : FlowMod) → Permits m → put ≡ sent_on (ground_of s view past) m
   put_whole m p = put_lined m None p.read p.rate p.no_fault
 
-  out_unrated : (m : PacketOut) (rate : Bool) → read_controller message ≡ Ok (said.PacketOut m) → keeps_rate s view past moment ≡ rate → put ≡ (rated_as (said.PacketOut m) rate).to_switch
-  unfolding read_answer
-  out_unrated m rate read is = ap (λ (found : Reading). (read_as found).to_switch) read ∙ ap (λ (b : Bool). (rated_as (said.PacketOut m) b).to_switch) is
-
   out_lined : (m : PacketOut) (fault : Option (ℕ × ℕ)) → read_controller message ≡ Ok (said.PacketOut m) → keeps_rate s view past moment ≡ true → packet_out_fault (ground_of s view past) m ≡ fault
       → put ≡ (lined_as (sent_out (ground_of s view past) m) fault).to_switch
-  out_lined m fault read rate is = out_unrated m true read rate ∙ ap (λ (found : Option (ℕ × ℕ)). (lined_as (sent_out (ground_of s view past) m) found).to_switch) is
+  out_lined m fault read rate is = unrated (said.PacketOut m) true refl read rate ∙ ap (λ (found : Option (ℕ × ℕ)). (lined_as (sent_out (ground_of s view past) m) found).to_switch) is
 
   pub out_whole : (m : PacketOut) → PermitsOut m → put ≡ sent_out (ground_of s view past) m
   out_whole m p = out_lined m None p.read p.rate p.no_fault
 
-  -- another message puts nothing
-  abbrev IsOfEither : Answer → Type 0
-  IsOfEither a = (a.to_switch ≡ []) ⊎ (((m : FlowMod) × (read_controller message ≡ Ok (said.FlowMod m))) ⊎ ((m : PacketOut) × (read_controller message ≡ Ok (said.PacketOut m))))
+  pub question_whole : (asked : FromController) (question : List ℕ) → PermitsQuestion asked question → put ≡ Asks question ∷ []
+  question_whole asked question p =
+      unrated asked true (is_question (ground_of s view past) message question asked p.may) p.read p.rate
+      ∙ ap (λ (a : Answer). a.to_switch) (question_follows s view past message question asked p.may)
 
-  of_either : IsOfEither (message_answer s view past moment message)
-  of_either = message_holds (λ (ends : Bool) (a : Answer). IsOfEither a) s view past moment message (record {
+  -- a message that may be a question
+  abbrev MayAsk : Type 0
+  MayAsk = (asked : FromController) × (question : List ℕ) × (read_controller message ≡ Ok asked) × IsQuestion (ground_of s view past) message asked question
+
+  -- another message puts nothing
+  abbrev IsOfThese : Answer → Type 0
+  IsOfThese a = (a.to_switch ≡ []) ⊎ (((m : FlowMod) × (read_controller message ≡ Ok (said.FlowMod m))) ⊎ (((m : PacketOut) × (read_controller message ≡ Ok (said.PacketOut m))) ⊎ MayAsk))
+
+  of_these : IsOfThese (message_answer s view past moment message)
+  of_these = message_holds (λ (ends : Bool) (a : Answer). IsOfThese a) s view past moment message (record {
     bad = inl refl;
     old = inl refl;
     nothing = inl refl;
@@ -76,26 +133,35 @@ module _ (s : Settings) (view : List Item) (past : List Past) (moment : ℕ) (me
     tells_features = λ features. inl refl;
     tells_configuration = inl refl;
     forwards = λ m read none. inr (inl (m, read));
-    sends_out = λ m read none. inr (inr (m, read));
+    sends_out = λ m read none. inr (inr (inl (m, read)));
+    tells_table = inl refl;
+    asks_statistics = λ request question read may is. inr (inr (inr (said.StatsRequest request, question, read, (may, is))));
+    asks_barrier = λ read. inr (inr (inr (said.BarrierRequest, message_of BARRIER_REQUEST (ground_of s view past).xid [], read, refl)));
+    asks_queues = λ port read own. inr (inr (inr (said.QueueGetConfigRequest port, message_of QUEUE_GET_CONFIG_REQUEST (ground_of s view past).xid (drop 8 message), read, (own, refl))));
   })
 
   -- nor does one that is refused
   abbrev pub IsPut : Type 0
-  IsPut = (put ≡ []) ⊎ (((m : FlowMod) × Permits m) ⊎ ((m : PacketOut) × PermitsOut m))
+  IsPut = (put ≡ []) ⊎ (((m : FlowMod) × Permits m) ⊎ (((m : PacketOut) × PermitsOut m) ⊎ ((asked : FromController) × (question : List ℕ) × PermitsQuestion asked question)))
 
   by_lines : (m : FlowMod) → read_controller message ≡ Ok (said.FlowMod m) → (rate : Bool) → keeps_rate s view past moment ≡ rate → (fault : Option (ℕ × ℕ)) → flow_mod_fault (ground_of s view past) m ≡ fault → IsPut
-  by_lines m read false rated fault is = inl (put_unrated m false read rated)
+  by_lines m read false rated fault is = inl (unrated (said.FlowMod m) false refl read rated)
   by_lines m read true rated (Some fault) is = inl (put_lined m (Some fault) read rated is)
   by_lines m read true rated None is = inr (inl (m, record { read = read; rate = rated; no_fault = is }))
 
   out_by_lines : (m : PacketOut) → read_controller message ≡ Ok (said.PacketOut m) → (rate : Bool) → keeps_rate s view past moment ≡ rate → (fault : Option (ℕ × ℕ)) → packet_out_fault (ground_of s view past) m ≡ fault → IsPut
-  out_by_lines m read false rated fault is = inl (out_unrated m false read rated)
+  out_by_lines m read false rated fault is = inl (unrated (said.PacketOut m) false refl read rated)
   out_by_lines m read true rated (Some fault) is = inl (out_lined m (Some fault) read rated is)
-  out_by_lines m read true rated None is = inr (inr (m, record { read = read; rate = rated; no_fault = is }))
+  out_by_lines m read true rated None is = inr (inr (inl (m, record { read = read; rate = rated; no_fault = is })))
+
+  by_rate : MayAsk → (rate : Bool) → keeps_rate s view past moment ≡ rate → IsPut
+  by_rate may false rated = inl (unrated may.0 false (is_question (ground_of s view past) message may.1 may.0 may.3) may.2 rated)
+  by_rate may true rated = inr (inr (inr (may.0, may.1, record { read = may.2; rate = rated; may = may.3 })))
 
   pub put_or_none : IsPut
-  put_or_none = elim of_either [
+  put_or_none = elim of_these [
     | inl none ↦ inl none
     | inr (inl some) ↦ by_lines some.0 some.1 (keeps_rate s view past moment) refl (flow_mod_fault (ground_of s view past) some.0) refl
-    | inr (inr some) ↦ out_by_lines some.0 some.1 (keeps_rate s view past moment) refl (packet_out_fault (ground_of s view past) some.0) refl
+    | inr (inr (inl some)) ↦ out_by_lines some.0 some.1 (keeps_rate s view past moment) refl (packet_out_fault (ground_of s view past) some.0) refl
+    | inr (inr (inr may)) ↦ by_rate may (keeps_rate s view past moment) refl
   ]

@@ -4,6 +4,7 @@ pub mod Reading
 pub mod Own
 pub mod Outs
 pub mod Forwarded
+pub mod Asked
 pub mod Sent
 pub mod Whole
 pub mod Reacting

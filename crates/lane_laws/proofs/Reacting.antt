@@ -1,5 +1,5 @@
 -- The same of what follows from a slice's message by what is said of its switch.
-use Rattle.std.proofs.Common.{◌≡◌, refl, sym, ◌∙◌, ap, subst, ℕ, inl, inr, Bool, true, if◌then◌else◌, List, [], ◌∷◌, map, get_or, Any, All, None}
+use Rattle.std.proofs.Common.{◌≡◌, refl, sym, ◌∙◌, ap, subst, ℕ, inl, inr, Bool, true, if◌then◌else◌, List, [], ◌∷◌, map, get_or, All, None}
 use Rattle.std.proofs.lemmas.List.{get_or_default}
 use Rattle.std.proofs.lemmas.List.Elements.{All-nil, All-cons, All-map, All-weaker}
 use Rattle.of10_model.specs.Header.{Header}
@@ -20,7 +20,6 @@ use Rattle.action_check.specs.declared.origin.Origin.TheVariants.{Piece}
 use Rattle.action_check.specs.Soundness.{HasWay}
 use Rattle.slice_words.specs.Items.{Settings, Sight, Msg, is_up, known_ports}
 use Rattle.slice_words.specs.Pasts.{silence}
-use Rattle.slice_words.specs.Buffers.{HeldPacket, held_packets}
 use Rattle.slice_words.specs.FlowMods.{Ground, ground_of, packet_at, packet_of, permitted_on, list_given}
 use Rattle.slice_words.specs.PacketOuts.{packet_out_on, packet_out_fault}
 use Rattle.slice_words.specs.Answers.{message_answer}
@@ -29,8 +28,9 @@ use Rattle.slice_words.specs.Standing.{past_of}
 use Rattle.slice_words.proofs.Forwarding.{flow_mods_numbered, rendered_sent}
 use Rattle.slice_side.specs.declared.answered.Reaction.{Reaction}
 use Rattle.slice_side.specs.Reactions.{Sees, IsReaction}
-use Rattle.lane_laws.specs.Lane.{IsEitherThat, LiesInFlowspace, NamesOwnPort, OutputsToOwnPorts, LeavesOtherHeaders, SendsOwnPacket, SendsToOwnPorts, ChangesNoTable, IsHeldHeader, HoldsWritten}
-use Rattle.lane_laws.proofs.Forwarded.{IsPut, put_whole, out_whole, put_or_none}
+use Rattle.lane_laws.specs.Lane.{IsSentThat, LiesInFlowspace, NamesOwnPort, OutputsToOwnPorts, LeavesOtherHeaders, SendsOwnPacket, SendsToOwnPorts, ChangesNoTable, IsHeldHeader, HoldsWritten}
+use Rattle.lane_laws.proofs.Forwarded.{IsPut, put_whole, out_whole, question_whole, put_or_none}
+use Rattle.lane_laws.proofs.Asked.{asks_for_reply}
 use Rattle.lane_laws.proofs.Own.{sent_within, permitted_own, permitted_ways, given_holds, sent_holds}
 use Rattle.lane_laws.proofs.Outs.{list_for, out_with, out_holds, out_lies, out_outputs}
 use Rattle.lane_laws.proofs.Sent.{rendered_out, MayCarry, list, each_on, leaves}
@@ -49,29 +49,32 @@ module _ (s : Settings) (sight : Sight) where
     pub packet_outs : (m : PacketOut) → packet_out_fault ground m ≡ None → Q (out_with sight.came ground m (packet_at ground m.buffer))
 
   by_put : (P : FlowMod → Type 0) (Q : PacketOut → Type 0) → HoldsOfAll P Q → (message : List ℕ) (moment : ℕ) → IsPut s sight.view (past_of s sight.view) moment message
-      → All (IsEitherThat P Q) (map (rendered sight.came) (message_answer s sight.view (past_of s sight.view) moment message).to_switch)
+      → All (IsSentThat P Q) (map (rendered sight.came) (message_answer s sight.view (past_of s sight.view) moment message).to_switch)
   by_put P Q holds message moment (inl none) =
-      subst (All (IsEitherThat P Q)) (sym (ap (map (rendered sight.came)) none)) (All-nil (IsEitherThat P Q))
+      subst (All (IsSentThat P Q)) (sym (ap (map (rendered sight.came)) none)) (All-nil (IsSentThat P Q))
   by_put P Q holds message moment (inr (inl some)) =
       let ms = flow_mods_numbered sight.came ground some.0 in
-      subst (All (IsEitherThat P Q)) (sym (ap (map (rendered sight.came)) (put_whole s sight.view (past_of s sight.view) moment message some.0 some.1) ∙ rendered_sent sight.came ground some.0))
-      (All-map (IsEitherThat P Q) spell_flow_mod ms
-      (All-weaker P (λ sent. IsEitherThat P Q (spell_flow_mod sent)) (λ sent own. inl (sent, refl, own)) ms (holds.flow_mods some.0)))
-  by_put P Q holds message moment (inr (inr some)) =
+      subst (All (IsSentThat P Q)) (sym (ap (map (rendered sight.came)) (put_whole s sight.view (past_of s sight.view) moment message some.0 some.1) ∙ rendered_sent sight.came ground some.0))
+      (All-map (IsSentThat P Q) spell_flow_mod ms
+      (All-weaker P (λ sent. IsSentThat P Q (spell_flow_mod sent)) (λ sent own. inl (inl (sent, refl, own))) ms (holds.flow_mods some.0)))
+  by_put P Q holds message moment (inr (inr (inr some))) =
+      subst (All (IsSentThat P Q)) (sym (ap (map (rendered sight.came)) (question_whole s sight.view (past_of s sight.view) moment message some.0 some.1 some.2)))
+      (All-cons (IsSentThat P Q) some.1 [] (inr (asks_for_reply ground message some.1 some.0 some.2.read some.2.may)) (All-nil (IsSentThat P Q)))
+  by_put P Q holds message moment (inr (inr (inl some))) =
       let sent = out_with sight.came ground some.0 (packet_at ground some.0.buffer) in
       let whole : map (rendered sight.came) (message_answer s sight.view (past_of s sight.view) moment message).to_switch ≡ spell_packet_out sent ∷ [] =
       ap (map (rendered sight.came)) (out_whole s sight.view (past_of s sight.view) moment message some.0 some.1)
       ∙ ap (λ (bytes : List ℕ). bytes ∷ []) (rendered_out sight.came (packet_out_on ground some.0) (packet_at ground some.0.buffer)) in
-      subst (All (IsEitherThat P Q)) (sym whole)
-      (All-cons (IsEitherThat P Q) (spell_packet_out sent) [] (inr (sent, refl, holds.packet_outs some.0 some.1.no_fault)) (All-nil (IsEitherThat P Q)))
+      subst (All (IsSentThat P Q)) (sym whole)
+      (All-cons (IsSentThat P Q) (spell_packet_out sent) [] (inl (inr (sent, refl, holds.packet_outs some.0 some.1.no_fault))) (All-nil (IsSentThat P Q)))
 
   -- holds of what is sent on
-  all_sent : (P : FlowMod → Type 0) (Q : PacketOut → Type 0) → HoldsOfAll P Q → is_up sight.view ≡ true → (message : List ℕ) (moment : ℕ) → All (IsEitherThat P Q) (sent_on s sight message moment)
+  all_sent : (P : FlowMod → Type 0) (Q : PacketOut → Type 0) → HoldsOfAll P Q → is_up sight.view ≡ true → (message : List ℕ) (moment : ℕ) → All (IsSentThat P Q) (sent_on s sight message moment)
   all_sent P Q holds up message moment =
       let past = past_of s sight.view in
       let whole : (answer_to s sight.view (Msg message moment)).to_switch ≡ (message_answer s sight.view past moment message).to_switch =
       ap (λ (b : Bool). (if b then message_answer s sight.view past moment message else silence).to_switch) up in
-      subst (λ messages. All (IsEitherThat P Q) (map (rendered sight.came) messages)) (sym whole)
+      subst (λ messages. All (IsSentThat P Q) (map (rendered sight.came) messages)) (sym whole)
       (by_put P Q holds message moment (put_or_none s sight.view past moment message))
 
   module _ (policy : SwitchView) (known : List (List ℕ)) (features : Features) (slot : ℕ) (sees : Sees s sight.view policy known features slot) where
@@ -122,27 +125,27 @@ module _ (s : Settings) (sight : Sight) where
 
 pub reaction_lies : (s : Settings) (sight : Sight) (policy : SwitchView) (known : List (List ℕ)) (features : Features) (slot : ℕ) (message : List ℕ) (moment : ℕ) (r : Reaction)
     → IsSwitchPolicy policy.slices policy.rules → Sees s sight.view policy known features slot → HoldsWritten policy.rules slot s sight → IsReaction s sight (Msg message moment) r
-    → All (IsEitherThat (LiesInFlowspace policy.rules slot) (SendsOwnPacket (IsHeldHeader s sight) policy.rules slot)) r.to_switch.items
+    → All (IsSentThat (LiesInFlowspace policy.rules slot) (SendsOwnPacket (IsHeldHeader s sight) policy.rules slot)) r.to_switch.items
 reaction_lies s sight policy known features slot message moment r accepted sees written is =
     let P = LiesInFlowspace policy.rules slot in
     let Q = SendsOwnPacket (IsHeldHeader s sight) policy.rules slot in
-    subst (All (IsEitherThat P Q)) (sym is.to_switch)
+    subst (All (IsSentThat P Q)) (sym is.to_switch)
     (all_sent s sight P Q (record { flow_mods = lies_seen s sight policy known features slot sees accepted; packet_outs = out_lies_seen s sight policy known features slot sees accepted written }) sees.up message moment)
 
 pub reaction_outputs : (s : Settings) (sight : Sight) (policy : SwitchView) (known : List (List ℕ)) (features : Features) (slot : ℕ) (message : List ℕ) (moment : ℕ) (r : Reaction)
-    → Sees s sight.view policy known features slot → IsReaction s sight (Msg message moment) r → All (IsEitherThat (OutputsToOwnPorts policy.rules slot) (SendsToOwnPorts policy.rules slot)) r.to_switch.items
+    → Sees s sight.view policy known features slot → IsReaction s sight (Msg message moment) r → All (IsSentThat (OutputsToOwnPorts policy.rules slot) (SendsToOwnPorts policy.rules slot)) r.to_switch.items
 reaction_outputs s sight policy known features slot message moment r sees is =
     let P = OutputsToOwnPorts policy.rules slot in
     let Q = SendsToOwnPorts policy.rules slot in
-    subst (All (IsEitherThat P Q)) (sym is.to_switch)
+    subst (All (IsSentThat P Q)) (sym is.to_switch)
     (all_sent s sight P Q (record { flow_mods = outputs_seen s sight policy known features slot sees; packet_outs = out_outputs_seen s sight policy known features slot sees }) sees.up message moment)
 
 pub reaction_leaves : (s : Settings) (sight : Sight) (policy : SwitchView) (known : List (List ℕ)) (features : Features) (slot : ℕ) (message : List ℕ) (moment : ℕ) (r : Reaction)
     → IsSwitchPolicy policy.slices policy.rules → Sees s sight.view policy known features slot → IsReaction s sight (Msg message moment) r
-    → All (IsEitherThat (LeavesOtherHeaders policy.rules slot) ChangesNoTable) r.to_switch.items
+    → All (IsSentThat (LeavesOtherHeaders policy.rules slot) ChangesNoTable) r.to_switch.items
 reaction_leaves s sight policy known features slot message moment r accepted sees is =
     let P = LeavesOtherHeaders policy.rules slot in
-    subst (All (IsEitherThat P ChangesNoTable)) (sym is.to_switch)
+    subst (All (IsSentThat P ChangesNoTable)) (sym is.to_switch)
     (all_sent s sight P ChangesNoTable (record {
       flow_mods = λ m.
           All-weaker (LiesInFlowspace policy.rules slot) P (λ sent lies. leaves policy.rules slot sent lies) (flow_mods_numbered sight.came (ground s sight) m)

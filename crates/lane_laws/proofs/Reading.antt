@@ -33,7 +33,7 @@ use Rattle.of10_message.specs.Controller.{sized, formed, config_in, read_typed, 
 -- ---- bytes
 
 -- what is taken of bytes are bytes
-bytes-take : (n : ℕ) (bytes : List ℕ) → ((k : ℕ) → slice_index bytes k < 256) → (k : ℕ) → slice_index (take n bytes) k < 256
+pub bytes-take : (n : ℕ) (bytes : List ℕ) → ((k : ℕ) → slice_index bytes k < 256) → (k : ℕ) → slice_index (take n bytes) k < 256
 bytes-take n bytes h k = elim (cases_lt k n) [
   | inl lt ↦ rw (get_or-take n bytes k 0 lt) (h k)
   | inr le ↦ (let long = length-take n bytes in rw (get_or_past (take n bytes) k 0 (omega arith)) (omega arith))

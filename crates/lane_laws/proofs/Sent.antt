@@ -1,5 +1,5 @@
 -- What a message of a slice has sent to the switch after a history.
-use Rattle.std.proofs.Common.{◌≡◌, refl, sym, ◌∙◌, ap, subst, ℕ, ◌+◌, ◌==◌, ◌&&◌, ◌⊎◌, inl, inr, Bool, true, false, true≢false, if◌then◌else◌, List, [], ◌∷◌, length, map, slice_get, get_or, All, append-nil, Option, Some, None, Ok, option_map, arith}
+use Rattle.std.proofs.Common.{◌≡◌, refl, sym, ◌∙◌, ap, subst, ℕ, ◌+◌, ◌==◌, ◌&&◌, ◌⊎◌, inl, inr, Bool, true, false, true≢false, if◌then◌else◌, List, [], ◌∷◌, length, map, drop, slice_get, get_or, All, append-nil, Option, Some, None, Ok, option_map, arith}
 use Rattle.std.proofs.lemmas.Bool.{cases_Bool, and_parts, eq-eqb, le-ltb}
 use Rattle.std.proofs.lemmas.Bool.Decides.{eqb_tells}
 use Rattle.std.proofs.lemmas.Option.{slice_get_cases}
@@ -19,6 +19,13 @@ use Rattle.of10_flow.specs.FlowMods.{spell_flow_mod}
 use Rattle.of10_flow.specs.PacketOuts.{spell_packet_out}
 use Rattle.of10_flow.specs.Tables.{is_delete}
 use Rattle.of10_flow.proofs.Keeping.{Treatment-Apply}
+use Rattle.of10_ctl.specs.declared.kind.TheConstants.{BARRIER_REQUEST, QUEUE_GET_CONFIG_REQUEST}
+use Rattle.of10_ctl.specs.Frames.{message_of}
+use Rattle.of10_stats.specs.declared.request.StatsRequest.{StatsRequest}
+use Rattle.of10_stats.specs.Requests.{spell_request}
+use Rattle.stats_filter.specs.Asking.{asked_as}
+use Rattle.slice_words.specs.Questions.{may_ask}
+use Rattle.of10_message.specs.declared.controller.FromController.{FromController}
 use Rattle.of10_message.specs.declared.controller.FromController.TheVariants as said
 use Rattle.of10_message.specs.Controller.{read_controller}
 use Rattle.flowspace.specs.declared.slices.Slice.{Slice}
@@ -56,9 +63,10 @@ use Rattle.desk_words.specs.Laws.{HasSeen}
 use Rattle.desk_words.proofs.Alone.{has_told, opened_told, blind}
 use Rattle.desk_words.proofs.Silence.{sees_nothing}
 use Rattle.desk_words.proofs.Seen.{seen}
-use Rattle.lane_laws.specs.Lane.{IsEitherThat, LiesInFlowspace, NamesOwnPort, OutputsToOwnPorts, LeavesOtherHeaders, SendsOwnPacket, SendsToOwnPorts, ChangesNoTable, IsBufferHeader, CarriesOwnBuffer, SendsOwnBuffer, IsOwnBuffer, HoldsWritten, rules_in, settings_in, ports_in, ground_at, switch_number, flow_mods_at, packet_out_at, IsPermitted, IsPermittedOut}
+use Rattle.lane_laws.specs.Lane.{IsEitherThat, AsksForReply, IsSentThat, LiesInFlowspace, NamesOwnPort, OutputsToOwnPorts, LeavesOtherHeaders, SendsOwnPacket, SendsToOwnPorts, ChangesNoTable, IsBufferHeader, CarriesOwnBuffer, SendsOwnBuffer, IsOwnBuffer, HoldsWritten, rules_in, settings_in, ports_in, ground_at, switch_number, flow_mods_at, packet_out_at, KeepsRate, IsPermitted, IsPermittedOut, IsPermittedQuestion, IsAnyPermitted, AsksOwnPort}
 use Rattle.lane_laws.proofs.Keeping.{IsKept, kept_now}
-use Rattle.lane_laws.proofs.Forwarded.{put_whole, out_whole, put_or_none}
+use Rattle.lane_laws.proofs.Forwarded.{IsQuestion, put_whole, out_whole, question_whole, put_or_none}
+use Rattle.lane_laws.proofs.Asked.{asks_for_reply, owns, own_may, may_be}
 use Rattle.lane_laws.proofs.Own.{each_sent, sent_within, permitted_own, permitted_ways, permitted_alike, HoldsOfLists, given_holds, sent_holds}
 use Rattle.lane_laws.proofs.Outs.{list_for, out_with, out_holds, packet_holds, out_lies, out_outputs}
 
@@ -140,9 +148,26 @@ out_lane_whole policy h timed slot message m is up p =
     ∙ ap (map (rendered came)) (out_whole s view (past_of s view) timed.moment message m (record { read = p.read; rate = p.rate; no_fault = p.no_fault }))
     ∙ ap (λ (bytes : List ℕ). bytes ∷ []) (rendered_out came (packet_out_on g m) (packet_at g m.buffer))
 
-pub lane_or_none : (policy : PolicyView) (h : List Timed) (timed : Timed) (slot : ℕ) (message : List ℕ) → timed.event ≡ SliceMsg slot message
-    → (lane_by policy h timed ≡ []) ⊎ ((is_slice_up policy slot h ≡ true) × (((m : FlowMod) × IsPermitted policy slot h timed.moment message m) ⊎ ((m : PacketOut) × IsPermittedOut policy slot h timed.moment message m)))
-lane_or_none policy h timed slot message is =
+-- a question is sent as it was put
+question_lane_whole : (policy : PolicyView) (h : List Timed) (timed : Timed) (slot : ℕ) (message question : List ℕ) (asked : FromController) → timed.event ≡ SliceMsg slot message → is_slice_up policy slot h ≡ true
+    → read_controller message ≡ Ok asked → KeepsRate policy slot h timed.moment → IsQuestion (ground_at policy slot h) message asked question → lane_by policy h timed ≡ question ∷ []
+question_lane_whole policy h timed slot message question asked is up read rate may =
+    let s = settings_in policy slot h in
+    let view = view_of policy slot h in
+    let came = (side_of policy slot h).sight.came in
+    lane_of_up policy h timed slot message (phase_of h) refl is up
+    ∙ ap (map (rendered came)) (question_whole s view (past_of s view) timed.moment message asked question (record { read = read; rate = rate; may = may }))
+
+-- a flow-mod, a packet-out or a question is permitted, and with it what is sent for the question
+abbrev IsAnyPut : PolicyView → ℕ → List Timed → ℕ → List ℕ → Type 0
+IsAnyPut policy slot h moment message =
+    ((m : FlowMod) × IsPermitted policy slot h moment message m)
+    ⊎ (((m : PacketOut) × IsPermittedOut policy slot h moment message m)
+    ⊎ ((asked : FromController) × (question : List ℕ) × (read_controller message ≡ Ok asked) × KeepsRate policy slot h moment × IsQuestion (ground_at policy slot h) message asked question))
+
+lane_or_some : (policy : PolicyView) (h : List Timed) (timed : Timed) (slot : ℕ) (message : List ℕ) → timed.event ≡ SliceMsg slot message
+    → (lane_by policy h timed ≡ []) ⊎ ((is_slice_up policy slot h ≡ true) × IsAnyPut policy slot h timed.moment message)
+lane_or_some policy h timed slot message is =
     let s = settings_in policy slot h in
     let view = view_of policy slot h in
     let came = (side_of policy slot h).sight.came in
@@ -152,7 +177,8 @@ lane_or_none policy h timed slot message is =
           elim (put_or_none s view (past_of s view) timed.moment message) [
             | inl none ↦ inl (lane_of_up policy h timed slot message (phase_of h) refl is up ∙ ap (map (rendered came)) none)
             | inr (inl some) ↦ inr (up, inl (some.0, record { read = some.1.read; rate = some.1.rate; no_fault = some.1.no_fault }))
-            | inr (inr some) ↦ inr (up, inr (some.0, record { read = some.1.read; rate = some.1.rate; no_fault = some.1.no_fault }))
+            | inr (inr (inl some)) ↦ inr (up, inr (inl (some.0, record { read = some.1.read; rate = some.1.rate; no_fault = some.1.no_fault })))
+            | inr (inr (inr some)) ↦ inr (up, inr (inr (some.0, some.1, some.2.read, some.2.rate, some.2.may)))
           ]
     ]
 
@@ -178,20 +204,22 @@ some_told (Some features) is = (features, refl)
 pub told_up : (policy : PolicyView) (slot : ℕ) (h : List Timed) → is_slice_up policy slot h ≡ true → (features : Features) × (opening_of h ≡ Some features)
 told_up policy slot h up = some_told (opening_of h) (opened_told h (and_parts (is_open (phase_of h)) (is_up (view_of policy slot h)) up).0)
 
--- what holds of all that a slice can have sent: of the flow-mods, and of the packet-outs
-pub record HoldsOfSent (P : List Rule → FlowMod → Type 0) (Q : List Rule → PacketOut → Type 0) (policy : PolicyView) (slot : ℕ) (h : List Timed) (message : List ℕ) : Type 0 where
+-- what holds of all that a slice can have sent: of the flow-mods, of the packet-outs, and of the questions
+pub record HoldsOfSent (P : List Rule → FlowMod → Type 0) (Q : List Rule → PacketOut → Type 0) (R : List Rule → List ℕ → Type 0) (policy : PolicyView) (slot : ℕ) (h : List Timed) (message : List ℕ) : Type 0 where
   pub flow_mods : (features : Features) → opening_of h ≡ Some features → is_slot policy slot ≡ true → (m : FlowMod) → read_controller message ≡ Ok (said.FlowMod m)
       → flow_mod_fault (ground_by policy slot h (Some features)) m ≡ None → All (P (rules_on features.datapath policy.rules)) (flow_mods_by policy slot h (ground_by policy slot h (Some features)) m)
   pub packet_outs : (features : Features) → opening_of h ≡ Some features → is_slot policy slot ≡ true → (m : PacketOut) → read_controller message ≡ Ok (said.PacketOut m)
       → packet_out_fault (ground_by policy slot h (Some features)) m ≡ None → Q (rules_on features.datapath policy.rules) (packet_out_by policy slot h (ground_by policy slot h (Some features)) m)
+  pub questions : (features : Features) → opening_of h ≡ Some features → is_slot policy slot ≡ true → (asked : FromController) (question : List ℕ) → read_controller message ≡ Ok asked
+      → IsQuestion (ground_by policy slot h (Some features)) message asked question → R (rules_on features.datapath policy.rules) question
 
 -- holds of each message
-pub each_in_lane : (P : List Rule → FlowMod → Type 0) (Q : List Rule → PacketOut → Type 0) (policy : PolicyView) (h : List Timed) (timed : Timed) (slot : ℕ) (message : List ℕ) → timed.event ≡ SliceMsg slot message
-    → HoldsOfSent P Q policy slot h message → All (IsEitherThat (P (rules_in policy h)) (Q (rules_in policy h))) (lane_by policy h timed)
-each_in_lane P Q policy h timed slot message is holds =
-    let Either = IsEitherThat (P (rules_in policy h)) (Q (rules_in policy h)) in
-    elim (lane_or_none policy h timed slot message is) [
-      | inl none ↦ rw none (All-nil Either)
+pub each_in_lane : (P : List Rule → FlowMod → Type 0) (Q : List Rule → PacketOut → Type 0) (R : List Rule → List ℕ → Type 0) (policy : PolicyView) (h : List Timed) (timed : Timed) (slot : ℕ) (message : List ℕ) → timed.event ≡ SliceMsg slot message
+    → HoldsOfSent P Q R policy slot h message → All (λ sent. IsEitherThat (P (rules_in policy h)) (Q (rules_in policy h)) sent ⊎ R (rules_in policy h) sent) (lane_by policy h timed)
+each_in_lane P Q R policy h timed slot message is holds =
+    let Each = λ (sent : List ℕ). IsEitherThat (P (rules_in policy h)) (Q (rules_in policy h)) sent ⊎ R (rules_in policy h) sent in
+    elim (lane_or_some policy h timed slot message is) [
+      | inl none ↦ rw none (All-nil Each)
       | inr (up, inl some) ↦
           let m = some.0 in
           let told = told_up policy slot h up in
@@ -201,9 +229,9 @@ each_in_lane P Q policy h timed slot message is holds =
           let each : All (P (rules_in policy h)) ms =
           subst (λ (found : Option Features). All (P (rules_of policy found)) (flow_mods_by policy slot h (ground_by policy slot h found) m)) (sym told.1) all in
           rw (lane_whole policy h timed slot message m is up some.1)
-          (All-map Either spell_flow_mod ms
-          (All-weaker (P (rules_in policy h)) (λ sent. Either (spell_flow_mod sent)) (λ sent own. inl (sent, refl, own)) ms each))
-      | inr (up, inr some) ↦
+          (All-map Each spell_flow_mod ms
+          (All-weaker (P (rules_in policy h)) (λ sent. Each (spell_flow_mod sent)) (λ sent own. inl (inl (sent, refl, own))) ms each))
+      | inr (up, inr (inl some)) ↦
           let m = some.0 in
           let told = told_up policy slot h up in
           let no_fault = subst (λ (found : Option Features). packet_out_fault (ground_by policy slot h found) m ≡ None) told.1 some.1.no_fault in
@@ -211,7 +239,13 @@ each_in_lane P Q policy h timed slot message is holds =
           let sent : Q (rules_in policy h) (packet_out_at policy slot h m) =
           subst (λ (found : Option Features). Q (rules_of policy found) (packet_out_by policy slot h (ground_by policy slot h found) m)) (sym told.1) one in
           rw (out_lane_whole policy h timed slot message m is up some.1)
-          (All-cons Either (spell_packet_out (packet_out_at policy slot h m)) [] (inr (packet_out_at policy slot h m, refl, sent)) (All-nil Either))
+          (All-cons Each (spell_packet_out (packet_out_at policy slot h m)) [] (inl (inr (packet_out_at policy slot h m, refl, sent))) (All-nil Each))
+      | inr (up, inr (inr some)) ↦
+          let told = told_up policy slot h up in
+          let may = subst (λ (found : Option Features). IsQuestion (ground_by policy slot h found) message some.0 some.1) told.1 some.4 in
+          let one = holds.questions told.0 told.1 (up_here policy slot h (phase_of h) refl up) some.0 some.1 some.2 may in
+          let sent : R (rules_in policy h) some.1 = subst (λ (found : Option Features). R (rules_of policy found) some.1) (sym told.1) one in
+          rw (question_lane_whole policy h timed slot message some.1 some.0 is up some.2 some.3 some.4) (All-cons Each some.1 [] (inr sent) (All-nil Each))
     ]
 
 -- ---- the settings of a slice
@@ -228,6 +262,42 @@ patterns_are policy slot told here = elim (slice_get_cases policy.slices slot).1
 
 pub pieces_are : (policy : PolicyView) (h : List Timed) (slot : ℕ) (m : FlowMod) → is_slice_up policy slot h ≡ true → pieces_on (ground_at policy slot h) m ≡ pieces_of (rules_in policy h) slot m.pattern
 pieces_are policy h slot m up = ap (λ patterns. pieces_within patterns m.pattern) (patterns_are policy slot (opening_of h) (up_here policy slot h (phase_of h) refl up))
+
+-- ---- questions that are permitted
+
+module _ (policy : PolicyView) (h : List Timed) (timed : Timed) (slot : ℕ) (message : List ℕ) (is : timed.event ≡ SliceMsg slot message) where
+  -- nothing else is sent for a slice
+  pub lane_or_none : (lane_by policy h timed ≡ []) ⊎ ((is_slice_up policy slot h ≡ true) × IsAnyPermitted policy slot h timed.moment message)
+  lane_or_none = elim (lane_or_some policy h timed slot message is) [
+    | inl none ↦ inl none
+    | inr (up, inl some) ↦ inr (up, inl some)
+    | inr (up, inr (inl some)) ↦ inr (up, inr (inl some))
+    | inr (up, inr (inr some)) ↦
+        let here = up_here policy slot h (phase_of h) refl up in
+        let may = may_be (ground_at policy slot h) (rules_in policy h) slot (slot_is policy slot (opening_of h) _ refl) (patterns_are policy slot (opening_of h) here) message some.1 some.0 some.4 in
+        inr (up, inr (inr (some.0, record { read = some.2; rate = some.3; may = may })))
+  ]
+
+  module _ (up : is_slice_up policy slot h ≡ true) where
+    abbrev next_xid : ℕ
+    next_xid = (ground_at policy slot h).xid
+
+    pub statistics_sent : (request asked : StatsRequest) → IsPermittedQuestion policy slot h timed.moment message (said.StatsRequest request) → asked_as request ≡ Some asked → lane_by policy h timed ≡ spell_request asked next_xid ∷ []
+    statistics_sent request asked p sent =
+        question_lane_whole policy h timed slot message (spell_request asked next_xid) (said.StatsRequest request) is up p.read p.rate
+        (may_ask_own p.may.1, ap (option_map (λ sent_. spell_request sent_ next_xid)) sent)
+      where
+        may_ask_own : AsksOwnPort (rules_in policy h) slot request → may_ask (ground_at policy slot h) request ≡ true
+        may_ask_own own =
+            own_may (ground_at policy slot h) (rules_in policy h) slot (slot_is policy slot (opening_of h) _ refl) (patterns_are policy slot (opening_of h) (up_here policy slot h (phase_of h) refl up)) request own
+
+    pub barrier_sent : IsPermittedQuestion policy slot h timed.moment message said.BarrierRequest → lane_by policy h timed ≡ message_of BARRIER_REQUEST next_xid [] ∷ []
+    barrier_sent p = question_lane_whole policy h timed slot message (message_of BARRIER_REQUEST next_xid []) said.BarrierRequest is up p.read p.rate refl
+
+    pub queues_sent : (port : ℕ) → IsPermittedQuestion policy slot h timed.moment message (said.QueueGetConfigRequest port) → lane_by policy h timed ≡ message_of QUEUE_GET_CONFIG_REQUEST next_xid (drop 8 message) ∷ []
+    queues_sent port p =
+        question_lane_whole policy h timed slot message (message_of QUEUE_GET_CONFIG_REQUEST next_xid (drop 8 message)) (said.QueueGetConfigRequest port) is up p.read p.rate
+        (owns (ground_at policy slot h) (rules_in policy h) slot (slot_is policy slot (opening_of h) _ refl) (patterns_are policy slot (opening_of h) (up_here policy slot h (phase_of h) refl up)) port p.may, refl)
 
 -- ---- one flow-mod for each piece
 
@@ -384,9 +454,10 @@ out_lies_on policy accepted slot h features is here m none =
     (slot_is policy slot (Some features) (slice_get policy.slices slot) refl) (patterns_are policy slot (Some features) here) (held_written policy slot h features is here))
 
 pub each_lies : (policy : PolicyView) → IsPolicy policy.slices policy.rules → (h : List Timed) (timed : Timed) (slot : ℕ) (message : List ℕ) → timed.event ≡ SliceMsg slot message
-    → All (IsEitherThat (LiesInFlowspace (rules_in policy h) slot) (SendsOwnPacket (IsBufferHeader h) (rules_in policy h) slot)) (lane_by policy h timed)
+    → All (IsSentThat (LiesInFlowspace (rules_in policy h) slot) (SendsOwnPacket (IsBufferHeader h) (rules_in policy h) slot)) (lane_by policy h timed)
 each_lies policy accepted h timed slot message is =
-    each_in_lane (λ rules. LiesInFlowspace rules slot) (λ rules. SendsOwnPacket (IsBufferHeader h) rules slot) policy h timed slot message is (record {
+    each_in_lane (λ rules. LiesInFlowspace rules slot) (λ rules. SendsOwnPacket (IsBufferHeader h) rules slot) (λ rules. AsksForReply) policy h timed slot message is (record {
+      questions = λ features opened here asked question read may. asks_for_reply (ground_by policy slot h (Some features)) message question asked read may;
       flow_mods = λ features opened here m read none. lies_on policy accepted slot h features here m;
       packet_outs = λ features opened here m read none. out_lies_on policy accepted slot h features opened here m none;
     })
@@ -416,9 +487,10 @@ out_outputs_on policy slot h features is here m none =
     out_holds (SendsToOwnPorts rules slot) came g m none (out_outputs rules came g slot m (ways_hold policy slot h features is here m))
 
 pub each_outputs : (policy : PolicyView) (h : List Timed) (timed : Timed) (slot : ℕ) (message : List ℕ) → timed.event ≡ SliceMsg slot message
-    → All (IsEitherThat (OutputsToOwnPorts (rules_in policy h) slot) (SendsToOwnPorts (rules_in policy h) slot)) (lane_by policy h timed)
+    → All (IsSentThat (OutputsToOwnPorts (rules_in policy h) slot) (SendsToOwnPorts (rules_in policy h) slot)) (lane_by policy h timed)
 each_outputs policy h timed slot message is =
-    each_in_lane (λ rules. OutputsToOwnPorts rules slot) (λ rules. SendsToOwnPorts rules slot) policy h timed slot message is (record {
+    each_in_lane (λ rules. OutputsToOwnPorts rules slot) (λ rules. SendsToOwnPorts rules slot) (λ rules. AsksForReply) policy h timed slot message is (record {
+      questions = λ features opened here asked question read may. asks_for_reply (ground_by policy slot h (Some features)) message question asked read may;
       flow_mods = λ features opened here m read none. outputs_on policy slot h features opened here m;
       packet_outs = λ features opened here m read none. out_outputs_on policy slot h features opened here m none;
     })
@@ -429,9 +501,10 @@ pub leaves : (rules : List Rule) (slot : ℕ) (m : FlowMod) → LiesInFlowspace 
 leaves rules slot m lies h range outside table = Treatment-Apply table m h (λ has. outside (lies h range has))
 
 pub each_leaves : (policy : PolicyView) → IsPolicy policy.slices policy.rules → (h : List Timed) (timed : Timed) (slot : ℕ) (message : List ℕ) → timed.event ≡ SliceMsg slot message
-    → All (IsEitherThat (LeavesOtherHeaders (rules_in policy h) slot) ChangesNoTable) (lane_by policy h timed)
+    → All (IsSentThat (LeavesOtherHeaders (rules_in policy h) slot) ChangesNoTable) (lane_by policy h timed)
 each_leaves policy accepted h timed slot message is =
-    each_in_lane (λ rules. LeavesOtherHeaders rules slot) (λ rules. ChangesNoTable) policy h timed slot message is (record {
+    each_in_lane (λ rules. LeavesOtherHeaders rules slot) (λ rules. ChangesNoTable) (λ rules. AsksForReply) policy h timed slot message is (record {
+      questions = λ features opened here asked question read may. asks_for_reply (ground_by policy slot h (Some features)) message question asked read may;
       flow_mods = λ features opened here m read none.
           let rules = rules_on features.datapath policy.rules in
           let ms = flow_mods_by policy slot h (ground_by policy slot h (Some features)) m in
@@ -527,9 +600,10 @@ held_are_written policy h slot = elim (cases_Bool (is_slot policy slot)) [
         (λ packet kept. subst (Writes rules slot) (sym kept.header) kept.written) (held_packets (past_of s (view_of policy slot h))) (kept_now policy slot s h features here is))
 
 pub each_buffer : (policy : PolicyView) (h : List Timed) (timed : Timed) (slot : ℕ) (message : List ℕ) → timed.event ≡ SliceMsg slot message
-    → All (IsEitherThat (CarriesOwnBuffer policy slot h) (SendsOwnBuffer policy slot h)) (lane_by policy h timed)
+    → All (IsSentThat (CarriesOwnBuffer policy slot h) (SendsOwnBuffer policy slot h)) (lane_by policy h timed)
 each_buffer policy h timed slot message is =
-    each_in_lane (λ rules. CarriesOwnBuffer policy slot h) (λ rules. SendsOwnBuffer policy slot h) policy h timed slot message is (record {
+    each_in_lane (λ rules. CarriesOwnBuffer policy slot h) (λ rules. SendsOwnBuffer policy slot h) (λ rules. AsksForReply) policy h timed slot message is (record {
+      questions = λ features opened here asked question read may. asks_for_reply (ground_by policy slot h (Some features)) message question asked read may;
       flow_mods = λ features opened here m read none. buffers_on policy slot h features opened here m;
       packet_outs = λ features opened here m read none. out_buffers_on policy slot h features opened here m none;
     })

@@ -1,5 +1,5 @@
 -- What is sent for a slice is read as it was sent, and stays within the slice.
-use Rattle.std.proofs.Common.{◌≡◌, refl, sym, ◌∙◌, ap, subst, ℕ, ◌==◌, ◌<◌, ◌≤◌, ◌^◌, inl, inr, Bool, true, false, true≢false, if◌then◌else◌, ◌≢◌, List, [], ◌∷◌, ◌++◌, length, map, get_or, All, Option, Some, None, option_map, Result, Ok, Err, arith}
+use Rattle.std.proofs.Common.{◌≡◌, ◌⊎◌, refl, sym, ◌∙◌, ap, subst, ℕ, ◌==◌, ◌<◌, ◌≤◌, ◌^◌, inl, inr, Bool, true, false, true≢false, if◌then◌else◌, ◌≢◌, List, [], ◌∷◌, ◌++◌, length, map, get_or, All, Option, Some, None, option_map, Result, Ok, Err, arith}
 use Rattle.std.proofs.lemmas.Bool.{ltb-true, ltb-false, eq-eqb}
 use Rattle.std.proofs.lemmas.Option.{none-some, same_Some}
 use Rattle.std.proofs.lemmas.List.{get_or-map, length-map}
@@ -57,11 +57,12 @@ use Rattle.desk_words.specs.declared.event.Timed.{Timed}
 use Rattle.desk_words.specs.Openings.{well_formed, phase_of, opening_of}
 use Rattle.desk_words.specs.Histories.{is_slot, settings_at, header_in, number_given, side_of}
 use Rattle.desk_words.specs.Sent.{lane_by}
-use Rattle.lane_laws.specs.Lane.{IsEitherThat, LiesInFlowspace, NamesOwnPort, StaysWithin, SendsWithin, IsHeaderSent, IsEitherRead, IsOfBytes, Arrival, packet_handed, arrivals, arrival_under, IsBufferHeader, switch_number, rules_in}
+use Rattle.lane_laws.specs.Lane.{IsEitherThat, LiesInFlowspace, NamesOwnPort, StaysWithin, SendsWithin, IsHeaderSent, IsReadAsQuestion, IsReadThat, IsOfBytes, Arrival, packet_handed, arrivals, arrival_under, IsBufferHeader, switch_number, rules_in}
 use Rattle.lane_laws.proofs.Reading.{IsRead, IsReadOut, IsReadIn, read_in, read_of, read_out_of}
 use Rattle.lane_laws.proofs.Marks.{IsProbe-marked}
 use Rattle.lane_laws.proofs.Keeping.{IsKept}
 use Rattle.lane_laws.proofs.Own.{sent_within, permitted_own, HoldsOfLists}
+use Rattle.lane_laws.proofs.Asked.{read_as_question}
 use Rattle.lane_laws.proofs.Outs.{list_for, sent_held, sent_probe, sent_carried, out_with, out_holds, packet_holds}
 use Rattle.lane_laws.proofs.Sent.{kept_all, packet_named, each_in_lane, slot_is, patterns_are, ground_by, flow_mods_by, packet_out_by, MayCarry, list, each_on, lists_hold, actions_hold, out_lies_on, out_outputs_on, leaves}
 
@@ -317,22 +318,26 @@ module _ (policy : PolicyView) (accepted : IsPolicy policy.slices policy.rules) 
       (both.0, record { own = out_lies_on policy accepted slot h features is here m none; outputs = out_outputs_on policy slot h features is here m none; sends = both.1 })
 
 pub each_read : (policy : PolicyView) → IsPolicy policy.slices policy.rules → AreNormal policy.rules → (h : List Timed) (timed : Timed) (slot : ℕ) (message : List ℕ) → All (λ t. IsOfBytes t.event) (timed ∷ h)
-    → timed.event ≡ SliceMsg slot message → All (IsEitherRead (StaysWithin (rules_in policy h) slot) (SendsWithin (IsBufferHeader h) (rules_in policy h) slot)) (lane_by policy h timed)
+    → timed.event ≡ SliceMsg slot message → All (IsReadThat (StaysWithin (rules_in policy h) slot) (SendsWithin (IsBufferHeader h) (rules_in policy h) slot) (rules_in policy h) slot) (lane_by policy h timed)
 each_read policy accepted normal h timed slot message all_bytes is =
     let rules = rules_in policy h in
     let earlier = All-tail (λ t. IsOfBytes t.event) timed h all_bytes in
     let bytes : All (λ byte. byte < 256) message = subst IsOfBytes is (All-head (λ t. IsOfBytes t.event) timed h all_bytes) in
-    All-weaker (IsEitherThat (IsWhole rules slot) (IsWholeOut h rules slot)) (IsEitherRead (StaysWithin rules slot) (SendsWithin (IsBufferHeader h) rules slot))
+    All-weaker (λ sent. IsEitherThat (IsWhole rules slot) (IsWholeOut h rules slot) sent ⊎ IsReadAsQuestion rules slot sent) (IsReadThat (StaysWithin rules slot) (SendsWithin (IsBufferHeader h) rules slot) rules slot)
     (λ sent whole. elim whole [
-      | inl (m, spelled, (ranges, within)) ↦ inl (record { kind = subst (IsOf FLOW_MOD) (sym spelled) (flow_mod_of m ranges); flow_mod = m; read = ap read_flow_mod spelled ∙ flow_mod_again m ranges; holds = within })
-      | inr (m, spelled, (ranges, within)) ↦ inr (record { kind = subst (IsOf PACKET_OUT) (sym spelled) (packet_out_of m ranges); packet_out = m; read = ap read_packet_out spelled ∙ packet_out_again m ranges; holds = within })
+      | inl (inl (m, spelled, (ranges, within))) ↦ inl (inl (record { kind = subst (IsOf FLOW_MOD) (sym spelled) (flow_mod_of m ranges); flow_mod = m; read = ap read_flow_mod spelled ∙ flow_mod_again m ranges; holds = within }))
+      | inl (inr (m, spelled, (ranges, within))) ↦ inl (inr (record { kind = subst (IsOf PACKET_OUT) (sym spelled) (packet_out_of m ranges); packet_out = m; read = ap read_packet_out spelled ∙ packet_out_again m ranges; holds = within }))
+      | inr question ↦ inr question
     ])
     (lane_by policy h timed)
-    (each_in_lane (λ rs. IsWhole rs slot) (λ rs. IsWholeOut h rs slot) policy h timed slot message is (record {
+    (each_in_lane (λ rs. IsWhole rs slot) (λ rs. IsWholeOut h rs slot) (λ rs. IsReadAsQuestion rs slot) policy h timed slot message is (record {
       flow_mods = λ features opened here m read none.
           let g = ground_by policy slot h (Some features) in
           let ms = flow_mods_by policy slot h g m in
           whole_on policy accepted normal slot h earlier features opened here m (read_of message m (bytes_of message bytes) read)
           (each_fits ms (sizes_within (map spell_flow_mod ms) (not_large_numbered (side_of policy slot h).sight.came g m none)));
+      questions = λ features opened here asked question read may.
+          read_as_question (ground_by policy slot h (Some features)) (rules_on features.datapath policy.rules) slot (slot_is policy slot (Some features) _ refl) (patterns_are policy slot (Some features) here) message question asked
+          (bytes_of message bytes) read may;
       packet_outs = λ features opened here m read none. out_whole_on policy accepted normal slot h earlier features opened here m (read_out_of message m (bytes_of message bytes) read) none;
     }))

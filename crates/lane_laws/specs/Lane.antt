@@ -1,13 +1,13 @@
 -- What is said of the messages that a slice has sent to the switch (this proxy's own rule; numbers of ports are the standard's, OpenFlow 1.0.0, section 5.2.1).
-use Rattle.std.specs.Prelude.{ℕ, ◌≡◌, ◌⊎◌, ◌<◌, ◌^◌, true, false, List, [], ◌∷◌, Any, All, find, Option, Some, None, option_map, Ok}
+use Rattle.std.specs.Prelude.{ℕ, ◌≡◌, ◌⊎◌, ◌<◌, ◌^◌, true, false, List, [], ◌∷◌, Any, All, find, Option, Some, None, IsSome, option_map, Ok}
 use Rattle.of10_model.specs.Header.{Header, IsHeader}
 use Rattle.of10_model.specs.Pattern.{Has}
 use Rattle.of10_model.specs.Normal.{is_value}
 use Rattle.of10_action.specs.declared.action.Action.{Action}
 use Rattle.of10_action.specs.declared.action.Action.TheVariants.{Output, Enqueue}
-use Rattle.of10_ctl.specs.declared.kind.TheConstants.{FLOW_MOD, PACKET_OUT}
+use Rattle.of10_ctl.specs.declared.kind.TheConstants.{FLOW_MOD, PACKET_OUT, STATS_REQUEST, BARRIER_REQUEST, QUEUE_GET_CONFIG_REQUEST}
 use Rattle.of10_ctl.specs.Kinds.{IsOf}
-use Rattle.of10_port.specs.declared.protocol.TheConstants.{IN_PORT, TABLE, CONTROLLER, NONE}
+use Rattle.of10_port.specs.declared.protocol.TheConstants.{IN_PORT, TABLE, ALL, CONTROLLER, NONE}
 use Rattle.of10_flow.specs.declared.protocol.TheConstants.{NO_BUFFER}
 use Rattle.of10_flow.specs.declared.flow_mod.FlowMod.{FlowMod}
 use Rattle.of10_flow.specs.declared.packet_in.PacketIn.{PacketIn}
@@ -15,6 +15,9 @@ use Rattle.of10_flow.specs.declared.packet_out.PacketOut.{PacketOut}
 use Rattle.of10_flow.specs.FlowMods.{spell_flow_mod, read_flow_mod}
 use Rattle.of10_flow.specs.PacketOuts.{spell_packet_out, read_packet_out}
 use Rattle.of10_flow.specs.Outside.{LeavesTreatment}
+use Rattle.of10_stats.specs.declared.request.StatsRequest.{StatsRequest}
+use Rattle.of10_stats.specs.declared.request.StatsRequest.TheVariants as statistics
+use Rattle.of10_message.specs.declared.controller.FromController.{FromController}
 use Rattle.of10_message.specs.declared.controller.FromController.TheVariants as said
 use Rattle.of10_message.specs.Controller.{read_controller}
 use Rattle.frame_header.specs.Headers.{header_of_packet}
@@ -26,6 +29,7 @@ use Rattle.port_view.specs.SlicePorts.{ports_of_slice}
 use Rattle.flowmod_expand.specs.Messages.{sent_from}
 use Rattle.action_check.specs.declared.origin.Origin.TheVariants.{Piece, Packet}
 use Rattle.action_check.specs.Soundness.{IsSound}
+use Rattle.stats_filter.specs.Asking.{asked_as}
 use Rattle.slice_words.specs.Items.{Settings, Sight, Writer}
 use Rattle.slice_words.specs.Buffers.{held_packets}
 use Rattle.slice_words.specs.FlowMods.{Ground, ground_of, pieces_on, lists_on, packet_at, packet_of, carrier_of, flow_mod_fault}
@@ -54,6 +58,14 @@ IsPacketOutThat Holds message = (m : PacketOut) × (message ≡ spell_packet_out
 -- a message is a flow-mod of which one thing holds, or a packet-out of which another does
 abbrev pub IsEitherThat : (FlowMod → Type 0) → (PacketOut → Type 0) → List ℕ → Type 0
 IsEitherThat OfFlowMod OfPacketOut message = IsFlowModThat OfFlowMod message ⊎ IsPacketOutThat OfPacketOut message
+
+-- a message asks the switch for a reply: for statistics (section 5.3.5), to a barrier (5.3.7), or on the queues of a port (5.3.4). So it is neither a flow-mod nor a packet-out
+abbrev pub AsksForReply : List ℕ → Type 0
+AsksForReply message = IsOf STATS_REQUEST message ⊎ (IsOf BARRIER_REQUEST message ⊎ IsOf QUEUE_GET_CONFIG_REQUEST message)
+
+-- a message is a flow-mod of which one thing holds, or a packet-out of which another does, or it asks for a reply
+abbrev pub IsSentThat : (FlowMod → Type 0) → (PacketOut → Type 0) → List ℕ → Type 0
+IsSentThat OfFlowMod OfPacketOut message = IsEitherThat OfFlowMod OfPacketOut message ⊎ AsksForReply message
 
 -- ---- flow-mods
 
@@ -126,6 +138,21 @@ pub record SendsWithin (IsHeaderUnder : ℕ → Header → Type 0) (rules : List
   pub outputs : SendsToOwnPorts rules slot m
   pub sends : is_probe m ≡ false → (h : Header) → IsHeader h → IsHeaderSent IsHeaderUnder m h → IsSound rules slot (Packet h) m.actions
 
+-- ---- questions
+
+-- statistics of ports or queues are asked for of all ports, or of one of the slice's: for those of ports NONE names all, for those of queues ALL does (section 5.3.5)
+abbrev pub AsksOwnPort : List Rule → ℕ → StatsRequest → Type 0
+AsksOwnPort rules slot (statistics.Port port) = (port ≡ NONE) ⊎ HasPort rules slot port
+AsksOwnPort rules slot (statistics.Queue port queue) = (port ≡ ALL) ⊎ HasPort rules slot port
+AsksOwnPort rules slot request = Unit {0}
+
+-- what a slice may ask the switch: statistics other than of tables, a barrier, and the queues of a port of its own
+abbrev pub MayBeAsked : List Rule → ℕ → FromController → Type 0
+MayBeAsked rules slot (said.StatsRequest request) = IsSome (asked_as request) × AsksOwnPort rules slot request
+MayBeAsked rules slot said.BarrierRequest = Unit {0}
+MayBeAsked rules slot (said.QueueGetConfigRequest port) = HasPort rules slot port
+MayBeAsked rules slot asked = ⊥
+
 -- ---- what a switch reads
 
 -- a switch reads a message as a flow-mod of which something holds (OpenFlow 1.0.0, section 5.3.3)
@@ -145,6 +172,16 @@ pub record IsReadAsOut (Holds : PacketOut → Type 0) (message : List ℕ) : Typ
 -- a switch reads a message as one of these
 abbrev pub IsEitherRead : (FlowMod → Type 0) → (PacketOut → Type 0) → List ℕ → Type 0
 IsEitherRead OfFlowMod OfPacketOut message = IsReadAs OfFlowMod message ⊎ IsReadAsOut OfPacketOut message
+
+-- a switch reads a message as a question that the slice may ask
+pub record IsReadAsQuestion (rules : List Rule) (slot : ℕ) (message : List ℕ) : Type 0 where
+  pub asked : FromController
+  pub read : read_controller message ≡ Ok asked
+  pub may : MayBeAsked rules slot asked
+
+-- a switch reads a message as a flow-mod of which one thing holds, as a packet-out of which another does, or as such a question
+abbrev pub IsReadThat : (FlowMod → Type 0) → (PacketOut → Type 0) → List Rule → ℕ → List ℕ → Type 0
+IsReadThat OfFlowMod OfPacketOut rules slot message = IsEitherRead OfFlowMod OfPacketOut message ⊎ IsReadAsQuestion rules slot message
 
 -- the message of an event, if it has one, is of bytes
 abbrev pub IsOfBytes : Event → Type 0
@@ -259,3 +296,15 @@ pub record IsPermittedOut (policy : PolicyView) (slot : ℕ) (h : List Timed) (m
   pub read : read_controller message ≡ Ok (said.PacketOut m)
   pub rate : KeepsRate policy slot h moment
   pub no_fault : packet_out_fault (ground_at policy slot h) m ≡ None
+
+-- the same of a question that the slice may ask
+pub record IsPermittedQuestion (policy : PolicyView) (slot : ℕ) (h : List Timed) (moment : ℕ) (message : List ℕ) (asked : FromController) : Type 0 where
+  pub read : read_controller message ≡ Ok asked
+  pub rate : KeepsRate policy slot h moment
+  pub may : MayBeAsked (rules_in policy h) slot asked
+
+-- a message is one of these
+abbrev pub IsAnyPermitted : PolicyView → ℕ → List Timed → ℕ → List ℕ → Type 0
+IsAnyPermitted policy slot h moment message =
+    ((m : FlowMod) × IsPermitted policy slot h moment message m)
+    ⊎ (((m : PacketOut) × IsPermittedOut policy slot h moment message m) ⊎ ((asked : FromController) × IsPermittedQuestion policy slot h moment message asked))

@@ -1,11 +1,17 @@
 //! Laws of what a slice has sent to the switch. Each function's contract is the law; its body does nothing.
 
-ghost use Rattle.std.specs.Prelude.{ℕ, ◌≡◌, ◌<◌, ◌⊎◌, true, false, List, [], ◌∷◌, map, All};
+ghost use Rattle.std.specs.Prelude.{ℕ, ◌≡◌, ◌<◌, ◌⊎◌, true, false, List, [], ◌∷◌, map, drop, Some, All};
 ghost use Rattle.of10_model.specs.declared.pattern.Pattern.{Pattern};
 ghost use Rattle.of10_flow.specs.declared.flow_mod.FlowMod.{FlowMod};
 ghost use Rattle.of10_flow.specs.declared.packet_out.PacketOut.{PacketOut};
 ghost use Rattle.of10_flow.specs.FlowMods.{spell_flow_mod};
 ghost use Rattle.of10_flow.specs.PacketOuts.{spell_packet_out};
+ghost use Rattle.of10_ctl.specs.declared.kind.TheConstants.{BARRIER_REQUEST, QUEUE_GET_CONFIG_REQUEST};
+ghost use Rattle.of10_ctl.specs.Frames.{message_of};
+ghost use Rattle.of10_stats.specs.declared.request.StatsRequest.{StatsRequest};
+ghost use Rattle.of10_stats.specs.Requests.{spell_request};
+ghost use Rattle.of10_message.specs.declared.controller.FromController.TheVariants as said;
+ghost use Rattle.stats_filter.specs.Asking.{asked_as};
 ghost use Rattle.flowspace.specs.Policies.{PolicyView, SwitchView, IsPolicy, IsSwitchPolicy, AreNormal};
 ghost use Rattle.of10_port.specs.declared.features.Features.{Features};
 ghost use Rattle.slice_words.specs.Items.{Settings, Sight, Msg};
@@ -21,27 +27,28 @@ ghost use Rattle.desk_words.specs.declared.event.Event.TheVariants.{SliceMsg};
 ghost use Rattle.desk_words.specs.declared.event.Timed.{Timed};
 ghost use Rattle.desk_words.specs.Histories.{side_of, is_slice_up};
 ghost use Rattle.desk_words.specs.Sent.{lane_by};
-ghost use Rattle.lane_laws.specs.Lane.{IsEitherThat, LiesInFlowspace, OutputsToOwnPorts, LeavesOtherHeaders, StaysWithin, SendsOwnPacket, SendsToOwnPorts, ChangesNoTable, SendsWithin, IsEitherRead, IsOfBytes, IsBufferHeader, CarriesOwnBuffer, SendsOwnBuffer, HoldsWritten, IsHeldHeader, rules_in, settings_in, ports_in, ground_at, flow_mods_at, packet_out_at, IsPermitted, IsPermittedOut};
+ghost use Rattle.lane_laws.specs.Lane.{IsSentThat, LiesInFlowspace, OutputsToOwnPorts, LeavesOtherHeaders, StaysWithin, SendsOwnPacket, SendsToOwnPorts, ChangesNoTable, SendsWithin, IsReadThat, IsOfBytes, IsBufferHeader, CarriesOwnBuffer, SendsOwnBuffer, HoldsWritten, IsHeldHeader, rules_in, settings_in, ports_in, ground_at, flow_mods_at, packet_out_at, IsPermitted, IsPermittedOut, IsPermittedQuestion, IsAnyPermitted};
 
 /// Whatever a message of a slice has sent to the switch is a flow-mod, and the slice writes each header of its
-/// match; or it is a packet-out of a packet that the slice writes, or of a probe with the slice's mark.
+/// match; or it is a packet-out of a packet that the slice writes, or of a probe with the slice's mark; or it is
+/// neither, and asks for statistics, for a port's queues, or for the reply to a barrier.
 pub fn messages_lie_in_the_flowspace()
     ensures { (policy : PolicyView) → IsPolicy policy.slices policy.rules → (h : List Timed) (timed : Timed) (slot : ℕ) (message : List ℕ) → timed.event ≡ SliceMsg slot message
-        → All (IsEitherThat (LiesInFlowspace (rules_in policy h) slot) (SendsOwnPacket (IsBufferHeader h) (rules_in policy h) slot)) (lane_by policy h timed) }
+        → All (IsSentThat (LiesInFlowspace (rules_in policy h) slot) (SendsOwnPacket (IsBufferHeader h) (rules_in policy h) slot)) (lane_by policy h timed) }
 {}
 
-/// Each OUTPUT and ENQUEUE of such a message names a port of the slice or IN_PORT, an OUTPUT maybe CONTROLLER,
+/// Each OUTPUT and ENQUEUE of such a flow-mod or packet-out names a port of the slice or IN_PORT, an OUTPUT maybe CONTROLLER,
 /// and in a packet-out maybe TABLE, but of a probe neither.
 pub fn outputs_name_the_slices_ports()
     ensures { (policy : PolicyView) (h : List Timed) (timed : Timed) (slot : ℕ) (message : List ℕ) → timed.event ≡ SliceMsg slot message
-        → All (IsEitherThat (OutputsToOwnPorts (rules_in policy h) slot) (SendsToOwnPorts (rules_in policy h) slot)) (lane_by policy h timed) }
+        → All (IsSentThat (OutputsToOwnPorts (rules_in policy h) slot) (SendsToOwnPorts (rules_in policy h) slot)) (lane_by policy h timed) }
 {}
 
 /// It leaves every flow table treating each header that the slice doesn't write as before: it is a flow-mod
-/// that does, or a packet-out, which changes none.
+/// that does, or a packet-out or a question, which change none.
 pub fn other_headers_are_treated_as_before()
     ensures { (policy : PolicyView) → IsPolicy policy.slices policy.rules → (h : List Timed) (timed : Timed) (slot : ℕ) (message : List ℕ) → timed.event ≡ SliceMsg slot message
-        → All (IsEitherThat (LeavesOtherHeaders (rules_in policy h) slot) ChangesNoTable) (lane_by policy h timed) }
+        → All (IsSentThat (LeavesOtherHeaders (rules_in policy h) slot) ChangesNoTable) (lane_by policy h timed) }
 {}
 
 /// Where such a message carries a number, the last packet-in that has the number gave its packet to the slice
@@ -49,23 +56,25 @@ pub fn other_headers_are_treated_as_before()
 /// The slice writes the header of each packet that it holds.
 pub fn buffers_are_the_slices_own()
     ensures messages { (policy : PolicyView) (h : List Timed) (timed : Timed) (slot : ℕ) (message : List ℕ) → timed.event ≡ SliceMsg slot message
-        → All (IsEitherThat (CarriesOwnBuffer policy slot h) (SendsOwnBuffer policy slot h)) (lane_by policy h timed) }
+        → All (IsSentThat (CarriesOwnBuffer policy slot h) (SendsOwnBuffer policy slot h)) (lane_by policy h timed) }
     ensures held { (policy : PolicyView) (h : List Timed) (slot : ℕ) → HoldsWritten (rules_in policy h) slot (settings_in policy slot h) (side_of policy slot h).sight }
 {}
 
 /// Where the messages of the switch and of the slice are of bytes, a switch reads whatever it has sent as a
 /// flow-mod or a packet-out of which all this holds; and each packet that its actions send is, as the actions
 /// before rewrite it, one that the slice writes by some port of entry, and by its own where it is sent to the
-/// controller or through the table. Probes are excepted.
+/// controller or through the table. Probes are excepted. Or the switch reads it as a barrier, as a request for
+/// statistics of the slice's ports or of all, or as a question for the queues of one of its ports.
 pub fn switches_read_such_messages()
     ensures { (policy : PolicyView) → IsPolicy policy.slices policy.rules → AreNormal policy.rules → (h : List Timed) (timed : Timed) (slot : ℕ) (message : List ℕ) → All (λ t. IsOfBytes t.event) (timed ∷ h)
-        → timed.event ≡ SliceMsg slot message → All (IsEitherRead (StaysWithin (rules_in policy h) slot) (SendsWithin (IsBufferHeader h) (rules_in policy h) slot)) (lane_by policy h timed) }
+        → timed.event ≡ SliceMsg slot message → All (IsReadThat (StaysWithin (rules_in policy h) slot) (SendsWithin (IsBufferHeader h) (rules_in policy h) slot) (rules_in policy h) slot) (lane_by policy h timed) }
 {}
 
 /// A flow-mod of a slice that is up is sent where it keeps the rate and no line refuses it: exactly its
 /// messages, one for each piece of its match that the slice writes, with the actions that the slice may have
 /// for the piece by the rules of the switch; where it names a packet, the first whose piece has the packet's
-/// header carries the switch's number for it. Nothing but these and permitted packet-outs is sent for a slice.
+/// header carries the switch's number for it. Nothing but these, permitted packet-outs and permitted questions is
+/// sent for a slice.
 pub fn permitted_flow_mods_are_sent()
     ensures sent { (policy : PolicyView) (h : List Timed) (timed : Timed) (slot : ℕ) (message : List ℕ) (m : FlowMod) → timed.event ≡ SliceMsg slot message → is_slice_up policy slot h ≡ true
         → IsPermitted policy slot h timed.moment message m → lane_by policy h timed ≡ map spell_flow_mod (flow_mods_at policy slot h m) }
@@ -73,7 +82,7 @@ pub fn permitted_flow_mods_are_sent()
     ensures actions { (policy : PolicyView) (h : List Timed) (slot : ℕ) (m : FlowMod) (piece : Pattern) → is_slice_up policy slot h ≡ true
         → permitted_on (ground_at policy slot h) m piece ≡ permitted (rules_in policy h) slot (Piece piece) m.actions (flooded false (ports_in policy slot h)) (flooded true (ports_in policy slot h)) }
     ensures nothing_else { (policy : PolicyView) (h : List Timed) (timed : Timed) (slot : ℕ) (message : List ℕ) → timed.event ≡ SliceMsg slot message
-        → (lane_by policy h timed ≡ []) ⊎ ((is_slice_up policy slot h ≡ true) × (((m : FlowMod) × IsPermitted policy slot h timed.moment message m) ⊎ ((m : PacketOut) × IsPermittedOut policy slot h timed.moment message m))) }
+        → (lane_by policy h timed ≡ []) ⊎ ((is_slice_up policy slot h ≡ true) × IsAnyPermitted policy slot h timed.moment message) }
 {}
 
 /// A packet-out of a slice that is up is sent where it keeps the rate and no line refuses it: exactly one, with
@@ -87,17 +96,28 @@ pub fn permitted_packet_outs_are_sent()
         ≡ permitted (rules_in policy h) slot (origin_with (packet_at (ground_at policy slot h) m.buffer) m) m.actions (flooded false (ports_in policy slot h)) (flooded true (ports_in policy slot h)) }
 {}
 
+/// A question of a slice that is up is sent where it keeps the rate and the slice may ask it: exactly one, under
+/// the transaction id that the slice gets next. Of flows the sum is asked for as the single flows.
+pub fn permitted_questions_are_sent()
+    ensures statistics { (policy : PolicyView) (h : List Timed) (timed : Timed) (slot : ℕ) (message : List ℕ) (request asked : StatsRequest) → timed.event ≡ SliceMsg slot message → is_slice_up policy slot h ≡ true
+        → IsPermittedQuestion policy slot h timed.moment message (said.StatsRequest request) → asked_as request ≡ Some asked → lane_by policy h timed ≡ spell_request asked (ground_at policy slot h).xid ∷ [] }
+    ensures barriers { (policy : PolicyView) (h : List Timed) (timed : Timed) (slot : ℕ) (message : List ℕ) → timed.event ≡ SliceMsg slot message → is_slice_up policy slot h ≡ true
+        → IsPermittedQuestion policy slot h timed.moment message said.BarrierRequest → lane_by policy h timed ≡ message_of BARRIER_REQUEST (ground_at policy slot h).xid [] ∷ [] }
+    ensures queues { (policy : PolicyView) (h : List Timed) (timed : Timed) (slot : ℕ) (message : List ℕ) (port : ℕ) → timed.event ≡ SliceMsg slot message → is_slice_up policy slot h ≡ true
+        → IsPermittedQuestion policy slot h timed.moment message (said.QueueGetConfigRequest port) → lane_by policy h timed ≡ message_of QUEUE_GET_CONFIG_REQUEST (ground_at policy slot h).xid (drop 8 message) ∷ [] }
+{}
+
 /// The first three hold of what `slice_side::react` has sent on, for the policy and the ports that it is given,
 /// where the slice writes the header of each packet that it holds. In the place of the header under a number is
 /// that of the packet that is held.
 pub fn reactions_stay_within_the_slice()
     ensures flowspace { (s : Settings) (sight : Sight) (policy : SwitchView) (known : List (List ℕ)) (features : Features) (slot : ℕ) (message : List ℕ) (moment : ℕ) (r : Reaction)
         → IsSwitchPolicy policy.slices policy.rules → Sees s sight.view policy known features slot → HoldsWritten policy.rules slot s sight → IsReaction s sight (Msg message moment) r
-        → All (IsEitherThat (LiesInFlowspace policy.rules slot) (SendsOwnPacket (IsHeldHeader s sight) policy.rules slot)) r.to_switch.items }
+        → All (IsSentThat (LiesInFlowspace policy.rules slot) (SendsOwnPacket (IsHeldHeader s sight) policy.rules slot)) r.to_switch.items }
     ensures ports { (s : Settings) (sight : Sight) (policy : SwitchView) (known : List (List ℕ)) (features : Features) (slot : ℕ) (message : List ℕ) (moment : ℕ) (r : Reaction)
         → Sees s sight.view policy known features slot → IsReaction s sight (Msg message moment) r
-        → All (IsEitherThat (OutputsToOwnPorts policy.rules slot) (SendsToOwnPorts policy.rules slot)) r.to_switch.items }
+        → All (IsSentThat (OutputsToOwnPorts policy.rules slot) (SendsToOwnPorts policy.rules slot)) r.to_switch.items }
     ensures headers { (s : Settings) (sight : Sight) (policy : SwitchView) (known : List (List ℕ)) (features : Features) (slot : ℕ) (message : List ℕ) (moment : ℕ) (r : Reaction)
         → IsSwitchPolicy policy.slices policy.rules → Sees s sight.view policy known features slot → IsReaction s sight (Msg message moment) r
-        → All (IsEitherThat (LeavesOtherHeaders policy.rules slot) ChangesNoTable) r.to_switch.items }
+        → All (IsSentThat (LeavesOtherHeaders policy.rules slot) ChangesNoTable) r.to_switch.items }
 {}

@@ -1,0 +1,9 @@
+use Rattle.lane_laws.proofs.Sent.{statistics_sent, barrier_sent, queues_sent}
+use Rattle.lane_laws.proofs.laws.permitted_questions_are_sent.Goals as goal
+
+pub returns : goal.returns
+returns c = record {
+  statistics = λ policy h timed slot message request asked is up. statistics_sent policy h timed slot message is up request asked;
+  barriers = λ policy h timed slot message is up. barrier_sent policy h timed slot message is up;
+  queues = λ policy h timed slot message port is up. queues_sent policy h timed slot message is up port;
+}
