@@ -1,10 +1,10 @@
 -- What may come for a request, by the kind of the request.
-use Rattle.std.proofs.Common.{◌≡◌, ℕ, ◌≤◌, List, [], ◌∷◌, length, take, Some, refl, arith}
+use Rattle.std.proofs.Common.{◌≡◌, ℕ, ◌≤◌, List, [], ◌∷◌, length, take, Some, refl, sym, subst, ◌∙◌, arith}
 use Rattle.std.specs.Prelude.{All}
 use Rattle.std.specs.List.{concat}
 use Rattle.std.proofs.lemmas.List.{length-append}
 use Rattle.std.proofs.lemmas.List.Elements.{All-nil, All-cons}
-use Rattle.of10_stats.specs.Replies.{entry_size_of}
+use Rattle.of10_stats.specs.Replies.{IsEntry, entry_size_of}
 use Rattle.of10_stats.proofs.Sizes.{entry_there}
 use Rattle.flowspace.specs.declared.rules.Rule.{Rule}
 use Rattle.xid_map.specs.declared.asked.AskKind.{AskKind}
@@ -14,6 +14,8 @@ use Rattle.stats_filter.specs.Keeping.{entries_in, is_own_entry, is_kept, MayCom
 use Rattle.stats_filter.specs.Replies.{page_size}
 use Rattle.stats_filter.specs.Laws.{AreSmall}
 use Rattle.stats_filter.proofs.Rows.{AreInFront-entries_in, bytes_of_entries}
+
+-- ---- the type
 
 -- a type that is sent for is one of the standard's
 pub known_type : (asked : AskKind) (kind : ℕ) → type_sent asked ≡ Some kind → kind ≤ 5
@@ -32,6 +34,13 @@ pub is_kept-type_sent : (rules : List Rule) (slot : ℕ) (asked : AskKind) (kind
 is_kept-type_sent rules slot asked kind entry e = rw (e, is_kept) refl
 
 -- ---- entries of a reply
+
+-- what may come is an entry of the type that is sent for
+pub may_come_entry : (asked : AskKind) (kind : ℕ) (entry : List ℕ) → type_sent asked ≡ Some kind → MayCome asked entry → IsEntry kind entry
+may_come_entry asked kind entry sent may =
+    let both : Some may.0 ≡ Some kind = sym may.1 ∙ sent in
+    let same : may.0 ≡ kind = cc in
+    subst (λ k. IsEntry k entry) same may.2
 
 -- the entry that begins bytes may come
 pub first_may_come : (asked : AskKind) (kind size : ℕ) (bytes : List ℕ) → type_sent asked ≡ Some kind → entry_size_of kind bytes ≡ Some size → MayCome asked (take size bytes)

@@ -4,3 +4,4 @@ pub mod Paging
 pub mod Packing
 pub mod Replying
 pub mod Coming
+pub mod Questions

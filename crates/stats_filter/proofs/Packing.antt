@@ -28,7 +28,7 @@ full_behind row (next ∷ later) full = (full.0, full_behind next later full.1)
 -- ---- the rows that are placed
 
 -- the entries that stand on a page behind so many bytes, and the rows of the pages after it
-pub record Rows (filled : ℕ) (entries : List (List ℕ)) : Type 0 where
+pub record PlacedRows (filled : ℕ) (entries : List (List ℕ)) : Type 0 where
   pub row : List (List ℕ)
   pub later : List (List (List ℕ))
   pub order : row ++ flat_map (λ next. next) later ≡ entries
@@ -37,7 +37,7 @@ pub record Rows (filled : ℕ) (entries : List (List ℕ)) : Type 0 where
   pub small : AreSmall entries → filled ≤ page_size → (filled + length (concat row) ≤ page_size) × AreSmall (map concat later)
   pub full : FullBehind (filled + length (concat row)) later
 
-no_rows : (filled : ℕ) → Rows filled []
+no_rows : (filled : ℕ) → PlacedRows filled []
 no_rows filled = record {
   row = [];
   later = [];
@@ -48,7 +48,7 @@ no_rows filled = record {
   full = tt;
 }
 
-row_more : (filled : ℕ) (entry : List ℕ) (entries : List (List ℕ)) → filled + length entry ≤ page_size → Rows (filled + length entry) entries → Rows filled (entry ∷ entries)
+row_more : (filled : ℕ) (entry : List ℕ) (entries : List (List ℕ)) → filled + length entry ≤ page_size → PlacedRows (filled + length entry) entries → PlacedRows filled (entry ∷ entries)
 row_more filled entry entries fits rows =
     let size : filled + length (entry ++ concat rows.row) ≡ (filled + length entry) + length (concat rows.row) = omega (arith, length-append entry (concat rows.row)) in
     record {
@@ -61,7 +61,7 @@ row_more filled entry entries fits rows =
       full = rw size rows.full;
     }
 
-row_next : (filled : ℕ) (entry : List ℕ) (entries : List (List ℕ)) → page_size < filled + length entry → Rows (length entry) entries → Rows filled (entry ∷ entries)
+row_next : (filled : ℕ) (entry : List ℕ) (entries : List (List ℕ)) → page_size < filled + length entry → PlacedRows (length entry) entries → PlacedRows filled (entry ∷ entries)
 row_next filled entry entries over rows =
     let size : length (entry ++ concat rows.row) ≡ length entry + length (concat rows.row) = length-append entry (concat rows.row) in
     record {
@@ -79,7 +79,7 @@ row_next filled entry entries over rows =
       full = (omega arith, rw size rows.full);
     }
 
-pub rows_of : (filled : ℕ) (entries : List (List ℕ)) → Rows filled entries
+pub rows_of : (filled : ℕ) (entries : List (List ℕ)) → PlacedRows filled entries
 rows_of filled [] = no_rows filled
 rows_of filled (entry ∷ entries) =
     elim (cases_lt page_size (filled + length entry)) [

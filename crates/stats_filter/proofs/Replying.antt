@@ -112,6 +112,11 @@ short_replies kind xid (page ∷ next ∷ later) small =
     All-cons (λ (reply : List ℕ). length reply ≤ 65535) (reply_with kind true xid page) (replies_with kind xid (next ∷ later)) (omega (arith, first))
     (short_replies kind xid (next ∷ later) (All-tail (λ (p : List ℕ). length p ≤ page_size) page (next ∷ later) small))
 
+count_replies : (kind xid : ℕ) (ps : List (List ℕ)) → length (replies_with kind xid ps) ≡ length ps
+count_replies kind xid [] = refl
+count_replies kind xid (page ∷ []) = refl
+count_replies kind xid (page ∷ next ∷ later) = let others = count_replies kind xid (next ∷ later) in omega (arith, others)
+
 -- the heads and the pages
 size_replies : (kind xid : ℕ) (ps : List (List ℕ)) → sum_by length (replies_with kind xid ps) ≡ 12 * length ps + length (concat ps)
 size_replies kind xid [] = refl
@@ -162,7 +167,17 @@ size-replies_of kind xid bytes =
     let count = count_of_entries kind bytes in
     omega arith
 
--- and each of them is short
+-- there are at most as many as entries, and one more
+pub count-replies_of : (kind xid : ℕ) (bytes : List ℕ) → 24 * length (replies_of kind bytes xid) ≤ length bytes + 24
+unfolding replies_of
+count-replies_of kind xid bytes =
+    let entries = entries_in kind bytes in
+    let same = count_replies kind xid (pages entries) in
+    let few = count_placed 0 entries in
+    let count = count_of_entries kind bytes in
+    omega arith
+
+-- each of them is short
 pub short-replies_of : (kind xid : ℕ) (bytes : List ℕ) → AreSmall (entries_in kind bytes) → All (λ reply. length reply ≤ 65535) (replies_of kind bytes xid)
 unfolding replies_of
 short-replies_of kind xid bytes small = short_replies kind xid (pages (entries_in kind bytes)) (ArePages-pages (entries_in kind bytes) small).small

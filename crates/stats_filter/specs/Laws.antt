@@ -18,7 +18,7 @@ pub record AreInFront (kind : ℕ) (bytes : List ℕ) (entries : List (List ℕ)
 
 -- ---- pages
 
--- each entry has no more bytes than a page
+-- each of these, entries or pages, has at most the bytes of a page
 abbrev pub AreSmall : List (List ℕ) → Type 0
 AreSmall entries = All (λ entry. length entry ≤ page_size) entries
 
@@ -51,7 +51,7 @@ pub record IsReply (kind xid : ℕ) (more : Bool) (page reply : List ℕ) : Type
   pub part : part_of reply ≡ Ok (record { kind = kind; more = more; from = 12 })
   pub entries : drop 12 reply ≡ page
 
--- there are some
+-- there are some pages
 abbrev pub are_some : List (List ℕ) → Bool
 are_some [] = false
 are_some (page ∷ later) = true

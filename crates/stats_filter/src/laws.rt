@@ -1,14 +1,19 @@
 //! Laws of the definitions. Each function's contract is the law; its body does nothing.
 
-ghost use Rattle.std.specs.Prelude.{ℕ, List, ◌≡◌, ◌<◌, ◌≤◌, ◌^◌, ◌↔◌, IsTrue, All, drop, length};
+ghost use Rattle.std.specs.Prelude.{ℕ, List, ◌≡◌, ◌<◌, ◌≤◌, ◌^◌, ◌↔◌, IsTrue, All, Ok, Some, drop, length};
 ghost use Rattle.std.specs.List.{concat, flat_map};
 ghost use Rattle.of10_model.specs.declared.pattern.Pattern.{Pattern};
 ghost use Rattle.of10_model.specs.Normal.{number_at, IsNormal};
+ghost use Rattle.of10_ctl.specs.declared.kind.TheConstants.{STATS_REQUEST};
+ghost use Rattle.of10_ctl.specs.Kinds.{IsOf};
+ghost use Rattle.of10_stats.specs.declared.request.StatsRequest.{StatsRequest};
+ghost use Rattle.of10_stats.specs.Requests.{IsRequest, read_request};
 ghost use Rattle.of10_stats.specs.declared.protocol.TheConstants.{DESC, FLOW, PORT, QUEUE};
 ghost use Rattle.of10_stats.specs.Replies.{IsEntry, flow_of};
 ghost use Rattle.flowspace.specs.declared.rules.Rule.{Rule};
 ghost use Rattle.flowspace.specs.Policies.{AreNormal};
 ghost use Rattle.flowspace.specs.Owners.{HasPort, Owns};
+ghost use Rattle.stats_filter.specs.Asking.{asked_as, question_for};
 ghost use Rattle.stats_filter.specs.Keeping.{entries_in, is_own_entry};
 ghost use Rattle.stats_filter.specs.Replies.{pages, replies_of};
 ghost use Rattle.stats_filter.specs.Laws.{AreInFront, ArePages, AreReplies, AreSmall};
@@ -20,10 +25,16 @@ pub fn entries_stand_in_front()
     ensures again { (kind : ℕ) (entries : List (List ℕ)) → All (IsEntry kind) entries → entries_in kind (concat entries) ≡ entries }
 {}
 
-/// Entries of which each fits a page have one list of pages: rows of whole entries in their order, each but
-/// the last as full as can be.
+/// What the switch is asked is a STATS_REQUEST that it reads as what is sent for the slice's request.
+pub fn question_is_read_again()
+    ensures { (request sent : StatsRequest) (xid : ℕ) (message : List ℕ) → IsRequest request → asked_as request ≡ Some sent → question_for request xid ≡ Some message → IsOf STATS_REQUEST message × (read_request message ≡ Ok sent) }
+{}
+
+/// Pages have the bytes of the entries in their order. Entries of which each fits a page have one list of pages:
+/// rows of whole entries, each but the last as full as can be.
 pub fn pages_are_full_rows()
-    ensures { (entries rows : List (List ℕ)) → AreSmall entries → (pages entries ≡ rows) ↔ ArePages entries rows }
+    ensures bytes { (entries : List (List ℕ)) → concat (pages entries) ≡ concat entries }
+    ensures rows { (entries rows : List (List ℕ)) → AreSmall entries → (pages entries ≡ rows) ↔ ArePages entries rows }
 {}
 
 /// There is a reply for each page, and more come behind all but the last. What is read of the replies, one

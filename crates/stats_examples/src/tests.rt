@@ -1,0 +1,3 @@
+mod asking;
+mod keeping;
+mod replying;
