@@ -4,7 +4,7 @@ mod Following
 mod Grounds
 mod Inquiring
 mod Changing
-mod Answering
+pub mod Answering
 mod Bytes
 mod Packets
 mod Outs

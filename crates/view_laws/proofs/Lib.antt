@@ -4,3 +4,5 @@ pub mod Carrying
 pub mod Remembering
 pub mod Booking
 pub mod Counting
+pub mod Collected
+pub mod Lasting

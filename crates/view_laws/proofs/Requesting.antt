@@ -7,11 +7,11 @@ use Rattle.of10_message.specs.declared.fault.Unread.TheVariants.{BadLength, NoCo
 use Rattle.of10_message.specs.Controller.{read_controller}
 use Rattle.xid_map.specs.declared.asked.Asked.{Asked}
 use Rattle.xid_map.specs.declared.asked.Issued.{Issued}
-use Rattle.xid_map.specs.Requests.{RequestCall, Issue, MarkError, Forget, issued}
+use Rattle.xid_map.specs.Requests.{RequestCall, Issue, MarkError, MarkDone, Forget, issued}
 use Rattle.slice_words.specs.Messages.{Reading, ends_connection, is_dismissing, asked_of}
 use Rattle.slice_words.specs.Items.{Settings, Item, Opened, Up, Down, Msg, Lost, Handed, Removed, Status, Fault, Barrier, Queues, Entry, Last, End, is_up, is_forgetting}
 use Rattle.slice_words.specs.Pasts.{Answer, Past, Outgoing, silence, is_any}
-use Rattle.slice_words.specs.Calls.{request_for, error_marks, requests_by, request_calls}
+use Rattle.slice_words.specs.Calls.{request_for, error_marks, reply_marks, requests_by, request_calls}
 use Rattle.slice_words.specs.Answers.{unread_answer, read_answer}
 use Rattle.slice_words.specs.Alone.{answer_to}
 use Rattle.slice_words.specs.Standing.{past_of}
@@ -85,6 +85,11 @@ error_one : (found : Option Issued) → AtMostOne (error_marks found)
 error_one None = inl refl
 error_one (Some request) = inr (MarkError request.number, refl)
 
+reply_one : (a : Answer) (told : Bool) (found : Option Issued) → is_any a.to_slice ≡ told → AtMostOne (reply_marks a found)
+reply_one a told None is = inl refl
+reply_one a true (Some request) is = inr (MarkDone request.number, rw is refl)
+reply_one a false (Some request) is = inl (rw is refl)
+
 request_one : (s : Settings) (view : List Item) (item : Item) → AtMostOne (requests_given s view item)
 request_one s view Up = inr (Forget, refl)
 request_one s view Down = inr (Forget, refl)
@@ -95,10 +100,10 @@ request_one s view (Lost k) = inl refl
 request_one s view (Handed packet) = inl refl
 request_one s view (Removed entry) = inl refl
 request_one s view (Status status) = inl refl
-request_one s view (Barrier x) = inl refl
-request_one s view (Queues x body) = inl refl
+request_one s view (Barrier x) = reply_one (answer_to s view (Barrier x)) _ (request_for s x (requests_after s view)) refl
+request_one s view (Queues x body) = reply_one (answer_to s view (Queues x body)) _ (request_for s x (requests_after s view)) refl
 request_one s view (Entry x kind bytes) = inl refl
-request_one s view (Last x kind) = inl refl
+request_one s view (Last x kind) = reply_one (answer_to s view (Last x kind)) _ (request_for s x (requests_after s view)) refl
 request_one s view End = inl refl
 
 pub requests_made : (s : Settings) → Making RequestCall (requests_given s) (requests_after s)
@@ -117,6 +122,11 @@ error_counts : (found : Option Issued) (before : List RequestCall) → issued (e
 error_counts None before = refl
 error_counts (Some request) before = refl
 
+reply_counts : (a : Answer) (told : Bool) (found : Option Issued) (before : List RequestCall) → is_any a.to_slice ≡ told → issued (reply_marks a found ++ before) ≡ issued before
+reply_counts a told None before is = refl
+reply_counts a true (Some request) before is = rw is refl
+reply_counts a false (Some request) before is = rw is refl
+
 request_counts : (s : Settings) (view : List Item) (item : Item)
     → issued (requests_after s (item ∷ view)) ≡ (if is_request s view item then issued (requests_after s view) + 1 else issued (requests_after s view))
 request_counts s view Up = refl
@@ -130,10 +140,10 @@ request_counts s view (Lost k) = refl
 request_counts s view (Handed packet) = refl
 request_counts s view (Removed entry) = refl
 request_counts s view (Status status) = refl
-request_counts s view (Barrier x) = refl
-request_counts s view (Queues x body) = refl
+request_counts s view (Barrier x) = reply_counts (answer_to s view (Barrier x)) _ (request_for s x (requests_after s view)) (requests_after s view) refl
+request_counts s view (Queues x body) = reply_counts (answer_to s view (Queues x body)) _ (request_for s x (requests_after s view)) (requests_after s view) refl
 request_counts s view (Entry x kind bytes) = refl
-request_counts s view (Last x kind) = refl
+request_counts s view (Last x kind) = reply_counts (answer_to s view (Last x kind)) _ (request_for s x (requests_after s view)) (requests_after s view) refl
 request_counts s view End = refl
 
 one_longer : (counts : Bool) (n : ℕ) (item : Item) (items : List Item) → n ≡ length items → (if counts then n + 1 else n) ≡ length (if counts then item ∷ items else items)
@@ -164,6 +174,11 @@ error_issues_nothing : (found : Option Issued) (asked : Asked) → error_marks f
 error_issues_nothing None asked is = cc
 error_issues_nothing (Some request) asked is = cc
 
+reply_issues_nothing : (a : Answer) (told : Bool) (found : Option Issued) (asked : Asked) → is_any a.to_slice ≡ told → reply_marks a found ≡ Issue asked ∷ [] → ⊥
+reply_issues_nothing a told None asked any is = cc
+reply_issues_nothing a true (Some request) asked any is = (let marks : MarkDone request.number ∷ [] ≡ Issue asked ∷ [] = rw any at is in cc)
+reply_issues_nothing a false (Some request) asked any is = (let nothing : [] ≡ Issue asked ∷ [] = rw any at is in cc)
+
 pub issue_from : (s : Settings) (view : List Item) (item : Item) (asked : Asked) → requests_given s view item ≡ Issue asked ∷ [] → IsIssue s view item asked
 issue_from s view Up asked is = cc
 issue_from s view Down asked is = cc
@@ -176,10 +191,10 @@ issue_from s view (Lost k) asked is = cc
 issue_from s view (Handed packet) asked is = cc
 issue_from s view (Removed entry) asked is = cc
 issue_from s view (Status status) asked is = cc
-issue_from s view (Barrier x) asked is = cc
-issue_from s view (Queues x body) asked is = cc
+issue_from s view (Barrier x) asked is = absurd (reply_issues_nothing (answer_to s view (Barrier x)) _ (request_for s x (requests_after s view)) asked refl is)
+issue_from s view (Queues x body) asked is = absurd (reply_issues_nothing (answer_to s view (Queues x body)) _ (request_for s x (requests_after s view)) asked refl is)
 issue_from s view (Entry x kind bytes) asked is = cc
-issue_from s view (Last x kind) asked is = cc
+issue_from s view (Last x kind) asked is = absurd (reply_issues_nothing (answer_to s view (Last x kind)) _ (request_for s x (requests_after s view)) asked refl is)
 issue_from s view End asked is = cc
 
 asking_issues : (dismissing puts : Bool) (asked : Asked) → (dismissing ≡ true → puts ≡ false) → puts ≡ true → of_message dismissing puts asked ≡ Issue asked ∷ []

@@ -1,3 +1,4 @@
 pub mod Requests
 pub mod Bookings
 pub mod Rates
+pub mod Collecting

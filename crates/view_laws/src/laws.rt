@@ -16,6 +16,7 @@ ghost use Rattle.slice_words.specs.Calls.{request_calls, questions};
 ghost use Rattle.slice_words.specs.Answers.{keeps_rate};
 ghost use Rattle.slice_words.specs.Standing.{past_of};
 ghost use Rattle.view_laws.specs.Requests.{is_request, requests_in, next_number, IsUnder, remembered_for, IsRemembered};
+ghost use Rattle.view_laws.specs.Collecting.{Collects, IsCollecting};
 ghost use Rattle.view_laws.specs.Bookings.{booking_after, IsBooked, IsLastBooked, IsFirstBooked};
 ghost use Rattle.view_laws.specs.Rates.{counted};
 
@@ -32,9 +33,17 @@ pub fn requests_are_numbered()
 {}
 
 /// The request that is remembered for the low 24 bits of a transaction id is the one of the last 4,096 whose
-/// number has these bits, where no item since forgets; and it has failed where an error came for it since.
+/// number has these bits, where no item since forgets. It has failed exactly where an error came for it since,
+/// and it is done exactly where since then the slice was told of a reply for it.
 pub fn request_is_remembered_among_the_last()
     ensures { (s : Settings) (view : List Item) (x : ℕ) (request : Issued) → (remembered_for s view x ≡ Some request) ↔ IsRemembered s view x request }
+{}
+
+/// A request for statistics collects exactly as long as no later item ended that: it was forgotten, an error
+/// came for it, the slice was told of the last part of its reply, or another was made while eight collected, of
+/// which it was the first.
+pub fn request_collects_until_an_item_ends_it()
+    ensures { (s : Settings) (view : List Item) (number : ℕ) → Collects s number view ↔ IsCollecting s number view }
 {}
 
 /// A pair is booked exactly where the last item that books or releases it books it.

@@ -1,5 +1,5 @@
-//! What the parts of a slice's state stand for, in words of what the slice sees: its requests, the moments
-//! that count for its rate, and the pairs that are booked for it.
+//! What the parts of a slice's state stand for, in words of what the slice sees: its requests, those for
+//! statistics that collect, the moments that count for its rate, and the pairs that are booked for it.
 #![tactic(auto)]
 
 pub mod laws;
