@@ -1,11 +1,13 @@
 -- What follows by the slices' states is what follows by what the slices see.
 use Rattle.std.proofs.Common.{◌≡◌, ℕ, Bool, true, false, List, [], length, refl, ap, subst, sym, ◌∙◌, Option, None, IfSome}
 use Rattle.of10_model.specs.Normal.{IsNormal}
-use Rattle.of10_ctl.specs.declared.kind.TheConstants.{ERROR, ECHO_REQUEST, PACKET_IN, FLOW_REMOVED, PORT_STATUS}
+use Rattle.of10_ctl.specs.declared.kind.TheConstants.{ERROR, ECHO_REQUEST, PACKET_IN, FLOW_REMOVED, PORT_STATUS, STATS_REPLY, BARRIER_REPLY, QUEUE_GET_CONFIG_REPLY}
 use Rattle.of10_ctl.specs.Kinds.{is_of}
 use Rattle.of10_flow.specs.FlowRemoveds.{read_flow_removed}
 use Rattle.of10_message.specs.Heads.{xid_of}
 use Rattle.of10_message.specs.Errors.{read_error}
+use Rattle.of10_message.specs.Replies.{is_bare, read_queues}
+use Rattle.of10_stats.specs.Replies.{part_of}
 use Rattle.flowspace.specs.declared.rules.Rule.{Rule}
 use Rattle.flowspace.specs.declared.slices.Slice.{Slice}
 use Rattle.flowspace.specs.Policies.{PolicyView, SwitchView, IsSwitchPolicy}
@@ -17,19 +19,63 @@ use Rattle.desk_words.specs.Histories.{is_slot, settings_at, items_of, Side}
 use Rattle.switch_side.specs.declared.dispatch.Dispatch.{Dispatch}
 use Rattle.switch_side.specs.Changes.{SlotChanges}
 use Rattle.switch_side.specs.Dispatches.{Surrounds, AllStand, AllNumbered, sent_from, told_at, AreChanges, IsDispatch}
-use Rattle.switch_side.specs.Carrying.{Carried, carried, Called, turning, error_turn, carried_for, message_told, message_changes}
-use Rattle.switch_side.proofs.MessageTypes.{of_one, of_good, number_none, items_at}
+use Rattle.switch_side.specs.Carrying.{Carried, carried, Called, Turn, turning, removed_turn, error_turn, barrier_turn, queues_turn, statistics_turn, turn_for, is_for_one, carried_for, message_told, message_changes}
+use Rattle.switch_side.proofs.MessageTypes.{of_one, of_good, IsForAll, packet_for_all, number_none, items_at}
 use Rattle.switch_side.proofs.Standing.{message_stands}
 use Rattle.switch_side.proofs.Told.{told_sent}
 use Rattle.switch_side.proofs.Giving.{packet_changed}
-use Rattle.switch_side.proofs.Turning.{unseen, sent_turn, changed_turn}
+use Rattle.switch_side.proofs.ReplyTurns.{barrier_within, barriers_follow, queues_within, queues_follow, statistics_within, statistics_follow}
+use Rattle.switch_side.proofs.Turning.{IsWithin, EachFollows, unseen, sent_turn, changed_turn}
 use Rattle.switch_side.proofs.Turns.{called_at, removed_within, removals_follow, error_within, errors_follow}
 
--- what follows from an error is all that follows
-pub error_carried : (called : ℕ → Called) (rules : List Rule) (known : List (List ℕ)) (states : List SliceState) (message : List ℕ) → is_of ERROR message ≡ true
-    → turning (error_turn called states (xid_of message) (well_formed (read_error message))) ≡ carried_for called rules known states message
-error_carried called rules known states message is =
-    rw (of_one ERROR ECHO_REQUEST message refl is, of_one ERROR PACKET_IN message refl is, of_one ERROR FLOW_REMOVED message refl is, of_one ERROR PORT_STATUS message refl is, is, of_good ERROR message is) refl
+-- what follows from an entry that is gone, an error or a reply is all that follows
+module _ (called : ℕ → Called) (rules : List Rule) (known : List (List ℕ)) (states : List SliceState) (message : List ℕ) where
+  pub removal_carried : is_of FLOW_REMOVED message ≡ true → turning (removed_turn called rules states (well_formed (read_flow_removed message))) ≡ carried_for called rules known states message
+  removal_carried is =
+      rw (of_one FLOW_REMOVED ECHO_REQUEST message refl is, of_one FLOW_REMOVED PACKET_IN message refl is, of_one FLOW_REMOVED PORT_STATUS message refl is, is, of_good FLOW_REMOVED message is) refl
+
+  pub error_carried : is_of ERROR message ≡ true → turning (error_turn called states (xid_of message) (well_formed (read_error message))) ≡ carried_for called rules known states message
+  error_carried is =
+      rw (of_one ERROR ECHO_REQUEST message refl is, of_one ERROR PACKET_IN message refl is, of_one ERROR FLOW_REMOVED message refl is, of_one ERROR PORT_STATUS message refl is, is, of_good ERROR message is) refl
+
+  pub barrier_carried : is_of BARRIER_REPLY message ≡ true → turning (barrier_turn called states (xid_of message) (is_bare message)) ≡ carried_for called rules known states message
+  barrier_carried is =
+      rw (
+        of_one BARRIER_REPLY ECHO_REQUEST message refl is,
+        of_one BARRIER_REPLY PACKET_IN message refl is,
+        of_one BARRIER_REPLY FLOW_REMOVED message refl is,
+        of_one BARRIER_REPLY ERROR message refl is,
+        of_one BARRIER_REPLY PORT_STATUS message refl is,
+        is,
+        of_good BARRIER_REPLY message is,
+      ) refl
+
+  pub queues_carried : is_of QUEUE_GET_CONFIG_REPLY message ≡ true → turning (queues_turn called rules states (xid_of message) (well_formed (read_queues message))) ≡ carried_for called rules known states message
+  queues_carried is =
+      rw (
+        of_one QUEUE_GET_CONFIG_REPLY ECHO_REQUEST message refl is,
+        of_one QUEUE_GET_CONFIG_REPLY PACKET_IN message refl is,
+        of_one QUEUE_GET_CONFIG_REPLY FLOW_REMOVED message refl is,
+        of_one QUEUE_GET_CONFIG_REPLY ERROR message refl is,
+        of_one QUEUE_GET_CONFIG_REPLY BARRIER_REPLY message refl is,
+        of_one QUEUE_GET_CONFIG_REPLY PORT_STATUS message refl is,
+        is,
+        of_good QUEUE_GET_CONFIG_REPLY message is,
+      ) refl
+
+  pub statistics_carried : is_of STATS_REPLY message ≡ true → turning (statistics_turn called rules states (xid_of message) (well_formed (part_of message)) message) ≡ carried_for called rules known states message
+  statistics_carried is =
+      rw (
+        of_one STATS_REPLY ECHO_REQUEST message refl is,
+        of_one STATS_REPLY PACKET_IN message refl is,
+        of_one STATS_REPLY FLOW_REMOVED message refl is,
+        of_one STATS_REPLY ERROR message refl is,
+        of_one STATS_REPLY BARRIER_REPLY message refl is,
+        of_one STATS_REPLY QUEUE_GET_CONFIG_REPLY message refl is,
+        of_one STATS_REPLY PORT_STATUS message refl is,
+        is,
+        of_good STATS_REPLY message is,
+      ) refl
 
 -- what is told and what changes, by the rules and ports that the switch has
 abbrev Follow : PolicyView → Switch → (ℕ → Side) → ℕ → List ℕ → List SliceState → Type 0
@@ -39,13 +85,13 @@ Follow p switch sides moment message states =
 
 module _ (p : PolicyView) (switch : Switch) (sides : ℕ → Side) (moment : ℕ) (message : List ℕ) (states : List SliceState)
     (opened : switch.phase ≡ Opened) (same : length states ≡ length p.slices) (stand : AllStand p switch sides states) (numbered : AllNumbered p switch sides) where
-  -- a message that tells neither of a packet, nor of an entry that is gone, nor of an error changes nothing
-  unchanged : (slot : ℕ) (is : Bool) → is_slot p slot ≡ is → is_of PACKET_IN message ≡ false → is_of FLOW_REMOVED message ≡ false → is_of ERROR message ≡ false
+  -- a message that is for all and tells of no packet changes nothing
+  unchanged : (slot : ℕ) (is : Bool) → is_slot p slot ≡ is → is_of PACKET_IN message ≡ false → IsForAll message
       → SlotChanges (settings_at p slot switch.features) None (sides slot).sight (items_of p slot switch (sides slot) (told_at moment message)) []
-  unchanged slot false none no_packet no_removal no_error = unseen p switch sides moment message slot none
-  unchanged slot true here no_packet no_removal no_error =
+  unchanged slot false none no_packet all = unseen p switch sides moment message slot none
+  unchanged slot true here no_packet all =
       subst (λ (items : List Item). SlotChanges (settings_at p slot switch.features) None (sides slot).sight items []) (sym (items_at p slot moment switch (sides slot) message opened here))
-      (λ state stands. message_stands p slot switch (sides slot) message state no_packet no_removal no_error stands)
+      (λ state stands. message_stands p slot switch (sides slot) message state no_packet all stands)
 
   by_removal : (slices : List Slice) → IsSwitchPolicy slices (rules_of p switch.features) → IfSome (well_formed (read_flow_removed message)) (λ entry. IsNormal entry.pattern) → is_of FLOW_REMOVED message ≡ true
       → Follow p switch sides moment message states
@@ -56,39 +102,65 @@ module _ (p : PolicyView) (switch : Switch) (sides : ℕ → Side) (moment : ℕ
       rw (of_one FLOW_REMOVED PACKET_IN message refl is, is)
       (sent_turn p switch sides moment message _ within follow, changed_turn p switch sides moment message _ (number_none switch.phase message (of_one FLOW_REMOVED PACKET_IN message refl is)) within follow)
 
-  by_error : is_of FLOW_REMOVED message ≡ false → is_of ERROR message ≡ true → Follow p switch sides moment message states
-  by_error no_removal is =
-      let within = error_within p switch sides states same stand (xid_of message) (well_formed (read_error message)) in
-      let follow = errors_follow p switch sides states same stand moment message opened is in
-      rw (of_one ERROR PACKET_IN message refl is, no_removal, is)
-      (sent_turn p switch sides moment message _ within follow, changed_turn p switch sides moment message _ (number_none switch.phase message (of_one ERROR PACKET_IN message refl is)) within follow)
+  -- what follows for one slice is all that follows
+  by_turn : (turn : Option Turn) → turn ≡ turn_for (called_at p switch sides) (rules_of p switch.features) states message → is_of PACKET_IN message ≡ false → is_for_one message ≡ true → IsWithin p turn
+      → EachFollows p switch sides moment message turn → Follow p switch sides moment message states
+  by_turn turn is no_packet one within follow =
+      rw (no_packet, one, ← is) (sent_turn p switch sides moment message turn within follow, changed_turn p switch sides moment message turn (number_none switch.phase message no_packet) within follow)
+
+  by_error : is_of ERROR message ≡ true → Follow p switch sides moment message states
+  by_error is =
+      by_turn _ (rw (of_one ERROR FLOW_REMOVED message refl is, is) refl) (of_one ERROR PACKET_IN message refl is) (rw (of_one ERROR FLOW_REMOVED message refl is, is) refl)
+      (error_within p switch sides states same stand (xid_of message) (well_formed (read_error message))) (errors_follow p switch sides states same stand moment message opened is)
+
+  by_barrier : is_of BARRIER_REPLY message ≡ true → Follow p switch sides moment message states
+  by_barrier is =
+      by_turn _ (rw (of_one BARRIER_REPLY FLOW_REMOVED message refl is, of_one BARRIER_REPLY ERROR message refl is, is) refl) (of_one BARRIER_REPLY PACKET_IN message refl is)
+      (rw (of_one BARRIER_REPLY FLOW_REMOVED message refl is, of_one BARRIER_REPLY ERROR message refl is, is) refl) (barrier_within p switch sides states same stand (xid_of message) (is_bare message))
+      (barriers_follow p switch sides states same stand moment message opened is)
+
+  by_queues : is_of QUEUE_GET_CONFIG_REPLY message ≡ true → Follow p switch sides moment message states
+  by_queues is =
+      let no_removal = of_one QUEUE_GET_CONFIG_REPLY FLOW_REMOVED message refl is in
+      let no_error = of_one QUEUE_GET_CONFIG_REPLY ERROR message refl is in
+      let no_barrier = of_one QUEUE_GET_CONFIG_REPLY BARRIER_REPLY message refl is in
+      by_turn _ (rw (no_removal, no_error, no_barrier, is) refl) (of_one QUEUE_GET_CONFIG_REPLY PACKET_IN message refl is) (rw (no_removal, no_error, no_barrier, is) refl)
+      (queues_within p switch sides states same stand (xid_of message) (well_formed (read_queues message))) (queues_follow p switch sides states same stand moment message opened is)
+
+  by_statistics : is_of STATS_REPLY message ≡ true → Follow p switch sides moment message states
+  by_statistics is =
+      let no_removal = of_one STATS_REPLY FLOW_REMOVED message refl is in
+      let no_error = of_one STATS_REPLY ERROR message refl is in
+      let no_barrier = of_one STATS_REPLY BARRIER_REPLY message refl is in
+      let no_queues = of_one STATS_REPLY QUEUE_GET_CONFIG_REPLY message refl is in
+      by_turn _ (rw (no_removal, no_error, no_barrier, no_queues, is) refl) (of_one STATS_REPLY PACKET_IN message refl is) (rw (no_removal, no_error, no_barrier, no_queues, is) refl)
+      (statistics_within p switch sides states same stand (xid_of message) (well_formed (part_of message)) message) (statistics_follow p switch sides states same stand moment message opened is)
 
   by_packet : is_of PACKET_IN message ≡ true → Follow p switch sides moment message states
   by_packet is =
-      let no_removal = of_one PACKET_IN FLOW_REMOVED message refl is in
-      let no_error = of_one PACKET_IN ERROR message refl is in
-      let sent = told_sent p switch sides moment message states opened same stand no_removal no_error in
+      let sent = told_sent p switch sides moment message states opened same stand (packet_for_all message is) in
       rw is (rw is at sent, packet_changed p switch sides moment message states opened same stand numbered is)
 
-  by_other : is_of PACKET_IN message ≡ false → is_of FLOW_REMOVED message ≡ false → is_of ERROR message ≡ false → Follow p switch sides moment message states
-  by_other no_packet no_removal no_error =
-      let sent = told_sent p switch sides moment message states opened same stand no_removal no_error in
-      rw (no_packet, no_removal, no_error) (
+  by_other : is_of PACKET_IN message ≡ false → IsForAll message → Follow p switch sides moment message states
+  by_other no_packet all =
+      let sent = told_sent p switch sides moment message states opened same stand all in
+      rw (no_packet, all.no_removal, all.no_error, all.no_barrier, all.no_queues, all.no_statistics) (
         rw no_packet at sent,
         λ slot.
             subst (λ (number : Option ℕ). SlotChanges (settings_at p slot switch.features) number (sides slot).sight (items_of p slot switch (sides slot) (told_at moment message)) [])
-            (sym (number_none switch.phase message no_packet)) (unchanged slot (is_slot p slot) refl no_packet no_removal no_error),
+            (sym (number_none switch.phase message no_packet)) (unchanged slot (is_slot p slot) refl no_packet all),
       )
 
-  by_neither : (packet : Bool) → is_of PACKET_IN message ≡ packet → is_of FLOW_REMOVED message ≡ false → is_of ERROR message ≡ false → Follow p switch sides moment message states
-  by_neither true is no_removal no_error = by_packet is
-  by_neither false none no_removal no_error = by_other none no_removal no_error
-
   by_kind : (slices : List Slice) → IsSwitchPolicy slices (rules_of p switch.features) → (is_of FLOW_REMOVED message ≡ true → IfSome (well_formed (read_flow_removed message)) (λ entry. IsNormal entry.pattern))
-      → (removal error : Bool) → is_of FLOW_REMOVED message ≡ removal → is_of ERROR message ≡ error → Follow p switch sides moment message states
-  by_kind slices policy normal true error is e = by_removal slices policy (normal is) is
-  by_kind slices policy normal false true isnt is = by_error isnt is
-  by_kind slices policy normal false false isnt none = by_neither (is_of PACKET_IN message) refl isnt none
+      → (packet removal error barrier queues statistics : Bool) → is_of PACKET_IN message ≡ packet → is_of FLOW_REMOVED message ≡ removal → is_of ERROR message ≡ error → is_of BARRIER_REPLY message ≡ barrier
+      → is_of QUEUE_GET_CONFIG_REPLY message ≡ queues → is_of STATS_REPLY message ≡ statistics → Follow p switch sides moment message states
+  by_kind slices policy normal true removal error barrier queues statistics a b c d e f = by_packet a
+  by_kind slices policy normal false true error barrier queues statistics a b c d e f = by_removal slices policy (normal b) b
+  by_kind slices policy normal false false true barrier queues statistics a b c d e f = by_error c
+  by_kind slices policy normal false false false true queues statistics a b c d e f = by_barrier d
+  by_kind slices policy normal false false false false true statistics a b c d e f = by_queues e
+  by_kind slices policy normal false false false false false true a b c d e f = by_statistics f
+  by_kind slices policy normal false false false false false false a b c d e f = by_other a (record { no_removal = b; no_error = c; no_barrier = d; no_queues = e; no_statistics = f })
 
 pub dispatched : (p : PolicyView) (switch : Switch) (sides : ℕ → Side) (moment : ℕ) (policy : SwitchView) (ports : List (List ℕ)) (states : List SliceState) (message : List ℕ) (d : Dispatch)
     → length states ≡ length policy.slices → IsSwitchPolicy policy.slices policy.rules → (is_of FLOW_REMOVED message ≡ true → IfSome (well_formed (read_flow_removed message)) (λ entry. IsNormal entry.pattern))
@@ -97,7 +169,8 @@ pub dispatched : (p : PolicyView) (switch : Switch) (sides : ℕ → Side) (mome
 dispatched p switch sides moment policy ports states message d same valid normal around stand numbered is =
     let here : IsSwitchPolicy policy.slices (rules_of p switch.features) = subst (λ (rules : List Rule). IsSwitchPolicy policy.slices rules) around.rules valid in
     let follow =
-    by_kind p switch sides moment message states around.opened (same ∙ ap length around.slices) stand numbered policy.slices here normal (is_of FLOW_REMOVED message) (is_of ERROR message) refl refl in
+    by_kind p switch sides moment message states around.opened (same ∙ ap length around.slices) stand numbered policy.slices here normal (is_of PACKET_IN message) (is_of FLOW_REMOVED message) (is_of ERROR message)
+    (is_of BARRIER_REPLY message) (is_of QUEUE_GET_CONFIG_REPLY message) (is_of STATS_REPLY message) refl refl refl refl refl refl in
     record {
       to_slices =
           ap (λ (c : Carried). c.messages) is

@@ -3,8 +3,13 @@ pub mod Slots
 pub mod Told
 pub mod Owning
 pub mod Standing
+pub mod Walking
+pub mod Gathering
+pub mod Parts
+pub mod Replying
 pub mod Turning
 pub mod Turns
+pub mod ReplyTurns
 pub mod Answered
 pub mod Making
 pub mod Sharing

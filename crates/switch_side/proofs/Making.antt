@@ -1,93 +1,118 @@
 -- What the changes of a message make of the slices' states.
-use Rattle.std.proofs.Common.{◌≡◌, ℕ, ◌+◌, ◌==◌, ◌≤◌, Bool, true, false, if◌then◌else◌, List, [], ◌∷◌, ◌++◌, map, set, length, slice_get, zero, suc, refl, ap, subst, sym, ◌∙◌, eqb-true, true≢false, arith, Option, Some, None, is_some}
-use Rattle.std.proofs.lemmas.Bool.{eq-eqb}
+use Rattle.std.proofs.Common.{◌≡◌, ℕ, ◌+◌, ◌==◌, ◌<◌, ◌≤◌, Bool, true, false, if◌then◌else◌, List, [], ◌∷◌, ◌++◌, map, set, length, slice_get, zero, suc, refl, ap, ap₂, subst, sym, ◌∙◌, eqb-true, true≢false, arith, Option, Some, None, is_some}
+use Rattle.std.proofs.lemmas.Bool.{eq-eqb, ne_eqb}
 use Rattle.std.proofs.lemmas.Option.{slice_get_within}
 use Rattle.std.proofs.lemmas.List.{length-set}
-use Rattle.std.specs.List.{All}
-use Rattle.std.proofs.lemmas.List.Elements.{All-head, All-tail, All-set}
 use Rattle.of10_model.specs.declared.pattern.Pattern.{Pattern}
 use Rattle.flowspace.specs.Policies.{PolicyView}
+use Rattle.of10_flow.specs.declared.flow_removed.FlowRemoved.{FlowRemoved}
+use Rattle.xid_map.specs.declared.asked.AskKind.{AskKind}
 use Rattle.xid_map.specs.declared.asked.Issued.{Issued}
-use Rattle.xid_map.specs.Requests.{RequestCall, RequestsStand, MarkError}
+use Rattle.xid_map.specs.Requests.{RequestCall, RequestsStand, MarkError, MarkDone}
+use Rattle.xid_map.specs.Collections.{CollectionCall, Finish, CollectionsStand}
+use Rattle.stats_filter.specs.Asking.{type_sent}
+use Rattle.stats_filter.specs.Keeping.{entries_in}
 use Rattle.flow_book.specs.declared.state.SliceState.{SliceState}
 use Rattle.flow_book.specs.Books.{Book, BookCall, BookStands}
 use Rattle.flow_book.specs.Books as books
-use Rattle.slice_words.specs.Items.{Settings, Sight, Item, Removed, Fault, buffered_count}
-use Rattle.slice_words.specs.Buffers.{held_packets}
-use Rattle.buffer_map.specs.Buffers.{Buffers}
-use Rattle.slice_words.specs.Calls.{error_marks, failure, request_calls, book_calls}
-use Rattle.slice_words.specs.Standing.{SliceStands, past_of, held_as}
+use Rattle.slice_words.specs.Items.{Settings, Sight, Item, Removed, Fault, Entry, Last}
+use Rattle.slice_words.specs.Statistics.{finished}
+use Rattle.slice_words.specs.Calls.{error_marks, failure, request_calls, collection_calls, book_calls}
+use Rattle.slice_words.specs.Standing.{SliceStands, past_of}
 use Rattle.desk_words.specs.Openings.{Switch}
 use Rattle.desk_words.specs.Histories.{settings_at, items_of, number_told, Side}
 use Rattle.desk_words.specs.declared.event.Event.TheVariants.{SwitchMsg}
 use Rattle.switch_side.specs.declared.change.Change.{Change}
-use Rattle.switch_side.specs.Changes.{seen_with, side_after, IsRemoval, IsFailure, IsChange, changes_for, SlotChanges, IsMade, IsMadeAt, HasRoom}
+use Rattle.switch_side.specs.Changes.{seen_with, side_after, IsRemoval, IsFailure, IsAnswer, IsMore, IsEnd, IsChange, changes_for, SlotChanges, IsMade, IsMadeAt, HasRoom, HasRoomAt, HaveRoom, StandOn}
+use Rattle.switch_side.specs.Collecting.{entry_calls, calls_with}
 use Rattle.switch_side.specs.Dispatches.{AllStand, AreChanges, told_at}
+use Rattle.switch_side.proofs.Gathering.{calls_by, entries_finished}
+use Rattle.switch_side.proofs.Replying.{with_entries, entries_rest, entries_requests, entries_book, entries_open, entries_then, type_collected, ended, ended_rest, ended_requests, ended_collections, reply_rest, reply_requests, reply_collections, reply_book}
+use Rattle.switch_side.proofs.Standing.{SameRest, Differs, stands_on}
 use Rattle.switch_side.proofs.Told.{has_item}
 
 -- ---- one change
 
--- a state of which only the requests and the book may be others
-pub record Differs (old new : SliceState) : Type 0 where
-  pub collections : new.collections ≡ old.collections
-  pub buffers : new.buffers ≡ old.buffers
-  pub bucket : new.bucket ≡ old.bucket
-  pub up : new.up ≡ old.up
-  pub miss_send_len : new.miss_send_len ≡ old.miss_send_len
-  pub moment : new.moment ≡ old.moment
+rest_removed : (s : Settings) (view : List Item) (entry : FlowRemoved) → SameRest s view (Removed entry ∷ view)
+rest_removed s view entry = record { up = refl; miss_send_len = refl; moment = refl; asked = refl; given = refl; held = refl }
+
+rest_fault : (s : Settings) (view : List Item) (x class code : ℕ) (pair : Option (Pattern × ℕ)) → SameRest s view (Fault x class code pair ∷ view)
+rest_fault s view x class code pair = record { up = refl; miss_send_len = refl; moment = refl; asked = refl; given = refl; held = refl }
 
 module _ (s : Settings) (sight : Sight) (old new : SliceState) (stands : SliceStands s sight old) (differs : Differs old new) where
-  abbrev given_same : new.buffers.given ≡ buffered_count sight.view
-  given_same = ap (λ (b : Buffers). b.given) differs.buffers ∙ stands.given
-
-  abbrev held_same : new.buffers.held ≡ map (held_as sight.came) (held_packets (past_of s sight.view))
-  held_same = ap (λ (b : Buffers). b.held) differs.buffers ∙ stands.held
-
   -- without a packet that has a number
   unnumbered : (number : Option ℕ) (items shown : List Item) → number ≡ None → items ≡ shown → SliceStands s (seen_with None shown sight) new → SliceStands s (seen_with number items sight) new
   unnumbered number items shown none is stood =
       subst (λ (n : Option ℕ). SliceStands s (seen_with n items sight) new) (sym none) (subst (λ (all : List Item). SliceStands s (seen_with None all sight) new) (sym is) stood)
 
-  pub removal_stands : (number : Option ℕ) (pattern : Pattern) (priority : ℕ) (items : List Item) → (number ≡ None) × IsRemoval items pattern priority → new.xids ≡ old.xids
+  pub removal_stands : (number : Option ℕ) (pattern : Pattern) (priority : ℕ) (items : List Item) → (number ≡ None) × IsRemoval items pattern priority → new.xids ≡ old.xids → new.collections ≡ old.collections
       → ((calls : List BookCall) → BookStands calls old.book → BookStands (books.Removed pattern priority ∷ calls) new.book) → SliceStands s (seen_with number items sight) new
-  removal_stands number pattern priority items (none, is) xids book =
-      unnumbered number items (Removed is.entry ∷ []) none is.shown (record {
-        up = differs.up ∙ stands.up;
-        miss_send_len = differs.miss_send_len ∙ stands.miss_send_len;
-        moment = differs.moment ∙ stands.moment;
-        requests = rw xids stands.requests;
-        collections = rw differs.collections stands.collections;
-        given = given_same;
-        held = held_same;
-        bucket = rw differs.bucket stands.bucket;
-        book = rw (is.same_pattern, is.same_priority) (book (book_calls s (past_of s sight.view)) stands.book);
-        rate = rw differs.bucket stands.rate;
-        burst = rw differs.bucket stands.burst;
-      })
+  removal_stands number pattern priority items (none, is) xids collections book =
+      unnumbered number items (Removed is.entry ∷ []) none is.shown
+      (stands_on s sight (Removed is.entry ∷ sight.view) old new (rest_removed s sight.view is.entry) differs stands (rw xids stands.requests) (rw collections stands.collections)
+      (rw (is.same_pattern, is.same_priority) (book (book_calls s (past_of s sight.view)) stands.book)))
 
   pub failure_stands : (number : Option ℕ) (request : ℕ) (pair : Option (Pattern × ℕ)) (items : List Item) → (number ≡ None) × IsFailure s sight items request pair
       → ((slot : ℕ) (calls : List RequestCall) → RequestsStand slot calls old.xids → RequestsStand slot (MarkError request ∷ calls) new.xids)
+      → ((calls : List CollectionCall) → CollectionsStand calls old.collections → CollectionsStand (Finish request ∷ calls) new.collections)
       → ((issued : Issued) → issued.number ≡ request → (calls : List BookCall) → BookStands calls old.book → BookStands (failure (Some issued) pair ++ calls) new.book)
       → SliceStands s (seen_with number items sight) new
-  failure_stands number request pair items (none, is) xids book =
-      unnumbered number items (Fault is.x is.class is.code pair ∷ []) none is.shown (record {
-        up = differs.up ∙ stands.up;
-        miss_send_len = differs.miss_send_len ∙ stands.miss_send_len;
-        moment = differs.moment ∙ stands.moment;
-        requests =
-            subst (λ (marks : List RequestCall). RequestsStand s.slot (marks ++ request_calls s (past_of s sight.view)) new.xids)
-            (ap (λ (n : ℕ). MarkError n ∷ []) (sym is.same_number) ∙ sym (ap error_marks is.found))
-            (xids s.slot (request_calls s (past_of s sight.view)) stands.requests);
-        collections = rw differs.collections stands.collections;
-        given = given_same;
-        held = held_same;
-        bucket = rw differs.bucket stands.bucket;
-        book =
-            subst (λ (calls : List BookCall). BookStands (calls ++ book_calls s (past_of s sight.view)) new.book) (sym (ap (λ (found : Option Issued). failure found pair) is.found))
-            (book is.request is.same_number (book_calls s (past_of s sight.view)) stands.book);
-        rate = rw differs.bucket stands.rate;
-        burst = rw differs.bucket stands.burst;
-      })
+  failure_stands number request pair items (none, is) xids collections book =
+      unnumbered number items (Fault is.x is.class is.code pair ∷ []) none is.shown
+      (stands_on s sight (Fault is.x is.class is.code pair ∷ sight.view) old new (rest_fault s sight.view is.x is.class is.code pair) differs stands
+      (subst (λ (marks : List RequestCall). RequestsStand s.slot (marks ++ request_calls s (past_of s sight.view)) new.xids)
+      (ap (λ (n : ℕ). MarkError n ∷ []) (sym is.same_number) ∙ sym (ap error_marks is.found))
+      (xids s.slot (request_calls s (past_of s sight.view)) stands.requests))
+      (subst (λ (calls : List CollectionCall). CollectionsStand (calls ++ collection_calls s (past_of s sight.view)) new.collections)
+      (ap (λ (n : ℕ). Finish n ∷ []) (sym is.same_number) ∙ sym (ap finished is.found))
+      (collections (collection_calls s (past_of s sight.view)) stands.collections))
+      (subst (λ (calls : List BookCall). BookStands (calls ++ book_calls s (past_of s sight.view)) new.book) (sym (ap (λ (found : Option Issued). failure found pair) is.found))
+      (book is.request is.same_number (book_calls s (past_of s sight.view)) stands.book)))
+
+  pub answer_stands : (number : Option ℕ) (request : ℕ) (items : List Item) → (number ≡ None) × IsAnswer s sight items request → new.collections ≡ old.collections → new.book ≡ old.book
+      → ((slot : ℕ) (calls : List RequestCall) → RequestsStand slot calls old.xids → RequestsStand slot (MarkDone request ∷ calls) new.xids) → SliceStands s (seen_with number items sight) new
+  answer_stands number request items (none, is) collections book xids =
+      unnumbered number items (is.item ∷ []) none is.shown
+      (stands_on s sight (is.item ∷ sight.view) old new (reply_rest s is.x sight.view is.item is.reply) differs stands
+      (subst (λ (calls : List RequestCall). RequestsStand s.slot calls new.xids)
+      (ap (λ (n : ℕ). MarkDone n ∷ request_calls s (past_of s sight.view)) (sym is.same_number) ∙ sym (reply_requests s is.x sight.view is.item is.request is.reply is.found is.told))
+      (xids s.slot (request_calls s (past_of s sight.view)) stands.requests))
+      (rw (reply_collections s is.x sight.view is.item is.reply, collections) stands.collections) (rw (reply_book s is.x sight.view is.item is.reply, book) stands.book))
+
+  pub more_stands : (number : Option ℕ) (request : ℕ) (kind : AskKind) (entries : List ℕ) (items : List Item) → (number ≡ None) × IsMore s sight items request kind entries → new.xids ≡ old.xids → new.book ≡ old.book
+      → ((calls : List CollectionCall) → CollectionsStand calls old.collections → CollectionsStand (calls_with kind request entries calls) new.collections) → SliceStands s (seen_with number items sight) new
+  more_stands number request kind entries items (none, is) xids book collections =
+      let gathering = is.gathering in
+      let calls = collection_calls s (past_of s sight.view) in
+      let listed = entries_in is.sent entries in
+      let after = with_entries s is.x is.sent listed sight.view in
+      let sent : type_sent kind ≡ Some is.sent = ap type_sent (sym is.same_kind) ∙ type_collected gathering.request is.sent calls gathering.collecting in
+      unnumbered number items (map (Entry is.x is.sent) listed) none is.shown
+      (stands_on s sight after old new (entries_rest s is.x is.sent listed sight.view) differs stands (rw (entries_requests s is.x is.sent listed sight.view, xids) stands.requests)
+      (subst (λ (now : List CollectionCall). CollectionsStand now new.collections)
+      (calls_by kind request is.sent entries calls sent ∙ ap₂ (λ (k : AskKind) (n : ℕ). entry_calls k n listed calls) (sym is.same_kind) (sym gathering.same_number)
+      ∙ sym (entries_open s is.x is.sent gathering.request listed sight.view gathering.found gathering.collecting))
+      (collections calls stands.collections))
+      (rw (entries_book s is.x is.sent listed sight.view, book) stands.book))
+
+  pub finish_stands : (number : Option ℕ) (request : ℕ) (items : List Item) → (number ≡ None) × IsEnd s sight items request → new.book ≡ old.book
+      → ((slot : ℕ) (calls : List RequestCall) → RequestsStand slot calls old.xids → RequestsStand slot (MarkDone request ∷ calls) new.xids)
+      → ((calls : List CollectionCall) → CollectionsStand calls old.collections → CollectionsStand (Finish request ∷ calls) new.collections) → SliceStands s (seen_with number items sight) new
+  finish_stands number request items (none, is) book xids collections =
+      let gathering = is.gathering in
+      let own = gathering.request in
+      let calls = collection_calls s (past_of s sight.view) in
+      let after = ended s is.x is.sent is.entries sight.view in
+      unnumbered number items (map (Entry is.x is.sent) is.entries ++ Last is.x is.sent ∷ []) none is.shown
+      (subst (λ (view : List Item). SliceStands s (record { view = view; came = sight.came }) new) (sym (entries_then s is.x is.sent is.entries sight.view (Last is.x is.sent ∷ [])))
+      (stands_on s sight after old new (ended_rest s is.x is.sent is.entries sight.view) differs stands
+      (subst (λ (now : List RequestCall). RequestsStand s.slot now new.xids)
+      (ap (λ (n : ℕ). MarkDone n ∷ request_calls s (past_of s sight.view)) (sym gathering.same_number) ∙ sym (ended_requests s is.x is.sent own is.entries sight.view gathering.found gathering.collecting))
+      (xids s.slot (request_calls s (past_of s sight.view)) stands.requests))
+      (subst (λ (now : List CollectionCall). CollectionsStand now new.collections) (sym (ended_collections s is.x is.sent own is.entries sight.view gathering.found gathering.collecting))
+      (entries_finished own.asked.kind own.number is.entries calls new.collections
+      (subst (λ (n : ℕ). CollectionsStand (Finish n ∷ calls) new.collections) (sym gathering.same_number) (collections calls stands.collections))))
+      (rw (entries_book s is.x is.sent is.entries sight.view, book) stands.book)))
 
 -- the pair of an error leaves the book, if it carries one
 pub released_book : (request : Issued) (number : ℕ) (pattern : Pattern) (priority : ℕ) (pair : Option (Pattern × ℕ)) (calls : List BookCall) (new : Book) → pair ≡ Some (pattern, priority) → request.number ≡ number
@@ -195,18 +220,116 @@ none_made states slot change past = record {
 
 -- ---- room
 
-pub less_room : (count : ℕ) (states : List SliceState) → All (HasRoom (count + 1)) states → All (HasRoom count) states
-less_room count states all = λ k d within. (let room = all k d within in omega (arith, room))
+-- the first change has room at its slot
+pub first_room : (slot : ℕ) (change : Change) (later : List (ℕ × Change)) (states : List SliceState) → HaveRoom ((slot, change) ∷ later) states → HasRoomAt slot change states
+first_room slot change later states room = room.rooms 0 (slot, change) refl
 
-pub one_room : (count : ℕ) (states : List SliceState) → All (HasRoom (count + 1)) states → All (HasRoom 1) states
-one_room count states all = λ k d within. (let room = all k d within in omega (arith, room))
+-- and once it is made the others have
+pub later_room : (slot : ℕ) (change : Change) (later : List (ℕ × Change)) (old new : List SliceState) → HaveRoom ((slot, change) ∷ later) old → IsMadeAt slot change old new → HaveRoom later new
+later_room slot change later old new room made = record {
+  apart = λ i j one other less at_one at_other. room.apart (suc i) (suc j) one other (omega arith) at_one at_other;
+  rooms = λ i one at state there.
+      let behind = room.apart 0 (suc i) (slot, change) one (omega arith) refl at in
+      room.rooms (suc i) one at state (sym (made.others one.0 (ne_eqb slot one.0 (λ same. absurd (omega (arith, behind, same))))) ∙ there);
+}
 
-at_slot : (P : SliceState → Type 0) (states : List SliceState) (slot : ℕ) (state : SliceState) → All P states → slice_get states slot ≡ Some state → P state
-at_slot P [] slot state all there = absurd (true≢false (sym (ap is_some there)))
-at_slot P (first ∷ states) zero state all there = subst P (same_some first state there) (All-head P first states all)
-at_slot P (first ∷ states) (suc slot) state all there = at_slot P states slot state (All-tail P first states all) there
+pub none_room : (states : List SliceState) → HaveRoom [] states
+none_room states = record {
+  apart = λ i j one other less at_one at_other. absurd (true≢false (sym (ap is_some at_one)));
+  rooms = λ i one at. absurd (true≢false (sym (ap is_some at)));
+}
 
-pub room_set : (count slot : ℕ) (states : List SliceState) (old new : SliceState) → slice_get states slot ≡ Some old → (HasRoom (count + 1) old → HasRoom count new)
-    → All (HasRoom (count + 1)) states → All (HasRoom count) (set states slot new)
-room_set count slot states old new there made all =
-    All-set (HasRoom count) states slot new (made (at_slot (HasRoom (count + 1)) states slot old all there)) (less_room count states all)
+-- ---- room that is made
+
+pub past_room : (place : ℕ) (change : Change) (states : List SliceState) → length states ≤ place → HasRoomAt place change states
+past_room place change states past state there = absurd (omega (arith, slice_get_within states place state there, past))
+
+pub set_room : (place : ℕ) (change : Change) (states : List SliceState) (old new : SliceState) → slice_get states place ≡ Some old → HasRoom change new → HasRoomAt place change (set states place new)
+set_room place change states old new there room state is = subst (HasRoom change) (same_some new state (sym (get_own states place old new there) ∙ is)) room
+
+pub set_others : (place : ℕ) (states : List SliceState) (new : SliceState) (other : ℕ) → (place == other) ≡ false → slice_get (set states place new) other ≡ slice_get states other
+set_others place states new other isnt = get_other states place other new (λ same. true≢false (sym (eq-eqb place other same) ∙ isnt))
+
+pub set_stands : (place : ℕ) (states : List SliceState) (old new : SliceState) → slice_get states place ≡ Some old → ((s : Settings) (sight : Sight) → SliceStands s sight old → SliceStands s sight new) → StandOn states (set states place new)
+set_stands place states old new there stands = record {
+  count = length-set states place new;
+  each = λ slot before after was is s sight stood. by_place slot before after was is s sight stood (place == slot) refl;
+}
+  where
+    by_place : (slot : ℕ) (before after : SliceState) → slice_get states slot ≡ Some before → slice_get (set states place new) slot ≡ Some after → (s : Settings) (sight : Sight) → SliceStands s sight before
+        → (here : Bool) → (place == slot) ≡ here → SliceStands s sight after
+    by_place slot before after was is s sight stood true here =
+        let same = eqb-true place slot here in
+        let old_is : before ≡ old = same_some before old (sym was ∙ subst (λ (k : ℕ). slice_get states k ≡ Some old) same there) in
+        let new_is : new ≡ after = same_some new after (sym (get_own states place old new there) ∙ subst (λ (k : ℕ). slice_get (set states place new) k ≡ Some after) (sym same) is) in
+        subst (SliceStands s sight) new_is (stands s sight (subst (SliceStands s sight) old_is stood))
+    by_place slot before after was is s sight stood false isnt =
+        subst (SliceStands s sight) (same_some before after (sym was ∙ sym (set_others place states new slot isnt) ∙ is)) stood
+
+pub none_stand : (states : List SliceState) → StandOn states states
+none_stand states = record { count = refl; each = λ slot before after was is s sight stood. subst (SliceStands s sight) (same_some before after (sym was ∙ is)) stood }
+
+pub stand_then : (old mid new : List SliceState) → StandOn old mid → StandOn mid new → StandOn old new
+stand_then old mid new one other = record {
+  count = other.count ∙ one.count;
+  each = λ slot before after was is s sight stood.
+      let under = slice_get_within new slot after is in
+      let between = has_item mid slot (omega (arith, under, other.count)) in
+      other.each slot between.0 after between.1 is s sight (one.each slot before between.0 was between.1 s sight stood);
+}
+
+-- while room is made for changes one after another: so many have room, and their slots ascend and are below the next
+pub record MakesRoom (listed : List (ℕ × Change)) (count next : ℕ) (old states : List SliceState) : Type 0 where
+  pub stands : StandOn old states
+  pub apart : (i j : ℕ) (one other : ℕ × Change) → i < j → j < count → slice_get listed i ≡ Some one → slice_get listed j ≡ Some other → one.0 < other.0
+  pub rooms : (i : ℕ) (one : ℕ × Change) → i < count → slice_get listed i ≡ Some one → HasRoomAt one.0 one.1 states
+  pub below : (i : ℕ) (one : ℕ × Change) → i < count → slice_get listed i ≡ Some one → one.0 < next
+
+pub room_first : (listed : List (ℕ × Change)) (states : List SliceState) → MakesRoom listed 0 0 states states
+room_first listed states = record {
+  stands = none_stand states;
+  apart = λ i j one other less under at_one at_other. absurd (omega (arith, under));
+  rooms = λ i one under at. absurd (omega (arith, under));
+  below = λ i one under at. absurd (omega (arith, under));
+}
+
+nearer : (a b : ℕ) → a < b + 1 → (a ≡ b → ⊥) → a < b
+nearer a b less far = omega (arith, less, far)
+
+module _ (listed : List (ℕ × Change)) (count next : ℕ) (old mid new : List SliceState) (slot : ℕ) (change : Change) (made : MakesRoom listed count next old mid)
+    (here : slice_get listed count ≡ Some (slot, change)) (above : next ≤ slot) (stand : StandOn mid new) where
+  pub room_more : HasRoomAt slot change new → ((other : ℕ) → (slot == other) ≡ false → slice_get new other ≡ slice_get mid other) → MakesRoom listed (count + 1) (slot + 1) old new
+  room_more room others = record {
+    stands = stand_then old mid new made.stands stand;
+    apart = λ i j one other less under at_one at_other. apart_by i j one other less under at_one at_other (j == count) refl;
+    rooms = λ i one under at. rooms_by i one under at (i == count) refl;
+    below = λ i one under at. below_by i one under at (i == count) refl;
+  }
+    where
+      last : (i : ℕ) (one : ℕ × Change) → slice_get listed i ≡ Some one → (i == count) ≡ true → (slot, change) ≡ one
+      last i one at is = same_some (slot, change) one (sym here ∙ subst (λ (k : ℕ). slice_get listed k ≡ Some one) (eqb-true i count is) at)
+
+      before : (i : ℕ) → i < count + 1 → (i == count) ≡ false → i < count
+      before i under isnt = nearer i count under (λ same. true≢false (sym (eq-eqb i count same) ∙ isnt))
+
+      below_by : (i : ℕ) (one : ℕ × Change) → i < count + 1 → slice_get listed i ≡ Some one → (is : Bool) → (i == count) ≡ is → one.0 < slot + 1
+      below_by i one under at true is = subst (λ (pair : ℕ × Change). pair.0 < slot + 1) (last i one at is) (omega arith)
+      below_by i one under at false isnt = (let low = made.below i one (before i under isnt) at in omega (arith, low, above))
+
+      apart_by : (i j : ℕ) (one other : ℕ × Change) → i < j → j < count + 1 → slice_get listed i ≡ Some one → slice_get listed j ≡ Some other → (is : Bool) → (j == count) ≡ is → one.0 < other.0
+      apart_by i j one other less under at_one at_other true is =
+          let low = made.below i one (let at = eqb-true j count is in omega (arith, less, at)) at_one in
+          subst (λ (pair : ℕ × Change). one.0 < pair.0) (last j other at_other is) (omega (arith, low, above))
+      apart_by i j one other less under at_one at_other false isnt = made.apart i j one other less (before j under isnt) at_one at_other
+
+      rooms_by : (i : ℕ) (one : ℕ × Change) → i < count + 1 → slice_get listed i ≡ Some one → (is : Bool) → (i == count) ≡ is → HasRoomAt one.0 one.1 new
+      rooms_by i one under at true is = subst (λ (pair : ℕ × Change). HasRoomAt pair.0 pair.1 new) (last i one at is) room
+      rooms_by i one under at false isnt =
+          let low = made.below i one (before i under isnt) at in
+          λ state there. made.rooms i one (before i under isnt) at state (sym (others one.0 (ne_eqb slot one.0 (λ same. absurd (omega (arith, low, above, same))))) ∙ there)
+
+pub room_all : (listed : List (ℕ × Change)) (count next : ℕ) (old states : List SliceState) → MakesRoom listed count next old states → length listed ≤ count → HaveRoom listed states
+room_all listed count next old states made done = record {
+  apart = λ i j one other less at_one at_other. made.apart i j one other less (let under = slice_get_within listed j other at_other in omega (arith, under, done)) at_one at_other;
+  rooms = λ i one at. made.rooms i one (let under = slice_get_within listed i one at in omega (arith, under, done)) at;
+}

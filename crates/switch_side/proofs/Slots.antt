@@ -1,7 +1,7 @@
 -- What one slice is sent for a message of the switch, by whether the slice is up.
 use Rattle.std.proofs.Common.{◌≡◌, ℕ, ◌==◌, ◌&&◌, Bool, true, false, if◌then◌else◌, List, [], ◌∷◌, ◌++◌, map, length, refl, ap, ap₂, sym, ◌∙◌, Option, Some, None, is_some, unwrap_or, option_map, option_and_then}
 use Rattle.of10_model.specs.Normal.{is_value, bit}
-use Rattle.of10_ctl.specs.declared.kind.TheConstants.{ERROR, PACKET_IN, FLOW_REMOVED, PORT_STATUS}
+use Rattle.of10_ctl.specs.declared.kind.TheConstants.{PACKET_IN, PORT_STATUS}
 use Rattle.of10_ctl.specs.Frames.{is_bad}
 use Rattle.of10_ctl.specs.Kinds.{is_of}
 use Rattle.of10_flow.specs.declared.protocol.TheConstants.{NO_BUFFER}
@@ -29,7 +29,7 @@ use Rattle.switch_side.specs.declared.audience.Audience.TheVariants.{Prober}
 use Rattle.switch_side.specs.Audiences.{named_by, audience_of}
 use Rattle.switch_side.specs.Dispatches.{told_at}
 use Rattle.switch_side.specs.Carrying.{unnumbered, unmarked, written_as, once, named_told, told_up, packet_for, status_for}
-use Rattle.switch_side.proofs.MessageTypes.{bad_is_none, items_at}
+use Rattle.switch_side.proofs.MessageTypes.{bad_is_none, IsForAll, items_at}
 
 -- ---- packets
 
@@ -156,21 +156,21 @@ by_length s count rules known message slot view items state true is sent =
     end_sent s view (is_up view) refl ∙ sym (say_of_none count rules known message slot state (bad_is_none PACKET_IN message is) (bad_is_none PORT_STATUS message is))
 by_length s count rules known message slot view items state false is sent = sent
 
-message_sent : (p : PolicyView) (slot : ℕ) (switch : Switch) (side : Side) (message : List ℕ) (state : SliceState) → is_of FLOW_REMOVED message ≡ false → is_of ERROR message ≡ false
+message_sent : (p : PolicyView) (slot : ℕ) (switch : Switch) (side : Side) (message : List ℕ) (state : SliceState) → IsForAll message
     → SliceStands (settings_at p slot switch.features) side.sight state
     → ((port : ℕ) → is_own_port (settings_at p slot switch.features) port ≡ has_port (rules_of p switch.features) slot port)
     → sent_for (settings_at p slot switch.features) side.sight.view (message_items p slot switch side message) ≡ say (length p.slices) (rules_of p switch.features) switch.known message slot state
 unfolding message_items
-message_sent p slot switch side message state no_removal no_error stands own =
+message_sent p slot switch side message state all stands own =
     by_length (settings_at p slot switch.features) (length p.slices) (rules_of p switch.features) switch.known message slot side.sight.view _ state (is_bad message) refl
-    (rw (no_removal, no_error)
+    (rw (all.no_removal, all.no_error, all.no_barrier, all.no_queues, all.no_statistics)
     (by_kind (settings_at p slot switch.features) p (rules_of p switch.features) switch.known slot side state (is_of PACKET_IN message) (well_formed (read_packet_in message)) (status_told message) stands own))
 
 -- a slice of the policy is sent what is said to it
 pub slot_sent : (p : PolicyView) (slot moment : ℕ) (switch : Switch) (side : Side) (message : List ℕ) (state : SliceState)
-    → switch.phase ≡ Opened → is_slot p slot ≡ true → is_of FLOW_REMOVED message ≡ false → is_of ERROR message ≡ false → SliceStands (settings_at p slot switch.features) side.sight state
+    → switch.phase ≡ Opened → is_slot p slot ≡ true → IsForAll message → SliceStands (settings_at p slot switch.features) side.sight state
     → ((port : ℕ) → is_own_port (settings_at p slot switch.features) port ≡ has_port (rules_of p switch.features) slot port)
     → sent_with p slot switch side (told_at moment message) ≡ say (length p.slices) (rules_of p switch.features) switch.known message slot state
-slot_sent p slot moment switch side message state opened here no_removal no_error stands own =
+slot_sent p slot moment switch side message state opened here all stands own =
     ap (sent_for (settings_at p slot switch.features) side.sight.view) (items_at p slot moment switch side message opened here)
-    ∙ message_sent p slot switch side message state no_removal no_error stands own
+    ∙ message_sent p slot switch side message state all stands own

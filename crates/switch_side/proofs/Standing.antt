@@ -3,7 +3,7 @@ use Rattle.std.proofs.Common.{◌≡◌, ℕ, ◌&&◌, Bool, false, if◌then�
 use Rattle.std.specs.List.{list_any}
 use Rattle.std.proofs.lemmas.Bool.{cond_both, or_parts}
 use Rattle.of10_model.specs.declared.pattern.Pattern.{Pattern}
-use Rattle.of10_ctl.specs.declared.kind.TheConstants.{ERROR, PACKET_IN, FLOW_REMOVED}
+use Rattle.of10_ctl.specs.declared.kind.TheConstants.{PACKET_IN}
 use Rattle.of10_ctl.specs.Frames.{is_bad}
 use Rattle.of10_ctl.specs.Kinds.{is_of}
 use Rattle.of10_flow.specs.declared.packet_in.PacketIn.{PacketIn}
@@ -12,15 +12,21 @@ use Rattle.of10_port.specs.Ports.{port_number}
 use Rattle.flowspace.specs.Policies.{PolicyView}
 use Rattle.port_view.specs.KnownPorts.{is_kept}
 use Rattle.xid_map.specs.declared.asked.Issued.{Issued}
+use Rattle.xid_map.specs.Requests.{RequestsStand}
+use Rattle.xid_map.specs.Collections.{CollectionsStand}
+use Rattle.buffer_map.specs.Buffers.{Buffers}
+use Rattle.flow_book.specs.Books.{BookStands}
 use Rattle.flow_book.specs.declared.state.SliceState.{SliceState}
 use Rattle.slice_words.specs.Items.{Settings, is_own_port, Share, Item, Lost, Status, Fault, End, Sight, is_up, miss_send_len, latest, is_buffered, buffered_count}
 use Rattle.slice_words.specs.Alone.{with_items}
 use Rattle.slice_words.specs.Buffers.{held_packets}
+use Rattle.slice_words.specs.Statistics.{finished}
 use Rattle.slice_words.specs.Calls.{request_for, error_marks, failure, request_calls, collection_calls, questions, book_calls}
 use Rattle.slice_words.specs.Standing.{SliceStands, past_of, held_as}
 use Rattle.desk_words.specs.Openings.{status_told, Switch}
 use Rattle.desk_words.specs.Histories.{settings_at, handed, status_items, message_items, Side}
 use Rattle.switch_side.specs.Changes.{seen_with}
+use Rattle.switch_side.proofs.MessageTypes.{IsForAll}
 
 -- ---- what a state keeps
 
@@ -30,7 +36,7 @@ pub record SameParts (s : Settings) (before after : List Item) : Type 0 where
   pub miss_send_len : miss_send_len after ≡ miss_send_len before
   pub moment : latest after ≡ latest before
   pub requests : request_calls s (past_of s after) ≡ request_calls s (past_of s before)
-  pub collections : collection_calls (past_of s after) ≡ collection_calls (past_of s before)
+  pub collections : collection_calls s (past_of s after) ≡ collection_calls s (past_of s before)
   pub asked : questions (past_of s after) ≡ questions (past_of s before)
   pub book : book_calls s (past_of s after) ≡ book_calls s (past_of s before)
 
@@ -69,6 +75,43 @@ passing : (s : Settings) (before after : Sight) (state : SliceState) → SamePar
     → map (held_as after.came) (held_packets (past_of s after.view)) ≡ map (held_as before.came) (held_packets (past_of s before.view)) → SliceStands s before state → SliceStands s after state
 passing s before after state parts given held stands = stands_again s before after state state parts (same_state state) stands (stands.given ∙ sym given) (stands.held ∙ sym held)
 
+-- ---- requests, collections and the book
+
+-- what a state keeps beside these is the same of both views
+pub record SameRest (s : Settings) (before after : List Item) : Type 0 where
+  pub up : is_up after ≡ is_up before
+  pub miss_send_len : miss_send_len after ≡ miss_send_len before
+  pub moment : latest after ≡ latest before
+  pub asked : questions (past_of s after) ≡ questions (past_of s before)
+  pub given : buffered_count after ≡ buffered_count before
+  pub held : held_packets (past_of s after) ≡ held_packets (past_of s before)
+
+-- a state of which only these may be others
+pub record Differs (old new : SliceState) : Type 0 where
+  pub buffers : new.buffers ≡ old.buffers
+  pub bucket : new.bucket ≡ old.bucket
+  pub up : new.up ≡ old.up
+  pub miss_send_len : new.miss_send_len ≡ old.miss_send_len
+  pub moment : new.moment ≡ old.moment
+
+-- such a state belongs to the later view where these do
+pub stands_on : (s : Settings) (sight : Sight) (after : List Item) (old new : SliceState) → SameRest s sight.view after → Differs old new → SliceStands s sight old
+    → RequestsStand s.slot (request_calls s (past_of s after)) new.xids → CollectionsStand (collection_calls s (past_of s after)) new.collections → BookStands (book_calls s (past_of s after)) new.book
+    → SliceStands s (record { view = after; came = sight.came }) new
+stands_on s sight after old new rest differs stands requests collections book = record {
+  up = differs.up ∙ stands.up ∙ sym rest.up;
+  miss_send_len = differs.miss_send_len ∙ stands.miss_send_len ∙ sym rest.miss_send_len;
+  moment = differs.moment ∙ stands.moment ∙ sym rest.moment;
+  requests = requests;
+  collections = collections;
+  given = ap (λ (b : Buffers). b.given) differs.buffers ∙ stands.given ∙ sym rest.given;
+  held = ap (λ (b : Buffers). b.held) differs.buffers ∙ stands.held ∙ ap (map (held_as sight.came)) (sym rest.held);
+  bucket = rw (rest.asked, differs.bucket) stands.bucket;
+  book = book;
+  rate = rw differs.bucket stands.rate;
+  burst = rw differs.bucket stands.burst;
+}
+
 -- ---- one item
 
 pub same_none : (s : Settings) (view : List Item) → SameParts s view view
@@ -92,7 +135,7 @@ same_fault s view x class code pair none = record {
   miss_send_len = refl;
   moment = refl;
   requests = ap (λ (found : Option Issued). error_marks found ++ request_calls s (past_of s view)) none;
-  collections = refl;
+  collections = ap (λ (found : Option Issued). finished found ++ collection_calls s (past_of s view)) none;
   asked = refl;
   book = ap (λ (found : Option Issued). failure found pair ++ book_calls s (past_of s view)) none;
 }
@@ -135,12 +178,12 @@ port_stands s sight state known None stands = stands
 port_stands s sight state known (Some status) stands =
     either s sight state (is_kept status known && is_own_port s (port_number status.port)) (Status status ∷ []) [] (status_stands s sight state status stands) stands
 
--- a message that tells neither of a packet, nor of an entry that is gone, nor of an error
-pub message_stands : (p : PolicyView) (slot : ℕ) (switch : Switch) (side : Side) (message : List ℕ) (state : SliceState) → is_of PACKET_IN message ≡ false → is_of FLOW_REMOVED message ≡ false → is_of ERROR message ≡ false
+-- a message that tells of no packet, and is of no type that is for one slice
+pub message_stands : (p : PolicyView) (slot : ℕ) (switch : Switch) (side : Side) (message : List ℕ) (state : SliceState) → is_of PACKET_IN message ≡ false → IsForAll message
     → SliceStands (settings_at p slot switch.features) side.sight state
     → SliceStands (settings_at p slot switch.features) (seen_with None (message_items p slot switch side message) side.sight) state
 unfolding message_items
-message_stands p slot switch side message state no_packet no_removal no_error stands =
+message_stands p slot switch side message state no_packet all stands =
     let s = settings_at p slot switch.features in
     either s side.sight state (is_bad message) (End ∷ []) _ (end_stands s side.sight state stands)
-    (rw (no_packet, no_removal, no_error) (port_stands s side.sight state switch.known (status_told message) stands))
+    (rw (no_packet, all.no_removal, all.no_error, all.no_barrier, all.no_queues, all.no_statistics) (port_stands s side.sight state switch.known (status_told message) stands))

@@ -2,7 +2,7 @@
 use Rattle.std.proofs.Common.{◌≡◌, ℕ, zero, suc, ◌+◌, ◌<◌, Bool, true, false, if◌then◌else◌, List, [], ◌∷◌, ◌++◌, length, slice_get, refl, ap, ap₂, subst, sym, ◌∙◌, arith, Option, Some, None}
 use Rattle.std.proofs.lemmas.Option.{slice_get_within}
 use Rattle.std.proofs.lemmas.Bool.{lt-ltb}
-use Rattle.of10_ctl.specs.declared.kind.TheConstants.{ERROR, PACKET_IN, FLOW_REMOVED}
+use Rattle.of10_ctl.specs.declared.kind.TheConstants.{PACKET_IN}
 use Rattle.of10_flow.specs.declared.packet_in.PacketIn.{PacketIn}
 use Rattle.of10_flow.specs.PacketIns.{read_packet_in}
 use Rattle.of10_port.specs.declared.status.PortStatus.{PortStatus}
@@ -22,6 +22,7 @@ use Rattle.desk_words.specs.Sent.{sent_with}
 use Rattle.switch_side.specs.Dispatches.{addressed, sent_from, told_at, AllStand}
 use Rattle.switch_side.specs.Audiences.{audience_of}
 use Rattle.switch_side.specs.Carrying.{packet_for, said_from, packet_in_told, port_told}
+use Rattle.switch_side.proofs.MessageTypes.{IsForAll}
 use Rattle.switch_side.proofs.Slots.{say_status, say_found, say, slot_sent}
 
 -- ---- what is said to all is what is told
@@ -84,23 +85,23 @@ has_item (x ∷ xs) zero lt = (x, refl)
 has_item (x ∷ xs) (suc i) lt = has_item xs i (omega (arith, lt))
 
 one_sent : (p : PolicyView) (switch : Switch) (sides : ℕ → Side) (moment : ℕ) (message : List ℕ) (states : List SliceState)
-    → switch.phase ≡ Opened → length states ≡ length p.slices → AllStand p switch sides states → is_of FLOW_REMOVED message ≡ false → is_of ERROR message ≡ false
+    → switch.phase ≡ Opened → length states ≡ length p.slices → AllStand p switch sides states → IsForAll message
     → (slot k : ℕ) (state : SliceState) → 0 + slot ≡ k → slice_get states slot ≡ Some state
     → say (length p.slices) (rules_of p switch.features) switch.known message k state ≡ sent_with p k switch (sides k) (told_at moment message)
-one_sent p switch sides moment message states opened same stand no_removal no_error slot k state at found =
+one_sent p switch sides moment message states opened same stand all slot k state at found =
     let lt : k < length p.slices = omega (arith, slice_get_within states slot state found, same, at) in
     let slice = has_item p.slices k lt in
     let same_slot : slot ≡ k = omega (arith, at) in
     let here : slice_get states k ≡ Some state = subst (λ x. slice_get states x ≡ Some state) same_slot found in
-    sym (slot_sent p k moment switch (sides k) message state opened (lt-ltb k (length p.slices) lt) no_removal no_error (stand k state here) (λ port. own_ports p switch k port slice.0 slice.1))
+    sym (slot_sent p k moment switch (sides k) message state opened (lt-ltb k (length p.slices) lt) all (stand k state here) (λ port. own_ports p switch k port slice.0 slice.1))
 
--- what the states are told is what the slices are sent, where no entry is gone and no error came
+-- what the states are told is what the slices are sent, for a message that is for all
 pub told_sent : (p : PolicyView) (switch : Switch) (sides : ℕ → Side) (moment : ℕ) (message : List ℕ) (states : List SliceState)
-    → switch.phase ≡ Opened → length states ≡ length p.slices → AllStand p switch sides states → is_of FLOW_REMOVED message ≡ false → is_of ERROR message ≡ false
+    → switch.phase ≡ Opened → length states ≡ length p.slices → AllStand p switch sides states → IsForAll message
     → (if is_of PACKET_IN message then packet_in_told (rules_of p switch.features) states message else port_told (rules_of p switch.features) states (status_kept switch.known message))
     ≡ sent_from p switch sides (told_at moment message) 0 p.slices
-told_sent p switch sides moment message states opened same stand no_removal no_error =
+told_sent p switch sides moment message states opened same stand all =
     ap (λ (count : ℕ). if is_of PACKET_IN message then told_among count (rules_of p switch.features) states (well_formed (read_packet_in message)) else port_told (rules_of p switch.features) states (status_kept switch.known message)) same
     ∙ sym (said_told (length p.slices) (rules_of p switch.features) switch.known states message)
     ∙ all_sent p switch sides (told_at moment message) (say (length p.slices) (rules_of p switch.features) switch.known message) 0 p.slices states same
-    (one_sent p switch sides moment message states opened same stand no_removal no_error)
+    (one_sent p switch sides moment message states opened same stand all)

@@ -27,7 +27,7 @@ use Rattle.flow_book.specs.declared.state.SliceState.{SliceState}
 use Rattle.slice_words.specs.Items.{Settings, settings_of, Sight, Item, Removed, Fault, is_up}
 use Rattle.slice_words.specs.Alone.{sent_for}
 use Rattle.slice_words.specs.Answers.{removal_told, error_told}
-use Rattle.slice_words.specs.Calls.{request_for, request_calls, book_calls}
+use Rattle.slice_words.specs.Calls.{request_for, request_calls, collection_calls, book_calls}
 use Rattle.slice_words.specs.Standing.{past_of}
 use Rattle.desk_words.specs.declared.phase.Phase.TheVariants.{Opened}
 use Rattle.desk_words.specs.Openings.{well_formed, rules_of, Switch}
@@ -59,7 +59,7 @@ slot_by (Some slice) slot rules = refl
 pub settings_slot : (p : PolicyView) (slot : ℕ) (told : Option Features) → (settings_at p slot told).slot ≡ slot
 settings_slot p slot told = ap (λ (s : Settings). s.slot) (same_settings (slice_get p.slices slot) p slot told refl) ∙ slot_by (slice_get p.slices slot) slot (rules_of p told)
 
-settings_patterns : (p : PolicyView) (slot : ℕ) (told : Option Features) (slice : Slice) → slice_get p.slices slot ≡ Some slice → (settings_at p slot told).patterns ≡ writes_of (rules_of p told) slot
+pub settings_patterns : (p : PolicyView) (slot : ℕ) (told : Option Features) (slice : Slice) → slice_get p.slices slot ≡ Some slice → (settings_at p slot told).patterns ≡ writes_of (rules_of p told) slot
 settings_patterns p slot told slice there = ap (λ (s : Settings). s.patterns) (same_settings (Some slice) p slot told there)
 
 -- ---- the calls of a view
@@ -68,11 +68,11 @@ abbrev pub called_at : PolicyView → Switch → (ℕ → Side) → ℕ → Call
 called_at p switch sides slot =
     let s = settings_at p slot switch.features in
     let past = past_of s (sides slot).sight.view in
-    record { requests = request_calls s past; book = book_calls s past }
+    record { requests = request_calls s past; book = book_calls s past; collections = collection_calls s past }
 
 pub all_called : (p : PolicyView) (switch : Switch) (sides : ℕ → Side) (states : List SliceState) → AllStand p switch sides states → AllCalled (called_at p switch sides) states
 all_called p switch sides states stand = λ slot state there.
-    (subst (λ (n : ℕ). RequestsStand n (called_at p switch sides slot).requests state.xids) (settings_slot p slot switch.features) (stand slot state there).requests, (stand slot state there).book)
+    (subst (λ (n : ℕ). RequestsStand n (called_at p switch sides slot).requests state.xids) (settings_slot p slot switch.features) (stand slot state there).requests, (stand slot state there).book, (stand slot state there).collections)
 
 -- ---- a slice alone
 
@@ -94,7 +94,7 @@ fault_sent : (s : Settings) (view : List Item) (x class code : ℕ) (pair : Opti
 fault_sent s view x class code pair true is = rw is (append-nil (error_told (request_for s x (request_calls s (past_of s view))) class code))
 fault_sent s view x class code pair false is = rw is refl
 
-while_none : (up : Bool) → while_up up [] ≡ []
+pub while_none : (up : Bool) → while_up up [] ≡ []
 while_none true = refl
 while_none false = refl
 
@@ -189,7 +189,7 @@ module _ (p : PolicyView) (switch : Switch) (sides : ℕ → Side) (states : Lis
 
   -- ---- an error
 
-  same_request : (slot xid : ℕ) → (xid / 2 ^ 24) ≡ slot → (calls : List RequestCall) → request_for (settings slot) (xid % 2 ^ 24) calls ≡ found slot xid calls
+  pub same_request : (slot xid : ℕ) → (xid / 2 ^ 24) ≡ slot → (calls : List RequestCall) → request_for (settings slot) (xid % 2 ^ 24) calls ≡ found slot xid calls
   same_request slot xid top calls =
       let id : physical_of slot (xid % 2 ^ 24) ≡ xid = omega (arith, top) in
       ap (λ (n : ℕ). found n (physical_of n (xid % 2 ^ 24)) calls) (settings_slot p slot switch.features) ∙ ap (λ (x : ℕ). found slot x calls) id
@@ -259,6 +259,12 @@ pub request_found : (called : ℕ → Called) (states : List SliceState) (xid sl
 request_found called states xid slot state error request r top there is ok =
     subst (λ (n : ℕ). IfOk r (λ d. carried d ≡ turning (option_and_then (λ state. request_turn (called n) xid error n state) (slice_get states n)))) top
     (rw (there, sym is) ok)
+
+-- no request is found
+pub request_none : (called : ℕ → Called) (states : List SliceState) (xid slot : ℕ) (state : SliceState) (error : ErrorMessage) → slot ≡ xid / 2 ^ 24 → slice_get states slot ≡ Some state → None ≡ found slot xid (called slot).requests
+    → None ≡ error_turn called states xid (Some error)
+request_none called states xid slot state error top there is =
+    subst (λ (n : ℕ). None ≡ option_and_then (λ state. request_turn (called n) xid error n state) (slice_get states n)) top (rw (there, sym is) refl)
 
 pub removed_found : (called : ℕ → Called) (rules : List Rule) (states : List SliceState) (slot : ℕ) (entry : FlowRemoved) (told : Option FlowRemoved) (r : Result Dispatch AllocError)
     → Some entry ≡ told → Some slot ≡ owner_of_match rules entry.pattern

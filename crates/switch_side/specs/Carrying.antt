@@ -1,8 +1,9 @@
 -- The same by the slices' states, in place of what each slice sees. The parts of the code are proved by this.
-use Rattle.std.specs.Prelude.{ℕ, ◌≡◌, ◌&&◌, ◌+◌, ◌-◌, ◌/◌, ◌%◌, ◌^◌, ◌==◌, Bool, false, if◌then◌else◌, List, [], ◌∷◌, ◌++◌, length, take, slice_get, Option, Some, None, option_map, option_and_then}
+use Rattle.std.specs.Prelude.{ℕ, ◌≡◌, ◌&&◌, ◌||◌, ◌+◌, ◌-◌, ◌/◌, ◌%◌, ◌^◌, ◌==◌, Bool, true, false, if◌then◌else◌, List, [], ◌∷◌, ◌++◌, length, take, drop, filter, slice_get, Option, Some, None, option_map, option_and_then}
+use Rattle.std.specs.List.{concat}
 use Rattle.of10_model.specs.Header.{Header}
 use Rattle.of10_model.specs.Normal.{is_value, bit}
-use Rattle.of10_ctl.specs.declared.kind.TheConstants.{ERROR, PACKET_IN, FLOW_REMOVED}
+use Rattle.of10_ctl.specs.declared.kind.TheConstants.{ERROR, PACKET_IN, FLOW_REMOVED, STATS_REPLY, BARRIER_REPLY, QUEUE_GET_CONFIG_REPLY}
 use Rattle.of10_ctl.specs.Frames.{is_bad}
 use Rattle.of10_ctl.specs.Kinds.{is_of}
 use Rattle.of10_flow.specs.declared.protocol.TheConstants.{NO_BUFFER}
@@ -12,6 +13,9 @@ use Rattle.of10_flow.specs.FlowRemoveds.{read_flow_removed}
 use Rattle.of10_flow.specs.PacketIns.{read_packet_in, spell_packet_in}
 use Rattle.of10_message.specs.Heads.{xid_of}
 use Rattle.of10_message.specs.Errors.{ErrorMessage, read_error, pair_in}
+use Rattle.of10_message.specs.Replies.{is_bare, QueuesMessage, read_queues}
+use Rattle.of10_stats.specs.declared.reply.StatsPart.{StatsPart}
+use Rattle.of10_stats.specs.Replies.{part_of}
 use Rattle.of10_port.specs.declared.status.PortStatus.{PortStatus}
 use Rattle.of10_port.specs.Ports.{port_number}
 use Rattle.of10_port.specs.PortStatus.{spell_port_status}
@@ -19,18 +23,22 @@ use Rattle.flowspace.specs.declared.rules.Rule.{Rule}
 use Rattle.flowspace.specs.Owners.{has_port, owner_of_match}
 use Rattle.xid_map.specs.declared.asked.Issued.{Issued}
 use Rattle.xid_map.specs.Requests.{RequestCall, RequestsStand, found}
+use Rattle.xid_map.specs.Collections.{CollectionCall, CollectionsStand, Gathered, gathered}
+use Rattle.stats_filter.specs.Keeping.{entries_in, is_own_entry}
 use Rattle.flow_book.specs.declared.state.SliceState.{SliceState}
 use Rattle.flow_book.specs.Books.{BookCall, BookStands, booking}
+use Rattle.slice_words.specs.Statistics.{collects, barrier_told, queues_told, collected_replies}
 use Rattle.slice_words.specs.Answers.{removal_told, error_told}
 use Rattle.desk_words.specs.Openings.{well_formed, status_kept}
-use Rattle.desk_words.specs.Histories.{header_in}
+use Rattle.desk_words.specs.Histories.{header_in, is_part}
 use Rattle.desk_words.specs.Sent.{echo_for}
 use Rattle.switch_side.specs.declared.audience.Audience.{Audience}
 use Rattle.switch_side.specs.declared.audience.Audience.TheVariants.{Prober, Named}
 use Rattle.switch_side.specs.declared.change.Change.{Change}
-use Rattle.switch_side.specs.declared.change.Change.TheVariants.{Released, Failed, Lost, Given}
+use Rattle.switch_side.specs.declared.change.Change.TheVariants.{Released, Failed, Lost, Given, Replied, Collected, Finished}
 use Rattle.switch_side.specs.declared.dispatch.Dispatch.{Dispatch}
 use Rattle.switch_side.specs.Audiences.{audience_of, writes}
+use Rattle.switch_side.specs.Collecting.{entry_calls}
 use Rattle.switch_side.specs.Dispatches.{addressed}
 
 -- what a dispatch carries
@@ -50,15 +58,16 @@ telling messages status = record { messages = messages; replies = []; changes = 
 
 -- ---- what the states stand for
 
--- the calls that made one slice's requests and book
+-- the calls that made one slice's requests, book and collections
 pub record Called : Type 0 where
   pub requests : List RequestCall
   pub book : List BookCall
+  pub collections : List CollectionCall
 
--- each state's requests and book were made by these
+-- each state's were made by these
 abbrev pub AllCalled : (ℕ → Called) → List SliceState → Type 0
 AllCalled called states =
-    (slot : ℕ) (state : SliceState) → slice_get states slot ≡ Some state → RequestsStand slot (called slot).requests state.xids × BookStands (called slot).book state.book
+    (slot : ℕ) (state : SliceState) → slice_get states slot ≡ Some state → RequestsStand slot (called slot).requests state.xids × BookStands (called slot).book state.book × CollectionsStand (called slot).collections state.collections
 
 -- ---- what several slices may be told
 
@@ -208,11 +217,74 @@ error_turn called states xid None = None
 error_turn called states xid (Some error) =
     option_and_then (λ state. request_turn (called (xid / 2 ^ 24)) xid error (xid / 2 ^ 24) state) (slice_get states (xid / 2 ^ 24))
 
--- an entry that is gone, or an error
+-- ---- what the switch replies to one slice
+
+-- the request that the switch sees under a transaction id, of the slice whose slot is the id's top byte
+abbrev pub request_seen : (ℕ → Called) → List SliceState → ℕ → Option Issued
+request_seen called states xid = option_and_then (λ state. found (xid / 2 ^ 24) xid (called (xid / 2 ^ 24)).requests) (slice_get states (xid / 2 ^ 24))
+
+-- what follows for a slice that is told a reply, if it is: its request is marked
+abbrev pub answer_turn : ℕ → List (List ℕ) → ℕ → Option Turn
+answer_turn slot [] number = None
+answer_turn slot (message ∷ others) number = Some (record { slot = slot; messages = message ∷ others; change = Replied number })
+
+-- of a reply to a barrier
+abbrev pub barrier_turn : (ℕ → Called) → List SliceState → ℕ → Bool → Option Turn
+barrier_turn called states xid false = None
+barrier_turn called states xid true = option_and_then (λ request. answer_turn (xid / 2 ^ 24) (barrier_told (Some request)) request.number) (request_seen called states xid)
+
+-- of a reply on the queues of a port of the slice
+abbrev pub queues_turn : (ℕ → Called) → List Rule → List SliceState → ℕ → Option QueuesMessage → Option Turn
+queues_turn called rules states xid None = None
+queues_turn called rules states xid (Some queues) =
+    if has_port rules (xid / 2 ^ 24) queues.port
+    then option_and_then (λ request. answer_turn (xid / 2 ^ 24) (queues_told (Some request) queues.body) request.number) (request_seen called states xid)
+    else None
+
+-- of a part of statistics the entries of the slice at a slot
+abbrev pub kept_entries : List Rule → ℕ → ℕ → List ℕ → List (List ℕ)
+kept_entries rules slot kind body = filter (is_own_entry rules slot kind) (entries_in kind body)
+
+-- what a request has collected with these entries
+abbrev pub gathered_with : Called → Issued → List (List ℕ) → Gathered
+gathered_with called request entries = gathered request.number (entry_calls request.asked.kind request.number entries called.collections)
+
+-- what follows from a part for a slice whose request collects it: where more parts come its entries are collected, and with the last one it is told what was collected
+abbrev pub part_turn : List Rule → Called → ℕ → StatsPart → List ℕ → Issued → Turn
+part_turn rules called slot part body request =
+    if part.more then record { slot = slot; messages = []; change = Collected request.number request.asked.kind (concat (kept_entries rules slot part.kind body)) }
+    else record {
+      slot = slot;
+      messages = collected_replies request.asked.kind (gathered_with called request (kept_entries rules slot part.kind body)) request.asked.xid;
+      change = Finished request.number;
+    }
+
+-- it follows only for a request that collects statistics of the part's type
+abbrev pub collecting_turn : List Rule → Called → ℕ → StatsPart → List ℕ → Issued → Option Turn
+collecting_turn rules called slot part body request = if collects request part.kind called.collections then Some (part_turn rules called slot part body request) else None
+
+-- and from no part in another form than its type has
+abbrev pub statistics_turn : (ℕ → Called) → List Rule → List SliceState → ℕ → Option StatsPart → List ℕ → Option Turn
+statistics_turn called rules states xid None message = None
+statistics_turn called rules states xid (Some part) message =
+    if is_part part.kind (drop part.from message)
+    then option_and_then (collecting_turn rules (called (xid / 2 ^ 24)) (xid / 2 ^ 24) part (drop part.from message)) (request_seen called states xid)
+    else None
+
+-- ---- messages for one slice
+
+-- the types of messages that are for one slice at most
+abbrev pub is_for_one : List ℕ → Bool
+is_for_one message = is_of FLOW_REMOVED message || is_of ERROR message || is_of BARRIER_REPLY message || is_of QUEUE_GET_CONFIG_REPLY message || is_of STATS_REPLY message
+
+-- an entry that is gone, an error, or a reply
 abbrev pub turn_for : (ℕ → Called) → List Rule → List SliceState → List ℕ → Option Turn
 turn_for called rules states message =
     if is_of FLOW_REMOVED message then removed_turn called rules states (well_formed (read_flow_removed message))
     else if is_of ERROR message then error_turn called states (xid_of message) (well_formed (read_error message))
+    else if is_of BARRIER_REPLY message then barrier_turn called states (xid_of message) (is_bare message)
+    else if is_of QUEUE_GET_CONFIG_REPLY message then queues_turn called rules states (xid_of message) (well_formed (read_queues message))
+    else if is_of STATS_REPLY message then statistics_turn called rules states (xid_of message) (well_formed (part_of message)) message
     else None
 
 -- ---- all
@@ -221,8 +293,7 @@ turn_for called rules states message =
 abbrev pub message_told : (ℕ → Called) → List Rule → List (List ℕ) → List SliceState → List ℕ → List (ℕ × List ℕ)
 message_told called rules known states message =
     if is_of PACKET_IN message then packet_in_told rules states message
-    else if is_of FLOW_REMOVED message then turn_told (turn_for called rules states message)
-    else if is_of ERROR message then turn_told (turn_for called rules states message)
+    else if is_for_one message then turn_told (turn_for called rules states message)
     else port_told rules states (status_kept known message)
 
 -- what a message changes

@@ -1,17 +1,22 @@
 -- What a message of the switch changes in the slices' states (this proxy's own rule).
-use Rattle.std.specs.Prelude.{ℕ, ◌≡◌, ◌+◌, ◌≤◌, ◌^◌, ◌==◌, Bool, true, false, List, [], ◌∷◌, ◌++◌, length, map, filter, slice_get, Option, Some, None}
+use Rattle.std.specs.Prelude.{ℕ, ◌≡◌, ◌<◌, ◌^◌, ◌==◌, Bool, true, false, List, [], ◌∷◌, ◌++◌, length, map, filter, slice_get, Option, Some, None}
 use Rattle.std.specs.List.{All, list_any}
 use Rattle.of10_model.specs.Header.{Header}
 use Rattle.of10_flow.specs.declared.packet_in.PacketIn.{PacketIn}
 use Rattle.of10_model.specs.declared.pattern.Pattern.{Pattern}
 use Rattle.of10_flow.specs.declared.flow_removed.FlowRemoved.{FlowRemoved}
 use Rattle.flowspace.specs.Policies.{PolicyView}
+use Rattle.xid_map.specs.declared.asked.AskKind.{AskKind}
 use Rattle.xid_map.specs.declared.asked.Issued.{Issued}
+use Rattle.xid_map.specs.Collections as collections
+use Rattle.stats_filter.specs.Keeping.{entries_in}
 use Rattle.flow_book.specs.declared.state.SliceState.{SliceState}
-use Rattle.slice_words.specs.Items.{Settings, Sight, Share, Writer, Item, Lost, Removed, Fault, is_buffered, buffered_count}
+use Rattle.slice_words.specs.Items.{Settings, Sight, Share, Writer, Item, Lost, Removed, Fault, Barrier, Queues, Entry, Last, is_buffered, buffered_count}
+use Rattle.slice_words.specs.Pasts.{is_any}
+use Rattle.slice_words.specs.Statistics.{collects}
 use Rattle.slice_words.specs.Buffers.{HeldPacket, held_packets}
-use Rattle.slice_words.specs.Alone.{with_items, number_of}
-use Rattle.slice_words.specs.Calls.{request_for, request_calls}
+use Rattle.slice_words.specs.Alone.{answer_to, with_items, number_of}
+use Rattle.slice_words.specs.Calls.{request_for, request_calls, collection_calls}
 use Rattle.slice_words.specs.Standing.{SliceStands, past_of}
 use Rattle.desk_words.specs.declared.event.Timed.{Timed}
 use Rattle.desk_words.specs.Openings.{Switch}
@@ -45,6 +50,46 @@ pub record IsFailure (s : Settings) (sight : Sight) (items : List Item) (number 
   pub shown : items ≡ Fault x class code pair ∷ []
   pub found : request_for s x (request_calls s (past_of s sight.view)) ≡ Some request
   pub same_number : request.number ≡ number
+
+-- what the switch replied to a barrier, or to a question for queues, under these bits of a transaction id
+abbrev pub is_reply_under : ℕ → Item → Bool
+is_reply_under x (Barrier y) = y == x
+is_reply_under x (Queues y body) = y == x
+is_reply_under x item = false
+
+-- a reply came for the request of this number, and the slice is told
+pub record IsAnswer (s : Settings) (sight : Sight) (items : List Item) (number : ℕ) : Type 0 where
+  pub x : ℕ
+  pub item : Item
+  pub request : Issued
+  pub shown : items ≡ item ∷ []
+  pub reply : is_reply_under x item ≡ true
+  pub found : request_for s x (request_calls s (past_of s sight.view)) ≡ Some request
+  pub same_number : request.number ≡ number
+  pub told : is_any (answer_to s sight.view item).to_slice ≡ true
+
+-- the request of this number is found under these bits of a transaction id, and collects statistics of a type
+pub record IsGathering (s : Settings) (sight : Sight) (x sent number : ℕ) : Type 0 where
+  pub request : Issued
+  pub found : request_for s x (request_calls s (past_of s sight.view)) ≡ Some request
+  pub same_number : request.number ≡ number
+  pub collecting : collects request sent (collection_calls s (past_of s sight.view)) ≡ true
+
+-- entries came, after which more come, for the request of this number and kind; of its type these stand one behind another
+pub record IsMore (s : Settings) (sight : Sight) (items : List Item) (number : ℕ) (kind : AskKind) (entries : List ℕ) : Type 0 where
+  pub x : ℕ
+  pub sent : ℕ
+  pub gathering : IsGathering s sight x sent number
+  pub same_kind : gathering.request.asked.kind ≡ kind
+  pub shown : items ≡ map (Entry x sent) (entries_in sent entries)
+
+-- the last entries came for the request of this number
+pub record IsEnd (s : Settings) (sight : Sight) (items : List Item) (number : ℕ) : Type 0 where
+  pub x : ℕ
+  pub sent : ℕ
+  pub entries : List (List ℕ)
+  pub gathering : IsGathering s sight x sent number
+  pub shown : items ≡ map (Entry x sent) entries ++ Last x sent ∷ []
 
 -- the items of a packet-in: the packet that is lost, if one is, and then a packet with each of these shares
 abbrev pub packet_shown : Option ℕ → List Share → PacketIn → List Item
@@ -83,6 +128,9 @@ pub record IsGift (s : Settings) (sight : Sight) (items : List Item) (physical :
 abbrev pub IsChange : Settings → Option ℕ → Sight → List Item → Change → Type 0
 IsChange s number sight items (changes.Released pattern priority) = (number ≡ None) × IsRemoval items pattern priority
 IsChange s number sight items (changes.Failed request pair) = (number ≡ None) × IsFailure s sight items request pair
+IsChange s number sight items (changes.Replied request) = (number ≡ None) × IsAnswer s sight items request
+IsChange s number sight items (changes.Collected request kind entries) = (number ≡ None) × IsMore s sight items request kind entries
+IsChange s number sight items (changes.Finished request) = (number ≡ None) × IsEnd s sight items request
 IsChange s number sight items (changes.Lost physical) = (number ≡ Some physical) × IsLoss s sight items physical
 IsChange s number sight items (changes.Given physical header) = (number ≡ Some physical) × IsGift s sight items physical header
 
@@ -111,6 +159,24 @@ pub record IsMadeAt (slot : ℕ) (change : Change) (old new : List SliceState) :
   pub own : (before after : SliceState) → slice_get old slot ≡ Some before → slice_get new slot ≡ Some after → IsMade change before after
   pub others : (other : ℕ) → (slot == other) ≡ false → slice_get new other ≡ slice_get old other
 
--- a slice's state has room for so many packets more. A desk sees fewer events
-abbrev pub HasRoom : ℕ → SliceState → Type 0
-HasRoom count state = state.buffers.given + count ≤ 2 ^ 62
+-- ---- the room for changes
+
+-- a slice's state has room for a change: for one packet more, of which it is given fewer than a desk sees events, and for entries that are collected
+abbrev pub HasRoom : Change → SliceState → Type 0
+HasRoom (changes.Given physical header) state = state.buffers.given < 2 ^ 62
+HasRoom (changes.Collected number kind entries) state = collections.HasRoom number (length entries) state.collections
+HasRoom change state = Unit {0}
+
+-- so has the state at a slot, if there is one
+abbrev pub HasRoomAt : ℕ → Change → List SliceState → Type 0
+HasRoomAt slot change states = (state : SliceState) → slice_get states slot ≡ Some state → HasRoom change state
+
+-- the slots of changes ascend, so that no slot has two, and each state has room for the change at its slot
+pub record HaveRoom (listed : List (ℕ × Change)) (states : List SliceState) : Type 0 where
+  pub apart : (i j : ℕ) (one other : ℕ × Change) → i < j → slice_get listed i ≡ Some one → slice_get listed j ≡ Some other → one.0 < other.0
+  pub rooms : (i : ℕ) (one : ℕ × Change) → slice_get listed i ≡ Some one → HasRoomAt one.0 one.1 states
+
+-- each state belongs to all that it belonged to before
+pub record StandOn (old new : List SliceState) : Type 0 where
+  pub count : length new ≡ length old
+  pub each : (slot : ℕ) (before after : SliceState) → slice_get old slot ≡ Some before → slice_get new slot ≡ Some after → (s : Settings) (sight : Sight) → SliceStands s sight before → SliceStands s sight after

@@ -1,4 +1,5 @@
 pub mod Audiences
+pub mod Collecting
 pub mod Changes
 pub mod Dispatches
 pub mod Carrying

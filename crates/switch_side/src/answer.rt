@@ -15,9 +15,14 @@ use crate::errors::error;
 use crate::packets::packet_in;
 use crate::ports::port_status;
 use crate::removals::flow_removed;
+use crate::replies::{barrier, queues};
+use crate::statistics::statistics;
 use flow_book::SliceState;
 use flowspace::SwitchPolicy;
-use of10_ctl::kind::{ECHO_REQUEST, ERROR, FLOW_REMOVED, PACKET_IN, PORT_STATUS};
+use of10_ctl::kind::{
+    BARRIER_REPLY, ECHO_REQUEST, ERROR, FLOW_REMOVED, PACKET_IN, PORT_STATUS,
+    QUEUE_GET_CONFIG_REPLY, STATS_REPLY,
+};
 use of10_ctl::{Frame, echo_reply};
 use port_view::PortView;
 use rule_index::RuleIndex;
@@ -59,6 +64,12 @@ fn dispatch(
         error(alloc, states, frame)
     } else if frame.is_of(PORT_STATUS) {
         port_status(alloc, policy, ports, states, frame)
+    } else if frame.is_of(BARRIER_REPLY) {
+        barrier(alloc, states, frame)
+    } else if frame.is_of(QUEUE_GET_CONFIG_REPLY) {
+        queues(alloc, policy, states, frame)
+    } else if frame.is_of(STATS_REPLY) {
+        statistics(alloc, policy, states, frame)
     } else {
         Ok(Dispatch::nothing(alloc))
     }

@@ -1,4 +1,5 @@
-ghost use Rattle.std.specs.Prelude.{◌≡◌, [], ◌∷◌, true, Some, None, IfOk, option_to_list};
+ghost use Rattle.std.specs.Prelude.{◌≡◌, [], ◌∷◌, true, Some, None, IfOk};
+ghost use Rattle.switch_side.specs.Dispatches.{addressed};
 ghost use Rattle.switch_side.specs.Carrying.{carried, telling, handing, turning};
 
 use crate::change::Change;
@@ -13,12 +14,32 @@ pub struct Dispatch {
     pub to_slices: Vec<(u8, Frame)>,
     /// Messages for the switch.
     pub to_switch: Vec<Frame>,
-    /// What changes in the states of slices, each with the slot of its slice; of a slice at most once.
+    /// What changes in the states of slices, each with the slot of its slice, by ascending slot; of a slice at
+    /// most once.
     pub changes: Vec<(u8, Change)>,
     /// What the switch told of one of its ports, where the known ports would keep it.
     pub port: Option<PortStatus>,
     /// Whether the switch's connection ends.
     pub close: bool,
+}
+
+/// One message.
+pub(crate) fn one(alloc: Global, message: Frame) -> Result<Vec<Frame>, AllocError>
+    ensures { IfOk result (λ v. v.items ≡ message ∷ []) }
+{
+    let mut messages = Vec::new(alloc);
+    messages.push(message)?;
+    Ok(messages)
+}
+
+/// Messages with the slot of their slice.
+fn addressed(alloc: Global, slot: u8, messages: Vec<Frame>) -> Result<Vec<(u8, Frame)>, AllocError>
+    ensures { IfOk result (λ v. v.items ≡ addressed slot messages.items) }
+{
+    messages
+        .into_iter()
+        .map(|message| (slot, message))
+        .collect(alloc)
 }
 
 impl Dispatch {
@@ -73,17 +94,15 @@ impl Dispatch {
     pub(crate) fn turning(
         alloc: Global,
         slot: u8,
-        message: Option<Frame>,
+        messages: Vec<Frame>,
         change: Change,
     ) -> Result<Dispatch, AllocError>
-        ensures { IfOk result (λ d. carried d ≡ turning (Some (record { slot = slot; messages = option_to_list message; change = change }))) }
+        ensures { IfOk result (λ d. carried d ≡ turning (Some (record { slot = slot; messages = messages.items; change = change }))) }
     {
-        let mut dispatch = Dispatch::nothing(alloc);
-        if let Some(message) = message {
-            dispatch.to_slices.push((slot, message))?;
-        }
-        dispatch.changes.push((slot, change))?;
-        Ok(dispatch)
+        let to_slice = addressed(alloc, slot, messages)?;
+        let mut changes = Vec::new(alloc);
+        changes.push((slot, change))?;
+        Ok(Dispatch::handing(alloc, to_slice, changes))
     }
 
     /// The connection ends.

@@ -1,6 +1,6 @@
 //! Errors of a switch for what slices asked of it (OpenFlow 1.0.0, section 5.4.4).
 
-ghost use Rattle.std.specs.Prelude.{ℕ, ◌≡◌, ◌/◌, ◌^◌, List, Option, Some, IfOk, option_map, option_to_list};
+ghost use Rattle.std.specs.Prelude.{ℕ, ◌≡◌, ◌/◌, ◌^◌, Some, IfOk};
 ghost use Rattle.of10_ctl.specs.declared.kind.TheConstants.{ERROR};
 ghost use Rattle.of10_ctl.specs.Frames.{error_of};
 ghost use Rattle.of10_ctl.specs.Kinds.{IsOf};
@@ -12,7 +12,8 @@ ghost use Rattle.desk_words.specs.Openings.{well_formed};
 ghost use Rattle.switch_side.specs.Carrying.{carried, Called, AllCalled, while_up, failure_turn, error_turn, turning};
 
 use crate::change::Change;
-use crate::dispatch::Dispatch;
+use crate::dispatch::{Dispatch, one};
+use crate::requests::slot_of;
 use flow_book::SliceState;
 use of10_ctl::{Frame, error_frame};
 use of10_message::{ErrorView, pair_in};
@@ -33,19 +34,19 @@ fn own_error(alloc: Global, asked: &Asked, error: &ErrorView<'_>) -> Result<Fram
     )
 }
 
-/// The message to a slice that is up, where it is the first error for the request.
+/// What a slice that is up is told, where it is the first error for the request.
 fn told(
     alloc: Global,
     state: &SliceState,
     request: &Issued,
     error: &ErrorView<'_>,
-) -> Result<Option<Frame>, AllocError>
-    ensures { IfOk result (λ f. option_to_list f ≡ while_up state.now.up (error_told (Some request.now) error.now.class error.now.code)) }
+) -> Result<Vec<Frame>, AllocError>
+    ensures { IfOk result (λ v. v.items ≡ while_up state.now.up (error_told (Some request.now) error.now.class error.now.code)) }
 {
     if !state.up || request.failed {
-        return Ok(None);
+        return Ok(Vec::new(alloc));
     }
-    Ok(Some(own_error(alloc, &request.asked, error)?))
+    one(alloc, own_error(alloc, &request.asked, error)?)
 }
 
 /// The request has failed, and with it the pair that the error carries.
@@ -59,12 +60,12 @@ fn failed(
 ) -> Result<Dispatch, AllocError>
     ensures { IfOk result (λ d. carried d ≡ turning (Some (failure_turn xid (error_of_view error.now) slot state.now request.now))) }
 {
-    let message = told(alloc, state, request, error)?;
+    let messages = told(alloc, state, request, error)?;
     let change = Change::Failed {
         number: request.number,
         pair: pair_in(xid, error.cause),
     };
-    Dispatch::turning(alloc, slot, message, change)
+    Dispatch::turning(alloc, slot, messages, change)
 }
 
 /// What follows from an error under a transaction id: the slice whose slot is the id's top byte is asked for
@@ -77,7 +78,7 @@ fn answered(
 ) -> Result<Dispatch, AllocError>
     ensures { (called : ℕ → Called) → AllCalled called states.now → IfOk result (λ d. carried d ≡ turning (error_turn called states.now xid (Some (error_of_view error.now)))) }
 {
-    let slot = (xid >> 24) as u8;
+    let slot = slot_of(xid);
     let Some(state) = states.get(usize::from(slot)) else {
         return Ok(Dispatch::nothing(alloc));
     };

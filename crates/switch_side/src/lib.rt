@@ -6,11 +6,15 @@ mod answer;
 mod applying;
 mod audience;
 mod change;
+mod collecting;
 mod dispatch;
 mod errors;
 mod packets;
 mod ports;
 mod removals;
+mod replies;
+mod requests;
+mod statistics;
 
 pub use answer::react;
 pub use applying::{apply, apply_all, reserve};

@@ -1,6 +1,6 @@
 //! Entries that a switch removed from its table (OpenFlow 1.0.0, section 5.4.2).
 
-ghost use Rattle.std.specs.Prelude.{ℕ, ◌≡◌, Some, IfOk, IfSome, option_to_list};
+ghost use Rattle.std.specs.Prelude.{ℕ, ◌≡◌, Some, IfOk, IfSome};
 ghost use Rattle.of10_model.specs.Normal.{IsNormal};
 ghost use Rattle.of10_ctl.specs.declared.kind.TheConstants.{FLOW_REMOVED};
 ghost use Rattle.of10_ctl.specs.Kinds.{IsOf};
@@ -11,28 +11,28 @@ ghost use Rattle.switch_side.specs.declared.change.Change.TheVariants.{Released}
 ghost use Rattle.switch_side.specs.Carrying.{carried, Called, AllCalled, while_up, owner_turn, removed_turn, turning};
 
 use crate::change::Change;
-use crate::dispatch::Dispatch;
+use crate::dispatch::{Dispatch, one};
 use flow_book::{Booked, SliceState};
 use of10_ctl::Frame;
 use of10_flow::FlowRemoved;
 use rule_index::RuleIndex;
 use std::alloc::{AllocError, Global};
 
-/// The message to a slice that is up, where it booked the entry's pair and asked to be told.
+/// What a slice that is up is told, where it booked the entry's pair and asked to be told.
 fn told(
     alloc: Global,
     up: bool,
     booked: Option<Booked>,
     entry: &FlowRemoved,
-) -> Result<Option<Frame>, AllocError>
-    ensures { IfOk result (λ f. option_to_list f ≡ while_up up (removal_told booked entry.now)) }
+) -> Result<Vec<Frame>, AllocError>
+    ensures { IfOk result (λ v. v.items ≡ while_up up (removal_told booked entry.now)) }
 {
     match booked {
         Some(booked) if up && booked.asked => {
             let message = FlowRemoved { xid: 0, ..*entry };
-            Ok(Some(message.encode(alloc)?))
+            one(alloc, message.encode(alloc)?)
         }
-        _ => Ok(None),
+        _ => Ok(Vec::new(alloc)),
     }
 }
 
@@ -46,12 +46,12 @@ fn released(
 ) -> Result<Dispatch, AllocError>
     ensures { IfOk result (λ d. carried d ≡ turning (Some (record { slot = slot; messages = while_up up (removal_told booked entry.now); change = Released entry.now.pattern entry.now.priority }))) }
 {
-    let message = told(alloc, up, booked, entry)?;
+    let messages = told(alloc, up, booked, entry)?;
     let change = Change::Released {
         pattern: entry.pattern,
         priority: entry.priority,
     };
-    Dispatch::turning(alloc, slot, message, change)
+    Dispatch::turning(alloc, slot, messages, change)
 }
 
 /// What follows for the slice that owns the entry's match.

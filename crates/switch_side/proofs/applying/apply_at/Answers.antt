@@ -1,8 +1,7 @@
 use Rattle.std.proofs.Common.{◌≡◌, ℕ, set, slice_get, Some, sym, subst, arith}
-use Rattle.std.specs.List.{All}
 use Rattle.std.proofs.lemmas.Option.{slice_get_read}
-use Rattle.switch_side.specs.Changes.{IsMadeAt, HasRoom}
-use Rattle.switch_side.proofs.Making.{made_at, none_made, less_room, room_set}
+use Rattle.switch_side.specs.Changes.{IsMadeAt}
+use Rattle.switch_side.proofs.Making.{made_at, none_made}
 use Rattle.switch_side.proofs.applying.apply_at.Goals as goal
 
 pub returns-then-place-len : goal.returns-then-place-len
@@ -13,12 +12,8 @@ returns-then-place-len c =
     let count = c.len.ensures in
     let there : slice_get states.items c.from-place.result ≡ Some c.index_mut.result.now = slice_get_read states.items _ c.from-place.result c.index_mut.result.now ok (omega arith) c.index_mut.ensures.value in
     let own = subst (λ (k : ℕ). slice_get states.items k ≡ Some c.index_mut.result.now) c.from-place.ensures there in
-    record {
-      made = subst (λ (k : ℕ). IsMadeAt c.args.slot c.args.change states.items (set states.items k c.apply.new.state)) (sym c.from-place.ensures)
-          (made_at states.items c.args.slot c.args.change c.index_mut.result.now c.apply.new.state own c.apply.ensures.stands);
-      room = λ n all. subst (λ (k : ℕ). All (HasRoom n) (set states.items k c.apply.new.state)) (sym c.from-place.ensures)
-          (room_set n c.args.slot states.items c.index_mut.result.now c.apply.new.state own (c.apply.ensures.room n) all);
-    }
+    subst (λ (k : ℕ). IsMadeAt c.args.slot c.args.change states.items (set states.items k c.apply.new.state)) (sym c.from-place.ensures)
+    (made_at states.items c.args.slot c.args.change c.index_mut.result.now c.apply.new.state own c.apply.ensures)
 
 pub returns-else-place-len : goal.returns-else-place-len
 returns-else-place-len c =
@@ -26,4 +21,4 @@ returns-else-place-len c =
     let out = c.if-place-len.false in
     let count = c.len.ensures in
     let same = c.from-place.ensures in
-    record { made = none_made c.args.states.now.items c.args.slot c.args.change (omega arith); room = λ n all. less_room n c.args.states.now.items all }
+    none_made c.args.states.now.items c.args.slot c.args.change (omega arith)

@@ -1,7 +1,5 @@
-use Rattle.std.proofs.Common.{length, take}
-use Rattle.std.specs.List.{All}
-use Rattle.switch_side.specs.Changes.{HasRoom}
+use Rattle.switch_side.proofs.Making.{MakesRoom}
 use Rattle.switch_side.proofs.applying.reserve.Given as goal
 
-abbrev pub invariant-loop-state : goal.invariant-loop-state
-invariant-loop-state l = All (HasRoom (length l.changes)) (take l.state-index l.state-items)
+abbrev pub invariant-loop-slot : goal.invariant-loop-slot
+invariant-loop-slot l = MakesRoom l.changes l.slot-index l.next l.initial.states l.states
