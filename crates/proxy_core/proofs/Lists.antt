@@ -16,10 +16,9 @@ pub both_same : (b : Bool) → (b && b) ≡ b
 both_same true = refl
 both_same false = refl
 
--- a list whose front part is written back as it was is as it was
-pub written_back : {A : Type 0} (whole now : List A) (n : ℕ) → now ≡ whole → n ≡ length whole → take n (now ++ drop (length now) whole) ≡ whole
+-- a list in whose place as many elements are written is these
+pub written_back : {A : Type 0} (whole now : List A) (n : ℕ) → length now ≡ length whole → n ≡ length whole → take n (now ++ drop (length now) whole) ≡ now
 written_back whole now n same count =
-    ap₂ (λ k front. take k (front ++ drop (length front) whole)) count same
-    ∙ ap (λ rest. take (length whole) (whole ++ rest)) (drop_all (length whole) whole (omega arith))
-    ∙ ap (take (length whole)) (append-nil whole)
-    ∙ take_all (length whole) whole (omega arith)
+    ap (λ rest. take n (now ++ rest)) (drop_all (length now) whole (omega (arith, same)))
+    ∙ ap (take n) (append-nil now)
+    ∙ take_all n now (omega (arith, same, count))

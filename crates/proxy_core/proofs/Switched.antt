@@ -1,5 +1,5 @@
 -- A desk after a message of the switch.
-use Rattle.std.proofs.Common.{◌≡◌, ℕ, ◌&&◌, not, Bool, true, false, if◌then◌else◌, List, [], ◌∷◌, length, slice_get, refl, ap, ap₂, subst, sym, ◌∙◌, true≢false, inl, inr, ◌⊎◌, Option, Some, None, Result, Ok, Err, OnErr, IfOk, arith}
+use Rattle.std.proofs.Common.{◌≡◌, ℕ, ◌&&◌, not, Bool, true, false, if◌then◌else◌, List, [], ◌∷◌, ◌++◌, length, take, drop, slice_get, refl, ap, ap₂, subst, sym, ◌∙◌, true≢false, inl, inr, ◌⊎◌, Option, Some, None, Result, Ok, Err, OnErr, IfOk, arith}
 use Rattle.std.specs.Prelude.{ltb}
 use Rattle.std.proofs.lemmas.Bool.{ltb-true}
 use Rattle.std.proofs.lemmas.Option.{none-some}
@@ -11,6 +11,7 @@ use Rattle.port_view.specs.declared.answer.Kept.{Kept as Answer}
 use Rattle.port_view.specs.declared.answer.Kept.TheVariants.{Kept as IsKept, Ignored, TooManyPorts}
 use Rattle.port_view.specs.KnownPorts.{changed, kept_of}
 use Rattle.port_view.proofs.Knowing.{changed-not_kept}
+use Rattle.flow_book.specs.declared.state.SliceState.{SliceState}
 use Rattle.outbox.specs.Queues.{Queue, no_messages, push_all, Kept, QueueStands}
 use Rattle.slice_words.specs.Items.{Item, End}
 use Rattle.desk_words.specs.declared.event.Event.{Event}
@@ -19,11 +20,12 @@ use Rattle.desk_words.specs.declared.event.Timed.{Timed}
 use Rattle.desk_words.specs.declared.phase.Phase.{Phase}
 use Rattle.desk_words.specs.declared.phase.Phase.TheVariants.{Fresh, Begun, Opened, Ended}
 use Rattle.desk_words.specs.Openings.{features_told, status_told, kept_beside, status_kept, phase_after, opening_after, known_after, Switch, switch_after}
-use Rattle.desk_words.specs.Histories.{Side, message_items}
+use Rattle.desk_words.specs.Histories.{settings_at, Side, message_items}
 use Rattle.desk_words.specs.Sent.{preparation, echo_for, lane_in, put_with}
 use Rattle.desk_words.specs.Verdicts.{is_fresh, is_ended, is_before, is_closing}
 use Rattle.desk_words.specs.Operations.{slice_limit, lane_limit}
 use Rattle.switch_side.specs.declared.dispatch.Dispatch.{Dispatch}
+use Rattle.switch_side.specs.Changes.{StandOn}
 use Rattle.switch_side.specs.Dispatches.{Surrounds, AllStand, AllNumbered, IsDispatch, AreChanges, told_at, sent_from}
 use Rattle.proxy_core.specs.declared.parts.Session.{Session}
 use Rattle.proxy_core.specs.declared.parts.Desk.{Desk}
@@ -31,7 +33,7 @@ use Rattle.proxy_core.specs.Slots.{HasOnly, HasMore}
 use Rattle.proxy_core.specs.Handing.{AreSame, AreHanded, kept_by}
 use Rattle.proxy_core.specs.Desks.{SessionStands, Opens, Body, Coherent, sides_after, up_after, queues_after, Acted, Acts, ActsIn, Ends, PassesOn}
 use Rattle.proxy_core.specs.Opening.{Begins, CarriedOut, Carries, StandsOn}
-use Rattle.proxy_core.proofs.Lists.{there, within}
+use Rattle.proxy_core.proofs.Lists.{there, within, written_back}
 use Rattle.proxy_core.proofs.Standing.{items_opened, session_becomes, session_goes, queue_there, slot_there}
 use Rattle.proxy_core.proofs.Handed.{slot_sent}
 use Rattle.proxy_core.proofs.Acting.{body_after, still_none, session_ends, lane_is}
@@ -213,13 +215,27 @@ carried_session p switch sides qs moment message old new rooms s open_ policy fe
           (slot_sent p switch sides (told_at moment message) 0 slot p.slices (omega arith) (let less = ltb-true slot (length p.slices) here in omega arith)) (handed.each slot mid.0 y mid.1 gy slice_limit (qs slot) roomy);
     })
 
--- want of memory after room was made in some queues
-pub kept_queues : (old new : Session) → new.policy ≡ old.policy → new.features ≡ old.features → new.states.items ≡ old.states.items → new.ports ≡ old.ports → AreSame old.queues.items new.queues.items → StandsOn old new
+-- want of memory after room was made for some messages and changes
+pub kept_queues : (old new : Session) → new.policy ≡ old.policy → new.features ≡ old.features → StandOn old.states.items new.states.items → new.ports ≡ old.ports → AreSame old.queues.items new.queues.items → StandsOn old new
 kept_queues old new policy features states ports same p switch sides qs s =
-    session_becomes p switch switch sides sides qs qs old new s refl policy features (ports ∙ s.known) (ap length states) same.count
+    session_becomes p switch switch sides sides qs qs old new s refl policy features (ports ∙ s.known) states.count same.count
     (λ slot x y gx gy.
-    let was = queue_there p switch sides qs old slot x s (subst (λ items. slice_get items slot ≡ Some x) states gx) in
-    record { state_stands = was.2.state_stands; queue_stands = same.each slot was.0 y was.1 gy slice_limit (qs slot) was.2.queue_stands })
+    let before = there old.states.items slot (subst (λ (n : ℕ). ltb slot n ≡ true) states.count (within new.states.items slot x gx)) in
+    let was = queue_there p switch sides qs old slot before.0 s before.1 in
+    record {
+      state_stands = states.each slot before.0 x before.1 gx (settings_at p slot switch.features) (sides slot).sight was.2.state_stands;
+      queue_stands = same.each slot was.0 y was.1 gy slice_limit (qs slot) was.2.queue_stands;
+    })
+
+-- room that was made for changes leaves what the states belong to
+pub all_stand_on : (p : PolicyView) (switch : Switch) (sides : ℕ → Side) (old new : List SliceState) → StandOn old new → AllStand p switch sides old → AllStand p switch sides new
+all_stand_on p switch sides old new on stand slot state g =
+    let before = there old slot (subst (λ (n : ℕ). ltb slot n ≡ true) on.count (within new slot state g)) in
+    on.each slot before.0 state before.1 g (settings_at p slot switch.features) (sides slot).sight (stand slot before.0 before.1)
+
+-- as it was written back
+pub stands_back : (old now : List SliceState) (n : ℕ) → StandOn old now → n ≡ length old → StandOn old (take n (now ++ drop (length now) old))
+stands_back old now n on count = subst (StandOn old) (sym (written_back old now n on.count count)) on
 
 -- all that follows from a message, for the session and the lane
 pub carried_out : (moment : ℕ) (message : List ℕ) (old new : Session) (lane new_lane : Kept) (rooms : List Kept) (p : PolicyView) (switch : Switch) (sides : ℕ → Side) (qs : ℕ → Queue) (d : Dispatch) → switch.phase ≡ Opened → AllNumbered p switch sides → SessionStands p switch sides qs old

@@ -1,5 +1,5 @@
 -- What entries of statistics make of what a request collects.
-use Rattle.std.proofs.Common.{◌≡◌, ◌≢◌, ℕ, suc, ◌+◌, ◌-◌, ◌<◌, ◌≤◌, ◌==◌, ◌&&◌, not, Bool, true, false, if◌then◌else◌, List, [], ◌∷◌, ◌++◌, map, filter, length, leb, append-nil, append_assoc, add_comm, refl, ap, sym, subst, ◌∙◌, true≢false, inl, inr, arith, Option, Some, None, IfSome}
+use Rattle.std.proofs.Common.{◌≡◌, ◌≢◌, ℕ, suc, ◌+◌, ◌-◌, ◌≤◌, ◌==◌, ◌&&◌, not, Bool, true, false, if◌then◌else◌, List, [], ◌∷◌, ◌++◌, map, filter, length, leb, append-nil, append_assoc, add_comm, refl, ap, sym, subst, ◌∙◌, true≢false, inl, inr, arith, Option, Some, None, IfSome}
 use Rattle.std.specs.Prelude.{find, eqb, is_some, option_map}
 use Rattle.std.specs.Option.{option_eq}
 use Rattle.of10_model.specs.Normal.{is_value}

@@ -1,5 +1,5 @@
 -- What follows from replies of the switch, as the code finds it.
-use Rattle.std.proofs.Common.{◌≡◌, ℕ, ◌-◌, ◌≤◌, ◌/◌, ◌^◌, Bool, true, false, if◌then◌else◌, List, [], length, drop, slice_get, true≢false, subst, arith, refl, ap, ap₂, sym, ◌∙◌, Option, Some, None, option_and_then, Result, Ok, Err, IfOk}
+use Rattle.std.proofs.Common.{◌≡◌, ℕ, ◌-◌, ◌≤◌, ◌/◌, ◌^◌, Bool, true, false, if◌then◌else◌, List, [], length, drop, slice_get, true≢false, subst, arith, refl, ap, ◌∙◌, Option, Some, None, option_and_then, Result, Ok, Err, IfOk}
 use Rattle.std.specs.Prelude.{nat_lt, is_err}
 use Rattle.std.proofs.lemmas.List.{length-drop}
 use Rattle.of10_action.specs.declared.fault.WireFault.TheVariants.{Length}

@@ -1,5 +1,5 @@
 -- What follows for each slice from what the switch replies under a transaction id.
-use Rattle.std.proofs.Common.{◌≡◌, ℕ, ◌/◌, ◌%◌, ◌^◌, ◌<◌, ◌==◌, ◌&&◌, Bool, true, false, if◌then◌else◌, List, [], ◌∷◌, ◌++◌, map, filter, length, drop, slice_get, refl, ap, ap₂, subst, sym, ◌∙◌, append-nil, arith, true≢false, eqb-true, Option, Some, None, option_and_then}
+use Rattle.std.proofs.Common.{◌≡◌, ℕ, ◌/◌, ◌%◌, ◌^◌, ◌<◌, ◌==◌, ◌&&◌, Bool, true, false, if◌then◌else◌, List, [], ◌∷◌, ◌++◌, map, length, drop, slice_get, refl, ap, ap₂, subst, sym, ◌∙◌, append-nil, arith, eqb-true, Option, Some, None, option_and_then}
 use Rattle.std.specs.List.{concat}
 use Rattle.std.proofs.lemmas.Bool.{eq-eqb, ltb-true}
 use Rattle.std.proofs.lemmas.Option.{slice_get_within}
@@ -23,7 +23,7 @@ use Rattle.flow_book.specs.declared.state.SliceState.{SliceState}
 use Rattle.slice_words.specs.Items.{Settings, lone_rules, is_own_port, Sight, Item, Barrier, Queues, Entry, Last, is_up}
 use Rattle.slice_words.specs.Pasts.{is_any}
 use Rattle.slice_words.specs.Statistics.{collects, collected_replies, barrier_told, queues_told}
-use Rattle.slice_words.specs.Alone.{answer_to, with_items, sent_for}
+use Rattle.slice_words.specs.Alone.{answer_to, sent_for}
 use Rattle.slice_words.specs.Calls.{request_for, request_calls, collection_calls}
 use Rattle.slice_words.specs.Standing.{SliceStands, past_of}
 use Rattle.slice_words.proofs.Forgetting.{found_up}
@@ -32,7 +32,7 @@ use Rattle.desk_words.specs.declared.phase.Phase.TheVariants.{Opened}
 use Rattle.desk_words.specs.Openings.{well_formed, rules_of, Switch}
 use Rattle.desk_words.specs.Histories.{is_slot, settings_at, Side, barrier_items, queues_items, own_entries, is_part, part_items, statistics_items}
 use Rattle.switch_side.specs.declared.change.Change.TheVariants.{Collected, Finished}
-use Rattle.switch_side.specs.Changes.{seen_with, is_reply_under, IsChange, SlotChanges}
+use Rattle.switch_side.specs.Changes.{seen_with, is_reply_under}
 use Rattle.switch_side.specs.Collecting.{entry_calls}
 use Rattle.switch_side.specs.Dispatches.{AllStand}
 use Rattle.switch_side.specs.Carrying.{Called, Turn, while_up, request_seen, answer_turn, barrier_turn, queues_turn, kept_entries, part_turn, collecting_turn, statistics_turn}

@@ -1,5 +1,5 @@
 -- What replies of the switch make of the calls of a view, and what a slice is told of them.
-use Rattle.std.proofs.Common.{◌≡◌, ℕ, suc, ◌==◌, ◌&&◌, Bool, true, false, if◌then◌else◌, List, [], ◌∷◌, ◌++◌, map, length, leb, refl, ap, ap₂, subst, sym, ◌∙◌, append-nil, true≢false, eqb-true, arith, Option, Some, None, is_some}
+use Rattle.std.proofs.Common.{◌≡◌, ℕ, suc, ◌&&◌, Bool, true, false, if◌then◌else◌, List, [], ◌∷◌, ◌++◌, map, length, refl, ap, ap₂, sym, ◌∙◌, true≢false, eqb-true, arith, Option, Some, None, is_some}
 use Rattle.std.proofs.lemmas.Bool.{and_parts, le-leb}
 use Rattle.of10_model.specs.Normal.{is_value}
 use Rattle.of10_stats.specs.declared.protocol.TheConstants as statistics
@@ -14,7 +14,6 @@ use Rattle.stats_filter.specs.Keeping.{entries_in}
 use Rattle.slice_words.specs.Items.{Settings, Item, Barrier, Queues, Entry, Last, is_up}
 use Rattle.slice_words.specs.Pasts.{Answer, is_any, told, silence}
 use Rattle.slice_words.specs.Statistics.{collects, entry_call, entry_kept, finished, collected_replies, statistics_told}
-use Rattle.slice_words.specs.Answers.{answer_up}
 use Rattle.slice_words.specs.Alone.{answer_to, with_items, sent_for}
 use Rattle.slice_words.specs.Calls.{request_for, reply_marks, request_calls, collection_calls, book_calls}
 use Rattle.slice_words.specs.Standing.{past_of}

@@ -9,6 +9,7 @@ mod change;
 mod collecting;
 mod dispatch;
 mod errors;
+mod last_part;
 mod packets;
 mod ports;
 mod removals;

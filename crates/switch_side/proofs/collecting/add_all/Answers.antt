@@ -1,5 +1,4 @@
-use Rattle.switch_side.proofs.Gathering.{room_ahead, next_coming, all_came}
-use Rattle.switch_side.proofs.Walking.{IsAhead}
+use Rattle.switch_side.proofs.Gathering.{next_coming, all_came}
 use Rattle.switch_side.proofs.collecting.add_all.Goals as goal
 
 pub loop-size-preserved : goal.loop-size-preserved

@@ -1,4 +1,4 @@
-use Rattle.std.proofs.Common.{refl, sym, ap, ◌∙◌, is_some}
+use Rattle.std.proofs.Common.{sym, ap, ◌∙◌, is_some}
 use Rattle.switch_side.proofs.Gathering.{is_some-map, collects_by}
 use Rattle.switch_side.proofs.statistics.collects.Goals as goal
 

@@ -1,4 +1,4 @@
-use Rattle.std.proofs.Common.{◌≡◌, ℕ, ◌/◌, ◌^◌, IfOk, option_and_then, sym, ap, ◌∙◌, subst}
+use Rattle.std.proofs.Common.{◌≡◌, ◌/◌, ◌^◌, IfOk, option_and_then, sym, ◌∙◌, subst}
 use Rattle.of10_ctl.specs.declared.head.Head.{Head}
 use Rattle.of10_message.specs.Heads.{xid_of}
 use Rattle.switch_side.specs.Carrying.{carried, turning, collecting_turn, request_seen}

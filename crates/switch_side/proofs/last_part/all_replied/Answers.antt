@@ -3,7 +3,7 @@ use Rattle.xid_map.specs.Collections.{gathered}
 use Rattle.slice_words.specs.Statistics.{collected_replies}
 use Rattle.switch_side.specs.Collecting.{calls_with}
 use Rattle.switch_side.proofs.Gathering.{sums_are, kept_told, not_sum}
-use Rattle.switch_side.proofs.statistics.all_replied.Goals as goal
+use Rattle.switch_side.proofs.last_part.all_replied.Goals as goal
 
 pub returns-in-Aggregate : goal.returns-in-Aggregate
 returns-in-Aggregate c calls stands among =

@@ -1,7 +1,7 @@
 use Rattle.std.proofs.Common.{length}
 use Rattle.stats_filter.specs.Keeping.{entries_in}
 use Rattle.stats_filter.specs.Laws.{AreSmall}
-use Rattle.switch_side.proofs.statistics.are_small.Given as goal
+use Rattle.switch_side.proofs.last_part.are_small.Given as goal
 
 abbrev pub invariant-loop-size : goal.invariant-loop-size
 invariant-loop-size l = AreSmall (entries_in l.kind l.rest) → AreSmall (entries_in l.kind l.entries)

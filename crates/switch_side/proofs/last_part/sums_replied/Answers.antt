@@ -3,7 +3,7 @@ use Rattle.of10_stats.specs.declared.protocol.TheConstants.{FLOW}
 use Rattle.stats_filter.specs.Keeping.{entries_in}
 use Rattle.switch_side.specs.Collecting.{with_flows, sums_told}
 use Rattle.switch_side.proofs.Gathering.{sums_there}
-use Rattle.switch_side.proofs.statistics.sums_replied.Goals as goal
+use Rattle.switch_side.proofs.last_part.sums_replied.Goals as goal
 
 pub returns : goal.returns
 returns c calls stands among =

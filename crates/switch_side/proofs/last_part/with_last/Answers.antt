@@ -1,8 +1,8 @@
-use Rattle.std.proofs.Common.{sym, ap, ap₂, ◌∙◌, ◌++◌}
+use Rattle.std.proofs.Common.{ap, ap₂, ◌∙◌, ◌++◌}
 use Rattle.stats_filter.specs.Keeping.{entries_in}
 use Rattle.switch_side.specs.Collecting.{kept_within}
 use Rattle.switch_side.proofs.Gathering.{entries_there, none_there, room_there}
-use Rattle.switch_side.proofs.statistics.with_last.Goals as goal
+use Rattle.switch_side.proofs.last_part.with_last.Goals as goal
 
 pub returns-in_default : goal.returns-in_default
 returns-in_default c calls stands among = absurd (none_there c.args.number calls among (c.in_default.ensures calls stands))

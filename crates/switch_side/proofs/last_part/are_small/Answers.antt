@@ -1,6 +1,6 @@
-use Rattle.std.proofs.Common.{◌≤◌, subst, sym, arith}
+use Rattle.std.proofs.Common.{arith}
 use Rattle.switch_side.proofs.Walking.{small_first, small_none}
-use Rattle.switch_side.proofs.statistics.are_small.Goals as goal
+use Rattle.switch_side.proofs.last_part.are_small.Goals as goal
 
 pub loop-size-preserved : goal.loop-size-preserved
 loop-size-preserved c later =

@@ -3,7 +3,7 @@ use Rattle.of10_stats.specs.declared.protocol.TheConstants.{FLOW}
 use Rattle.stats_filter.specs.Keeping.{entries_in}
 use Rattle.switch_side.specs.Collecting.{with_flows}
 use Rattle.switch_side.proofs.Walking.{flows_first, flows_none}
-use Rattle.switch_side.proofs.statistics.with_flows.Goals as goal
+use Rattle.switch_side.proofs.last_part.with_flows.Goals as goal
 
 pub loop-size-preserved : goal.loop-size-preserved
 loop-size-preserved c =
