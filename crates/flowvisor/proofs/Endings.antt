@@ -5,7 +5,7 @@ use Rattle.fv_base.specs.Told.{appended, IsPrefix, Rose}
 use Rattle.fv_base.proofs.Appending.{appended_none}
 use Rattle.fv_base.specs.Words.{FormBytes, OfCheck, OfReplay, form_of}
 use Rattle.fv_cli.specs.declared.ending.Ending.{Ending}
-use Rattle.fv_cli.specs.declared.ending.Ending.TheVariants.{Done, Usage, ReadFault, WriteFault, NoMemory, NoMemoryToRun, TooLarge, PolicyRefused, RecordingRefused, NotBuilt}
+use Rattle.fv_cli.specs.declared.ending.Ending.TheVariants.{Done, Usage, ReadFault, WriteFault, NoMemory, NoMemoryToRun, TooLarge, PolicyRefused, RecordingRefused}
 use Rattle.fv_cli.specs.Endings.{status_of, line_of, IsPut, Outside, Ended, Causes, IsCheckCause, IsReplayCause}
 use Rattle.flowvisor.specs.Asked.{Suits, EndedSo, is_of_check}
 
@@ -55,7 +55,6 @@ check_suits w policy NoMemoryToRun cause = absurd cause
 check_suits w policy TooLarge cause = refl
 check_suits w policy (PolicyRefused fault) cause = refl
 check_suits w policy (RecordingRefused fault) cause = absurd cause
-check_suits w policy (NotBuilt lack) cause = absurd cause
 
 cause_suits : (w : Outside) (form : Option FormBytes) (ending : Ending) → Causes w form ending → Suits None form ending
 cause_suits w None ending cause = inl cause
@@ -79,7 +78,6 @@ only_done NoMemoryToRun failed e = absurd (cc)
 only_done TooLarge failed e = absurd (cc)
 only_done (PolicyRefused fault) failed e = absurd (cc)
 only_done (RecordingRefused fault) failed e = absurd (cc)
-only_done (NotBuilt lack) failed e = absurd (cc)
 
 pub after_run : (w : Outside) (words : List (List ℕ)) (failed : Bool) (before between after : Option (List ℕ)) (count count_between count_after status result : ℕ)
     → Ended w words before between count count_between status

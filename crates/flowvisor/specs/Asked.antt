@@ -2,7 +2,7 @@
 use Rattle.std.specs.Prelude.{◌≡◌, ◌≢◌, ◌⊎◌, ℕ, Bool, true, false, if◌then◌else◌, List, [], ◌∷◌, Option, None, Some, bytes_eq, codes}
 use Rattle.fv_base.specs.Words.{FormBytes, OfCheck, OfReplay}
 use Rattle.fv_cli.specs.declared.ending.Ending.{Ending}
-use Rattle.fv_cli.specs.declared.ending.Ending.TheVariants.{Done, Usage, WriteFault, NoMemory, NoMemoryToRun, RecordingRefused, NotBuilt}
+use Rattle.fv_cli.specs.declared.ending.Ending.TheVariants.{Done, Usage, WriteFault, NoMemory, NoMemoryToRun, RecordingRefused}
 use Rattle.fv_cli.specs.Endings.{status_of, line_of, IsPut}
 use Rattle.flowvisor.specs.declared.texts.TheConstants.{HELP, VERSION}
 
@@ -19,7 +19,6 @@ text_in _ = None
 abbrev pub is_of_check : Ending → Bool
 is_of_check Usage = false
 is_of_check (RecordingRefused fault) = false
-is_of_check (NotBuilt lack) = false
 is_of_check NoMemoryToRun = false
 is_of_check _ = true
 

@@ -16,8 +16,8 @@ replay runs the recorded connections under the policy and writes the report: a l
 the switches and the slices would get.
 
 The exit status is 0, or 1 for other words, 2 where the policy is refused, 3 where the recording is, 4 where
-a file can't be read, 5 where the output can't be written, 6 where memory runs out, 7 where a file is too
-large, and 8 where the recording needs what isn't built yet. Each status but 0 has a line on standard error.
+a file can't be read, 5 where the output can't be written, 6 where memory runs out, and 7 where a file is too
+large. Each status but 0 has a line on standard error.
 ";
 
 /// What `--version` prints.

@@ -1,23 +1,19 @@
 -- How a call of the program ends: its status, its line, and what has to be so for it. All of this is the program's own rule.
-use Rattle.std.specs.Prelude.{◌≡◌, ℕ, ◌<◌, ◌≤◌, ◌⊎◌, List, [], length, codes, Bool, true, false, Option, Some, None, IfSome, Result, Ok, Err, option_map, zip}
-use Rattle.std.specs.List.{All}
+use Rattle.std.specs.Prelude.{◌≡◌, ℕ, ◌<◌, ◌≤◌, ◌⊎◌, List, [], length, codes, Bool, true, false, Option, Some, None, IfSome, Result, Ok, Err}
 use Rattle.fv_base.specs.Told.{appended, IsPrefix, Rose}
 use Rattle.fv_base.specs.Words.{FormBytes, OfCheck, OfReplay, form_of}
-use Rattle.flowspace.specs.Policies.{PolicyView}
+use Rattle.flowspace.specs.Policies.{PolicyView, IsPolicy}
 use Rattle.policy_text.specs.declared.fault.ReadFault as text
 use Rattle.policy_text.specs.Documents.{document_of, policy_of}
 use Rattle.recording.specs.declared.item.Item.{Item}
 use Rattle.recording.specs.declared.fault.RecordingFault.{RecordingFault}
-use Rattle.recording.specs.Recordings.{IsItem, read_items}
-use Rattle.fv_report.specs.declared.lack.Lack.{Lack}
-use Rattle.fv_report.specs.Lacks.{lack_seen}
+use Rattle.recording.specs.Recordings.{read_items}
 use Rattle.fv_report.specs.Writing.{WrotePart}
 use Rattle.desk_words.specs.Recorded.{told_in}
-use Rattle.desk_words.specs.Built.{first_lack}
 use Rattle.desk_words.specs.Reports.{report}
 use Rattle.fv_cli.specs.declared.ending.Ending.{Ending}
-use Rattle.fv_cli.specs.declared.ending.Ending.TheVariants.{Done, Usage, ReadFault, WriteFault, NoMemory, NoMemoryToRun, TooLarge, PolicyRefused, RecordingRefused, NotBuilt}
-use Rattle.fv_cli.specs.Lines.{policy_line, recording_line, lack_line, accepted_line}
+use Rattle.fv_cli.specs.declared.ending.Ending.TheVariants.{Done, Usage, ReadFault, WriteFault, NoMemory, NoMemoryToRun, TooLarge, PolicyRefused, RecordingRefused}
+use Rattle.fv_cli.specs.Lines.{policy_line, recording_line, accepted_line}
 
 abbrev pub status_of : Ending → ℕ
 status_of Done = 0
@@ -29,7 +25,6 @@ status_of WriteFault = 5
 status_of NoMemory = 6
 status_of NoMemoryToRun = 6
 status_of TooLarge = 7
-status_of (NotBuilt lack) = 8
 
 -- the line on the error stream; nothing where all was done
 abbrev pub line_of : Ending → List ℕ
@@ -42,7 +37,6 @@ line_of WriteFault = codes "write fault\n"
 line_of NoMemory = codes "no memory\n"
 line_of NoMemoryToRun = codes "no memory\n"
 line_of TooLarge = codes "too large\n"
-line_of (NotBuilt lack) = lack_line lack
 
 -- the limits of the two files in bytes
 abbrev pub policy_limit : ℕ
@@ -51,34 +45,34 @@ policy_limit = 1048576
 abbrev pub recording_limit : ℕ
 recording_limit = 268435456
 
--- ---- what is told of the two files
+-- ---- what was read of the two files
 
 -- where the file is told, it passes the limit
 abbrev pub PassesLimit : ℕ → Option (List ℕ) → Type 0
 PassesLimit limit file = IfSome file (λ bytes. limit < length bytes)
 
--- where the policy is told, it is within its limit, and its text says this policy or is refused for this fault
+-- these bytes were read of a file: no more than the limit, and all of it where it is told
+pub record WereRead (limit : ℕ) (file : Option (List ℕ)) (bytes : List ℕ) : Type 0 where
+  pub within : length bytes ≤ limit
+  pub whole : IfSome file (λ told. bytes ≡ told)
+
+-- a text was read that says this policy, or that is refused for this fault
 abbrev pub PolicySays : Result PolicyView text.ReadFault → Option (List ℕ) → Type 0
-PolicySays said policy = IfSome policy (λ bytes. (length bytes ≤ policy_limit) × (policy_of (document_of bytes) ≡ said))
+PolicySays said file = (bytes : List ℕ) × WereRead policy_limit file bytes × (policy_of (document_of bytes) ≡ said)
 
--- where the recording is told, it is within its limit, and is refused for this fault under so many slices
+-- a text was read that says this policy, which is accepted
+pub record HasPolicy (p : PolicyView) (file : Option (List ℕ)) : Type 0 where
+  pub says : PolicySays (Ok p) file
+  pub accepted : IsPolicy p.slices p.rules
+
+-- a recording was read that is refused for this fault under so many slices
 abbrev pub RecordingFails : ℕ → RecordingFault → Option (List ℕ) → Type 0
-RecordingFails slices fault recording = IfSome recording (λ bytes. (length bytes ≤ recording_limit) × (read_items slices bytes ≡ Err fault))
+RecordingFails slices fault file = (bytes : List ℕ) × WereRead recording_limit file bytes × (read_items slices bytes ≡ Err fault)
 
--- where the recording is told, it is within its limit, accepted under so many slices, and of its messages this is the first that isn't built, or none
-pub record IsAccepted (slices : ℕ) (lack : Option Lack) (bytes : List ℕ) (items : List Item) : Type 0 where
-  pub within : length bytes ≤ recording_limit
+-- a recording was read that is accepted under so many slices, and these are its bytes and its records
+pub record HasRecording (slices : ℕ) (file : Option (List ℕ)) (bytes : List ℕ) (items : List Item) : Type 0 where
+  pub read : WereRead recording_limit file bytes
   pub records : read_items slices bytes ≡ Ok items
-  pub lacks : option_map lack_seen (first_lack [] (zip items (told_in bytes items))) ≡ lack
-
-abbrev pub RecordingLacks : ℕ → Option Lack → Option (List ℕ) → Type 0
-RecordingLacks slices lack recording = IfSome recording (λ bytes. (items : List Item) × IsAccepted slices lack bytes items)
-
--- a recording that was taken: what was loaded is the file where that is told, and it is accepted and built
-pub record IsTaken (slices : ℕ) (loaded : List ℕ) (items : List Item) (file : Option (List ℕ)) : Type 0 where
-  pub whole : IfSome file (λ bytes. loaded ≡ bytes)
-  pub accepted : IsAccepted slices None loaded items
-  pub items_are : All (IsItem slices loaded) items
 
 -- ---- why a file isn't taken
 
@@ -97,7 +91,6 @@ IsPolicyCause file before after ending = IsLoadCause policy_limit file before af
 -- a recording isn't had
 abbrev pub IsRecordingCause : ℕ → Option (List ℕ) → ℕ → ℕ → Ending → Type 0
 IsRecordingCause slices file before after (RecordingRefused fault) = RecordingFails slices fault file
-IsRecordingCause slices file before after (NotBuilt lack) = RecordingLacks slices (Some lack) file
 IsRecordingCause slices file before after ending = IsLoadCause recording_limit file before after ending
 
 -- ---- causes
@@ -123,29 +116,28 @@ WroteAll w text = w.out_after ≡ appended w.out_before text
 abbrev pub WroteSome : Outside → List ℕ → Type 0
 WroteSome w text = WrotePart text w.out_before w.out_after
 
--- where the recording is told, it is accepted, all of it is built, and this holds of its report under the policy
+-- a recording was read that is accepted, and this holds of its report under the policy
 abbrev pub ReportIs : Outside → PolicyView → List ℕ → (List ℕ → Type 0) → Type 0
 ReportIs w p recording Holds =
-    IfSome (w.files recording) (λ bytes. (items : List Item) × IsAccepted (length p.slices) None bytes items × Holds (report p (told_in bytes items)))
+    (bytes : List ℕ) × (items : List Item) × HasRecording (length p.slices) (w.files recording) bytes items × Holds (report p (told_in bytes items))
 
 -- the cause of an ending, where the words asked for a check of a policy
 abbrev pub IsCheckCause : Outside → List ℕ → Ending → Type 0
-IsCheckCause w policy Done = (p : PolicyView) × PolicySays (Ok p) (w.files policy) × WroteAll w (accepted_line p)
-IsCheckCause w policy WriteFault = (p : PolicyView) × PolicySays (Ok p) (w.files policy) × WroteSome w (accepted_line p) × Rose w.put_before w.put_after
+IsCheckCause w policy Done = (p : PolicyView) × HasPolicy p (w.files policy) × WroteAll w (accepted_line p)
+IsCheckCause w policy WriteFault = (p : PolicyView) × HasPolicy p (w.files policy) × WroteSome w (accepted_line p) × Rose w.put_before w.put_after
 IsCheckCause w policy ending = IsPolicyCause (w.files policy) (w.read_before policy) (w.read_after policy) ending
 
 -- the cause of an ending, where the words asked for a replay of a recording under a policy
 abbrev pub IsReplayCause : Outside → List ℕ → List ℕ → Ending → Type 0
-IsReplayCause w policy recording Done = (p : PolicyView) × PolicySays (Ok p) (w.files policy) × ReportIs w p recording (WroteAll w)
+IsReplayCause w policy recording Done = (p : PolicyView) × HasPolicy p (w.files policy) × ReportIs w p recording (WroteAll w)
 IsReplayCause w policy recording Usage = ⊥
 IsReplayCause w policy recording (PolicyRefused fault) = PolicySays (Err fault) (w.files policy)
-IsReplayCause w policy recording (RecordingRefused fault) = (p : PolicyView) × PolicySays (Ok p) (w.files policy) × RecordingFails (length p.slices) fault (w.files recording)
-IsReplayCause w policy recording ReadFault = RoseAt w policy ⊎ ((p : PolicyView) × PolicySays (Ok p) (w.files policy) × RoseAt w recording)
-IsReplayCause w policy recording WriteFault = (p : PolicyView) × PolicySays (Ok p) (w.files policy) × ReportIs w p recording (WroteSome w) × Rose w.put_before w.put_after
+IsReplayCause w policy recording (RecordingRefused fault) = (p : PolicyView) × HasPolicy p (w.files policy) × RecordingFails (length p.slices) fault (w.files recording)
+IsReplayCause w policy recording ReadFault = RoseAt w policy ⊎ ((p : PolicyView) × HasPolicy p (w.files policy) × RoseAt w recording)
+IsReplayCause w policy recording WriteFault = (p : PolicyView) × HasPolicy p (w.files policy) × ReportIs w p recording (WroteSome w) × Rose w.put_before w.put_after
 IsReplayCause w policy recording NoMemory = Unit {0}
-IsReplayCause w policy recording NoMemoryToRun = (p : PolicyView) × PolicySays (Ok p) (w.files policy) × ReportIs w p recording (WroteSome w)
-IsReplayCause w policy recording TooLarge = PassesLimit policy_limit (w.files policy) ⊎ ((p : PolicyView) × PolicySays (Ok p) (w.files policy) × PassesLimit recording_limit (w.files recording))
-IsReplayCause w policy recording (NotBuilt lack) = (p : PolicyView) × PolicySays (Ok p) (w.files policy) × RecordingLacks (length p.slices) (Some lack) (w.files recording)
+IsReplayCause w policy recording NoMemoryToRun = (p : PolicyView) × HasPolicy p (w.files policy) × ReportIs w p recording (WroteSome w)
+IsReplayCause w policy recording TooLarge = PassesLimit policy_limit (w.files policy) ⊎ ((p : PolicyView) × HasPolicy p (w.files policy) × PassesLimit recording_limit (w.files recording))
 
 -- the ending of a run over a policy and a recording that were taken, which has this report
 abbrev pub IsRunEnding : List ℕ → Option (List ℕ) → Option (List ℕ) → ℕ → ℕ → Ending → Type 0
@@ -191,3 +183,32 @@ pub record Ended (w : Outside) (words : List (List ℕ)) (err_before err_after :
   pub reads : CountsReads ending w.read_before w.read_after
   pub puts : CountsPuts ending w.put_before w.put_after
   pub line : IsPut (line_of ending) err_before err_after err_faults err_faults_after
+
+-- ---- completeness
+
+-- the policy at a path is told, within its limit and accepted, and no count rose for it
+pub record IsReadyPolicy (w : Outside) (path : List ℕ) (p : PolicyView) : Type 0 where
+  pub bytes : List ℕ
+  pub told : w.files path ≡ Some bytes
+  pub within : length bytes ≤ policy_limit
+  pub says : policy_of (document_of bytes) ≡ Ok p
+  pub calm : RoseAt w path → ⊥
+
+-- the recording at a path is told, within its limit and accepted under so many slices, and no count rose for it
+pub record IsReadyRecording (w : Outside) (path : List ℕ) (slices : ℕ) : Type 0 where
+  pub bytes : List ℕ
+  pub items : List Item
+  pub told : w.files path ≡ Some bytes
+  pub within : length bytes ≤ recording_limit
+  pub records : read_items slices bytes ≡ Ok items
+  pub calm : RoseAt w path → ⊥
+
+-- the words have a form, and the files that they name are ready
+abbrev pub AreReady : Outside → Option FormBytes → Type 0
+AreReady w None = ⊥
+AreReady w (Some (OfCheck policy)) = (p : PolicyView) × IsReadyPolicy w policy p
+AreReady w (Some (OfReplay policy recording)) = (p : PolicyView) × IsReadyPolicy w policy p × IsReadyRecording w recording (length p.slices)
+
+-- where these are ready and the output's count didn't rise, all was done or memory ran out
+abbrev pub Completes : Outside → Option FormBytes → ℕ → Type 0
+Completes w form status = AreReady w form → (Rose w.put_before w.put_after → ⊥) → (status ≡ 0) ⊎ (status ≡ 6)

@@ -11,7 +11,6 @@ use Rattle.policy_text.specs.declared.fault.ReadFault.TheVariants as reading
 use Rattle.policy_text.specs.Places.{field_key, place_text}
 use Rattle.recording.specs.declared.fault.RecordingFault.{RecordingFault}
 use Rattle.recording.specs.declared.fault.RecordingFault.TheVariants as recording
-use Rattle.fv_report.specs.declared.lack.Lack.{Lack}
 use Rattle.fv_cli.specs.declared.lines.Piece.{Piece}
 use Rattle.fv_cli.specs.declared.lines.Piece.TheVariants.{Text, Number}
 
@@ -66,10 +65,6 @@ recording_line (recording.Torn at) = codes "recording: torn record at " ++ decim
 recording_line (recording.Bad at) = codes "recording: bad record at " ++ decimal at ++ codes "\n"
 recording_line (recording.NotOpen at) = codes "recording: not open at " ++ decimal at ++ codes "\n"
 recording_line recording.Memory = codes "no memory\n"
-
--- the line of a recording that needs what isn't built
-abbrev pub lack_line : Lack → List ℕ
-lack_line lack = codes "not built: type " ++ decimal lack.kind ++ codes " at " ++ decimal lack.at ++ codes "\n"
 
 -- what is said of an accepted policy: how many slices and how many rules it has
 abbrev pub accepted_line : PolicyView → List ℕ

@@ -5,8 +5,7 @@ ghost use Rattle.fv_cli.specs.Endings.{status_of, line_of, IsPut};
 ghost use Rattle.fv_cli.specs.Lines.{whole_text};
 
 use crate::base::Sink;
-use crate::lines::{Line, lack_line, plain_line, policy_line, put_pieces, recording_line};
-use fv_report::Lack;
+use crate::lines::{Line, plain_line, policy_line, put_pieces, recording_line};
 use policy_text::ReadFault;
 use recording::RecordingFault;
 
@@ -31,8 +30,6 @@ pub enum Ending {
     PolicyRefused(ReadFault),
     /// The recording has no form. The fault is never want of memory.
     RecordingRefused(RecordingFault),
-    /// The recording needs what isn't built yet.
-    NotBuilt(Lack),
 }
 
 impl Ending {
@@ -49,7 +46,6 @@ impl Ending {
             Ending::WriteFault => 5,
             Ending::NoMemory | Ending::NoMemoryToRun => 6,
             Ending::TooLarge => 7,
-            Ending::NotBuilt(_) => 8,
         }
     }
 
@@ -67,7 +63,6 @@ impl Ending {
             Ending::TooLarge => plain_line("too large\n"),
             Ending::PolicyRefused(fault) => policy_line(fault),
             Ending::RecordingRefused(fault) => recording_line(*fault),
-            Ending::NotBuilt(lack) => lack_line(*lack),
         }
     }
 

@@ -7,5 +7,5 @@ mod program;
 
 pub use ending::Ending;
 pub use fv_base as base;
-pub use fv_report::{Lack, ReportFault, report};
+pub use fv_report::{ReportFault, report};
 pub use program::offline;

@@ -3,12 +3,12 @@
 
 ghost use Rattle.std.specs.Prelude.{◌≡◌, ◌≤◌, ◌++◌, ℕ, List, codes, decimal, OnOk, OnErr};
 ghost use Rattle.fv_base.specs.Told.{appended, IsPrefix, Rose};
+ghost use Rattle.flowspace.specs.Policies.{IsPolicy};
 ghost use Rattle.policy_text.specs.Places.{field_key, place_text};
-ghost use Rattle.fv_cli.specs.Lines.{piece_text, whole_text, what_text, improper_text, refusal_text, reading_text, policy_line, recording_line, lack_line, accepted_line};
+ghost use Rattle.fv_cli.specs.Lines.{piece_text, whole_text, what_text, improper_text, refusal_text, reading_text, policy_line, recording_line, accepted_line};
 
 use crate::base::{Failed, Sink, put_all};
 use flowspace::{Field, Policy, PolicyFault, What};
-use fv_report::Lack;
 use itoa::Buffer;
 use policy_text::{Part, Place, ReadFault};
 use recording::RecordingFault;
@@ -246,25 +246,10 @@ pub(crate) fn recording_line<'a>(fault: RecordingFault) -> Line<'a>
     }
 }
 
-/// The line of a recording that needs what isn't built.
-pub(crate) fn lack_line<'a>(lack: Lack) -> Line<'a>
-    ensures { whole_text result ≡ lack_line lack }
-{
-    [
-        Piece::Text("not built: type "),
-        Piece::Number(u64::from(lack.kind)),
-        Piece::Text(" at "),
-        Piece::Number(lack.at),
-        Piece::Text("\n"),
-        NOTHING,
-        NOTHING,
-        NOTHING,
-    ]
-}
-
 /// What is said of an accepted policy.
 pub(crate) fn accepted_line(policy: &Policy) -> Line<'static>
-    ensures { whole_text result ≡ accepted_line policy.now }
+    ensures text { whole_text result ≡ accepted_line policy.now }
+    ensures accepted { IsPolicy policy.now.slices policy.now.rules }
 {
     [
         Piece::Text("ok "),

@@ -6,13 +6,13 @@ ghost use Rattle.fv_base.specs.Words.{form_of};
 ghost use Rattle.recording.specs.Recordings.{IsItem};
 ghost use Rattle.desk_words.specs.Recorded.{told_in};
 ghost use Rattle.desk_words.specs.Reports.{report};
-ghost use Rattle.fv_cli.specs.Endings.{PolicySays, IsTaken, IsLoadCause, IsPolicyCause, IsRecordingCause, IsRunEnding, IsCheckCause, IsReplayCause, Causes, is_early, CountsReads, CountsPuts, Ended};
+ghost use Rattle.fv_cli.specs.Endings.{PolicySays, HasRecording, IsLoadCause, IsPolicyCause, IsRecordingCause, IsRunEnding, IsCheckCause, IsReplayCause, Causes, is_early, CountsReads, CountsPuts, Ended, Completes};
 
 use crate::base::{Failed, Files, Form, LoadFault, Sink, Words, WordsFault, load_file, read_words};
 use crate::ending::Ending;
 use crate::lines::{accepted_line, put_pieces};
 use flowspace::Policy;
-use fv_report::{ReportFault, first_lack, report_items};
+use fv_report::{ReportFault, report_items};
 use policy_text::ReadFault;
 use recording::{Item, RecordingFault, items};
 use std::alloc::Global;
@@ -23,7 +23,7 @@ const POLICY_LIMIT: u64 = 1_048_576;
 /// Most bytes of a recording: 256 MiB.
 const RECORDING_LIMIT: u64 = 268_435_456;
 
-/// A recording that is accepted and built: its file, and the records of it.
+/// A recording that is accepted: its file, and the records of it.
 #[derive(Drop)]
 struct Recording {
     bytes: Vec<u8>,
@@ -67,14 +67,15 @@ fn load_policy<F: Files>(alloc: Global, files: &mut F, path: &str) -> Result<Pol
     }
 }
 
-/// The recording at a path under a policy of so many slices, as far as recordings are built.
+/// The recording at a path under a policy of so many slices.
 fn load_recording<F: Files>(
     alloc: Global,
     files: &mut F,
     path: &str,
     slices: u8,
 ) -> Result<Recording, Ending>
-    ensures taken { IfOk result (λ recording. IsTaken slices recording.bytes.items recording.items.items (F.contents files.old path.now)) }
+    ensures has { IfOk result (λ recording. HasRecording slices (F.contents files.old path.now) recording.bytes.items recording.items.items) }
+    ensures items { IfOk result (λ recording. All (IsItem slices recording.bytes.items) recording.items.items) }
     ensures cause { IfErr result (IsRecordingCause slices (F.contents files.old path.now) (F.faults files.old path.now) (F.faults files.new path.now)) }
     ensures same { (at : List ℕ) → F.contents files.new at ≡ F.contents files.old at }
     ensures calm { OnOk result ((at : List ℕ) → F.faults files.new at ≡ F.faults files.old at) }
@@ -84,15 +85,10 @@ fn load_recording<F: Files>(
         Ok(bytes) => bytes,
         Err(ending) => return Err(ending),
     };
-    let items = match items(alloc, &bytes, slices) {
-        Ok(items) => items,
-        Err(RecordingFault::Memory) => return Err(Ending::NoMemory),
-        Err(fault) => return Err(Ending::RecordingRefused(fault)),
-    };
-    match first_lack(alloc, slices, &bytes, &items) {
-        Ok(None) => Ok(Recording { bytes, items }),
-        Ok(Some(lack)) => Err(Ending::NotBuilt(lack)),
-        Err(_) => Err(Ending::NoMemory),
+    match items(alloc, &bytes, slices) {
+        Ok(items) => Ok(Recording { bytes, items }),
+        Err(RecordingFault::Memory) => Err(Ending::NoMemory),
+        Err(fault) => Err(Ending::RecordingRefused(fault)),
     }
 }
 
@@ -130,7 +126,8 @@ fn replay<F: Files, O: Sink>(
         Ok(policy) => policy,
         Err(ending) => return ending,
     };
-    let recording = match load_recording(alloc, files, recording, policy.slice_count()) {
+    let slices = policy.slices().len() as u8;
+    let recording = match load_recording(alloc, files, recording, slices) {
         Ok(recording) => recording,
         Err(ending) => return ending,
     };
@@ -175,7 +172,6 @@ fn decide<F: Files, O: Sink>(alloc: Global, words: &Words, files: &mut F, out: &
 /// | 2, 3 | the policy, or the recording, was read and is refused; the line says why and where |
 /// | 4, 5 | a file can't be read; the output can't be written |
 /// | 6, 7 | no memory; a file is too large (policy 1 MiB, recording 256 MiB) |
-/// | 8 | the recording has a message that isn't built yet; the line names the first one's type and the place of the record that completes it |
 ///
 /// The words are looked at first, then the policy and then the recording; nothing is written to `out`
 /// before all of them are found good.
@@ -186,7 +182,8 @@ pub fn offline<F: Files, O: Sink, E: Sink>(
     out: &mut O,
     err: &mut E,
 ) -> u8
-    ensures { Ended (record { files = F.contents files.old; read_before = F.faults files.old; read_after = F.faults files.new; out_before = O.contents out.old; out_after = O.contents out.new; put_before = O.faults out.old; put_after = O.faults out.new }) words.now (E.contents err.old) (E.contents err.new) (E.faults err.old) (E.faults err.new) result }
+    ensures ended { Ended (record { files = F.contents files.old; read_before = F.faults files.old; read_after = F.faults files.new; out_before = O.contents out.old; out_after = O.contents out.new; put_before = O.faults out.old; put_after = O.faults out.new }) words.now (E.contents err.old) (E.contents err.new) (E.faults err.old) (E.faults err.new) result }
+    ensures complete { Completes (record { files = F.contents files.old; read_before = F.faults files.old; read_after = F.faults files.new; out_before = O.contents out.old; out_after = O.contents out.new; put_before = O.faults out.old; put_after = O.faults out.new }) (form_of words.now) result }
 {
     let ending = decide(alloc, words, files, out);
     ending.say(err);

@@ -7,4 +7,3 @@ pub mod Streaming
 pub mod Playing
 pub mod Recorded
 pub mod Running
-pub mod Lacking

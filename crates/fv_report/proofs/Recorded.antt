@@ -8,7 +8,6 @@ use Rattle.std.proofs.lemmas.Result.{IfOk-from_err}
 use Rattle.std.proofs.Common.{inl, inr}
 use Rattle.std.proofs.lemmas.Bool.{cases_Bool, ltb-true, ltb-false, ne_eqb}
 use Rattle.std.proofs.lemmas.List.Elements.{All-nil}
-use Rattle.std.proofs.Math.Seq.{drop-append_seam}
 use Rattle.std.proofs.Math.Nat.{le_refl}
 use Rattle.of10_ctl.specs.Streams.{Stream, Stands, frames_at, frames_of}
 use Rattle.flowspace.specs.Policies.{PolicyView}
@@ -51,7 +50,7 @@ history_other p number r before is = rw is refl
 -- ---- streams
 
 -- only what connection a record is of matters
-pub stream_by : (r : Told) (before : List Told) → stream_before r before ≡ stream_before (connection r.switch r.kind r.slot) before
+stream_by : (r : Told) (before : List Told) → stream_before r before ≡ stream_before (connection r.switch r.kind r.slot) before
 stream_by r [] = refl
 stream_by r (other ∷ before) = ap (λ (bytes : List ℕ). if begins_stream r other then [] else if is_same_stream r other then bytes ++ other.bytes else bytes) (stream_by r before)
 
@@ -88,7 +87,7 @@ streams_fresh slices switch before streams of_switch of_slices are = record {
 }
 
 -- the switch connected
-pub streams_up : (slices switch slot moment : ℕ) (bytes : List ℕ) (before : List Told) (streams : Streams) → AreFresh slices streams
+streams_up : (slices switch slot moment : ℕ) (bytes : List ℕ) (before : List Told) (streams : Streams) → AreFresh slices streams
     → StreamsStand slices switch (record { kind = switch_up; switch = switch; slot = slot; moment = moment; bytes = bytes } ∷ before) streams
 streams_up slices switch slot moment bytes before streams are =
     let r : Told = record { kind = switch_up; switch = switch; slot = slot; moment = moment; bytes = bytes } in
@@ -130,7 +129,7 @@ streams_set slices slot r before old new framer stands same replaced of_switch o
 }
 
 -- a slice's controller connected
-pub streams_slice_up : (slices switch slot moment : ℕ) (bytes : List ℕ) (before : List Told) (old new : Streams) (framer : Stream) → StreamsStand slices switch before old → new.switch ≡ old.switch
+streams_slice_up : (slices switch slot moment : ℕ) (bytes : List ℕ) (before : List Told) (old new : Streams) (framer : Stream) → StreamsStand slices switch before old → new.switch ≡ old.switch
     → new.slices.items ≡ set old.slices.items slot framer → Stands framer [] [] → StreamsStand slices switch (record { kind = slice_up; switch = switch; slot = slot; moment = moment; bytes = bytes } ∷ before) new
 streams_slice_up slices switch slot moment bytes before old new framer stands same replaced own =
     let r : Told = record { kind = slice_up; switch = switch; slot = slot; moment = moment; bytes = bytes } in

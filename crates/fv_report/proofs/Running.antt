@@ -51,7 +51,7 @@ pub at_none : {E : Type 0} (p : PolicyView) (r : Told) (number : ℕ) (result : 
 at_none p r number result a b fresh new is_fresh plays before none =
     played_otherwise p r before number result a b (SwitchStands p r.switch (r ∷ before)) (IsAt p r.switch (r ∷ before)) new (Some new) (plays before (fresh_stands p r.switch before fresh none is_fresh)) (λ stands. stands)
 
-pub streams_other : (slices switch : ℕ) (r : Told) (before : List Told) (streams : Streams) → (r.switch == switch) ≡ false → StreamsStand slices switch before streams → StreamsStand slices switch (r ∷ before) streams
+streams_other : (slices switch : ℕ) (r : Told) (before : List Told) (streams : Streams) → (r.switch == switch) ≡ false → StreamsStand slices switch before streams → StreamsStand slices switch (r ∷ before) streams
 streams_other slices switch r before streams other stands = streams_stay slices switch r before streams (stream_other switch switch_bytes 0 r before other) (λ slot. stream_other switch slice_bytes slot r before other) stands
 
 -- a record of one switch leaves the others

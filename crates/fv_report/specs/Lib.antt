@@ -6,4 +6,3 @@ pub mod Turns
 pub mod Streams
 pub mod Plays
 pub mod Switches
-pub mod Lacks

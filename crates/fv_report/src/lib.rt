@@ -4,7 +4,6 @@
 
 mod drain;
 mod fault;
-mod lack;
 mod line;
 mod play;
 mod run;
@@ -13,5 +12,4 @@ mod switch;
 mod turn;
 
 pub use fault::ReportFault;
-pub use lack::{Lack, first_lack};
 pub use run::{report, report_items};

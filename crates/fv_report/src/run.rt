@@ -18,7 +18,7 @@ use recording::{Item, SWITCHES, items};
 use std::alloc::{AllocError, Global};
 
 /// The bytes that a record of the file carries.
-pub(crate) fn carried<'a>(file: &'a [u8], item: &Item) -> &'a [u8]
+fn carried<'a>(file: &'a [u8], item: &Item) -> &'a [u8]
     ensures { result.now ≡ carried file.now item.now }
 {
     let rest = file.get(item.from..).unwrap_or(&[]);

@@ -112,7 +112,7 @@ OPENED
 8 0 to alice 0103000800000005
 end 9
 
-# Another version, also of what isn't built in version 1.
+# Other versions.
 > opened
 > alice 0405000800000007
 > alice 0012000800000008

@@ -9,4 +9,4 @@ returns-in_default g c = record { ending = NoMemory; suits = memory_suits _; ans
 pub returns : goal.returns
 returns g c =
     let flush = c.after_flush.ensures in
-    after_run _ _ (is_err c.finish.result) _ _ _ _ _ _ c.offline-status.result _ c.offline-status.ensures flush.status flush.line flush.quiet
+    after_run _ _ (is_err c.finish.result) _ _ _ _ _ _ c.offline-status.result _ c.offline-status.ensures.ended flush.status flush.line flush.quiet
