@@ -1,4 +1,4 @@
-# Builds the program, runs it on the shipped example, and installs it.
+# Builds the program, runs it on the shipped examples, and installs it.
 program := crates/flowvisor/out/flowvisor
 
 # Where `make install` puts files; DESTDIR stands before it where a package is made.
@@ -17,9 +17,11 @@ build:
 	@echo "the program is $(program)"
 
 demo: build
-	@$(program) replay examples/two-slices.toml examples/first-packet.rec > examples/first-packet.out
-	@cat examples/first-packet.out
-	@cmp examples/first-packet.out examples/first-packet.report && echo "as it should be"
+	@for name in first-packet web-session; do \
+	  $(program) replay examples/two-slices.toml examples/$$name.rec > examples/$$name.out && \
+	  cat examples/$$name.out && cmp examples/$$name.out examples/$$name.report || exit 1; \
+	done
+	@echo "as it should be"
 
 # The gate: every proof, the edits that must fail, the tests and the runs of programs.
 check:

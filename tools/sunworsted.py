@@ -61,14 +61,14 @@ def features_reply(xid, datapath, ports=(), buffers=256):
     return message(6, xid, head + b"".join(struct.pack(">H46x", port) for port in ports))
 
 
-def packet_in(xid, in_port, packet):
-    """A PACKET_IN of a packet that isn't buffered."""
-    return message(10, xid, struct.pack(">IHHBx", 0xFFFFFFFF, len(packet), in_port, 0) + packet)
+def packet_in(xid, in_port, packet, buffer=0xFFFFFFFF):
+    """A PACKET_IN of a packet that isn't buffered where nothing else is said."""
+    return message(10, xid, struct.pack(">IHHBx", buffer, len(packet), in_port, 0) + packet)
 
 
-def tcp_packet(port):
+def tcp_packet(port, source=1024):
     """54 bytes: Ethernet, IPv4 from 10.0.0.1 to 10.0.0.2, and a TCP header to this port."""
     ethernet = bytes.fromhex("000000000002" "000000000001" "0800")
     ipv4 = bytes.fromhex("45000028" "00000000" "40060000" "0a000001" "0a000002")
-    tcp = struct.pack(">HHIIHHHH", 0x0400, port, 0, 0, 0x5002, 0, 0, 0)
+    tcp = struct.pack(">HHIIHHHH", source, port, 0, 0, 0x5002, 0, 0, 0)
     return ethernet + ipv4 + tcp

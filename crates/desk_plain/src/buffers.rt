@@ -1,5 +1,6 @@
 //! The packets that the switch holds for a slice, under which numbers, and until when (this proxy's own rule).
 
+use crate::answer::buffer_of;
 use crate::events::Event;
 use crate::headers::{Headers, header_alone};
 use crate::packets::Share;
@@ -101,7 +102,7 @@ fn is_gone(view: &[Seen], ordinal: usize) -> bool {
                 .answer
                 .to_switch
                 .iter()
-                .any(|draft| draft.buffer == Some(ordinal))
+                .any(|draft| buffer_of(draft) == Some(ordinal))
     })
 }
 

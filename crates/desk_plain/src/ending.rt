@@ -1,6 +1,5 @@
 //! How the program ends: its status, and the line on standard error.
 
-use crate::lacking::Lack;
 use flowspace::{Field, PolicyFault, What};
 use policy_text::ReadFault;
 use recording::RecordingFault;
@@ -15,7 +14,6 @@ pub(crate) enum Ending {
     ReadFault,
     WriteFault,
     NoMemory,
-    NotBuilt(Lack),
 }
 
 pub(crate) fn status(ending: &Ending) -> u8 {
@@ -27,7 +25,6 @@ pub(crate) fn status(ending: &Ending) -> u8 {
         Ending::ReadFault => 4,
         Ending::WriteFault => 5,
         Ending::NoMemory => 6,
-        Ending::NotBuilt(_) => 8,
     }
 }
 
@@ -99,10 +96,6 @@ fn put_ending(line: &mut String, ending: &Ending) -> Result<(), AllocError> {
         Ending::ReadFault => write!(line, "read fault\n"),
         Ending::WriteFault => write!(line, "write fault\n"),
         Ending::NoMemory => write!(line, "no memory\n"),
-        Ending::NotBuilt(lack) => {
-            let (kind, at) = (lack.kind, lack.at);
-            write!(line, "not built: type {kind} at {at}\n")
-        }
     }
 }
 

@@ -56,21 +56,26 @@ fn first_size(bytes: &[u8]) -> Option<usize>
     Some(size)
 }
 
-/// The frames of a stream. One of a bad length is the last.
-pub(crate) fn frames(alloc: Global, stream: &[u8]) -> Result<Vec<Frame>, AllocError> {
+/// The frames of a stream that end behind so many of its bytes. One of a bad length is the last.
+pub(crate) fn frames_past(
+    alloc: Global,
+    stream: &[u8],
+    seen: usize,
+) -> Result<Vec<Frame>, AllocError> {
     let mut frames = Vec::new(alloc);
     let mut rest = stream;
     for _ in 0..stream.len() {
         let Some(size) = first_size(rest) else {
             break;
         };
-        let frame = Frame::of(Vec::from_slice(alloc, &rest[..size])?);
-        let is_last = frame.bad_length();
-        frames.push(frame)?;
-        if is_last {
+        let (first, others) = rest.split_at(size);
+        if stream.len().saturating_sub(others.len()) > seen {
+            frames.push(Frame::of(Vec::from_slice(alloc, first)?))?;
+        }
+        if u16_at(rest, 2) < 8 {
             break;
         }
-        rest = &rest[size..];
+        rest = others;
     }
     Ok(frames)
 }

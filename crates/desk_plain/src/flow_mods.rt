@@ -2,7 +2,7 @@
 //! order and with which errors, is this proxy's own rule.
 
 use crate::actions::{Purpose, first_forbidden, sent_actions};
-use crate::answer::{Answer, Draft, Refusal, first_refusal, nothing};
+use crate::answer::{Answer, Draft, Refusal, Unnumbered, first_refusal, nothing};
 use crate::book::{Pair, booked, bookings, count_with, overlaps};
 use crate::buffers::{Held, held_under};
 use crate::headers::{Headers, headers_of, includes, put_headers};
@@ -188,13 +188,13 @@ fn sent_on(
     let xid = next_xid(settings.slot, view);
     let mut drafts = Vec::new(alloc);
     for (place, piece) in case.pieces.iter().enumerate() {
-        drafts.push(Draft {
+        drafts.push(Draft::Unnumbered(Unnumbered {
             kind: FLOW_MOD,
             xid,
             before: fields_before(alloc, case.change, piece)?,
             behind: fields_behind(alloc, case)?,
             buffer: sent_packet(case, place),
-        })?;
+        }))?;
     }
     Ok(drafts)
 }

@@ -12,18 +12,23 @@ mod buffers;
 mod ending;
 mod events;
 mod flow_mods;
+mod forms;
 mod headers;
 mod history;
-mod lacking;
+mod items;
+mod local;
 mod packet_outs;
 mod packets;
 mod ports;
+mod questions;
 mod rate;
 mod recorded;
+mod replies;
 mod report;
 mod requests;
 mod sent;
 mod settings;
+mod statistics;
 mod view;
 
 use ending::Ending;
@@ -100,11 +105,6 @@ fn report_at(rt: &HostRuntime, paths: &Paths) -> Result<String, Ending> {
         Ok(items) => items,
         Err(ending) => return Err(ending),
     };
-    match lacking::first_lack(rt.alloc(), &file, &items) {
-        Ok(None) => (),
-        Ok(Some(lack)) => return Err(Ending::NotBuilt(lack)),
-        Err(_) => return Err(Ending::NoMemory),
-    }
     match report::report(rt.alloc(), &policy, &file, &items) {
         Ok(text) => Ok(text),
         Err(_) => Err(Ending::NoMemory),

@@ -2,7 +2,7 @@
 //! which errors, and what becomes of probes, is this proxy's own rule.
 
 use crate::actions::{Purpose, first_forbidden, may_write_from_any_port, sent_actions};
-use crate::answer::{Answer, Draft, Refusal, first_refusal, nothing};
+use crate::answer::{Answer, Draft, Refusal, Unnumbered, first_refusal, nothing, passed_on};
 use crate::buffers::{Held, held_under};
 use crate::headers::{Headers, header_alone};
 use crate::requests::next_xid;
@@ -142,13 +142,13 @@ fn sent_on(alloc: Global, xid: u32, packet: &Packet, actions: &[u8]) -> Result<D
     put_u16(&mut behind, actions.len().min(MOST_BYTES) as u16)?;
     behind.extend_from_slice(actions)?;
     behind.extend_from_slice(&packet.payload)?;
-    Ok(Draft {
+    Ok(Draft::Unnumbered(Unnumbered {
         kind: PACKET_OUT,
         xid,
         before: Vec::new(alloc),
         behind,
         buffer: packet.buffer,
-    })
+    }))
 }
 
 /// What follows from a packet-out that the rate counted: it is refused, or sent on.
@@ -166,10 +166,7 @@ pub(crate) fn packet_out_answer(
     if let Some(refusal) = refused(settings, packet_out, &packet, &actions) {
         return Ok((nothing(alloc), Some(refusal)));
     }
-    let mut answer = nothing(alloc);
     let xid = next_xid(settings.slot, view);
-    answer
-        .to_switch
-        .push(sent_on(alloc, xid, &packet, &actions)?)?;
-    Ok((answer, None))
+    let draft = sent_on(alloc, xid, &packet, &actions)?;
+    Ok((passed_on(alloc, draft)?, None))
 }

@@ -1,13 +1,13 @@
 //! The events of a recording.
 
-use crate::events::{Event, frames};
+use crate::events::{Event, frames_past};
 use crate::history::{has_ended, is_up};
 use of10_ctl::Frame;
 use recording::{Item, SLICE_BYTES, SLICE_UP, SWITCH_BYTES, SWITCH_DOWN, SWITCH_UP};
 use std::alloc::{AllocError, Global};
 
 /// The bytes that a record of the file carries.
-pub(crate) fn carried<'a>(file: &'a [u8], item: &Item) -> &'a [u8] {
+fn carried<'a>(file: &'a [u8], item: &Item) -> &'a [u8] {
     let rest = file.get(item.from..).unwrap_or(&[]);
     &rest[..item.size.min(rest.len())]
 }
@@ -43,22 +43,16 @@ fn stream_before(
 }
 
 /// The frames of its connection's stream that a record completes.
-pub(crate) fn completed(
+fn completed(
     alloc: Global,
     file: &[u8],
     before: &[Item],
     item: &Item,
 ) -> Result<Vec<Frame>, AllocError> {
     let mut stream = stream_before(alloc, file, before, item)?;
-    let seen = frames(alloc, &stream)?.len();
+    let seen = stream.len();
     stream.extend_from_slice(carried(file, item))?;
-    let mut completed = Vec::new(alloc);
-    for (place, frame) in frames(alloc, &stream)?.into_iter().enumerate() {
-        if place >= seen {
-            completed.push(frame)?;
-        }
-    }
-    Ok(completed)
+    frames_past(alloc, &stream, seen)
 }
 
 /// What a record can make happen, whoever is up.

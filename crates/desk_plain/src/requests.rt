@@ -11,7 +11,7 @@ const REMEMBERED: usize = 4096;
 const NUMBERS: usize = 0x100_0000;
 
 /// Whether the item is a message that was sent on.
-fn is_request(seen: &Seen) -> bool {
+pub(crate) fn is_request(seen: &Seen) -> bool {
     !seen.answer.to_switch.is_empty()
 }
 
@@ -73,10 +73,27 @@ pub(crate) fn message_at<'a>(view: &'a [Seen], place: usize) -> Option<&'a Frame
     }
 }
 
-/// Whether an error came for a request before.
-pub(crate) fn has_failed(view: &[Seen], place: usize, low: u32) -> bool {
-    view.iter().skip(place).any(|seen| match &seen.item {
-        Item::Fault(fault) => fault.low == low,
-        _ => false,
-    })
+/// Whether an error came for the request at a place before.
+pub(crate) fn has_failed(view: &[Seen], place: usize) -> bool {
+    view.iter().any(|seen| seen.answer.fails == Some(place))
+}
+
+/// Whether the request at a place was answered before.
+fn is_done(view: &[Seen], place: usize) -> bool {
+    view.iter().any(|seen| seen.answer.completes == Some(place))
+}
+
+/// The place of a request as `remembered` finds it, and its message, where it wasn't answered before.
+pub(crate) fn undone(
+    alloc: Global,
+    view: &[Seen],
+    low: u32,
+) -> Result<Option<(usize, &Frame)>, AllocError> {
+    let Some(place) = remembered(alloc, view, low)? else {
+        return Ok(None);
+    };
+    match message_at(view, place) {
+        Some(message) if !is_done(view, place) => Ok(Some((place, message))),
+        _ => Ok(None),
+    }
 }

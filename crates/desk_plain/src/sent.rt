@@ -1,10 +1,10 @@
 //! What is sent at the events of a history: to the slices, and to the switch in its lane.
 
-use crate::answer::Draft;
-use crate::answers::echo_reply;
+use crate::answer::{Draft, Unnumbered};
 use crate::buffers::switch_number;
 use crate::events::Event;
 use crate::history::{has_ended, opening_of, since_up};
+use crate::local::echo_reply;
 use crate::view::Seen;
 use of10_action::Actions;
 use of10_ctl::kind::{BARRIER_REQUEST, ECHO_REQUEST, FEATURES_REQUEST, HELLO, SET_CONFIG};
@@ -23,10 +23,10 @@ const MOST_BODY: usize = 65_527;
 pub(crate) fn sent(alloc: Global, view: &[Seen], number: usize) -> Result<Vec<Frame>, AllocError> {
     let mut sent = Vec::new(alloc);
     for seen in view {
-        if seen.number == number
-            && let Some(message) = &seen.answer.to_slice
-        {
-            sent.push(message.copy(alloc)?)?;
+        if seen.number == number {
+            for message in &seen.answer.to_slice {
+                sent.push(message.copy(alloc)?)?;
+            }
         }
     }
     Ok(sent)
@@ -37,17 +37,17 @@ fn numbered(
     alloc: Global,
     history: &[Event],
     view: &[Seen],
-    draft: &Draft,
+    unnumbered: &Unnumbered,
 ) -> Result<Frame, AllocError> {
-    let number = match draft.buffer {
+    let number = match unnumbered.buffer {
         Some(ordinal) => switch_number(history, view, ordinal),
         None => None,
     };
-    let mut body = Vec::from_slice(alloc, &draft.before)?;
+    let mut body = Vec::from_slice(alloc, &unnumbered.before)?;
     put_u32(&mut body, number.unwrap_or(NO_BUFFER))?;
-    body.extend_from_slice(&draft.behind)?;
+    body.extend_from_slice(&unnumbered.behind)?;
     let size = body.len().min(MOST_BODY);
-    message(alloc, draft.kind, draft.xid, &body[..size])
+    message(alloc, unnumbered.kind, unnumbered.xid, &body[..size])
 }
 
 /// What a slice's message at the event of a number is sent on as.
@@ -61,7 +61,10 @@ fn sent_on(
     for seen in view {
         if seen.number == number {
             for draft in &seen.answer.to_switch {
-                lane.push(numbered(alloc, history, view, draft)?)?;
+                lane.push(match draft {
+                    Draft::Whole(message) => message.copy(alloc)?,
+                    Draft::Unnumbered(draft) => numbered(alloc, history, view, draft)?,
+                })?;
             }
         }
     }

@@ -3,19 +3,17 @@
 use crate::answer::Answer;
 use crate::answers::answer;
 use crate::book::Pair;
-use crate::buffers::{buffer_in, lost};
 use crate::events::{Event, is_dismissing};
-use crate::headers::headers_of;
-use crate::history::{Opening, is_last_up, known, opening_of, status_in};
-use crate::packets::{Share, shown};
-use crate::ports::{changed, is_kept};
-use crate::settings::{Settings, may_write, settings_of};
-use flowspace::{Policy, SwitchPolicy};
+use crate::history::opening_of;
+use crate::items::{items_of, opened_item};
+use crate::packets::Share;
+use crate::ports::changed;
+use crate::settings::{Settings, settings_of};
+use flowspace::Policy;
 use of10_ctl::Frame;
-use of10_ctl::kind::{ERROR, FLOW_MOD, FLOW_REMOVED, SET_CONFIG};
+use of10_ctl::kind::SET_CONFIG;
 use of10_flow::{FlowRemoved, PacketIn};
-use of10_match::Match;
-use of10_model::wire::{u16_at, u32_at};
+use of10_model::wire::u16_at;
 use of10_port::{Port, PortStatus};
 use std::alloc::{AllocError, Global};
 
@@ -43,6 +41,15 @@ pub(crate) struct Fault {
     pub(crate) pair: Option<Pair>,
 }
 
+/// One of the slice's entries of a type of statistics.
+#[derive(Drop)]
+pub(crate) struct Entry {
+    /// The low 24 bits of the transaction under which it was told.
+    pub(crate) low: u32,
+    pub(crate) kind: u16,
+    pub(crate) bytes: Vec<u8>,
+}
+
 /// One thing that a slice sees.
 #[derive(Drop)]
 pub(crate) enum Item {
@@ -59,6 +66,13 @@ pub(crate) enum Item {
     Removed(FlowRemoved),
     Status(PortStatus),
     Fault(Fault),
+    /// All is done that the switch was asked before the transaction of these low 24 bits.
+    Barrier { low: u32 },
+    /// The queues of a port of the slice, told under such a transaction.
+    Queues { low: u32, port: u16, reply: Frame },
+    Entry(Entry),
+    /// All entries of a type of statistics were told that there are under such a transaction.
+    Last { low: u32, kind: u16 },
     End,
 }
 
@@ -70,176 +84,14 @@ pub(crate) struct Seen {
     pub(crate) answer: Answer,
 }
 
-/// The ports of a slice among others.
-fn own_ports(
-    alloc: Global,
-    policy: &SwitchPolicy,
-    slot: u8,
-    ports: &[Port],
-) -> Result<Vec<Port>, AllocError> {
-    let mut own = Vec::new(alloc);
-    for port in ports {
-        if policy.has_port(slot, port.number()) {
-            own.push(*port)?;
-        }
-    }
-    Ok(own)
-}
-
-fn opened_item(
-    alloc: Global,
-    policy: &SwitchPolicy,
-    slot: u8,
-    opening: &Opening<'_>,
-) -> Result<Opened, AllocError> {
-    let features = &opening.features;
-    let known = known(alloc, features, &[])?;
-    Ok(Opened {
-        datapath: features.datapath,
-        buffers: features.buffers,
-        capabilities: features.capabilities,
-        actions: features.actions,
-        ports: own_ports(alloc, policy, slot, &known)?,
-    })
-}
-
-/// What a PORT_STATUS shows a slice, up or not: the status, where it is kept and the port is the slice's.
-fn status_item(
-    alloc: Global,
-    policy: &SwitchPolicy,
-    slot: u8,
-    opening: &Opening<'_>,
-    before: &[Event],
-    event: &Event,
-) -> Result<Option<PortStatus>, AllocError> {
-    let Some(status) = status_in(event) else {
-        return Ok(None);
-    };
-    let known = known(alloc, &opening.features, before)?;
-    if is_kept(&known, &status) && policy.has_port(slot, status.port.number()) {
-        Ok(Some(status))
-    } else {
-        Ok(None)
-    }
-}
-
-/// What a FLOW_REMOVED shows a slice, up or not: the entry, where the slice may write its match.
-fn removed_item(settings: &Settings<'_>, frame: &Frame) -> Option<FlowRemoved> {
-    if !frame.is_of(FLOW_REMOVED) {
-        return None;
-    }
-    match FlowRemoved::decode(frame) {
-        Ok(removed) if may_write(settings, &headers_of(&removed.pattern)) => Some(removed),
-        _ => None,
-    }
-}
-
-/// The flow entry of the flow-mod of which an ERROR of this transaction carries 64 bytes or more.
-fn failed_pair(bytes: &[u8], xid: u32) -> Option<Pair> {
-    if bytes.len() < 12 + 64 {
-        return None;
-    }
-    if bytes[12] != 1 || bytes[13] != FLOW_MOD || u32_at(bytes, 16) != xid {
-        return None;
-    }
-    Some(Pair {
-        headers: headers_of(&Match::decode_at(bytes, 12 + 8)),
-        priority: u16_at(bytes, 12 + 62),
-    })
-}
-
-/// What an ERROR shows a slice: the error, where its transaction is one of the slice's.
-fn fault_item(settings: &Settings<'_>, frame: &Frame) -> Option<Fault> {
-    let bytes = frame.as_slice();
-    let xid = frame.head().xid;
-    if !frame.is_of(ERROR) || bytes.len() < 12 || xid / 0x100_0000 != u32::from(settings.slot) {
-        return None;
-    }
-    Some(Fault {
-        low: xid % 0x100_0000,
-        class: u16_at(bytes, 8),
-        code: u16_at(bytes, 10),
-        pair: failed_pair(bytes, xid),
-    })
-}
-
-/// What a message of the switch after the opening and other events shows a slice.
-fn switch_item(
-    alloc: Global,
-    settings: &Settings<'_>,
-    opening: &Opening<'_>,
-    before: &[Event],
-    event: &Event,
-    frame: &Frame,
-) -> Result<Option<Item>, AllocError> {
-    let (policy, slot) = (settings.policy, settings.slot);
-    if is_last_up(slot, before)
-        && let Some((packet, share)) = shown(alloc, policy, slot, frame)?
-    {
-        return Ok(Some(Item::Packet { packet, share }));
-    }
-    if let Some(removed) = removed_item(settings, frame) {
-        return Ok(Some(Item::Removed(removed)));
-    }
-    if let Some(fault) = fault_item(settings, frame) {
-        return Ok(Some(Item::Fault(fault)));
-    }
-    match status_item(alloc, policy, slot, opening, before, event)? {
-        Some(status) => Ok(Some(Item::Status(status))),
-        None => Ok(None),
-    }
-}
-
-/// What an event after the opening and other events shows a slice.
-fn item_of(
-    alloc: Global,
-    settings: &Settings<'_>,
-    opening: &Opening<'_>,
-    before: &[Event],
-    event: &Event,
-) -> Result<Option<Item>, AllocError> {
-    let slot = settings.slot;
-    match event {
-        Event::SliceUp(other) if *other == slot => Ok(Some(Item::Up)),
-        Event::SliceDown(other) if *other == slot => Ok(Some(Item::Down)),
-        Event::SliceMsg {
-            slot: other,
-            frame,
-            moment,
-        } if *other == slot && is_last_up(slot, before) => Ok(Some(Item::Msg {
-            message: frame.copy(alloc)?,
-            moment: *moment,
-        })),
-        Event::SwitchDown => Ok(Some(Item::End)),
-        Event::SwitchMsg(frame) if frame.bad_length() => Ok(Some(Item::End)),
-        Event::SwitchMsg(frame) => switch_item(alloc, settings, opening, before, event, frame),
-        _ => Ok(None),
-    }
-}
-
-/// What a slice, up or not, loses where an event after the opening and other events names a buffer.
-fn lost_item(
-    view: &[Seen],
-    opening: &Opening<'_>,
-    before: &[Event],
-    event: &Event,
-) -> Option<Item> {
-    let first = opening.number.saturating_add(1);
-    let ordinal = lost(view, first, before, buffer_in(event)?)?;
-    Some(Item::Lost(ordinal))
-}
-
 /// An item comes to a view, with what follows from it.
 fn see(
     alloc: Global,
     settings: &Settings<'_>,
     view: &mut Vec<Seen>,
     number: usize,
-    item: Option<Item>,
+    item: Item,
 ) -> Result<(), AllocError> {
-    let Some(item) = item else {
-        return Ok(());
-    };
     let answer = answer(alloc, settings, view, &item)?;
     view.push(Seen {
         number,
@@ -265,13 +117,13 @@ pub(crate) fn see_last(
     let settings = settings_of(alloc, &policy, slot)?;
     let number = opening.number.saturating_add(opening.later.len());
     let Some((event, before)) = opening.later.split_last() else {
-        let opened = Item::Opened(opened_item(alloc, &policy, slot, &opening)?);
-        return see(alloc, &settings, view, number, Some(opened));
+        let opened = opened_item(alloc, &policy, slot, &opening)?;
+        return see(alloc, &settings, view, number, Item::Opened(opened));
     };
-    let lost = lost_item(view, &opening, before, event);
-    see(alloc, &settings, view, number, lost)?;
-    let item = item_of(alloc, &settings, &opening, before, event)?;
-    see(alloc, &settings, view, number, item)
+    for item in items_of(alloc, &settings, view, &opening, before, event)? {
+        see(alloc, &settings, view, number, item)?;
+    }
+    Ok(())
 }
 
 /// What an item says of whether the slice is up: a forgetting item.
