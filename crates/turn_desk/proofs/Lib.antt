@@ -4,4 +4,4 @@ mod Keeps
 mod Steps
 mod Ends
 mod Wraps
-mod Making
+pub mod Making

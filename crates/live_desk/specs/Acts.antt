@@ -1,0 +1,14 @@
+-- What a desk answers in one turn. This proxy's own rules.
+use Rattle.proxy_core.specs.Desks.{Steps, Takes}
+use Rattle.live_desk.specs.declared.object.DeskObject.{DeskObject}
+use Rattle.live_desk.specs.declared.object.DeskOp.{DeskOp}
+use Rattle.live_desk.specs.declared.object.DeskOp.TheVariants.{Step, Take}
+use Rattle.live_desk.specs.declared.object.DeskReply.{DeskReply}
+use Rattle.live_desk.specs.declared.object.DeskReply.TheVariants.{Stepped, Took}
+
+-- one step, or one take, whatever policy and operations the desk stands for
+abbrev pub Acts : DeskObject → DeskOp → DeskReply → DeskObject → Type 0
+Acts old (Step timed) (Stepped reply) new = Steps old.desk timed reply new.desk
+Acts old (Take dest) (Took taken) new = Takes old.desk dest taken new.desk
+Acts old (Step timed) (Took taken) new = ⊥
+Acts old (Take dest) (Stepped reply) new = ⊥

@@ -1,0 +1,7 @@
+//! The desk of one switch under a turn lock: each turn is one step of it or one take.
+#![tactic(auto)]
+
+pub mod laws;
+mod object;
+
+pub use object::{DeskObject, DeskOp, DeskReply};

@@ -1,0 +1,46 @@
+use proxy_core::{Desk, Dest, Taken, Timed, Verdict};
+use std::alloc::{AllocError, Global};
+use turn_desk::Object;
+
+/// The desk of one switch, as what a turn lock keeps.
+#[derive(Drop)]
+pub struct DeskObject {
+    /// Where a step takes its memory.
+    pub alloc: Global,
+    pub desk: Desk,
+}
+
+/// What a desk is asked in one turn.
+#[derive(Debug, Drop)]
+pub enum DeskOp {
+    /// To take in an event.
+    Step(Timed),
+    /// For the oldest message that waits for a destination.
+    Take(Dest),
+}
+
+/// What it answers in one turn.
+#[derive(Debug, Drop)]
+pub enum DeskReply {
+    /// What becomes of the connection that the event came from; or memory ran out.
+    Stepped(Result<Verdict, AllocError>),
+    /// What is there to be sent.
+    Took(Taken),
+}
+
+impl Object for DeskObject {
+    ghost use Rattle.live_desk.specs.Acts.{Acts};
+
+    type Op = DeskOp;
+
+    type Reply = DeskReply;
+
+    ghost acts = { λ old op reply new. Acts old op reply new };
+
+    fn act(&mut self, op: DeskOp) -> DeskReply {
+        match op {
+            DeskOp::Step(timed) => DeskReply::Stepped(self.desk.step(self.alloc, timed)),
+            DeskOp::Take(dest) => DeskReply::Took(self.desk.take(dest)),
+        }
+    }
+}

@@ -1,0 +1,34 @@
+use Rattle.std.proofs.Common.{inl, [], ◌∷◌, refl, ◌∙◌, arith}
+use Rattle.live_session.specs.Stretches.{spot}
+use Rattle.live_session.proofs.Linking.{counted_more, counted_none, rose_none, ends_by, not_given_up}
+use Rattle.live_session.proofs.slice.dial_on.Goals as goal
+
+pub loop-init : goal.loop-init
+loop-init g c = record {
+  can = tt;
+  finite = tt;
+  desk = refl;
+  few = omega arith;
+  rose = inl (omega arith);
+  links = ([], refl, counted_none (g.D.Dialer.links c.args.dialer.now));
+}
+
+pub returns-in-Some-over_by-clause-links : goal.returns-in-Some-over_by-clause-links
+returns-in-Some-over_by-clause-links g c =
+    let h = c.loop.invariant.links in
+    (c.in-Some-dial_once.end ∷ h.0, (spot c.loop.seat (g.C.Clock.coming c.loop.clock), h.1, c.in-Some-dial_once.ensures.link), ends_by c.in-Some-over_by.over c.in-Some-dial_once.end h.0 c.in-Some-over_by.ensures, counted_more (g.D.Dialer.links c.args.dialer.now) (g.D.Dialer.links c.loop.dialer) (g.D.Dialer.links c.dial_once.new.dialer) c.in-Some-dial_once.end h.0 h.2 c.in-Some-dial_once.ensures.told)
+
+pub returns-in-Some-over_by-clause-gave_up : goal.returns-in-Some-over_by-clause-gave_up
+returns-in-Some-over_by-clause-gave_up g c = λ e. absurd (not_given_up c.in-Some-over_by.over c.in-Some-dial_once.end c.in-Some-over_by.ensures e)
+
+pub loop-preserved : goal.loop-preserved
+loop-preserved g c =
+    let h = c.loop.invariant.links in
+    record {
+      can = tt;
+      finite = tt;
+      desk = c.in-Some-dial_once.ensures.desk ∙ c.loop.invariant.desk;
+      few = omega arith;
+      rose = rose_none c.loop.failed (g.D.Dialer.faults c.args.dialer.now c.args.to.now) (g.D.Dialer.faults c.loop.dialer c.args.to.now) (g.D.Dialer.faults c.dial_once.new.dialer c.args.to.now) c.loop.invariant.rose c.in-Some-dial_once.ensures.count;
+      links = (c.in-Some-dial_once.end ∷ h.0, (spot c.loop.seat (g.C.Clock.coming c.loop.clock), h.1, c.in-Some-dial_once.ensures.link), counted_more (g.D.Dialer.links c.args.dialer.now) (g.D.Dialer.links c.loop.dialer) (g.D.Dialer.links c.dial_once.new.dialer) c.in-Some-dial_once.end h.0 h.2 c.in-Some-dial_once.ensures.told);
+    }

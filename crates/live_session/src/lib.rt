@@ -1,0 +1,22 @@
+//! The threads of a live session: what reads and writes its connections, over one desk under a turn lock.
+#![tactic(auto)]
+
+mod bells;
+mod ends;
+mod gate;
+mod half;
+mod joined;
+mod reader;
+mod side;
+mod slice;
+mod writer;
+
+pub use bells::Bells;
+pub use ends::{ReaderEnd, SliceEnd, WriterEnd};
+pub use gate::{Gate, OpenGate};
+pub use half::Half;
+pub use live_desk::{DeskObject, DeskOp, DeskReply};
+pub use reader::run_reader;
+pub use side::Side;
+pub use slice::run_slice;
+pub use writer::run_writer;

@@ -1,0 +1,300 @@
+ghost use Rattle.std.specs.Prelude.{◌≡◌, ◌<◌, ◌+◌, ℕ, List, ◌++◌, [], Option, IfOk, IfErr, OnOk, OnErr, IfSome, IfNone, length};
+ghost use Rattle.fv_base.specs.Told.{Rose};
+ghost use Rattle.fv_live.specs.Live.{IsUsedUp};
+ghost use Rattle.of10_ctl.specs.Streams.{Stands, AreFirst, frames_of};
+ghost use Rattle.live_desk.specs.declared.object.DeskReply.TheVariants.{Stepped};
+ghost use Rattle.live_session.specs.declared.ends.ReaderEnd.TheVariants.{Closed, ReadFault};
+ghost use Rattle.turn_desk.specs.Histories.{Called};
+ghost use Rattle.turn_desk.specs.Seats.{IsSeatOf, SameDesk, view};
+ghost use Rattle.live_desk.specs.Acts.{Acts};
+ghost use Rattle.live_desk.specs.declared.object.DeskOp.TheVariants.{Step};
+ghost use Rattle.live_session.specs.Stretches.{spot, messages, Went, WentOne, Tells, Reading, HandedTo, DeskCall, Begun, closes, Finishes, Stretch};
+
+use crate::bells::Bells;
+use crate::ends::ReaderEnd;
+use crate::gate::Gate;
+use crate::side::{Side, down, message, up};
+use fv_live::{Clock, Host, Source};
+use live_desk::{DeskObject, DeskOp, DeskReply};
+use of10_ctl::{Framer, Next};
+use proxy_core::{Event, Timed, Verdict};
+use std::alloc::{AllocError, Global};
+use std::net::{Net, TcpListener, TcpStream};
+use std::sync::Wait;
+use turn_desk::{Spent, TurnDesk, TurnSeat};
+
+/// How many bytes are taken from a source at once.
+const PIECE: usize = 65_536;
+
+/// One step.
+fn step<R: Wait>(
+    rt: &R,
+    desk: &TurnDesk<DeskObject>,
+    seat: &mut TurnSeat<DeskObject>,
+    timed: Timed,
+) -> Result<Result<Verdict, AllocError>, Spent>
+    requires desk { IsSeatOf desk.now seat.old }
+    ensures desk { SameDesk seat.new seat.old }
+    ensures called { IfOk result (λ stepped. Called Acts (view seat.old) (Step timed) (Stepped stepped) (view seat.new)) }
+    ensures fewer { OnOk result (seat.new.left + 1 ≡ seat.old.left) }
+    ensures spent { OnErr result (seat.old.left ≡ 0) }
+    ensures same { OnErr result (seat.new ≡ seat.old) }
+{
+    match desk.submit(rt, seat, DeskOp::Step(timed)) {
+        Ok(DeskReply::Stepped(stepped)) => Ok(stepped),
+        Ok(DeskReply::Took(_)) => unreachable!(),
+        Err(spent) => Err(spent),
+    }
+}
+
+/// One event, at the moment that the clock answers, after which all bells are rung. Where the seat has no calls
+/// left the clock isn't asked.
+fn ask<R: Wait, C: Clock>(
+    rt: &R,
+    desk: &TurnDesk<DeskObject>,
+    seat: &mut TurnSeat<DeskObject>,
+    clock: &mut C,
+    bells: &Bells,
+    event: Event,
+) -> Result<Result<Verdict, AllocError>, Spent>
+    requires desk { IsSeatOf desk.now seat.old }
+    ensures desk { SameDesk seat.new seat.old }
+    ensures went { IfOk result (λ stepped. WentOne (spot seat.old (C.coming clock.old)) event (Stepped stepped) (spot seat.new (C.coming clock.new))) }
+    ensures spent { OnErr result (seat.old.left ≡ 0) }
+    ensures same { OnErr result (spot seat.new (C.coming clock.new) ≡ spot seat.old (C.coming clock.old)) }
+{
+    if seat.left() == 0 {
+        return Err(Spent);
+    }
+    let moment = clock.now();
+    let hold = bells.hold(rt);
+    let stepped = step(rt, desk, seat, Timed { event, moment });
+    drop(hold);
+    bells.ring(rt);
+    match stepped {
+        Ok(stepped) => Ok(stepped),
+        Err(_) => unreachable!(),
+    }
+}
+
+/// How a connection ends by the answer to a step, if it does.
+fn end_by(stepped: Result<Verdict, AllocError>) -> Option<ReaderEnd>
+    ensures { Tells result (Stepped stepped) }
+{
+    match stepped {
+        Ok(Verdict::Go) => None,
+        Ok(Verdict::Close) => Some(ReaderEnd::Dismissed),
+        Ok(Verdict::Ended) => Some(ReaderEnd::DeskEnded),
+        Err(_) => Some(ReaderEnd::Memory),
+    }
+}
+
+/// Hands on the frames that are whole.
+fn hand_on<R: Host + Net<Listener = TcpListener, Stream = TcpStream>, C: Clock, G: Gate>(
+    rt: &R,
+    desk: &TurnDesk<DeskObject>,
+    seat: &mut TurnSeat<DeskObject>,
+    side: Side,
+    clock: &mut C,
+    gate: &G,
+    bells: &Bells,
+    framer: &mut Framer,
+    count: &mut u64,
+) -> Option<ReaderEnd>
+    requires desk { IsSeatOf desk.now seat.old }
+    ensures desk { SameDesk seat.new seat.old }
+    ensures handed { (fed : List ℕ) (given : List (List ℕ)) → Stands framer.old fed given → (more : List (List ℕ)) × (calls : List DeskCall) × Went (spot seat.old (C.coming clock.old)) (messages side more) calls (spot seat.new (C.coming clock.new)) × AreFirst (given ++ more) (frames_of fed) × HandedTo result framer.new fed (given ++ more) calls seat.new.left }
+{
+    for _ in rt.forever() {
+        let frame = match framer.next() {
+            Ok(Next::Frame(frame)) => frame,
+            Ok(Next::NeedMore) => return None,
+            Ok(Next::Ended) => return None,
+            Err(_) => return Some(ReaderEnd::Memory),
+        };
+        gate.pass(rt, side, *count);
+        *count = count.wrapping_add(1);
+        let Ok(stepped) = ask(rt, desk, seat, clock, bells, message(side, frame)) else {
+            return Some(ReaderEnd::Spent);
+        };
+        if let Some(end) = end_by(stepped) {
+            return Some(end);
+        }
+    }
+    unreachable!()
+}
+
+/// Takes all that comes from the source, and hands on its frames.
+fn read_on<R: Host + Net<Listener = TcpListener, Stream = TcpStream>, S: Source, C: Clock, G: Gate>(
+    rt: &R,
+    alloc: Global,
+    desk: &TurnDesk<DeskObject>,
+    seat: &mut TurnSeat<DeskObject>,
+    source: &mut S,
+    side: Side,
+    clock: &mut C,
+    gate: &G,
+    bells: &Bells,
+    piece: &mut [u8],
+) -> ReaderEnd
+    requires desk { IsSeatOf desk.now seat.old }
+    requires piece { 0 < length piece.old }
+    ensures desk { SameDesk seat.new seat.old }
+    ensures reading { Reading side (spot seat.old (C.coming clock.old)) (S.left source.old) result (S.left source.new) (spot seat.new (C.coming clock.new)) }
+    ensures fault { result ≡ ReadFault → Rose (S.faults source.old) (S.faults source.new) }
+    ensures closed { result ≡ Closed → IsUsedUp (S.left source.new) }
+{
+    let mut framer = Framer::new(alloc);
+    let mut count = 0;
+    for _ in rt.forever() {
+        let Ok(taken) = source.take(piece) else {
+            return ReaderEnd::ReadFault;
+        };
+        if taken == 0 {
+            return ReaderEnd::Closed;
+        }
+        let Ok(()) = framer.feed(&piece[..taken]) else {
+            return ReaderEnd::Memory;
+        };
+        let end = hand_on(
+            rt,
+            desk,
+            seat,
+            side,
+            clock,
+            gate,
+            bells,
+            &mut framer,
+            &mut count,
+        );
+        if let Some(end) = end {
+            return end;
+        }
+    }
+    unreachable!()
+}
+
+/// Takes all that comes from the source in pieces of 64 KiB. The switch's or a slice's messages, between
+/// the up and the down.
+fn read_all<
+    R: Host + Net<Listener = TcpListener, Stream = TcpStream>,
+    S: Source,
+    C: Clock,
+    G: Gate,
+>(
+    rt: &R,
+    alloc: Global,
+    desk: &TurnDesk<DeskObject>,
+    seat: &mut TurnSeat<DeskObject>,
+    source: &mut S,
+    side: Side,
+    clock: &mut C,
+    gate: &G,
+    bells: &Bells,
+) -> ReaderEnd
+    requires desk { IsSeatOf desk.now seat.old }
+    ensures desk { SameDesk seat.new seat.old }
+    ensures reading { Reading side (spot seat.old (C.coming clock.old)) (S.left source.old) result (S.left source.new) (spot seat.new (C.coming clock.new)) }
+    ensures fault { result ≡ ReadFault → Rose (S.faults source.old) (S.faults source.new) }
+    ensures closed { result ≡ Closed → IsUsedUp (S.left source.new) }
+{
+    let Ok(mut piece) = vec![in alloc; 0; PIECE] else {
+        return ReaderEnd::Memory;
+    };
+    read_on(
+        rt, alloc, desk, seat, source, side, clock, gate, bells, &mut piece,
+    )
+}
+
+/// The up of a connection, and what its source gives.
+fn begin<R: Host + Net<Listener = TcpListener, Stream = TcpStream>, S: Source, C: Clock, G: Gate>(
+    rt: &R,
+    alloc: Global,
+    desk: &TurnDesk<DeskObject>,
+    seat: &mut TurnSeat<DeskObject>,
+    source: &mut S,
+    side: Side,
+    clock: &mut C,
+    gate: &G,
+    bells: &Bells,
+) -> ReaderEnd
+    requires desk { IsSeatOf desk.now seat.old }
+    ensures desk { SameDesk seat.new seat.old }
+    ensures begun { Begun side (spot seat.old (C.coming clock.old)) (S.left source.old) result (S.left source.new) (spot seat.new (C.coming clock.new)) }
+    ensures fault { result ≡ ReadFault → Rose (S.faults source.old) (S.faults source.new) }
+    ensures closed { result ≡ Closed → IsUsedUp (S.left source.new) }
+{
+    let stepped = ask(rt, desk, seat, clock, bells, up(side));
+    bells.came(rt, side);
+    let Ok(stepped) = stepped else {
+        return ReaderEnd::Spent;
+    };
+    if let Some(end) = end_by(stepped) {
+        return end;
+    }
+    read_all(rt, alloc, desk, seat, source, side, clock, gate, bells)
+}
+
+/// Whether the desk is told that a connection ended so.
+fn closes(end: ReaderEnd) -> bool
+    ensures { result ≡ closes end }
+{
+    match end {
+        ReaderEnd::Closed | ReaderEnd::ReadFault | ReaderEnd::Memory => true,
+        ReaderEnd::Dismissed | ReaderEnd::DeskEnded | ReaderEnd::Spent => false,
+    }
+}
+
+/// The down of a connection that ended so, where there is to be one.
+fn finish<R: Wait, C: Clock>(
+    rt: &R,
+    desk: &TurnDesk<DeskObject>,
+    seat: &mut TurnSeat<DeskObject>,
+    side: Side,
+    clock: &mut C,
+    bells: &Bells,
+    end: ReaderEnd,
+) -> ReaderEnd
+    requires desk { IsSeatOf desk.now seat.old }
+    ensures desk { SameDesk seat.new seat.old }
+    ensures finished { Finishes side end (spot seat.old (C.coming clock.old)) result (spot seat.new (C.coming clock.new)) }
+{
+    if !closes(end) {
+        return end;
+    }
+    let Ok(_) = ask(rt, desk, seat, clock, bells, down(side)) else {
+        return ReaderEnd::Spent;
+    };
+    end
+}
+
+/// Reads one connection: the seat asks the desk for its up, a message for each frame of the bytes taken, in
+/// order, and its down, each at the clock's next answer. No down follows a reply that ends the connection, so
+/// that what it sent before can still be taken. Rings all bells after each of these, and at its end.
+pub fn run_reader<
+    R: Host + Net<Listener = TcpListener, Stream = TcpStream>,
+    S: Source,
+    C: Clock,
+    G: Gate,
+>(
+    rt: &R,
+    alloc: Global,
+    desk: &TurnDesk<DeskObject>,
+    seat: &mut TurnSeat<DeskObject>,
+    source: &mut S,
+    side: Side,
+    clock: &mut C,
+    gate: &G,
+    bells: &Bells,
+) -> ReaderEnd
+    requires desk { IsSeatOf desk.now seat.old }
+    ensures desk { SameDesk seat.new seat.old }
+    ensures stretch { Stretch side (spot seat.old (C.coming clock.old)) (S.left source.old) result (S.left source.new) (spot seat.new (C.coming clock.new)) }
+    ensures fault { result ≡ ReadFault → Rose (S.faults source.old) (S.faults source.new) }
+    ensures closed { result ≡ Closed → IsUsedUp (S.left source.new) }
+{
+    let end = begin(rt, alloc, desk, seat, source, side, clock, gate, bells);
+    let end = finish(rt, desk, seat, side, clock, bells, end);
+    bells.ring(rt);
+    end
+}

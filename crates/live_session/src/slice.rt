@@ -1,0 +1,216 @@
+ghost use Rattle.std.specs.Prelude.{◌≡◌, ◌≤◌, ◌<◌, ◌+◌, ℕ, List, [], ◌∷◌, Option, length, IfOk, OnOk, OnErr, IfSome, IfNone, MatchBool, ◌≢◌};
+ghost use Rattle.fv_base.specs.Told.{Rose};
+ghost use Rattle.fv_live.specs.Live.{counted};
+ghost use Rattle.turn_desk.specs.Seats.{IsSeatOf, SameDesk, view};
+ghost use Rattle.live_session.specs.declared.ends.SliceEnd.TheVariants.{GaveUp};
+ghost use Rattle.live_session.specs.declared.ends.ReaderEnd.{ReaderEnd};
+ghost use Rattle.desk_words.specs.declared.answer.Taken.TheVariants as takens;
+ghost use Rattle.live_session.specs.declared.side.Side.TheVariants as sides;
+ghost use Rattle.live_session.specs.Stretches.{spot};
+ghost use Rattle.live_session.specs.Takings.{TookOne};
+ghost use Rattle.live_session.specs.Links.{RoseBy, Opening, OpeningSpent, Link, Linked, LinksEnd, OverFor, Sliced};
+
+use crate::bells::{Bells, bell_of};
+use crate::ends::{ReaderEnd, SliceEnd};
+use crate::gate::Gate;
+use crate::half::Half;
+use crate::reader::run_reader;
+use crate::side::Side;
+use crate::writer::take;
+use fv_live::{Clock, Dialer, Host};
+use live_desk::DeskObject;
+use proxy_core::{Dest, Taken};
+use std::alloc::Global;
+use std::net::{Net, TcpListener, TcpStream};
+use std::sync::Wait;
+use turn_desk::{Spent, TurnDesk, TurnSeat};
+
+/// How many attempts in a row fail before a slice's reader gives up.
+const ATTEMPTS: u32 = 1000;
+
+/// One take, while nobody else asks the desk.
+fn take_alone<R: Wait>(
+    rt: &R,
+    desk: &TurnDesk<DeskObject>,
+    seat: &mut TurnSeat<DeskObject>,
+    dest: Dest,
+    bells: &Bells,
+) -> Result<Taken, Spent>
+    requires desk { IsSeatOf desk.now seat.old }
+    ensures desk { SameDesk seat.new seat.old }
+    ensures took { IfOk result (λ taken. TookOne dest (view seat.old) seat.old.left taken (view seat.new) seat.new.left) }
+    ensures spent { OnErr result (seat.old.left ≡ 0) }
+    ensures same { OnErr result (seat.new ≡ seat.old) }
+{
+    let hold = bells.hold(rt);
+    let taken = take(rt, desk, seat, dest);
+    drop(hold);
+    taken
+}
+
+/// Takes for the slice until the desk is open.
+fn await_open<R: Wait>(
+    rt: &R,
+    desk: &TurnDesk<DeskObject>,
+    seat: &mut TurnSeat<DeskObject>,
+    slot: u8,
+    bells: &Bells,
+) -> Result<(), Spent>
+    requires desk { IsSeatOf desk.now seat.old }
+    ensures desk { SameDesk seat.new seat.old }
+    ensures opening { OnOk result (Opening slot (view seat.old) seat.old.left (view seat.new) seat.new.left) }
+    ensures spent { OnErr result (OpeningSpent slot (view seat.old) seat.old.left (view seat.new) seat.new.left) }
+{
+    let at = bell_of(Dest::Slice(slot));
+    for _ in rt.forever() {
+        let seen = bells.rings(rt, at);
+        bells.lie_down(at);
+        let taken = take_alone(rt, desk, seat, Dest::Slice(slot), bells)?;
+        if !is_early(&taken) {
+            return Ok(());
+        }
+        bells.sleep(rt, at, seen);
+    }
+    unreachable!()
+}
+
+/// Whether the desk isn't open.
+fn is_early(taken: &Taken) -> bool
+    ensures { MatchBool result (taken.now ≡ takens.NotOpen) (taken.now ≢ takens.NotOpen) }
+{
+    matches!(taken, Taken::NotOpen)
+}
+
+/// One attempt, and where it goes well the link's whole stretch.
+fn dial_once<
+    R: Host + Net<Listener = TcpListener, Stream = TcpStream>,
+    D: Dialer,
+    C: Clock,
+    G: Gate,
+>(
+    rt: &R,
+    alloc: Global,
+    desk: &TurnDesk<DeskObject>,
+    seat: &mut TurnSeat<DeskObject>,
+    dialer: &mut D,
+    to: &str,
+    attempt: u32,
+    slot: u8,
+    clock: &mut C,
+    gate: &G,
+    half: &Half<D::Out>,
+    bells: &Bells,
+) -> Option<ReaderEnd>
+    requires desk { IsSeatOf desk.now seat.old }
+    ensures desk { SameDesk seat.new seat.old }
+    ensures link { IfSome result (λ end. Link (sides.Slice slot) (spot seat.old (C.coming clock.old)) end (spot seat.new (C.coming clock.new))) }
+    ensures told { IfSome result (λ end. D.links dialer.new ≡ counted (D.links dialer.old) 1) }
+    ensures same { IfNone result (spot seat.new (C.coming clock.new) ≡ spot seat.old (C.coming clock.old)) }
+    ensures untold { IfNone result (D.links dialer.new ≡ D.links dialer.old) }
+    ensures cause { IfNone result (Rose (D.faults dialer.old to.now) (D.faults dialer.new to.now)) }
+    ensures count { D.faults dialer.old to.now ≤ D.faults dialer.new to.now }
+{
+    let Ok((mut source, out)) = dialer.dial(rt, to, attempt) else {
+        return None;
+    };
+    half.put(rt, out);
+    let end = run_reader(
+        rt,
+        alloc,
+        desk,
+        seat,
+        &mut source,
+        Side::Slice(slot),
+        clock,
+        gate,
+        bells,
+    );
+    Some(end)
+}
+
+/// How a slice's reader ends by the end of a link, if it does.
+fn over_by(end: ReaderEnd) -> Option<SliceEnd>
+    ensures { OverFor result end }
+{
+    match end {
+        ReaderEnd::DeskEnded => Some(SliceEnd::DeskEnded),
+        ReaderEnd::Spent => Some(SliceEnd::Spent),
+        ReaderEnd::Closed | ReaderEnd::ReadFault | ReaderEnd::Dismissed | ReaderEnd::Memory => None,
+    }
+}
+
+/// Dials again and again.
+fn dial_on<R: Host + Net<Listener = TcpListener, Stream = TcpStream>, D: Dialer, C: Clock, G: Gate>(
+    rt: &R,
+    alloc: Global,
+    desk: &TurnDesk<DeskObject>,
+    seat: &mut TurnSeat<DeskObject>,
+    dialer: &mut D,
+    to: &str,
+    slot: u8,
+    clock: &mut C,
+    gate: &G,
+    half: &Half<D::Out>,
+    bells: &Bells,
+) -> SliceEnd
+    requires desk { IsSeatOf desk.now seat.old }
+    ensures desk { SameDesk seat.new seat.old }
+    ensures links { (ends : List ReaderEnd) × Linked (sides.Slice slot) ends (spot seat.old (C.coming clock.old)) (spot seat.new (C.coming clock.new)) × LinksEnd result ends × (D.links dialer.new ≡ counted (D.links dialer.old) (length ends)) }
+    ensures gave_up { result ≡ GaveUp → RoseBy 1000 (D.faults dialer.old to.now) (D.faults dialer.new to.now) }
+{
+    let mut failed = 0;
+    for _ in rt.forever() {
+        let Some(end) = dial_once(
+            rt, alloc, desk, seat, dialer, to, failed, slot, clock, gate, half, bells,
+        ) else {
+            failed += 1;
+            if failed >= ATTEMPTS {
+                return SliceEnd::GaveUp;
+            }
+            continue;
+        };
+        if let Some(over) = over_by(end) {
+            return over;
+        }
+        half.wait_for_end(rt);
+        failed = 0;
+    }
+    unreachable!()
+}
+
+/// The body of a slice's reader: waits until the desk is open, and then reads one link after another as
+/// `run_reader` does. Each link's writing half goes to `half`; the next dial waits until its writer has ended.
+/// Gives up after 1,000 failed dials in a row.
+pub fn run_slice<
+    R: Host + Net<Listener = TcpListener, Stream = TcpStream>,
+    D: Dialer,
+    C: Clock,
+    G: Gate,
+>(
+    rt: &R,
+    alloc: Global,
+    desk: &TurnDesk<DeskObject>,
+    seat: &mut TurnSeat<DeskObject>,
+    dialer: &mut D,
+    to: &str,
+    slot: u8,
+    clock: &mut C,
+    gate: &G,
+    half: &Half<D::Out>,
+    bells: &Bells,
+) -> SliceEnd
+    requires desk { IsSeatOf desk.now seat.old }
+    ensures desk { SameDesk seat.new seat.old }
+    ensures sliced { Sliced slot (spot seat.old (C.coming clock.old)) (D.links dialer.old) result (D.links dialer.new) (spot seat.new (C.coming clock.new)) }
+    ensures gave_up { result ≡ GaveUp → RoseBy 1000 (D.faults dialer.old to.now) (D.faults dialer.new to.now) }
+{
+    let Ok(()) = await_open(rt, desk, seat, slot, bells) else {
+        half.close(rt);
+        return SliceEnd::Spent;
+    };
+    let end = dial_on(
+        rt, alloc, desk, seat, dialer, to, slot, clock, gate, half, bells,
+    );
+    half.close(rt);
+    end
+}
