@@ -9,7 +9,7 @@ use crate::settings::{Settings, has_port};
 use crate::view::Seen;
 use of10_ctl::kind::{QUEUE_GET_CONFIG_REQUEST, STATS_REPLY};
 use of10_ctl::{Frame, message};
-use of10_model::wire::{put_u8, put_u16, put_u32, put_u64, u16_at};
+use of10_model::wire::{put_u16, put_u32, put_u64, u16_at};
 use of10_port::protocol::{ALL, NONE};
 use of10_stats::StatsRequest;
 use of10_stats::protocol::TABLE;
