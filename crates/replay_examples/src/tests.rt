@@ -2,6 +2,7 @@
 
 mod buffers;
 mod checks;
+mod controllers;
 mod entries;
 mod flow_mods;
 mod flow_mods_refused;

@@ -53,6 +53,9 @@ const TO_WEB: &str = "010a004800000000ffffffff003600010000+WEB+";
 /// The same to port 22, which is bob's.
 const TO_SHELL: &str = "010a004800000000ffffffff003600010000+SHELL+";
 
+/// An entry of flow statistics that is alice's.
+const OWN_ENTRY: &str = "+ENTRY+MATCH_WEB+AGED+";
+
 /// The message that clears the switch's flow table.
 const CLEARING: &str =
     "010e0048ff000003003820ff00000000000000000000000000000000000000000000000000000000\
@@ -90,6 +93,7 @@ fn named(piece: &str) -> &str {
         "WEB" => WEB,
         "TO_WEB" => TO_WEB,
         "TO_SHELL" => TO_SHELL,
+        "OWN_ENTRY" => OWN_ENTRY,
         "OPENING" => OPENING,
         "CLEARING" => CLEARING,
         "OPENED" => OPENED,

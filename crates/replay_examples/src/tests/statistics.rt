@@ -4,7 +4,9 @@
 
 use super::POLICY;
 use super::flow_mods_refused::SLOW;
+use super::records::Cut;
 use super::sessions::{PORT_POLICY, expect_reports};
+use super::tables::expect_cut;
 use std::test::Fail;
 
 /// Barriers, and questions for the queues of a port.
@@ -233,6 +235,20 @@ OPENED
 end 9
 ";
 
+/// More entries than one reply holds.
+const MANY: &str = "\
+# 700 of alice's in two parts: 682 in one reply, behind which more come, and 18 in another.
+> opened
+> alice 0110003800000001+00010000+MATCH_ALL+EVERY
+> switch 0111834c00000000+00010001+350*OWN_ENTRY
+> switch 0111834c00000000+00010000+350*OWN_ENTRY
+OPENED
+4 0 lane 0110003800000000+00010000+MATCH_ALL+EVERY
+6 0 to alice 0111ffcc00000001+00010001+682*OWN_ENTRY
+6 0 to alice 011106cc00000001+00010000+18*OWN_ENTRY
+end 7
+";
+
 /// A table is told at once: what the slice booked, and its quota.
 const TABLES: &str = "\
 # alice booked nothing yet; then an entry that is checked for overlaps, which refuses a second one.
@@ -380,6 +396,11 @@ fn barriers_and_queues_are_answered_once(rt: HostRuntime) -> Result<(), Fail> {
 #[test]
 fn statistics_are_collected_and_filtered(rt: HostRuntime) -> Result<(), Fail> {
     expect_reports(&rt, rt.alloc(), POLICY, STATISTICS)
+}
+
+#[test]
+fn many_entries_come_in_whole_replies(rt: HostRuntime) -> Result<(), Fail> {
+    expect_cut(&rt, rt.alloc(), (POLICY, 0, Cut::Whole), MANY)
 }
 
 #[test]

@@ -1,0 +1,7 @@
+mod Normal
+mod Pieces
+mod Appending
+mod Sizes
+mod Cases
+mod Accepted
+mod Loaded

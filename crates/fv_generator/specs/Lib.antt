@@ -1,0 +1,5 @@
+pub mod Drawing
+pub mod Packets
+pub mod Messages
+pub mod Made
+pub mod Policies

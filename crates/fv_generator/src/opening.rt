@@ -1,0 +1,51 @@
+//! How a recording begins.
+
+ghost use Rattle.std.specs.Prelude.{◌≡◌, ◌++◌, IfOk, OnOk, flat_map};
+ghost use Rattle.recording.specs.Recordings.{spell};
+ghost use Rattle.fv_generator.specs.Made.{features_told, opening, port_of};
+
+use of10_ctl::Frame;
+use of10_model::wire::set_u16;
+use of10_port::protocol::LOCAL;
+use of10_port::{Features, Port, Ports};
+use recording::{SLICE_UP, SWITCH_BYTES, SWITCH_UP, add_item};
+use std::alloc::{AllocError, Global};
+
+/// The transaction id under which the proxy asks a switch for its features.
+const ASKED: u32 = 0xff00_0001;
+
+/// A port of which all but its number is zero.
+fn port(number: u16) -> Port
+    ensures { result ≡ port_of number }
+{
+    let mut raw = [0; 48];
+    set_u16(&mut raw, 0, number);
+    Port::of(raw)
+}
+
+/// What the switch tells of itself: four ports, one of them its own.
+#[tactic(auto, unfolding(crate::specs::Made::features_told))]
+fn features(alloc: Global) -> Result<Frame, AllocError>
+    ensures { IfOk result (λ f. f ≡ features_told) }
+{
+    let features = Features {
+        datapath: 0xa1,
+        buffers: 256,
+        tables: 1,
+        capabilities: 0,
+        actions: 0xfff,
+        ports: Ports::of(alloc, &[port(1), port(2), port(3), port(LOCAL)])?,
+    };
+    features.encode(alloc, ASKED)
+}
+
+/// Appends the records with which every made recording begins: the switch and both slices come.
+pub(crate) fn put_opening(alloc: Global, out: &mut Vec<u8>) -> Result<(), AllocError>
+    ensures { OnOk result (out.new.items ≡ out.old.items ++ flat_map spell opening) }
+{
+    let told = features(alloc)?;
+    add_item(out, SWITCH_UP, 0, 0, 0, &[])?;
+    add_item(out, SWITCH_BYTES, 0, 0, 0, told.as_slice())?;
+    add_item(out, SLICE_UP, 0, 0, 0, &[])?;
+    add_item(out, SLICE_UP, 0, 1, 0, &[])
+}
