@@ -20,7 +20,15 @@ fn messages_are_asked_whatever_the_pieces_are(rt: HostRuntime) -> Result<(), Fai
     let mut clock = clock(alloc)?;
     let side = Side::Slice(0);
     let end = run_reader(
-        &rt, alloc, &desk, &mut reader, &mut source, side, &mut clock, &OpenGate, &bells,
+        &rt,
+        alloc,
+        &desk,
+        &mut reader,
+        &mut source,
+        side,
+        &mut clock,
+        &OpenGate,
+        &bells,
     );
     assert_eq!(rt; end, ReaderEnd::Dismissed);
     assert_eq!(rt; reader.left(), 97);
@@ -46,11 +54,24 @@ fn source_that_is_closed_takes_the_switch_down(rt: HostRuntime) -> Result<(), Fa
     let mut clock = clock(alloc)?;
     let side = Side::Switch;
     let end = run_reader(
-        &rt, alloc, &desk, &mut reader, &mut source, side, &mut clock, &OpenGate, &bells,
+        &rt,
+        alloc,
+        &desk,
+        &mut reader,
+        &mut source,
+        side,
+        &mut clock,
+        &OpenGate,
+        &bells,
     );
     assert_eq!(rt; end, ReaderEnd::Closed);
     assert_eq!(rt; reader.left(), 97);
-    assert!(rt; matches!(take(&rt, &desk, &mut seat, Dest::Switch), Some(Taken::Ended)));
+    assert!(rt;
+        matches!(
+            take(&rt, &desk, &mut seat, Dest::Switch),
+            Some(Taken::Ended)
+        )
+    );
     Ok(())
 }
 
@@ -64,12 +85,25 @@ fn source_that_fails_takes_the_switch_down(rt: HostRuntime) -> Result<(), Fail> 
     let mut clock = clock(alloc)?;
     let side = Side::Switch;
     let end = run_reader(
-        &rt, alloc, &desk, &mut reader, &mut source, side, &mut clock, &OpenGate, &bells,
+        &rt,
+        alloc,
+        &desk,
+        &mut reader,
+        &mut source,
+        side,
+        &mut clock,
+        &OpenGate,
+        &bells,
     );
     assert_eq!(rt; end, ReaderEnd::ReadFault);
     assert_eq!(rt; source.faults(), 1);
     assert_eq!(rt; reader.left(), 97);
-    assert!(rt; matches!(take(&rt, &desk, &mut seat, Dest::Switch), Some(Taken::Ended)));
+    assert!(rt;
+        matches!(
+            take(&rt, &desk, &mut seat, Dest::Switch),
+            Some(Taken::Ended)
+        )
+    );
     Ok(())
 }
 
@@ -81,12 +115,23 @@ fn desk_that_has_ended_ends_its_readers_and_writers(rt: HostRuntime) -> Result<(
     let mut writer = desk.split(&mut seat, 100);
     let bells = Bells::new(alloc, 2)?;
     open(&rt, alloc, &desk, &mut seat)?;
-    assert_eq!(rt; step(&rt, &desk, &mut seat, Event::SwitchDown), Some(Verdict::Go));
+    assert_eq!(rt;
+        step(&rt, &desk, &mut seat, Event::SwitchDown),
+        Some(Verdict::Go)
+    );
     let mut source = source(alloc, &[ECHO], Vec::new(alloc))?;
     let mut clock = clock(alloc)?;
     let side = Side::Slice(1);
     let end = run_reader(
-        &rt, alloc, &desk, &mut reader, &mut source, side, &mut clock, &OpenGate, &bells,
+        &rt,
+        alloc,
+        &desk,
+        &mut reader,
+        &mut source,
+        side,
+        &mut clock,
+        &OpenGate,
+        &bells,
     );
     assert_eq!(rt; end, ReaderEnd::DeskEnded);
     assert_eq!(rt; reader.left(), 99);
@@ -109,11 +154,24 @@ fn reader_ends_once_its_calls_are_spent(rt: HostRuntime) -> Result<(), Fail> {
     let mut clock = clock(alloc)?;
     let side = Side::Switch;
     let end = run_reader(
-        &rt, alloc, &desk, &mut reader, &mut source, side, &mut clock, &OpenGate, &bells,
+        &rt,
+        alloc,
+        &desk,
+        &mut reader,
+        &mut source,
+        side,
+        &mut clock,
+        &OpenGate,
+        &bells,
     );
     assert_eq!(rt; end, ReaderEnd::Spent);
     assert_eq!(rt; reader.left(), 0);
     assert_eq!(rt; clock.now(), 12);
-    assert!(rt; matches!(take(&rt, &desk, &mut seat, Dest::Switch), Some(Taken::Message(_))));
+    assert!(rt;
+        matches!(
+            take(&rt, &desk, &mut seat, Dest::Switch),
+            Some(Taken::Message(_))
+        )
+    );
     Ok(())
 }

@@ -15,7 +15,16 @@ fn reader_gives_up_after_a_thousand_dials(rt: HostRuntime) -> Result<(), Fail> {
     let half = Half::new(alloc)?;
     let mut clock = clock(alloc)?;
     let end = run_slice(
-        &rt, alloc, &desk, &mut reader, &mut dialer, "alice", 0, &mut clock, &OpenGate, &half,
+        &rt,
+        alloc,
+        &desk,
+        &mut reader,
+        &mut dialer,
+        "alice",
+        0,
+        &mut clock,
+        &OpenGate,
+        &half,
         &bells,
     );
     assert_eq!(rt; end, SliceEnd::GaveUp);

@@ -1,9 +1,7 @@
 use crate::desks::{ECHO, FIRST_VERSION, TO_DISMISSED, clock, desk, open, source};
 use fv_base::MemorySink;
 use fv_live::MemorySource;
-use live_session::{
-    Bells, OpenGate, ReaderEnd, Side, WriterEnd, run_reader, run_writer,
-};
+use live_session::{Bells, OpenGate, ReaderEnd, Side, WriterEnd, run_reader, run_writer};
 use of10_ctl::message;
 use proxy_core::Dest;
 use samples::bytes;
@@ -21,7 +19,15 @@ fn sink_that_fails_took_a_beginning(rt: HostRuntime) -> Result<(), Fail> {
     let mut clock = clock(alloc)?;
     let side = Side::Slice(0);
     let end = run_reader(
-        &rt, alloc, &desk, &mut reader, &mut source, side, &mut clock, &OpenGate, &bells,
+        &rt,
+        alloc,
+        &desk,
+        &mut reader,
+        &mut source,
+        side,
+        &mut clock,
+        &OpenGate,
+        &bells,
     );
     assert_eq!(rt; end, ReaderEnd::Dismissed);
     let mut sink = MemorySink::with_plan(alloc, 5, vec![in alloc; 2]?);
@@ -58,7 +64,15 @@ fn writer_of_a_slice_that_reads_too_slowly_is_choked(rt: HostRuntime) -> Result<
     let mut clock = clock(alloc)?;
     let side = Side::Slice(0);
     let end = run_reader(
-        &rt, alloc, &desk, &mut reader, &mut source, side, &mut clock, &OpenGate, &bells,
+        &rt,
+        alloc,
+        &desk,
+        &mut reader,
+        &mut source,
+        side,
+        &mut clock,
+        &OpenGate,
+        &bells,
     );
     assert_eq!(rt; end, ReaderEnd::Spent);
     let mut sink = MemorySink::new(alloc);
@@ -81,7 +95,15 @@ fn writer_ends_once_its_calls_are_spent(rt: HostRuntime) -> Result<(), Fail> {
     let mut clock = clock(alloc)?;
     let side = Side::Slice(1);
     let end = run_reader(
-        &rt, alloc, &desk, &mut reader, &mut source, side, &mut clock, &OpenGate, &bells,
+        &rt,
+        alloc,
+        &desk,
+        &mut reader,
+        &mut source,
+        side,
+        &mut clock,
+        &OpenGate,
+        &bells,
     );
     assert_eq!(rt; end, ReaderEnd::Dismissed);
     let mut sink = MemorySink::new(alloc);
