@@ -38,13 +38,17 @@ end 92
 
 /// A TCP packet of 54 bytes to port 80, from a port.
 fn packet(alloc: Global, port: u32) -> Result<String, Fail> {
-    Ok(format!(in alloc; "00000000000200000000000108004500002800000000400600000a0000010a000002{port:04x}005000000000000000005002000000000000")?)
+    Ok(format!(in alloc;
+        "00000000000200000000000108004500002800000000400600000a0000010a000002{port:04x}005000000000000000005002000000000000"
+    )?)
 }
 
 /// What a flow-mod has behind its id: the match of that packet alone, 60 seconds of idling, a buffer, and an output to
 /// port 2.
 fn entry(alloc: Global, port: u32, buffer: u32, flags: u16) -> Result<String, Fail> {
-    Ok(format!(in alloc; "000000000001000000000001000000000002ffff00000800000600000a0000010a000002{port:04x}005000000000000000000000003c00008000{buffer:08x}ffff{flags:04x}0000000800020000")?)
+    Ok(format!(in alloc;
+        "000000000001000000000001000000000002ffff00000800000600000a0000010a000002{port:04x}005000000000000000000000003c00008000{buffer:08x}ffff{flags:04x}0000000800020000"
+    )?)
 }
 
 /// Forty packets that the switch keeps in its buffers from 100 on, each from another port and answered at once.
@@ -58,9 +62,15 @@ fn forty(alloc: Global) -> Result<(String, String), Fail> {
         let asked = entry(alloc, port, number, 0)?;
         let sent = entry(alloc, port, buffer, 1)?;
         let xid = number.wrapping_add(3);
-        write!(steps, "> switch 010a004800000000{buffer:08x}003600010000{packet}\n")?;
+        write!(
+            steps,
+            "> switch 010a004800000000{buffer:08x}003600010000{packet}\n"
+        )?;
         write!(steps, "> alice 010e0050{xid:08x}{asked}\n")?;
-        write!(lines, "{event} 0 to alice 010a004800000000{number:08x}003600010000{packet}\n")?;
+        write!(
+            lines,
+            "{event} 0 to alice 010a004800000000{number:08x}003600010000{packet}\n"
+        )?;
         let event = event.wrapping_add(1);
         write!(lines, "{event} 0 lane 010e0050{number:08x}{sent}\n")?;
     }
