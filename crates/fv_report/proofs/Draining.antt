@@ -1,70 +1,58 @@
--- Messages that are taken and written one after another.
-use Rattle.std.proofs.Common.{◌≡◌, ℕ, List, [], ◌∷◌, ◌++◌, drop, refl, sym, ap, ◌∙◌, append_assoc, Option, Some, None, slice_get, subst, codes}
-use Rattle.std.specs.List.{flat_map}
+-- Messages that are taken and told one after another.
+use Rattle.std.proofs.Common.{◌≡◌, inl, inr, ℕ, Bool, true, false, List, [], ◌∷◌, ◌++◌, map, drop, refl, sym, ap, ◌∙◌, append_assoc, Some, None, slice_get, subst}
 use Rattle.std.proofs.lemmas.List.{append-nil}
 use Rattle.std.proofs.lemmas.Option.{none-some, same_Some}
-use Rattle.fv_base.specs.Told.{appended}
-use Rattle.hex.specs.Hex.{encode_lower}
-use Rattle.desk_words.specs.Reports.{Place, line}
-use Rattle.fv_report.specs.Writing.{WrotePart}
-use Rattle.fv_base.proofs.Appending.{appended_none}
-use Rattle.fv_report.proofs.Writing.{both, part_of_first, part_of_second}
+use Rattle.fv_report.specs.Telling.{Line, Heard, HeardPart}
+use Rattle.fv_report.proofs.Writing.{heard_both, heard_part_of_second}
 
--- the line of one message
-abbrev pub lane_text : Place → List ℕ → List ℕ
-lane_text place message = line place (codes "lane " ++ encode_lower message)
-
-abbrev pub slice_text : Place → List ℕ → List ℕ → List ℕ
-slice_text place name message = line place (codes "to " ++ name ++ codes " " ++ encode_lower message)
-
--- of the messages that waited these are left, and the lines of the others are written
-pub record Drained (IsLeft : List (List ℕ) → Type 0) (text : List ℕ → List ℕ) (messages : List (List ℕ)) (before now : Option (List ℕ)) : Type 0 where
+-- of the messages that waited these are left, and the lines of the others are told
+pub record Drained {T : Type 0} (Tells : T → Line → Bool → T → Type 0) (IsLeft : List (List ℕ) → Type 0) (line : List ℕ → Line) (messages : List (List ℕ)) (before now : T) : Type 0 where
   pub left : List (List ℕ)
   pub holds : IsLeft left
-  pub done : List ℕ
-  pub written : now ≡ appended before done
-  pub whole : done ++ flat_map text left ≡ flat_map text messages
+  pub done : List Line
+  pub written : Heard Tells before done now
+  pub whole : done ++ map line left ≡ map line messages
 
-pub drained_first : (IsLeft : List (List ℕ) → Type 0) (text : List ℕ → List ℕ) (messages : List (List ℕ)) (before : Option (List ℕ)) → IsLeft messages → Drained IsLeft text messages before before
-drained_first IsLeft text messages before holds = record { left = messages; holds = holds; done = []; written = appended_none before; whole = refl }
+pub drained_first : {T : Type 0} (Tells : T → Line → Bool → T → Type 0) (IsLeft : List (List ℕ) → Type 0) (line : List ℕ → Line) (messages : List (List ℕ)) (before : T) → IsLeft messages → Drained Tells IsLeft line messages before before
+drained_first Tells IsLeft line messages before holds = record { left = messages; holds = holds; done = []; written = refl; whole = refl }
 
-more : (Then : List (List ℕ) → Type 0) (text : List ℕ → List ℕ) (messages left : List (List ℕ)) (done : List ℕ) (before now later : Option (List ℕ)) (message : List ℕ)
-    → now ≡ appended before done → done ++ flat_map text left ≡ flat_map text messages → Some message ≡ slice_get left 0 → Then (drop 1 left) → later ≡ appended now (text message) → Drained Then text messages before later
-more Then text messages [] done before now later message written whole is next told = absurd (none-some message (sym is))
-more Then text messages (first ∷ others) done before now later message written whole is next told = record {
+more : {T : Type 0} (Tells : T → Line → Bool → T → Type 0) (Then : List (List ℕ) → Type 0) (line : List ℕ → Line) (messages left : List (List ℕ)) (done : List Line) (before now later : T) (message : List ℕ)
+    → Heard Tells before done now → done ++ map line left ≡ map line messages → Some message ≡ slice_get left 0 → Then (drop 1 left) → Tells now (line message) true later → Drained Tells Then line messages before later
+more Tells Then line messages [] done before now later message written whole is next told = absurd (none-some message (sym is))
+more Tells Then line messages (first ∷ others) done before now later message written whole is next told = record {
   left = others;
   holds = next;
-  done = done ++ text message;
-  written = both before now later done (text message) written told;
-  whole = append_assoc done (text message) (flat_map text others) ∙ ap (λ m. done ++ (text m ++ flat_map text others)) (same_Some message first is) ∙ whole;
+  done = done ++ line message ∷ [];
+  written = heard_both Tells before now later done (line message ∷ []) written (later, told, refl);
+  whole = append_assoc done (line message ∷ []) (map line others) ∙ ap (λ m. done ++ (line m ∷ map line others)) (same_Some message first is) ∙ whole;
 }
 
 -- one line more
-pub drained_more : (IsLeft Then : List (List ℕ) → Type 0) (text : List ℕ → List ℕ) (messages : List (List ℕ)) (before now later : Option (List ℕ)) (message : List ℕ) (d : Drained IsLeft text messages before now)
-    → Some message ≡ slice_get d.left 0 → Then (drop 1 d.left) → later ≡ appended now (text message) → Drained Then text messages before later
-drained_more IsLeft Then text messages before now later message d is next told = more Then text messages d.left d.done before now later message d.written d.whole is next told
+pub drained_more : {T : Type 0} (Tells : T → Line → Bool → T → Type 0) (IsLeft Then : List (List ℕ) → Type 0) (line : List ℕ → Line) (messages : List (List ℕ)) (before now later : T) (message : List ℕ) (d : Drained Tells IsLeft line messages before now)
+    → Some message ≡ slice_get d.left 0 → Then (drop 1 d.left) → Tells now (line message) true later → Drained Tells Then line messages before later
+drained_more Tells IsLeft Then line messages before now later message d is next told = more Tells Then line messages d.left d.done before now later message d.written d.whole is next told
 
-part : (text : List ℕ → List ℕ) (messages left : List (List ℕ)) (done : List ℕ) (before now later : Option (List ℕ)) (message : List ℕ)
-    → now ≡ appended before done → done ++ flat_map text left ≡ flat_map text messages → Some message ≡ slice_get left 0 → WrotePart (text message) now later → WrotePart (flat_map text messages) before later
-part text messages [] done before now later message written whole is wrote = absurd (none-some message (sym is))
-part text messages (first ∷ others) done before now later message written whole is wrote =
-    subst (λ all. WrotePart all before later) (ap (λ m. done ++ (text m ++ flat_map text others)) (same_Some message first is) ∙ whole)
-    (part_of_second done (text message ++ flat_map text others) before now later written (part_of_first (text message) (flat_map text others) now later wrote))
+part : {T : Type 0} (Tells : T → Line → Bool → T → Type 0) (line : List ℕ → Line) (messages left : List (List ℕ)) (done : List Line) (before now later : T) (message : List ℕ)
+    → Heard Tells before done now → done ++ map line left ≡ map line messages → Some message ≡ slice_get left 0 → Tells now (line message) false later → HeardPart Tells before (map line messages) later
+part Tells line messages [] done before now later message written whole is broken = absurd (none-some message (sym is))
+part Tells line messages (first ∷ others) done before now later message written whole is broken =
+    subst (λ all. HeardPart Tells before all later) (ap (λ m. done ++ (line m ∷ map line others)) (same_Some message first is) ∙ whole)
+    (heard_part_of_second Tells done (line message ∷ map line others) before now later written (inr (inl broken)))
 
 -- a piece of the next line
-pub drained_part : (IsLeft : List (List ℕ) → Type 0) (text : List ℕ → List ℕ) (messages : List (List ℕ)) (before now later : Option (List ℕ)) (message : List ℕ) (d : Drained IsLeft text messages before now)
-    → Some message ≡ slice_get d.left 0 → WrotePart (text message) now later → WrotePart (flat_map text messages) before later
-drained_part IsLeft text messages before now later message d is wrote = part text messages d.left d.done before now later message d.written d.whole is wrote
+pub drained_part : {T : Type 0} (Tells : T → Line → Bool → T → Type 0) (IsLeft : List (List ℕ) → Type 0) (line : List ℕ → Line) (messages : List (List ℕ)) (before now later : T) (message : List ℕ) (d : Drained Tells IsLeft line messages before now)
+    → Some message ≡ slice_get d.left 0 → Tells now (line message) false later → HeardPart Tells before (map line messages) later
+drained_part Tells IsLeft line messages before now later message d is broken = part Tells line messages d.left d.done before now later message d.written d.whole is broken
 
 nothing_left : (left : List (List ℕ)) → None ≡ slice_get left 0 → left ≡ []
 nothing_left [] is = refl
 nothing_left (first ∷ others) is = absurd (none-some first is)
 
 -- all lines
-pub drained_all : (IsLeft : List (List ℕ) → Type 0) (text : List ℕ → List ℕ) (messages : List (List ℕ)) (before now : Option (List ℕ)) (d : Drained IsLeft text messages before now)
-    → None ≡ slice_get d.left 0 → now ≡ appended before (flat_map text messages)
-drained_all IsLeft text messages before now d is =
-    d.written ∙ ap (appended before) (sym (append-nil d.done) ∙ ap (λ left. d.done ++ flat_map text left) (sym (nothing_left d.left is)) ∙ d.whole)
+pub drained_all : {T : Type 0} (Tells : T → Line → Bool → T → Type 0) (IsLeft : List (List ℕ) → Type 0) (line : List ℕ → Line) (messages : List (List ℕ)) (before now : T) (d : Drained Tells IsLeft line messages before now)
+    → None ≡ slice_get d.left 0 → Heard Tells before (map line messages) now
+drained_all Tells IsLeft line messages before now d is =
+    subst (λ all. Heard Tells before all now) (sym (append-nil d.done) ∙ ap (λ left. d.done ++ map line left) (sym (nothing_left d.left is)) ∙ d.whole) d.written
 
 -- none is left after the last
 pub drained_end : (Then : List (List ℕ) → Type 0) (left : List (List ℕ)) → None ≡ slice_get left 0 → Then (drop 1 left) → Then []

@@ -1,9 +1,10 @@
 pub mod Writing
+pub mod Holding
 pub mod Draining
 pub mod Slices
-pub mod Holding
 pub mod Turning
 pub mod Streaming
-pub mod Playing
 pub mod Recorded
+pub mod Playing
 pub mod Running
+pub mod Texts

@@ -1,10 +1,9 @@
 -- Events that are played one after another.
-use Rattle.std.proofs.Common.{◌≡◌, ◌+◌, ℕ, suc, Bool, true, false, if◌then◌else◌, List, [], ◌∷◌, ◌++◌, map, length, refl, sym, ap, ap₂, ◌∙◌, append_assoc, subst, Option, Some, None, Result, Ok, Err, IfOk, arith}
+use Rattle.std.proofs.Common.{◌≡◌, ◌+◌, ℕ, suc, Bool, true, false, if◌then◌else◌, List, [], ◌∷◌, ◌++◌, map, length, refl, sym, ap, ap₂, ◌∙◌, append_assoc, subst, Some, None, Result, Ok, Err, IfOk, arith}
 use Rattle.std.specs.Result.{IsErr}
 use Rattle.std.proofs.lemmas.Result.{IfOk-from_err}
 use Rattle.std.proofs.lemmas.List.{append-nil, length-append}
 use Rattle.std.proofs.lemmas.List.Elements.{All-cons}
-use Rattle.fv_base.specs.Told.{appended}
 use Rattle.flowspace.specs.Policies.{PolicyView}
 use Rattle.of10_ctl.specs.Frames.{IsFrame}
 use Rattle.of10_ctl.specs.Streams.{Stream, Stands, frames_of}
@@ -16,17 +15,16 @@ use Rattle.desk_words.specs.declared.answer.Dest.TheVariants.{Switch, Slice}
 use Rattle.desk_words.specs.Verdicts.{is_over}
 use Rattle.desk_words.specs.Recorded.{timed_at, happens, next_of, next_after, happening}
 use Rattle.desk_words.specs.Reports as report
-use Rattle.desk_words.specs.Reports.{event_lines, lines_of}
+use Rattle.fv_report.specs.Telling.{Line, Heard, HeardPart, event_told, told_of}
 use Rattle.proxy_core.specs.declared.parts.Desk.{Desk}
 use Rattle.desk_words.proofs.Reporting.{at_once, one_further}
-use Rattle.fv_report.specs.declared.line.Place.{Place}
+use Rattle.fv_report.specs.declared.teller.Place.{Place}
 use Rattle.fv_report.specs.Lines.{place_of}
-use Rattle.fv_report.specs.Writing.{WrotePart}
 use Rattle.fv_report.specs.Holding.{IsQuiet}
 use Rattle.fv_report.specs.Streams.{TookFrame}
 use Rattle.fv_report.specs.Plays.{event_from, Played, Plays, Hears}
 use Rattle.fv_report.proofs.Streaming.{next_left, nothing_left}
-use Rattle.fv_report.proofs.Writing.{both, part_of_first, part_of_second, part_of_all, at_fault}
+use Rattle.fv_report.proofs.Writing.{heard_both, heard_part_of_first, heard_part_of_second, heard_part_of_all, tell_fault}
 
 -- ---- one event
 
@@ -45,29 +43,29 @@ pub no_event : (p : PolicyView) (moment : ℕ) (h : List Timed) (event : Event) 
 no_event p moment h event is = rw is refl
 
 -- a fault ends what is played
-plays_part : {E : Type 0} (p : PolicyView) (moment : ℕ) (h : List Timed) (events : List Event) (place : Place) (result : Result Place E) (before after : Option (List ℕ)) (desk : Desk)
-    → IsErr result → WrotePart (lines_of p (place_of place) h (happening p moment h events)) before after → Plays p moment h events place result before after desk
-plays_part p moment h events place result before after desk err part = record {
-  writes = at_fault result (lines_of p (place_of place) h (happening p moment h events)) before after err part;
+plays_part : {E T : Type 0} (Tells : T → Line → Bool → T → Type 0) (p : PolicyView) (moment : ℕ) (h : List Timed) (events : List Event) (place : Place) (result : Result Place E) (before after : T) (desk : Desk)
+    → IsErr result → HeardPart Tells before (told_of p (place_of place) h (happening p moment h events)) after → Plays Tells p moment h events place result before after desk
+plays_part Tells p moment h events place result before after desk err part = record {
+  writes = tell_fault Tells result (told_of p (place_of place) h (happening p moment h events)) before after err part;
   played = IfOk-from_err result (λ later. Played p h (happening p moment h events) place later desk) err;
 }
 
 -- a piece of its lines was written
-pub failed_one : {E : Type 0} (p : PolicyView) (timed : Timed) (h : List Timed) (place : Place) (result : Result Place E) (before after : Option (List ℕ)) (desk : Desk)
-    → happens p h timed.event ≡ true → IsErr result → WrotePart (event_lines p (place_of place) h timed) before after → Plays p timed.moment h (timed.event ∷ []) place result before after desk
-failed_one p timed h place result before after desk is err part =
+pub failed_one : {E T : Type 0} (Tells : T → Line → Bool → T → Type 0) (p : PolicyView) (timed : Timed) (h : List Timed) (place : Place) (result : Result Place E) (before after : T) (desk : Desk)
+    → happens p h timed.event ≡ true → IsErr result → HeardPart Tells before (event_told p (place_of place) h timed) after → Plays Tells p timed.moment h (timed.event ∷ []) place result before after desk
+failed_one Tells p timed h place result before after desk is err part =
     let own = one_event p timed.moment h timed.event is in
-    plays_part p timed.moment h (timed.event ∷ []) place result before after desk err
-    (subst (λ (events : List Timed). WrotePart (lines_of p (place_of place) h events) before after) (sym own) (part_of_first (event_lines p (place_of place) h timed) [] before after part))
+    plays_part Tells p timed.moment h (timed.event ∷ []) place result before after desk err
+    (subst (λ (events : List Timed). HeardPart Tells before (told_of p (place_of place) h events) after) (sym own) (heard_part_of_first Tells (event_told p (place_of place) h timed) [] before after part))
 
 -- the event was played
-pub played_one : {E : Type 0} (p : PolicyView) (timed : Timed) (h : List Timed) (place : Place) (result : Result Place E) (before after : Option (List ℕ)) (desk : Desk)
-    → happens p h timed.event ≡ true → after ≡ appended before (event_lines p (place_of place) h timed) → IsQuiet p (next_of h timed) desk → AreFramed h → IsFramed timed.event
-    → IfOk result (λ later. later.number ≡ place.number + 1) → IfOk result (λ later. later.switch ≡ place.switch) → Plays p timed.moment h (timed.event ∷ []) place result before after desk
-played_one p timed h place (Ok later) before after desk is written quiet framed one number switch =
+pub played_one : {E T : Type 0} (Tells : T → Line → Bool → T → Type 0) (p : PolicyView) (timed : Timed) (h : List Timed) (place : Place) (result : Result Place E) (before after : T) (desk : Desk)
+    → happens p h timed.event ≡ true → Heard Tells before (event_told p (place_of place) h timed) after → IsQuiet p (next_of h timed) desk → AreFramed h → IsFramed timed.event
+    → IfOk result (λ later. later.number ≡ place.number + 1) → IfOk result (λ later. later.switch ≡ place.switch) → Plays Tells p timed.moment h (timed.event ∷ []) place result before after desk
+played_one Tells p timed h place (Ok later) before after desk is written quiet framed one number switch =
     let own = one_event p timed.moment h timed.event is in
     record {
-      writes = written ∙ ap (appended before) (sym (append-nil (event_lines p (place_of place) h timed)) ∙ ap (lines_of p (place_of place) h) (sym own));
+      writes = subst (λ (lines : List Line). Heard Tells before lines after) (sym (append-nil (event_told p (place_of place) h timed)) ∙ ap (told_of p (place_of place) h) (sym own)) written;
       played = record {
         number = number ∙ ap (λ (events : List Timed). place.number + length events) (sym own);
         switch = switch;
@@ -75,8 +73,8 @@ played_one p timed h place (Ok later) before after desk is written quiet framed 
         framed = subst (λ (events : List Timed). AreFramed (next_after h events)) (sym own) (framed_next h timed (is_over h) framed one);
       };
     }
-played_one p timed h place (Err fault) before after desk is written quiet framed one number switch =
-    failed_one p timed h place (Err fault) before after desk is refl (part_of_all (event_lines p (place_of place) h timed) before after written)
+played_one Tells p timed h place (Err fault) before after desk is written quiet framed one number switch =
+    failed_one Tells p timed h place (Err fault) before after desk is refl (heard_part_of_all Tells (event_told p (place_of place) h timed) before after written)
 
 -- ---- events one after another
 
@@ -91,18 +89,18 @@ next_after_both h [] second = refl
 next_after_both h (timed ∷ first) second = next_after_both (next_of h timed) first second
 
 lines_both : (p : PolicyView) (number switch : ℕ) (h first second : List Timed)
-    → lines_of p (record { number = number; switch = switch }) h (first ++ second) ≡ lines_of p (record { number = number; switch = switch }) h first ++ lines_of p (record { number = number + length first; switch = switch }) (next_after h first) second
-lines_both p number switch h [] second = ap (λ (n : ℕ). lines_of p (record { number = n; switch = switch }) h second) (at_once number)
+    → told_of p (record { number = number; switch = switch }) h (first ++ second) ≡ told_of p (record { number = number; switch = switch }) h first ++ told_of p (record { number = number + length first; switch = switch }) (next_after h first) second
+lines_both p number switch h [] second = ap (λ (n : ℕ). told_of p (record { number = n; switch = switch }) h second) (at_once number)
 lines_both p number switch h (timed ∷ first) second =
     let place : report.Place = record { number = number; switch = switch } in
-    ap (λ text. event_lines p place h timed ++ text) (lines_both p (number + 1) switch (next_of h timed) first second)
-    ∙ ap (λ (n : ℕ). event_lines p place h timed ++ (lines_of p (record { number = number + 1; switch = switch }) (next_of h timed) first ++ lines_of p (record { number = n; switch = switch }) (next_after (next_of h timed) first) second)) (one_further number (length first))
-    ∙ sym (append_assoc (event_lines p place h timed) (lines_of p (record { number = number + 1; switch = switch }) (next_of h timed) first) (lines_of p (record { number = number + suc (length first); switch = switch }) (next_after (next_of h timed) first) second))
+    ap (λ (lines : List Line). event_told p place h timed ++ lines) (lines_both p (number + 1) switch (next_of h timed) first second)
+    ∙ ap (λ (n : ℕ). event_told p place h timed ++ (told_of p (record { number = number + 1; switch = switch }) (next_of h timed) first ++ told_of p (record { number = n; switch = switch }) (next_after (next_of h timed) first) second)) (one_further number (length first))
+    ∙ sym (append_assoc (event_told p place h timed) (told_of p (record { number = number + 1; switch = switch }) (next_of h timed) first) (told_of p (record { number = number + suc (length first); switch = switch }) (next_after (next_of h timed) first) second))
 
 -- ---- the frames of a connection
 
 -- so far: these frames are left of a connection, and the lines of the others are written
-pub record Hearing (p : PolicyView) (moment : ℕ) (from : Dest) (first_place place : Place) (first : List Timed) (all : List (List ℕ)) (fed : List ℕ) (before now : Option (List ℕ)) (desk : Desk) (framer : Stream) : Type 0 where
+pub record Hearing {T : Type 0} (Tells : T → Line → Bool → T → Type 0) (p : PolicyView) (moment : ℕ) (from : Dest) (first_place place : Place) (first : List Timed) (all : List (List ℕ)) (fed : List ℕ) (before now : T) (desk : Desk) (framer : Stream) : Type 0 where
   pub h : List Timed
   pub given : List (List ℕ)
   pub rest : List (List ℕ)
@@ -110,9 +108,9 @@ pub record Hearing (p : PolicyView) (moment : ℕ) (from : Dest) (first_place pl
   pub framed : AreFramed h
   pub stands : Stands framer fed given
   pub cut : given ++ rest ≡ frames_of fed
-  pub done : List ℕ
-  pub written : now ≡ appended before done
-  pub lines : done ++ lines_of p (place_of place) h (happening p moment h (map (event_from from) rest)) ≡ lines_of p (place_of first_place) first (happening p moment first (map (event_from from) all))
+  pub done : List Line
+  pub written : Heard Tells before done now
+  pub lines : done ++ told_of p (place_of place) h (happening p moment h (map (event_from from) rest)) ≡ told_of p (place_of first_place) first (happening p moment first (map (event_from from) all))
   pub number : place.number + length (happening p moment h (map (event_from from) rest)) ≡ first_place.number + length (happening p moment first (map (event_from from) all))
   pub switch : place.switch ≡ first_place.switch
   pub next : next_after h (happening p moment h (map (event_from from) rest)) ≡ next_after first (happening p moment first (map (event_from from) all))
@@ -126,28 +124,28 @@ next_happening p moment from h rest others frame left =
 -- the lines of the next frame, and then those of the others
 next_lines : (p : PolicyView) (moment : ℕ) (from : Dest) (place : Place) (h : List Timed) (rest others : List (List ℕ)) (frame : List ℕ) → rest ≡ frame ∷ others
     → (let own = happening p moment h (event_from from frame ∷ []) in
-    lines_of p (place_of place) h own ++ lines_of p (record { number = place.number + length own; switch = place.switch }) (next_after h own) (happening p moment (next_after h own) (map (event_from from) others)))
-    ≡ lines_of p (place_of place) h (happening p moment h (map (event_from from) rest))
+    told_of p (place_of place) h own ++ told_of p (record { number = place.number + length own; switch = place.switch }) (next_after h own) (happening p moment (next_after h own) (map (event_from from) others)))
+    ≡ told_of p (place_of place) h (happening p moment h (map (event_from from) rest))
 next_lines p moment from place h rest others frame left =
     let own = happening p moment h (event_from from frame ∷ []) in
-    sym (lines_both p place.number place.switch h own (happening p moment (next_after h own) (map (event_from from) others))) ∙ ap (lines_of p (place_of place) h) (sym (next_happening p moment from h rest others frame left))
+    sym (lines_both p place.number place.switch h own (happening p moment (next_after h own) (map (event_from from) others))) ∙ ap (told_of p (place_of place) h) (sym (next_happening p moment from h rest others frame left))
 
 place_after : (place later : Place) (n : ℕ) → later.number ≡ n → later.switch ≡ place.switch → place_of later ≡ (let k : report.Place = record { number = n; switch = place.switch } in k)
 place_after place later n number switch = ap₂ (λ (a b : ℕ). let k : report.Place = record { number = a; switch = b } in k) number switch
 
 -- one message more was heard
-pub hearing_more : (p : PolicyView) (moment : ℕ) (from : Dest) (first_place place later : Place) (first : List Timed) (all : List (List ℕ)) (fed : List ℕ) (before now later_told : Option (List ℕ)) (old desk : Desk) (framer new : Stream) (frame : List ℕ)
-    (s : Hearing p moment from first_place place first all fed before now old framer) → TookFrame (Some frame) fed s.given new
-    → later_told ≡ appended now (lines_of p (place_of place) s.h (happening p moment s.h (event_from from frame ∷ []))) → Played p s.h (happening p moment s.h (event_from from frame ∷ [])) place later desk
-    → Hearing p moment from first_place later first all fed before later_told desk new
-hearing_more p moment from first_place place later first all fed before now later_told old desk framer new frame s took written played =
+pub hearing_more : {T : Type 0} (Tells : T → Line → Bool → T → Type 0) (p : PolicyView) (moment : ℕ) (from : Dest) (first_place place later : Place) (first : List Timed) (all : List (List ℕ)) (fed : List ℕ) (before now later_told : T) (old desk : Desk) (framer new : Stream) (frame : List ℕ)
+    (s : Hearing Tells p moment from first_place place first all fed before now old framer) → TookFrame (Some frame) fed s.given new
+    → Heard Tells now (told_of p (place_of place) s.h (happening p moment s.h (event_from from frame ∷ []))) later_told → Played p s.h (happening p moment s.h (event_from from frame ∷ [])) place later desk
+    → Hearing Tells p moment from first_place later first all fed before later_told desk new
+hearing_more Tells p moment from first_place place later first all fed before now later_told old desk framer new frame s took written played =
     let own = happening p moment s.h (event_from from frame ∷ []) in
     let others = took.0.0 in
     let left : s.rest ≡ frame ∷ others = next_left s.given s.rest others frame (frames_of fed) s.cut took.0.1 in
     let events = map (event_from from) others in
     let h = next_after s.h own in
     let split = next_happening p moment from s.h s.rest others frame left in
-    let text = lines_of p (place_of place) s.h own in
+    let text = told_of p (place_of place) s.h own in
     let placed : place_of later ≡ (let k : report.Place = record { number = place.number + length own; switch = place.switch } in k) = place_after place later (place.number + length own) played.number played.switch in
     let counted = ap length split ∙ length-append own (happening p moment h events) in
     let was = s.number in
@@ -161,11 +159,11 @@ hearing_more p moment from first_place place later first all fed before now late
       stands = took.1;
       cut = took.0.1;
       done = s.done ++ text;
-      written = both before now later_told s.done text s.written written;
+      written = heard_both Tells before now later_told s.done text s.written written;
       lines =
-          append_assoc s.done text (lines_of p (place_of later) h (happening p moment h events))
-          ∙ ap (λ (k : report.Place). s.done ++ (text ++ lines_of p k h (happening p moment h events))) placed
-          ∙ ap (λ t. s.done ++ t) (next_lines p moment from place s.h s.rest others frame left)
+          append_assoc s.done text (told_of p (place_of later) h (happening p moment h events))
+          ∙ ap (λ (k : report.Place). s.done ++ (text ++ told_of p k h (happening p moment h events))) placed
+          ∙ ap (λ (t : List Line). s.done ++ t) (next_lines p moment from place s.h s.rest others frame left)
           ∙ s.lines;
       number = omega (arith, counted, was, number);
       switch = played.switch ∙ s.switch;
@@ -173,45 +171,45 @@ hearing_more p moment from first_place place later first all fed before now late
     }
 
 -- a piece of the next message's lines was written
-pub hearing_part : (p : PolicyView) (moment : ℕ) (from : Dest) (first_place place : Place) (first : List Timed) (all : List (List ℕ)) (fed : List ℕ) (before now later_told : Option (List ℕ)) (old : Desk) (framer new : Stream) (frame : List ℕ)
-    (s : Hearing p moment from first_place place first all fed before now old framer) → TookFrame (Some frame) fed s.given new
-    → WrotePart (lines_of p (place_of place) s.h (happening p moment s.h (event_from from frame ∷ []))) now later_told
-    → WrotePart (lines_of p (place_of first_place) first (happening p moment first (map (event_from from) all))) before later_told
-hearing_part p moment from first_place place first all fed before now later_told old framer new frame s took part =
+pub hearing_part : {T : Type 0} (Tells : T → Line → Bool → T → Type 0) (p : PolicyView) (moment : ℕ) (from : Dest) (first_place place : Place) (first : List Timed) (all : List (List ℕ)) (fed : List ℕ) (before now later_told : T) (old : Desk) (framer new : Stream) (frame : List ℕ)
+    (s : Hearing Tells p moment from first_place place first all fed before now old framer) → TookFrame (Some frame) fed s.given new
+    → HeardPart Tells now (told_of p (place_of place) s.h (happening p moment s.h (event_from from frame ∷ []))) later_told
+    → HeardPart Tells before (told_of p (place_of first_place) first (happening p moment first (map (event_from from) all))) later_told
+hearing_part Tells p moment from first_place place first all fed before now later_told old framer new frame s took part =
     let own = happening p moment s.h (event_from from frame ∷ []) in
     let others = took.0.0 in
     let left : s.rest ≡ frame ∷ others = next_left s.given s.rest others frame (frames_of fed) s.cut took.0.1 in
     let events = map (event_from from) others in
     let h = next_after s.h own in
-    let text = lines_of p (place_of place) s.h own in
-    let behind = lines_of p (record { number = place.number + length own; switch = place.switch }) h (happening p moment h events) in
-    subst (λ t. WrotePart t before later_told) (ap (λ t. s.done ++ t) (next_lines p moment from place s.h s.rest others frame left) ∙ s.lines)
-    (part_of_second s.done (text ++ behind) before now later_told s.written (part_of_first text behind now later_told part))
+    let text = told_of p (place_of place) s.h own in
+    let behind = told_of p (record { number = place.number + length own; switch = place.switch }) h (happening p moment h events) in
+    subst (λ (t : List Line). HeardPart Tells before t later_told) (ap (λ (t : List Line). s.done ++ t) (next_lines p moment from place s.h s.rest others frame left) ∙ s.lines)
+    (heard_part_of_second Tells s.done (text ++ behind) before now later_told s.written (heard_part_of_first Tells text behind now later_told part))
 
 -- what was written before a fault that wrote nothing
-pub hearing_stopped : (p : PolicyView) (moment : ℕ) (from : Dest) (first_place place : Place) (first : List Timed) (all : List (List ℕ)) (fed : List ℕ) (before now : Option (List ℕ)) (old : Desk) (framer : Stream)
-    (s : Hearing p moment from first_place place first all fed before now old framer) → WrotePart (lines_of p (place_of first_place) first (happening p moment first (map (event_from from) all))) before now
-hearing_stopped p moment from first_place place first all fed before now old framer s =
-    subst (λ t. WrotePart t before now) s.lines (part_of_first s.done (lines_of p (place_of place) s.h (happening p moment s.h (map (event_from from) s.rest))) before now (part_of_all s.done before now s.written))
+pub hearing_stopped : {T : Type 0} (Tells : T → Line → Bool → T → Type 0) (p : PolicyView) (moment : ℕ) (from : Dest) (first_place place : Place) (first : List Timed) (all : List (List ℕ)) (fed : List ℕ) (before now : T) (old : Desk) (framer : Stream)
+    (s : Hearing Tells p moment from first_place place first all fed before now old framer) → HeardPart Tells before (told_of p (place_of first_place) first (happening p moment first (map (event_from from) all))) now
+hearing_stopped Tells p moment from first_place place first all fed before now old framer s =
+    subst (λ (t : List Line). HeardPart Tells before t now) s.lines (heard_part_of_first Tells s.done (told_of p (place_of place) s.h (happening p moment s.h (map (event_from from) s.rest))) before now (heard_part_of_all Tells s.done before now s.written))
 
 -- a fault ends the hearing
-pub hearing_failed : {E : Type 0} (p : PolicyView) (moment : ℕ) (from : Dest) (place : Place) (h : List Timed) (rest : List (List ℕ)) (fed : List ℕ) (result : Result Place E) (before after : Option (List ℕ)) (desk : Desk) (framer : Stream)
-    → IsErr result → WrotePart (lines_of p (place_of place) h (happening p moment h (map (event_from from) rest))) before after → Hears p moment from h fed rest place result before after desk framer
-hearing_failed p moment from place h rest fed result before after desk framer err part = record {
-  plays = plays_part p moment h (map (event_from from) rest) place result before after desk err part;
+pub hearing_failed : {E T : Type 0} (Tells : T → Line → Bool → T → Type 0) (p : PolicyView) (moment : ℕ) (from : Dest) (place : Place) (h : List Timed) (rest : List (List ℕ)) (fed : List ℕ) (result : Result Place E) (before after : T) (desk : Desk) (framer : Stream)
+    → IsErr result → HeardPart Tells before (told_of p (place_of place) h (happening p moment h (map (event_from from) rest))) after → Hears Tells p moment from h fed rest place result before after desk framer
+hearing_failed Tells p moment from place h rest fed result before after desk framer err part = record {
+  plays = plays_part Tells p moment h (map (event_from from) rest) place result before after desk err part;
   given = IfOk-from_err result (λ _. Stands framer fed (frames_of fed)) err;
 }
 
 -- all frames were heard
-pub hearing_all : {E : Type 0} (p : PolicyView) (moment : ℕ) (from : Dest) (first_place place : Place) (first : List Timed) (all : List (List ℕ)) (fed : List ℕ) (before now : Option (List ℕ)) (desk : Desk) (framer new : Stream)
-    (s : Hearing p moment from first_place place first all fed before now desk framer) → TookFrame None fed s.given new
-    → Hears {E = E} p moment from first fed all first_place (Ok place) before now desk new
-hearing_all p moment from first_place place first all fed before now desk framer new s took =
+pub hearing_all : {E T : Type 0} (Tells : T → Line → Bool → T → Type 0) (p : PolicyView) (moment : ℕ) (from : Dest) (first_place place : Place) (first : List Timed) (all : List (List ℕ)) (fed : List ℕ) (before now : T) (desk : Desk) (framer new : Stream)
+    (s : Hearing Tells p moment from first_place place first all fed before now desk framer) → TookFrame None fed s.given new
+    → Hears {E = E} Tells p moment from first fed all first_place (Ok place) before now desk new
+hearing_all Tells p moment from first_place place first all fed before now desk framer new s took =
     let none : s.rest ≡ [] = nothing_left s.given s.rest (frames_of fed) s.cut took.0 in
     let empty : happening p moment s.h (map (event_from from) s.rest) ≡ [] = ap (λ (r : List (List ℕ)). happening p moment s.h (map (event_from from) r)) none in
     record {
       plays = record {
-        writes = s.written ∙ ap (appended before) (sym (append-nil s.done) ∙ ap (λ (e : List Timed). s.done ++ lines_of p (place_of place) s.h e) (sym empty) ∙ s.lines);
+        writes = subst (λ (lines : List Line). Heard Tells before lines now) (sym (append-nil s.done) ∙ ap (λ (e : List Timed). s.done ++ told_of p (place_of place) s.h e) (sym empty) ∙ s.lines) s.written;
         played = record {
           number = at_once place.number ∙ ap (λ (e : List Timed). place.number + length e) (sym empty) ∙ s.number;
           switch = s.switch;

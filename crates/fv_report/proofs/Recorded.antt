@@ -1,5 +1,5 @@
 -- Connections and histories after one record more.
-use Rattle.std.proofs.Common.{◌≡◌, ◌+◌, ◌<◌, ◌≤◌, ◌==◌, ℕ, zero, suc, true, false, if◌then◌else◌, List, [], ◌∷◌, ◌++◌, map, drop, set, ltb, length, refl, sym, ap, ap₂, ◌∙◌, subst, eq-eqb, Option, Some, Result, Ok, Err, slice_get, get_or}
+use Rattle.std.proofs.Common.{◌≡◌, ◌+◌, ◌<◌, ◌≤◌, ◌==◌, ℕ, zero, suc, Bool, true, false, if◌then◌else◌, List, [], ◌∷◌, ◌++◌, map, drop, set, ltb, length, refl, sym, ap, ap₂, ◌∙◌, subst, eq-eqb, Some, Result, Ok, Err, slice_get, get_or}
 use Rattle.std.proofs.lemmas.Option.{slice_get_read, none-some, same_Some}
 use Rattle.std.proofs.lemmas.List.{length-set, set_past}
 use Rattle.std.proofs.Math.Dec.{eqb-zero-suc, eqb-suc-zero, eqb-suc-suc}
@@ -20,18 +20,16 @@ use Rattle.desk_words.specs.Recorded.{told_by, begins_stream, is_same_stream, st
 use Rattle.desk_words.proofs.Completed.{frames_first, others_behind}
 use Rattle.answer_bounds.specs.Bounds.{IsFramed, AreFramed}
 use Rattle.desk_words.specs.Reports as report
-use Rattle.desk_words.specs.Reports.{lines_of}
-use Rattle.fv_base.specs.Told.{appended}
+use Rattle.fv_report.specs.Telling.{Line, Heard, HeardPart, told_of}
 use Rattle.proxy_core.specs.declared.parts.Desk.{Desk}
-use Rattle.fv_report.specs.declared.line.Place.{Place}
+use Rattle.fv_report.specs.declared.teller.Place.{Place}
 use Rattle.fv_report.specs.declared.switch.Switch.{Switch}
 use Rattle.fv_report.specs.declared.streams.Streams.{Streams}
 use Rattle.fv_report.specs.Lines.{place_of}
-use Rattle.fv_report.specs.Writing.{WrotePart}
 use Rattle.fv_report.specs.Holding.{IsQuiet}
 use Rattle.fv_report.specs.Plays.{event_from, Played, Plays}
 use Rattle.fv_report.specs.Switches.{IsFreshSwitch, SwitchStands, RecordPlayed, PlaysRecord, IsTurn, Readies, kind_from, slot_from, told_from, Spoken}
-use Rattle.fv_report.proofs.Writing.{at_fault, none_of}
+use Rattle.fv_report.proofs.Writing.{tell_fault, heard_none}
 use Rattle.fv_report.specs.Streams.{Restarts, AreFresh, connection, StreamStands, StreamsStand}
 
 pub same_number : (n : ℕ) → (n == n) ≡ true
@@ -149,40 +147,40 @@ streams_slice_heard slices switch slot moment bytes before old new framer stands
 
 -- ---- one record played
 
-placed : (p : PolicyView) (place : Place) (number switch : ℕ) (h own : List Timed) → place.number ≡ number → place.switch ≡ switch → lines_of p (place_of place) h own ≡ (let k : report.Place = record { number = number; switch = switch } in lines_of p k h own)
-placed p place number switch h own a b = ap₂ (λ (n m : ℕ). let k : report.Place = record { number = n; switch = m } in lines_of p k h own) a b
+placed : (p : PolicyView) (place : Place) (number switch : ℕ) (h own : List Timed) → place.number ≡ number → place.switch ≡ switch → told_of p (place_of place) h own ≡ (let k : report.Place = record { number = number; switch = switch } in told_of p k h own)
+placed p place number switch h own a b = ap₂ (λ (n m : ℕ). let k : report.Place = record { number = n; switch = m } in told_of p k h own) a b
 
 -- all its events were played
-pub record_played : {E S : Type 0} (p : PolicyView) (r : Told) (before : List Told) (number : ℕ) (place later : Place) (written_before written : Option (List ℕ)) (desk : Desk) (AfterIt : S → Type 0) (state : S)
-    → place.number ≡ number → place.switch ≡ r.switch → written ≡ appended written_before (lines_of p (place_of place) (history_at p r before) (events_in p r before)) → Played p (history_at p r before) (events_in p r before) place later desk
-    → AfterIt state → RecordPlayed {E = E} p r before number (Ok later.number) written_before written AfterIt state
-record_played p r before number place later written_before written desk AfterIt state numbered same writes played after = record {
-  writes = writes ∙ ap (appended written_before) (placed p place number r.switch (history_at p r before) (events_in p r before) numbered same);
+pub record_played : {E S T : Type 0} (Tells : T → Line → Bool → T → Type 0) (p : PolicyView) (r : Told) (before : List Told) (number : ℕ) (place later : Place) (written_before written : T) (desk : Desk) (AfterIt : S → Type 0) (state : S)
+    → place.number ≡ number → place.switch ≡ r.switch → Heard Tells written_before (told_of p (place_of place) (history_at p r before) (events_in p r before)) written → Played p (history_at p r before) (events_in p r before) place later desk
+    → AfterIt state → RecordPlayed {E = E} Tells p r before number (Ok later.number) written_before written AfterIt state
+record_played Tells p r before number place later written_before written desk AfterIt state numbered same writes played after = record {
+  writes = subst (λ (lines : List Line). Heard Tells written_before lines written) (placed p place number r.switch (history_at p r before) (events_in p r before) numbered same) writes;
   count = played.number ∙ ap (λ (n : ℕ). n + length (events_in p r before)) numbered;
   stands = after;
 }
 
 -- a piece of its lines was written before a fault
-pub part_played : {E S : Type 0} (p : PolicyView) (r : Told) (before : List Told) (number : ℕ) (result : Result ℕ E) (told wrote : Option (List ℕ)) (AfterIt : S → Type 0) (state : S) → IsErr result
-    → WrotePart (lines_of p (record { number = number; switch = r.switch }) (history_at p r before) (events_in p r before)) told wrote → RecordPlayed p r before number result told wrote AfterIt state
-part_played p r before number result told wrote AfterIt state err part = record {
-  writes = at_fault result (lines_of p (record { number = number; switch = r.switch }) (history_at p r before) (events_in p r before)) told wrote err part;
+pub part_played : {E S T : Type 0} (Tells : T → Line → Bool → T → Type 0) (p : PolicyView) (r : Told) (before : List Told) (number : ℕ) (result : Result ℕ E) (told wrote : T) (AfterIt : S → Type 0) (state : S) → IsErr result
+    → HeardPart Tells told (told_of p (record { number = number; switch = r.switch }) (history_at p r before) (events_in p r before)) wrote → RecordPlayed Tells p r before number result told wrote AfterIt state
+part_played Tells p r before number result told wrote AfterIt state err part = record {
+  writes = tell_fault Tells result (told_of p (record { number = number; switch = r.switch }) (history_at p r before) (events_in p r before)) told wrote err part;
   count = IfOk-from_err result (λ later. later ≡ number + length (events_in p r before)) err;
   stands = IfOk-from_err result (λ _. AfterIt state) err;
 }
 
 -- nothing was played before a fault
-pub none_played : {E S : Type 0} (p : PolicyView) (r : Told) (before : List Told) (number : ℕ) (result : Result ℕ E) (told : Option (List ℕ)) (AfterIt : S → Type 0) (state : S) → IsErr result → RecordPlayed p r before number result told told AfterIt state
-none_played p r before number result told AfterIt state err =
-    part_played p r before number result told told AfterIt state err (none_of (lines_of p (record { number = number; switch = r.switch }) (history_at p r before) (events_in p r before)) told)
+pub none_played : {E S T : Type 0} (Tells : T → Line → Bool → T → Type 0) (p : PolicyView) (r : Told) (before : List Told) (number : ℕ) (result : Result ℕ E) (told : T) (AfterIt : S → Type 0) (state : S) → IsErr result → RecordPlayed Tells p r before number result told told AfterIt state
+none_played Tells p r before number result told AfterIt state err =
+    part_played Tells p r before number result told told AfterIt state err (heard_none Tells (told_of p (record { number = number; switch = r.switch }) (history_at p r before) (events_in p r before)) told)
 
 -- a fault came between, after lines at its place
-pub record_failed : {E S : Type 0} (p : PolicyView) (r : Told) (before : List Told) (number : ℕ) (place : Place) (result : Result ℕ E) (written_before written : Option (List ℕ)) (AfterIt : S → Type 0) (state : S)
-    → place.number ≡ number → place.switch ≡ r.switch → IsErr result → WrotePart (lines_of p (place_of place) (history_at p r before) (events_in p r before)) written_before written
-    → RecordPlayed p r before number result written_before written AfterIt state
-record_failed p r before number place result written_before written AfterIt state numbered same err part =
-    part_played p r before number result written_before written AfterIt state err
-    (subst (λ (t : List ℕ). WrotePart t written_before written) (placed p place number r.switch (history_at p r before) (events_in p r before) numbered same) part)
+pub record_failed : {E S T : Type 0} (Tells : T → Line → Bool → T → Type 0) (p : PolicyView) (r : Told) (before : List Told) (number : ℕ) (place : Place) (result : Result ℕ E) (written_before written : T) (AfterIt : S → Type 0) (state : S)
+    → place.number ≡ number → place.switch ≡ r.switch → IsErr result → HeardPart Tells written_before (told_of p (place_of place) (history_at p r before) (events_in p r before)) written
+    → RecordPlayed Tells p r before number result written_before written AfterIt state
+record_failed Tells p r before number place result written_before written AfterIt state numbered same err part =
+    part_played Tells p r before number result written_before written AfterIt state err
+    (subst (λ (t : List Line). HeardPart Tells written_before t written) (placed p place number r.switch (history_at p r before) (events_in p r before) numbered same) part)
 
 -- the switch after it
 pub switch_after : (p : PolicyView) (r : Told) (before : List Told) (place later : Place) (new : Switch) → Played p (history_at p r before) (events_in p r before) place later new.desk → StreamsStand (length p.slices) r.switch (r ∷ before) new.streams
@@ -201,31 +199,31 @@ nothing_restarts xs at past = (record { left = []; ended = false }, sym (set_pas
 told_kind : (item : Item) (bytes : List ℕ) (kind : ℕ) → item.kind ≡ kind → told_by item bytes ≡ (let r : Told = record { kind = kind; switch = item.switch; slot = item.slot; moment = item.moment; bytes = bytes } in r)
 told_kind item bytes kind is = ap (λ (k : ℕ). let r : Told = record { kind = k; switch = item.switch; slot = item.slot; moment = item.moment; bytes = bytes } in r) is
 
-pub by_kind : {E : Type 0} (p : PolicyView) (item : Item) (bytes : List ℕ) (kind number : ℕ) (result : Result ℕ E) (before after : Option (List ℕ)) (old new : Switch) → item.kind ≡ kind
-    → PlaysRecord p (record { kind = kind; switch = item.switch; slot = item.slot; moment = item.moment; bytes = bytes }) number result before after old new → PlaysRecord p (told_by item bytes) number result before after old new
-by_kind p item bytes kind number result before after old new is plays = subst (λ (r : Told). PlaysRecord p r number result before after old new) (sym (told_kind item bytes kind is)) plays
+pub by_kind : {E T : Type 0} (Tells : T → Line → Bool → T → Type 0) (p : PolicyView) (item : Item) (bytes : List ℕ) (kind number : ℕ) (result : Result ℕ E) (before after : T) (old new : Switch) → item.kind ≡ kind
+    → PlaysRecord Tells p (record { kind = kind; switch = item.switch; slot = item.slot; moment = item.moment; bytes = bytes }) number result before after old new → PlaysRecord Tells p (told_by item bytes) number result before after old new
+by_kind Tells p item bytes kind number result before after old new is plays = subst (λ (r : Told). PlaysRecord Tells p r number result before after old new) (sym (told_kind item bytes kind is)) plays
 
 -- a fault before the record was played
-pub not_played : {E : Type 0} (p : PolicyView) (r : Told) (number : ℕ) (result : Result ℕ E) (told : Option (List ℕ)) (old new : Switch) → IsErr result → PlaysRecord p r number result told told old new
-not_played p r number result told old new err before stands = none_played p r before number result told (SwitchStands p r.switch (r ∷ before)) new err
+pub not_played : {E T : Type 0} (Tells : T → Line → Bool → T → Type 0) (p : PolicyView) (r : Told) (number : ℕ) (result : Result ℕ E) (told : T) (old new : Switch) → IsErr result → PlaysRecord Tells p r number result told told old new
+not_played Tells p r number result told old new err before stands = none_played Tells p r before number result told (SwitchStands p r.switch (r ∷ before)) new err
 
 -- a record of a switch's bytes, whose slot is 0
-pub by_bytes : {E : Type 0} (p : PolicyView) (item : Item) (bytes : List ℕ) (number : ℕ) (result : Result ℕ E) (before after : Option (List ℕ)) (old new : Switch) → item.kind ≡ switch_bytes → item.slot ≡ 0
-    → PlaysRecord p (record { kind = switch_bytes; switch = item.switch; slot = 0; moment = item.moment; bytes = bytes }) number result before after old new → PlaysRecord p (told_by item bytes) number result before after old new
-by_bytes p item bytes number result before after old new is none plays =
-    by_kind p item bytes switch_bytes number result before after old new is
-    (subst (λ (s : ℕ). PlaysRecord p (record { kind = switch_bytes; switch = item.switch; slot = s; moment = item.moment; bytes = bytes }) number result before after old new) (sym none) plays)
+pub by_bytes : {E T : Type 0} (Tells : T → Line → Bool → T → Type 0) (p : PolicyView) (item : Item) (bytes : List ℕ) (number : ℕ) (result : Result ℕ E) (before after : T) (old new : Switch) → item.kind ≡ switch_bytes → item.slot ≡ 0
+    → PlaysRecord Tells p (record { kind = switch_bytes; switch = item.switch; slot = 0; moment = item.moment; bytes = bytes }) number result before after old new → PlaysRecord Tells p (told_by item bytes) number result before after old new
+by_bytes Tells p item bytes number result before after old new is none plays =
+    by_kind Tells p item bytes switch_bytes number result before after old new is
+    (subst (λ (s : ℕ). PlaysRecord Tells p (record { kind = switch_bytes; switch = item.switch; slot = s; moment = item.moment; bytes = bytes }) number result before after old new) (sym none) plays)
 
 -- the frames that a record completes, by its connection
 completed_by : (r : Told) (before : List Told) → (let fed = stream_before (connection r.switch r.kind r.slot) before in drop (length (frames_of fed)) (frames_of (fed ++ r.bytes))) ≡ completed r before
 completed_by r before = ap (λ (fed : List ℕ). drop (length (frames_of fed)) (frames_of (fed ++ r.bytes))) (sym (stream_by r before))
 
 -- frames of a connection that were heard are what a record of its bytes makes happen
-pub heard_from : {E : Type 0} (p : PolicyView) (from : Dest) (item : Item) (bytes : List ℕ) (before : List Told) (place : Place) (result : Result Place E) (told wrote : Option (List ℕ)) (desk : Desk)
-    → (let fed = stream_before (connection item.switch (kind_from from) (slot_from from)) before in Plays p item.moment (history_of p item.switch before) (map (event_from from) (drop (length (frames_of fed)) (frames_of (fed ++ bytes)))) place result told wrote desk)
-    → Plays p item.moment (history_at p (told_from from item bytes) before) (happenings (told_from from item bytes) before) place result told wrote desk
-heard_from p ToSwitch item bytes before place result told wrote desk plays = subst (λ (frames : List (List ℕ)). Plays p item.moment (history_of p item.switch before) (map (event_from ToSwitch) frames) place result told wrote desk) (completed_by (told_from ToSwitch item bytes) before) plays
-heard_from p (Slice slot) item bytes before place result told wrote desk plays = subst (λ (frames : List (List ℕ)). Plays p item.moment (history_of p item.switch before) (map (event_from (Slice slot)) frames) place result told wrote desk) (completed_by (told_from (Slice slot) item bytes) before) plays
+pub heard_from : {E T : Type 0} (Tells : T → Line → Bool → T → Type 0) (p : PolicyView) (from : Dest) (item : Item) (bytes : List ℕ) (before : List Told) (place : Place) (result : Result Place E) (told wrote : T) (desk : Desk)
+    → (let fed = stream_before (connection item.switch (kind_from from) (slot_from from)) before in Plays Tells p item.moment (history_of p item.switch before) (map (event_from from) (drop (length (frames_of fed)) (frames_of (fed ++ bytes)))) place result told wrote desk)
+    → Plays Tells p item.moment (history_at p (told_from from item bytes) before) (happenings (told_from from item bytes) before) place result told wrote desk
+heard_from Tells p ToSwitch item bytes before place result told wrote desk plays = subst (λ (frames : List (List ℕ)). Plays Tells p item.moment (history_of p item.switch before) (map (event_from ToSwitch) frames) place result told wrote desk) (completed_by (told_from ToSwitch item bytes) before) plays
+heard_from Tells p (Slice slot) item bytes before place result told wrote desk plays = subst (λ (frames : List (List ℕ)). Plays Tells p item.moment (history_of p item.switch before) (map (event_from (Slice slot)) frames) place result told wrote desk) (completed_by (told_from (Slice slot) item bytes) before) plays
 
 pub spoken : (p : PolicyView) (r : Told) (before : List Told) (place later : Place) (desk : Desk) (framer : Stream) → Played p (history_at p r before) (events_in p r before) place later desk
     → (let fed = stream_before (connection r.switch r.kind r.slot) before in Stands framer (fed ++ r.bytes) (frames_of (fed ++ r.bytes))) → Spoken p r before desk framer
@@ -236,13 +234,13 @@ spoken p r before place later desk framer played given = record {
 }
 
 -- a switch whose connection's bytes were played
-pub spoke_at : {E : Type 0} (p : PolicyView) (r : Told) (before : List Told) (number : ℕ) (result : Result ℕ E) (told wrote : Option (List ℕ)) (framer : Stream) (new : Switch)
+pub spoke_at : {E T : Type 0} (Tells : T → Line → Bool → T → Type 0) (p : PolicyView) (r : Told) (before : List Told) (number : ℕ) (result : Result ℕ E) (told wrote : T) (framer : Stream) (new : Switch)
     → (Spoken p r before new.desk framer → StreamsStand (length p.slices) r.switch (r ∷ before) new.streams)
-    → RecordPlayed p r before number result told wrote (Spoken p r before new.desk) framer → RecordPlayed p r before number result told wrote (SwitchStands p r.switch (r ∷ before)) new
-spoke_at p r before number (Ok later) told wrote framer new streams played =
+    → RecordPlayed Tells p r before number result told wrote (Spoken p r before new.desk) framer → RecordPlayed Tells p r before number result told wrote (SwitchStands p r.switch (r ∷ before)) new
+spoke_at Tells p r before number (Ok later) told wrote framer new streams played =
     let spoken = played.stands in
     record { writes = played.writes; count = played.count; stands = record { quiet = spoken.quiet; framed = spoken.framed; streams = streams spoken } }
-spoke_at p r before number (Err fault) told wrote framer new streams played = record { writes = played.writes; count = tt; stands = tt }
+spoke_at Tells p r before number (Err fault) told wrote framer new streams played = record { writes = played.writes; count = tt; stands = tt }
 
 pub less_or_more : (n m : ℕ) → (n < m → ⊥) → m ≤ n
 less_or_more n m unlike = elim (cases_Bool (ltb n m)) [ inl is ↦ absurd (unlike (ltb-true n m is)) | inr isnt ↦ ltb-false n m isnt ]

@@ -1,24 +1,22 @@
 -- All switches of a recording, and all its records.
-use Rattle.std.proofs.Common.{◌≡◌, ◌+◌, ◌==◌, ℕ, false, List, [], ◌∷◌, ◌++◌, set, length, refl, sym, ap, ◌∙◌, append_assoc, subst, Option, Some, None, Result, Ok, Err, slice_get}
+use Rattle.std.proofs.Common.{◌≡◌, ◌+◌, ◌==◌, ℕ, false, List, [], ◌∷◌, ◌++◌, set, length, refl, sym, ap, ◌∙◌, append_assoc, subst, Option, Some, None, Result, Ok, Err, slice_get, Bool, arith}
 use Rattle.std.proofs.lemmas.List.{length-set}
 use Rattle.std.proofs.lemmas.List.Elements.{All-nil}
 use Rattle.std.proofs.lemmas.Bool.{or_parts}
-use Rattle.fv_base.specs.Told.{appended}
 use Rattle.flowspace.specs.Policies.{PolicyView}
+use Rattle.std.proofs.lemmas.List.{append-nil}
 use Rattle.recording.specs.declared.item.Item.{Item}
 use Rattle.recording.specs.Recordings.{Told, switch_bytes, slice_bytes}
 use Rattle.answer_bounds.specs.Bounds.{IsFramed, AreFramed}
 use Rattle.desk_words.specs.declared.event.Timed.{Timed}
 use Rattle.desk_words.specs.Recorded.{told_by, stream_before, history_of, history_at, events_in, carried, told_in}
-use Rattle.desk_words.specs.Reports as report
-use Rattle.desk_words.specs.Reports.{lines_of, last_line, report_from}
+use Rattle.fv_report.specs.Telling.{Line, Heard, HeardPart, told_of, told_from, count_from}
 use Rattle.fv_report.specs.declared.switch.Switch.{Switch}
 use Rattle.fv_report.specs.declared.streams.Streams.{Streams}
-use Rattle.fv_report.specs.Writing.{WrotePart, Wrote}
 use Rattle.fv_report.specs.Holding.{IsQuiet}
 use Rattle.fv_report.specs.Streams.{connection, StreamsStand}
 use Rattle.fv_report.specs.Switches.{IsFreshSwitch, SwitchStands, RecordPlayed, PlaysRecord, IsUntouched, IsAt, PlaysAt, AreUnknown, AllStand, PlaysAmong}
-use Rattle.fv_report.proofs.Writing.{both, part_of_first, part_of_second, wrote_second}
+use Rattle.fv_report.proofs.Writing.{heard_both, heard_part_of_first, heard_part_of_second}
 use Rattle.fv_report.proofs.Recorded.{history_other, stream_other, set_get, streams_fresh, streams_stay}
 
 -- ---- a switch of which nothing came
@@ -42,14 +40,14 @@ fresh_stands p switch before new none fresh = record {
 -- ---- one record among all switches
 
 -- what follows for another state
-pub played_otherwise : {E S T : Type 0} (p : PolicyView) (r : Told) (before : List Told) (number : ℕ) (result : Result ℕ E) (a b : Option (List ℕ)) (First : S → Type 0) (Second : T → Type 0) (s : S) (t : T)
-    → RecordPlayed p r before number result a b First s → (First s → Second t) → RecordPlayed p r before number result a b Second t
-played_otherwise p r before number (Ok later) a b First Second s t played so = record { writes = played.writes; count = played.count; stands = so played.stands }
-played_otherwise p r before number (Err fault) a b First Second s t played so = record { writes = played.writes; count = tt; stands = tt }
+pub played_otherwise : {E S U T : Type 0} (Tells : T → Line → Bool → T → Type 0) (p : PolicyView) (r : Told) (before : List Told) (number : ℕ) (result : Result ℕ E) (a b : T) (First : S → Type 0) (Second : U → Type 0) (s : S) (t : U)
+    → RecordPlayed Tells p r before number result a b First s → (First s → Second t) → RecordPlayed Tells p r before number result a b Second t
+played_otherwise Tells p r before number (Ok later) a b First Second s t played so = record { writes = played.writes; count = played.count; stands = so played.stands }
+played_otherwise Tells p r before number (Err fault) a b First Second s t played so = record { writes = played.writes; count = tt; stands = tt }
 
-pub at_none : {E : Type 0} (p : PolicyView) (r : Told) (number : ℕ) (result : Result ℕ E) (a b : Option (List ℕ)) (fresh new : Switch) → IsFreshSwitch p fresh → PlaysRecord p r number result a b fresh new → PlaysAt p r number result a b None (Some new)
-at_none p r number result a b fresh new is_fresh plays before none =
-    played_otherwise p r before number result a b (SwitchStands p r.switch (r ∷ before)) (IsAt p r.switch (r ∷ before)) new (Some new) (plays before (fresh_stands p r.switch before fresh none is_fresh)) (λ stands. stands)
+pub at_none : {E T : Type 0} (Tells : T → Line → Bool → T → Type 0) (p : PolicyView) (r : Told) (number : ℕ) (result : Result ℕ E) (a b : T) (fresh new : Switch) → IsFreshSwitch p fresh → PlaysRecord Tells p r number result a b fresh new → PlaysAt Tells p r number result a b None (Some new)
+at_none Tells p r number result a b fresh new is_fresh plays before none =
+    played_otherwise Tells p r before number result a b (SwitchStands p r.switch (r ∷ before)) (IsAt p r.switch (r ∷ before)) new (Some new) (plays before (fresh_stands p r.switch before fresh none is_fresh)) (λ stands. stands)
 
 streams_other : (slices switch : ℕ) (r : Told) (before : List Told) (streams : Streams) → (r.switch == switch) ≡ false → StreamsStand slices switch before streams → StreamsStand slices switch (r ∷ before) streams
 streams_other slices switch r before streams other stands = streams_stay slices switch r before streams (stream_other switch switch_bytes 0 r before other) (λ slot. stream_other switch slice_bytes slot r before other) stands
@@ -64,64 +62,75 @@ at_other p number r before (Some switch) other stands = record {
 }
 
 -- one switch was played, and the others stay
-pub among : {E : Type 0} (p : PolicyView) (r : Told) (number : ℕ) (result : Result ℕ E) (a b : Option (List ℕ)) (switches : List (Option Switch)) (old new : Option Switch) → slice_get switches r.switch ≡ Some old → PlaysAt p r number result a b old new
-    → PlaysAmong p r number result a b switches (set switches r.switch new)
-among p r number result a b switches old new is plays before stands =
-    played_otherwise p r before number result a b (IsAt p r.switch (r ∷ before)) (AllStand p (r ∷ before)) new (set switches r.switch new) (plays before (stands.each r.switch old is)) (λ own. record {
+pub among : {E T : Type 0} (Tells : T → Line → Bool → T → Type 0) (p : PolicyView) (r : Told) (number : ℕ) (result : Result ℕ E) (a b : T) (switches : List (Option Switch)) (old new : Option Switch) → slice_get switches r.switch ≡ Some old → PlaysAt Tells p r number result a b old new
+    → PlaysAmong Tells p r number result a b switches (set switches r.switch new)
+among Tells p r number result a b switches old new is plays before stands =
+    played_otherwise Tells p r before number result a b (IsAt p r.switch (r ∷ before)) (AllStand p (r ∷ before)) new (set switches r.switch new) (plays before (stands.each r.switch old is)) (λ own. record {
       count = length-set switches r.switch new ∙ stands.count;
       each = λ at known g. set_get (λ n s. IsAt p n (r ∷ before) s) switches r.switch new (λ n s unlike gs. at_other p n r before s unlike (stands.each n s gs)) own at known g;
     })
 
 -- ---- all records
 
--- the records that are left of a file, and what is written so far
-pub record Running (p : PolicyView) (file : List ℕ) (all left : List Item) (events : ℕ) (before now : Option (List ℕ)) (switches : List (Option Switch)) : Type 0 where
+-- the records that are left of a file, and what is told and counted so far
+pub record Running {T : Type 0} (Tells : T → Line → Bool → T → Type 0) (p : PolicyView) (file : List ℕ) (all left : List Item) (events : ℕ) (before now : T) (switches : List (Option Switch)) : Type 0 where
   pub past : List Told
   pub stands : AllStand p past switches
-  pub done : List ℕ
-  pub written : now ≡ appended before done
-  pub whole : done ++ report_from p events past (told_in file left) ≡ report.report p (told_in file all)
+  pub done : List Line
+  pub written : Heard Tells before done now
+  pub whole : done ++ told_from p events past (told_in file left) ≡ told_from p 0 [] (told_in file all)
+  pub count : events + count_from p past (told_in file left) ≡ count_from p [] (told_in file all)
 
-pub running_first : (p : PolicyView) (file : List ℕ) (all : List Item) (before : Option (List ℕ)) (switches : List (Option Switch)) → AreUnknown switches → before ≡ appended before [] → Running p file all all 0 before before switches
-running_first p file all before switches unknown same = record {
+pub running_first : {T : Type 0} (Tells : T → Line → Bool → T → Type 0) (p : PolicyView) (file : List ℕ) (all : List Item) (before : T) (switches : List (Option Switch)) → AreUnknown switches → Running Tells p file all all 0 before before switches
+running_first Tells p file all before switches unknown = record {
   past = [];
   stands = record { count = unknown.0; each = λ number switch is. subst (IsAt p number []) (sym (unknown.1 number switch is)) refl };
   done = [];
-  written = same;
+  written = refl;
   whole = refl;
+  count = omega arith;
 }
 
 -- one record more was played
-pub running_more : {E : Type 0} (p : PolicyView) (file : List ℕ) (all from left : List Item) (item : Item) (events later : ℕ) (before now after : Option (List ℕ)) (old new : List (Option Switch)) → from ≡ item ∷ left → (s : Running p file all from events before now old)
-    → RecordPlayed {E = E} p (told_by item (carried file item)) s.past events (Ok later) now after (AllStand p (told_by item (carried file item) ∷ s.past)) new → Running p file all left later before after new
-unfolding report_from
-running_more p file all from left item events later before now after old new is s played =
+pub running_more : {E T : Type 0} (Tells : T → Line → Bool → T → Type 0) (p : PolicyView) (file : List ℕ) (all from left : List Item) (item : Item) (events later : ℕ) (before now after : T) (old new : List (Option Switch)) → from ≡ item ∷ left → (s : Running Tells p file all from events before now old)
+    → RecordPlayed {E = E} Tells p (told_by item (carried file item)) s.past events (Ok later) now after (AllStand p (told_by item (carried file item) ∷ s.past)) new → Running Tells p file all left later before after new
+unfolding told_from count_from
+running_more Tells p file all from left item events later before now after old new is s played =
     let r = told_by item (carried file item) in
-    let text = lines_of p (record { number = events; switch = r.switch }) (history_at p r s.past) (events_in p r s.past) in
+    let own = events_in p r s.past in
+    let lines = told_of p (record { number = events; switch = r.switch }) (history_at p r s.past) own in
+    let others = count_from p (r ∷ s.past) (told_in file left) in
+    let whole_count : events + (length own + others) ≡ count_from p [] (told_in file all) = ap (λ (items : List Item). events + count_from p s.past (told_in file items)) (sym is) ∙ s.count in
+    let now_count = played.count in
     record {
       past = r ∷ s.past;
       stands = played.stands;
-      done = s.done ++ text;
-      written = both before now after s.done text s.written played.writes;
+      done = s.done ++ lines;
+      written = heard_both Tells before now after s.done lines s.written played.writes;
       whole =
-          append_assoc s.done text (report_from p later (r ∷ s.past) (told_in file left)) ∙ ap (λ (n : ℕ). s.done ++ (text ++ report_from p n (r ∷ s.past) (told_in file left))) played.count
-          ∙ ap (λ (items : List Item). s.done ++ report_from p events s.past (told_in file items)) (sym is) ∙ s.whole;
+          append_assoc s.done lines (told_from p later (r ∷ s.past) (told_in file left)) ∙ ap (λ (n : ℕ). s.done ++ (lines ++ told_from p n (r ∷ s.past) (told_in file left))) played.count
+          ∙ ap (λ (items : List Item). s.done ++ told_from p events s.past (told_in file items)) (sym is) ∙ s.whole;
+      count = omega (arith, whole_count, now_count);
     }
 
--- a piece of the next record's lines was written
-pub running_part : {E : Type 0} (p : PolicyView) (file : List ℕ) (all from left : List Item) (item : Item) (events : ℕ) (fault : E) (before now after : Option (List ℕ)) (old new : List (Option Switch)) → from ≡ item ∷ left → (s : Running p file all from events before now old)
-    → RecordPlayed {E = E} p (told_by item (carried file item)) s.past events (Err fault) now after (AllStand p (told_by item (carried file item) ∷ s.past)) new → WrotePart (report.report p (told_in file all)) before after
-unfolding report_from
-running_part p file all from left item events fault before now after old new is s played =
+-- a piece of the next record's lines was told
+pub running_part : {E T : Type 0} (Tells : T → Line → Bool → T → Type 0) (p : PolicyView) (file : List ℕ) (all from left : List Item) (item : Item) (events : ℕ) (fault : E) (before now after : T) (old new : List (Option Switch)) → from ≡ item ∷ left → (s : Running Tells p file all from events before now old)
+    → RecordPlayed {E = E} Tells p (told_by item (carried file item)) s.past events (Err fault) now after (AllStand p (told_by item (carried file item) ∷ s.past)) new → HeardPart Tells before (told_from p 0 [] (told_in file all)) after
+unfolding told_from
+running_part Tells p file all from left item events fault before now after old new is s played =
     let r = told_by item (carried file item) in
-    let text = lines_of p (record { number = events; switch = r.switch }) (history_at p r s.past) (events_in p r s.past) in
-    let rest = report_from p (events + length (events_in p r s.past)) (r ∷ s.past) (told_in file left) in
-    subst (λ t. WrotePart t before after) (ap (λ (items : List Item). s.done ++ report_from p events s.past (told_in file items)) (sym is) ∙ s.whole)
-    (part_of_second s.done (text ++ rest) before now after s.written (part_of_first text rest now after played.writes))
+    let lines = told_of p (record { number = events; switch = r.switch }) (history_at p r s.past) (events_in p r s.past) in
+    let rest = told_from p (events + length (events_in p r s.past)) (r ∷ s.past) (told_in file left) in
+    subst (λ (t : List Line). HeardPart Tells before t after) (ap (λ (items : List Item). s.done ++ told_from p events s.past (told_in file items)) (sym is) ∙ s.whole)
+    (heard_part_of_second Tells s.done (lines ++ rest) before now after s.written (heard_part_of_first Tells lines rest now after played.writes))
 
--- all records were played, and the last line is written
-pub running_last : {A E : Type 0} (p : PolicyView) (file : List ℕ) (all : List Item) (events : ℕ) (before now after : Option (List ℕ)) (old : List (Option Switch)) (result : Result A E) (s : Running p file all [] events before now old)
-    → Wrote result (last_line events) now after → Wrote result (report.report p (told_in file all)) before after
-unfolding report_from
-running_last p file all events before now after old result s wrote =
-    subst (λ t. Wrote result t before after) s.whole (wrote_second result s.done (last_line events) before now after s.written wrote)
+-- all records were played
+pub running_last : {T : Type 0} (Tells : T → Line → Bool → T → Type 0) (p : PolicyView) (file : List ℕ) (all : List Item) (events : ℕ) (before now : T) (old : List (Option Switch)) (s : Running Tells p file all [] events before now old)
+    → Heard Tells before (told_from p 0 [] (told_in file all)) now
+unfolding told_from
+running_last Tells p file all events before now old s = subst (λ (t : List Line). Heard Tells before t now) (sym (append-nil s.done) ∙ s.whole) s.written
+
+pub counted_last : {T : Type 0} (Tells : T → Line → Bool → T → Type 0) (p : PolicyView) (file : List ℕ) (all : List Item) (events : ℕ) (before now : T) (old : List (Option Switch)) (s : Running Tells p file all [] events before now old)
+    → events ≡ count_from p [] (told_in file all)
+unfolding count_from
+counted_last Tells p file all events before now old s = let all_counted = s.count in omega (arith, all_counted)

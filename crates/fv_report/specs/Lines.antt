@@ -1,20 +1,19 @@
--- What the lines of a report say (this proxy's own rule).
-use Rattle.std.specs.Prelude.{ℕ, List, ◌++◌, codes}
-use Rattle.hex.specs.Hex.{encode_lower}
+-- Lines as the code has them (this proxy's own rule).
 use Rattle.desk_words.specs.Reports.{Place}
-use Rattle.desk_words.specs.Reports as report
-use Rattle.fv_report.specs.declared.line.Place as line
-use Rattle.fv_report.specs.declared.line.Said.{Said}
-use Rattle.fv_report.specs.declared.line.Said.TheVariants.{Lane, To, Close, Down}
+use Rattle.fv_report.specs.declared.teller.Place as code
+use Rattle.fv_report.specs.declared.teller.Said.{Said}
+use Rattle.fv_report.specs.declared.teller.Said.TheVariants.{Lane, To, Close, Down}
+use Rattle.fv_report.specs.Telling.{Line, Saying}
+use Rattle.fv_report.specs.Telling as telling
 
-abbrev pub place_of : line.Place → Place
+abbrev pub place_of : code.Place → Place
 place_of place = record { number = place.number; switch = place.switch }
 
-abbrev pub said_text : Said → List ℕ
-said_text (Lane message) = codes "lane " ++ encode_lower message.now
-said_text (To name message) = codes "to " ++ name.now ++ codes " " ++ encode_lower message.now
-said_text (Close name) = codes "close " ++ name.now
-said_text Down = codes "down"
+abbrev pub saying_of : Said → Saying
+saying_of (Lane message) = telling.Lane message.now
+saying_of (To slot name message) = telling.To slot name.now message.now
+saying_of (Close name) = telling.Close name.now
+saying_of Down = telling.Down
 
-abbrev pub line_of : line.Place → Said → List ℕ
-line_of place said = report.line (place_of place) (said_text said)
+abbrev pub line_of : code.Place → Said → Line
+line_of place said = record { place = place_of place; saying = saying_of said }

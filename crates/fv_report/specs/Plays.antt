@@ -1,5 +1,5 @@
 -- What becomes of things that can happen one after another at a desk (this proxy's own rule).
-use Rattle.std.specs.Prelude.{ℕ, ◌≡◌, ◌+◌, List, map, length, Option, Result, IfOk, OnOk}
+use Rattle.std.specs.Prelude.{ℕ, ◌≡◌, ◌+◌, List, map, length, Bool, Result, IfOk, OnOk}
 use Rattle.flowspace.specs.Policies.{PolicyView}
 use Rattle.of10_ctl.specs.Streams.{Stream, Stands, frames_of}
 use Rattle.answer_bounds.specs.Bounds.{AreFramed}
@@ -9,11 +9,10 @@ use Rattle.desk_words.specs.declared.event.Timed.{Timed}
 use Rattle.desk_words.specs.declared.answer.Dest.{Dest}
 use Rattle.desk_words.specs.declared.answer.Dest.TheVariants.{Switch, Slice}
 use Rattle.desk_words.specs.Recorded.{next_after, happening}
-use Rattle.desk_words.specs.Reports.{lines_of}
+use Rattle.fv_report.specs.Telling.{Line, Tell, told_of}
 use Rattle.proxy_core.specs.declared.parts.Desk.{Desk}
-use Rattle.fv_report.specs.declared.line.Place.{Place}
+use Rattle.fv_report.specs.declared.teller.Place.{Place}
 use Rattle.fv_report.specs.Lines.{place_of}
-use Rattle.fv_report.specs.Writing.{Wrote}
 use Rattle.fv_report.specs.Holding.{IsQuiet}
 
 -- a message that came on a connection
@@ -29,11 +28,11 @@ pub record Played (policy : PolicyView) (h own : List Timed) (place later : Plac
   pub framed : AreFramed (next_after h own)
 
 -- of what can happen what does was written, and what follows is told of the desk
-pub record Plays {E : Type 0} (policy : PolicyView) (moment : ℕ) (h : List Timed) (events : List Event) (place : Place) (result : Result Place E) (before after : Option (List ℕ)) (desk : Desk) : Type 0 where
-  pub writes : Wrote result (lines_of policy (place_of place) h (happening policy moment h events)) before after
+pub record Plays {E T : Type 0} (Tells : T → Line → Bool → T → Type 0) (policy : PolicyView) (moment : ℕ) (h : List Timed) (events : List Event) (place : Place) (result : Result Place E) (before after : T) (desk : Desk) : Type 0 where
+  pub writes : Tell Tells result (told_of policy (place_of place) h (happening policy moment h events)) before after
   pub played : IfOk result (λ later. Played policy h (happening policy moment h events) place later desk)
 
 -- the frames of a connection that its framer hadn't given were played, and the framer has given all
-pub record Hears {E : Type 0} (policy : PolicyView) (moment : ℕ) (from : Dest) (h : List Timed) (fed : List ℕ) (rest : List (List ℕ)) (place : Place) (result : Result Place E) (before after : Option (List ℕ)) (desk : Desk) (framer : Stream) : Type 0 where
-  pub plays : Plays policy moment h (map (event_from from) rest) place result before after desk
+pub record Hears {E T : Type 0} (Tells : T → Line → Bool → T → Type 0) (policy : PolicyView) (moment : ℕ) (from : Dest) (h : List Timed) (fed : List ℕ) (rest : List (List ℕ)) (place : Place) (result : Result Place E) (before after : T) (desk : Desk) (framer : Stream) : Type 0 where
+  pub plays : Plays Tells policy moment h (map (event_from from) rest) place result before after desk
   pub given : OnOk result (Stands framer fed (frames_of fed))

@@ -1,5 +1,5 @@
 -- Switches of a recording after some of its records (this proxy's own rule). Records have the newest first.
-use Rattle.std.specs.Prelude.{ℕ, ◌≡◌, ◌≤◌, ◌<◌, ◌+◌, ◌==◌, false, List, [], ◌∷◌, ◌++◌, length, slice_get, Option, Some, None, Result, IfOk}
+use Rattle.std.specs.Prelude.{ℕ, ◌≡◌, ◌≤◌, ◌<◌, ◌+◌, ◌==◌, Bool, false, List, [], ◌∷◌, ◌++◌, length, slice_get, Option, Some, None, Result, IfOk}
 use Rattle.std.specs.List.{list_any}
 use Rattle.flowspace.specs.Policies.{PolicyView}
 use Rattle.recording.specs.declared.item.Item.{Item}
@@ -10,9 +10,8 @@ use Rattle.desk_words.specs.declared.answer.Dest.{Dest}
 use Rattle.desk_words.specs.declared.answer.Dest.TheVariants.{Switch as ToSwitch, Slice}
 use Rattle.proxy_core.specs.declared.parts.Desk.{Desk}
 use Rattle.desk_words.specs.Recorded.{stream_before, history_of, history_at, events_in}
-use Rattle.desk_words.specs.Reports.{lines_of}
+use Rattle.fv_report.specs.Telling.{Line, Tell, told_of}
 use Rattle.fv_report.specs.declared.switch.Switch.{Switch}
-use Rattle.fv_report.specs.Writing.{Wrote}
 use Rattle.fv_report.specs.Holding.{IsQuiet}
 use Rattle.fv_report.specs.Streams.{AreFresh, connection, StreamStands, StreamsStand}
 
@@ -28,16 +27,16 @@ pub record SwitchStands (policy : PolicyView) (number : ℕ) (before : List Told
   pub streams : StreamsStand (length policy.slices) number before switch.streams
 
 -- the lines of a record's events were written, and what follows is told where all of them were
-pub record RecordPlayed {E S : Type 0} (policy : PolicyView) (r : Told) (before : List Told) (number : ℕ) (result : Result ℕ E) (written_before written : Option (List ℕ)) (AfterIt : S → Type 0) (state : S) : Type 0 where
-  pub writes : Wrote result (lines_of policy (record { number = number; switch = r.switch }) (history_at policy r before) (events_in policy r before)) written_before written
+pub record RecordPlayed {E S T : Type 0} (Tells : T → Line → Bool → T → Type 0) (policy : PolicyView) (r : Told) (before : List Told) (number : ℕ) (result : Result ℕ E) (written_before written : T) (AfterIt : S → Type 0) (state : S) : Type 0 where
+  pub writes : Tell Tells result (told_of policy (record { number = number; switch = r.switch }) (history_at policy r before) (events_in policy r before)) written_before written
   pub count : IfOk result (λ later. later ≡ number + length (events_in policy r before))
   pub stands : IfOk result (λ _. AfterIt state)
 
 -- a record is played at its switch
-abbrev pub PlaysRecord : {E : Type 0} → PolicyView → Told → ℕ → Result ℕ E → Option (List ℕ) → Option (List ℕ) → Switch → Switch → Type 0
-PlaysRecord policy r number result written_before written old new =
+abbrev pub PlaysRecord : {E T : Type 0} → (T → Line → Bool → T → Type 0) → PolicyView → Told → ℕ → Result ℕ E → T → T → Switch → Switch → Type 0
+PlaysRecord Tells policy r number result written_before written old new =
     (before : List Told) → SwitchStands policy r.switch before old
-    → RecordPlayed policy r before number result written_before written (SwitchStands policy r.switch (r ∷ before)) new
+    → RecordPlayed Tells policy r before number result written_before written (SwitchStands policy r.switch (r ∷ before)) new
 
 -- what a record of a connection's bytes tells
 abbrev pub kind_from : Dest → ℕ
@@ -58,10 +57,10 @@ pub record Spoken (policy : PolicyView) (r : Told) (before : List Told) (desk : 
   pub given : let fed = stream_before (connection r.switch r.kind r.slot) before in Stands framer (fed ++ r.bytes) (frames_of (fed ++ r.bytes))
 
 -- a connection's bytes are played at the desk of its switch
-abbrev pub Speaks : {E : Type 0} → PolicyView → Dest → Item → List ℕ → ℕ → Result ℕ E → Option (List ℕ) → Option (List ℕ) → Desk → Desk → Stream → Stream → Type 0
-Speaks policy from item bytes number result written_before written desk desk_after framer framer_after =
+abbrev pub Speaks : {E T : Type 0} → (T → Line → Bool → T → Type 0) → PolicyView → Dest → Item → List ℕ → ℕ → Result ℕ E → T → T → Desk → Desk → Stream → Stream → Type 0
+Speaks Tells policy from item bytes number result written_before written desk desk_after framer framer_after =
     (before : List Told) → IsQuiet policy (history_of policy item.switch before) desk → AreFramed (history_of policy item.switch before) → StreamStands (connection item.switch (kind_from from) (slot_from from)) before framer
-    → RecordPlayed policy (told_from from item bytes) before number result written_before written (Spoken policy (told_from from item bytes) before desk_after) framer_after
+    → RecordPlayed Tells policy (told_from from item bytes) before number result written_before written (Spoken policy (told_from from item bytes) before desk_after) framer_after
 
 -- a record of this kind carries no bytes: a connection begins or ends
 abbrev pub IsTurn : ℕ → Type 0
@@ -85,10 +84,10 @@ IsAt policy number before None = IsUntouched number before
 IsAt policy number before (Some switch) = SwitchStands policy number before switch
 
 -- the same, where there may not have been the switch before
-abbrev pub PlaysAt : {E : Type 0} → PolicyView → Told → ℕ → Result ℕ E → Option (List ℕ) → Option (List ℕ) → Option Switch → Option Switch → Type 0
-PlaysAt policy r number result written_before written old new =
+abbrev pub PlaysAt : {E T : Type 0} → (T → Line → Bool → T → Type 0) → PolicyView → Told → ℕ → Result ℕ E → T → T → Option Switch → Option Switch → Type 0
+PlaysAt Tells policy r number result written_before written old new =
     (before : List Told) → IsAt policy r.switch before old
-    → RecordPlayed policy r before number result written_before written (IsAt policy r.switch (r ∷ before)) new
+    → RecordPlayed Tells policy r before number result written_before written (IsAt policy r.switch (r ∷ before)) new
 
 -- each switch is the one of its number after records
 pub record AllStand (policy : PolicyView) (before : List Told) (switches : List (Option Switch)) : Type 0 where
@@ -96,10 +95,10 @@ pub record AllStand (policy : PolicyView) (before : List Told) (switches : List 
   pub each : (number : ℕ) (switch : Option Switch) → slice_get switches number ≡ Some switch → IsAt policy number before switch
 
 -- the same of a record at all switches
-abbrev pub PlaysAmong : {E : Type 0} → PolicyView → Told → ℕ → Result ℕ E → Option (List ℕ) → Option (List ℕ) → List (Option Switch) → List (Option Switch) → Type 0
-PlaysAmong policy r number result written_before written old new =
+abbrev pub PlaysAmong : {E T : Type 0} → (T → Line → Bool → T → Type 0) → PolicyView → Told → ℕ → Result ℕ E → T → T → List (Option Switch) → List (Option Switch) → Type 0
+PlaysAmong Tells policy r number result written_before written old new =
     (before : List Told) → AllStand policy before old
-    → RecordPlayed policy r before number result written_before written (AllStand policy (r ∷ before)) new
+    → RecordPlayed Tells policy r before number result written_before written (AllStand policy (r ∷ before)) new
 
 -- a record of a recording: a known kind, one of 16 switches, slot 0 or a slot of the policy, and bytes only where its kind has them
 pub record IsRecord (slices : ℕ) (item : Item) (bytes : List ℕ) : Type 0 where

@@ -9,6 +9,7 @@ mod play;
 mod run;
 mod streams;
 mod switch;
+mod teller;
 mod turn;
 
 pub use fault::ReportFault;

@@ -3,33 +3,15 @@
 ghost use Rattle.std.specs.Prelude.{◌≡◌, ◌++◌, OnOk};
 ghost use Rattle.hex.specs.Hex.{encode_lower};
 ghost use Rattle.desk_words.specs.Reports.{place_text, last_line};
-ghost use Rattle.fv_report.specs.Lines.{place_of, said_text, line_of};
+ghost use Rattle.fv_report.specs.Telling.{saying_text, line_text};
+ghost use Rattle.fv_report.specs.Lines.{place_of, saying_of, line_of};
 ghost use Rattle.fv_report.specs.Writing.{Wrote, Counted};
 
 use crate::fault::ReportFault;
+use crate::teller::{Place, Said, Teller};
 use fv_base::{Sink, put_all};
 use itoa::Buffer;
 use std::alloc::{AllocError, Global};
-
-/// Where a line belongs: the number of its event, from 0 over the whole recording, and the event's switch.
-#[derive(Clone, Copy)]
-pub(crate) struct Place {
-    pub(crate) number: u64,
-    pub(crate) switch: u8,
-}
-
-/// What a line says of its event.
-#[derive(Clone, Copy)]
-pub(crate) enum Said<'a> {
-    /// This message goes to the switch.
-    Lane(&'a [u8]),
-    /// This message goes to the slice of the name.
-    To(&'a str, &'a [u8]),
-    /// The connection of the slice of this name is closed.
-    Close(&'a str),
-    /// The switch's connection ended.
-    Down,
-}
 
 /// The line that is being made; its memory serves the next one again.
 #[derive(Drop)]
@@ -73,14 +55,14 @@ impl LineBuffer {
 
     /// Appends what the line says.
     fn say(&mut self, said: Said<'_>) -> Result<(), AllocError>
-        ensures { OnOk result (self.new.bytes.items ≡ self.old.bytes.items ++ said_text said.entry) }
+        ensures { OnOk result (self.new.bytes.items ≡ self.old.bytes.items ++ saying_text (saying_of said.entry)) }
     {
         match said {
             Said::Lane(message) => {
                 self.bytes.extend_from_slice(b"lane ")?;
                 self.put_hex(message)
             }
-            Said::To(name, message) => {
+            Said::To(_, name, message) => {
                 self.bytes.extend_from_slice(b"to ")?;
                 self.bytes.extend_from_slice(name.as_bytes())?;
                 self.bytes.extend_from_slice(b" ")?;
@@ -96,11 +78,18 @@ impl LineBuffer {
 
     /// Makes a whole line.
     fn make(&mut self, place: Place, said: Said<'_>) -> Result<(), AllocError>
-        ensures { OnOk result (self.new.bytes.items ≡ line_of place said.entry) }
+        ensures { OnOk result (self.new.bytes.items ≡ line_text (line_of place said.entry)) }
     {
         self.begin(place)?;
         self.say(said)?;
         self.bytes.extend_from_slice(b"\n")
+    }
+
+    /// The bytes of the line.
+    fn made(&self) -> &[u8]
+        ensures { result.now ≡ self.now.bytes.items }
+    {
+        &self.bytes
     }
 
     /// Makes the last line: how many events there were.
@@ -126,33 +115,40 @@ fn put<K: Sink>(out: &mut K, bytes: &[u8]) -> Result<(), ReportFault>
     }
 }
 
-/// Puts one line, whole.
-pub(crate) fn put_line<K: Sink>(
-    out: &mut K,
-    line: &mut LineBuffer,
-    place: Place,
-    said: Said<'_>,
-) -> Result<(), ReportFault>
-    ensures writes { Wrote result (line_of place said.entry) (K.contents out.old) (K.contents out.new) }
-    ensures counted { Counted result (K.faults out.old) (K.faults out.new) }
-{
-    if line.make(place, said).is_err() {
-        return Err(ReportFault::Memory);
-    }
-    put(out, &line.bytes)
+/// Writes what is told as lines of a report.
+#[derive(Drop)]
+pub(crate) struct Writer<'a, K: Sink> {
+    pub(crate) out: &'a mut K,
+    pub(crate) line: &'a mut LineBuffer,
 }
 
-/// Puts the last line.
-pub(crate) fn put_last<K: Sink>(
-    out: &mut K,
-    line: &mut LineBuffer,
-    events: u64,
-) -> Result<(), ReportFault>
-    ensures writes { Wrote result (last_line events) (K.contents out.old) (K.contents out.new) }
-    ensures counted { Counted result (K.faults out.old) (K.faults out.new) }
-{
-    if line.make_last(events).is_err() {
-        return Err(ReportFault::Memory);
+impl<'a, K: Sink> Teller for Writer<'a, K> {
+    ghost use Rattle.std.specs.Prelude.{◌≡◌};
+    ghost use Rattle.fv_report.specs.Telling.{line_text};
+    ghost use Rattle.fv_report.specs.Writing.{WroteLine};
+
+    ghost Tells = { λ old line whole new. (new.out.ghost_name ≡ old.out.ghost_name) × WroteLine whole (line_text line) (K.contents old.out.now) (K.contents new.out.now) };
+
+    ghost faults = { λ writer. K.faults writer.out.now };
+
+    fn tell(&mut self, place: Place, said: Said<'_>) -> Result<(), ReportFault> {
+        if self.line.make(place, said).is_err() {
+            return Err(ReportFault::Memory);
+        }
+        put(self.out, self.line.made())
     }
-    put(out, &line.bytes)
+}
+
+impl<'a, K: Sink> Writer<'a, K> {
+    /// Puts the last line: how many events there were.
+    pub(crate) fn put_last(&mut self, events: u64) -> Result<(), ReportFault>
+        ensures same { self.new.out.ghost_name ≡ self.old.out.ghost_name }
+        ensures writes { Wrote result (last_line events) (K.contents self.old.out.now) (K.contents self.new.out.now) }
+        ensures counted { Counted result (K.faults self.old.out.now) (K.faults self.new.out.now) }
+    {
+        if self.line.make_last(events).is_err() {
+            return Err(ReportFault::Memory);
+        }
+        put(self.out, self.line.made())
+    }
 }

@@ -12,11 +12,10 @@ ghost use Rattle.fv_report.specs.Holding.{IsQuiet};
 ghost use Rattle.fv_report.specs.Plays.{event_from, Plays, Hears};
 
 use crate::fault::ReportFault;
-use crate::line::{LineBuffer, Place};
 use crate::streams::next_frame;
+use crate::teller::{Place, Teller};
 use crate::turn::{has_ended, is_up, turn};
 use flowspace::Policy;
-use fv_base::Sink;
 use of10_ctl::{Frame, Framer};
 use proxy_core::{Desk, Dest, Event, Timed};
 use std::alloc::Global;
@@ -64,27 +63,25 @@ fn happens(desk: &mut Desk, from: Dest) -> bool
 }
 
 /// An event, and where the next one's lines belong.
-pub(crate) fn play<K: Sink>(
+pub(crate) fn play<T: Teller>(
     alloc: Global,
-    out: &mut K,
-    line: &mut LineBuffer,
+    teller: &mut T,
     desk: &mut Desk,
     policy: &Policy,
     place: Place,
     timed: Timed,
 ) -> Result<Place, ReportFault>
-    ensures plays { (h : List Timed) → IsQuiet policy.now h desk.old → AreFramed h → IsFramed timed.event → happens policy.now h timed.event ≡ true → Plays policy.now timed.moment h (timed.event ∷ []) place result (K.contents out.old) (K.contents out.new) desk.new }
-    ensures counted { Counted result (K.faults out.old) (K.faults out.new) }
+    ensures plays { (h : List Timed) → IsQuiet policy.now h desk.old → AreFramed h → IsFramed timed.event → happens policy.now h timed.event ≡ true → Plays T.Tells policy.now timed.moment h (timed.event ∷ []) place result teller.old teller.new desk.new }
+    ensures counted { Counted result (T.faults teller.old) (T.faults teller.new) }
 {
-    turn(alloc, out, line, desk, policy, place, timed)?;
+    turn(alloc, teller, desk, policy, place, timed)?;
     next_place(place)
 }
 
 /// A message that came on a connection, if it is an event.
-fn hear_one<K: Sink>(
+fn hear_one<T: Teller>(
     alloc: Global,
-    out: &mut K,
-    line: &mut LineBuffer,
+    teller: &mut T,
     desk: &mut Desk,
     policy: &Policy,
     place: Place,
@@ -92,8 +89,8 @@ fn hear_one<K: Sink>(
     frame: Frame,
 ) -> Result<Place, ReportFault>
     requires { IsFrame frame }
-    ensures plays { (h : List Timed) → IsQuiet policy.now h desk.old → AreFramed h → Plays policy.now came.moment h (event_from came.from frame ∷ []) place result (K.contents out.old) (K.contents out.new) desk.new }
-    ensures counted { Counted result (K.faults out.old) (K.faults out.new) }
+    ensures plays { (h : List Timed) → IsQuiet policy.now h desk.old → AreFramed h → Plays T.Tells policy.now came.moment h (event_from came.from frame ∷ []) place result teller.old teller.new desk.new }
+    ensures counted { Counted result (T.faults teller.old) (T.faults teller.new) }
 {
     if !happens(desk, came.from) {
         return Ok(place);
@@ -102,14 +99,13 @@ fn hear_one<K: Sink>(
         event: event_from(came.from, frame),
         moment: came.moment,
     };
-    play(alloc, out, line, desk, policy, place, timed)
+    play(alloc, teller, desk, policy, place, timed)
 }
 
 /// All frames of a connection that its framer hasn't given yet.
-pub(crate) fn hear<K: Sink>(
+pub(crate) fn hear<T: Teller>(
     alloc: Global,
-    out: &mut K,
-    line: &mut LineBuffer,
+    teller: &mut T,
     desk: &mut Desk,
     policy: &Policy,
     mut place: Place,
@@ -117,20 +113,19 @@ pub(crate) fn hear<K: Sink>(
     framer: &mut Framer,
 ) -> Result<Place, ReportFault>
     ensures hears { (h : List Timed) (fed : List ℕ) (given rest : List (List ℕ)) → IsQuiet policy.now h desk.old → AreFramed h → Stands framer.old fed given → given ++ rest ≡ frames_of fed
-        → Hears policy.now came.moment came.from h fed rest place result (K.contents out.old) (K.contents out.new) desk.new framer.new }
-    ensures counted { Counted result (K.faults out.old) (K.faults out.new) }
+        → Hears T.Tells policy.now came.moment came.from h fed rest place result teller.old teller.new desk.new framer.new }
+    ensures counted { Counted result (T.faults teller.old) (T.faults teller.new) }
 {
     while let Some(frame) = next_frame(framer)? {
-        place = hear_one(alloc, out, line, desk, policy, place, came, frame)?;
+        place = hear_one(alloc, teller, desk, policy, place, came, frame)?;
     }
     Ok(place)
 }
 
 /// Bytes that came on a connection, all frames of whose bytes before were given.
-pub(crate) fn hear_bytes<K: Sink>(
+pub(crate) fn hear_bytes<T: Teller>(
     alloc: Global,
-    out: &mut K,
-    line: &mut LineBuffer,
+    teller: &mut T,
     desk: &mut Desk,
     policy: &Policy,
     place: Place,
@@ -139,9 +134,9 @@ pub(crate) fn hear_bytes<K: Sink>(
     bytes: &[u8],
 ) -> Result<Place, ReportFault>
     ensures hears { (h : List Timed) (fed : List ℕ) → IsQuiet policy.now h desk.old → AreFramed h → Stands framer.old fed (frames_of fed)
-        → Hears policy.now came.moment came.from h (fed ++ bytes.now) (drop (length (frames_of fed)) (frames_of (fed ++ bytes.now))) place result (K.contents out.old) (K.contents out.new) desk.new framer.new }
-    ensures counted { Counted result (K.faults out.old) (K.faults out.new) }
+        → Hears T.Tells policy.now came.moment came.from h (fed ++ bytes.now) (drop (length (frames_of fed)) (frames_of (fed ++ bytes.now))) place result teller.old teller.new desk.new framer.new }
+    ensures counted { Counted result (T.faults teller.old) (T.faults teller.new) }
 {
     framer.feed(bytes)?;
-    hear(alloc, out, line, desk, policy, place, came, framer)
+    hear(alloc, teller, desk, policy, place, came, framer)
 }

@@ -10,11 +10,10 @@ ghost use Rattle.fv_report.specs.Writing.{Counted};
 ghost use Rattle.fv_report.specs.Switches.{IsFreshSwitch, IsRecord, IsTurn, Readies, PlaysRecord, Speaks};
 
 use crate::fault::ReportFault;
-use crate::line::{LineBuffer, Place};
 use crate::play::{Came, hear_bytes, play};
 use crate::streams::{Streams, restart};
+use crate::teller::{Place, Teller};
 use flowspace::Policy;
-use fv_base::Sink;
 use of10_ctl::Framer;
 use proxy_core::{Desk, Dest, Event, Timed};
 use recording::{Item, SLICE_BYTES, SLICE_UP, SWITCH_BYTES, SWITCH_DOWN, SWITCH_UP};
@@ -85,18 +84,17 @@ fn event_of(item: &Item) -> Event
 }
 
 /// A connection begins or ends.
-fn connection_turns<K: Sink>(
+fn connection_turns<T: Teller>(
     alloc: Global,
-    out: &mut K,
-    line: &mut LineBuffer,
+    teller: &mut T,
     policy: &Policy,
     events: u64,
     switch: &mut Switch,
     item: &Item,
 ) -> Result<u64, ReportFault>
     requires kind { IsTurn item.now.kind }
-    ensures plays { PlaysRecord policy.now (told_by item.now []) events result (K.contents out.old) (K.contents out.new) switch.old switch.new }
-    ensures counted { Counted result (K.faults out.old) (K.faults out.new) }
+    ensures plays { PlaysRecord T.Tells policy.now (told_by item.now []) events result teller.old teller.new switch.old switch.new }
+    ensures counted { Counted result (T.faults teller.old) (T.faults teller.new) }
 {
     switch.renew(alloc, policy, item)?;
     let timed = Timed {
@@ -104,15 +102,14 @@ fn connection_turns<K: Sink>(
         moment: item.moment,
     };
     let place = place_of(events, item);
-    let later = play(alloc, out, line, &mut switch.desk, policy, place, timed)?;
+    let later = play(alloc, teller, &mut switch.desk, policy, place, timed)?;
     Ok(later.number)
 }
 
 /// Bytes of a connection.
-fn connection_speaks<K: Sink>(
+fn connection_speaks<T: Teller>(
     alloc: Global,
-    out: &mut K,
-    line: &mut LineBuffer,
+    teller: &mut T,
     policy: &Policy,
     events: u64,
     desk: &mut Desk,
@@ -121,23 +118,22 @@ fn connection_speaks<K: Sink>(
     item: &Item,
     bytes: &[u8],
 ) -> Result<u64, ReportFault>
-    ensures speaks { Speaks policy.now from item.now bytes.now events result (K.contents out.old) (K.contents out.new) desk.old desk.new framer.old framer.new }
-    ensures counted { Counted result (K.faults out.old) (K.faults out.new) }
+    ensures speaks { Speaks T.Tells policy.now from item.now bytes.now events result teller.old teller.new desk.old desk.new framer.old framer.new }
+    ensures counted { Counted result (T.faults teller.old) (T.faults teller.new) }
 {
     let place = place_of(events, item);
     let came = Came {
         from,
         moment: item.moment,
     };
-    let later = hear_bytes(alloc, out, line, desk, policy, place, came, framer, bytes)?;
+    let later = hear_bytes(alloc, teller, desk, policy, place, came, framer, bytes)?;
     Ok(later.number)
 }
 
 /// Bytes of the switch.
-fn switch_speaks<K: Sink>(
+fn switch_speaks<T: Teller>(
     alloc: Global,
-    out: &mut K,
-    line: &mut LineBuffer,
+    teller: &mut T,
     policy: &Policy,
     events: u64,
     switch: &mut Switch,
@@ -146,15 +142,14 @@ fn switch_speaks<K: Sink>(
 ) -> Result<u64, ReportFault>
     requires kind { item.now.kind ≡ switch_bytes }
     requires slot { item.now.slot ≡ 0 }
-    ensures plays { PlaysRecord policy.now (told_by item.now bytes.now) events result (K.contents out.old) (K.contents out.new) switch.old switch.new }
-    ensures counted { Counted result (K.faults out.old) (K.faults out.new) }
+    ensures plays { PlaysRecord T.Tells policy.now (told_by item.now bytes.now) events result teller.old teller.new switch.old switch.new }
+    ensures counted { Counted result (T.faults teller.old) (T.faults teller.new) }
 {
     let Switch { desk, streams } = switch;
     let framer = &mut streams.switch;
     connection_speaks(
         alloc,
-        out,
-        line,
+        teller,
         policy,
         events,
         desk,
@@ -166,10 +161,9 @@ fn switch_speaks<K: Sink>(
 }
 
 /// Bytes of a slice's controller.
-fn slice_speaks<K: Sink>(
+fn slice_speaks<T: Teller>(
     alloc: Global,
-    out: &mut K,
-    line: &mut LineBuffer,
+    teller: &mut T,
     policy: &Policy,
     events: u64,
     switch: &mut Switch,
@@ -178,8 +172,8 @@ fn slice_speaks<K: Sink>(
 ) -> Result<u64, ReportFault>
     requires kind { item.now.kind ≡ slice_bytes }
     requires slot { item.now.slot < length policy.now.slices }
-    ensures plays { PlaysRecord policy.now (told_by item.now bytes.now) events result (K.contents out.old) (K.contents out.new) switch.old switch.new }
-    ensures counted { Counted result (K.faults out.old) (K.faults out.new) }
+    ensures plays { PlaysRecord T.Tells policy.now (told_by item.now bytes.now) events result teller.old teller.new switch.old switch.new }
+    ensures counted { Counted result (T.faults teller.old) (T.faults teller.new) }
 {
     let from = Dest::Slice(item.slot);
     let Switch { desk, streams } = switch;
@@ -188,15 +182,14 @@ fn slice_speaks<K: Sink>(
         return Ok(events);
     };
     connection_speaks(
-        alloc, out, line, policy, events, desk, from, framer, item, bytes,
+        alloc, teller, policy, events, desk, from, framer, item, bytes,
     )
 }
 
 /// Plays a record.
-pub(crate) fn play_record<K: Sink>(
+pub(crate) fn play_record<T: Teller>(
     alloc: Global,
-    out: &mut K,
-    line: &mut LineBuffer,
+    teller: &mut T,
     policy: &Policy,
     events: u64,
     switch: &mut Switch,
@@ -204,12 +197,12 @@ pub(crate) fn play_record<K: Sink>(
     bytes: &[u8],
 ) -> Result<u64, ReportFault>
     requires item { IsRecord (length policy.now.slices) item.now bytes.now }
-    ensures plays { PlaysRecord policy.now (told_by item.now bytes.now) events result (K.contents out.old) (K.contents out.new) switch.old switch.new }
-    ensures counted { Counted result (K.faults out.old) (K.faults out.new) }
+    ensures plays { PlaysRecord T.Tells policy.now (told_by item.now bytes.now) events result teller.old teller.new switch.old switch.new }
+    ensures counted { Counted result (T.faults teller.old) (T.faults teller.new) }
 {
     match item.kind {
-        SWITCH_BYTES => switch_speaks(alloc, out, line, policy, events, switch, item, bytes),
-        SLICE_BYTES => slice_speaks(alloc, out, line, policy, events, switch, item, bytes),
-        _ => connection_turns(alloc, out, line, policy, events, switch, item),
+        SWITCH_BYTES => switch_speaks(alloc, teller, policy, events, switch, item, bytes),
+        SLICE_BYTES => slice_speaks(alloc, teller, policy, events, switch, item, bytes),
+        _ => connection_turns(alloc, teller, policy, events, switch, item),
     }
 }

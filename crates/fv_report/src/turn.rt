@@ -9,18 +9,17 @@ ghost use Rattle.desk_words.specs.Histories.{is_slice_up};
 ghost use Rattle.desk_words.specs.Verdicts.{is_ended};
 ghost use Rattle.desk_words.specs.Operations.{takes_in};
 ghost use Rattle.desk_words.specs.Recorded.{next_of};
-ghost use Rattle.desk_words.specs.Reports.{name_at, speaker, closing_lines, event_lines};
+ghost use Rattle.desk_words.specs.Reports.{name_at, speaker};
+ghost use Rattle.fv_report.specs.Telling.{Tell, closing_told, event_told, end_told, told_parts};
 ghost use Rattle.fv_report.specs.Lines.{place_of};
-ghost use Rattle.fv_report.specs.Writing.{Wrote, Counted};
+ghost use Rattle.fv_report.specs.Writing.{Counted};
 ghost use Rattle.fv_report.specs.Holding.{Holds, IsQuiet, After};
 ghost use Rattle.fv_report.specs.Taking.{is_nothing, is_the_end};
-ghost use Rattle.fv_report.specs.Turns.{end_lines, told_lines};
 
 use crate::drain::{drain_lane, drain_slices};
 use crate::fault::ReportFault;
-use crate::line::{LineBuffer, Place, Said, put_line};
+use crate::teller::{Place, Said, Teller};
 use flowspace::Policy;
-use fv_base::Sink;
 use proxy_core::{Desk, Dest, Event, Taken, Timed, Verdict};
 use std::alloc::Global;
 
@@ -94,17 +93,16 @@ fn name_of(policy: &Policy, slot: u8) -> &str
 }
 
 /// The line of a connection that is closed, where the slice that spoke isn't up.
-fn put_close<K: Sink>(
-    out: &mut K,
-    line: &mut LineBuffer,
+fn put_close<T: Teller>(
+    teller: &mut T,
     desk: &mut Desk,
     policy: &Policy,
     place: Place,
     speaker: Option<u8>,
 ) -> Result<(), ReportFault>
-    ensures writes { (h : List Timed) → IsQuiet policy.now h desk.old → Wrote result (closing_lines policy.now (place_of place) h speaker) (K.contents out.old) (K.contents out.new) }
+    ensures writes { (h : List Timed) → IsQuiet policy.now h desk.old → Tell T.Tells result (closing_told policy.now (place_of place) h speaker) teller.old teller.new }
     ensures same { (h : List Timed) → IsQuiet policy.now h desk.old → IsQuiet policy.now h desk.new }
-    ensures counted { Counted result (K.faults out.old) (K.faults out.new) }
+    ensures counted { Counted result (T.faults teller.old) (T.faults teller.new) }
 {
     let Some(slot) = speaker else {
         return Ok(());
@@ -112,64 +110,57 @@ fn put_close<K: Sink>(
     if is_up(desk, slot) {
         return Ok(());
     }
-    put_line(out, line, place, Said::Close(name_of(policy, slot)))
+    teller.tell(place, Said::Close(name_of(policy, slot)))
 }
 
 /// The line of the end of the switch's connection, where it has ended.
-fn put_end<K: Sink>(
-    out: &mut K,
-    line: &mut LineBuffer,
-    desk: &mut Desk,
-    place: Place,
-) -> Result<(), ReportFault>
-    ensures writes { (policy : PolicyView) (h : List Timed) → IsQuiet policy h desk.old → Wrote result (end_lines (place_of place) h) (K.contents out.old) (K.contents out.new) }
+fn put_end<T: Teller>(teller: &mut T, desk: &mut Desk, place: Place) -> Result<(), ReportFault>
+    ensures writes { (policy : PolicyView) (h : List Timed) → IsQuiet policy h desk.old → Tell T.Tells result (end_told (place_of place) h) teller.old teller.new }
     ensures same { (policy : PolicyView) (h : List Timed) → IsQuiet policy h desk.old → IsQuiet policy h desk.new }
-    ensures counted { Counted result (K.faults out.old) (K.faults out.new) }
+    ensures counted { Counted result (T.faults teller.old) (T.faults teller.new) }
 {
     if !has_ended(desk) {
         return Ok(());
     }
-    put_line(out, line, place, Said::Down)
+    teller.tell(place, Said::Down)
 }
 
 /// The lines of an event that was taken in: of its messages, of the connection that is closed, and of the
 /// switch's end.
-fn tell<K: Sink>(
-    out: &mut K,
-    line: &mut LineBuffer,
+fn tell<T: Teller>(
+    teller: &mut T,
     desk: &mut Desk,
     policy: &Policy,
     place: Place,
     speaker: Option<u8>,
 ) -> Result<(), ReportFault>
-    ensures writes { (h : List Timed) (slices : ℕ → List (List ℕ)) (lane : List (List ℕ)) → Holds policy.now h slices lane desk.old → Wrote result (told_lines policy.now (place_of place) h slices lane speaker) (K.contents out.old) (K.contents out.new) }
+    ensures writes { (h : List Timed) (slices : ℕ → List (List ℕ)) (lane : List (List ℕ)) → Holds policy.now h slices lane desk.old → Tell T.Tells result (told_parts policy.now (place_of place) h slices lane speaker) teller.old teller.new }
     ensures quiet { OnOk result ((h : List Timed) (slices : ℕ → List (List ℕ)) (lane : List (List ℕ)) → Holds policy.now h slices lane desk.old → IsQuiet policy.now h desk.new) }
-    ensures counted { Counted result (K.faults out.old) (K.faults out.new) }
+    ensures counted { Counted result (T.faults teller.old) (T.faults teller.new) }
 {
-    drain_lane(out, line, desk, place)?;
-    drain_slices(out, line, desk, place, policy)?;
-    put_close(out, line, desk, policy, place, speaker)?;
-    put_end(out, line, desk, place)
+    drain_lane(teller, desk, place)?;
+    drain_slices(teller, desk, place, policy)?;
+    put_close(teller, desk, policy, place, speaker)?;
+    put_end(teller, desk, place)
 }
 
 /// One event at a desk at which nothing waits, and all its lines.
-pub(crate) fn turn<K: Sink>(
+pub(crate) fn turn<T: Teller>(
     alloc: Global,
-    out: &mut K,
-    line: &mut LineBuffer,
+    teller: &mut T,
     desk: &mut Desk,
     policy: &Policy,
     place: Place,
     timed: Timed,
 ) -> Result<(), ReportFault>
-    ensures writes { (h : List Timed) → IsQuiet policy.now h desk.old → AreFramed h → IsFramed timed.event → Wrote result (event_lines policy.now (place_of place) h timed) (K.contents out.old) (K.contents out.new) }
+    ensures writes { (h : List Timed) → IsQuiet policy.now h desk.old → AreFramed h → IsFramed timed.event → Tell T.Tells result (event_told policy.now (place_of place) h timed) teller.old teller.new }
     ensures quiet { OnOk result ((h : List Timed) → IsQuiet policy.now h desk.old → AreFramed h → IsFramed timed.event → IsQuiet policy.now (next_of h timed) desk.new) }
-    ensures counted { Counted result (K.faults out.old) (K.faults out.new) }
+    ensures counted { Counted result (T.faults teller.old) (T.faults teller.new) }
 {
     let speaker = speaker(&timed.event);
     if step(alloc, desk, timed)? {
-        tell(out, line, desk, policy, place, speaker)
+        tell(teller, desk, policy, place, speaker)
     } else {
-        put_close(out, line, desk, policy, place, speaker)
+        put_close(teller, desk, policy, place, speaker)
     }
 }

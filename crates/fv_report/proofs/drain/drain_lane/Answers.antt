@@ -1,41 +1,39 @@
-use Rattle.std.proofs.Common.{◌≡◌, ℕ, List, subst, ◌∙◌}
+use Rattle.std.proofs.Common.{ℕ, true, false, List, subst, ◌∙◌}
 use Rattle.std.proofs.lemmas.Result.{err_from_is_err_and}
-use Rattle.fv_base.specs.Told.{appended}
-use Rattle.desk_words.specs.Reports.{lane_lines}
+use Rattle.fv_report.specs.Telling.{lane_line, lane_told}
 use Rattle.fv_report.specs.Lines.{place_of}
-use Rattle.fv_report.specs.Writing.{WrotePart}
 use Rattle.fv_report.specs.Holding.{Holds}
-use Rattle.fv_report.proofs.Writing.{at_fault, fault_after}
-use Rattle.fv_report.proofs.Draining.{lane_text, drained_more, drained_part, drained_all, drained_end}
+use Rattle.fv_report.proofs.Writing.{tell_fault, fault_after}
+use Rattle.fv_report.proofs.Draining.{drained_more, drained_part, drained_all, drained_end}
 use Rattle.fv_report.proofs.drain.drain_lane.Goals as goal
 
-pub returns-in_err-put_line-clause-writes : goal.returns-in_err-put_line-clause-writes
-returns-in_err-put_line-clause-writes g c = λ policy h slices lane holds.
+pub returns-in_err-tell-clause-writes : goal.returns-in_err-tell-clause-writes
+returns-in_err-tell-clause-writes g c = λ policy h slices lane holds.
     let place = place_of c.args.place in
-    let now = g.K.Sink.contents c.loop-message.out in
-    let later = g.K.Sink.contents c.put_line.new.out in
+    let now = c.loop-message.teller in
+    let later = c.tell.new.self in
     let d = c.loop-message.invariant.drained policy h slices lane holds in
-    at_fault c.from_residual.result (lane_lines place lane) (g.K.Sink.contents c.args.out.now) later c.from_residual.ensures.0
-    (drained_part (λ messages. Holds policy h slices messages c.loop-message.desk) (lane_text place) lane (g.K.Sink.contents c.args.out.now) now later c.in-Some.message d
-    (c.in-Some.ensures.takes policy h slices d.left d.holds).0 (subst (λ (m : List ℕ). WrotePart (lane_text place m) now later) c.as_slice.ensures.value c.in_err-put_line.ensures.writes))
+    tell_fault g.T.Teller.Tells c.from_residual.result (lane_told place lane) c.args.teller.now later c.from_residual.ensures.0
+    (drained_part g.T.Teller.Tells (λ messages. Holds policy h slices messages c.loop-message.desk) (lane_line place) lane c.args.teller.now now later c.in-Some.message d
+    (c.in-Some.ensures.takes policy h slices d.left d.holds).0 (subst (λ (m : List ℕ). g.T.Teller.Tells now (lane_line place m) false later) c.as_slice.ensures.value c.in_err-tell.ensures.tells))
 
 pub loop-message-preserved : goal.loop-message-preserved
 loop-message-preserved g c = record {
   drained = λ policy h slices lane holds.
       let place = place_of c.args.place in
-      let now = g.K.Sink.contents c.loop-message.out in
-      let later = g.K.Sink.contents c.put_line.new.out in
+      let now = c.loop-message.teller in
+      let later = c.tell.new.self in
       let d = c.loop-message.invariant.drained policy h slices lane holds in
       let next = c.in-Some.ensures.takes policy h slices d.left d.holds in
-      drained_more (λ messages. Holds policy h slices messages c.loop-message.desk) (λ messages. Holds policy h slices messages c.next_of_lane.new.desk) (lane_text place) lane (g.K.Sink.contents c.args.out.now) now later c.in-Some.message d
-      next.0 next.1 (subst (λ (m : List ℕ). later ≡ appended now (lane_text place m)) c.as_slice.ensures.value c.in_ok-put_line.ensures.writes);
-  calm = c.in_ok-put_line.ensures.counted ∙ c.loop-message.invariant.calm;
+      drained_more g.T.Teller.Tells (λ messages. Holds policy h slices messages c.loop-message.desk) (λ messages. Holds policy h slices messages c.next_of_lane.new.desk) (lane_line place) lane c.args.teller.now now later c.in-Some.message d
+      next.0 next.1 (subst (λ (m : List ℕ). g.T.Teller.Tells now (lane_line place m) true later) c.as_slice.ensures.value c.in_ok-tell.ensures.tells);
+  calm = c.in_ok-tell.ensures.counted ∙ c.loop-message.invariant.calm;
 }
 
 pub returns-clause-writes : goal.returns-clause-writes
 returns-clause-writes g c = λ policy h slices lane holds.
     let d = c.loop-message.invariant.drained policy h slices lane holds in
-    drained_all (λ messages. Holds policy h slices messages c.loop-message.desk) (lane_text (place_of c.args.place)) lane (g.K.Sink.contents c.args.out.now) (g.K.Sink.contents c.loop-message.out) d
+    drained_all g.T.Teller.Tells (λ messages. Holds policy h slices messages c.loop-message.desk) (lane_line (place_of c.args.place)) lane c.args.teller.now c.loop-message.teller d
     (c.in_default.ensures.takes policy h slices d.left d.holds).0
 
 pub returns-clause-empties : goal.returns-clause-empties
@@ -44,7 +42,7 @@ returns-clause-empties g c = λ policy h slices lane holds.
     let next = c.in_default.ensures.takes policy h slices d.left d.holds in
     drained_end (λ messages. Holds policy h slices messages c.next_of_lane.new.desk) d.left next.0 next.1
 
-pub returns-in_err-put_line-clause-counted : goal.returns-in_err-put_line-clause-counted
-returns-in_err-put_line-clause-counted g c =
+pub returns-in_err-tell-clause-counted : goal.returns-in_err-tell-clause-counted
+returns-in_err-tell-clause-counted g c =
     let p = err_from_is_err_and c.from_residual.result c.from_residual.ensures.1 in
-    rw (p.1, p.2) (fault_after _ (g.K.Sink.faults c.args.out.now) (g.K.Sink.faults c.loop-message.out) (g.K.Sink.faults c.put_line.new.out) (c.loop-message.invariant.calm) c.in_err-put_line.ensures.counted)
+    rw (p.1, p.2) (fault_after _ (g.T.Teller.faults c.args.teller.now) (g.T.Teller.faults c.loop-message.teller) (g.T.Teller.faults c.tell.new.self) (c.loop-message.invariant.calm) c.in_err-tell.ensures.counted)

@@ -9,8 +9,8 @@ use Rattle.fv_report.proofs.play.hear.Given as goal
 abbrev pub invariant-loop-frame : goal.invariant-loop-frame
 invariant-loop-frame g l = record {
   hearing : (h : List Timed) (fed : List ℕ) (given rest : List (List ℕ)) → IsQuiet l.policy h l.fn.desk → AreFramed h → Stands l.fn.framer fed given → given ++ rest ≡ frames_of fed
-      → Hearing l.policy l.came.moment l.came.from l.fn.place l.place h rest fed (g.K.Sink.contents l.fn.out) (g.K.Sink.contents l.out) l.desk l.framer;
-  calm : g.K.Sink.faults l.out ≡ g.K.Sink.faults l.fn.out;
+      → Hearing g.T.Teller.Tells l.policy l.came.moment l.came.from l.fn.place l.place h rest fed l.fn.teller l.teller l.desk l.framer;
+  calm : g.T.Teller.faults l.teller ≡ g.T.Teller.faults l.fn.teller;
 }
 
 abbrev pub decreases-loop-frame : goal.decreases-loop-frame

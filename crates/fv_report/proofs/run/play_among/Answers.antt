@@ -15,5 +15,5 @@ returns-clause-plays g c =
     let count = c.requires.count in
     let same = c.from.ensures in
     let there : slice_get xs.items r.switch ≡ Some c.index_mut-known.result.now = subst (λ (n : ℕ). slice_get xs.items n ≡ Some c.index_mut-known.result.now) same (slice_get_read xs.items _ c.from.result c.index_mut-known.result.now ok (omega arith) c.index_mut-known.ensures.value) in
-    subst (λ (n : ℕ). PlaysAmong p r c.args.events c.play_at.result (g.K.Sink.contents c.args.out.now) (g.K.Sink.contents c.play_at.new.out) xs.items (set xs.items n c.play_at.new.known)) (sym same)
-    (among p r c.args.events c.play_at.result (g.K.Sink.contents c.args.out.now) (g.K.Sink.contents c.play_at.new.out) xs.items c.index_mut-known.result.now c.play_at.new.known there c.play_at.ensures.plays)
+    subst (λ (n : ℕ). PlaysAmong g.T.Teller.Tells p r c.args.events c.play_at.result c.args.teller.now c.play_at.new.teller xs.items (set xs.items n c.play_at.new.known)) (sym same)
+    (among g.T.Teller.Tells p r c.args.events c.play_at.result c.args.teller.now c.play_at.new.teller xs.items c.index_mut-known.result.now c.play_at.new.known there c.play_at.ensures.plays)

@@ -10,19 +10,19 @@ pub returns-in_err-switch-in-None-clause-plays : goal.returns-in_err-switch-in-N
 returns-in_err-switch-in-None-clause-plays g c = λ before is.
     let p = c.args.policy.now in
     let r = told_by c.args.item.now c.args.bytes.now in
-    none_played p r before c.args.events c.from_residual.result (g.K.Sink.contents c.args.out.now) (IsAt p r.switch (r ∷ before)) _ c.from_residual.ensures.0
+    none_played g.T.Teller.Tells p r before c.args.events c.from_residual.result c.args.teller.now (IsAt p r.switch (r ∷ before)) _ c.from_residual.ensures.0
 
 pub returns-in_err-later-in-None-clause-plays : goal.returns-in_err-later-in-None-clause-plays
 returns-in_err-later-in-None-clause-plays g c = λ before is.
     let p = c.args.policy.now in
     let r = told_by c.args.item.now c.args.bytes.now in
     let none = subst (λ (known : Option Switch). IsAt p r.switch before known) c.in-None.is is in
-    part_played p r before c.args.events c.from_residual-in_err-later-in-None.result (g.K.Sink.contents c.args.out.now) (g.K.Sink.contents c.play_record-in-None.new.out) (IsAt p r.switch (r ∷ before)) _ c.from_residual-in_err-later-in-None.ensures.0
+    part_played g.T.Teller.Tells p r before c.args.events c.from_residual-in_err-later-in-None.result c.args.teller.now c.play_record-in-None.new.teller (IsAt p r.switch (r ∷ before)) _ c.from_residual-in_err-later-in-None.ensures.0
     (c.in_err-later-in-None.ensures.plays before (fresh_stands p r.switch before c.in_ok-switch-in-None.switch none c.in_ok-switch-in-None.ensures)).writes
 
 pub returns-in_ok-later-in-None-clause-plays : goal.returns-in_ok-later-in-None-clause-plays
 returns-in_ok-later-in-None-clause-plays g c =
     let p = c.args.policy.now in
     let r = told_by c.args.item.now c.args.bytes.now in
-    subst (λ (known : Option Switch). PlaysAt p r c.args.events (Ok c.in_ok-later-in-None.later) (g.K.Sink.contents c.args.out.now) (g.K.Sink.contents c.play_record-in-None.new.out) known (Some c.play_record-in-None.new.switch)) (sym c.in-None.is)
-    (at_none p r c.args.events (Ok c.in_ok-later-in-None.later) (g.K.Sink.contents c.args.out.now) (g.K.Sink.contents c.play_record-in-None.new.out) c.in_ok-switch-in-None.switch c.play_record-in-None.new.switch c.in_ok-switch-in-None.ensures c.in_ok-later-in-None.ensures.plays)
+    subst (λ (known : Option Switch). PlaysAt g.T.Teller.Tells p r c.args.events (Ok c.in_ok-later-in-None.later) c.args.teller.now c.play_record-in-None.new.teller known (Some c.play_record-in-None.new.switch)) (sym c.in-None.is)
+    (at_none g.T.Teller.Tells p r c.args.events (Ok c.in_ok-later-in-None.later) c.args.teller.now c.play_record-in-None.new.teller c.in_ok-switch-in-None.switch c.play_record-in-None.new.switch c.in_ok-switch-in-None.ensures c.in_ok-later-in-None.ensures.plays)

@@ -5,5 +5,5 @@ use Rattle.fv_report.proofs.run.play_item.Goals as goal
 
 pub returns-clause-plays : goal.returns-clause-plays
 returns-clause-plays g c =
-    subst (λ (b : List ℕ). PlaysAmong c.args.policy.now (told_by c.args.item.now b) c.args.events c.play_among.result (g.K.Sink.contents c.args.out.now) (g.K.Sink.contents c.play_among.new.out) c.args.switches.now.items c.play_among.new.switches.items)
+    subst (λ (b : List ℕ). PlaysAmong g.T.Teller.Tells c.args.policy.now (told_by c.args.item.now b) c.args.events c.play_among.result c.args.teller.now c.play_among.new.teller c.args.switches.now.items c.play_among.new.switches.items)
     c.carried-bytes.ensures c.play_among.ensures.plays

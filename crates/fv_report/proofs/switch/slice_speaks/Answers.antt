@@ -15,7 +15,7 @@ returns-clause-plays g c =
     let framer = c.in-Some.framer.now in
     let new = c.connection_speaks.new.framer in
     let there = subst (λ (n : ℕ). slice_get framers n ≡ Some framer) c.from.ensures (found framers c.from.result framer (sym c.in-Some.ensures.item.0) c.in-Some.ensures.value) in
-    by_kind p item bytes slice_bytes c.args.events _ (g.K.Sink.contents c.args.out.now) (g.K.Sink.contents c.connection_speaks.new.out) c.args.switch.now _ c.requires.kind
-    (λ before stands. spoke_at p (told_from (Slice item.slot) item bytes) before c.args.events _ _ _ new _
+    by_kind g.T.Teller.Tells p item bytes slice_bytes c.args.events _ c.args.teller.now c.connection_speaks.new.teller c.args.switch.now _ c.requires.kind
+    (λ before stands. spoke_at g.T.Teller.Tells p (told_from (Slice item.slot) item bytes) before c.args.events _ _ _ new _
     (λ spoken. streams_slice_heard (length p.slices) item.switch item.slot item.moment bytes before old _ new stands.streams refl (ap (λ (n : ℕ). set framers n new) c.from.ensures) spoken.given)
     (c.connection_speaks.ensures.speaks before stands.quiet stands.framed (stands.streams.of_slices item.slot framer there)))

@@ -1,17 +1,14 @@
-use Rattle.std.proofs.Common.{◌≡◌, sym, ◌∙◌, Bool, if◌then◌else◌, [], codes, subst}
-use Rattle.fv_base.specs.Told.{appended}
-use Rattle.desk_words.specs.Reports.{line}
+use Rattle.std.proofs.Common.{sym, ◌∙◌, Bool, if◌then◌else◌, [], ◌∷◌, subst, refl}
 use Rattle.fv_report.specs.Lines.{place_of}
-use Rattle.fv_report.specs.Writing.{Wrote}
-use Rattle.fv_base.proofs.Appending.{appended_none}
+use Rattle.fv_report.specs.Telling.{Heard, Tell, down_line}
+use Rattle.fv_report.proofs.Writing.{tell_line}
 use Rattle.fv_report.proofs.turn.put_end.Goals as goal
 
 pub returns-then-not-has_ended-clause-writes : goal.returns-then-not-has_ended-clause-writes
 returns-then-not-has_ended-clause-writes g c = λ p h quiet.
-    subst (λ (b : Bool). g.K.Sink.contents c.args.out.now ≡ appended (g.K.Sink.contents c.args.out.now) (if b then line (place_of c.args.place) (codes "down") else [])) (sym c.if-not-has_ended.true ∙ c.has_ended.ensures.answer p h quiet)
-    (appended_none (g.K.Sink.contents c.args.out.now))
+    subst (λ (b : Bool). Heard g.T.Teller.Tells c.args.teller.now (if b then down_line (place_of c.args.place) ∷ [] else []) c.args.teller.now) (sym c.if-not-has_ended.true ∙ c.has_ended.ensures.answer p h quiet) refl
 
 pub returns-clause-writes : goal.returns-clause-writes
 returns-clause-writes g c = λ p h quiet.
-    subst (λ (b : Bool). Wrote c.put_line.result (if b then line (place_of c.args.place) (codes "down") else []) (g.K.Sink.contents c.args.out.now) (g.K.Sink.contents c.put_line.new.out)) (sym c.if-not-has_ended.false ∙ c.has_ended.ensures.answer p h quiet)
-    c.put_line.ensures.writes
+    subst (λ (b : Bool). Tell g.T.Teller.Tells c.tell.result (if b then down_line (place_of c.args.place) ∷ [] else []) c.args.teller.now c.tell.new.self) (sym c.if-not-has_ended.false ∙ c.has_ended.ensures.answer p h quiet)
+    (tell_line g.T.Teller.Tells c.tell.result (down_line (place_of c.args.place)) c.args.teller.now c.tell.new.self c.tell.ensures.tells)

@@ -1,32 +1,30 @@
 use Rattle.std.proofs.Common.{◌∷◌, ℕ, List, Bool, Option, subst, sym}
 use Rattle.std.proofs.lemmas.Result.{on_ok_weaker}
 use Rattle.desk_words.specs.declared.event.Timed.{Timed}
-use Rattle.desk_words.specs.Reports.{closing_lines, event_lines}
 use Rattle.desk_words.specs.Sent.{sent_by, lane_by}
 use Rattle.fv_report.specs.Lines.{place_of}
-use Rattle.fv_report.specs.Writing.{Wrote}
 use Rattle.fv_report.specs.Holding.{IsQuiet, After}
-use Rattle.fv_report.specs.Turns.{told_lines}
-use Rattle.fv_report.proofs.Writing.{at_fault, none_of, on_ok}
+use Rattle.fv_report.proofs.Writing.{tell_fault, heard_none, on_ok}
 use Rattle.fv_report.proofs.Turning.{told_event, over_event, next_on, next_over}
+use Rattle.fv_report.specs.Telling.{closing_told, told_parts, event_told, Line, Tell}
 use Rattle.fv_report.proofs.turn.turn.Goals as goal
 
 pub returns-in_err-step-clause-writes : goal.returns-in_err-step-clause-writes
 returns-in_err-step-clause-writes g c = λ h quiet framed one.
-    at_fault c.from_residual.result (event_lines c.args.policy.now (place_of c.args.place) h c.args.timed) (g.K.Sink.contents c.args.out.now) (g.K.Sink.contents c.args.out.now) c.from_residual.ensures.0
-    (none_of (event_lines c.args.policy.now (place_of c.args.place) h c.args.timed) (g.K.Sink.contents c.args.out.now))
+    tell_fault g.T.Teller.Tells c.from_residual.result (event_told c.args.policy.now (place_of c.args.place) h c.args.timed) c.args.teller.now c.args.teller.now c.from_residual.ensures.0
+    (heard_none g.T.Teller.Tells (event_told c.args.policy.now (place_of c.args.place) h c.args.timed) c.args.teller.now)
 
 pub returns-then-branch-clause-writes : goal.returns-then-branch-clause-writes
 returns-then-branch-clause-writes g c = λ h quiet framed one.
     let p = c.args.policy.now in
     let timed = c.args.timed in
     let place = place_of c.args.place in
-    let before = g.K.Sink.contents c.args.out.now in
-    let now = g.K.Sink.contents c.tell.new.out in
+    let before = c.args.teller.now in
+    let now = c.tell.new.teller in
     let slices = λ (slot : ℕ). sent_by p slot h timed in
     let after = subst (λ (b : Bool). After p h timed b c.step.new.desk) c.if-branch.true (c.in_ok-step.ensures.after p h quiet framed one) in
-    subst (λ text. Wrote c.tell.result text before now) (told_event p place h timed after.0)
-    (subst (λ (o : Option ℕ). Wrote c.tell.result (told_lines p place (timed ∷ h) slices (lane_by p h timed) o) before now) c.speaker-speaker.ensures
+    subst (λ (lines : List Line). Tell g.T.Teller.Tells c.tell.result lines before now) (told_event p place h timed after.0)
+    (subst (λ (o : Option ℕ). Tell g.T.Teller.Tells c.tell.result (told_parts p place (timed ∷ h) slices (lane_by p h timed) o) before now) c.speaker-speaker.ensures
     (c.tell.ensures.writes (timed ∷ h) slices (lane_by p h timed) after.1))
 
 pub returns-else-branch-clause-writes : goal.returns-else-branch-clause-writes
@@ -34,11 +32,11 @@ returns-else-branch-clause-writes g c = λ h quiet framed one.
     let p = c.args.policy.now in
     let timed = c.args.timed in
     let place = place_of c.args.place in
-    let before = g.K.Sink.contents c.args.out.now in
-    let now = g.K.Sink.contents c.put_close.new.out in
+    let before = c.args.teller.now in
+    let now = c.put_close.new.teller in
     let after = subst (λ (b : Bool). After p h timed b c.step.new.desk) c.if-branch.false (c.in_ok-step.ensures.after p h quiet framed one) in
-    subst (λ text. Wrote c.put_close.result text before now) (over_event p place h timed after.0)
-    (subst (λ (o : Option ℕ). Wrote c.put_close.result (closing_lines p place h o) before now) c.speaker-speaker.ensures (c.put_close.ensures.writes h after.1))
+    subst (λ (lines : List Line). Tell g.T.Teller.Tells c.put_close.result lines before now) (over_event p place h timed after.0)
+    (subst (λ (o : Option ℕ). Tell g.T.Teller.Tells c.put_close.result (closing_told p place h o) before now) c.speaker-speaker.ensures (c.put_close.ensures.writes h after.1))
 
 pub returns-then-branch-clause-quiet : goal.returns-then-branch-clause-quiet
 returns-then-branch-clause-quiet g c = on_ok_weaker c.tell.result (λ told h quiet framed one.

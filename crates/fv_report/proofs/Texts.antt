@@ -1,0 +1,142 @@
+-- The text of what is told, and what a writer writes of it.
+use Rattle.std.proofs.Common.{◌≡◌, inl, inr, ◌+◌, ℕ, Bool, true, false, if◌then◌else◌, List, [], ◌∷◌, ◌++◌, length, refl, sym, ap, ap₂, ◌∙◌, append_assoc, subst, Option, Some, None, codes, arith}
+use Rattle.std.specs.List.{flat_map}
+use Rattle.std.proofs.lemmas.List.{append-nil}
+use Rattle.std.proofs.lemmas.Grind.{flat_map-append}
+use Rattle.hex.specs.Hex.{encode_lower}
+use Rattle.fv_base.specs.Told.{appended}
+use Rattle.fv_base.proofs.Appending.{appended_none}
+use Rattle.flowspace.specs.declared.slices.Slice.{Slice}
+use Rattle.flowspace.specs.Policies.{PolicyView}
+use Rattle.recording.specs.Recordings.{Told}
+use Rattle.desk_words.specs.declared.event.Timed.{Timed}
+use Rattle.desk_words.specs.Histories.{is_slice_up}
+use Rattle.desk_words.specs.Sent.{sent_by, lane_by}
+use Rattle.desk_words.specs.Verdicts.{is_over}
+use Rattle.desk_words.specs.Operations.{ends}
+use Rattle.desk_words.specs.Recorded.{next_of, history_at, events_in}
+use Rattle.desk_words.specs.Reports as report
+use Rattle.desk_words.specs.Reports.{Place, line, name_at, speaker, lane_lines, slice_lines, lines_by_slot, closing_lines, close_lines, down_lines, event_lines, lines_of, last_line, report_from}
+use Rattle.fv_report.specs.Writing.{WrotePart, WroteLine}
+use Rattle.fv_report.specs.Telling.{Line, Close, line_text, lane_told, slice_told, told_by_slot, closing_told, close_told, down_line, down_told, event_told, told_of, told_from, count_from, Heard, HeardPart}
+use Rattle.fv_report.proofs.Writing.{both, none_of, part_of_first, part_of_second}
+
+lane_text : (place : Place) (messages : List (List ℕ)) → flat_map line_text (lane_told place messages) ≡ lane_lines place messages
+lane_text place [] = refl
+lane_text place (m ∷ messages) = ap (λ (text : List ℕ). line place (codes "lane " ++ encode_lower m) ++ text) (lane_text place messages)
+
+slice_text : (place : Place) (slot : ℕ) (name : List ℕ) (messages : List (List ℕ)) → flat_map line_text (slice_told place slot name messages) ≡ slice_lines place name messages
+slice_text place slot name [] = refl
+slice_text place slot name (m ∷ messages) = ap (λ (text : List ℕ). line place (codes "to " ++ name ++ codes " " ++ encode_lower m) ++ text) (slice_text place slot name messages)
+
+by_slot_text : (place : Place) (messages : ℕ → List (List ℕ)) (slot : ℕ) (slices : List Slice) → flat_map line_text (told_by_slot place messages slot slices) ≡ lines_by_slot place messages slot slices
+by_slot_text place messages slot [] = refl
+by_slot_text place messages slot (s ∷ others) =
+    flat_map-append line_text (slice_told place slot s.name (messages slot)) (told_by_slot place messages (slot + 1) others)
+    ∙ ap₂ (λ (a b : List ℕ). a ++ b) (slice_text place slot s.name (messages slot)) (by_slot_text place messages (slot + 1) others)
+
+-- lines that are there under a condition
+unless : (b : Bool) (lines : List Line) (text : List ℕ) → flat_map line_text lines ≡ text → flat_map line_text (if b then [] else lines) ≡ (if b then [] else text)
+unless true lines text same = refl
+unless false lines text same = same
+
+where_so : (b : Bool) (lines : List Line) (text : List ℕ) → flat_map line_text lines ≡ text → flat_map line_text (if b then lines else []) ≡ (if b then text else [])
+where_so true lines text same = same
+where_so false lines text same = refl
+
+closing_text : (p : PolicyView) (place : Place) (h : List Timed) (speaking : Option ℕ) → flat_map line_text (closing_told p place h speaking) ≡ closing_lines p place h speaking
+closing_text p place h None = refl
+closing_text p place h (Some slot) =
+    let closed : Line = record { place = place; saying = Close (name_at p.slices slot) } in
+    unless (is_slice_up p slot h) (closed ∷ []) (line_text closed) (append-nil (line_text closed))
+
+down_text : (place : Place) (h : List Timed) (timed : Timed) → flat_map line_text (down_told place h timed) ≡ down_lines place h timed
+down_text place h timed = where_so (ends h timed) (down_line place ∷ []) (line_text (down_line place)) (append-nil (line_text (down_line place)))
+
+messages_text : (p : PolicyView) (place : Place) (h : List Timed) (timed : Timed)
+    → flat_map line_text (lane_told place (lane_by p h timed) ++ told_by_slot place (λ slot. sent_by p slot h timed) 0 p.slices) ≡ lane_lines place (lane_by p h timed) ++ lines_by_slot place (λ slot. sent_by p slot h timed) 0 p.slices
+messages_text p place h timed =
+    flat_map-append line_text (lane_told place (lane_by p h timed)) (told_by_slot place (λ slot. sent_by p slot h timed) 0 p.slices)
+    ∙ ap₂ (λ (a b : List ℕ). a ++ b) (lane_text place (lane_by p h timed)) (by_slot_text place (λ slot. sent_by p slot h timed) 0 p.slices)
+
+event_text : (p : PolicyView) (place : Place) (h : List Timed) (timed : Timed) → flat_map line_text (event_told p place h timed) ≡ event_lines p place h timed
+event_text p place h timed =
+    let told = lane_told place (lane_by p h timed) ++ told_by_slot place (λ slot. sent_by p slot h timed) 0 p.slices in
+    let first : List Line = if is_over h then [] else told in
+    let second = close_told p place (next_of h timed) timed.event in
+    let third : List Line = if is_over h then [] else down_told place h timed in
+    flat_map-append line_text (first ++ second) third
+    ∙ ap₂ (λ (a b : List ℕ). a ++ b) (flat_map-append line_text first second ∙ ap₂ (λ (a b : List ℕ). a ++ b) (unless (is_over h) told _ (messages_text p place h timed)) (closing_text p place (next_of h timed) (speaker timed.event)))
+    (unless (is_over h) (down_told place h timed) (down_lines place h timed) (down_text place h timed))
+
+of_text : (p : PolicyView) (place : Place) (h events : List Timed) → flat_map line_text (told_of p place h events) ≡ lines_of p place h events
+of_text p place h [] = refl
+of_text p place h (timed ∷ later) =
+    let next : Place = record { number = place.number + 1; switch = place.switch } in
+    flat_map-append line_text (event_told p place h timed) (told_of p next (next_of h timed) later) ∙ ap₂ (λ (a b : List ℕ). a ++ b) (event_text p place h timed) (of_text p next (next_of h timed) later)
+
+from_text : (p : PolicyView) (events : ℕ) (before later : List Told) → flat_map line_text (told_from p events before later) ++ last_line (events + count_from p before later) ≡ report_from p events before later
+unfolding told_from count_from report_from
+from_text p events before [] = let none : events + 0 ≡ events = omega arith in ap last_line none
+from_text p events before (r ∷ later) =
+    let own = events_in p r before in
+    let place : Place = record { number = events; switch = r.switch } in
+    let h = history_at p r before in
+    let first = told_of p place h own in
+    let others = told_from p (events + length own) (r ∷ before) later in
+    let rest = count_from p (r ∷ before) later in
+    let counted : events + (length own + rest) ≡ events + length own + rest = omega arith in
+    ap (λ (text : List ℕ). text ++ last_line (events + (length own + rest))) (flat_map-append line_text first others)
+    ∙ append_assoc (flat_map line_text first) (flat_map line_text others) (last_line (events + (length own + rest)))
+    ∙ ap₂ (λ (a b : List ℕ). a ++ b) (of_text p place h own) (ap (λ (n : ℕ). flat_map line_text others ++ last_line n) counted ∙ from_text p (events + length own) (r ∷ before) later)
+
+pub whole_text : (p : PolicyView) (records : List Told) → flat_map line_text (told_from p 0 [] records) ++ last_line (count_from p [] records) ≡ report.report p records
+whole_text p records =
+    let counted : count_from p [] records ≡ 0 + count_from p [] records = omega arith in
+    ap (λ (n : ℕ). flat_map line_text (told_from p 0 [] records) ++ last_line n) counted ∙ from_text p 0 [] records
+
+-- ---- what is written
+
+-- lines that are written one by one are written together
+pub wrote_told : {T : Type 0} (Tells : T → Line → Bool → T → Type 0) (contents : T → Option (List ℕ)) → ((old : T) (l : Line) (whole : Bool) (new : T) → Tells old l whole new → WroteLine whole (line_text l) (contents old) (contents new))
+    → (lines : List Line) (old new : T) → Heard Tells old lines new → contents new ≡ appended (contents old) (flat_map line_text lines)
+wrote_told Tells contents each [] old new same = ap contents same ∙ appended_none (contents old)
+wrote_told Tells contents each (l ∷ lines) old new (next, told, others) =
+    both (contents old) (contents next) (contents new) (line_text l) (flat_map line_text lines) (each old l true next told) (wrote_told Tells contents each lines next new others)
+
+pub wrote_told_part : {T : Type 0} (Tells : T → Line → Bool → T → Type 0) (contents : T → Option (List ℕ)) → ((old : T) (l : Line) (whole : Bool) (new : T) → Tells old l whole new → WroteLine whole (line_text l) (contents old) (contents new))
+    → (lines : List Line) (old new : T) → HeardPart Tells old lines new → WrotePart (flat_map line_text lines) (contents old) (contents new)
+wrote_told_part {T} Tells contents each [] old new same = subst (λ (state : T). WrotePart [] (contents old) (contents state)) (sym same) (none_of [] (contents old))
+wrote_told_part {T} Tells contents each (l ∷ lines) old new (inl same) = subst (λ (state : T). WrotePart (line_text l ++ flat_map line_text lines) (contents old) (contents state)) (sym same) (none_of (line_text l ++ flat_map line_text lines) (contents old))
+wrote_told_part Tells contents each (l ∷ lines) old new (inr (inl broken)) = part_of_first (line_text l) (flat_map line_text lines) (contents old) (contents new) (each old l false new broken)
+wrote_told_part Tells contents each (l ∷ lines) old new (inr (inr (next, told, others))) =
+    part_of_second (line_text l) (flat_map line_text lines) (contents old) (contents next) (contents new) (each old l true next told) (wrote_told_part Tells contents each lines next new others)
+
+-- what each line keeps all keep
+pub kept_told : {T X : Type 0} (Tells : T → Line → Bool → T → Type 0) (seen : T → X) → ((old : T) (l : Line) (whole : Bool) (new : T) → Tells old l whole new → seen new ≡ seen old) → (lines : List Line) (old new : T) → Heard Tells old lines new → seen new ≡ seen old
+kept_told Tells seen each [] old new same = ap seen same
+kept_told Tells seen each (l ∷ lines) old new (next, told, others) = kept_told Tells seen each lines next new others ∙ each old l true next told
+
+pub kept_told_part : {T X : Type 0} (Tells : T → Line → Bool → T → Type 0) (seen : T → X) → ((old : T) (l : Line) (whole : Bool) (new : T) → Tells old l whole new → seen new ≡ seen old) → (lines : List Line) (old new : T) → HeardPart Tells old lines new → seen new ≡ seen old
+kept_told_part Tells seen each [] old new same = ap seen same
+kept_told_part Tells seen each (l ∷ lines) old new (inl same) = ap seen same
+kept_told_part Tells seen each (l ∷ lines) old new (inr (inl broken)) = each old l false new broken
+kept_told_part Tells seen each (l ∷ lines) old new (inr (inr (next, told, others))) = kept_told_part Tells seen each lines next new others ∙ each old l true next told
+
+-- ---- a writer, that keeps something and writes each line
+
+-- by each line something is kept, and the line's text is written
+abbrev pub Writes : {T X : Type 0} → (T → X) → (T → Option (List ℕ)) → T → Line → Bool → T → Type 0
+Writes seen contents old l whole new = (seen new ≡ seen old) × WroteLine whole (line_text l) (contents old) (contents new)
+
+pub kept_after : {T X : Type 0} (lines : List Line) (old new : T) (seen : T → X) (contents : T → Option (List ℕ)) → Heard (Writes seen contents) old lines new → seen new ≡ seen old
+kept_after lines old new seen contents heard = kept_told (Writes seen contents) seen (λ a l whole b told. told.0) lines old new heard
+
+pub kept_part : {T X : Type 0} (lines : List Line) (old new : T) (seen : T → X) (contents : T → Option (List ℕ)) → HeardPart (Writes seen contents) old lines new → seen new ≡ seen old
+kept_part lines old new seen contents heard = kept_told_part (Writes seen contents) seen (λ a l whole b told. told.0) lines old new heard
+
+pub wrote_after : {T X : Type 0} (lines : List Line) (old new : T) (seen : T → X) (contents : T → Option (List ℕ)) → Heard (Writes seen contents) old lines new → contents new ≡ appended (contents old) (flat_map line_text lines)
+wrote_after lines old new seen contents heard = wrote_told (Writes seen contents) contents (λ a l whole b told. told.1) lines old new heard
+
+pub wrote_part : {T X : Type 0} (lines : List Line) (old new : T) (seen : T → X) (contents : T → Option (List ℕ)) → HeardPart (Writes seen contents) old lines new → WrotePart (flat_map line_text lines) (contents old) (contents new)
+wrote_part lines old new seen contents heard = wrote_told_part (Writes seen contents) contents (λ a l whole b told. told.1) lines old new heard

@@ -1,0 +1,129 @@
+-- What is told of a recording, line by line, and who hears it (this proxy's own rule).
+use Rattle.std.specs.Prelude.{ℕ, ◌≡◌, ◌+◌, ◌⊎◌, Bool, true, false, if◌then◌else◌, List, [], ◌∷◌, ◌++◌, length, map, Option, Some, None, Result, Ok, Err, codes}
+use Rattle.hex.specs.Hex.{encode_lower}
+use Rattle.flowspace.specs.declared.slices.Slice.{Slice}
+use Rattle.flowspace.specs.Policies.{PolicyView}
+use Rattle.recording.specs.Recordings.{Told}
+use Rattle.desk_words.specs.declared.event.Event.{Event}
+use Rattle.desk_words.specs.declared.event.Timed.{Timed}
+use Rattle.desk_words.specs.Histories.{is_slice_up}
+use Rattle.desk_words.specs.Sent.{sent_by, lane_by}
+use Rattle.desk_words.specs.Verdicts.{is_over, is_ended}
+use Rattle.desk_words.specs.Openings.{phase_of}
+use Rattle.desk_words.specs.Operations.{ends}
+use Rattle.desk_words.specs.Recorded.{next_of, history_at, events_in}
+use Rattle.desk_words.specs.Reports.{Place, name_at, speaker}
+use Rattle.desk_words.specs.Reports as report
+
+-- ---- lines
+
+-- what a line says of its event
+pub data Saying : Type 0 where
+  Lane : (message : List ℕ) → Saying
+  To : (slot : ℕ) (name message : List ℕ) → Saying
+  Close : (name : List ℕ) → Saying
+  Down : Saying
+
+-- a line: where it belongs, and what it says
+pub record Line : Type 0 where
+  pub place : Place
+  pub saying : Saying
+
+-- the text of what is said
+abbrev pub saying_text : Saying → List ℕ
+saying_text (Lane message) = codes "lane " ++ encode_lower message
+saying_text (To slot name message) = codes "to " ++ name ++ codes " " ++ encode_lower message
+saying_text (Close name) = codes "close " ++ name
+saying_text Down = codes "down"
+
+-- the text of a line
+abbrev pub line_text : Line → List ℕ
+line_text line = report.line line.place (saying_text line.saying)
+
+abbrev pub lane_line : Place → List ℕ → Line
+lane_line place message = record { place = place; saying = Lane message }
+
+abbrev pub slice_line : Place → ℕ → List ℕ → List ℕ → Line
+slice_line place slot name message = record { place = place; saying = To slot name message }
+
+-- a line for each message for the switch
+abbrev pub lane_told : Place → List (List ℕ) → List Line
+lane_told place messages = map (lane_line place) messages
+
+-- a line for each message for the slice at a slot
+abbrev pub slice_told : Place → ℕ → List ℕ → List (List ℕ) → List Line
+slice_told place slot name messages = map (slice_line place slot name) messages
+
+-- for each slice from a slot on a line for each of its messages
+abbrev pub told_by_slot : Place → (ℕ → List (List ℕ)) → ℕ → List Slice → List Line
+told_by_slot place messages slot [] = []
+told_by_slot place messages slot (slice ∷ others) = slice_told place slot slice.name (messages slot) ++ told_by_slot place messages (slot + 1) others
+
+-- the slice that spoke isn't up
+abbrev pub closing_told : PolicyView → Place → List Timed → Option ℕ → List Line
+closing_told policy place h None = []
+closing_told policy place h (Some slot) = if is_slice_up policy slot h then [] else record { place = place; saying = Close (name_at policy.slices slot) } ∷ []
+
+-- a slice's connection came or sent a message, and isn't up after that
+abbrev pub close_told : PolicyView → Place → List Timed → Event → List Line
+close_told policy place h event = closing_told policy place h (speaker event)
+
+abbrev pub down_line : Place → Line
+down_line place = record { place = place; saying = Down }
+
+-- an event ended the switch's connection
+abbrev pub down_told : Place → List Timed → Timed → List Line
+down_told place h timed = if ends h timed then down_line place ∷ [] else []
+
+-- the lines of one event after a history: for the switch, for the slices by slot, the connection that is closed, and the end
+abbrev pub event_told : PolicyView → Place → List Timed → Timed → List Line
+event_told policy place h timed =
+    (if is_over h then [] else lane_told place (lane_by policy h timed) ++ told_by_slot place (λ slot. sent_by policy slot h timed) 0 policy.slices)
+    ++ close_told policy place (next_of h timed) timed.event
+    ++ (if is_over h then [] else down_told place h timed)
+
+-- the lines of events that come one after another
+abbrev pub told_of : PolicyView → Place → List Timed → List Timed → List Line
+told_of policy place h [] = []
+told_of policy place h (timed ∷ later) = event_told policy place h timed ++ told_of policy (record place { number = place.number + 1 }) (next_of h timed) later
+
+-- the lines of records, after so many events and these records, newest first
+unfoldable pub told_from : PolicyView → ℕ → List Told → List Told → List Line
+told_from policy events before [] = []
+told_from policy events before (r ∷ later) =
+    let own = events_in policy r before in
+    told_of policy (record { number = events; switch = r.switch }) (history_at policy r before) own
+    ++ told_from policy (events + length own) (r ∷ before) later
+
+-- how many events records make, after these records, newest first
+unfoldable pub count_from : PolicyView → List Told → List Told → ℕ
+count_from policy before [] = 0
+count_from policy before (r ∷ later) = length (events_in policy r before) + count_from policy (r ∷ before) later
+
+-- ---- in parts
+
+-- the switch's connection has ended
+abbrev pub end_told : Place → List Timed → List Line
+end_told place h = if is_ended (phase_of h) then down_line place ∷ [] else []
+
+-- messages that wait, the connection that is closed, and the end
+abbrev pub told_parts : PolicyView → Place → List Timed → (ℕ → List (List ℕ)) → List (List ℕ) → Option ℕ → List Line
+told_parts policy place h slices lane speaking =
+    lane_told place lane ++ (told_by_slot place slices 0 policy.slices ++ (closing_told policy place h speaking ++ end_told place h))
+
+-- ---- who hears
+
+-- from one state to another by these lines, each told whole
+abbrev pub Heard : {T : Type 0} → (T → Line → Bool → T → Type 0) → T → List Line → T → Type 0
+Heard Tells old [] new = new ≡ old
+Heard {T} Tells old (first ∷ others) new = (next : T) × Tells old first true next × Heard Tells next others new
+
+-- by the first of these lines, and perhaps one that wasn't told whole
+abbrev pub HeardPart : {T : Type 0} → (T → Line → Bool → T → Type 0) → T → List Line → T → Type 0
+HeardPart Tells old [] new = new ≡ old
+HeardPart {T} Tells old (first ∷ others) new = (new ≡ old) ⊎ (Tells old first false new ⊎ ((next : T) × Tells old first true next × HeardPart Tells next others new))
+
+-- all of these lines were told; at a fault the first of them
+abbrev pub Tell : {A E T : Type 0} → (T → Line → Bool → T → Type 0) → Result A E → List Line → T → T → Type 0
+Tell Tells (Ok value) lines old new = Heard Tells old lines new
+Tell Tells (Err fault) lines old new = HeardPart Tells old lines new

@@ -1,0 +1,45 @@
+//! What is told of a recording, and who hears it.
+
+ghost use Rattle.std.specs.Prelude.{ℕ, ◌≡◌, Bool, is_ok};
+ghost use Rattle.fv_report.specs.Writing.{Counted};
+
+use crate::fault::ReportFault;
+
+/// Where a line belongs: the number of its event, from 0 over the whole recording, and the event's switch.
+#[derive(Clone, Copy)]
+pub(crate) struct Place {
+    pub(crate) number: u64,
+    pub(crate) switch: u8,
+}
+
+/// What a line says of its event.
+#[derive(Clone, Copy)]
+pub(crate) enum Said<'a> {
+    /// This message goes to the switch.
+    Lane(&'a [u8]),
+    /// This message goes to the slice at a slot, which has this name.
+    To(u8, &'a str, &'a [u8]),
+    /// The connection of the slice of this name is closed.
+    Close(&'a str),
+    /// The switch's connection ended.
+    Down,
+}
+
+/// Whoever hears what is told.
+pub(crate) trait Teller: Drop {
+    ghost use Rattle.std.specs.Prelude.{ℕ, Bool, is_ok};
+    ghost use Rattle.fv_report.specs.Telling.{Line};
+    ghost use Rattle.fv_report.specs.Lines.{line_of};
+    ghost use Rattle.fv_report.specs.Writing.{Counted};
+
+    /// From one state to another by a line that was told whole, or that wasn't.
+    ghost Tells: { Self → Line → Bool → Self → Type 0 };
+
+    /// How often the outside has failed.
+    ghost faults: { Self → ℕ };
+
+    /// Tells one line.
+    fn tell(&mut self, place: Place, said: Said<'_>) -> Result<(), ReportFault>
+        ensures tells { Tells self.old (line_of place said.entry) (is_ok result) self.new }
+        ensures counted { Counted result (faults self.old) (faults self.new) };
+}
