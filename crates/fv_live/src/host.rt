@@ -6,6 +6,6 @@ use std::thread::Threads;
 
 /// A runtime that may wait, starts threads and tells the time. Each call on connections, links, works or
 /// what starts them is passed one that has a network of TCP sockets, too.
-pub trait Host: Wait + Threads + Clock + Copy + Send + Sync {}
+pub trait Host: Wait + Threads + Clock + Copy {}
 
-impl<R: Wait + Threads + Clock + Copy + Send + Sync> Host for R {}
+impl<R: Wait + Threads + Clock + Copy> Host for R {}

@@ -1,0 +1,174 @@
+ghost use Rattle.std.specs.Prelude.{◌≡◌};
+ghost use Rattle.std.specs.Arc.{arc_value};
+ghost use Rattle.turn_desk.specs.Seats.{IsSeatOf};
+
+use crate::connection::Connection;
+use fv_live::{Clock, Dialer, Host, Wires, Work};
+use live_session::{DeskObject, Gate, Side, run_reader, run_slice, run_writer};
+use proxy_core::Dest;
+use std::alloc::Global;
+use std::net::{Net, TcpListener, TcpStream};
+use std::sync::{Arc, Wait};
+use turn_desk::TurnSeat;
+
+/// What a work does.
+#[derive(Drop)]
+pub(crate) enum Job<D: Dialer, C: Clock, G: Gate> {
+    ReadSwitch(C, G),
+    WriteSwitch,
+    ReadSlice(u8, String, D, C, G),
+    WriteSlice(u8),
+}
+
+/// The body of one thread of a session: it reads or writes the switch's connection, or the links of a slice.
+#[derive(Drop)]
+pub struct SessionWork<N: Wires, C: Clock, G: Gate> {
+    pub(crate) connection: Arc<Connection<N>, Global>,
+    pub(crate) seat: TurnSeat<DeskObject>,
+    pub(crate) job: Job<N::Dial, C, G>,
+    ghost same: { IsSeatOf (arc_value connection).desk seat },
+}
+
+impl<N: Wires, C: Clock, G: Gate> Work for SessionWork<N, C, G> {
+    ghost use Rattle.live_serve.specs.Roles.{role_of};
+
+    ghost role = { λ work. role_of work.job };
+
+    fn run<R: Host + Net<Listener = TcpListener, Stream = TcpStream>>(self, rt: &R) {
+        let SessionWork {
+            connection,
+            mut seat,
+            job,
+        } = self;
+        let shared = &*connection;
+        if !shared.is_started(rt) {
+            return;
+        }
+        match job {
+            Job::ReadSwitch(mut clock, gate) => {
+                read_switch(rt, shared, &mut seat, &mut clock, &gate)
+            }
+            Job::WriteSwitch => write_switch(rt, shared, &mut seat),
+            Job::ReadSlice(slot, to, mut dialer, mut clock, gate) => {
+                read_links(
+                    rt,
+                    shared,
+                    &mut seat,
+                    &mut dialer,
+                    &to,
+                    slot,
+                    &mut clock,
+                    &gate,
+                )
+            }
+            Job::WriteSlice(slot) => write_links(rt, shared, &mut seat, slot),
+        }
+        shared.end_work(rt);
+    }
+}
+
+fn read_switch<
+    R: Host + Net<Listener = TcpListener, Stream = TcpStream>,
+    N: Wires,
+    C: Clock,
+    G: Gate,
+>(rt: &R, shared: &Connection<N>, seat: &mut TurnSeat<DeskObject>, clock: &mut C, gate: &G)
+    requires desk { IsSeatOf shared.now.desk seat.old }
+{
+    let Some(mut source) = shared.take_source(rt) else {
+        return;
+    };
+    let _end = run_reader(
+        rt,
+        shared.alloc,
+        &shared.desk,
+        seat,
+        &mut source,
+        Side::Switch,
+        clock,
+        gate,
+        &shared.bells,
+    );
+}
+
+fn write_switch<R: Wait, N: Wires>(rt: &R, shared: &Connection<N>, seat: &mut TurnSeat<DeskObject>)
+    requires desk { IsSeatOf shared.now.desk seat.old }
+{
+    let Some(mut sink) = shared.take_sink(rt) else {
+        return;
+    };
+    let _end = run_writer(
+        rt,
+        shared.alloc,
+        &shared.desk,
+        seat,
+        &mut sink,
+        Dest::Switch,
+        &shared.bells,
+    );
+}
+
+fn read_links<
+    R: Host + Net<Listener = TcpListener, Stream = TcpStream>,
+    N: Wires,
+    C: Clock,
+    G: Gate,
+>(
+    rt: &R,
+    shared: &Connection<N>,
+    seat: &mut TurnSeat<DeskObject>,
+    dialer: &mut N::Dial,
+    to: &str,
+    slot: u8,
+    clock: &mut C,
+    gate: &G,
+)
+    requires desk { IsSeatOf shared.now.desk seat.old }
+{
+    let Some(half) = shared.links.get(usize::from(slot)) else {
+        return;
+    };
+    let _end = run_slice(
+        rt,
+        shared.alloc,
+        &shared.desk,
+        seat,
+        dialer,
+        to,
+        slot,
+        clock,
+        gate,
+        half,
+        &shared.bells,
+    );
+}
+
+// Each link's half is dropped before the next link is asked for.
+fn write_links<R: Wait, N: Wires>(
+    rt: &R,
+    shared: &Connection<N>,
+    seat: &mut TurnSeat<DeskObject>,
+    slot: u8,
+)
+    requires desk { IsSeatOf shared.now.desk seat.old }
+{
+    let Some(half) = shared.links.get(usize::from(slot)) else {
+        return;
+    };
+    for _ in rt.forever() {
+        let Some(mut sink) = half.take(rt) else {
+            return;
+        };
+        let _end = run_writer(
+            rt,
+            shared.alloc,
+            &shared.desk,
+            seat,
+            &mut sink,
+            Dest::Slice(slot),
+            &shared.bells,
+        );
+        drop(sink);
+        half.end(rt);
+    }
+}
