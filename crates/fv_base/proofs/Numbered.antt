@@ -29,9 +29,9 @@ no_plus (c ∷ cs) h = λ e. let p = digit_from c (both (is_digit c) (list_all i
 
 none-outside : (least most v : ℕ) → leb v most ≡ false → None ≡ within least most (Some v)
 none-outside least most v h = elim (leb least v) as (λ b. leb v most ≡ false → None ≡ (if b && leb v most then Some v else None)) [
-    | true ↦ λ e. rw e refl
-    | false ↦ λ e. refl
-  ] h
+  | true ↦ λ e. rw e refl
+  | false ↦ λ e. refl
+] h
 
 -- a number that isn't parsed as 64 bits is outside the limits
 pub not_parsed : (least most : ℕ) (word : List ℕ) → most < 2 ^ 64 → is_number word ≡ true → ¬ (IsNumeral 10 (without_leading_plus word) × (digits_value 10 (without_leading_plus word) < 2 ^ 64)) → None ≡ within least most (number_of word)
@@ -41,9 +41,9 @@ not_parsed least most word few h fails =
     let same : without_leading_plus word ≡ word = without_leading_plus_none word (no_plus word digits) in
     let v = digits_value 10 word in
     let outside : leb v most ≡ false = elim (leb v most) as (λ b. leb v most ≡ b → leb v most ≡ false) [
-        | true ↦ λ e. absurd (fails (subst (λ w. IsNumeral 10 w × (digits_value 10 w < 2 ^ 64)) (sym same) ((leb-true 1 (length word) p.0, digits_are word digits), (let k = leb-true v most e in omega (arith, k, few)))))
-        | false ↦ λ e. e
-      ] refl in
+      | true ↦ λ e. absurd (fails (subst (λ w. IsNumeral 10 w × (digits_value 10 w < 2 ^ 64)) (sym same) ((leb-true 1 (length word) p.0, digits_are word digits), (let k = leb-true v most e in omega (arith, k, few)))))
+      | false ↦ λ e. e
+    ] refl in
     rw h (none-outside least most v outside)
 
 -- words of which there are too few or too many have no form

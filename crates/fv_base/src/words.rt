@@ -50,9 +50,14 @@ impl Words {
 #[derive(Clone, Copy, Debug, PartialEq, Eq)]
 pub enum Form<'a> {
     /// Say whether the policy at this path is accepted.
-    Check { policy: &'a str },
+    Check {
+        policy: &'a str,
+    },
     /// Run the recording under the policy; both are paths.
-    Replay { policy: &'a str, recording: &'a str },
+    Replay {
+        policy: &'a str,
+        recording: &'a str,
+    },
     /// Serve the switches that connect to the place, so many connections, under the policy at this path.
     Serve {
         policy: &'a str,
@@ -92,11 +97,7 @@ fn check<'a>(command: &str, policy: &'a str) -> Result<Form<'a>, WordsFault>
     }
 }
 
-fn replay<'a>(
-    command: &str,
-    policy: &'a str,
-    recording: &'a str,
-) -> Result<Form<'a>, WordsFault>
+fn replay<'a>(command: &str, policy: &'a str, recording: &'a str) -> Result<Form<'a>, WordsFault>
     ensures { option_map form_bytes (result_ok result) ≡ replay_of command.now policy.now recording.now }
 {
     if command == "replay" && is_plain(policy) && is_plain(recording) {

@@ -75,7 +75,15 @@ fn open<
     sessions.begin(rt);
     let slices = policy.slices();
     if let Err(fault) = start_group(
-        rt, alloc, &connection, &mut seat, wires, slices, clock, gate, spawner,
+        rt,
+        alloc,
+        &connection,
+        &mut seat,
+        wires,
+        slices,
+        clock,
+        gate,
+        spawner,
     ) {
         connection.cancel(rt);
         return Err(fault);

@@ -44,9 +44,10 @@ returns-in_default-accept-clause-cause g c =
     let place = g.N.Wires.place c.args.wires.now in
     let a = outside (g.N.Wires.accepted c.args.wires.now) (g.P.Spawner.roles c.args.spawner.now) (g.N.Wires.faults c.args.wires.now place) (g.P.Spawner.faults c.args.spawner.now) in
     let b = outside (g.N.Wires.accepted c.loop-accepted.wires) (g.P.Spawner.roles c.loop-accepted.spawner) (g.N.Wires.faults c.loop-accepted.wires place) (g.P.Spawner.faults c.loop-accepted.spawner) in
-    let d = outside (g.N.Wires.accepted c.accept.new.self) (g.P.Spawner.roles c.loop-accepted.spawner) (g.N.Wires.faults c.accept.new.self place) (g.P.Spawner.faults c.loop-accepted.spawner) in
-    (begun_whole addresses c.loop-accepted.accepted c.loop-accepted.begun a b d h.opened h.few c.in_default-accept.ensures.refused refl,
-     rose_later (g.N.Wires.faults c.args.wires.now place) (g.N.Wires.faults c.loop-accepted.wires place) (g.N.Wires.faults c.accept.new.self place) h.wire_faults (subst (λ p. Rose (g.N.Wires.faults c.loop-accepted.wires p) (g.N.Wires.faults c.accept.new.self p)) h.place c.in_default-accept.ensures.cause))
+    let d = outside (g.N.Wires.accepted c.accept.new.self) (g.P.Spawner.roles c.loop-accepted.spawner) (g.N.Wires.faults c.accept.new.self place) (g.P.Spawner.faults c.loop-accepted.spawner) in (
+      begun_whole addresses c.loop-accepted.accepted c.loop-accepted.begun a b d h.opened h.few c.in_default-accept.ensures.refused refl,
+      rose_later (g.N.Wires.faults c.args.wires.now place) (g.N.Wires.faults c.loop-accepted.wires place) (g.N.Wires.faults c.accept.new.self place) h.wire_faults (subst (λ p. Rose (g.N.Wires.faults c.loop-accepted.wires p) (g.N.Wires.faults c.accept.new.self p)) h.place c.in_default-accept.ensures.cause),
+    )
 
 pub returns-in-Err-clause-cause : goal.returns-in-Err-clause-cause
 returns-in-Err-clause-cause g c =
@@ -57,8 +58,8 @@ returns-in-Err-clause-cause g c =
     let b = outside (g.N.Wires.accepted c.loop-accepted.wires) (g.P.Spawner.roles c.loop-accepted.spawner) (g.N.Wires.faults c.loop-accepted.wires place) (g.P.Spawner.faults c.loop-accepted.spawner) in
     let d = outside (g.N.Wires.accepted c.accept.new.self) (g.P.Spawner.roles c.open.new.spawner) (g.N.Wires.faults c.accept.new.self place) (g.P.Spawner.faults c.open.new.spawner) in
     not_started addresses c.args.count a d c.in-Err.fault c.run_end.result c.run_end.ensures
-      (begun_part addresses c.loop-accepted.accepted c.loop-accepted.begun a b d h.opened h.few c.in-Ok-accept.ensures.given c.in-Err.ensures.part)
-      (λ e. rose_later (g.P.Spawner.faults c.args.spawner.now) (g.P.Spawner.faults c.loop-accepted.spawner) (g.P.Spawner.faults c.open.new.spawner) h.start_faults (c.in-Err.ensures.cause e))
+    (begun_part addresses c.loop-accepted.accepted c.loop-accepted.begun a b d h.opened h.few c.in-Ok-accept.ensures.given c.in-Err.ensures.part)
+    (λ e. rose_later (g.P.Spawner.faults c.args.spawner.now) (g.P.Spawner.faults c.loop-accepted.spawner) (g.P.Spawner.faults c.open.new.spawner) h.start_faults (c.in-Err.ensures.cause e))
 
 pub loop-accepted-preserved : goal.loop-accepted-preserved
 loop-accepted-preserved g c =
