@@ -3,7 +3,7 @@ use Rattle.std.proofs.Common.{◌≡◌, ℕ, ◌==◌, ◌&&◌, if◌then◌el
 use Rattle.std.proofs.lemmas.Bool.{cases_Bool}
 use Rattle.fv_base.specs.Told.{appended, IsPrefix, Rose}
 use Rattle.fv_base.proofs.Appending.{appended_none}
-use Rattle.fv_base.specs.Words.{FormBytes, OfCheck, OfReplay, OfServe, form_of}
+use Rattle.fv_base.specs.Words.{FormBytes, OfCheck, OfReplay, form_of}
 use Rattle.fv_cli.specs.declared.ending.Ending.{Ending}
 use Rattle.fv_cli.specs.declared.ending.Ending.TheVariants.{Done, Usage, ReadFault, WriteFault, NoMemory, NoMemoryToRun, TooLarge, PolicyRefused, RecordingRefused}
 use Rattle.fv_cli.specs.Endings.{status_of, line_of, IsPut, Outside, Ended, Causes, IsCheckCause, IsReplayCause}
@@ -42,7 +42,6 @@ behind_nothing line before between after count count_between count_after (inr (p
 
 pub memory_suits : (form : Option FormBytes) → Suits None form NoMemory
 memory_suits None = inr refl
-memory_suits (Some (OfServe policy listen count)) = inr refl
 memory_suits (Some (OfCheck policy)) = refl
 memory_suits (Some (OfReplay policy recording)) = λ e. cc
 
@@ -59,7 +58,6 @@ check_suits w policy (RecordingRefused fault) cause = absurd cause
 
 cause_suits : (w : Outside) (form : Option FormBytes) (ending : Ending) → Causes w form ending → Suits None form ending
 cause_suits w None ending cause = inl cause
-cause_suits w (Some (OfServe policy listen count)) ending cause = inl cause
 cause_suits w (Some (OfCheck policy)) ending cause = check_suits w policy ending cause
 cause_suits w (Some (OfReplay policy recording)) ending cause = λ is. subst (λ e. IsReplayCause w policy recording e) is cause
 
@@ -67,8 +65,6 @@ cause_suits w (Some (OfReplay policy recording)) ending cause = λ is. subst (λ
 fault_suits : (form : Option FormBytes) → Suits None form Done → Suits None form WriteFault
 fault_suits None (inl e) = absurd (cc)
 fault_suits None (inr e) = absurd (cc)
-fault_suits (Some (OfServe policy listen count)) (inl e) = absurd (cc)
-fault_suits (Some (OfServe policy listen count)) (inr e) = absurd (cc)
 fault_suits (Some (OfCheck policy)) _ = refl
 fault_suits (Some (OfReplay policy recording)) _ = λ e. cc
 

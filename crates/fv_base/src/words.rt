@@ -2,9 +2,8 @@
 
 ghost use Rattle.std.specs.Prelude.{◌≡◌, [], ◌∷◌, ◌++◌, OnOk, OnErr};
 ghost use Rattle.std.specs.Result.{result_ok};
-ghost use Rattle.std.specs.List.{list_all};
 ghost use Rattle.std.specs.Option.{option_map};
-ghost use Rattle.fv_base.specs.Words.{check_of, connections_of, form_of, form_bytes, is_digit, is_number, is_plain, number_of, replay_of, serve_of, within};
+ghost use Rattle.fv_base.specs.Words.{form_of, form_bytes, is_plain};
 
 use std::alloc::{AllocError, Global};
 use std::marker::Model;
@@ -50,20 +49,9 @@ impl Words {
 #[derive(Clone, Copy, Debug, PartialEq, Eq)]
 pub enum Form<'a> {
     /// Say whether the policy at this path is accepted.
-    Check {
-        policy: &'a str,
-    },
+    Check { policy: &'a str },
     /// Run the recording under the policy; both are paths.
-    Replay {
-        policy: &'a str,
-        recording: &'a str,
-    },
-    /// Serve the switches that connect to the place, so many connections, under the policy at this path.
-    Serve {
-        policy: &'a str,
-        listen: &'a str,
-        count: u32,
-    },
+    Replay { policy: &'a str, recording: &'a str },
 }
 
 /// Why the words ask for nothing.
@@ -78,54 +66,14 @@ pub fn read_words(words: &Words) -> Result<Form<'_>, WordsFault>
     ensures { option_map form_bytes (result_ok result) ≡ form_of words.now }
 {
     match words.items.as_slice() {
-        [] => Err(WordsFault::Usage),
-        [_] => Err(WordsFault::Usage),
-        [command, policy] => check(command, policy),
-        [command, policy, recording] => replay(command, policy, recording),
-        [command, policy, listen, count] => serve(command, policy, listen, count),
-        [_, _, _, _, _, ..] => Err(WordsFault::Usage),
-    }
-}
-
-fn check<'a>(command: &str, policy: &'a str) -> Result<Form<'a>, WordsFault>
-    ensures { option_map form_bytes (result_ok result) ≡ check_of command.now policy.now }
-{
-    if command == "check" && is_plain(policy) {
-        Ok(Form::Check { policy })
-    } else {
-        Err(WordsFault::Usage)
-    }
-}
-
-fn replay<'a>(command: &str, policy: &'a str, recording: &'a str) -> Result<Form<'a>, WordsFault>
-    ensures { option_map form_bytes (result_ok result) ≡ replay_of command.now policy.now recording.now }
-{
-    if command == "replay" && is_plain(policy) && is_plain(recording) {
-        Ok(Form::Replay { policy, recording })
-    } else {
-        Err(WordsFault::Usage)
-    }
-}
-
-fn serve<'a>(
-    command: &str,
-    policy: &'a str,
-    listen: &'a str,
-    count: &str,
-) -> Result<Form<'a>, WordsFault>
-    ensures { option_map form_bytes (result_ok result) ≡ serve_of command.now policy.now listen.now (connections_of count.now) }
-{
-    let Some(count) = connections(count) else {
-        return Err(WordsFault::Usage);
-    };
-    if command == "serve" && is_plain(policy) && is_plain(listen) {
-        Ok(Form::Serve {
-            policy,
-            listen,
-            count,
-        })
-    } else {
-        Err(WordsFault::Usage)
+        [command, policy] if command.as_str() == "check" && is_plain(policy) => {
+            Ok(Form::Check { policy })
+        }
+        [command, policy, recording]
+            if command.as_str() == "replay" && is_plain(policy) && is_plain(recording) => {
+            Ok(Form::Replay { policy, recording })
+        }
+        _ => Err(WordsFault::Usage),
     }
 }
 
@@ -134,48 +82,4 @@ fn is_plain(word: &str) -> bool
     ensures { result ≡ is_plain word.now }
 {
     !word.is_empty() && !word.starts_with('-')
-}
-
-fn is_digit(byte: u8) -> bool
-    ensures { result ≡ is_digit byte }
-{
-    byte.is_ascii_digit()
-}
-
-// Decimal digits without a leading zero, or `0`.
-fn is_number(word: &str) -> bool
-    ensures { result ≡ is_number word.now }
-{
-    1 <= word.len() && has_digits(word) && (word.len() <= 1 || !word.starts_with('0'))
-}
-
-fn has_digits(word: &str) -> bool
-    ensures { result ≡ list_all is_digit word.now }
-{
-    word.as_bytes().iter().all(|byte| is_digit(*byte))
-}
-
-// The number that a word is, where it is one within these limits.
-fn number(word: &str, least: u64, most: u64) -> Option<u64>
-    ensures { result ≡ within least most (number_of word.now) }
-{
-    if !is_number(word) {
-        return None;
-    }
-    let Ok(number) = word.parse::<u64>() else {
-        return None;
-    };
-    if least <= number && number <= most {
-        Some(number)
-    } else {
-        None
-    }
-}
-
-// How many connections are asked for.
-fn connections(word: &str) -> Option<u32>
-    ensures { result ≡ connections_of word.now }
-{
-    let count = number(word, 1, 1_000_000_000)?;
-    Some(count as u32)
 }

@@ -49,7 +49,7 @@ fn load<F: Files>(alloc: Global, files: &mut F, path: &str, limit: u64) -> Resul
 }
 
 /// The policy at a path.
-pub fn load_policy<F: Files>(alloc: Global, files: &mut F, path: &str) -> Result<Policy, Ending>
+fn load_policy<F: Files>(alloc: Global, files: &mut F, path: &str) -> Result<Policy, Ending>
     ensures says { IfOk result (λ p. PolicySays (Ok p) (F.contents files.old path.now)) }
     ensures cause { IfErr result (IsPolicyCause (F.contents files.old path.now) (F.faults files.old path.now) (F.faults files.new path.now)) }
     ensures same { (at : List ℕ) → F.contents files.new at ≡ F.contents files.old at }
@@ -157,7 +157,6 @@ fn decide<F: Files, O: Sink>(alloc: Global, words: &Words, files: &mut F, out: &
     match read_words(words) {
         Ok(Form::Check { policy }) => check(alloc, policy, files, out),
         Ok(Form::Replay { policy, recording }) => replay(alloc, policy, recording, files, out),
-        Ok(Form::Serve { .. }) => Ending::Usage,
         Err(WordsFault::Usage) => Ending::Usage,
     }
 }
@@ -169,7 +168,7 @@ fn decide<F: Files, O: Sink>(alloc: Global, words: &Words, files: &mut F, out: &
 /// | status | means |
 /// |---|---|
 /// | 0 | all was done |
-/// | 1 | the words have no form, or that of `serve` |
+/// | 1 | the words have no form |
 /// | 2, 3 | the policy, or the recording, was read and is refused; the line says why and where |
 /// | 4, 5 | a file can't be read; the output can't be written |
 /// | 6, 7 | no memory; a file is too large (policy 1 MiB, recording 256 MiB) |
