@@ -1,4 +1,4 @@
-ghost use Rattle.std.specs.Prelude.{ℕ, ◌≡◌, ◌≤◌, ◌<◌, ◌+◌, length, slice_get, OnOk, IfSome, OnErr};
+ghost use Rattle.std.specs.Prelude.{ℕ, ◌≡◌, ◌≤◌, ◌<◌, ◌+◌, ◌==◌, length, slice_get, OnOk, IfSome, OnErr};
 ghost use Rattle.outbox.specs.Queues.{Queue, no_messages, push, without_first, QueueStands};
 
 use of10_ctl::Frame;
@@ -84,6 +84,14 @@ impl Outbox {
         let frame = self.frames.pop_front()?;
         self.bytes = self.bytes.saturating_sub(frame.as_slice().len() as u64);
         Some(frame)
+    }
+
+    /// Whether no message waits.
+    pub fn is_empty(&self) -> bool
+        ensures value { (limit : ℕ) (q : Queue) → QueueStands limit q self.now → result ≡ (length q.pending == 0) }
+        ensures kept { result ≡ (length self.now.pending == 0) }
+    {
+        self.frames.is_empty()
     }
 
     /// Whether a message was dropped since the outbox was last cleared.

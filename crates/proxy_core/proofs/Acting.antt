@@ -68,7 +68,7 @@ pub is_opened : (p : PolicyView) (switch : Switch) (sides : ℕ → Side) (qs : 
     → switch.phase ≡ Opened
 is_opened p switch sides qs session fit s on = opened_in switch.phase switch.features session.features fit.before_untold s.told on
 
-shut_in : (phase : Phase) (told : Option Features) → (phase ≡ Opened → (features : Features) × (told ≡ Some features)) → told ≡ None → is_open phase ≡ false
+pub shut_in : (phase : Phase) (told : Option Features) → (phase ≡ Opened → (features : Features) × (told ≡ Some features)) → told ≡ None → is_open phase ≡ false
 shut_in Fresh told opens none = refl
 shut_in Begun told opens none = refl
 shut_in Opened told opens none = (let some = opens refl in absurd (none-some some.0 (sym none ∙ some.1)))

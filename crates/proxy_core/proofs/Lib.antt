@@ -12,3 +12,4 @@ mod Events
 mod Sliced
 mod Switched
 mod Taking
+mod Questions

@@ -1,5 +1,5 @@
 -- Lists by their places, and tests.
-use Rattle.std.proofs.Common.{◌≡◌, ℕ, ltb, ◌&&◌, Bool, true, false, List, ◌++◌, length, take, drop, slice_get, refl, ap, ap₂, ◌∙◌, Some, append-nil, arith}
+use Rattle.std.proofs.Common.{◌≡◌, ℕ, ltb, ◌&&◌, Bool, true, false, List, ◌++◌, length, take, drop, slice_get, refl, ap, ◌∙◌, Some, append-nil, arith}
 use Rattle.std.proofs.lemmas.Bool.{lt-ltb, ltb-true}
 use Rattle.std.proofs.lemmas.List.{take_all, drop_all}
 use Rattle.std.proofs.lemmas.Option.{slice_get_within}

@@ -1,5 +1,5 @@
 -- When a desk is the one that a list of operations makes of a policy. All of this is this proxy's own rule.
-use Rattle.std.specs.Prelude.{ℕ, ◌≡◌, ◌<◌, ◌&&◌, not, Bool, true, false, if◌then◌else◌, List, [], ◌∷◌, length, slice_get, Option, Some, None, Result}
+use Rattle.std.specs.Prelude.{ℕ, ◌≡◌, ◌<◌, ◌==◌, ◌&&◌, not, Bool, true, false, if◌then◌else◌, List, [], ◌∷◌, length, slice_get, Option, Some, None, Result}
 use Rattle.std.specs.declared.alloc.AllocError.{AllocError}
 use Rattle.of10_ctl.specs.Frames.{is_bad}
 use Rattle.flowspace.specs.Policies.{PolicyView}
@@ -18,8 +18,8 @@ use Rattle.desk_words.specs.declared.answer.Taken.{Taken}
 use Rattle.desk_words.specs.declared.answer.Taken.TheVariants as takens
 use Rattle.desk_words.specs.declared.answer.Taken.TheVariants.{Message, NotOpen}
 use Rattle.desk_words.specs.declared.answer.Verdict.{Verdict}
-use Rattle.desk_words.specs.Openings.{rules_of, phase_after, Switch as Known, switch_after, switch_of}
-use Rattle.desk_words.specs.Histories.{is_slot, settings_at, Side, side_start, items_of, with_shown, side_of, is_open}
+use Rattle.desk_words.specs.Openings.{rules_of, phase_of, phase_after, Switch as Known, switch_after, switch_of}
+use Rattle.desk_words.specs.Histories.{is_slot, settings_at, Side, side_start, items_of, with_shown, side_of, is_open, is_slice_up}
 use Rattle.desk_words.specs.Numbers.{AreNumbered}
 use Rattle.desk_words.specs.Sent.{sent_with, put_with, lane_in, echo_for}
 use Rattle.desk_words.specs.Verdicts.{is_ended, is_before, is_closing}
@@ -219,3 +219,23 @@ Steps old timed reply new = (policy : PolicyView) (operations : List Operation) 
 -- the same of a take
 abbrev pub Takes : Desk → Dest → Taken → Desk → Type 0
 Takes old dest taken new = (policy : PolicyView) (operations : List Operation) → DeskStands policy operations old → Answered policy operations dest taken new
+
+-- ---- questions
+
+-- whether messages wait for a destination, for every list that the desk stands for
+abbrev pub TellsWaiting : Desk → Dest → Bool → Type 0
+TellsWaiting desk dest waits =
+    (policy : PolicyView) (operations : List Operation) → DeskStands policy operations desk
+    → waits ≡ not (length (waiting_in dest (λ slot. queue_of policy slot operations) (lane_of policy operations)).pending == 0)
+
+-- whether the switch's connection has ended, likewise
+abbrev pub TellsEnd : Desk → Bool → Type 0
+TellsEnd desk ended = (policy : PolicyView) (operations : List Operation) → DeskStands policy operations desk → ended ≡ is_ended (phase_of (events_of operations))
+
+-- whether the switch is connected and has told what it is, likewise
+abbrev pub TellsOpening : Desk → Bool → Type 0
+TellsOpening desk open_ = (policy : PolicyView) (operations : List Operation) → DeskStands policy operations desk → open_ ≡ is_open (phase_of (events_of operations))
+
+-- whether the slice at a slot is up, likewise
+abbrev pub TellsUp : Desk → ℕ → Bool → Type 0
+TellsUp desk slot up = (policy : PolicyView) (operations : List Operation) → DeskStands policy operations desk → up ≡ is_slice_up policy slot (events_of operations)

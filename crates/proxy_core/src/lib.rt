@@ -1,6 +1,7 @@
 //! The desk of one switch: where its connection and those of its slices' controllers come together.
 #![tactic(auto)]
 
+mod asking;
 mod indexed;
 mod lane;
 mod opened;

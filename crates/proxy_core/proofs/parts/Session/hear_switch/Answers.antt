@@ -1,9 +1,8 @@
 use Rattle.std.proofs.Common.{length, refl, sym, ap, subst, ◌∙◌}
-use Rattle.switch_side.specs.Changes.{HaveRoom, StandOn}
+use Rattle.switch_side.specs.Changes.{StandOn}
 use Rattle.switch_side.specs.Dispatches.{Surrounds, AllStand}
 use Rattle.switch_side.proofs.Making.{none_stand}
 use Rattle.std.proofs.lemmas.Result.{err_from_is_err_and}
-use Rattle.proxy_core.proofs.Lists.{written_back}
 use Rattle.proxy_core.proofs.Switched.{kept_queues, all_stand_on, stands_back, carried_out, closed_bad}
 use Rattle.proxy_core.proofs.parts.Session.hear_switch.Goals as goal
 
