@@ -12,4 +12,4 @@ pub use counts::Counts;
 pub use memory::{MemoryFiles, MemorySink, NeverSink, Plan};
 pub use outside::{Failed, Files, Sink, one_more};
 pub use transfer::{LoadFault, load_file, put_all};
-pub use words::{Form, Words, WordsFault, read_words};
+pub use words::{Form, Words, WordsFault, is_serve, read_words};

@@ -3,7 +3,8 @@
 ghost use Rattle.std.specs.Prelude.{◌≡◌, [], ◌∷◌, ◌++◌, OnOk, OnErr};
 ghost use Rattle.std.specs.Result.{result_ok};
 ghost use Rattle.std.specs.Option.{option_map};
-ghost use Rattle.fv_base.specs.Words.{form_of, form_bytes, is_plain};
+ghost use Rattle.std.specs.List.{list_all};
+ghost use Rattle.fv_base.specs.Words.{check_of, connections_of, form_of, form_bytes, gen_of, is_digit, is_number, is_plain, is_serve, number_of, replay_of, rounds_of, seed_of, serve_of, three_of, within};
 
 use std::alloc::{AllocError, Global};
 use std::marker::Model;
@@ -49,9 +50,25 @@ impl Words {
 #[derive(Clone, Copy, Debug, PartialEq, Eq)]
 pub enum Form<'a> {
     /// Say whether the policy at this path is accepted.
-    Check { policy: &'a str },
+    Check {
+        policy: &'a str,
+    },
     /// Run the recording under the policy; both are paths.
-    Replay { policy: &'a str, recording: &'a str },
+    Replay {
+        policy: &'a str,
+        recording: &'a str,
+    },
+    /// Make a recording of so many rounds, drawn from the seed, and say in short what came of it.
+    Gen {
+        seed: u64,
+        count: u32,
+    },
+    /// Serve the switches that connect to the place, so many connections, under the policy at this path.
+    Serve {
+        policy: &'a str,
+        listen: &'a str,
+        count: u32,
+    },
 }
 
 /// Why the words ask for nothing.
@@ -66,14 +83,88 @@ pub fn read_words(words: &Words) -> Result<Form<'_>, WordsFault>
     ensures { option_map form_bytes (result_ok result) ≡ form_of words.now }
 {
     match words.items.as_slice() {
-        [command, policy] if command.as_str() == "check" && is_plain(policy) => {
-            Ok(Form::Check { policy })
-        }
-        [command, policy, recording]
-            if command.as_str() == "replay" && is_plain(policy) && is_plain(recording) => {
-            Ok(Form::Replay { policy, recording })
-        }
-        _ => Err(WordsFault::Usage),
+        [] => Err(WordsFault::Usage),
+        [_] => Err(WordsFault::Usage),
+        [command, policy] => check(command, policy),
+        [command, second, third] => three(command, second, third),
+        [command, policy, listen, count] => serve(command, policy, listen, count),
+        [_, _, _, _, _, ..] => Err(WordsFault::Usage),
+    }
+}
+
+/// Whether the first word asks for `serve`, whatever follows.
+pub fn is_serve(words: &Words) -> bool
+    ensures { result ≡ is_serve words.now }
+{
+    match words.items.as_slice() {
+        [] => false,
+        [command, ..] => command.as_str() == "serve",
+    }
+}
+
+fn check<'a>(command: &str, policy: &'a str) -> Result<Form<'a>, WordsFault>
+    ensures { option_map form_bytes (result_ok result) ≡ check_of command.now policy.now }
+{
+    if command == "check" && is_plain(policy) {
+        Ok(Form::Check { policy })
+    } else {
+        Err(WordsFault::Usage)
+    }
+}
+
+fn three<'a>(command: &str, second: &'a str, third: &'a str) -> Result<Form<'a>, WordsFault>
+    ensures { option_map form_bytes (result_ok result) ≡ three_of command.now second.now third.now }
+{
+    if command == "replay" {
+        replay(second, third)
+    } else if command == "gen" {
+        generate(second, third)
+    } else {
+        Err(WordsFault::Usage)
+    }
+}
+
+fn replay<'a>(policy: &'a str, recording: &'a str) -> Result<Form<'a>, WordsFault>
+    ensures { option_map form_bytes (result_ok result) ≡ replay_of policy.now recording.now }
+{
+    if is_plain(policy) && is_plain(recording) {
+        Ok(Form::Replay { policy, recording })
+    } else {
+        Err(WordsFault::Usage)
+    }
+}
+
+fn generate<'a>(seed: &str, count: &str) -> Result<Form<'a>, WordsFault>
+    ensures { option_map form_bytes (result_ok result) ≡ gen_of (seed_of seed.now) (rounds_of count.now) }
+{
+    let Some(seed) = number(seed, 0, u64::MAX) else {
+        return Err(WordsFault::Usage);
+    };
+    let Some(count) = rounds(count) else {
+        return Err(WordsFault::Usage);
+    };
+    Ok(Form::Gen { seed, count })
+}
+
+fn serve<'a>(
+    command: &str,
+    policy: &'a str,
+    listen: &'a str,
+    count: &str,
+) -> Result<Form<'a>, WordsFault>
+    ensures { option_map form_bytes (result_ok result) ≡ serve_of command.now policy.now listen.now (connections_of count.now) }
+{
+    let Some(count) = connections(count) else {
+        return Err(WordsFault::Usage);
+    };
+    if command == "serve" && is_plain(policy) && is_plain(listen) {
+        Ok(Form::Serve {
+            policy,
+            listen,
+            count,
+        })
+    } else {
+        Err(WordsFault::Usage)
     }
 }
 
@@ -82,4 +173,56 @@ fn is_plain(word: &str) -> bool
     ensures { result ≡ is_plain word.now }
 {
     !word.is_empty() && !word.starts_with('-')
+}
+
+fn is_digit(byte: u8) -> bool
+    ensures { result ≡ is_digit byte }
+{
+    byte.is_ascii_digit()
+}
+
+// Decimal digits without a leading zero, or `0`.
+fn is_number(word: &str) -> bool
+    ensures { result ≡ is_number word.now }
+{
+    1 <= word.len() && has_digits(word) && (word.len() <= 1 || !word.starts_with('0'))
+}
+
+fn has_digits(word: &str) -> bool
+    ensures { result ≡ list_all is_digit word.now }
+{
+    word.as_bytes().iter().all(|byte| is_digit(*byte))
+}
+
+// The number that a word is, where it is one within these limits.
+fn number(word: &str, least: u64, most: u64) -> Option<u64>
+    ensures { result ≡ within least most (number_of word.now) }
+{
+    if !is_number(word) {
+        return None;
+    }
+    let Ok(number) = word.parse::<u64>() else {
+        return None;
+    };
+    if least <= number && number <= most {
+        Some(number)
+    } else {
+        None
+    }
+}
+
+// How many rounds are to be made.
+fn rounds(word: &str) -> Option<u32>
+    ensures { result ≡ rounds_of word.now }
+{
+    let count = number(word, 0, 1_000_000)?;
+    Some(count as u32)
+}
+
+// How many connections are asked for.
+fn connections(word: &str) -> Option<u32>
+    ensures { result ≡ connections_of word.now }
+{
+    let count = number(word, 1, 1_000_000_000)?;
+    Some(count as u32)
 }
