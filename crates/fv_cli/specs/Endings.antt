@@ -1,16 +1,19 @@
 -- How a call of the program ends: its status, its line, and what has to be so for it. All of this is the program's own rule.
 use Rattle.std.specs.Prelude.{◌≡◌, ℕ, ◌<◌, ◌≤◌, ◌⊎◌, List, [], length, codes, Bool, true, false, Option, Some, None, IfSome, Result, Ok, Err}
 use Rattle.fv_base.specs.Told.{appended, IsPrefix, Rose}
-use Rattle.fv_base.specs.Words.{FormBytes, OfCheck, OfReplay, form_of}
+use Rattle.fv_base.specs.Words.{FormBytes, OfCheck, OfReplay, OfGen, OfServe, form_of}
 use Rattle.flowspace.specs.Policies.{PolicyView, IsPolicy}
 use Rattle.policy_text.specs.declared.fault.ReadFault as text
 use Rattle.policy_text.specs.Documents.{document_of, policy_of}
+use Rattle.fv_generator.specs.Made.{records_of}
+use Rattle.fv_generator.specs.Policies.{the_policy}
 use Rattle.recording.specs.declared.item.Item.{Item}
 use Rattle.recording.specs.declared.fault.RecordingFault.{RecordingFault}
 use Rattle.recording.specs.Recordings.{read_items}
 use Rattle.fv_report.specs.Writing.{WrotePart}
 use Rattle.desk_words.specs.Recorded.{told_in}
 use Rattle.desk_words.specs.Reports.{report}
+use Rattle.summary_words.specs.Summaries.{summary}
 use Rattle.fv_cli.specs.declared.ending.Ending.{Ending}
 use Rattle.fv_cli.specs.declared.ending.Ending.TheVariants.{Done, Usage, ReadFault, WriteFault, NoMemory, NoMemoryToRun, TooLarge, PolicyRefused, RecordingRefused}
 use Rattle.fv_cli.specs.Lines.{policy_line, recording_line, accepted_line}
@@ -146,11 +149,18 @@ IsRunEnding text before after count_before count_after WriteFault = WrotePart te
 IsRunEnding text before after count_before count_after NoMemoryToRun = WrotePart text before after
 IsRunEnding text before after count_before count_after _ = ⊥
 
--- the words decide first: without a form it is the usage, and nothing else is
+-- the ending of a call that makes a recording and runs it, which has this summary
+abbrev pub IsGenEnding : List ℕ → Option (List ℕ) → Option (List ℕ) → ℕ → ℕ → Ending → Type 0
+IsGenEnding text before after count_before count_after NoMemory = Unit {0}
+IsGenEnding text before after count_before count_after ending = IsRunEnding text before after count_before count_after ending
+
+-- the words decide first: without a form, and with that of `serve`, it is the usage, and nothing else is
 abbrev pub Causes : Outside → Option FormBytes → Ending → Type 0
 Causes w None ending = ending ≡ Usage
 Causes w (Some (OfCheck policy)) ending = IsCheckCause w policy ending
 Causes w (Some (OfReplay policy recording)) ending = IsReplayCause w policy recording ending
+Causes w (Some (OfGen seed count)) ending = IsGenEnding (summary the_policy (records_of seed count)) w.out_before w.out_after w.put_before w.put_after ending
+Causes w (Some (OfServe policy listen count)) ending = ending ≡ Usage
 
 -- an ending before the run
 abbrev pub is_early : Ending → Bool
@@ -203,11 +213,13 @@ pub record IsReadyRecording (w : Outside) (path : List ℕ) (slices : ℕ) : Typ
   pub records : read_items slices bytes ≡ Ok items
   pub calm : RoseAt w path → ⊥
 
--- the words have a form, and the files that they name are ready
+-- the words have a form that is not that of `serve`, and the files that they name are ready
 abbrev pub AreReady : Outside → Option FormBytes → Type 0
 AreReady w None = ⊥
 AreReady w (Some (OfCheck policy)) = (p : PolicyView) × IsReadyPolicy w policy p
 AreReady w (Some (OfReplay policy recording)) = (p : PolicyView) × IsReadyPolicy w policy p × IsReadyRecording w recording (length p.slices)
+AreReady w (Some (OfGen seed count)) = Unit {0}
+AreReady w (Some (OfServe policy listen count)) = ⊥
 
 -- where these are ready and the output's count didn't rise, all was done or memory ran out
 abbrev pub Completes : Outside → Option FormBytes → ℕ → Type 0

@@ -8,4 +8,4 @@ mod program;
 pub use ending::Ending;
 pub use fv_base as base;
 pub use fv_report::{ReportFault, report};
-pub use program::offline;
+pub use program::{load_policy, offline};

@@ -6,16 +6,19 @@ ghost use Rattle.fv_base.specs.Words.{form_of};
 ghost use Rattle.recording.specs.Recordings.{IsItem};
 ghost use Rattle.desk_words.specs.Recorded.{told_in};
 ghost use Rattle.desk_words.specs.Reports.{report};
-ghost use Rattle.fv_cli.specs.Endings.{PolicySays, HasRecording, IsLoadCause, IsPolicyCause, IsRecordingCause, IsRunEnding, IsCheckCause, IsReplayCause, Causes, is_early, CountsReads, CountsPuts, Ended, Completes};
+ghost use Rattle.fv_generator.specs.Made.{records_of};
+ghost use Rattle.fv_generator.specs.Policies.{the_policy};
+ghost use Rattle.summary_words.specs.Summaries.{summary};
+ghost use Rattle.fv_cli.specs.Endings.{PolicySays, HasRecording, IsLoadCause, IsPolicyCause, IsRecordingCause, IsRunEnding, IsGenEnding, IsCheckCause, IsReplayCause, Causes, is_early, CountsReads, CountsPuts, Ended, Completes};
 
 use crate::base::{Failed, Files, Form, LoadFault, Sink, Words, WordsFault, load_file, read_words};
 use crate::ending::Ending;
 use crate::lines::{accepted_line, put_pieces};
 use flowspace::Policy;
-use fv_report::{ReportFault, report_items};
+use fv_report::{ReportFault, report_items, summarise};
 use policy_text::ReadFault;
 use recording::{Item, RecordingFault, items};
-use std::alloc::Global;
+use std::alloc::{AllocError, Global};
 
 /// Most bytes of a policy: 1 MiB.
 const POLICY_LIMIT: u64 = 1_048_576;
@@ -49,7 +52,7 @@ fn load<F: Files>(alloc: Global, files: &mut F, path: &str, limit: u64) -> Resul
 }
 
 /// The policy at a path.
-fn load_policy<F: Files>(alloc: Global, files: &mut F, path: &str) -> Result<Policy, Ending>
+pub fn load_policy<F: Files>(alloc: Global, files: &mut F, path: &str) -> Result<Policy, Ending>
     ensures says { IfOk result (λ p. PolicySays (Ok p) (F.contents files.old path.now)) }
     ensures cause { IfErr result (IsPolicyCause (F.contents files.old path.now) (F.faults files.old path.now) (F.faults files.new path.now)) }
     ensures same { (at : List ℕ) → F.contents files.new at ≡ F.contents files.old at }
@@ -147,6 +150,41 @@ fn run<O: Sink>(alloc: Global, policy: &Policy, recording: &Recording, out: &mut
     }
 }
 
+/// A made recording, and the records of it, under a policy of so many slices.
+fn made_recording(alloc: Global, seed: u64, count: u32, slices: u8) -> Result<Recording, AllocError>
+    requires few { count ≤ 1000000 }
+    requires slices { slices ≡ length the_policy.slices }
+    ensures records { IfOk result (λ recording. told_in recording.bytes.items recording.items.items ≡ records_of seed count) }
+    ensures items { IfOk result (λ recording. All (IsItem (length the_policy.slices) recording.bytes.items) recording.items.items) }
+{
+    let bytes = fv_generator::made(alloc, seed, count)?;
+    match items(alloc, &bytes, slices) {
+        Ok(items) => Ok(Recording { bytes, items }),
+        // A made recording is accepted, so this is want of memory.
+        Err(_) => Err(AllocError),
+    }
+}
+
+/// Makes a recording, runs it under the policy that is made for it, and writes the summary.
+fn generate<O: Sink>(alloc: Global, seed: u64, count: u32, out: &mut O) -> Ending
+    requires { count ≤ 1000000 }
+    ensures cause { IsGenEnding (summary the_policy (records_of seed count)) (O.contents out.old) (O.contents out.new) (O.faults out.old) (O.faults out.new) result }
+    ensures early { is_early result ≡ true → O.contents out.new ≡ O.contents out.old }
+    ensures puts { CountsPuts result (O.faults out.old) (O.faults out.new) }
+{
+    let Ok(policy) = fv_generator::policy(alloc) else {
+        return Ending::NoMemory;
+    };
+    let Ok(recording) = made_recording(alloc, seed, count, policy.slice_count()) else {
+        return Ending::NoMemory;
+    };
+    match summarise(alloc, &policy, &recording.bytes, &recording.items, out) {
+        Ok(()) => Ending::Done,
+        Err(ReportFault::WriteFault) => Ending::WriteFault,
+        Err(ReportFault::Memory) => Ending::NoMemoryToRun,
+    }
+}
+
 /// Does what the words ask for.
 fn decide<F: Files, O: Sink>(alloc: Global, words: &Words, files: &mut F, out: &mut O) -> Ending
     ensures cause { Causes (record { files = F.contents files.old; read_before = F.faults files.old; read_after = F.faults files.new; out_before = O.contents out.old; out_after = O.contents out.new; put_before = O.faults out.old; put_after = O.faults out.new }) (form_of words.now) result }
@@ -157,18 +195,20 @@ fn decide<F: Files, O: Sink>(alloc: Global, words: &Words, files: &mut F, out: &
     match read_words(words) {
         Ok(Form::Check { policy }) => check(alloc, policy, files, out),
         Ok(Form::Replay { policy, recording }) => replay(alloc, policy, recording, files, out),
-        Err(WordsFault::Usage) => Ending::Usage,
+        Ok(Form::Gen { seed, count }) => generate(alloc, seed, count, out),
+        Ok(Form::Serve { .. }) | Err(WordsFault::Usage) => Ending::Usage,
     }
 }
 
 /// Does what the words ask for, and answers the exit status: `check POLICY` says on `out` how many slices
 /// and rules an accepted policy has, and `replay POLICY RECORDING` writes there the report of the recording
-/// under the policy. Each status but 0 has a line, which goes to `err`.
+/// under the policy, and `gen SEED COUNT` the summary of a recording that it makes. `serve POLICY LISTEN
+/// COUNT` is none of its forms. Each status but 0 has a line, which goes to `err`.
 ///
 /// | status | means |
 /// |---|---|
 /// | 0 | all was done |
-/// | 1 | the words have no form |
+/// | 1 | the words have no form, or that of `serve` |
 /// | 2, 3 | the policy, or the recording, was read and is refused; the line says why and where |
 /// | 4, 5 | a file can't be read; the output can't be written |
 /// | 6, 7 | no memory; a file is too large (policy 1 MiB, recording 256 MiB) |

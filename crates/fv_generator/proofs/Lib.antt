@@ -3,5 +3,5 @@ mod Pieces
 mod Appending
 mod Sizes
 mod Cases
-mod Accepted
+pub mod Accepted
 mod Loaded

@@ -1,13 +1,11 @@
 -- What a desk stands for after a take and after a step.
 use Rattle.std.proofs.Common.{◌≡◌, ◌≤◌, ◌+◌, ◌==◌, ◌||◌, ◌&&◌, not, ltb, ℕ, Bool, true, false, if◌then◌else◌, List, [], ◌∷◌, drop, length, refl, sym, ap, ◌∙◌, subst, true≢false, eqb-true, eq-eqb, None, Ok, slice_get, arith}
+use Rattle.std.proofs.lemmas.Bool.{ne_eqb}
 use Rattle.std.proofs.lemmas.Bool.Decides.{nat_tests}
 use Rattle.flowspace.specs.Policies.{PolicyView}
 use Rattle.outbox.specs.Queues.{Queue, no_messages, size, push_all, without_first}
 use Rattle.outbox.proofs.Keeping.{push_all-kept}
-use Rattle.slice_words.specs.Items.{is_up}
 use Rattle.desk_words.specs.declared.event.Timed.{Timed}
-use Rattle.desk_words.specs.declared.phase.Phase.{Phase}
-use Rattle.desk_words.specs.declared.phase.Phase.TheVariants.{Fresh, Begun, Opened, Ended as Over}
 use Rattle.desk_words.specs.declared.answer.Dest.TheVariants.{Switch, Slice}
 use Rattle.desk_words.specs.declared.answer.Verdict.{Verdict}
 use Rattle.desk_words.specs.declared.answer.Verdict.TheVariants as verdicts
@@ -15,18 +13,17 @@ use Rattle.desk_words.specs.declared.answer.Verdict.TheVariants.{Go, Close}
 use Rattle.desk_words.specs.declared.answer.Taken.{Taken}
 use Rattle.desk_words.specs.declared.answer.Taken.TheVariants.{Message, Nothing, Choked, Ended, NotOpen}
 use Rattle.desk_words.specs.Openings.{phase_of}
-use Rattle.desk_words.specs.Histories.{is_slot, is_open, is_slice_up, view_of}
+use Rattle.desk_words.specs.Histories.{is_slot, is_open, is_slice_up}
 use Rattle.desk_words.specs.Verdicts.{is_ended, is_fresh, is_over, closes}
 use Rattle.desk_words.specs.Sent.{sent_by, lane_by}
 use Rattle.desk_words.specs.Operations.{Step, Take, takes_in, events_of, slice_limit, lane_limit, empties_slice, ends, queue_of, lane_of, empty_reply}
-use Rattle.desk_words.proofs.Silence.{sees_nothing}
 use Rattle.answer_bounds.specs.Bounds.{IsFramed, AreFramed}
 use Rattle.answer_bounds.proofs.Fitting.{answers_fit}
 use Rattle.proxy_core.specs.declared.parts.Desk.{Desk}
 use Rattle.proxy_core.proofs.Acting.{either_empty}
-use Rattle.proxy_core.specs.Desks.{Takes, Steps}
+use Rattle.proxy_core.specs.Desks.{Takes, Steps, TellsEnd, TellsUp, TellsWaiting}
 use Rattle.fv_report.specs.Holding.{waiting, Holds, nothing, IsQuiet, with_waiting, After}
-use Rattle.fv_report.specs.Taking.{message_taken, is_nothing}
+use Rattle.fv_report.specs.Taking.{message_taken}
 use Rattle.fv_report.proofs.Slices.{from_slot}
 
 -- ---- what waits, said otherwise
@@ -107,29 +104,37 @@ take_slice p h slot slices messages lane old new taken takes holds =
       },
     )
 
--- ---- questions at a desk at which nothing waits
+-- nothing is there, so that a take may be left out
+none_there : (messages : List (List ℕ)) → false ≡ not (length messages == 0) → messages ≡ []
+none_there [] is = refl
+none_there (message ∷ later) is = absurd (true≢false (sym (is ∙ ap not (ne_eqb (length (message ∷ later)) 0 (λ e. absurd (omega (arith, e)))))))
 
-up_when : (phase : Phase) (slot up : Bool) → (slot ≡ false → up ≡ false)
-    → is_nothing (if is_ended phase || not slot || (is_open phase && not (is_open phase && up)) then Ended else if not (is_open phase) then NotOpen else if false then Choked else Nothing) ≡ (is_open phase && up)
-up_when Fresh true up none = refl
-up_when Fresh false up none = refl
-up_when Begun true up none = refl
-up_when Begun false up none = refl
-up_when Over slot up none = refl
-up_when Opened true true none = refl
-up_when Opened true false none = refl
-up_when Opened false true none = sym (none refl)
-up_when Opened false false none = refl
+pub unasked_lane : (p : PolicyView) (h : List Timed) (slices : ℕ → List (List ℕ)) (lane : List (List ℕ)) (desk : Desk) → TellsWaiting desk Switch false → Holds p h slices lane desk
+    → (None ≡ slice_get lane 0) × Holds p h slices (drop 1 lane) desk
+unasked_lane p h slices lane desk told holds =
+    let none = none_there lane (told p holds.operations holds.stands ∙ ap (λ (q : Queue). not (length q.pending == 0)) holds.lane_queue) in (
+      sym (ap (λ messages. slice_get messages 0) none),
+      subst (λ messages. Holds p h slices (drop 1 messages) desk) (sym none) (subst (λ messages. Holds p h slices messages desk) none holds),
+    )
+
+pub unasked_slice : (p : PolicyView) (h : List Timed) (slot : ℕ) (slices : ℕ → List (List ℕ)) (messages lane : List (List ℕ)) (desk : Desk) → TellsWaiting desk (Slice slot) false
+    → Holds p h (with_waiting slot messages slices) lane desk → (None ≡ slice_get messages 0) × Holds p h (with_waiting slot (drop 1 messages) slices) lane desk
+unasked_slice p h slot slices messages lane desk told holds =
+    let own : queue_of p slot holds.operations ≡ waiting messages = own_queue slot messages (slices slot) (slot == slot) (queue_of p slot holds.operations) (eq-eqb slot slot refl) (holds.queues slot) in
+    let none = none_there messages (told p holds.operations holds.stands ∙ ap (λ (q : Queue). not (length q.pending == 0)) own) in (
+      sym (ap (λ ms. slice_get ms 0) none),
+      subst (λ ms. Holds p h (with_waiting slot (drop 1 ms) slices) lane desk) (sym none) (subst (λ ms. Holds p h (with_waiting slot ms slices) lane desk) none holds),
+    )
+
+-- ---- questions
 
 -- whether a slice is up
-pub ask_up : (p : PolicyView) (h : List Timed) (slot : ℕ) (old new : Desk) (taken : Taken) → Takes old (Slice slot) taken new → IsQuiet p h old → is_nothing taken ≡ is_slice_up p slot h
-ask_up p h slot old new taken takes quiet =
-    let answered = takes p quiet.operations quiet.stands in
-    let evs = events_of quiet.operations in
-    ap is_nothing answered.right
-    ∙ ap (λ (q : Queue). is_nothing (elim q.pending [ [] ↦ empty_reply p evs (Slice slot) q.choked | message ∷ later ↦ Message message ])) (quiet.queues slot)
-    ∙ up_when (phase_of evs) (is_slot p slot) (is_up (view_of p slot evs)) (λ out. ap (λ sight. is_up sight.view) (sees_nothing p slot evs out))
-    ∙ ap (is_slice_up p slot) quiet.events
+pub up_told : (p : PolicyView) (h : List Timed) (slot : ℕ) (desk : Desk) (up : Bool) → TellsUp desk slot up → IsQuiet p h desk → up ≡ is_slice_up p slot h
+up_told p h slot desk up told quiet = told p quiet.operations quiet.stands ∙ ap (is_slice_up p slot) quiet.events
+
+-- whether the switch's connection has ended
+pub end_told : (p : PolicyView) (h : List Timed) (desk : Desk) (ended : Bool) → TellsEnd desk ended → IsQuiet p h desk → ended ≡ is_ended (phase_of h)
+end_told p h desk ended told quiet = told p quiet.operations quiet.stands ∙ ap (λ events. is_ended (phase_of events)) quiet.events
 
 -- ---- steps
 

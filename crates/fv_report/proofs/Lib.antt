@@ -8,3 +8,4 @@ pub mod Recorded
 pub mod Playing
 pub mod Running
 pub mod Texts
+pub mod Counting

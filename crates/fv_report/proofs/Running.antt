@@ -10,7 +10,8 @@ use Rattle.recording.specs.Recordings.{Told, switch_bytes, slice_bytes}
 use Rattle.answer_bounds.specs.Bounds.{IsFramed, AreFramed}
 use Rattle.desk_words.specs.declared.event.Timed.{Timed}
 use Rattle.desk_words.specs.Recorded.{told_by, stream_before, history_of, history_at, events_in, carried, told_in}
-use Rattle.fv_report.specs.Telling.{Line, Heard, HeardPart, told_of, told_from, count_from}
+use Rattle.fv_report.specs.Telling.{Line, Heard, HeardPart, told_of, told_from}
+use Rattle.summary_words.specs.Summaries.{event_count_from}
 use Rattle.fv_report.specs.declared.switch.Switch.{Switch}
 use Rattle.fv_report.specs.declared.streams.Streams.{Streams}
 use Rattle.fv_report.specs.Holding.{IsQuiet}
@@ -79,7 +80,7 @@ pub record Running {T : Type 0} (Tells : T → Line → Bool → T → Type 0) (
   pub done : List Line
   pub written : Heard Tells before done now
   pub whole : done ++ told_from p events past (told_in file left) ≡ told_from p 0 [] (told_in file all)
-  pub count : events + count_from p past (told_in file left) ≡ count_from p [] (told_in file all)
+  pub count : events + event_count_from p past (told_in file left) ≡ event_count_from p [] (told_in file all)
 
 pub running_first : {T : Type 0} (Tells : T → Line → Bool → T → Type 0) (p : PolicyView) (file : List ℕ) (all : List Item) (before : T) (switches : List (Option Switch)) → AreUnknown switches → Running Tells p file all all 0 before before switches
 running_first Tells p file all before switches unknown = record {
@@ -94,13 +95,13 @@ running_first Tells p file all before switches unknown = record {
 -- one record more was played
 pub running_more : {E T : Type 0} (Tells : T → Line → Bool → T → Type 0) (p : PolicyView) (file : List ℕ) (all from left : List Item) (item : Item) (events later : ℕ) (before now after : T) (old new : List (Option Switch)) → from ≡ item ∷ left → (s : Running Tells p file all from events before now old)
     → RecordPlayed {E = E} Tells p (told_by item (carried file item)) s.past events (Ok later) now after (AllStand p (told_by item (carried file item) ∷ s.past)) new → Running Tells p file all left later before after new
-unfolding told_from count_from
+unfolding told_from event_count_from
 running_more Tells p file all from left item events later before now after old new is s played =
     let r = told_by item (carried file item) in
     let own = events_in p r s.past in
     let lines = told_of p (record { number = events; switch = r.switch }) (history_at p r s.past) own in
-    let others = count_from p (r ∷ s.past) (told_in file left) in
-    let whole_count : events + (length own + others) ≡ count_from p [] (told_in file all) = ap (λ (items : List Item). events + count_from p s.past (told_in file items)) (sym is) ∙ s.count in
+    let others = event_count_from p (r ∷ s.past) (told_in file left) in
+    let whole_count : events + (length own + others) ≡ event_count_from p [] (told_in file all) = ap (λ (items : List Item). events + event_count_from p s.past (told_in file items)) (sym is) ∙ s.count in
     let now_count = played.count in
     record {
       past = r ∷ s.past;
@@ -131,6 +132,6 @@ unfolding told_from
 running_last Tells p file all events before now old s = subst (λ (t : List Line). Heard Tells before t now) (sym (append-nil s.done) ∙ s.whole) s.written
 
 pub counted_last : {T : Type 0} (Tells : T → Line → Bool → T → Type 0) (p : PolicyView) (file : List ℕ) (all : List Item) (events : ℕ) (before now : T) (old : List (Option Switch)) (s : Running Tells p file all [] events before now old)
-    → events ≡ count_from p [] (told_in file all)
-unfolding count_from
+    → events ≡ event_count_from p [] (told_in file all)
+unfolding event_count_from
 counted_last Tells p file all events before now old s = let all_counted = s.count in omega (arith, all_counted)

@@ -18,7 +18,8 @@ use Rattle.desk_words.specs.Recorded.{next_of, history_at, events_in}
 use Rattle.desk_words.specs.Reports as report
 use Rattle.desk_words.specs.Reports.{Place, line, name_at, speaker, lane_lines, slice_lines, lines_by_slot, closing_lines, close_lines, down_lines, event_lines, lines_of, last_line, report_from}
 use Rattle.fv_report.specs.Writing.{WrotePart, WroteLine}
-use Rattle.fv_report.specs.Telling.{Line, Close, line_text, lane_told, slice_told, told_by_slot, closing_told, close_told, down_line, down_told, event_told, told_of, told_from, count_from, Heard, HeardPart}
+use Rattle.fv_report.specs.Telling.{Line, Close, line_text, lane_told, slice_told, told_by_slot, closing_told, close_told, down_line, down_told, event_told, told_of, told_from, Heard, HeardPart}
+use Rattle.summary_words.specs.Summaries.{event_count_from}
 use Rattle.fv_report.proofs.Writing.{both, none_of, part_of_first, part_of_second}
 
 lane_text : (place : Place) (messages : List (List ℕ)) → flat_map line_text (lane_told place messages) ≡ lane_lines place messages
@@ -75,8 +76,8 @@ of_text p place h (timed ∷ later) =
     let next : Place = record { number = place.number + 1; switch = place.switch } in
     flat_map-append line_text (event_told p place h timed) (told_of p next (next_of h timed) later) ∙ ap₂ (λ (a b : List ℕ). a ++ b) (event_text p place h timed) (of_text p next (next_of h timed) later)
 
-from_text : (p : PolicyView) (events : ℕ) (before later : List Told) → flat_map line_text (told_from p events before later) ++ last_line (events + count_from p before later) ≡ report_from p events before later
-unfolding told_from count_from report_from
+from_text : (p : PolicyView) (events : ℕ) (before later : List Told) → flat_map line_text (told_from p events before later) ++ last_line (events + event_count_from p before later) ≡ report_from p events before later
+unfolding told_from event_count_from report_from
 from_text p events before [] = let none : events + 0 ≡ events = omega arith in ap last_line none
 from_text p events before (r ∷ later) =
     let own = events_in p r before in
@@ -84,15 +85,15 @@ from_text p events before (r ∷ later) =
     let h = history_at p r before in
     let first = told_of p place h own in
     let others = told_from p (events + length own) (r ∷ before) later in
-    let rest = count_from p (r ∷ before) later in
+    let rest = event_count_from p (r ∷ before) later in
     let counted : events + (length own + rest) ≡ events + length own + rest = omega arith in
     ap (λ (text : List ℕ). text ++ last_line (events + (length own + rest))) (flat_map-append line_text first others)
     ∙ append_assoc (flat_map line_text first) (flat_map line_text others) (last_line (events + (length own + rest)))
     ∙ ap₂ (λ (a b : List ℕ). a ++ b) (of_text p place h own) (ap (λ (n : ℕ). flat_map line_text others ++ last_line n) counted ∙ from_text p (events + length own) (r ∷ before) later)
 
-pub whole_text : (p : PolicyView) (records : List Told) → flat_map line_text (told_from p 0 [] records) ++ last_line (count_from p [] records) ≡ report.report p records
+pub whole_text : (p : PolicyView) (records : List Told) → flat_map line_text (told_from p 0 [] records) ++ last_line (event_count_from p [] records) ≡ report.report p records
 whole_text p records =
-    let counted : count_from p [] records ≡ 0 + count_from p [] records = omega arith in
+    let counted : event_count_from p [] records ≡ 0 + event_count_from p [] records = omega arith in
     ap (λ (n : ℕ). flat_map line_text (told_from p 0 [] records) ++ last_line n) counted ∙ from_text p 0 [] records
 
 -- ---- what is written

@@ -1,9 +1,9 @@
 -- What taking a message changes of what waits (this proxy's own rule).
-use Rattle.std.specs.Prelude.{ℕ, ◌≡◌, Bool, true, false, List, drop, Option, Some, None, slice_get}
+use Rattle.std.specs.Prelude.{ℕ, ◌≡◌, List, drop, Option, Some, None, slice_get}
 use Rattle.flowspace.specs.Policies.{PolicyView}
 use Rattle.desk_words.specs.declared.event.Timed.{Timed}
 use Rattle.desk_words.specs.declared.answer.Taken.{Taken}
-use Rattle.desk_words.specs.declared.answer.Taken.TheVariants.{Message, Nothing, Ended}
+use Rattle.desk_words.specs.declared.answer.Taken.TheVariants.{Message}
 use Rattle.proxy_core.specs.declared.parts.Desk.{Desk}
 use Rattle.fv_report.specs.Holding.{Holds, with_waiting}
 
@@ -23,12 +23,3 @@ abbrev pub TakesFromSlice : ℕ → Desk → Option (List ℕ) → Desk → Type
 TakesFromSlice slot old next new =
     (policy : PolicyView) (h : List Timed) (slices : ℕ → List (List ℕ)) (messages lane : List (List ℕ)) → Holds policy h (with_waiting slot messages slices) lane old
     → (next ≡ slice_get messages 0) × Holds policy h (with_waiting slot (drop 1 messages) slices) lane new
-
--- there is nothing now, or nothing will come
-abbrev pub is_nothing : Taken → Bool
-is_nothing Nothing = true
-is_nothing taken = false
-
-abbrev pub is_the_end : Taken → Bool
-is_the_end Ended = true
-is_the_end taken = false

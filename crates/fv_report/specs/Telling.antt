@@ -95,11 +95,6 @@ told_from policy events before (r ∷ later) =
     told_of policy (record { number = events; switch = r.switch }) (history_at policy r before) own
     ++ told_from policy (events + length own) (r ∷ before) later
 
--- how many events records make, after these records, newest first
-unfoldable pub count_from : PolicyView → List Told → List Told → ℕ
-count_from policy before [] = 0
-count_from policy before (r ∷ later) = length (events_in policy r before) + count_from policy (r ∷ before) later
-
 -- ---- in parts
 
 -- the switch's connection has ended

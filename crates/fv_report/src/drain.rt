@@ -31,6 +31,9 @@ fn next_of_lane(desk: &mut Desk) -> Option<Frame>
     ensures takes { TakesFromLane desk.old result desk.new }
     ensures fewer { IfSome result (λ _. left Switch desk.new < left Switch desk.old) }
 {
+    if !desk.waits(Dest::Switch) {
+        return None;
+    }
     message_in(desk.take(Dest::Switch))
 }
 
@@ -39,6 +42,9 @@ fn next_of_slice(desk: &mut Desk, slot: u8) -> Option<Frame>
     ensures takes { TakesFromSlice slot desk.old result desk.new }
     ensures fewer { IfSome result (λ _. left (Slice slot) desk.new < left (Slice slot) desk.old) }
 {
+    if !desk.waits(Dest::Slice(slot)) {
+        return None;
+    }
     message_in(desk.take(Dest::Slice(slot)))
 }
 

@@ -1,16 +1,19 @@
 //! The report of a recording: its records are played at the desks of their switches, and each message that
-//! comes of them is a line.
+//! comes of them is a line. In a summary the messages are counted.
 #![tactic(auto)]
 
+mod counter;
 mod drain;
 mod fault;
 mod line;
 mod play;
 mod run;
 mod streams;
+mod summary;
 mod switch;
 mod teller;
 mod turn;
 
 pub use fault::ReportFault;
 pub use run::{report, report_items};
+pub use summary::summarise;

@@ -104,8 +104,8 @@ impl LineBuffer {
     }
 }
 
-/// Puts the bytes of a line, all at once.
-fn put<K: Sink>(out: &mut K, bytes: &[u8]) -> Result<(), ReportFault>
+/// Puts bytes, all at once.
+pub(crate) fn put<K: Sink>(out: &mut K, bytes: &[u8]) -> Result<(), ReportFault>
     ensures writes { Wrote result bytes.now (K.contents out.old) (K.contents out.new) }
     ensures counted { Counted result (K.faults out.old) (K.faults out.new) }
 {

@@ -6,8 +6,9 @@ ghost use Rattle.recording.specs.declared.item.Item.{Item};
 ghost use Rattle.recording.specs.Recordings.{IsItem, read_items};
 ghost use Rattle.desk_words.specs.Recorded.{told_by, carried, told_in};
 ghost use Rattle.desk_words.specs.Reports.{report};
+ghost use Rattle.summary_words.specs.Summaries.{event_count_from};
 ghost use Rattle.fv_report.specs.Writing.{Wrote, Counted};
-ghost use Rattle.fv_report.specs.Telling.{Tell, told_from, count_from};
+ghost use Rattle.fv_report.specs.Telling.{Tell, told_from};
 ghost use Rattle.fv_report.specs.Switches.{IsRecord, PlaysAt, PlaysAmong, AreUnknown};
 
 use crate::fault::ReportFault;
@@ -104,7 +105,7 @@ fn play_item<T: Teller>(
 }
 
 /// Tells all that the records of a file make happen, and answers how many events there were.
-fn tell_items<T: Teller>(
+pub(crate) fn tell_items<T: Teller>(
     alloc: Global,
     teller: &mut T,
     policy: &Policy,
@@ -113,7 +114,7 @@ fn tell_items<T: Teller>(
 ) -> Result<u64, ReportFault>
     requires { All (IsItem (length policy.now.slices) bytes.now) items.now }
     ensures tells { Tell T.Tells result (told_from policy.now 0 [] (told_in bytes.now items.now)) teller.old teller.new }
-    ensures count { IfOk result (λ events. events ≡ count_from policy.now [] (told_in bytes.now items.now)) }
+    ensures count { IfOk result (λ events. events ≡ event_count_from policy.now [] (told_in bytes.now items.now)) }
     ensures counted { Counted result (T.faults teller.old) (T.faults teller.new) }
 {
     let mut switches = no_switches(alloc)?;

@@ -14,33 +14,20 @@ ghost use Rattle.fv_report.specs.Telling.{Tell, closing_told, event_told, end_to
 ghost use Rattle.fv_report.specs.Lines.{place_of};
 ghost use Rattle.fv_report.specs.Writing.{Counted};
 ghost use Rattle.fv_report.specs.Holding.{Holds, IsQuiet, After};
-ghost use Rattle.fv_report.specs.Taking.{is_nothing, is_the_end};
 
 use crate::drain::{drain_lane, drain_slices};
 use crate::fault::ReportFault;
 use crate::teller::{Place, Said, Teller};
 use flowspace::Policy;
-use proxy_core::{Desk, Dest, Event, Taken, Timed, Verdict};
+use proxy_core::{Desk, Event, Timed, Verdict};
 use std::alloc::Global;
-
-fn is_nothing(taken: &Taken) -> bool
-    ensures { result ≡ is_nothing taken.now }
-{
-    matches!(taken, Taken::Nothing)
-}
-
-fn is_the_end(taken: &Taken) -> bool
-    ensures { result ≡ is_the_end taken.now }
-{
-    matches!(taken, Taken::Ended)
-}
 
 /// Whether the slice at a slot is up, at a desk at which nothing waits.
 pub(crate) fn is_up(desk: &mut Desk, slot: u8) -> bool
     ensures answer { (policy : PolicyView) (h : List Timed) → IsQuiet policy h desk.old → result ≡ is_slice_up policy slot h }
     ensures same { (policy : PolicyView) (h : List Timed) → IsQuiet policy h desk.old → IsQuiet policy h desk.new }
 {
-    is_nothing(&desk.take(Dest::Slice(slot)))
+    desk.is_up(slot)
 }
 
 /// Whether the switch's connection has ended, at a desk at which nothing waits.
@@ -48,7 +35,7 @@ pub(crate) fn has_ended(desk: &mut Desk) -> bool
     ensures answer { (policy : PolicyView) (h : List Timed) → IsQuiet policy h desk.old → result ≡ is_ended (phase_of h) }
     ensures same { (policy : PolicyView) (h : List Timed) → IsQuiet policy h desk.old → IsQuiet policy h desk.new }
 {
-    is_the_end(&desk.take(Dest::Switch))
+    desk.has_ended()
 }
 
 /// The slot of the slice whose controller connected or sent a message.

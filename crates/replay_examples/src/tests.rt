@@ -1,11 +1,13 @@
 //! Whole calls over files and sinks in memory.
 
+mod arguments;
 mod buffers;
 mod checks;
 mod controllers;
 mod entries;
 mod flow_mods;
 mod flow_mods_refused;
+mod made;
 mod names;
 mod outside;
 mod packet_outs;
@@ -43,6 +45,9 @@ const SHELL_RULE: &str =
 
 /// A policy, piece by piece: alice has TCP port 80, bob port 22.
 const POLICY: &[&str] = &[ALICE, BOB, WEB_RULE, SHELL_RULE];
+
+const USAGE: &str =
+    "usage: flowvisor check POLICY / replay POLICY RECORDING / gen SEED COUNT / serve POLICY LISTEN COUNT\n";
 
 const MAGIC: &str = "4656524543000001";
 
@@ -152,8 +157,6 @@ fn a_sink_that_fails_ends_the_report_at_a_line(rt: HostRuntime) -> Result<(), Fa
 #[test]
 fn words_without_a_form_are_answered_by_the_usage(rt: HostRuntime) -> Result<(), Fail> {
     let alloc = rt.alloc();
-    let usage =
-        "usage: flowvisor check POLICY / replay POLICY RECORDING / gen SEED COUNT / serve POLICY LISTEN COUNT\n";
     let cases: [&[&str]; 6] = [
         &[],
         &["replay", "policy"],
@@ -165,7 +168,7 @@ fn words_without_a_form_are_answered_by_the_usage(rt: HostRuntime) -> Result<(),
     for words in &cases {
         let mut files = MemoryFiles::new(alloc);
         let answer = call(alloc, words, &mut files, MemorySink::new(alloc))?;
-        expect_answer(&rt, &answer, (1, "", usage), "");
+        expect_answer(&rt, &answer, (1, "", USAGE), "");
     }
     Ok(())
 }

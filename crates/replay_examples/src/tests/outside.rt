@@ -162,7 +162,7 @@ fn load_faults_say_what_is_wrong(rt: HostRuntime) -> Result<(), Fail> {
     Ok(())
 }
 
-fn words_of(alloc: Global, texts: &[&str]) -> Result<Words, AllocError> {
+pub(super) fn words_of(alloc: Global, texts: &[&str]) -> Result<Words, AllocError> {
     let mut words = Words::new(alloc);
     for text in texts {
         words.push(text)?;
@@ -180,13 +180,26 @@ fn words_have_a_form(rt: HostRuntime) -> Result<(), Fail> {
     assert_eq!(rt; read_words(&words), Ok(form));
     let words = words_of(rt.alloc(), &["check", "P-1"])?;
     assert_eq!(rt; read_words(&words), Ok(Form::Check { policy: "P-1" }));
+    let words = words_of(rt.alloc(), &["gen", "18446744073709551615", "1000000"])?;
+    let form = Form::Gen {
+        seed: u64::MAX,
+        count: 1_000_000,
+    };
+    assert_eq!(rt; read_words(&words), Ok(form));
+    let words = words_of(rt.alloc(), &["serve", "P", "L", "1000000000"])?;
+    let form = Form::Serve {
+        policy: "P",
+        listen: "L",
+        count: 1_000_000_000,
+    };
+    assert_eq!(rt; read_words(&words), Ok(form));
     Ok(())
 }
 
 #[test]
 fn other_words_are_refused(rt: HostRuntime) -> Result<(), Fail> {
     let alloc = rt.alloc();
-    let table: [&[&str]; 13] = [
+    let table: [&[&str]; 17] = [
         &[],
         &["replay"],
         &["replay", "P"],
@@ -199,7 +212,11 @@ fn other_words_are_refused(rt: HostRuntime) -> Result<(), Fail> {
         &["replay", "P", "-"],
         &["Replay", "P", "R"],
         &["replay", "P", "R", "S"],
-        &["serve", "P", "L", "1"],
+        &["serve", "P", "L", "0"],
+        &["serve", "P", "L", "1000000001"],
+        &["serve", "P", "-L", "1"],
+        &["gen", "1", "1000001"],
+        &["gen", "01", "1"],
     ];
     for texts in table {
         let words = words_of(alloc, texts)?;

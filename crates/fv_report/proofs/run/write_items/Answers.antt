@@ -3,7 +3,8 @@ use Rattle.std.specs.List.{flat_map}
 use Rattle.desk_words.specs.Recorded.{told_in}
 use Rattle.desk_words.specs.Reports.{report, last_line}
 use Rattle.fv_report.specs.Writing.{WrotePart, Wrote}
-use Rattle.fv_report.specs.Telling.{line_text, told_from, count_from}
+use Rattle.fv_report.specs.Telling.{line_text, told_from}
+use Rattle.summary_words.specs.Summaries.{event_count_from}
 use Rattle.fv_report.proofs.Writing.{at_fault, part_of_first, wrote_second}
 use Rattle.fv_report.proofs.Texts.{whole_text, kept_after, kept_part, wrote_after, wrote_part}
 use Rattle.fv_report.proofs.run.write_items.Goals as goal
@@ -22,7 +23,7 @@ returns-in_err-events-clause-writes g c =
     let after = g.K.Sink.contents c.tell_items.new.teller.out.now in
     at_fault c.from_residual.result (report p records) before after c.from_residual.ensures.0
     (subst (λ (text : List ℕ). WrotePart text before after) (whole_text p records)
-    (part_of_first (flat_map line_text lines) (last_line (count_from p [] records)) before after
+    (part_of_first (flat_map line_text lines) (last_line (event_count_from p [] records)) before after
     (wrote_part lines c.args.writer.now c.tell_items.new.teller (λ w. w.out.ghost_name) (λ w. g.K.Sink.contents w.out.now) c.in_err-events.ensures.tells)))
 
 pub returns-clause-same : goal.returns-clause-same
@@ -39,6 +40,6 @@ returns-clause-writes g c =
     let now = g.K.Sink.contents c.tell_items.new.teller.out.now in
     let last = g.K.Sink.contents c.put_last.new.self.out.now in
     subst (λ (text : List ℕ). Wrote c.put_last.result text before last) (whole_text p records)
-    (wrote_second c.put_last.result (flat_map line_text lines) (last_line (count_from p [] records)) before now last
+    (wrote_second c.put_last.result (flat_map line_text lines) (last_line (event_count_from p [] records)) before now last
     (wrote_after lines c.args.writer.now c.tell_items.new.teller (λ w. w.out.ghost_name) (λ w. g.K.Sink.contents w.out.now) c.in_ok-events.ensures.tells)
     (subst (λ (n : ℕ). Wrote c.put_last.result (last_line n) now last) c.in_ok-events.ensures.count c.put_last.ensures.writes))

@@ -1,0 +1,96 @@
+-- What is read of a made recording, and how many rounds words can ask for.
+use Rattle.std.proofs.Common.{ℕ, ◌≡◌, ◌+◌, ◌≤◌, ◌&&◌, if◌then◌else◌, Bool, true, false, leb, leb-true, List, [], ◌∷◌, ◌++◌, take, drop, length, refl, sym, ap, ap₂, ◌∙◌, append_assoc, subst, Option, Some, None, Result, Ok, codes, arith}
+use Rattle.std.specs.Prelude.{IfSome, IfOk, bytes_eq}
+use Rattle.std.specs.List.{flat_map}
+use Rattle.std.proofs.Math.Seq.{drop-append_seam, take-append_seam}
+use Rattle.std.proofs.lemmas.List.{length-append}
+use Rattle.std.proofs.lemmas.Bool.{and_parts}
+use Rattle.recording.specs.declared.item.Item.{Item}
+use Rattle.recording.specs.Recordings.{Told, head_spelling, spell, magic, told_at, all_told, read_items}
+use Rattle.desk_words.specs.Recorded.{told_by, told_in}
+use Rattle.fv_base.specs.Words.{FormBytes, OfCheck, OfReplay, OfGen, OfServe, replay_of, gen_of, seed_of, rounds_of, number_of, within, serve_of, form_of, is_plain, connections_of}
+use Rattle.fv_generator.specs.Made.{records_of, recording_of}
+use Rattle.fv_generator.proofs.Accepted.{recording_is_read}
+
+pub same_Ok : {A E : Type 0} (result : Result A E) (x y : A) → result ≡ Ok x → result ≡ Ok y → x ≡ y
+same_Ok {A} {E} result x y first second = subst (λ (r : Result A E). IfOk r (λ v. x ≡ v)) (sym first ∙ second) refl
+
+-- ---- what is read
+
+head_of : Told → List ℕ
+head_of t = head_spelling t.kind t.switch t.slot (length t.bytes) t.moment
+
+head_size : (t : Told) → length (head_of t) ≡ 16
+unfolding head_of head_spelling
+head_size t = refl
+
+-- records that stand behind other bytes
+read_behind : (before : List ℕ) (told : List Told) → told_in (before ++ flat_map spell told) (all_told (length before) told) ≡ told
+unfolding all_told head_of
+read_behind before [] = refl
+read_behind before (t ∷ others) =
+    let rest = flat_map spell others in
+    let file = before ++ (spell t ++ rest) in
+    let sixteen = head_size t in
+    let placed : length (before ++ head_of t) ≡ length before + 16 = omega (arith, length-append before (head_of t), sixteen) in
+    let parted : file ≡ (before ++ head_of t) ++ (t.bytes ++ rest) = ap (λ (text : List ℕ). before ++ text) (append_assoc (head_of t) t.bytes rest) ∙ sym (append_assoc before (head_of t) (t.bytes ++ rest)) in
+    let carries : take (length t.bytes) (drop (length before + 16) file) ≡ t.bytes =
+    ap (take (length t.bytes)) (ap₂ (λ (n : ℕ) (text : List ℕ). drop n text) (sym placed) parted ∙ drop-append_seam (before ++ head_of t) (t.bytes ++ rest)) ∙ take-append_seam t.bytes rest in
+    let next : length (before ++ spell t) ≡ length before + 16 + length t.bytes = omega (arith, length-append before (spell t), length-append (head_of t) t.bytes, sixteen) in
+    let later : told_in file (all_told (length before + 16 + length t.bytes) others) ≡ others =
+    subst (λ (at : ℕ). told_in file (all_told at others) ≡ others) next
+    (subst (λ (text : List ℕ). told_in text (all_told (length (before ++ spell t)) others) ≡ others) (append_assoc before (spell t) rest) (read_behind (before ++ spell t) others)) in
+    ap₂ (λ (bytes : List ℕ) (more : List Told). told_by (told_at (length before) t) bytes ∷ more) carries later
+
+-- the items that are read of a made recording tell the records that were drawn
+pub made_is_told : (slices seed count : ℕ) (items : List Item) → slices ≡ 2 → count ≤ 1000000 → read_items slices (recording_of seed count) ≡ Ok items → told_in (recording_of seed count) items ≡ records_of seed count
+made_is_told slices seed count items two few read =
+    let same : items ≡ all_told 8 (records_of seed count) = same_Ok (read_items slices (recording_of seed count)) items (all_told 8 (records_of seed count)) read (ap (λ (n : ℕ). read_items n (recording_of seed count)) two ∙ recording_is_read seed count few) in
+    ap (told_in (recording_of seed count)) same ∙ read_behind magic (records_of seed count)
+
+-- ---- how many rounds
+
+-- words that ask for a recording ask for few rounds
+abbrev IsFew : Option FormBytes → Type 0
+IsFew (Some (OfGen seed count)) = count ≤ 1000000
+IsFew _ = Unit {0}
+
+most : (least limit : ℕ) (number : Option ℕ) → IfSome (within least limit number) (λ n. n ≤ limit)
+most least limit None = tt
+most least limit (Some n) = elim (leb least n && leb n limit) as (λ b. (leb least n && leb n limit) ≡ b → IfSome (if b then Some n else None) (λ m. m ≤ limit)) [
+  | true ↦ λ is. leb-true n limit (and_parts (leb least n) (leb n limit) is).1
+  | false ↦ λ is. tt
+] refl
+
+few_of_check : (b : Bool) (policy : List ℕ) → IsFew (if b then Some (OfCheck policy) else None)
+few_of_check true policy = tt
+few_of_check false policy = tt
+
+few_of_replay : (b : Bool) (policy recording : List ℕ) → IsFew (if b then Some (OfReplay policy recording) else None)
+few_of_replay true policy recording = tt
+few_of_replay false policy recording = tt
+
+few_of_gen : (seed count : Option ℕ) → IfSome count (λ n. n ≤ 1000000) → IsFew (gen_of seed count)
+few_of_gen None count few = tt
+few_of_gen (Some seed) None few = tt
+few_of_gen (Some seed) (Some count) few = few
+
+few_of_three : (is_replay is_gen : Bool) (second third : List ℕ) → IsFew (if is_replay then replay_of second third else if is_gen then gen_of (seed_of second) (rounds_of third) else None)
+few_of_three true is_gen second third = few_of_replay (is_plain second && is_plain third) second third
+few_of_three false true second third = few_of_gen (seed_of second) (rounds_of third) (most 0 1000000 (number_of third))
+few_of_three false false second third = tt
+
+few_of_serve : (command policy listen : List ℕ) (count : Option ℕ) → IsFew (serve_of command policy listen count)
+few_of_serve command policy listen None = tt
+few_of_serve command policy listen (Some count) = elim (bytes_eq command (codes "serve") && is_plain policy && is_plain listen) as (λ b. IsFew (if b then Some (OfServe policy listen count) else None)) [ true ↦ tt | false ↦ tt ]
+
+few_words : (words : List (List ℕ)) → IsFew (form_of words)
+few_words [] = tt
+few_words (a ∷ []) = tt
+few_words (command ∷ policy ∷ []) = few_of_check (bytes_eq command (codes "check") && is_plain policy) policy
+few_words (command ∷ second ∷ third ∷ []) = few_of_three (bytes_eq command (codes "replay")) (bytes_eq command (codes "gen")) second third
+few_words (command ∷ policy ∷ listen ∷ count ∷ []) = few_of_serve command policy listen (connections_of count)
+few_words (a ∷ b ∷ c ∷ d ∷ e ∷ more) = tt
+
+pub few_rounds : (words : List (List ℕ)) (seed count : ℕ) → Some (OfGen seed count) ≡ form_of words → count ≤ 1000000
+few_rounds words seed count is = subst IsFew (sym is) (few_words words)

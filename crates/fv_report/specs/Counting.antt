@@ -1,0 +1,57 @@
+-- What is told is counted (this proxy's own rule).
+use Rattle.std.specs.Prelude.{ℕ, ◌≡◌, ◌+◌, ◌==◌, Bool, true, false, if◌then◌else◌, List, [], ◌∷◌, ◌++◌, length, slice_get, Some, codes, decimal}
+use Rattle.std.specs.List.{flat_map, sum_by}
+use Rattle.fv_report.specs.declared.counter.Count.{Count}
+use Rattle.fv_report.specs.declared.counter.Counter.{Counter}
+use Rattle.flowspace.specs.declared.slices.Slice.{Slice}
+use Rattle.summary_words.specs.Summaries.{count_line, count_lines}
+use Rattle.fv_report.specs.Telling.{Line, Saying, Lane, To}
+
+-- a message more was counted
+pub record Added (message : List ℕ) (old new : Count) : Type 0 where
+  pub messages : new.messages ≡ old.messages + 1
+  pub bytes : new.bytes ≡ old.bytes + length message
+
+-- the message for the switch that is told of, if one is
+abbrev pub lane_in : Saying → List (List ℕ)
+lane_in (Lane message) = message ∷ []
+lane_in saying = []
+
+-- the message for the slice at a slot that is told of, if one is
+abbrev pub slice_in : ℕ → Saying → List (List ℕ)
+slice_in slot (To at name message) = if at == slot then message ∷ [] else []
+slice_in slot saying = []
+
+-- the messages for the switch that lines tell of
+abbrev pub lane_of : List Line → List (List ℕ)
+lane_of lines = flat_map (λ line. lane_in line.saying) lines
+
+-- those for the slice at a slot
+abbrev pub slice_of : ℕ → List Line → List (List ℕ)
+slice_of slot lines = flat_map (λ line. slice_in slot line.saying) lines
+
+-- a count is that of these messages
+pub record IsCount (all : List (List ℕ)) (count : Count) : Type 0 where
+  pub messages : count.messages ≡ length all
+  pub bytes : count.bytes ≡ sum_by (λ message. length message) all
+
+-- counts are those of the messages by slot
+abbrev pub AreCounts : (ℕ → List (List ℕ)) → List Count → Type 0
+AreCounts messages counts = (slot : ℕ) (count : Count) → slice_get counts slot ≡ Some count → IsCount (messages slot) count
+
+-- of so many slices and of the switch these messages were counted
+pub record Counts (slots : ℕ) (lane : List (List ℕ)) (slices : ℕ → List (List ℕ)) (counter : Counter) : Type 0 where
+  pub known : length counter.slices.items ≡ slots
+  pub for_lane : IsCount lane counter.lane
+  pub for_slices : AreCounts slices counter.slices.items
+
+-- what a line says is counted, where it was told whole
+abbrev pub CountsLine : Saying → Bool → Counter → Counter → Type 0
+CountsLine saying false old new = Unit {0}
+CountsLine saying true old new =
+    (slots : ℕ) (lane : List (List ℕ)) (slices : ℕ → List (List ℕ)) → Counts slots lane slices old
+    → Counts slots (lane ++ lane_in saying) (λ slot. slices slot ++ slice_in slot saying) new
+
+-- the summary of so many events with these messages
+abbrev pub summary_text : ℕ → List (List ℕ) → (ℕ → List (List ℕ)) → List Slice → List ℕ
+summary_text events lane messages slices = codes "events " ++ decimal events ++ codes "\n" ++ count_line (codes "lane") lane ++ count_lines messages 0 slices

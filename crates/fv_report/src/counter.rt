@@ -1,0 +1,85 @@
+//! The messages that are told are counted.
+
+ghost use Rattle.std.specs.Prelude.{ℕ, ◌≡◌, List, [], true, OnOk, IfOk, IfErr};
+ghost use Rattle.fv_report.specs.Telling.{To};
+ghost use Rattle.fv_report.specs.Counting.{Added, Counts, CountsLine};
+
+use crate::fault::ReportFault;
+use crate::teller::{Place, Said, Teller};
+use std::alloc::{AllocError, Global};
+
+/// How many messages there were, and how many bytes they had together.
+#[derive(Clone, Copy)]
+pub(crate) struct Count {
+    pub(crate) messages: u64,
+    pub(crate) bytes: u64,
+}
+
+impl Count {
+    const NONE: Count = Count {
+        messages: 0,
+        bytes: 0,
+    };
+
+    /// Counts a message more. A recording has far fewer than 2^64 bytes of messages.
+    fn add(&mut self, message: &[u8]) -> Result<(), ReportFault>
+        ensures added { OnOk result (Added message.now self.old self.new) }
+        ensures memory { IfErr result (λ f. f ≡ ReportFault.Memory) }
+    {
+        let messages = self.messages.checked_add(1);
+        let bytes = self.bytes.checked_add(message.len() as u64);
+        let (Some(messages), Some(bytes)) = (messages, bytes) else {
+            return Err(ReportFault::Memory);
+        };
+        *self = Count { messages, bytes };
+        Ok(())
+    }
+}
+
+/// Counts what is told of messages for the switch and for the slice at each slot.
+#[derive(Drop)]
+pub(crate) struct Counter {
+    pub(crate) lane: Count,
+    pub(crate) slices: Vec<Count>,
+}
+
+impl Counter {
+    /// Nothing was told yet.
+    pub(crate) fn new(alloc: Global, slices: u8) -> Result<Counter, AllocError>
+        ensures { IfOk result (Counts slices [] (λ slot. [])) }
+    {
+        let mut counts = Vec::new(alloc);
+        counts.resize(usize::from(slices), Count::NONE)?;
+        Ok(Counter {
+            lane: Count::NONE,
+            slices: counts,
+        })
+    }
+
+    /// Counts a message for the slice at a slot.
+    fn add_at(&mut self, slot: u8, message: &[u8]) -> Result<(), ReportFault>
+        ensures added { OnOk result ((name : List ℕ) → CountsLine (To slot name message.now) true self.old self.new) }
+        ensures memory { IfErr result (λ f. f ≡ ReportFault.Memory) }
+    {
+        match self.slices.get_mut(usize::from(slot)) {
+            Some(count) => count.add(message),
+            None => Ok(()),
+        }
+    }
+}
+
+impl Teller for Counter {
+    ghost use Rattle.fv_report.specs.Counting.{CountsLine};
+
+    ghost Tells = { λ old line whole new. CountsLine line.saying whole old new };
+
+    ghost faults = { λ counter. 0 };
+
+    fn tell(&mut self, _: Place, said: Said<'_>) -> Result<(), ReportFault> {
+        match said {
+            Said::Lane(message) => self.lane.add(message),
+            Said::To(slot, _, message) => self.add_at(slot, message),
+            Said::Close(_) | Said::Down => Ok(()),
+        }
+    }
+}
