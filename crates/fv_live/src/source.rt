@@ -1,6 +1,6 @@
 // Where bytes come from.
 
-ghost use Rattle.std.specs.Prelude.{◌≡◌, ◌≤◌, ◌<◌, ℕ, List, [], Option, Some, None, length, drop, take, min, option_map, vec_len, IfOk, OnOk, OnErr};
+ghost use Rattle.std.specs.Prelude.{◌≡◌, ◌≤◌, ◌<◌, ℕ, List, [], Option, Some, None, length, drop, take, min, option_map, vec_len, IfOk, IfSome, OnOk, OnErr};
 ghost use Rattle.std.specs.Result.{result_ok};
 ghost use Rattle.fv_base.specs.Counts.{one_more};
 ghost use Rattle.fv_base.specs.Memory.{Starts, called, moved};
@@ -17,13 +17,13 @@ pub trait Source: Drop {
     /// How often a call has failed.
     ghost faults: { Self → ℕ };
 
-    /// Moves the first bytes of what is left over the front of `into`, and answers how many. `Ok(0)` is the
-    /// end of input. After `Failed` what is left is as before.
+    /// Moves the first bytes of what is left over the front of `into`, and answers how many; where it is told,
+    /// the rest of `into` stays. `Ok(0)` is the end of input. After `Failed` what is left is as before.
     fn take(&mut self, into: &mut [u8]) -> Result<usize, Failed>
         requires { 0 < length into.old }
         ensures within { IfOk result (λ n. n ≤ length into.old) }
         ensures moved { IfOk result (λ n. Moved (left self.old) (take n into.new) (left self.new)) }
-        ensures rest { IfOk result (λ n. drop n into.new ≡ drop n into.old) }
+        ensures rest { IfOk result (λ n. IfSome (left self.old) (λ _. drop n into.new ≡ drop n into.old)) }
         ensures end { IfOk result (λ n. n ≡ 0 → IsUsedUp (left self.old)) }
         ensures refused { OnErr result (left self.new ≡ left self.old) }
         ensures cause { OnErr result (Rose (faults self.old) (faults self.new)) }

@@ -3,5 +3,7 @@
 
 pub mod laws;
 mod object;
+mod waiting;
 
 pub use object::{DeskObject, DeskOp, DeskReply};
+pub use waiting::{Waiting, bit_at, place_of};

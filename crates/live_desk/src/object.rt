@@ -1,5 +1,7 @@
+use crate::waiting::Waiting;
 use proxy_core::{Desk, Dest, Taken, Timed, Verdict};
 use std::alloc::{AllocError, Global};
+use std::sync::Arc;
 use turn_desk::Object;
 
 /// The desk of one switch, as what a turn lock keeps.
@@ -8,6 +10,8 @@ pub struct DeskObject {
     /// Where a step takes its memory.
     pub alloc: Global,
     pub desk: Desk,
+    /// Who is to be woken after a step.
+    pub waiting: Arc<Waiting, Global>,
 }
 
 /// What a desk is asked in one turn.
@@ -39,7 +43,12 @@ impl Object for DeskObject {
 
     fn act(&mut self, op: DeskOp) -> DeskReply {
         match op {
-            DeskOp::Step(timed) => DeskReply::Stepped(self.desk.step(self.alloc, timed)),
+            DeskOp::Step(timed) => {
+                let was_open = self.desk.is_open();
+                let stepped = self.desk.step(self.alloc, timed);
+                self.waiting.note(&self.desk, was_open);
+                DeskReply::Stepped(stepped)
+            }
             DeskOp::Take(dest) => DeskReply::Took(self.desk.take(dest)),
         }
     }

@@ -1,5 +1,5 @@
 -- Links, one after another.
-use Rattle.std.proofs.Common.{◌≡◌, ◌≢◌, inl, inr, ◌≤◌, ℕ, ◌+◌, List, [], ◌∷◌, ◌++◌, length, refl, ap, subst, ◌∙◌, arith}
+use Rattle.std.proofs.Common.{◌≡◌, ◌≢◌, inl, inr, ◌≤◌, ℕ, ◌+◌, Bool, true, false, if◌then◌else◌, List, [], ◌∷◌, ◌++◌, length, refl, ap, subst, ◌∙◌, arith}
 use Rattle.std.specs.Prelude.{Option, Some, None}
 use Rattle.fv_live.specs.Live.{counted}
 use Rattle.live_session.specs.Links.{RoseBy}
@@ -13,7 +13,7 @@ use Rattle.live_session.specs.declared.ends.SliceEnd.{SliceEnd}
 use Rattle.live_session.specs.declared.ends.SliceEnd.TheVariants as slice
 use Rattle.live_session.specs.Stretches.{DeskCall}
 use Rattle.live_session.specs.Takings.{View, Taking, TookOne}
-use Rattle.live_session.specs.Links.{AreEarly, Opening, LinksEnd, OverFor}
+use Rattle.live_session.specs.Links.{AreEarly, AreLinks, Opening, LinksEnd, OverFor}
 use Rattle.live_session.proofs.Wanting.{taking_more}
 
 early_more : (calls : List DeskCall) (c : DeskCall) → AreEarly calls → c.reply ≡ Took NotOpen → AreEarly (calls ++ c ∷ [])
@@ -44,15 +44,34 @@ twice : (told : Option ℕ) (n : ℕ) → counted (counted told n) 1 ≡ counted
 twice None n = refl
 twice (Some k) n = let e : (k + n) + 1 ≡ k + (n + 1) = omega arith in ap Some e
 
-one_longer : (end : ReaderEnd) (ends : List ReaderEnd) → length ends + 1 ≡ length (end ∷ ends)
-one_longer end ends = omega arith
-
-pub counted_more : (before mid after : Option ℕ) (end : ReaderEnd) (ends : List ReaderEnd) → mid ≡ counted before (length ends) → after ≡ counted mid 1 → after ≡ counted before (length (end ∷ ends))
-counted_more before mid after end ends h k = k ∙ (ap (λ t. counted t 1) h ∙ (twice before (length ends) ∙ ap (λ n. counted before n) (one_longer end ends)))
-
 pub counted_none : (told : Option ℕ) → told ≡ counted told 0
 counted_none None = refl
 counted_none (Some k) = let e : k ≡ k + 0 = omega arith in ap Some e
+
+-- the stretches so far are those of links, and one without a link where the desk was asked
+abbrev extra : Bool → ℕ
+extra asked = if asked then 1 else 0
+
+abbrev pub SoFar : Option ℕ → Bool → List ReaderEnd → Option ℕ → Type 0
+SoFar before asked ends now = (links : ℕ) × (now ≡ counted before links) × (length ends ≡ links + extra asked)
+
+pub none_yet : (told : Option ℕ) → SoFar told false [] told
+none_yet told = (0, counted_none told, refl)
+
+pub link_more : (before mid after : Option ℕ) (asked : Bool) (end : ReaderEnd) (ends : List ReaderEnd) → SoFar before asked ends mid → after ≡ counted mid 1 → SoFar before asked (end ∷ ends) after
+link_more before mid after asked end ends h k =
+    let longer : length (end ∷ ends) ≡ (h.0 + 1) + extra asked = omega (arith, h.2) in
+    (h.0 + 1, k ∙ (ap (λ t. counted t 1) h.1 ∙ twice before h.0), longer)
+
+pub ask_more : (before mid : Option ℕ) (asked : Bool) (end : ReaderEnd) (ends : List ReaderEnd) → asked ≡ false → SoFar before asked ends mid → SoFar before true (end ∷ ends) mid
+ask_more before mid asked end ends is h =
+    let was : length ends ≡ h.0 + extra false = subst (λ (b : Bool). length ends ≡ h.0 + extra b) is h.2 in
+    let longer : length (end ∷ ends) ≡ h.0 + extra true = omega (arith, was) in
+    (h.0, h.1, longer)
+
+pub are_links : (before now : Option ℕ) (asked : Bool) (ends : List ReaderEnd) → SoFar before asked ends now → AreLinks before ends now
+are_links before now true ends h = (h.0, h.1, inr h.2)
+are_links before now false ends h = let same : length ends ≡ h.0 = omega (arith, h.2) in (h.0, h.1, inl same)
 
 pub rose_none : (k old mid new : ℕ) → RoseBy k old mid → mid ≤ new → RoseBy 0 old new
 rose_none k old mid new (inl h) le = inl (omega (arith, h, le))

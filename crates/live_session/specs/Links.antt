@@ -49,6 +49,10 @@ abbrev pub Linked : Side → List ReaderEnd → Spot → Spot → Type 0
 Linked side [] a b = b ≡ a
 Linked side (end ∷ ends) a b = (mid : Spot) × Linked side ends a mid × Link side mid end b
 
+-- the stretches are those of the links that the dialler gave, and at most one without a link
+abbrev pub AreLinks : Option ℕ → List ReaderEnd → Option ℕ → Type 0
+AreLinks before ends after = (links : ℕ) × (after ≡ counted before links) × ((length ends ≡ links) ⊎ (length ends ≡ links + 1))
+
 -- how the links ended, by the answer
 abbrev pub LinksEnd : SliceEnd → List ReaderEnd → Type 0
 LinksEnd GaveUp ends = Unit {0}
@@ -64,7 +68,7 @@ OverFor (Some GaveUp) end = ⊥
 OverFor (Some DeskEnded) end = end ≡ reader.DeskEnded
 OverFor (Some Spent) end = end ≡ reader.Spent
 
--- a slice's reader: the seat's own new calls are takes until the desk is open, and then a stretch for each link that the dialler gave
+-- a slice's reader: the seat's own new calls are takes until the desk is open, and then a stretch for each link that the dialler gave, beside at most one without a link
 pub record SlicedOpen (slot : ℕ) (a : Spot) (before : Option ℕ) (end : SliceEnd) (after : Option ℕ) (b : Spot) : Type 0 where
   pub mid : Spot
   pub opening : Opening slot a.view a.left mid.view mid.left
@@ -72,7 +76,7 @@ pub record SlicedOpen (slot : ℕ) (a : Spot) (before : Option ℕ) (end : Slice
   pub ends : List ReaderEnd
   pub linked : Linked (sides.Slice slot) ends mid b
   pub ended : LinksEnd end ends
-  pub told : after ≡ counted before (length ends)
+  pub told : AreLinks before ends after
 
 -- the same, or no calls were left before the desk was open
 abbrev pub Sliced : ℕ → Spot → Option ℕ → SliceEnd → Option ℕ → Spot → Type 0

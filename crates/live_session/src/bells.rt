@@ -2,10 +2,11 @@
 
 use crate::side::Side;
 use crossbeam_utils::CachePadded;
+use live_desk::{Waiting, bit_at, place_of};
 use proxy_core::Dest;
 use std::alloc::{AllocError, Global};
-use std::sync::atomic::{AtomicU64, Ordering};
-use std::sync::{Condvar, Mutex, MutexGuard, Wait};
+use std::sync::atomic::{AtomicBool, AtomicU64, Ordering};
+use std::sync::{Arc, Condvar, Mutex, MutexGuard, Wait};
 use std::thread;
 
 // What came to one destination: how often its bell was rung, how many ups were answered, and how many writers
@@ -34,6 +35,13 @@ impl Bell {
             changed: Condvar::new(),
         }
     }
+
+    fn ring<R: Wait>(&self, rt: &R) {
+        let mut counts = self.counts.lock(rt);
+        counts.rings = counts.rings.wrapping_add(1);
+        drop(counts);
+        self.changed.notify_all();
+    }
 }
 
 /// A bell for each destination of a desk, by which those who wait for its messages are woken.
@@ -43,21 +51,17 @@ pub struct Bells {
     asleep: CachePadded<AtomicU64>,
     // Whoever asks the desk holds this one. So one ticket is drawn at a time, and the others sleep.
     hold: CachePadded<Mutex<()>>,
+    // Whether the switch's reader has ended.
+    ended: AtomicBool,
+    // Of whom the desk notes that messages wait for them.
+    waiting: Arc<Waiting, Global>,
     each: Vec<CachePadded<Bell>>,
-}
-
-// The place of the switch's bell, or of that of a slice.
-pub(crate) fn bell_of(dest: Dest) -> usize {
-    match dest {
-        Dest::Switch => 0,
-        Dest::Slice(slot) => usize::from(slot) + 1,
-    }
 }
 
 fn bell_of_side(side: Side) -> usize {
     match side {
-        Side::Switch => bell_of(Dest::Switch),
-        Side::Slice(slot) => bell_of(Dest::Slice(slot)),
+        Side::Switch => place_of(Dest::Switch),
+        Side::Slice(slot) => place_of(Dest::Slice(slot)),
     }
 }
 
@@ -72,8 +76,15 @@ impl Bells {
         Ok(Bells {
             asleep: CachePadded::new(AtomicU64::new(0)),
             hold: CachePadded::new(Mutex::new(())),
+            ended: AtomicBool::new(false),
+            waiting: Arc::new(alloc, Waiting::new(slices))?,
             each,
         })
+    }
+
+    /// What the desk of these bells is to note for whom messages wait.
+    pub fn waiting(&self) -> Result<Arc<Waiting, Global>, AllocError> {
+        Arc::try_clone(&self.waiting)
     }
 
     // The desk is asked by nobody else who takes the hold before.
@@ -82,16 +93,32 @@ impl Bells {
     }
 
     // Wakes all who sleep.
+    pub(crate) fn ring_all<R: Wait>(&self, rt: &R) {
+        if self.asleep.load(Ordering::SeqCst) != 0 {
+            let asleep = self.asleep.swap(0, Ordering::SeqCst);
+            self.ring_each(rt, asleep);
+        }
+    }
+
+    // Wakes those who sleep and for whom messages wait.
     pub(crate) fn ring<R: Wait>(&self, rt: &R) {
-        if self.asleep.load(Ordering::SeqCst) == 0 {
+        let asleep = self.asleep.load(Ordering::SeqCst);
+        if asleep == 0 {
             return;
         }
-        self.asleep.swap(0, Ordering::SeqCst);
-        for bell in &self.each {
-            let mut counts = bell.counts.lock(rt);
-            counts.rings = counts.rings.wrapping_add(1);
-            drop(counts);
-            bell.changed.notify_all();
+        let due = self.waiting.take(asleep);
+        if due != 0 {
+            self.asleep.fetch_and(!due, Ordering::SeqCst);
+            self.ring_each(rt, due);
+        }
+    }
+
+    // Rings the bells of these bits.
+    fn ring_each<R: Wait>(&self, rt: &R, bits: u64) {
+        for (place, bell) in self.each.iter().enumerate() {
+            if bits & bit_at(place) != 0 {
+                bell.ring(rt);
+            }
         }
     }
 
@@ -108,8 +135,8 @@ impl Bells {
 
     // The next ring is for this bell, too. Who then finds nothing may sleep: what comes later rings.
     pub(crate) fn lie_down(&self, at: usize) {
-        self.asleep
-            .fetch_or(1u64.wrapping_shl((at % 64) as u32), Ordering::SeqCst);
+        self.waiting.forget(at);
+        self.asleep.fetch_or(bit_at(at), Ordering::SeqCst);
     }
 
     // Sleeps until the bell was rung more often than `seen`. Who rang may go on before.
@@ -122,6 +149,17 @@ impl Bells {
             .wait_while(rt, bell.counts.lock(rt), |counts| counts.rings == seen);
         drop(counts);
         thread::yield_now();
+    }
+
+    // The reader of the side has ended. With the switch's the session has.
+    pub(crate) fn end(&self, side: Side) {
+        if side == Side::Switch {
+            self.ended.store(true, Ordering::SeqCst);
+        }
+    }
+
+    pub(crate) fn has_ended(&self) -> bool {
+        self.ended.load(Ordering::SeqCst)
     }
 
     // An up of the side was answered, or will never be asked.

@@ -47,8 +47,25 @@ fn step<R: Wait>(
     }
 }
 
-/// One event, at the moment that the clock answers, after which all bells are rung. Where the seat has no calls
-/// left the clock isn't asked.
+fn is_message(event: &Event) -> bool {
+    matches!(event, Event::SwitchMsg(_) | Event::SliceMsg(..))
+}
+
+fn goes_on(stepped: &Result<Result<Verdict, AllocError>, Spent>) -> bool {
+    matches!(stepped, Ok(Ok(Verdict::Go)))
+}
+
+// A message wakes those for whom messages wait, any other event everyone: it may be their end.
+fn wake<R: Wait>(rt: &R, bells: &Bells, is_message: bool) {
+    if is_message {
+        bells.ring(rt);
+    } else {
+        bells.ring_all(rt);
+    }
+}
+
+/// One event, at the moment that the clock answers, after which those are woken for whom it may have brought
+/// something. Where the seat has no calls left the clock isn't asked.
 fn ask<R: Wait, C: Clock>(
     rt: &R,
     desk: &TurnDesk<DeskObject>,
@@ -66,11 +83,12 @@ fn ask<R: Wait, C: Clock>(
     if seat.left() == 0 {
         return Err(Spent);
     }
+    let is_message = is_message(&event);
     let moment = clock.now();
     let hold = bells.hold(rt);
     let stepped = step(rt, desk, seat, Timed { event, moment });
     drop(hold);
-    bells.ring(rt);
+    wake(rt, bells, is_message && goes_on(&stepped));
     match stepped {
         Ok(stepped) => Ok(stepped),
         Err(_) => unreachable!(),
@@ -270,7 +288,8 @@ fn finish<R: Wait, C: Clock>(
 
 /// Reads one connection: the seat asks the desk for its up, a message for each frame of the bytes taken, in
 /// order, and its down, each at the clock's next answer. No down follows a reply that ends the connection, so
-/// that what it sent before can still be taken. Rings all bells after each of these, and at its end.
+/// that what it sent before can still be taken. After each of these it wakes the writers for which messages wait, and all of them after
+/// an up, a down, an end and at its own end.
 pub fn run_reader<
     R: Host + Net<Listener = TcpListener, Stream = TcpStream>,
     S: Source,
@@ -295,6 +314,7 @@ pub fn run_reader<
 {
     let end = begin(rt, alloc, desk, seat, source, side, clock, gate, bells);
     let end = finish(rt, desk, seat, side, clock, bells, end);
-    bells.ring(rt);
+    bells.end(side);
+    bells.ring_all(rt);
     end
 }

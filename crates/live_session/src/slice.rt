@@ -8,17 +8,17 @@ ghost use Rattle.desk_words.specs.declared.answer.Taken.TheVariants as takens;
 ghost use Rattle.live_session.specs.declared.side.Side.TheVariants as sides;
 ghost use Rattle.live_session.specs.Stretches.{spot};
 ghost use Rattle.live_session.specs.Takings.{TookOne};
-ghost use Rattle.live_session.specs.Links.{RoseBy, Opening, OpeningSpent, Link, Linked, LinksEnd, OverFor, Sliced};
+ghost use Rattle.live_session.specs.Links.{AreLinks, RoseBy, Opening, OpeningSpent, Link, Linked, LinksEnd, OverFor, Sliced};
 
-use crate::bells::{Bells, bell_of};
+use crate::bells::Bells;
 use crate::ends::{ReaderEnd, SliceEnd};
 use crate::gate::Gate;
 use crate::half::Half;
 use crate::reader::run_reader;
 use crate::side::Side;
 use crate::writer::take;
-use fv_live::{Clock, Dialer, Host};
-use live_desk::DeskObject;
+use fv_live::{Clock, Dialer, Host, NeverSource};
+use live_desk::{DeskObject, place_of};
 use proxy_core::{Dest, Taken};
 use std::alloc::Global;
 use std::net::{Net, TcpListener, TcpStream};
@@ -61,7 +61,7 @@ fn await_open<R: Wait>(
     ensures opening { OnOk result (Opening slot (view seat.old) seat.old.left (view seat.new) seat.new.left) }
     ensures spent { OnErr result (OpeningSpent slot (view seat.old) seat.old.left (view seat.new) seat.new.left) }
 {
-    let at = bell_of(Dest::Slice(slot));
+    let at = place_of(Dest::Slice(slot));
     for _ in rt.forever() {
         let seen = bells.rings(rt, at);
         bells.lie_down(at);
@@ -128,6 +128,35 @@ fn dial_once<
     Some(end)
 }
 
+/// The stretch of a link on which nothing comes, by which the desk says whether it has ended.
+fn ask_without_link<R: Host + Net<Listener = TcpListener, Stream = TcpStream>, C: Clock, G: Gate>(
+    rt: &R,
+    alloc: Global,
+    desk: &TurnDesk<DeskObject>,
+    seat: &mut TurnSeat<DeskObject>,
+    slot: u8,
+    clock: &mut C,
+    gate: &G,
+    bells: &Bells,
+) -> ReaderEnd
+    requires desk { IsSeatOf desk.now seat.old }
+    ensures desk { SameDesk seat.new seat.old }
+    ensures link { Link (sides.Slice slot) (spot seat.old (C.coming clock.old)) result (spot seat.new (C.coming clock.new)) }
+{
+    let side = Side::Slice(slot);
+    run_reader(
+        rt,
+        alloc,
+        desk,
+        seat,
+        &mut NeverSource,
+        side,
+        clock,
+        gate,
+        bells,
+    )
+}
+
 /// How a slice's reader ends by the end of a link, if it does.
 fn over_by(end: ReaderEnd) -> Option<SliceEnd>
     ensures { OverFor result end }
@@ -155,11 +184,20 @@ fn dial_on<R: Host + Net<Listener = TcpListener, Stream = TcpStream>, D: Dialer,
 ) -> SliceEnd
     requires desk { IsSeatOf desk.now seat.old }
     ensures desk { SameDesk seat.new seat.old }
-    ensures links { (ends : List ReaderEnd) × Linked (sides.Slice slot) ends (spot seat.old (C.coming clock.old)) (spot seat.new (C.coming clock.new)) × LinksEnd result ends × (D.links dialer.new ≡ counted (D.links dialer.old) (length ends)) }
+    ensures links { (ends : List ReaderEnd) × Linked (sides.Slice slot) ends (spot seat.old (C.coming clock.old)) (spot seat.new (C.coming clock.new)) × LinksEnd result ends × AreLinks (D.links dialer.old) ends (D.links dialer.new) }
     ensures gave_up { result ≡ GaveUp → RoseBy 1000 (D.faults dialer.old to.now) (D.faults dialer.new to.now) }
 {
     let mut failed = 0;
+    let mut asked = false;
     for _ in rt.forever() {
+        if !asked && bells.has_ended() {
+            let end = ask_without_link(rt, alloc, desk, seat, slot, clock, gate, bells);
+            if let Some(over) = over_by(end) {
+                return over;
+            }
+            asked = true;
+            continue;
+        }
         let Some(end) = dial_once(
             rt, alloc, desk, seat, dialer, to, failed, slot, clock, gate, half, bells,
         ) else {
@@ -180,7 +218,8 @@ fn dial_on<R: Host + Net<Listener = TcpListener, Stream = TcpStream>, D: Dialer,
 
 /// The body of a slice's reader: waits until the desk is open, and then reads one link after another as
 /// `run_reader` does. Each link's writing half goes to `half`; the next dial waits until its writer has ended.
-/// Gives up after 1,000 failed dials in a row.
+/// Gives up after 1,000 failed dials in a row. Where the switch's connection has ended between two links it doesn't
+/// dial again, but asks the desk by an up without a link.
 pub fn run_slice<
     R: Host + Net<Listener = TcpListener, Stream = TcpStream>,
     D: Dialer,

@@ -4,11 +4,11 @@ ghost use Rattle.turn_desk.specs.Seats.{IsSeatOf, SameDesk, view};
 ghost use Rattle.live_session.specs.declared.ends.WriterEnd.TheVariants.{WriteFault};
 ghost use Rattle.live_session.specs.Takings.{TookOne, Gathers, Written, in_hand};
 
-use crate::bells::{Bells, bell_of};
+use crate::bells::Bells;
 use crate::ends::WriterEnd;
 use crate::joined::append;
 use fv_base::{Failed, Sink, put_all};
-use live_desk::{DeskObject, DeskOp, DeskReply};
+use live_desk::{DeskObject, DeskOp, DeskReply, place_of};
 use of10_ctl::Frame;
 use proxy_core::{Dest, Taken};
 use std::alloc::Global;
@@ -134,7 +134,7 @@ fn write_on<R: Wait, K: Sink>(
     ensures written { Written dest (view seat.old) seat.old.left (K.contents sink.old) result (K.contents sink.new) (view seat.new) seat.new.left }
     ensures fault { result ≡ WriteFault → Rose (K.faults sink.old) (K.faults sink.new) }
 {
-    let at = bell_of(dest);
+    let at = place_of(dest);
     let mut seen = bells.rings(rt, at);
     let mut lying = false;
     for _ in rt.forever() {
@@ -188,7 +188,7 @@ pub fn run_writer<R: Wait, K: Sink>(
     ensures written { Written dest (view seat.old) seat.old.left (K.contents sink.old) result (K.contents sink.new) (view seat.new) seat.new.left }
     ensures fault { result ≡ WriteFault → Rose (K.faults sink.old) (K.faults sink.new) }
 {
-    bells.begin_writer(rt, bell_of(dest));
+    bells.begin_writer(rt, place_of(dest));
     let mut buffer = room(alloc);
     write_on(rt, desk, seat, sink, dest, bells, &mut buffer)
 }

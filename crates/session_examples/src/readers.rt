@@ -3,7 +3,7 @@ use crate::desks::{
 };
 use fv_base::MemorySink;
 use fv_live::{Clock, MemorySource};
-use live_session::{Bells, OpenGate, ReaderEnd, Side, WriterEnd, run_reader, run_writer};
+use live_session::{OpenGate, ReaderEnd, Side, WriterEnd, run_reader, run_writer};
 use proxy_core::{Dest, Event, Taken, Verdict};
 use samples::bytes;
 use std::test::Fail;
@@ -11,10 +11,9 @@ use std::test::Fail;
 #[test]
 fn messages_are_asked_whatever_the_pieces_are(rt: HostRuntime) -> Result<(), Fail> {
     let alloc = rt.alloc();
-    let (desk, mut seat) = desk(alloc)?;
+    let (desk, mut seat, bells) = desk(alloc)?;
     let mut reader = desk.split(&mut seat, 100);
     let mut writer = desk.split(&mut seat, 100);
-    let bells = Bells::new(alloc, 2)?;
     open(&rt, alloc, &desk, &mut seat)?;
     let mut source = source(alloc, &[ECHO, FIRST_VERSION, ECHO], Vec::new(alloc))?;
     let mut clock = clock(alloc)?;
@@ -45,9 +44,8 @@ fn messages_are_asked_whatever_the_pieces_are(rt: HostRuntime) -> Result<(), Fai
 #[test]
 fn source_that_is_closed_takes_the_switch_down(rt: HostRuntime) -> Result<(), Fail> {
     let alloc = rt.alloc();
-    let (desk, mut seat) = desk(alloc)?;
+    let (desk, mut seat, bells) = desk(alloc)?;
     let mut reader = desk.split(&mut seat, 100);
-    let bells = Bells::new(alloc, 2)?;
     let mut told = Vec::from_slice(alloc, features(alloc)?.as_slice())?;
     told.extend_from_slice(&[1, 2, 0])?;
     let mut source = MemorySource::new(told, 3, Vec::new(alloc));
@@ -78,9 +76,8 @@ fn source_that_is_closed_takes_the_switch_down(rt: HostRuntime) -> Result<(), Fa
 #[test]
 fn source_that_fails_takes_the_switch_down(rt: HostRuntime) -> Result<(), Fail> {
     let alloc = rt.alloc();
-    let (desk, mut seat) = desk(alloc)?;
+    let (desk, mut seat, bells) = desk(alloc)?;
     let mut reader = desk.split(&mut seat, 100);
-    let bells = Bells::new(alloc, 2)?;
     let mut source = source(alloc, &[ECHO, ECHO], vec![in alloc; 4]?)?;
     let mut clock = clock(alloc)?;
     let side = Side::Switch;
@@ -110,10 +107,9 @@ fn source_that_fails_takes_the_switch_down(rt: HostRuntime) -> Result<(), Fail> 
 #[test]
 fn desk_that_has_ended_ends_its_readers_and_writers(rt: HostRuntime) -> Result<(), Fail> {
     let alloc = rt.alloc();
-    let (desk, mut seat) = desk(alloc)?;
+    let (desk, mut seat, bells) = desk(alloc)?;
     let mut reader = desk.split(&mut seat, 100);
     let mut writer = desk.split(&mut seat, 100);
-    let bells = Bells::new(alloc, 2)?;
     open(&rt, alloc, &desk, &mut seat)?;
     assert_eq!(rt;
         step(&rt, &desk, &mut seat, Event::SwitchDown),
@@ -147,9 +143,8 @@ fn desk_that_has_ended_ends_its_readers_and_writers(rt: HostRuntime) -> Result<(
 #[test]
 fn reader_ends_once_its_calls_are_spent(rt: HostRuntime) -> Result<(), Fail> {
     let alloc = rt.alloc();
-    let (desk, mut seat) = desk(alloc)?;
+    let (desk, mut seat, bells) = desk(alloc)?;
     let mut reader = desk.split(&mut seat, 2);
-    let bells = Bells::new(alloc, 2)?;
     let mut source = source(alloc, &[ECHO, ECHO], Vec::new(alloc))?;
     let mut clock = clock(alloc)?;
     let side = Side::Switch;

@@ -1,15 +1,14 @@
 use crate::desks::{clock, desk, open};
 use fv_base::MemorySink;
 use fv_live::{MemoryDialer, MemorySource};
-use live_session::{Bells, Half, OpenGate, SliceEnd, run_slice};
+use live_session::{Half, OpenGate, SliceEnd, run_slice};
 use std::test::Fail;
 
 #[test]
 fn reader_gives_up_after_a_thousand_dials(rt: HostRuntime) -> Result<(), Fail> {
     let alloc = rt.alloc();
-    let (desk, mut seat) = desk(alloc)?;
+    let (desk, mut seat, bells) = desk(alloc)?;
     let mut reader = desk.split(&mut seat, 100);
-    let bells = Bells::new(alloc, 2)?;
     open(&rt, alloc, &desk, &mut seat)?;
     let mut dialer = MemoryDialer::<MemorySource, MemorySink>::new(alloc, None);
     let half = Half::new(alloc)?;

@@ -1,7 +1,7 @@
 use crate::desks::{ECHO, FIRST_VERSION, TO_DISMISSED, clock, desk, open, source};
 use fv_base::MemorySink;
 use fv_live::MemorySource;
-use live_session::{Bells, OpenGate, ReaderEnd, Side, WriterEnd, run_reader, run_writer};
+use live_session::{OpenGate, ReaderEnd, Side, WriterEnd, run_reader, run_writer};
 use of10_ctl::message;
 use proxy_core::Dest;
 use samples::bytes;
@@ -11,9 +11,8 @@ use std::test::Fail;
 #[test]
 fn sink_that_fails_took_a_beginning(rt: HostRuntime) -> Result<(), Fail> {
     let alloc = rt.alloc();
-    let (desk, mut seat) = desk(alloc)?;
+    let (desk, mut seat, bells) = desk(alloc)?;
     let mut reader = desk.split(&mut seat, 100);
-    let bells = Bells::new(alloc, 2)?;
     open(&rt, alloc, &desk, &mut seat)?;
     let mut source = source(alloc, &[ECHO, FIRST_VERSION], Vec::new(alloc))?;
     let mut clock = clock(alloc)?;
@@ -54,10 +53,9 @@ fn questions(alloc: Global, count: u32) -> Result<Vec<u8>, AllocError> {
 #[test]
 fn writer_of_a_slice_that_reads_too_slowly_is_choked(rt: HostRuntime) -> Result<(), Fail> {
     let alloc = rt.alloc();
-    let (desk, mut seat) = desk(alloc)?;
+    let (desk, mut seat, bells) = desk(alloc)?;
     // The up and the questions, but no down.
     let mut reader = desk.split(&mut seat, 66);
-    let bells = Bells::new(alloc, 2)?;
     open(&rt, alloc, &desk, &mut seat)?;
     let asked = questions(alloc, 65)?;
     let mut source = MemorySource::new(asked, 100_000, Vec::new(alloc));
@@ -86,10 +84,9 @@ fn writer_of_a_slice_that_reads_too_slowly_is_choked(rt: HostRuntime) -> Result<
 #[test]
 fn writer_ends_once_its_calls_are_spent(rt: HostRuntime) -> Result<(), Fail> {
     let alloc = rt.alloc();
-    let (desk, mut seat) = desk(alloc)?;
+    let (desk, mut seat, bells) = desk(alloc)?;
     let mut reader = desk.split(&mut seat, 100);
     let mut writer = desk.split(&mut seat, 1);
-    let bells = Bells::new(alloc, 2)?;
     open(&rt, alloc, &desk, &mut seat)?;
     let mut source = source(alloc, &[ECHO, FIRST_VERSION], Vec::new(alloc))?;
     let mut clock = clock(alloc)?;

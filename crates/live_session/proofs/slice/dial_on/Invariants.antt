@@ -1,10 +1,10 @@
-use Rattle.std.proofs.Common.{◌≡◌, ◌<◌, List, length}
-use Rattle.fv_live.specs.Live.{counted}
+use Rattle.std.proofs.Common.{◌≡◌, ◌<◌, List}
 use Rattle.live_session.specs.Links.{RoseBy}
 use Rattle.live_session.specs.declared.ends.ReaderEnd.{ReaderEnd}
 use Rattle.live_session.specs.declared.side.Side.TheVariants.{Slice}
 use Rattle.live_session.specs.Stretches.{spot}
 use Rattle.live_session.specs.Links.{Linked}
+use Rattle.live_session.proofs.Linking.{SoFar}
 use Rattle.live_session.proofs.slice.dial_on.Given as goal
 
 abbrev pub invariant-loop : goal.invariant-loop
@@ -14,5 +14,5 @@ invariant-loop g l = record {
   desk : l.seat.seat.table_id ≡ l.fn.seat.seat.table_id;
   few : l.failed < 1000;
   rose : RoseBy l.failed (g.D.Dialer.faults l.fn.dialer l.to) (g.D.Dialer.faults l.dialer l.to);
-  links : (ends : List ReaderEnd) × Linked (Slice l.slot) ends (spot l.fn.seat (g.C.Clock.coming l.fn.clock)) (spot l.seat (g.C.Clock.coming l.clock)) × (g.D.Dialer.links l.dialer ≡ counted (g.D.Dialer.links l.fn.dialer) (length ends));
+  links : (ends : List ReaderEnd) × Linked (Slice l.slot) ends (spot l.fn.seat (g.C.Clock.coming l.fn.clock)) (spot l.seat (g.C.Clock.coming l.clock)) × SoFar (g.D.Dialer.links l.fn.dialer) l.asked ends (g.D.Dialer.links l.dialer);
 }
