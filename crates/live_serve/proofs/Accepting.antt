@@ -1,5 +1,5 @@
 -- Connections that are accepted one after another, and the groups of works that are started for them.
-use Rattle.std.proofs.Common.{◌≡◌, ◌≤◌, ◌<◌, ℕ, zero, suc, ◌+◌, List, [], ◌++◌, refl, sym, ap, subst, ◌∙◌, append_assoc, append-nil, add-one, arith, inl, inr, ◌⊎◌}
+use Rattle.std.proofs.Common.{◌≡◌, ◌≤◌, ◌<◌, ℕ, zero, suc, ◌+◌, List, ◌++◌, refl, sym, ap, subst, ◌∙◌, append_assoc, append-nil, add-one, arith, inl, inr, ◌⊎◌}
 use Rattle.std.specs.Prelude.{Option, Some, None}
 use Rattle.fv_live.specs.Live.{counted}
 use Rattle.fv_live.specs.Roles.{Role, started}
@@ -8,7 +8,6 @@ use Rattle.fv_base.specs.Told.{Rose}
 use Rattle.live_serve.specs.declared.group.StartFault.{StartFault}
 use Rattle.live_serve.specs.declared.group.StartFault.TheVariants.{Start, Memory}
 use Rattle.live_serve.specs.declared.accept.RunEnd.{RunEnd}
-use Rattle.live_serve.specs.declared.accept.RunEnd.TheVariants.{Done, NoMemory, WireFault, NoThread}
 use Rattle.live_serve.specs.Running.{Outside, Opened, Begun, Served, EndsBy, IsRunCause}
 use Rattle.live_serve.proofs.Starting.{started_none, started_more, partly_more}
 

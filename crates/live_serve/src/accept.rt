@@ -40,7 +40,7 @@ fn is_full<R: Wait>(rt: &R, sessions: &Sessions, begun: u32) -> bool
     begun >= SESSIONS && sessions.running(rt) >= SESSIONS
 }
 
-/// Starts the works of one connection, and gives them its halves where all were started.
+/// Starts the works of one connection. Where all were started, a session more runs, and they are given its halves.
 fn open<
     R: Host + Net<Listener = TcpListener, Stream = TcpStream>,
     N: Wires,
@@ -72,7 +72,6 @@ fn open<
     let Ok((connection, mut seat)) = Connection::<N>::new(alloc, policy, theirs) else {
         return Err(StartFault::Memory);
     };
-    sessions.begin(rt);
     let slices = policy.slices();
     if let Err(fault) = start_group(
         rt,
@@ -88,6 +87,7 @@ fn open<
         connection.cancel(rt);
         return Err(fault);
     }
+    sessions.begin(rt);
     connection.begin(rt, source, sink);
     Ok(())
 }

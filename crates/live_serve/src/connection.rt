@@ -85,12 +85,13 @@ impl<N: Wires> Connection<N> {
         ensures calls { IfOk result (λ made. made.1.left ≡ 2 ^ 63) }
     {
         let slices = policy.slice_count();
+        let bells = Bells::new(alloc, slices)?;
         let object = DeskObject {
             alloc,
             desk: Desk::new(alloc, policy.copy(alloc)?),
+            waiting: bells.waiting()?,
         };
         let (desk, seat) = TurnDesk::new(alloc, object)?;
-        let bells = Bells::new(alloc, slices)?;
         let connection = Connection {
             alloc,
             desk,

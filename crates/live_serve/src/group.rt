@@ -115,13 +115,8 @@ fn start_pair<
     let Ok(reader) = slice_reader(alloc, slot, address, wires.dialer(), clock, gate) else {
         return Err(StartFault::Memory);
     };
-    if let Err(fault) = start_one(rt, connection, seat, reader, spawner) {
-        return Err(fault);
-    }
-    match start_one(rt, connection, seat, Job::WriteSlice(slot), spawner) {
-        Ok(()) => Ok(()),
-        Err(fault) => Err(fault),
-    }
+    start_one(rt, connection, seat, reader, spawner)?;
+    start_one(rt, connection, seat, Job::WriteSlice(slot), spawner)
 }
 
 /// Starts the readers and the writers of all slices.
@@ -153,7 +148,7 @@ fn start_slices<
     ensures count { P.faults spawner.old ≤ P.faults spawner.new }
 {
     for (i, slice) in slices.iter().enumerate() {
-        if let Err(fault) = start_pair(
+        start_pair(
             rt,
             alloc,
             connection,
@@ -164,9 +159,7 @@ fn start_slices<
             clock,
             gate,
             spawner,
-        ) {
-            return Err(fault);
-        }
+        )?;
     }
     Ok(())
 }
@@ -208,13 +201,8 @@ fn start_switch<
     let Ok(reader) = switch_reader(clock, gate) else {
         return Err(StartFault::Memory);
     };
-    if let Err(fault) = start_one(rt, connection, seat, reader, spawner) {
-        return Err(fault);
-    }
-    match start_one(rt, connection, seat, Job::WriteSwitch, spawner) {
-        Ok(()) => Ok(()),
-        Err(fault) => Err(fault),
-    }
+    start_one(rt, connection, seat, reader, spawner)?;
+    start_one(rt, connection, seat, Job::WriteSwitch, spawner)
 }
 
 /// Starts the works of one connection.
@@ -245,13 +233,8 @@ pub(crate) fn start_group<
     ensures cause { IfErr result (λ fault. fault ≡ Start → Rose (P.faults spawner.old) (P.faults spawner.new)) }
     ensures count { P.faults spawner.old ≤ P.faults spawner.new }
 {
-    if let Err(fault) = start_switch(rt, connection, seat, clock, gate, spawner) {
-        return Err(fault);
-    }
-    match start_slices(
+    start_switch(rt, connection, seat, clock, gate, spawner)?;
+    start_slices(
         rt, alloc, connection, seat, wires, slices, clock, gate, spawner,
-    ) {
-        Ok(()) => Ok(()),
-        Err(fault) => Err(fault),
-    }
+    )
 }

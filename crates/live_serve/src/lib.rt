@@ -1,9 +1,12 @@
-//! The live proxy: the works of a connection, and how groups of them are started.
+//! The live proxy: the works of a connection, how groups of them are started, and the call that serves.
 #![tactic(auto)]
 
 mod accept;
 mod connection;
+mod finish;
 mod group;
+mod program;
 mod work;
 
+pub use program::serve;
 pub use work::SessionWork;

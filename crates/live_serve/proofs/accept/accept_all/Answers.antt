@@ -1,9 +1,9 @@
-use Rattle.std.proofs.Common.{◌≡◌, ◌≤◌, ◌+◌, ℕ, List, refl, sym, ap, subst, ◌∙◌, arith, map, inl, inr}
+use Rattle.std.proofs.Common.{refl, subst, ◌∙◌, arith, map, inl}
 use Rattle.fv_base.specs.Told.{Rose}
 use Rattle.live_serve.specs.Roles.{controller_of}
 use Rattle.live_serve.specs.Running.{outside}
 use Rattle.live_serve.proofs.Starting.{rose_later}
-use Rattle.live_serve.proofs.Accepting.{opened_none, opened_closed, opened_more, begun_whole, begun_part, served, not_started, enough_more}
+use Rattle.live_serve.proofs.Accepting.{opened_none, opened_more, begun_whole, begun_part, served, not_started, enough_more}
 use Rattle.live_serve.proofs.accept.accept_all.Goals as goal
 
 pub returns-in_default-clause-cause : goal.returns-in_default-clause-cause

@@ -1,4 +1,4 @@
-use Rattle.std.proofs.Common.{◌≡◌, refl, map}
+use Rattle.std.proofs.Common.{refl, map}
 use Rattle.live_serve.specs.Roles.{controller_of, group}
 use Rattle.live_serve.proofs.Starting.{partly_none}
 use Rattle.live_serve.proofs.accept.open.Goals as goal

@@ -1,4 +1,3 @@
-use Rattle.std.proofs.Common.{◌≡◌}
 use Rattle.turn_desk.specs.Seats.{SameDesk}
 use Rattle.live_serve.proofs.work.write_links.Given as goal
 

@@ -1,0 +1,61 @@
+-- Causes of a finish, seen at other names of the same moments, and what they say where no count rose.
+use Rattle.std.proofs.Common.{◌≡◌, ◌≤◌, ℕ, List, length, refl, sym, ap, subst, arith, inl, inr, ◌⊎◌, ◌∙◌}
+use Rattle.std.specs.Prelude.{Option, Some, None, Ok, Err}
+use Rattle.fv_base.specs.Words.{FormBytes, OfCheck, OfReplay, OfGen, OfServe}
+use Rattle.fv_live.specs.Roles.{Role}
+use Rattle.flowspace.specs.Policies.{PolicyView}
+use Rattle.policy_text.specs.declared.fault.ReadFault.{ReadFault}
+use Rattle.policy_text.specs.Documents.{document_of, policy_of}
+use Rattle.fv_cli.specs.declared.ending.Ending.TheVariants as early
+use Rattle.fv_cli.specs.Endings.{PolicySays, PassesLimit, policy_limit}
+use Rattle.live_serve.specs.declared.accept.RunEnd.TheVariants.{Done, NoMemory, WireFault, NoThread}
+use Rattle.live_serve.specs.declared.finish.Finish.{Finish}
+use Rattle.live_serve.specs.declared.finish.Finish.TheVariants.{Early, Ran}
+use Rattle.live_serve.specs.Running.{Outside, outside}
+use Rattle.live_serve.specs.Serving.{Reads, Places, Causes, IsServeCause, IsReadyPolicy, AreCalm, Completes, status_of}
+
+-- the spawner told the same at the end
+pub cause_kept : (w : Reads) (a : Places) (accepted : Option ℕ) (roles roles' : Option (List Role)) (h : List ℕ → ℕ) (s s' : ℕ) (form : Option FormBytes) (finish : Finish) →
+    roles' ≡ roles → s' ≡ s →
+    Causes w a (λ at. outside accepted roles (h at) s) form finish →
+    Causes w a (λ at. outside accepted roles' (h at) s') form finish
+cause_kept w a accepted roles roles' h s s' form finish same calm cause =
+    let told = subst (λ r. Causes w a (λ at. outside accepted r (h at) s) form finish) (sym same) cause in
+    subst (λ n. Causes w a (λ at. outside accepted roles' (h at) n) form finish) (sym calm) told
+
+-- ---- completeness
+
+-- a file that was read passes no limit
+read_within : (bytes : List ℕ) (said : PolicyView) → PolicySays (Ok said) (Some bytes) → PassesLimit policy_limit (Some bytes) → ⊥
+read_within bytes said (read, were, says) passes =
+    let within : length bytes ≤ policy_limit = subst (λ b. length b ≤ policy_limit) were.whole were.within in
+    absurd (omega (arith, within, passes))
+
+-- a text that says a policy isn't refused
+not_refused : (bytes : List ℕ) (p : PolicyView) (fault : ReadFault) → PolicySays (Ok p) (Some bytes) → PolicySays (Err fault) (Some bytes) → ⊥
+not_refused bytes p fault (read, were, says) (again, were', refused) =
+    let e : Err fault ≡ Ok p = sym refused ∙ (ap (λ b. policy_of (document_of b)) (were'.whole ∙ sym were.whole) ∙ says) in
+    absurd cc
+
+-- with a policy that is ready, all was done or memory ran out
+complete_run : (w : Reads) (policy : List ℕ) (count : ℕ) (a b : Outside) (finish : Finish) → IsServeCause w policy count a b finish → IsReadyPolicy w policy → AreCalm a b → (status_of finish ≡ 0) ⊎ (status_of finish ≡ 6)
+complete_run w policy count a b (Ran Done) cause ready calm = inl refl
+complete_run w policy count a b (Ran NoMemory) cause ready calm = inr refl
+complete_run w policy count a b (Ran WireFault) cause ready calm = absurd (calm.wires cause.2.1)
+complete_run w policy count a b (Ran NoThread) cause ready calm = absurd (calm.starts cause.2.1)
+complete_run w policy count a b (Early early.Done) cause ready calm = inl refl
+complete_run w policy count a b (Early early.Usage) cause ready calm = absurd cause.0
+complete_run w policy count a b (Early early.ReadFault) cause ready calm = absurd (ready.calm cause.0)
+complete_run w policy count a b (Early early.WriteFault) cause ready calm = absurd cause.0
+complete_run w policy count a b (Early early.NoMemory) cause ready calm = inr refl
+complete_run w policy count a b (Early early.NoMemoryToRun) cause ready calm = inr refl
+complete_run w policy count a b (Early early.TooLarge) cause ready calm = absurd (read_within ready.bytes ready.p ready.says (subst (λ file. PassesLimit policy_limit file) ready.told cause.0))
+complete_run w policy count a b (Early (early.PolicyRefused fault)) cause ready calm = absurd (not_refused ready.bytes ready.p fault ready.says (subst (λ file. PolicySays (Err fault) file) ready.told cause.0))
+complete_run w policy count a b (Early (early.RecordingRefused fault)) cause ready calm = absurd cause.0
+
+pub complete : (w : Reads) (a b : Places) (form : Option FormBytes) (finish : Finish) → Causes w a b form finish → Completes w a b form (status_of finish)
+complete w a b None finish cause ready = absurd ready
+complete w a b (Some (OfCheck policy)) finish cause ready = absurd ready
+complete w a b (Some (OfReplay policy recording)) finish cause ready = absurd ready
+complete w a b (Some (OfGen seed count)) finish cause ready = absurd ready
+complete w a b (Some (OfServe policy listen count)) finish cause ready = complete_run w policy count (a listen) (b listen) finish cause ready.0 ready.1

@@ -1,0 +1,169 @@
+// The program's call `serve`.
+
+ghost use Rattle.std.specs.Prelude.{◌≡◌, map, false};
+ghost use Rattle.fv_base.specs.Words.{form_of};
+ghost use Rattle.live_serve.specs.Roles.{controller_of};
+ghost use Rattle.live_serve.specs.Running.{outside, IsRunCause};
+ghost use Rattle.live_serve.specs.Serving.{IsServeCause, Causes, LeavesReads, Ended, Completes};
+
+use crate::accept::{RunEnd, accept_all};
+use crate::finish::Finish;
+use crate::work::SessionWork;
+use flowspace::Policy;
+use fv_base::{Files, Form, Sink, Words, WordsFault, read_words};
+use fv_cli::{Ending, load_policy};
+use fv_live::{Clock, Host, Spawner, Wires};
+use live_session::Gate;
+use std::alloc::Global;
+use std::net::{Net, TcpListener, TcpStream};
+
+/// Listens at the place, and accepts so many connections there.
+fn run<
+    R: Host + Net<Listener = TcpListener, Stream = TcpStream>,
+    N: Wires,
+    C: Clock + Clone,
+    G: Gate + Clone,
+    P: Spawner<SessionWork<N, C, G>>,
+>(
+    rt: &R,
+    alloc: Global,
+    policy: &Policy,
+    listen: &str,
+    count: u32,
+    wires: &mut N,
+    clock: &C,
+    gate: &G,
+    spawner: &mut P,
+) -> RunEnd
+    requires silent { N.listens wires.old ≡ false }
+    requires can { P.can_start spawner.old }
+    ensures can { P.can_start spawner.new }
+    ensures cause { IsRunCause (map controller_of policy.now.slices) count (outside (N.accepted wires.old) (P.roles spawner.old) (N.faults wires.old listen.now) (P.faults spawner.old)) (outside (N.accepted wires.new) (P.roles spawner.new) (N.faults wires.new listen.now) (P.faults spawner.new)) result }
+{
+    let Ok(()) = wires.listen(rt, listen) else {
+        return RunEnd::WireFault;
+    };
+    accept_all(rt, alloc, policy, count, wires, clock, gate, spawner)
+}
+
+/// Serves with the policy at a path.
+fn serve_with<
+    R: Host + Net<Listener = TcpListener, Stream = TcpStream>,
+    F: Files,
+    N: Wires,
+    C: Clock + Clone,
+    G: Gate + Clone,
+    P: Spawner<SessionWork<N, C, G>>,
+>(
+    rt: &R,
+    alloc: Global,
+    policy: &str,
+    listen: &str,
+    count: u32,
+    files: &mut F,
+    wires: &mut N,
+    clock: &C,
+    gate: &G,
+    spawner: &mut P,
+) -> Finish
+    requires silent { N.listens wires.old ≡ false }
+    requires can { P.can_start spawner.old }
+    ensures can { P.can_start spawner.new }
+    ensures cause { IsServeCause (record { files = F.contents files.old; before = F.faults files.old; after = F.faults files.new }) policy.now count (outside (N.accepted wires.old) (P.roles spawner.old) (N.faults wires.old listen.now) (P.faults spawner.old)) (outside (N.accepted wires.new) (P.roles spawner.new) (N.faults wires.new listen.now) (P.faults spawner.new)) result }
+    ensures reads { LeavesReads result (F.faults files.old) (F.faults files.new) }
+{
+    let policy = match load_policy(alloc, files, policy) {
+        Ok(policy) => policy,
+        Err(ending) => return Finish::Early(ending),
+    };
+    // A call on the policy tells the proof that it is accepted.
+    let _slices = policy.slices();
+    let end = run(
+        rt, alloc, &policy, listen, count, wires, clock, gate, spawner,
+    );
+    Finish::Ran(end)
+}
+
+/// Does what the words ask for.
+fn decide<
+    R: Host + Net<Listener = TcpListener, Stream = TcpStream>,
+    F: Files,
+    N: Wires,
+    C: Clock + Clone,
+    G: Gate + Clone,
+    P: Spawner<SessionWork<N, C, G>>,
+>(
+    rt: &R,
+    alloc: Global,
+    words: &Words,
+    files: &mut F,
+    wires: &mut N,
+    clock: &C,
+    gate: &G,
+    spawner: &mut P,
+) -> Finish
+    requires silent { N.listens wires.old ≡ false }
+    requires can { P.can_start spawner.old }
+    ensures can { P.can_start spawner.new }
+    ensures cause { Causes (record { files = F.contents files.old; before = F.faults files.old; after = F.faults files.new }) (λ at. outside (N.accepted wires.old) (P.roles spawner.old) (N.faults wires.old at) (P.faults spawner.old)) (λ at. outside (N.accepted wires.new) (P.roles spawner.new) (N.faults wires.new at) (P.faults spawner.new)) (form_of words.now) result }
+    ensures reads { LeavesReads result (F.faults files.old) (F.faults files.new) }
+{
+    match read_words(words) {
+        Ok(
+            Form::Serve {
+                policy,
+                listen,
+                count,
+            },
+        ) => serve_with(
+            rt, alloc, policy, listen, count, files, wires, clock, gate, spawner,
+        ),
+        Ok(Form::Check { .. }) => Finish::Early(Ending::Usage),
+        Ok(Form::Replay { .. }) => Finish::Early(Ending::Usage),
+        Ok(Form::Gen { .. }) => Finish::Early(Ending::Usage),
+        Err(WordsFault::Usage) => Finish::Early(Ending::Usage),
+    }
+}
+
+/// Does `serve POLICY LISTEN COUNT`: listens at LISTEN, accepts COUNT connections of switches, and runs a session
+/// under the policy for each, at most 16 at once: a connection that is accepted while 16 run is closed. Each
+/// session's works run on threads that `spawner` starts, with clones of the clock and of the gate. It waits until
+/// all of them have ended, and then answers the exit status. Each status but 0 has a line, which goes to `err`.
+///
+/// | status | means |
+/// |---|---|
+/// | 0 | COUNT connections were accepted, and their sessions have ended |
+/// | 1 | the words aren't of this form |
+/// | 2 | the policy was read and is refused; the line says why and where |
+/// | 4, 6, 7 | the policy can't be read; no memory; the policy is larger than 1 MiB |
+/// | 9, 10 | it couldn't listen or accept; a thread wasn't started |
+pub fn serve<
+    R: Host + Net<Listener = TcpListener, Stream = TcpStream>,
+    F: Files,
+    N: Wires,
+    C: Clock + Clone,
+    G: Gate + Clone,
+    P: Spawner<SessionWork<N, C, G>>,
+    E: Sink,
+>(
+    rt: &R,
+    alloc: Global,
+    words: &Words,
+    files: &mut F,
+    wires: &mut N,
+    clock: &C,
+    gate: &G,
+    spawner: &mut P,
+    err: &mut E,
+) -> u8
+    requires silent { N.listens wires.old ≡ false }
+    requires can { P.can_start spawner.old }
+    ensures can { P.can_start spawner.new }
+    ensures ended { Ended (record { files = F.contents files.old; before = F.faults files.old; after = F.faults files.new }) (λ at. outside (N.accepted wires.old) (P.roles spawner.old) (N.faults wires.old at) (P.faults spawner.old)) (λ at. outside (N.accepted wires.new) (P.roles spawner.new) (N.faults wires.new at) (P.faults spawner.new)) words.now (E.contents err.old) (E.contents err.new) (E.faults err.old) (E.faults err.new) result }
+    ensures complete { Completes (record { files = F.contents files.old; before = F.faults files.old; after = F.faults files.new }) (λ at. outside (N.accepted wires.old) (P.roles spawner.old) (N.faults wires.old at) (P.faults spawner.old)) (λ at. outside (N.accepted wires.new) (P.roles spawner.new) (N.faults wires.new at) (P.faults spawner.new)) (form_of words.now) result }
+{
+    let finish = decide(rt, alloc, words, files, wires, clock, gate, spawner);
+    spawner.finish(rt);
+    finish.say(err);
+    finish.status()
+}
