@@ -3,11 +3,11 @@ use Rattle.std.proofs.Common.{◌≡◌, ℕ, ◌==◌, ◌&&◌, if◌then◌el
 use Rattle.std.proofs.lemmas.Bool.{cases_Bool}
 use Rattle.fv_base.specs.Told.{appended, IsPrefix, Rose}
 use Rattle.fv_base.proofs.Appending.{appended_none}
-use Rattle.fv_base.specs.Words.{FormBytes, OfCheck, OfReplay, form_of}
+use Rattle.fv_base.specs.Words.{FormBytes, OfCheck, OfReplay, OfGen, OfServe, form_of}
 use Rattle.fv_cli.specs.declared.ending.Ending.{Ending}
 use Rattle.fv_cli.specs.declared.ending.Ending.TheVariants.{Done, Usage, ReadFault, WriteFault, NoMemory, NoMemoryToRun, TooLarge, PolicyRefused, RecordingRefused}
-use Rattle.fv_cli.specs.Endings.{status_of, line_of, IsPut, Outside, Ended, Causes, IsCheckCause, IsReplayCause}
-use Rattle.flowvisor.specs.Asked.{Suits, EndedSo, is_of_check}
+use Rattle.fv_cli.specs.Endings.{status_of, line_of, IsPut, Outside, Ended, Causes, IsCheckCause, IsReplayCause, IsGenEnding}
+use Rattle.flowvisor.specs.Asked.{Suits, EndedSo, is_of_check, is_of_gen}
 
 -- ---- lines
 
@@ -44,6 +44,8 @@ pub memory_suits : (form : Option FormBytes) → Suits None form NoMemory
 memory_suits None = inr refl
 memory_suits (Some (OfCheck policy)) = refl
 memory_suits (Some (OfReplay policy recording)) = λ e. cc
+memory_suits (Some (OfGen seed count)) = refl
+memory_suits (Some (OfServe policy listen count)) = inr refl
 
 check_suits : (w : Outside) (policy : List ℕ) (ending : Ending) → IsCheckCause w policy ending → is_of_check ending ≡ true
 check_suits w policy Done cause = refl
@@ -56,10 +58,23 @@ check_suits w policy TooLarge cause = refl
 check_suits w policy (PolicyRefused fault) cause = refl
 check_suits w policy (RecordingRefused fault) cause = absurd cause
 
+gen_suits : (text : List ℕ) (before after : Option (List ℕ)) (count_before count_after : ℕ) (ending : Ending) → IsGenEnding text before after count_before count_after ending → is_of_gen ending ≡ true
+gen_suits text before after count_before count_after Done cause = refl
+gen_suits text before after count_before count_after Usage cause = absurd cause
+gen_suits text before after count_before count_after ReadFault cause = absurd cause
+gen_suits text before after count_before count_after WriteFault cause = refl
+gen_suits text before after count_before count_after NoMemory cause = refl
+gen_suits text before after count_before count_after NoMemoryToRun cause = refl
+gen_suits text before after count_before count_after TooLarge cause = absurd cause
+gen_suits text before after count_before count_after (PolicyRefused fault) cause = absurd cause
+gen_suits text before after count_before count_after (RecordingRefused fault) cause = absurd cause
+
 cause_suits : (w : Outside) (form : Option FormBytes) (ending : Ending) → Causes w form ending → Suits None form ending
 cause_suits w None ending cause = inl cause
 cause_suits w (Some (OfCheck policy)) ending cause = check_suits w policy ending cause
 cause_suits w (Some (OfReplay policy recording)) ending cause = λ is. subst (λ e. IsReplayCause w policy recording e) is cause
+cause_suits w (Some (OfGen seed count)) ending cause = gen_suits _ w.out_before w.out_after w.put_before w.put_after ending cause
+cause_suits w (Some (OfServe policy listen count)) ending cause = inl cause
 
 -- a run that went well, and whose flush failed
 fault_suits : (form : Option FormBytes) → Suits None form Done → Suits None form WriteFault
@@ -67,6 +82,9 @@ fault_suits None (inl e) = absurd (cc)
 fault_suits None (inr e) = absurd (cc)
 fault_suits (Some (OfCheck policy)) _ = refl
 fault_suits (Some (OfReplay policy recording)) _ = λ e. cc
+fault_suits (Some (OfGen seed count)) _ = refl
+fault_suits (Some (OfServe policy listen count)) (inl e) = absurd (cc)
+fault_suits (Some (OfServe policy listen count)) (inr e) = absurd (cc)
 
 only_done : (ending : Ending) (failed : Bool) → (status_of ending == 0 && failed) ≡ true → ending ≡ Done
 only_done Done failed e = refl

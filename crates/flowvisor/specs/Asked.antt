@@ -1,6 +1,6 @@
 -- What words ask for, and how what they ask for may end. All of this is the program's own rule.
 use Rattle.std.specs.Prelude.{◌≡◌, ◌≢◌, ◌⊎◌, ℕ, Bool, true, false, if◌then◌else◌, List, [], ◌∷◌, Option, None, Some, bytes_eq, codes}
-use Rattle.fv_base.specs.Words.{FormBytes, OfCheck, OfReplay}
+use Rattle.fv_base.specs.Words.{FormBytes, OfCheck, OfReplay, OfGen, OfServe}
 use Rattle.fv_cli.specs.declared.ending.Ending.{Ending}
 use Rattle.fv_cli.specs.declared.ending.Ending.TheVariants.{Done, Usage, WriteFault, NoMemory, NoMemoryToRun, RecordingRefused}
 use Rattle.fv_cli.specs.Endings.{status_of, line_of, IsPut}
@@ -22,12 +22,22 @@ is_of_check (RecordingRefused fault) = false
 is_of_check NoMemoryToRun = false
 is_of_check _ = true
 
--- words that ask for a text end well or with a fault of writing; words without a form end with the usage, where there is memory to say so; a check ends as a check can, and a replay never with the usage
+-- an ending that a call can have that makes a recording: it reads no file
+abbrev pub is_of_gen : Ending → Bool
+is_of_gen Done = true
+is_of_gen WriteFault = true
+is_of_gen NoMemory = true
+is_of_gen NoMemoryToRun = true
+is_of_gen _ = false
+
+-- words that ask for a text end well or with a fault of writing; words without a form, and those of `serve`, end with the usage, where there is memory to say so; a check ends as a check can, a replay never with the usage, and a made recording as one can
 abbrev pub Suits : Option (List ℕ) → Option FormBytes → Ending → Type 0
 Suits (Some text) form ending = (ending ≡ Done) ⊎ (ending ≡ WriteFault)
 Suits None None ending = (ending ≡ Usage) ⊎ (ending ≡ NoMemory)
 Suits None (Some (OfCheck policy)) ending = is_of_check ending ≡ true
 Suits None (Some (OfReplay policy recording)) ending = ending ≢ Usage
+Suits None (Some (OfGen seed count)) ending = is_of_gen ending ≡ true
+Suits None (Some (OfServe policy listen count)) ending = (ending ≡ Usage) ⊎ (ending ≡ NoMemory)
 
 -- A call that ended with a status: one ending that suits gives the status, and its line was put.
 pub record EndedSo (Suiting : Ending → Type 0) (err_before err_after : Option (List ℕ)) (err_faults err_faults_after status : ℕ) : Type 0 where

@@ -4,20 +4,32 @@
 ghost use Rattle.std.specs.Prelude.{◌≡◌, ◌≢◌};
 ghost use Rattle.std.specs.IoError.{error_kind};
 
+mod clock;
 mod disk;
 mod run;
+mod sockets;
 mod stream;
 #[cfg(test)]
 mod tests;
 mod texts;
+mod threads;
 
+use disk::Disk;
 use fv_cli::Ending;
-use run::{answer, end};
-use std::alloc::AllocFailed;
+use fv_live::{Host, Spawner, Work};
+use run::{LiveWork, answer, end};
+use std::alloc::{AllocFailed, Global};
 use std::env;
 use std::io::{self, ErrorKind};
+use std::net::{Net, TcpListener, TcpStream};
 use std::process::ExitCode;
+use std::sync::Arc;
+use std::thread::Builder;
 use stream::Stream;
+use threads::{Done, ThreadSpawner};
+
+/// The stack of a thread of a session, in bytes.
+const STACK: usize = 1 << 20;
 
 /// Why the words weren't taken.
 #[derive(Drop)]
@@ -68,15 +80,40 @@ fn ending_of(refused: &WordsRefused) -> Ending
     }
 }
 
-/// Runs with the words of the program, over its own streams.
-fn start(rt: &HostRuntime) -> ExitCode {
+/// Runs with the words of the program, over its own streams. What it serves runs on `host`, on threads that
+/// `spawner` starts.
+fn start<R: Host + Net<Listener = TcpListener, Stream = TcpStream>, P: Spawner<LiveWork<R>>>(
+    rt: &HostRuntime,
+    host: &R,
+    spawner: &mut P,
+) -> ExitCode
+    requires can { P.can_start spawner.old }
+{
     let mut err = Stream::new(rt.stderr());
     ExitCode::from(match words(rt) {
-        Ok(words) => answer(rt, &words, rt.stdout(), &mut err),
+        Ok(words) => answer(
+            host,
+            rt.alloc(),
+            &words,
+            &mut Disk::new(rt),
+            spawner,
+            rt.stdout(),
+            &mut err,
+        ),
         Err(refused) => end(&mut err, &ending_of(&refused)),
     })
 }
 
 fn main(rt: HostRuntime) -> ExitCode {
-    start(&rt)
+    let mut spawner = ThreadSpawner::new(
+        rt.alloc(),
+        |work: LiveWork<HostRuntime>, done: Arc<Done, Global>| {
+            let run = move || {
+                work.run(&rt);
+                done.say();
+            };
+            Builder::new().stack_size(STACK).spawn(&rt, run).ok()
+        },
+    );
+    start(&rt, &rt, &mut spawner)
 }

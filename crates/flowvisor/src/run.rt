@@ -2,18 +2,24 @@
 
 ghost use Rattle.std.specs.Prelude.{ℕ, List, ◌≡◌, ◌⊎◌, ◌&&◌, ◌==◌, if◌then◌else◌, is_err, false, true, map, string_bytes, IfOk, None, Some};
 ghost use Rattle.fv_base.specs.Told.{appended, IsPrefix, Rose};
-ghost use Rattle.fv_base.specs.Words.{form_of};
+ghost use Rattle.fv_base.specs.Words.{form_of, is_serve};
 ghost use Rattle.fv_cli.specs.declared.ending.Ending.TheVariants.{WriteFault};
 ghost use Rattle.fv_cli.specs.Endings.{status_of, line_of, IsPut};
 ghost use Rattle.flowvisor.specs.Asked.{text_in, EndedSo, Suits};
+ghost use Rattle.flowvisor.specs.Served.{ServedBy, WordsHadNoMemory};
 
-use crate::disk::Disk;
+use crate::clock::SystemClock;
+use crate::sockets::Sockets;
 use crate::stream::Stream;
 use crate::texts::text_for;
-use fv_cli::base::{Failed, Sink, Words, put_all};
+use fv_base::{Failed, Files, Sink, Words, is_serve, put_all};
 use fv_cli::{Ending, offline};
+use fv_live::{Host, Spawner};
+use live_serve::{SessionWork, serve};
+use live_session::OpenGate;
 use std::alloc::{AllocError, Global};
 use std::io::{BufWriter, Write};
+use std::net::{Net, TcpListener, TcpStream};
 
 /// How many bytes of output are gathered before they are written.
 const OUTPUT_PIECE: usize = 262_144;
@@ -52,15 +58,47 @@ fn after_flush<E: Sink>(status: u8, flushed: Result<(), Failed>, err: &mut E) ->
 }
 
 /// Runs with these words; what is written is gathered, and flushed at the end.
-fn run<W: Write + Drop, E: Sink>(rt: &HostRuntime, words: &Words, writer: W, err: &mut E) -> u8
+fn run<F: Files, W: Write + Drop, E: Sink>(
+    alloc: Global,
+    words: &Words,
+    files: &mut F,
+    writer: W,
+    err: &mut E,
+) -> u8
     ensures { EndedSo (Suits None (form_of words.now)) (E.contents err.old) (E.contents err.new) (E.faults err.old) (E.faults err.new) result }
 {
-    let Ok(writer) = BufWriter::with_capacity(rt.alloc(), OUTPUT_PIECE, writer) else {
+    let Ok(writer) = BufWriter::with_capacity(alloc, OUTPUT_PIECE, writer) else {
         return end(err, &Ending::NoMemory);
     };
     let mut out = Stream::new(writer);
-    let status = offline(rt.alloc(), words, &mut Disk::new(rt), &mut out, err);
+    let status = offline(alloc, words, files, &mut out, err);
     after_flush(status, out.finish(), err)
+}
+
+/// The work of one thread of a session over sockets, by this runtime's clock.
+pub type LiveWork<R> = SessionWork<Sockets, SystemClock<R>, OpenGate>;
+
+/// Serves as these words ask for.
+fn serve_over_sockets<
+    R: Host + Net<Listener = TcpListener, Stream = TcpStream>,
+    F: Files,
+    P: Spawner<LiveWork<R>>,
+    E: Sink,
+>(rt: &R, alloc: Global, words: &Words, files: &mut F, spawner: &mut P, err: &mut E) -> u8
+    requires can { P.can_start spawner.old }
+    ensures { ServedBy (record { files = F.contents files.old; before = F.faults files.old; after = F.faults files.new }) (P.roles spawner.old) (P.roles spawner.new) (P.faults spawner.old) (P.faults spawner.new) words.now (E.contents err.old) (E.contents err.new) (E.faults err.old) (E.faults err.new) result }
+{
+    serve(
+        rt,
+        alloc,
+        words,
+        files,
+        &mut Sockets::new(alloc),
+        &SystemClock::new(*rt),
+        &OpenGate,
+        spawner,
+        err,
+    )
 }
 
 fn all(alloc: Global, each: &[String]) -> Result<Words, AllocError>
@@ -74,19 +112,34 @@ fn all(alloc: Global, each: &[String]) -> Result<Words, AllocError>
 }
 
 /// Does what these words ask for, and answers the status.
-pub fn answer<W: Write + Drop, E: Sink>(
-    rt: &HostRuntime,
+pub fn answer<
+    R: Host + Net<Listener = TcpListener, Stream = TcpStream>,
+    F: Files,
+    P: Spawner<LiveWork<R>>,
+    W: Write + Drop,
+    E: Sink,
+>(
+    rt: &R,
+    alloc: Global,
     words: &[String],
+    files: &mut F,
+    spawner: &mut P,
     writer: W,
     err: &mut E,
 ) -> u8
-    ensures { EndedSo (Suits (text_in (map string_bytes words.now)) (form_of (map string_bytes words.now))) (E.contents err.old) (E.contents err.new) (E.faults err.old) (E.faults err.new) result }
+    requires can { P.can_start spawner.old }
+    ensures ended { is_serve (map string_bytes words.now) ≡ false → EndedSo (Suits (text_in (map string_bytes words.now)) (form_of (map string_bytes words.now))) (E.contents err.old) (E.contents err.new) (E.faults err.old) (E.faults err.new) result }
+    ensures served { is_serve (map string_bytes words.now) ≡ true → ServedBy (record { files = F.contents files.old; before = F.faults files.old; after = F.faults files.new }) (P.roles spawner.old) (P.roles spawner.new) (P.faults spawner.old) (P.faults spawner.new) (map string_bytes words.now) (E.contents err.old) (E.contents err.new) (E.faults err.old) (E.faults err.new) result ⊎ WordsHadNoMemory (E.contents err.old) (E.contents err.new) (E.faults err.old) (E.faults err.new) result }
 {
     if let Some(text) = text_for(words) {
         return show(text, &mut Stream::new(writer), err);
     }
-    match all(rt.alloc(), words) {
-        Ok(words) => run(rt, &words, writer, err),
-        Err(_) => end(err, &Ending::NoMemory),
+    let Ok(words) = all(alloc, words) else {
+        return end(err, &Ending::NoMemory);
+    };
+    if is_serve(&words) {
+        serve_over_sockets(rt, alloc, &words, files, spawner, err)
+    } else {
+        run(alloc, &words, files, writer, err)
     }
 }

@@ -1,13 +1,26 @@
+ghost use Rattle.std.specs.Prelude.{true, []};
+ghost use Rattle.fv_live.specs.Roles.{TheSwitch};
+
+use crate::clock::SystemClock;
 use crate::disk::Disk;
-use crate::run::answer;
+use crate::run::{LiveWork, answer};
+use crate::sockets::Sockets;
 use crate::start;
 use crate::stream::Stream;
 use crate::texts::{HELP, VERSION};
-use fv_cli::base::{Files, LoadFault, MemorySink, Sink, load_file, put_all};
-use std::io::{BufWriter, Write};
+use crate::threads::{Done, ThreadSpawner};
+use fv_base::{Files, LoadFault, MemorySink, Sink, load_file, put_all};
+use fv_live::{Clock, Dialer, Host, Source, Spawner, Wires, Work};
+use std::alloc::Global;
+use std::io::{self, BufWriter, Write};
+use std::net::{Net, TcpListener, TcpStream};
 use std::process::ExitCode;
+use std::sync::Arc;
+use std::sync::atomic::{AtomicU64, Ordering};
 use std::test::Fail;
-use std::{env, fs, process};
+use std::thread::JoinHandle;
+use std::time::Duration;
+use std::{env, fs, process, rt, thread};
 
 const TEXT: &[u8] = b"one\ntwo\n";
 
@@ -121,6 +134,100 @@ fn streams_write_what_is_put(rt: HostRuntime) -> Result<(), Fail> {
     Ok(())
 }
 
+/// An address of the loopback at which nothing listens.
+fn free_address(rt: &HostRuntime) -> Result<String, Fail> {
+    let address = TcpListener::bind(rt, "127.0.0.1:0")?.local_addr()?;
+    Ok(format!(in rt.alloc(); "{address}")?)
+}
+
+#[test]
+fn bytes_cross_a_connection_until_its_sink_is_dropped(rt: HostRuntime) -> Result<(), Fail> {
+    let at = free_address(&rt)?;
+    let mut wires = Sockets::new(rt.alloc());
+    assert!(rt; wires.listen(&rt, &at).is_ok());
+    let (mut there, there_sink) = wires.dialer().dial(&rt, &at, 0).ok().ok_or("dialled")?;
+    let (mut here, mut here_sink) = wires.accept(&rt).ok().ok_or("accepted")?;
+
+    let mut piece = [0; 8];
+    assert_eq!(rt; here_sink.put(b"abc"), Ok(3));
+    assert_eq!(rt; there.take(&mut piece), Ok(3));
+    assert_eq!(rt; piece.starts_with(b"abc"), true);
+
+    drop(here_sink);
+    assert_eq!(rt; there.take(&mut piece), Ok(0));
+    assert_eq!(rt; here.take(&mut piece), Ok(0));
+    drop(there_sink);
+    Ok(())
+}
+
+#[test]
+fn what_cannot_be_reached_is_a_fault(rt: HostRuntime) -> Result<(), Fail> {
+    let mut dialer = Sockets::new(rt.alloc()).dialer();
+    for to in ["127.0.0.1:1", "127.0.0.1", "127.0.0.1:port"] {
+        assert!(rt; dialer.dial(&rt, to, 0).is_err(), "{to}");
+    }
+    assert!(rt; Sockets::new(rt.alloc()).listen(&rt, "127.0.0.1").is_err());
+    Ok(())
+}
+
+/// A clock that can't be read.
+#[derive(Clone, Copy)]
+struct Broken;
+
+impl rt::Clock for Broken {
+    fn monotonic(&self) -> io::Result<Duration> {
+        Err(io::Error::from(io::ErrorKind::Unsupported))
+    }
+
+    fn since_1970(&self) -> io::Result<Duration> {
+        Err(io::Error::from(io::ErrorKind::Unsupported))
+    }
+}
+
+/// The first moment of 2024.
+const YEAR_2024: u64 = 1_704_067_200_000;
+
+#[test]
+fn clock_tells_milliseconds_since_1970(rt: HostRuntime) -> Result<(), Fail> {
+    let mut clock = SystemClock::new(&rt);
+    let moment = clock.now();
+    assert!(rt; moment > YEAR_2024 && moment < 2 * YEAR_2024);
+    assert_eq!(rt; SystemClock::new(Broken).now(), 0);
+    Ok(())
+}
+
+#[derive(Drop)]
+struct AddOne(Arc<AtomicU64, Global>);
+
+impl Work for AddOne {
+    ghost role = { λ work. record { served = TheSwitch; reads = true; address = [] } };
+
+    fn run<R: Host + Net<Listener = TcpListener, Stream = TcpStream>>(self, _rt: &R) {
+        self.0.fetch_add(1, Ordering::SeqCst);
+    }
+}
+
+#[test]
+fn each_work_runs_on_a_thread(rt: HostRuntime) -> Result<(), Fail> {
+    let sum = Arc::new(rt.alloc(), AtomicU64::new(0))?;
+    let mut spawner = ThreadSpawner::new(rt.alloc(), |work: AddOne, done: Arc<Done, Global>| {
+        let run = move || {
+            work.run(&rt);
+            done.say();
+        };
+        thread::Builder::new()
+            .stack_size(1 << 19)
+            .spawn(&rt, run)
+            .ok()
+    });
+    for _ in 0..20 {
+        assert!(rt; spawner.start(&rt, AddOne(sum.clone()?)).is_ok());
+    }
+    spawner.finish(&rt);
+    assert_eq!(rt; sum.load(Ordering::SeqCst), 20);
+    Ok(())
+}
+
 const USAGE: &str =
     "usage: flowvisor check POLICY / replay POLICY RECORDING / gen SEED COUNT / serve POLICY LISTEN COUNT\n";
 
@@ -137,9 +244,14 @@ fn words(rt: &HostRuntime, said: &str) -> Result<Vec<String>, Fail> {
     Ok(words)
 }
 
+/// Starts no thread.
+fn no_thread(_work: LiveWork<HostRuntime>, _done: Arc<Done, Global>) -> Option<JoinHandle<()>> {
+    None
+}
+
 /// What is said, how many bytes of output there is room for, and what is answered: the status, the output, and
 /// the line on the error stream.
-const ANSWERS: [(&str, usize, u8, &str, &str); 13] = [
+const ANSWERS: [(&str, usize, u8, &str, &str); 16] = [
     ("replay @policy @recording", 2048, 0, "end 0\n", ""),
     ("replay @policy @recording", 5, 5, "end 0", "write fault\n"),
     ("check @policy", 2048, 0, "ok 1 0\n", ""),
@@ -153,6 +265,9 @@ const ANSWERS: [(&str, usize, u8, &str, &str); 13] = [
     ("--version", 9, 5, "flowvisor", "write fault\n"),
     ("--helps", 2048, 1, "", USAGE),
     ("--help --help", 2048, 1, "", USAGE),
+    ("serve @policy nowhere 1", 2048, 9, "", "wire fault\n"),
+    ("serve @missing nowhere 1", 2048, 4, "", "read fault\n"),
+    ("serve @policy nowhere 0", 2048, 1, "", USAGE),
 ];
 
 #[test]
@@ -165,7 +280,15 @@ fn words_are_answered_with_their_status(rt: HostRuntime) -> Result<(), Fail> {
         let words = words(&rt, said)?;
         let mut room = [0u8; 2048];
         let mut err = MemorySink::new(rt.alloc());
-        let answered = answer(&rt, &words, &mut room[..size.min(2048)], &mut err);
+        let answered = answer(
+            &rt,
+            rt.alloc(),
+            &words,
+            &mut Disk::new(&rt),
+            &mut ThreadSpawner::new(rt.alloc(), no_thread),
+            &mut room[..size.min(2048)],
+            &mut err,
+        );
         assert_eq!(rt; answered, status, "{said}");
         assert!(rt; room.starts_with(output.as_bytes()), "{said}");
         assert!(rt;
@@ -181,8 +304,9 @@ fn words_are_answered_with_their_status(rt: HostRuntime) -> Result<(), Fail> {
 
 const STATUSES: &str = "\
 The exit status is 0, or 1 for other words, 2 where the policy is refused, 3 where the recording is, 4 where
-a file can't be read, 5 where the output can't be written, 6 where memory runs out, and 7 where a file is too
-large. Each status but 0 has a line on standard error.
+a file can't be read, 5 where the output can't be written, 6 where memory runs out, 7 where a file is too
+large, 9 where it can't listen or accept a connection, and 10 where a thread can't be started. Each status but
+0 has a line on standard error.
 ";
 
 #[test]
@@ -196,6 +320,7 @@ fn texts_say_what_each_status_means(rt: HostRuntime) -> Result<(), Fail> {
 #[test]
 fn the_exit_status_is_that_of_the_words(rt: HostRuntime) -> Result<(), Fail> {
     // The run of the tests has no words of a form.
-    assert_eq!(rt; start(&rt), ExitCode::from(1));
+    let mut spawner = ThreadSpawner::new(rt.alloc(), no_thread);
+    assert_eq!(rt; start(&rt, &rt, &mut spawner), ExitCode::from(1));
     Ok(())
 }

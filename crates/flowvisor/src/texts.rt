@@ -9,15 +9,26 @@ FlowVisor for OpenFlow 1.0: several controllers share one set of switches.
 
 usage: flowvisor check POLICY
        flowvisor replay POLICY RECORDING
+       flowvisor gen SEED COUNT
+       flowvisor serve POLICY LISTEN COUNT
 
 check says whether the policy is accepted, and how many slices and rules it has.
 
 replay runs the recorded connections under the policy and writes the report: a line for each message that
 the switches and the slices would get.
 
+gen makes a recording of COUNT messages, at most 1,000,000, drawn from SEED, runs it under a policy of two
+slices, and writes how many events there were, and how many messages and bytes the switch and each slice
+would get.
+
+serve listens at LISTEN, as 0.0.0.0:6633, and stands between each switch that connects there and the
+controllers of the slices, for 16 switches at once; one more is turned away. It ends when COUNT switches have
+connected, at most 1,000,000,000, and all connections have ended.
+
 The exit status is 0, or 1 for other words, 2 where the policy is refused, 3 where the recording is, 4 where
-a file can't be read, 5 where the output can't be written, 6 where memory runs out, and 7 where a file is too
-large. Each status but 0 has a line on standard error.
+a file can't be read, 5 where the output can't be written, 6 where memory runs out, 7 where a file is too
+large, 9 where it can't listen or accept a connection, and 10 where a thread can't be started. Each status but
+0 has a line on standard error.
 ";
 
 /// What `--version` prints.

@@ -1,0 +1,252 @@
+//! Connections over TCP. Nothing is told of what they carry.
+
+ghost use Rattle.std.specs.Prelude.{◌≡◌, ◌≤◌, length, List, ℕ, None, true, false, is_some, IfOk, OnOk, OnErr};
+ghost use Rattle.fv_base.specs.Told.{Rose};
+ghost use Rattle.fv_live.specs.Wires.{place_bytes};
+
+use fv_base::{Failed, Sink, one_more};
+use fv_live::{Dialer, Host, Source, Wires};
+use std::alloc::Global;
+use std::io::{self, ErrorKind, Read, Write};
+use std::net::{Net, Shutdown, TcpListener, TcpStream};
+use std::thread;
+use std::time::Duration;
+
+/// The longest wait before a dial, in seconds.
+const LONGEST_WAIT: u32 = 10;
+
+/// How long a peer may take nothing of what it is sent, in seconds, before that is a fault.
+const LONGEST_STAND: u64 = 30;
+
+/// The half of a connection that gives what the peer sends.
+#[derive(Drop)]
+pub struct SocketSource {
+    stream: TcpStream,
+    faults: u64,
+}
+
+/// The half of a connection that takes what the peer is sent. Where it is dropped the connection ends in both
+/// directions, so that what waits at the other half goes on.
+pub struct SocketSink {
+    stream: TcpStream,
+    faults: u64,
+}
+
+impl Drop for SocketSink {
+    fn drop(self) {
+        let SocketSink { stream, faults: _ } = self;
+        let _ = stream.shutdown(Shutdown::Both);
+    }
+}
+
+/// Both halves of a connection. What is put is sent at once. A peer that takes nothing for long is a fault, so that
+/// one which never reads doesn't keep its session.
+fn halves(stream: TcpStream) -> io::Result<(SocketSource, SocketSink)> {
+    let _ = stream.set_nodelay(true);
+    stream.set_write_timeout(Some(Duration::from_secs(LONGEST_STAND)))?;
+    let source = SocketSource {
+        stream: stream.try_clone()?,
+        faults: 0,
+    };
+    Ok((source, SocketSink { stream, faults: 0 }))
+}
+
+// Reads once, and again where a signal cut that short.
+fn read(mut stream: &TcpStream, into: &mut [u8]) -> io::Result<usize>
+    ensures { IfOk result (λ n. n ≤ length into.old) }
+{
+    for _ in 0..u64::MAX {
+        match stream.read(into) {
+            Err(error) if error.kind() == ErrorKind::Interrupted => {}
+            answer => return answer,
+        }
+    }
+    Err(io::Error::from(ErrorKind::Interrupted))
+}
+
+// Writes once, and again where a signal cut that short.
+fn write(mut stream: &TcpStream, bytes: &[u8]) -> io::Result<usize>
+    ensures { IfOk result (λ n. n ≤ length bytes.now) }
+{
+    for _ in 0..u64::MAX {
+        match stream.write(bytes) {
+            Err(error) if error.kind() == ErrorKind::Interrupted => {}
+            answer => return answer,
+        }
+    }
+    Err(io::Error::from(ErrorKind::Interrupted))
+}
+
+impl Source for SocketSource {
+    ghost left = { λ source. None };
+
+    ghost faults = { λ source. source.faults };
+
+    fn take(&mut self, into: &mut [u8]) -> Result<usize, Failed> {
+        match read(&self.stream, into) {
+            Ok(count) => Ok(count),
+            Err(_) => {
+                self.faults = one_more(self.faults);
+                Err(Failed)
+            }
+        }
+    }
+}
+
+impl Sink for SocketSink {
+    ghost contents = { λ sink. None };
+
+    ghost faults = { λ sink. sink.faults };
+
+    fn put(&mut self, bytes: &[u8]) -> Result<usize, Failed> {
+        match write(&self.stream, bytes) {
+            Ok(count) if count > 0 => Ok(count),
+            _ => {
+                self.faults = one_more(self.faults);
+                Err(Failed)
+            }
+        }
+    }
+}
+
+/// What dials over TCP.
+#[derive(Drop)]
+pub struct SocketDialer {
+    faults: u64,
+}
+
+fn connect<R: Net<Listener = TcpListener, Stream = TcpStream>>(
+    rt: &R,
+    to: &str,
+) -> io::Result<(SocketSource, SocketSink)> {
+    halves(TcpStream::connect(rt, to)?)
+}
+
+impl Dialer for SocketDialer {
+    type In = SocketSource;
+
+    type Out = SocketSink;
+
+    ghost links = { λ dialer. None };
+
+    ghost faults = { λ dialer _. dialer.faults };
+
+    fn dial<R: Host + Net<Listener = TcpListener, Stream = TcpStream>>(
+        &mut self,
+        rt: &R,
+        to: &str,
+        attempt: u32,
+    ) -> Result<(SocketSource, SocketSink), Failed> {
+        thread::sleep(
+            rt,
+            Duration::from_secs(u64::from(attempt.min(LONGEST_WAIT))),
+        );
+        match connect(rt, to) {
+            Ok(halves) => Ok(halves),
+            Err(_) => {
+                self.faults = one_more(self.faults);
+                Err(Failed)
+            }
+        }
+    }
+}
+
+/// Where switches connect to over TCP.
+#[derive(Drop)]
+pub struct Sockets {
+    alloc: Global,
+    place: Option<String>,
+    listener: Option<TcpListener>,
+    faults: u64,
+}
+
+impl Sockets {
+    /// It doesn't listen yet.
+    pub fn new(alloc: Global) -> Sockets
+        ensures silent { is_some result.listener ≡ false }
+    {
+        Sockets {
+            alloc,
+            place: None,
+            listener: None,
+            faults: 0,
+        }
+    }
+}
+
+// Whether an accept failed for one connection alone, which was gone before it was accepted.
+fn is_of_one(error: &io::Error) -> bool {
+    matches!(
+        error.kind(),
+        ErrorKind::Interrupted
+            | ErrorKind::ConnectionAborted
+            | ErrorKind::ConnectionReset
+            | ErrorKind::HostUnreachable
+            | ErrorKind::NetworkUnreachable
+            | ErrorKind::NetworkDown
+    )
+}
+
+fn accept(listener: &TcpListener) -> io::Result<(SocketSource, SocketSink)> {
+    for _ in 0..u64::MAX {
+        match listener.accept() {
+            Ok((stream, _)) => return halves(stream),
+            Err(error) if is_of_one(&error) => {}
+            Err(error) => return Err(error),
+        }
+    }
+    Err(io::Error::from(ErrorKind::Interrupted))
+}
+
+impl Wires for Sockets {
+    type In = SocketSource;
+
+    type Out = SocketSink;
+
+    type Dial = SocketDialer;
+
+    ghost listens = { λ wires. is_some wires.listener };
+
+    ghost place = { λ wires. place_bytes wires.place };
+
+    ghost accepted = { λ wires. None };
+
+    ghost faults = { λ wires _. wires.faults };
+
+    fn listen<R: Host + Net<Listener = TcpListener, Stream = TcpStream>>(
+        &mut self,
+        rt: &R,
+        at: &str,
+    ) -> Result<(), Failed> {
+        if let (Ok(place), Ok(listener)) = (
+            String::from_str(self.alloc, at),
+            TcpListener::bind(rt, at),
+        ) {
+            self.place = Some(place);
+            self.listener = Some(listener);
+            return Ok(());
+        }
+        self.faults = one_more(self.faults);
+        Err(Failed)
+    }
+
+    fn accept<R: Host + Net<Listener = TcpListener, Stream = TcpStream>>(
+        &mut self,
+        _rt: &R,
+    ) -> Result<(SocketSource, SocketSink), Failed> {
+        let Some(listener) = &self.listener else {
+            unreachable!()
+        };
+        match accept(listener) {
+            Ok(halves) => Ok(halves),
+            Err(_) => {
+                self.faults = one_more(self.faults);
+                Err(Failed)
+            }
+        }
+    }
+
+    fn dialer(&self) -> SocketDialer {
+        SocketDialer { faults: 0 }
+    }
+}
