@@ -21,8 +21,8 @@ _flowvisor() {
         return
     fi
     case $COMP_CWORD:${COMP_WORDS[1]} in
-        1:*) mapfile -t COMPREPLY < <(compgen -W 'check replay --help --version' -- "$word") ;;
-        2:check | 2:replay) _flowvisor_files "$word" .toml ;;
+        1:*) mapfile -t COMPREPLY < <(compgen -W 'check replay gen serve --help --version' -- "$word") ;;
+        2:check | 2:replay | 2:serve) _flowvisor_files "$word" .toml ;;
         3:replay) _flowvisor_files "$word" .rec ;;
     esac
 }
