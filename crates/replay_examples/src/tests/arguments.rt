@@ -63,18 +63,24 @@ fn form_in<'a>(matches: &ArgMatches<'a>) -> Option<Form<'a>> {
     })
 }
 
+/// A command line, and the words behind the program's name.
+type Line = (&'static [&'static str], &'static [&'static str]);
+
 #[test]
 fn words_are_read_as_a_command_line_is(rt: HostRuntime) -> Result<(), Fail> {
     let alloc = rt.alloc();
-    let table: [&[&str]; 4] = [
-        &["flowvisor", "check", "P"],
-        &["flowvisor", "replay", "P", "R"],
-        &["flowvisor", "gen", "1", "0"],
-        &["flowvisor", "serve", "P", "L", "1"],
+    let table: [Line; 4] = [
+        (&["flowvisor", "check", "P"], &["check", "P"]),
+        (&["flowvisor", "replay", "P", "R"], &["replay", "P", "R"]),
+        (&["flowvisor", "gen", "1", "0"], &["gen", "1", "0"]),
+        (
+            &["flowvisor", "serve", "P", "L", "1"],
+            &["serve", "P", "L", "1"],
+        ),
     ];
-    for line in table {
+    for (line, words) in table {
         let matches = command(alloc)?.try_get_matches_from(line)?;
-        let words = words_of(alloc, &line[1..])?;
+        let words = words_of(alloc, words)?;
         let form = read_words(&words);
         assert!(rt; form.is_ok(), "{} words", line.len());
         assert_eq!(rt; form.ok(), form_in(&matches), "{} words", line.len());
@@ -85,13 +91,16 @@ fn words_are_read_as_a_command_line_is(rt: HostRuntime) -> Result<(), Fail> {
 #[test]
 fn words_are_refused_as_a_command_line_is(rt: HostRuntime) -> Result<(), Fail> {
     let alloc = rt.alloc();
-    let table: [&[&str]; 2] = [
-        &["flowvisor", "replay", "P"],
-        &["flowvisor", "gen", "1", "1000001"],
+    let table: [Line; 2] = [
+        (&["flowvisor", "replay", "P"], &["replay", "P"]),
+        (
+            &["flowvisor", "gen", "1", "1000001"],
+            &["gen", "1", "1000001"],
+        ),
     ];
-    for line in table {
+    for (line, words) in table {
         assert!(rt; command(alloc)?.try_get_matches_from(line).is_err());
-        let words = words_of(alloc, &line[1..])?;
+        let words = words_of(alloc, words)?;
         assert_eq!(rt; read_words(&words), Err(WordsFault::Usage));
     }
     Ok(())
