@@ -4,8 +4,6 @@
 #[cfg(test)]
 mod gate;
 #[cfg(test)]
-mod many;
-#[cfg(test)]
 mod outside;
 #[cfg(test)]
 mod sent;
