@@ -10,4 +10,6 @@ mod sent;
 #[cfg(test)]
 mod sessions;
 #[cfg(test)]
+mod spawner;
+#[cfg(test)]
 mod statuses;

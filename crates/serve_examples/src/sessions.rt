@@ -1,8 +1,9 @@
 use crate::gate::{LANE, Order, TO_ALICE, TO_BOB};
 use crate::outside::{ALICE, BOB, POLICY, SWITCH, Still, link, source, words};
 use crate::sent::{Sent, all_hold, nothing};
+use crate::spawner::ClosureSpawner;
 use fv_base::{MemoryFiles, MemorySink};
-use fv_live::{Links, MemorySource, MemorySpawner, MemoryWires, SharedSink, Work};
+use fv_live::{Links, MemorySource, MemoryWires, SharedSink, Work};
 use live_serve::{SessionWork, serve};
 use std::alloc::{AllocError, Global};
 use std::collections::VecDeque;
@@ -51,7 +52,7 @@ fn two_switches_are_served_beside_each_other(rt: HostRuntime) -> Result<(), Fail
     let mut files = MemoryFiles::new(alloc);
     files.add("policy", POLICY.as_bytes())?;
     let mut wires = wires(rt, alloc, &switches, &alice, &bob)?;
-    let mut spawner = MemorySpawner::new(
+    let mut spawner = ClosureSpawner::new(
         alloc,
         Vec::new(alloc),
         |work: SessionWork<_, Still, Order>| { thread::spawn(&rt, move || work.run(&rt)).ok() },

@@ -1,6 +1,7 @@
 use crate::outside::{POLICY, Still, source, words};
+use crate::spawner::ClosureSpawner;
 use fv_base::{MemoryFiles, MemorySink};
-use fv_live::{Links, MemorySource, MemorySpawner, MemoryWires, Work};
+use fv_live::{Links, MemorySource, MemoryWires, Work};
 use live_serve::{SessionWork, serve};
 use live_session::OpenGate;
 use std::alloc::{AllocError, Global};
@@ -95,7 +96,7 @@ fn calls_end_with_their_statuses_and_lines(rt: HostRuntime) -> Result<(), Fail> 
         let words = words(alloc, each)?;
         let mut files = files(alloc)?;
         let mut wires = wires(alloc, accepts)?;
-        let mut spawner = MemorySpawner::new(
+        let mut spawner = ClosureSpawner::new(
             alloc,
             Vec::from_slice(alloc, starts)?,
             |work: SessionWork<_, Still, OpenGate>| {
