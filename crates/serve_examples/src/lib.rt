@@ -1,0 +1,15 @@
+//! Whole calls of `serve` over switches and controllers in memory, on threads. There are tests here alone.
+#![tactic(auto)]
+
+#[cfg(test)]
+mod gate;
+#[cfg(test)]
+mod outside;
+#[cfg(test)]
+mod sent;
+#[cfg(test)]
+mod sessions;
+#[cfg(test)]
+mod spawner;
+#[cfg(test)]
+mod statuses;
