@@ -8,7 +8,7 @@ use Rattle.flowvisor.specs.declared.texts.TheConstants.{HELP, VERSION}
 
 -- the text that a word asks for
 abbrev pub text_of : List ℕ → Option (List ℕ)
-text_of word = if bytes_eq word (codes "--help") then Some HELP.now else if bytes_eq word (codes "--version") then Some VERSION.now else None
+text_of word = if bytes_eq word (codes "--help") then Some HELP.now else if bytes_eq word (codes "-h") then Some HELP.now else if bytes_eq word (codes "--version") then Some VERSION.now else None
 
 -- the text that these words ask for: one word alone
 abbrev pub text_in : List (List ℕ) → Option (List ℕ)

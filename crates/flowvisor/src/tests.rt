@@ -261,6 +261,7 @@ const ANSWERS: [(&str, usize, u8, &str, &str); 16] = [
     ("replay @policy", 2048, 1, "", USAGE),
     ("", 2048, 1, "", USAGE),
     ("--help", 2048, 0, HELP, ""),
+    ("-h", 2048, 0, HELP, ""),
     ("--version", 2048, 0, VERSION, ""),
     ("--version", 9, 5, "flowvisor", "write fault\n"),
     ("--helps", 2048, 1, "", USAGE),

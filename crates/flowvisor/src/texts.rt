@@ -3,7 +3,7 @@
 ghost use Rattle.std.specs.Prelude.{◌≡◌, map, option_map, string_bytes};
 ghost use Rattle.flowvisor.specs.Asked.{text_in, text_of};
 
-/// What `--help` prints.
+/// What `--help` prints, and `-h`.
 pub const HELP: &str = "\
 FlowVisor for OpenFlow 1.0: several controllers share one set of switches.
 
@@ -39,6 +39,7 @@ fn text_of(word: &str) -> Option<&'static str>
 {
     match word {
         "--help" => Some(HELP),
+        "-h" => Some(HELP),
         "--version" => Some(VERSION),
         _ => None,
     }

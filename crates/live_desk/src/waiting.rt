@@ -3,11 +3,14 @@
 use proxy_core::{Desk, Dest};
 use std::sync::atomic::{AtomicU64, Ordering};
 
-/// For whom a desk that threads share has messages, so that others sleep on: a bit for the switch, and one for each
-/// slice behind it.
+/// Who sleeps until a desk that threads share has messages for them, and for whom it has: a bit for the switch, and
+/// one for each slice behind it.
 #[derive(Drop)]
 pub struct Waiting {
-    bits: AtomicU64,
+    // Who is about to sleep, or does.
+    asleep: AtomicU64,
+    // Who of these is to be woken.
+    due: AtomicU64,
     slices: u8,
 }
 
@@ -24,47 +27,74 @@ pub fn bit_at(place: usize) -> u64 {
     1u64.wrapping_shl((place % 64) as u32)
 }
 
-// The bits of those for whom messages wait at the desk.
-fn bits_of(desk: &Desk, slices: u8) -> u64 {
-    let mut bits = if desk.waits(Dest::Switch) {
-        bit_at(place_of(Dest::Switch))
+// The bit of one for whom messages wait at the desk, where it is among these.
+fn bit_of(desk: &Desk, among: u64, dest: Dest) -> u64 {
+    let bit = bit_at(place_of(dest));
+    if among & bit != 0 && desk.waits(dest) {
+        bit
     } else {
         0
-    };
+    }
+}
+
+// The bits of those among these for whom messages wait at the desk.
+fn bits_of(desk: &Desk, among: u64, slices: u8) -> u64 {
+    let mut bits = bit_of(desk, among, Dest::Switch);
     for slot in 0..slices {
-        if desk.waits(Dest::Slice(slot)) {
-            bits |= bit_at(place_of(Dest::Slice(slot)));
-        }
+        bits |= bit_of(desk, among, Dest::Slice(slot));
     }
     bits
 }
 
 impl Waiting {
-    /// Nobody, of the switch and so many slices.
+    /// Nobody sleeps, of the switch and so many slices.
     pub fn new(slices: u8) -> Waiting {
         Waiting {
-            bits: AtomicU64::new(0),
+            asleep: AtomicU64::new(0),
+            due: AtomicU64::new(0),
             slices,
         }
     }
 
-    // Notes for whom messages wait after a step. Where the desk was opened or has ended it is everyone.
+    // Notes who is to be woken after a step. Where the desk was opened or has ended it is everyone who sleeps.
     pub(crate) fn note(&self, desk: &Desk, was_open: bool) {
+        let asleep = self.asleep.load(Ordering::SeqCst);
+        let among = asleep & !self.due.load(Ordering::SeqCst);
+        if among == 0 {
+            return;
+        }
         let bits = if desk.is_open() == was_open {
-            bits_of(desk, self.slices)
+            bits_of(desk, among, self.slices)
         } else {
-            u64::MAX
+            among
         };
-        self.bits.fetch_or(bits, Ordering::SeqCst);
+        if bits != 0 {
+            self.due.fetch_or(bits, Ordering::SeqCst);
+        }
     }
 
-    /// The one at a place is about to look by itself.
-    pub fn forget(&self, place: usize) {
-        self.bits.fetch_and(!bit_at(place), Ordering::SeqCst);
+    /// The one at a place is about to sleep, and looks once more by itself.
+    pub fn lie_down(&self, place: usize) {
+        self.due.fetch_and(!bit_at(place), Ordering::SeqCst);
+        self.asleep.fetch_or(bit_at(place), Ordering::SeqCst);
     }
 
-    /// Who of these was noted; they are noted no longer.
-    pub fn take(&self, among: u64) -> u64 {
-        self.bits.fetch_and(!among, Ordering::SeqCst) & among
+    /// Those who sleep and are to be woken; they sleep no longer.
+    pub fn wake_due(&self) -> u64 {
+        if self.due.load(Ordering::SeqCst) == 0 {
+            return 0;
+        }
+        let due = self.due.swap(0, Ordering::SeqCst);
+        self.asleep.fetch_and(!due, Ordering::SeqCst);
+        due
+    }
+
+    /// All who sleep; they sleep no longer.
+    pub fn wake_all(&self) -> u64 {
+        if self.asleep.load(Ordering::SeqCst) == 0 {
+            return 0;
+        }
+        self.due.store(0, Ordering::SeqCst);
+        self.asleep.swap(0, Ordering::SeqCst)
     }
 }

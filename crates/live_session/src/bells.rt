@@ -5,7 +5,7 @@ use crossbeam_utils::CachePadded;
 use live_desk::{Waiting, bit_at, place_of};
 use proxy_core::Dest;
 use std::alloc::{AllocError, Global};
-use std::sync::atomic::{AtomicBool, AtomicU64, Ordering};
+use std::sync::atomic::{AtomicBool, Ordering};
 use std::sync::{Arc, Condvar, Mutex, MutexGuard, Wait};
 use std::thread;
 
@@ -47,13 +47,11 @@ impl Bell {
 /// A bell for each destination of a desk, by which those who wait for its messages are woken.
 #[derive(Drop)]
 pub struct Bells {
-    // A bit for each destination whose writer is about to sleep.
-    asleep: CachePadded<AtomicU64>,
     // Whoever asks the desk holds this one. So one ticket is drawn at a time, and the others sleep.
     hold: CachePadded<Mutex<()>>,
     // Whether the switch's reader has ended.
     ended: AtomicBool,
-    // Of whom the desk notes that messages wait for them.
+    // Who is about to sleep, and of these for whom the desk notes that messages wait.
     waiting: Arc<Waiting, Global>,
     each: Vec<CachePadded<Bell>>,
 }
@@ -74,7 +72,6 @@ impl Bells {
             each.push(CachePadded::new(Bell::new()))?;
         }
         Ok(Bells {
-            asleep: CachePadded::new(AtomicU64::new(0)),
             hold: CachePadded::new(Mutex::new(())),
             ended: AtomicBool::new(false),
             waiting: Arc::new(alloc, Waiting::new(slices))?,
@@ -94,27 +91,19 @@ impl Bells {
 
     // Wakes all who sleep.
     pub(crate) fn ring_all<R: Wait>(&self, rt: &R) {
-        if self.asleep.load(Ordering::SeqCst) != 0 {
-            let asleep = self.asleep.swap(0, Ordering::SeqCst);
-            self.ring_each(rt, asleep);
-        }
+        self.ring_each(rt, self.waiting.wake_all());
     }
 
     // Wakes those who sleep and for whom messages wait.
     pub(crate) fn ring<R: Wait>(&self, rt: &R) {
-        let asleep = self.asleep.load(Ordering::SeqCst);
-        if asleep == 0 {
-            return;
-        }
-        let due = self.waiting.take(asleep);
-        if due != 0 {
-            self.asleep.fetch_and(!due, Ordering::SeqCst);
-            self.ring_each(rt, due);
-        }
+        self.ring_each(rt, self.waiting.wake_due());
     }
 
     // Rings the bells of these bits.
     fn ring_each<R: Wait>(&self, rt: &R, bits: u64) {
+        if bits == 0 {
+            return;
+        }
         for (place, bell) in self.each.iter().enumerate() {
             if bits & bit_at(place) != 0 {
                 bell.ring(rt);
@@ -135,8 +124,7 @@ impl Bells {
 
     // The next ring is for this bell, too. Who then finds nothing may sleep: what comes later rings.
     pub(crate) fn lie_down(&self, at: usize) {
-        self.waiting.forget(at);
-        self.asleep.fetch_or(bit_at(at), Ordering::SeqCst);
+        self.waiting.lie_down(at);
     }
 
     // Sleeps until the bell was rung more often than `seen`. Who rang may go on before.

@@ -12,6 +12,12 @@ pub trait Gate: Drop {
         side: Side,
         count: u64,
     );
+
+    /// Whether `pass` may wait for other threads. Where it doesn't, the messages that came at once are asked
+    /// one after another without a pause.
+    fn may_wait(&self) -> bool {
+        true
+    }
 }
 
 /// Lets every message pass at once.
@@ -25,4 +31,8 @@ impl Gate for OpenGate {
         _side: Side,
         _count: u64,
     ) {}
+
+    fn may_wait(&self) -> bool {
+        false
+    }
 }

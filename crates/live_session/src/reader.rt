@@ -47,26 +47,45 @@ fn step<R: Wait>(
     }
 }
 
-fn is_message(event: &Event) -> bool {
-    matches!(event, Event::SwitchMsg(_) | Event::SliceMsg(..))
-}
-
 fn goes_on(stepped: &Result<Result<Verdict, AllocError>, Spent>) -> bool {
     matches!(stepped, Ok(Ok(Verdict::Go)))
 }
 
-// A message wakes those for whom messages wait, any other event everyone: it may be their end.
-fn wake<R: Wait>(rt: &R, bells: &Bells, is_message: bool) {
-    if is_message {
+// What goes on wakes those for whom messages wait, what ends everyone: it may be their end.
+fn wake<R: Wait>(rt: &R, bells: &Bells, goes_on: bool) {
+    if goes_on {
         bells.ring(rt);
     } else {
         bells.ring_all(rt);
     }
 }
 
-/// One event, at the moment that the clock answers, after which those are woken for whom it may have brought
-/// something. Where the seat has no calls left the clock isn't asked.
+/// One event, at the moment that the clock answers. Where the seat has no calls left the clock isn't asked.
 fn ask<R: Wait, C: Clock>(
+    rt: &R,
+    desk: &TurnDesk<DeskObject>,
+    seat: &mut TurnSeat<DeskObject>,
+    clock: &mut C,
+    event: Event,
+) -> Result<Result<Verdict, AllocError>, Spent>
+    requires desk { IsSeatOf desk.now seat.old }
+    ensures desk { SameDesk seat.new seat.old }
+    ensures went { IfOk result (λ stepped. WentOne (spot seat.old (C.coming clock.old)) event (Stepped stepped) (spot seat.new (C.coming clock.new))) }
+    ensures spent { OnErr result (seat.old.left ≡ 0) }
+    ensures same { OnErr result (spot seat.new (C.coming clock.new) ≡ spot seat.old (C.coming clock.old)) }
+{
+    if seat.left() == 0 {
+        return Err(Spent);
+    }
+    let moment = clock.now();
+    match step(rt, desk, seat, Timed { event, moment }) {
+        Ok(stepped) => Ok(stepped),
+        Err(_) => unreachable!(),
+    }
+}
+
+/// One event while nobody else asks. Then everyone is woken: it may be the first that they wait for, or their end.
+fn ask_alone<R: Wait, C: Clock>(
     rt: &R,
     desk: &TurnDesk<DeskObject>,
     seat: &mut TurnSeat<DeskObject>,
@@ -80,18 +99,47 @@ fn ask<R: Wait, C: Clock>(
     ensures spent { OnErr result (seat.old.left ≡ 0) }
     ensures same { OnErr result (spot seat.new (C.coming clock.new) ≡ spot seat.old (C.coming clock.old)) }
 {
-    if seat.left() == 0 {
-        return Err(Spent);
-    }
-    let is_message = is_message(&event);
-    let moment = clock.now();
     let hold = bells.hold(rt);
-    let stepped = step(rt, desk, seat, Timed { event, moment });
+    let asked = ask(rt, desk, seat, clock, event);
     drop(hold);
-    wake(rt, bells, is_message && goes_on(&stepped));
-    match stepped {
-        Ok(stepped) => Ok(stepped),
-        Err(_) => unreachable!(),
+    bells.ring_all(rt);
+    asked
+}
+
+/// When others may ask while the frames of one piece are handed on.
+#[derive(Clone, Copy)]
+enum Pace {
+    /// After each frame.
+    Each,
+    /// After all of them: the reader has the hold.
+    Together,
+}
+
+/// One message at this pace. After each by itself those are woken for whom messages wait.
+fn ask_message<R: Wait, C: Clock>(
+    rt: &R,
+    desk: &TurnDesk<DeskObject>,
+    seat: &mut TurnSeat<DeskObject>,
+    clock: &mut C,
+    bells: &Bells,
+    pace: Pace,
+    event: Event,
+) -> Result<Result<Verdict, AllocError>, Spent>
+    requires desk { IsSeatOf desk.now seat.old }
+    ensures desk { SameDesk seat.new seat.old }
+    ensures went { IfOk result (λ stepped. WentOne (spot seat.old (C.coming clock.old)) event (Stepped stepped) (spot seat.new (C.coming clock.new))) }
+    ensures spent { OnErr result (seat.old.left ≡ 0) }
+    ensures same { OnErr result (spot seat.new (C.coming clock.new) ≡ spot seat.old (C.coming clock.old)) }
+{
+    match pace {
+        Pace::Together => ask(rt, desk, seat, clock, event),
+        Pace::Each => {
+            let hold = bells.hold(rt);
+            let asked = ask(rt, desk, seat, clock, event);
+            drop(hold);
+            wake(rt, bells, goes_on(&asked));
+            asked
+        }
     }
 }
 
@@ -107,8 +155,8 @@ fn end_by(stepped: Result<Verdict, AllocError>) -> Option<ReaderEnd>
     }
 }
 
-/// Hands on the frames that are whole.
-fn hand_on<R: Host + Net<Listener = TcpListener, Stream = TcpStream>, C: Clock, G: Gate>(
+/// Hands on the frames that are whole, at this pace.
+fn hand_each<R: Host + Net<Listener = TcpListener, Stream = TcpStream>, C: Clock, G: Gate>(
     rt: &R,
     desk: &TurnDesk<DeskObject>,
     seat: &mut TurnSeat<DeskObject>,
@@ -116,6 +164,7 @@ fn hand_on<R: Host + Net<Listener = TcpListener, Stream = TcpStream>, C: Clock, 
     clock: &mut C,
     gate: &G,
     bells: &Bells,
+    pace: Pace,
     framer: &mut Framer,
     count: &mut u64,
 ) -> Option<ReaderEnd>
@@ -132,7 +181,8 @@ fn hand_on<R: Host + Net<Listener = TcpListener, Stream = TcpStream>, C: Clock, 
         };
         gate.pass(rt, side, *count);
         *count = count.wrapping_add(1);
-        let Ok(stepped) = ask(rt, desk, seat, clock, bells, message(side, frame)) else {
+        let asked = ask_message(rt, desk, seat, clock, bells, pace, message(side, frame));
+        let Ok(stepped) = asked else {
             return Some(ReaderEnd::Spent);
         };
         if let Some(end) = end_by(stepped) {
@@ -140,6 +190,55 @@ fn hand_on<R: Host + Net<Listener = TcpListener, Stream = TcpStream>, C: Clock, 
         }
     }
     unreachable!()
+}
+
+/// Hands on the frames that are whole. Where the gate may wait for other threads these have their turn after each
+/// frame, and else after the last one.
+fn hand_on<R: Host + Net<Listener = TcpListener, Stream = TcpStream>, C: Clock, G: Gate>(
+    rt: &R,
+    desk: &TurnDesk<DeskObject>,
+    seat: &mut TurnSeat<DeskObject>,
+    side: Side,
+    clock: &mut C,
+    gate: &G,
+    bells: &Bells,
+    framer: &mut Framer,
+    count: &mut u64,
+) -> Option<ReaderEnd>
+    requires desk { IsSeatOf desk.now seat.old }
+    ensures desk { SameDesk seat.new seat.old }
+    ensures handed { (fed : List ℕ) (given : List (List ℕ)) → Stands framer.old fed given → (more : List (List ℕ)) × (calls : List DeskCall) × Went (spot seat.old (C.coming clock.old)) (messages side more) calls (spot seat.new (C.coming clock.new)) × AreFirst (given ++ more) (frames_of fed) × HandedTo result framer.new fed (given ++ more) calls seat.new.left }
+{
+    if gate.may_wait() {
+        return hand_each(
+            rt,
+            desk,
+            seat,
+            side,
+            clock,
+            gate,
+            bells,
+            Pace::Each,
+            framer,
+            count,
+        );
+    }
+    let hold = bells.hold(rt);
+    let end = hand_each(
+        rt,
+        desk,
+        seat,
+        side,
+        clock,
+        gate,
+        bells,
+        Pace::Together,
+        framer,
+        count,
+    );
+    drop(hold);
+    wake(rt, bells, end.is_none());
+    end
 }
 
 /// Takes all that comes from the source, and hands on its frames.
@@ -242,7 +341,7 @@ fn begin<R: Host + Net<Listener = TcpListener, Stream = TcpStream>, S: Source, C
     ensures fault { result ≡ ReadFault → Rose (S.faults source.old) (S.faults source.new) }
     ensures closed { result ≡ Closed → IsUsedUp (S.left source.new) }
 {
-    let stepped = ask(rt, desk, seat, clock, bells, up(side));
+    let stepped = ask_alone(rt, desk, seat, clock, bells, up(side));
     bells.came(rt, side);
     let Ok(stepped) = stepped else {
         return ReaderEnd::Spent;
@@ -280,7 +379,7 @@ fn finish<R: Wait, C: Clock>(
     if !closes(end) {
         return end;
     }
-    let Ok(_) = ask(rt, desk, seat, clock, bells, down(side)) else {
+    let Ok(_) = ask_alone(rt, desk, seat, clock, bells, down(side)) else {
         return ReaderEnd::Spent;
     };
     end

@@ -1,7 +1,7 @@
 use Rattle.std.proofs.Common.{◌≡◌, ℕ, List, ◌++◌}
 use Rattle.of10_ctl.specs.Streams.{Stands}
 use Rattle.live_session.specs.Stretches.{spot, messages, Went, DeskCall}
-use Rattle.live_session.proofs.reader.hand_on.Given as goal
+use Rattle.live_session.proofs.reader.hand_each.Given as goal
 
 abbrev pub invariant-loop : goal.invariant-loop
 invariant-loop g l = record {
