@@ -251,7 +251,7 @@ fn no_thread(_work: LiveWork<HostRuntime>, _done: Arc<Done, Global>) -> Option<J
 
 /// What is said, how many bytes of output there is room for, and what is answered: the status, the output, and
 /// the line on the error stream.
-const ANSWERS: [(&str, usize, u8, &str, &str); 16] = [
+const ANSWERS: [(&str, usize, u8, &str, &str); 17] = [
     ("replay @policy @recording", 2048, 0, "end 0\n", ""),
     ("replay @policy @recording", 5, 5, "end 0", "write fault\n"),
     ("check @policy", 2048, 0, "ok 1 0\n", ""),
