@@ -47,9 +47,14 @@ impl Object for DeskObject {
                 let was_open = self.desk.is_open();
                 let stepped = self.desk.step(self.alloc, timed);
                 self.waiting.note(&self.desk, was_open);
+                self.waiting.note_lane(self.desk.lane_bytes());
                 DeskReply::Stepped(stepped)
             }
-            DeskOp::Take(dest) => DeskReply::Took(self.desk.take(dest)),
+            DeskOp::Take(dest) => {
+                let taken = self.desk.take(dest);
+                self.waiting.note_lane(self.desk.lane_bytes());
+                DeskReply::Took(taken)
+            }
         }
     }
 }

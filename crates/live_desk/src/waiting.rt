@@ -4,13 +4,15 @@ use proxy_core::{Desk, Dest};
 use std::sync::atomic::{AtomicU64, Ordering};
 
 /// Who sleeps until a desk that threads share has messages for them, and for whom it has: a bit for the switch, and
-/// one for each slice behind it.
+/// one for each slice behind it. And how much waits for the switch.
 #[derive(Drop)]
 pub struct Waiting {
     // Who is about to sleep, or does.
     asleep: AtomicU64,
     // Who of these is to be woken.
     due: AtomicU64,
+    // How many bytes waited for the switch after the last turn.
+    lane: AtomicU64,
     slices: u8,
 }
 
@@ -52,6 +54,7 @@ impl Waiting {
         Waiting {
             asleep: AtomicU64::new(0),
             due: AtomicU64::new(0),
+            lane: AtomicU64::new(0),
             slices,
         }
     }
@@ -71,6 +74,16 @@ impl Waiting {
         if bits != 0 {
             self.due.fetch_or(bits, Ordering::SeqCst);
         }
+    }
+
+    // Notes how many bytes wait for the switch after a turn.
+    pub(crate) fn note_lane(&self, bytes: u64) {
+        self.lane.store(bytes, Ordering::SeqCst);
+    }
+
+    /// How many bytes waited for the switch after the last turn.
+    pub fn lane_bytes(&self) -> u64 {
+        self.lane.load(Ordering::SeqCst)
     }
 
     /// The one at a place is about to sleep, and looks once more by itself.

@@ -42,6 +42,20 @@ impl Bell {
         drop(counts);
         self.changed.notify_all();
     }
+
+    // How often it was rung.
+    fn rung<R: Wait>(&self, rt: &R) -> u64 {
+        let counts = self.counts.lock(rt);
+        counts.rings
+    }
+
+    // Sleeps until it was rung more often than `seen`.
+    fn sleep<R: Wait>(&self, rt: &R, seen: u64) {
+        let counts = self
+            .changed
+            .wait_while(rt, self.counts.lock(rt), |counts| counts.rings == seen);
+        drop(counts);
+    }
 }
 
 /// A bell for each destination of a desk, by which those who wait for its messages are woken.
@@ -54,7 +68,14 @@ pub struct Bells {
     // Who is about to sleep, and of these for whom the desk notes that messages wait.
     waiting: Arc<Waiting, Global>,
     each: Vec<CachePadded<Bell>>,
+    // Rung when fewer bytes wait for the switch, where someone waits for that.
+    room: CachePadded<Bell>,
+    room_is_wanted: AtomicBool,
 }
+
+/// How many bytes may wait for the switch before slices' readers wait. A slice's message brings at most 262,144 more,
+/// which the lane has room for.
+const LANE_SHARE: u64 = 524_288;
 
 fn bell_of_side(side: Side) -> usize {
     match side {
@@ -76,6 +97,8 @@ impl Bells {
             ended: AtomicBool::new(false),
             waiting: Arc::new(alloc, Waiting::new(slices))?,
             each,
+            room: CachePadded::new(Bell::new()),
+            room_is_wanted: AtomicBool::new(false),
         })
     }
 
@@ -92,6 +115,45 @@ impl Bells {
     // Wakes all who sleep.
     pub(crate) fn ring_all<R: Wait>(&self, rt: &R) {
         self.ring_each(rt, self.waiting.wake_all());
+        self.ring_room(rt);
+    }
+
+    // What goes on wakes those for whom messages wait, what ends everyone: it may be their end.
+    pub(crate) fn wake<R: Wait>(&self, rt: &R, goes_on: bool) {
+        if goes_on {
+            self.ring(rt);
+        } else {
+            self.ring_all(rt);
+        }
+    }
+
+    // Whether so much waits for the switch that slices' messages are to wait.
+    pub(crate) fn is_lane_full(&self) -> bool {
+        self.waiting.lane_bytes() > LANE_SHARE
+    }
+
+    // Sleeps while the lane is full. Who rang may go on before.
+    pub(crate) fn wait_for_room<R: Wait>(&self, rt: &R) {
+        let seen = self.room.rung(rt);
+        self.room_is_wanted.store(true, Ordering::SeqCst);
+        if self.is_lane_full() {
+            self.room.sleep(rt, seen);
+        }
+    }
+
+    // Messages were taken for a destination. Where that made room, those who wait for it are woken.
+    pub(crate) fn took<R: Wait>(&self, rt: &R, at: usize) {
+        if at == place_of(Dest::Switch) && !self.is_lane_full() {
+            self.ring_room(rt);
+        }
+    }
+
+    fn ring_room<R: Wait>(&self, rt: &R) {
+        if self.room_is_wanted.load(Ordering::SeqCst)
+            && self.room_is_wanted.swap(false, Ordering::SeqCst)
+        {
+            self.room.ring(rt);
+        }
     }
 
     // Wakes those who sleep and for whom messages wait.
@@ -114,10 +176,7 @@ impl Bells {
     // How often the bell was rung.
     pub(crate) fn rings<R: Wait>(&self, rt: &R, at: usize) -> u64 {
         match self.each.get(at) {
-            Some(bell) => {
-                let counts = bell.counts.lock(rt);
-                counts.rings
-            }
+            Some(bell) => bell.rung(rt),
             None => 0,
         }
     }
@@ -132,10 +191,7 @@ impl Bells {
         let Some(bell) = self.each.get(at) else {
             return;
         };
-        let counts = bell
-            .changed
-            .wait_while(rt, bell.counts.lock(rt), |counts| counts.rings == seen);
-        drop(counts);
+        bell.sleep(rt, seen);
         thread::yield_now();
     }
 

@@ -9,6 +9,7 @@ mod joined;
 mod reader;
 mod side;
 mod slice;
+mod turns;
 mod writer;
 
 pub use bells::Bells;

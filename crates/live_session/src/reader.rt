@@ -14,6 +14,7 @@ use crate::bells::Bells;
 use crate::ends::ReaderEnd;
 use crate::gate::Gate;
 use crate::side::{Side, down, message, up};
+use crate::turns::Turns;
 use fv_live::{Clock, Host, Source};
 use live_desk::{DeskObject, DeskOp, DeskReply};
 use of10_ctl::{Framer, Next};
@@ -49,15 +50,6 @@ fn step<R: Wait>(
 
 fn goes_on(stepped: &Result<Result<Verdict, AllocError>, Spent>) -> bool {
     matches!(stepped, Ok(Ok(Verdict::Go)))
-}
-
-// What goes on wakes those for whom messages wait, what ends everyone: it may be their end.
-fn wake<R: Wait>(rt: &R, bells: &Bells, goes_on: bool) {
-    if goes_on {
-        bells.ring(rt);
-    } else {
-        bells.ring_all(rt);
-    }
 }
 
 /// One event, at the moment that the clock answers. Where the seat has no calls left the clock isn't asked.
@@ -106,43 +98,6 @@ fn ask_alone<R: Wait, C: Clock>(
     asked
 }
 
-/// When others may ask while the frames of one piece are handed on.
-#[derive(Clone, Copy)]
-enum Pace {
-    /// After each frame.
-    Each,
-    /// After all of them: the reader has the hold.
-    Together,
-}
-
-/// One message at this pace. After each by itself those are woken for whom messages wait.
-fn ask_message<R: Wait, C: Clock>(
-    rt: &R,
-    desk: &TurnDesk<DeskObject>,
-    seat: &mut TurnSeat<DeskObject>,
-    clock: &mut C,
-    bells: &Bells,
-    pace: Pace,
-    event: Event,
-) -> Result<Result<Verdict, AllocError>, Spent>
-    requires desk { IsSeatOf desk.now seat.old }
-    ensures desk { SameDesk seat.new seat.old }
-    ensures went { IfOk result (λ stepped. WentOne (spot seat.old (C.coming clock.old)) event (Stepped stepped) (spot seat.new (C.coming clock.new))) }
-    ensures spent { OnErr result (seat.old.left ≡ 0) }
-    ensures same { OnErr result (spot seat.new (C.coming clock.new) ≡ spot seat.old (C.coming clock.old)) }
-{
-    match pace {
-        Pace::Together => ask(rt, desk, seat, clock, event),
-        Pace::Each => {
-            let hold = bells.hold(rt);
-            let asked = ask(rt, desk, seat, clock, event);
-            drop(hold);
-            wake(rt, bells, goes_on(&asked));
-            asked
-        }
-    }
-}
-
 /// How a connection ends by the answer to a step, if it does.
 fn end_by(stepped: Result<Verdict, AllocError>) -> Option<ReaderEnd>
     ensures { Tells result (Stepped stepped) }
@@ -155,7 +110,7 @@ fn end_by(stepped: Result<Verdict, AllocError>) -> Option<ReaderEnd>
     }
 }
 
-/// Hands on the frames that are whole, at this pace.
+/// Hands on the frames that are whole, in turns.
 fn hand_each<R: Host + Net<Listener = TcpListener, Stream = TcpStream>, C: Clock, G: Gate>(
     rt: &R,
     desk: &TurnDesk<DeskObject>,
@@ -163,8 +118,7 @@ fn hand_each<R: Host + Net<Listener = TcpListener, Stream = TcpStream>, C: Clock
     side: Side,
     clock: &mut C,
     gate: &G,
-    bells: &Bells,
-    pace: Pace,
+    turns: &mut Turns<'_>,
     framer: &mut Framer,
     count: &mut u64,
 ) -> Option<ReaderEnd>
@@ -181,7 +135,9 @@ fn hand_each<R: Host + Net<Listener = TcpListener, Stream = TcpStream>, C: Clock
         };
         gate.pass(rt, side, *count);
         *count = count.wrapping_add(1);
-        let asked = ask_message(rt, desk, seat, clock, bells, pace, message(side, frame));
+        turns.begin(rt);
+        let asked = ask(rt, desk, seat, clock, message(side, frame));
+        turns.end(rt, goes_on(&asked));
         let Ok(stepped) = asked else {
             return Some(ReaderEnd::Spent);
         };
@@ -193,7 +149,7 @@ fn hand_each<R: Host + Net<Listener = TcpListener, Stream = TcpStream>, C: Clock
 }
 
 /// Hands on the frames that are whole. Where the gate may wait for other threads these have their turn after each
-/// frame, and else after the last one.
+/// frame, and else after many.
 fn hand_on<R: Host + Net<Listener = TcpListener, Stream = TcpStream>, C: Clock, G: Gate>(
     rt: &R,
     desk: &TurnDesk<DeskObject>,
@@ -209,35 +165,9 @@ fn hand_on<R: Host + Net<Listener = TcpListener, Stream = TcpStream>, C: Clock, 
     ensures desk { SameDesk seat.new seat.old }
     ensures handed { (fed : List ℕ) (given : List (List ℕ)) → Stands framer.old fed given → (more : List (List ℕ)) × (calls : List DeskCall) × Went (spot seat.old (C.coming clock.old)) (messages side more) calls (spot seat.new (C.coming clock.new)) × AreFirst (given ++ more) (frames_of fed) × HandedTo result framer.new fed (given ++ more) calls seat.new.left }
 {
-    if gate.may_wait() {
-        return hand_each(
-            rt,
-            desk,
-            seat,
-            side,
-            clock,
-            gate,
-            bells,
-            Pace::Each,
-            framer,
-            count,
-        );
-    }
-    let hold = bells.hold(rt);
-    let end = hand_each(
-        rt,
-        desk,
-        seat,
-        side,
-        clock,
-        gate,
-        bells,
-        Pace::Together,
-        framer,
-        count,
-    );
-    drop(hold);
-    wake(rt, bells, end.is_none());
+    let mut turns = Turns::new(bells, side, gate.may_wait());
+    let end = hand_each(rt, desk, seat, side, clock, gate, &mut turns, framer, count);
+    turns.finish(rt);
     end
 }
 

@@ -139,6 +139,7 @@ fn write_on<R: Wait, K: Sink>(
     let mut lying = false;
     for _ in rt.forever() {
         let pause = gather(rt, desk, seat, dest, bells, buffer);
+        bells.took(rt, at);
         let Ok(()) = put_out(sink, buffer, &pause) else {
             return WriterEnd::WriteFault;
         };

@@ -1,5 +1,5 @@
 ghost use Rattle.std.specs.Prelude.{ℕ, ◌≡◌, ◌≤◌, ◌<◌, ◌+◌, ◌==◌, length, slice_get, OnOk, IfSome, OnErr};
-ghost use Rattle.outbox.specs.Queues.{Queue, no_messages, push, without_first, QueueStands};
+ghost use Rattle.outbox.specs.Queues.{Queue, no_messages, push, size, without_first, QueueStands};
 
 use of10_ctl::Frame;
 use std::alloc::{AllocError, Global};
@@ -92,6 +92,13 @@ impl Outbox {
         ensures kept { result ≡ (length self.now.pending == 0) }
     {
         self.frames.is_empty()
+    }
+
+    /// How many bytes wait.
+    pub fn bytes(&self) -> u64
+        ensures { (limit : ℕ) (q : Queue) → QueueStands limit q self.now → result ≡ size q.pending }
+    {
+        self.bytes
     }
 
     /// Whether a message was dropped since the outbox was last cleared.

@@ -4,7 +4,7 @@ use Rattle.std.specs.declared.alloc.AllocError.{AllocError}
 use Rattle.of10_ctl.specs.Frames.{is_bad}
 use Rattle.flowspace.specs.Policies.{PolicyView}
 use Rattle.flow_book.specs.declared.state.SliceState.{SliceState}
-use Rattle.outbox.specs.Queues.{Queue, no_messages, push_all, without_first, Kept, QueueStands}
+use Rattle.outbox.specs.Queues.{Queue, no_messages, push_all, size, without_first, Kept, QueueStands}
 use Rattle.slice_words.specs.Items.{is_up}
 use Rattle.slice_words.specs.Standing.{SliceStands}
 use Rattle.of10_port.specs.declared.features.Features.{Features}
@@ -227,6 +227,10 @@ abbrev pub TellsWaiting : Desk → Dest → Bool → Type 0
 TellsWaiting desk dest waits =
     (policy : PolicyView) (operations : List Operation) → DeskStands policy operations desk
     → waits ≡ not (length (waiting_in dest (λ slot. queue_of policy slot operations) (lane_of policy operations)).pending == 0)
+
+-- how many bytes wait for the switch, likewise
+abbrev pub TellsLane : Desk → ℕ → Type 0
+TellsLane desk bytes = (policy : PolicyView) (operations : List Operation) → DeskStands policy operations desk → bytes ≡ size (lane_of policy operations).pending
 
 -- whether the switch's connection has ended, likewise
 abbrev pub TellsEnd : Desk → Bool → Type 0

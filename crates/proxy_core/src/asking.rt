@@ -4,7 +4,7 @@ ghost use Rattle.std.specs.Prelude.{ℕ, ◌≡◌, ◌==◌, ◌&&◌, not, len
 ghost use Rattle.desk_words.specs.Histories.{is_open};
 ghost use Rattle.desk_words.specs.Verdicts.{is_ended};
 ghost use Rattle.desk_words.specs.declared.answer.Dest.TheVariants.{Slice};
-ghost use Rattle.proxy_core.specs.Desks.{TellsEnd, TellsOpening, TellsUp, TellsWaiting, left, pending_at};
+ghost use Rattle.proxy_core.specs.Desks.{TellsEnd, TellsLane, TellsOpening, TellsUp, TellsWaiting, left, pending_at};
 
 use crate::parts::{Desk, Session};
 use desk_words::{Dest, Phase};
@@ -41,6 +41,13 @@ impl Desk {
             Dest::Switch => !self.lane.is_empty(),
             Dest::Slice(slot) => self.waits_for_slice(slot),
         }
+    }
+
+    /// How many bytes wait for the switch.
+    pub fn lane_bytes(&self) -> u64
+        ensures { TellsLane self.now result }
+    {
+        self.lane.bytes()
     }
 
     /// Whether the switch's connection has ended.

@@ -1,0 +1,88 @@
+// When a reader has the desk to itself, and when others have their turn. None of it has a clause: nothing is claimed
+// of waking.
+
+use crate::bells::Bells;
+use crate::side::Side;
+use std::sync::{MutexGuard, Wait};
+
+/// After how many of a slice's messages others have their turn: one of them may cost as much as many packets do.
+const MESSAGES_OF_A_SLICE: u32 = 64;
+
+/// The same of a switch's messages.
+const MESSAGES_OF_A_SWITCH: u32 = 1024;
+
+/// The turns of a reader while it hands on the messages of one piece.
+pub(crate) struct Turns<'a> {
+    bells: &'a Bells,
+    side: Side,
+    // Whether others have their turn after each message.
+    each: bool,
+    // How many messages are handed on before others have their turn.
+    left: u32,
+    hold: Option<MutexGuard<'a, ()>>,
+}
+
+fn messages_of(side: Side) -> u32 {
+    match side {
+        Side::Switch => MESSAGES_OF_A_SWITCH,
+        Side::Slice(_) => MESSAGES_OF_A_SLICE,
+    }
+}
+
+impl<'a> Turns<'a> {
+    /// Those of a reader of this side. Where others have their turn after each message, as the gate of a test wants
+    /// it, no message waits for room in the lane either.
+    pub(crate) fn new(bells: &'a Bells, side: Side, each: bool) -> Turns<'a> {
+        Turns {
+            bells,
+            side,
+            each,
+            left: messages_of(side),
+            hold: None,
+        }
+    }
+
+    fn take_hold<R: Wait>(&mut self, rt: &R) {
+        if self.hold.is_none() {
+            self.hold = Some(self.bells.hold(rt));
+        }
+    }
+
+    fn let_go(&mut self) {
+        drop(self.hold.take());
+        self.left = messages_of(self.side);
+    }
+
+    /// Before a message: nobody else asks the desk. A slice's message waits while much waits for the switch, so that
+    /// no slice fills the lane up.
+    pub(crate) fn begin<R: Wait>(&mut self, rt: &R) {
+        self.take_hold(rt);
+        if self.each || self.side == Side::Switch {
+            return;
+        }
+        for _ in rt.forever() {
+            if !self.bells.is_lane_full() {
+                return;
+            }
+            self.let_go();
+            self.bells.ring(rt);
+            self.bells.wait_for_room(rt);
+            self.take_hold(rt);
+        }
+    }
+
+    /// After a message, by which the connection goes on or not.
+    pub(crate) fn end<R: Wait>(&mut self, rt: &R, goes_on: bool) {
+        self.left = self.left.saturating_sub(1);
+        if self.each || self.left == 0 || !goes_on {
+            self.let_go();
+            self.bells.wake(rt, goes_on);
+        }
+    }
+
+    /// After all messages.
+    pub(crate) fn finish<R: Wait>(mut self, rt: &R) {
+        self.let_go();
+        self.bells.ring(rt);
+    }
+}
