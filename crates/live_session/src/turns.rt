@@ -12,6 +12,7 @@ const MESSAGES_OF_A_SLICE: u32 = 64;
 const MESSAGES_OF_A_SWITCH: u32 = 1024;
 
 /// The turns of a reader while it hands on the messages of one piece.
+#[derive(Drop)]
 pub(crate) struct Turns<'a> {
     bells: &'a Bells,
     side: Side,
