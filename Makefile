@@ -1,13 +1,15 @@
-# Builds the program, runs it on the shipped examples, and installs it.
+# Builds the program, runs it on the shipped examples, installs it, and packs it for Debian.
 program := crates/flowvisor/out/flowvisor
+package := tools/flowvisor_tool
 
 # Where `make install` puts files; DESTDIR stands before it where a package is made.
 PREFIX ?= /usr/local
 bin = $(DESTDIR)$(PREFIX)/bin
 manual = $(DESTDIR)$(PREFIX)/share/man/man1
 completions = $(DESTDIR)$(PREFIX)/share/bash-completion/completions
+modules = $(DESTDIR)$(PREFIX)/share/flowvisor/tools
 
-.PHONY: build demo check install uninstall
+.PHONY: build demo check check-tools install uninstall deb
 
 # Proves and builds where there is no program, or a source is newer than it.
 build:
@@ -27,11 +29,26 @@ demo: build
 check:
 	@rt ci
 
+# The tests of flowvisor-tool, of the completion, and of the examples of the documents.
+check-tools: build
+	python3 -m unittest discover -s tools/tests
+	tools/try-completion
+	tools/try-operating
+
 install: build
 	install -d "$(bin)" "$(manual)" "$(completions)"
-	install -m 755 $(program) "$(bin)/flowvisor"
-	install -m 644 man/flowvisor.1 "$(manual)/flowvisor.1"
+	install -m 755 $(program) tools/flowvisor-tool "$(bin)"
+	install -m 644 man/flowvisor.1 man/flowvisor-tool.1 "$(manual)"
 	install -m 644 completion/flowvisor.bash "$(completions)/flowvisor"
+	ln -sf flowvisor "$(completions)/flowvisor-tool"
+	find $(package) -name '*.py' -printf '%P\n' | while read -r module; do \
+	  install -D -m 644 "$(package)/$$module" "$(modules)/flowvisor_tool/$$module" || exit 1; done
 
 uninstall:
-	rm -f "$(bin)/flowvisor" "$(manual)/flowvisor.1" "$(completions)/flowvisor"
+	rm -f "$(bin)/flowvisor" "$(bin)/flowvisor-tool" "$(manual)/flowvisor.1" "$(manual)/flowvisor-tool.1"
+	rm -f "$(completions)/flowvisor" "$(completions)/flowvisor-tool"
+	rm -rf "$(modules)/flowvisor_tool"
+
+# A package for Debian, out/flowvisor_VERSION_ARCHITECTURE.deb.
+deb: build
+	tools/make-deb out

@@ -1,4 +1,4 @@
-# Completion of flowvisor's words in bash.
+# Completion of the words of flowvisor and flowvisor-tool in bash.
 
 # Files of a name that ends so, and folders on the way to them; any file where there is none. The program
 # takes no word that begins with `-`.
@@ -13,13 +13,15 @@ _flowvisor_files() {
     compopt -o filenames 2> /dev/null
 }
 
+# A file stands behind < and >, in words that are none of the program's.
+_flowvisor_redirected() {
+    [[ ${COMP_WORDS[COMP_CWORD - 1]} == *[\<\>] ]] && _flowvisor_files "${COMP_WORDS[COMP_CWORD]}" ''
+}
+
 _flowvisor() {
     local word=${COMP_WORDS[COMP_CWORD]}
     COMPREPLY=()
-    if [[ ${COMP_WORDS[COMP_CWORD - 1]} == *[\<\>] ]]; then
-        _flowvisor_files "$word" ''
-        return
-    fi
+    _flowvisor_redirected && return
     case $COMP_CWORD:${COMP_WORDS[1]} in
         1:*) mapfile -t COMPREPLY < <(compgen -W 'check replay gen serve --help --version' -- "$word") ;;
         2:check | 2:replay | 2:serve) _flowvisor_files "$word" .toml ;;
@@ -27,4 +29,35 @@ _flowvisor() {
     esac
 }
 
+# The options of a subcommand of flowvisor-tool.
+_flowvisor_tool_options() {
+    case $1 in
+        explain) echo '--help --switch' ;;
+        to-pcap) echo '--help --recording' ;;
+        from-pcap) echo '--help --switch-port --policy --slice --attach --direct --drop' ;;
+        *) echo --help ;;
+    esac
+}
+
+_flowvisor_tool() {
+    local word=${COMP_WORDS[COMP_CWORD]} before=${COMP_WORDS[COMP_CWORD - 1]} command=${COMP_WORDS[1]}
+    COMPREPLY=()
+    _flowvisor_redirected && return
+    if ((COMP_CWORD == 1)); then
+        mapfile -t COMPREPLY < <(compgen -W 'lint explain show to-pcap from-pcap --help' -- "$word")
+        return
+    fi
+    case $before:$command:$word in
+        --policy:*) _flowvisor_files "$word" .toml ;;
+        --recording:*) _flowvisor_files "$word" .rec ;;
+        --switch:* | --switch-port:* | --slice:* | --attach:* | --direct:* | --drop:*) ;;
+        *:-*) mapfile -t COMPREPLY < <(compgen -W "$(_flowvisor_tool_options "$command")" -- "$word") ;;
+        lint:lint:* | *:explain:*) _flowvisor_files "$word" .toml ;;
+        *:lint:*) ;;
+        from-pcap:from-pcap:*) _flowvisor_files "$word" .pcap ;;
+        *) _flowvisor_files "$word" '' ;;
+    esac
+}
+
 complete -F _flowvisor flowvisor
+complete -F _flowvisor_tool flowvisor-tool

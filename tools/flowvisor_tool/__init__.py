@@ -1,0 +1,1 @@
+"""The companion of flowvisor for those who operate it: `flowvisor-tool`."""

@@ -1,0 +1,208 @@
+"""The twelve fields of a packet's header, and their text as `ovs-ofctl` writes it.
+
+The names, the sizes and the order are those of a match (OpenFlow 1.0.0, sections 3.1 and 5.2.3).
+"""
+import ipaddress
+import re
+from collections.abc import Container
+from typing import NamedTuple
+
+from .faults import Fault
+
+UNTAGGED = 0xFFFF
+LARGEST_VLAN = 4095
+TAG_IS_THERE = 0x1000
+LARGEST_PHYSICAL_PORT = 0xFF00
+LOCAL_PORT = 0xFFFE
+IPV4, ARP, LLDP = 0x0800, 0x0806, 0x88CC
+ICMP, TCP, UDP = 1, 6, 17
+
+BITS = {
+    "in_port": 16,
+    "dl_src": 48,
+    "dl_dst": 48,
+    "dl_vlan": 16,
+    "dl_vlan_pcp": 8,
+    "dl_type": 16,
+    "nw_tos": 8,
+    "nw_proto": 8,
+    "nw_src": 32,
+    "nw_dst": 32,
+    "tp_src": 16,
+    "tp_dst": 16,
+}
+HARDWARE_FIELDS = ("dl_src", "dl_dst")
+NETWORK_FIELDS = ("nw_src", "nw_dst")
+
+# What a keyword of `ovs-ofctl` says, and other names that it has for fields.
+KEYWORDS = {
+    "ip": {"dl_type": IPV4},
+    "arp": {"dl_type": ARP},
+    "icmp": {"dl_type": IPV4, "nw_proto": ICMP},
+    "tcp": {"dl_type": IPV4, "nw_proto": TCP},
+    "udp": {"dl_type": IPV4, "nw_proto": UDP},
+}
+OTHER_NAMES = {
+    "arp_op": "nw_proto",
+    "arp_spa": "nw_src",
+    "arp_tpa": "nw_dst",
+    "icmp_type": "tp_src",
+    "icmp_code": "tp_dst",
+}
+# The order in which `ovs-ofctl` writes fields behind the keyword.
+WRITTEN = (
+    *("in_port", "dl_vlan", "dl_vlan_pcp", "dl_src", "dl_dst", "dl_type"),
+    *("nw_src", "nw_dst", "nw_proto", "nw_tos", "tp_src", "tp_dst"),
+)
+
+HARDWARE = re.compile(r"[0-9A-Fa-f]{2}(?::[0-9A-Fa-f]{2}){5}")
+NUMBER = re.compile(r"0[xX][0-9A-Fa-f]+|[0-9]+")
+
+
+class Header(NamedTuple):
+    """The header of a packet. Untagged is the VLAN 65535; a field that a packet doesn't have is 0."""
+
+    in_port: int = 0
+    dl_src: int = 0
+    dl_dst: int = 0
+    dl_vlan: int = UNTAGGED
+    dl_vlan_pcp: int = 0
+    dl_type: int = 0
+    nw_tos: int = 0
+    nw_proto: int = 0
+    nw_src: int = 0
+    nw_dst: int = 0
+    tp_src: int = 0
+    tp_dst: int = 0
+
+
+class Need(NamedTuple):
+    """What a field needs beside it: another field, the values of it that will do, and these in words."""
+
+    name: str
+    values: Container[int]
+    text: str
+
+
+IPV4_ALONE = Need("dl_type", (IPV4,), "0x0800")
+IPV4_OR_ARP = Need("dl_type", (IPV4, ARP), "0x0800 or 0x0806")
+HAS_PORTS = Need("nw_proto", (ICMP, TCP, UDP), "1, 6 or 17")
+NEEDS = {
+    "dl_vlan_pcp": (Need("dl_vlan", range(LARGEST_VLAN + 1), "0 to 4095"),),
+    "nw_tos": (IPV4_ALONE,),
+    "nw_proto": (IPV4_OR_ARP,),
+    "nw_src": (IPV4_OR_ARP,),
+    "nw_dst": (IPV4_OR_ARP,),
+    "tp_src": (IPV4_ALONE, HAS_PORTS),
+    "tp_dst": (IPV4_ALONE, HAS_PORTS),
+}
+
+
+def hardware_text(address):
+    """An Ethernet address."""
+    return address.to_bytes(6, "big").hex(":")
+
+
+def network_text(address):
+    """An IPv4 address."""
+    return str(ipaddress.IPv4Address(address))
+
+
+def value_text(name, value):
+    """The value of a field."""
+    if name in HARDWARE_FIELDS:
+        return hardware_text(value)
+    if name in NETWORK_FIELDS:
+        return network_text(value)
+    if name == "dl_type":
+        return f"0x{value:04x}"
+    if name == "in_port" and value == LOCAL_PORT:
+        return "LOCAL"
+    return str(value)
+
+
+def packet_text(header):
+    """A packet as `ovs-ofctl` writes it; fields that are as in an empty one are left out."""
+    shown = {name: value for name, value in header._asdict().items() if value != Header._field_defaults[name]}
+    keywords = [word for word, fields in KEYWORDS.items() if fields.items() <= shown.items()]
+    words = keywords[-1:]
+    said = KEYWORDS[words[0]] if words else {}
+    words += [f"{name}={value_text(name, shown[name])}" for name in WRITTEN if name in shown and name not in said]
+    return ",".join(words) or "in_port=0"
+
+
+def number_of(text, greatest):
+    """The number that a text is, in decimal or hex, or None."""
+    if not NUMBER.fullmatch(text):
+        return None
+    value = int(text, 16 if text[:2] in ("0x", "0X") else 10)
+    return value if value <= greatest else None
+
+
+def value_of(name, text):
+    """The value of a field that a text says, or None."""
+    if name in HARDWARE_FIELDS:
+        return int(text.replace(":", ""), 16) if HARDWARE.fullmatch(text) else None
+    if name in NETWORK_FIELDS:
+        try:
+            return int(ipaddress.IPv4Address(text))
+        except ipaddress.AddressValueError:
+            return None
+    if name == "in_port" and text.upper() == "LOCAL":
+        return LOCAL_PORT
+    value = number_of(text, (1 << BITS[name]) - 1)
+    if value is None or not is_value(name, value):
+        return None
+    return value
+
+
+def is_value(name, value):
+    """Whether a packet can have this number."""
+    match name:
+        case "dl_vlan":
+            return value <= LARGEST_VLAN or value == UNTAGGED
+        case "dl_vlan_pcp":
+            return value <= 7
+        case "nw_tos":
+            return value % 4 == 0
+    return True
+
+
+def fields_of(word):
+    """The fields that one word of a packet says."""
+    if word in KEYWORDS:
+        return KEYWORDS[word]
+    name, equals, text = word.partition("=")
+    name = OTHER_NAMES.get(name, name)
+    if not equals or name not in (*BITS, "vlan_tci"):
+        raise Fault(f"{word} is no field of a packet: {', '.join(BITS)}, {', '.join(KEYWORDS)}")
+    fields = tag_of(text) if name == "vlan_tci" else {name: value_of(name, text)}
+    if fields is None or None in fields.values():
+        raise Fault(f"{word}: {text or 'nothing'} is no value of {name}")
+    return fields
+
+
+def tag_of(text):
+    """The fields that a VLAN tag says, with the bit that newer versions of `ovs-ofctl` set where there is one, or None."""
+    tag = number_of(text, 0xFFFF)
+    if tag == 0:
+        return {"dl_vlan": UNTAGGED}
+    if tag is None or not tag & TAG_IS_THERE:
+        return None
+    return {"dl_vlan": tag & LARGEST_VLAN, "dl_vlan_pcp": tag >> 13}
+
+
+def header_of_words(text):
+    """The header of a packet that is given by fields, as `in_port=1,tcp,nw_dst=10.0.0.1,tp_dst=80`."""
+    given = {}
+    for word in filter(None, re.split(r"[, ]+", text)):
+        fields = fields_of(word)
+        for name, value in fields.items():
+            if given.setdefault(name, value) != value:
+                raise Fault(f"{word}: {name} is {value_text(name, given[name])} already")
+    header = Header(**given)
+    for name in given:
+        for need in NEEDS.get(name, ()):
+            if getattr(header, need.name) not in need.values:
+                raise Fault(f"{name} needs {need.name} {need.text} beside it")
+    return header

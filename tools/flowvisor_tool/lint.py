@@ -1,0 +1,78 @@
+"""Tells all that is wrong with a policy, each with its line and column, and what looks like a mistake."""
+from .controllers import controller_warnings
+from .policy import Finding, hidden_pairs
+from .policy_forms import read_network
+from .policy_text import read_policy_file
+
+NAME = "lint"
+SUMMARY = "tell all that is wrong with a policy"
+EPILOG = """\
+A fault is what flowvisor check refuses the policy for; it tells the first one alone. A warning is what it accepts, but
+hardly was meant: a rule that never applies, bits of an address that don't count, a controller that no connection can be
+made to, two slices with one controller. The status is 1 where there is a fault.
+"""
+
+
+def add_arguments(parser):
+    parser.epilog = EPILOG
+    parser.add_argument("policy", metavar="POLICY", help="the policy's file")
+
+
+def run(arguments):
+    reading = read_policy_file(arguments.policy)
+    warnings = warnings_of(reading)
+    told = [(finding, "fault") for finding in reading.faults] + [(finding, "warning") for finding in warnings]
+    for finding, kind in sorted(told):
+        place = finding.position
+        print(f"{arguments.policy}:{place.line}:{place.column}: {kind}: {on_one_line(finding.text)}")
+    print(verdict(reading, len(warnings)))
+    return 1 if reading.faults else 0
+
+
+def on_one_line(text):
+    """A text with escapes in the place of what would break its line."""
+    return "".join(one if one.isprintable() else repr(one)[1:-1] for one in text)
+
+
+def verdict(reading, warnings):
+    """The last line: whether the policy is accepted."""
+    also = f", {counted(warnings, 'warning')}" if warnings else ""
+    if reading.faults:
+        return f"refused: {counted(len(reading.faults), 'fault')}{also}"
+    policy = reading.policy
+    return f"accepted: {counted(len(policy.slices), 'slice')}, {counted(len(policy.rules), 'rule')}{also}"
+
+
+def counted(count, noun):
+    return f"{count} {noun}" if count == 1 else f"{count} {noun}s"
+
+
+def warnings_of(reading):
+    """What a policy may have and be accepted, but hardly on purpose."""
+    return [*hidden_rules(reading), *disregarded_bits(reading), *controller_warnings(reading.policy.slices)]
+
+
+def hidden_rules(reading):
+    """Rules all of whose packets are another's; where these two overlap, that is a fault."""
+    for earlier, later in hidden_pairs(reading.policy.in_order):
+        if later.writer is None or later.writer == earlier.writer:
+            yield Finding(later.position, f"{later} never applies: {earlier} comes before it and has all of its packets")
+
+
+def disregarded_bits(reading):
+    """Addresses with bits set behind the length of their prefix."""
+    rules = reading.document.root.content.get("rule")
+    tables = rules.content if rules and isinstance(rules.content, list) else []
+    for index, table in enumerate(tables):
+        for name in ("nw_src", "nw_dst"):
+            node = table.content.get(name) if isinstance(table.content, dict) else None
+            network = read_network(node.content) if node else None
+            if network and network[0] & ~network[1]:
+                yield Finding(reading.document.position(node.start), disregarded_text(index, name, node.content, network))
+
+
+def disregarded_text(index, name, source, network):
+    address, mask = network
+    prefix = ".".join(map(str, (address & mask).to_bytes(4)))
+    length = source.partition("/")[2]
+    return f'rule {index}: {name} is "{source}", whose bits behind the first {length} don\'t count: it is "{prefix}/{length}"'

@@ -1,0 +1,146 @@
+"""Slices and rules, the order of rules, and which rules have packets in common."""
+import functools
+from collections.abc import Iterator
+from dataclasses import dataclass
+
+from .fields import BITS, Header
+from .toml_reader import Position
+
+# What a rule can say of a packet: the switch, and the fields of the header. Each has a place in one long number.
+SWITCH_BITS = 64
+SHIFTS = {name: sum(list(BITS.values())[:place]) for place, name in enumerate(BITS)}
+SWITCH_SHIFT = sum(BITS.values())
+
+
+@dataclass(frozen=True)
+class Pattern:
+    """A set of packets on switches: those whose bits under the mask are those of the value.
+
+    `constraints` has the value and the mask of each field that isn't free, and `switch` the only switch, where there
+    is one.
+    """
+
+    constraints: dict[str, tuple[int, int]]
+    switch: int | None = None
+
+    def __post_init__(self):
+        value = mask = 0
+        for name, (bits, bits_mask) in self.constraints.items():
+            value |= (bits & bits_mask) << SHIFTS[name]
+            mask |= bits_mask << SHIFTS[name]
+        if self.switch is not None:
+            value |= self.switch << SWITCH_SHIFT
+            mask |= ((1 << SWITCH_BITS) - 1) << SWITCH_SHIFT
+        object.__setattr__(self, "value", value)
+        object.__setattr__(self, "mask", mask)
+
+    def meets(self, other):
+        """Whether a packet is in both."""
+        return not (self.value ^ other.value) & self.mask & other.mask
+
+    def includes(self, other):
+        """Whether all packets of the other are in this."""
+        return not (self.mask & ~other.mask or (self.value ^ other.value) & self.mask)
+
+    def unmet(self, header):
+        """The fields that keep a packet out, its switch aside."""
+        return [
+            name for name, (value, mask) in self.constraints.items() if (value ^ getattr(header, name)) & mask
+        ]
+
+    def holds_on(self, switch):
+        """Whether the rule counts on a switch; None is one that no rule names."""
+        return self.switch is None or self.switch == switch
+
+
+def packet_in_both(one, other):
+    """A packet that is in two patterns that meet; what both leave free is as in an empty packet."""
+    fields = {}
+    for pattern in (one, other):
+        for name, (value, mask) in pattern.constraints.items():
+            fields[name] = fields.get(name, 0) | (value & mask)
+    return Header(**fields)
+
+
+@dataclass(frozen=True, order=True)
+class Finding:
+    """Something to be told of a policy, and where in its file."""
+
+    position: Position
+    text: str
+
+
+@dataclass(frozen=True)
+class Slice:
+    """A controller's share, with the places of its table, its name and its controller in the file."""
+
+    slot: int
+    name: str | None
+    controller: str | None
+    position: Position
+    name_position: Position | None
+    controller_position: Position | None
+
+
+@dataclass(frozen=True)
+class Rule:
+    """A rule, with its place among the rules and the place of its header in the file.
+
+    `writer` and `readers` are names. `texts` has the fields as they stand in the file. One of which something isn't
+    well formed has no pattern.
+    """
+
+    index: int
+    position: Position
+    priority: int
+    pattern: Pattern | None
+    writer: str | None
+    readers: tuple[str, ...]
+    texts: dict[str, str]
+
+    def __str__(self):
+        return f"rule {self.index} (line {self.position.line})"
+
+
+def rules_in_order(rules):
+    """Rules by falling priority, and those of one priority as in the file."""
+    return sorted(rules, key=lambda rule: -rule.priority)
+
+
+@dataclass(frozen=True)
+class Policy:
+    """The slices and the rules, in the order of the file."""
+
+    slices: tuple[Slice, ...]
+    rules: tuple[Rule, ...]
+
+    @functools.cached_property
+    def in_order(self):
+        """The rules in the order in which they are asked."""
+        return rules_in_order(self.rules)
+
+    def first(self, header, switch):
+        """The rule that governs a packet on a switch, or None; a switch of None is one that no rule names."""
+        for rule in self.in_order:
+            if rule.pattern.holds_on(switch) and not rule.pattern.unmet(header):
+                return rule
+        return None
+
+
+def refused_pairs(rules) -> Iterator[tuple[Rule, Rule]]:
+    """The pairs of rules, given in their order, of which the later would take packets of the earlier for its slice."""
+    for place, later in enumerate(rules):
+        if later.writer is None:
+            continue
+        for earlier in rules[:place]:
+            if earlier.writer != later.writer and earlier.pattern.meets(later.pattern):
+                yield earlier, later
+
+
+def hidden_pairs(rules) -> Iterator[tuple[Rule, Rule]]:
+    """For each rule, given in their order, that never applies, the first one before it that has all of its packets."""
+    for place, later in enumerate(rules):
+        for earlier in rules[:place]:
+            if earlier.pattern.includes(later.pattern):
+                yield earlier, later
+                break

@@ -1,0 +1,281 @@
+"""`flowvisor-tool lint`: its verdict against that of `flowvisor check`, and what it says of each kind of mistake."""
+import pathlib
+import re
+import tempfile
+import unittest
+
+from policies import PolicyMaker
+from program import needs_program, run_program
+from running import EXAMPLES, run_tool
+
+from flowvisor_tool import lint
+from flowvisor_tool.fields import header_of_words
+from flowvisor_tool.policy_text import read_policy
+from flowvisor_tool.toml_reader import Position
+
+COUNT = 2500
+TOP = 'version = 1\n[[slice]]\nname = "alice"\ncontroller = "c:1"\n[[slice]]\nname = "bob"\ncontroller = "c:2"\n'
+
+
+# The line of `flowvisor check` for a fault, and what is told of the same here.
+SAME_FAULTS = (
+    (r"not TOML", r"not TOML"),
+    (r"missing (version|slice)", r"{0} is missing"),
+    (r"missing (slice|rule)\.(\d+)\.(\w+)", r"{0} {1} has no {2}: it is"),
+    (r"bad value version", r"version is .*, but must be 1"),
+    (r"bad value (slice|rule)", r"{0} must be tables|{0} is empty"),
+    (r"bad value (slice|rule)\.(\d+)\.(\w+)", r"{0} {1}: {2} is .*, but must be"),
+    (r"unknown key (slice|rule)\.(\d+)\.(.*)", r"{0} {1} has no key {2}"),
+    (r"unknown key (.*)", r"a policy has no key {0}"),
+    (r"rule (\d+) improper read", r"rule {0}: .* stands (twice under read|under write too)"),
+    (r"rule (\d+) improper (\w+)", r"rule {0}: {1} needs .* beside it"),
+    (r"rule (\d+) names no slice", r"rule {0}: .* is no slice's name"),
+    (r"rules (\d+) and (\d+) overlap", r"rule {1} .*, overlaps rule {0} .*: .* is in both"),
+    (r"slice (\d+) is a duplicate", r"slice {0}: the name .* is that of slice"),
+    (r"too many (slices|rules) (\d+)", r"there are {1} {0}, but at most"),
+    (r"too many write rules (\d+)", r"stands under write in {0} rules, but"),
+)
+
+
+def same_fault(line):
+    """A pattern of what is told here of the fault that a line of `flowvisor check` tells."""
+    for theirs, ours in SAME_FAULTS:
+        match = re.fullmatch("policy: " + theirs, line, re.DOTALL)
+        if match:
+            return ours.format(*map(re.escape, match.groups()))
+    return None
+
+
+def told(text):
+    """What is told of a policy: faults and warnings, each with its line and column."""
+    reading = read_policy(text.encode())
+    findings = [*reading.faults, *lint.warnings_of(reading)]
+    return [f"{found.position.line}:{found.position.column} {found.text}" for found in sorted(findings)]
+
+
+def is_accepted(data):
+    return not read_policy(data).faults
+
+
+def many_slices(count):
+    return "version = 1\n" + "".join(f'[[slice]]\nname = "s{slot}"\ncontroller = "c{slot}:1"\n' for slot in range(count))
+
+
+@needs_program
+class Agreement(unittest.TestCase):
+    """What is accepted here is accepted there, and the other way round."""
+
+    def setUp(self):
+        place = tempfile.TemporaryDirectory()
+        self.addCleanup(place.cleanup)
+        self.policy = pathlib.Path(place.name) / "policy.toml"
+
+    def check(self, data):
+        """Whether both accept a policy; where both refuse it, the fault that the program tells is told here too."""
+        self.policy.write_bytes(data)
+        theirs = run_program("check", self.policy)
+        ours = "\n".join(fault.text for fault in read_policy(data).faults)
+        self.assertEqual(not ours, theirs.returncode == 0, data)
+        if theirs.returncode == 2:
+            self.assertRegex(ours, same_fault(theirs.stderr.decode().removesuffix("\n")), data)
+        return theirs.returncode == 0
+
+    def test_drawn_policies(self):
+        maker = PolicyMaker(20)
+        accepted = sum(self.check(maker.policy()) for _ in range(COUNT))
+        self.assertGreater(accepted, COUNT // 10)
+        self.assertLess(accepted, COUNT * 9 // 10)
+
+    def test_changes_of_the_example(self):
+        maker = PolicyMaker(21)
+        example = (EXAMPLES / "two-slices.toml").read_text()
+        for _ in range(COUNT // 5):
+            self.check(maker.mutated(example).encode())
+
+    def test_limits(self):
+        for count in (32, 33):
+            self.assertEqual(self.check(many_slices(count).encode()), count == 32)
+        for count in (2048, 2049):
+            self.assertEqual(self.check((TOP + "[[rule]]\npriority = 1\n" * count).encode()), count == 2048)
+        for count in (256, 257):
+            self.assertEqual(self.check((TOP + '[[rule]]\npriority = 1\nwrite = "bob"\n' * count).encode()), count == 256)
+        for size in (1 << 20, (1 << 20) + 1):
+            self.assertEqual(self.check((TOP + "#" * (size - len(TOP))).encode()), size == 1 << 20)
+
+    def test_other_bytes(self):
+        for data in (b"", b"\xff", TOP.encode() + b"# \xc3\x28", TOP.encode("utf-16"), b"\xef\xbb\xbf" + TOP.encode()):
+            self.check(data)
+
+
+class Faults(unittest.TestCase):
+    def assert_told(self, text, *wanted):
+        self.assertEqual(told(text), list(wanted))
+
+    def test_all_at_once(self):
+        self.assert_told(
+            TOP + '[[rule]]\npriorty = 1\nnw_dst = "10.1/16"\nread = ["alic"]\n[[rule]]\npriority = 1\ndl_vlan = 4096\n',
+            "8:1 rule 0 has no priority: it is a number from 0 to 4294967295",
+            "9:1 rule 0 has no key priorty; is priority meant?",
+            "10:1 rule 0: nw_dst needs dl_type 0x0800 or 0x0806 beside it, but dl_type is missing",
+            '10:10 rule 0: nw_dst is "10.1/16", but must be an address as "10.1.0.7", '
+            'or with a length from 1 to 32 as "10.1.0.0/16"',
+            '11:9 rule 0: "alic" is no slice\'s name; is alice meant?',
+            "14:11 rule 1: dl_vlan is 4096, but must be a number from 0 to 4095, or 65535",
+        )
+
+    def test_top(self):
+        self.assert_told(
+            "versoin = 1\n",
+            "1:1 a policy has no key versoin; is version meant?",
+            "1:1 slice is missing: a policy has at least one table [[slice]]",
+            "1:1 version is missing: a policy has the line version = 1",
+        )
+        self.assert_told(TOP.replace("version = 1", "version = 2"), "1:11 version is 2, but must be 1")
+        self.assert_told(
+            'version = 1\n[slice]\nname = "alice"\n', "2:1 slice must be tables, each under a header [[slice]] with two brackets"
+        )
+        self.assert_told("version = 1\nslice = []\n", "2:9 slice is empty, but there must be at least one slice")
+
+    def test_slices(self):
+        self.assert_told(
+            'version = 1\n[[slice]]\nname = "Alice"\nrate = 0\n[[rule]]\npriority = 1\nwrite = "Alice"\n',
+            "2:1 slice 0 has no controller: it is a text of 1 to 255 bytes",
+            '3:8 slice 0: name is "Alice", but must be a text of 1 to 32 of a to z, 0 to 9, _ and -',
+            "4:8 slice 0: rate is 0, but must be a number from 1 to 1000000",
+        )
+        self.assert_told(TOP.replace("bob", "alice"), "6:8 slice 1: the name alice is that of slice 0 (line 2)")
+
+    def test_needs(self):
+        rule = "[[rule]]\npriority = 1\n"
+        needs = "9:1 rule 0: dl_vlan_pcp needs dl_vlan 0 to 4095 beside it, but dl_vlan is"
+        self.assert_told(TOP + "[[rule]]\ndl_vlan_pcp = 1\npriority = 1\n", f"{needs} missing")
+        self.assert_told(TOP + "[[rule]]\ndl_vlan_pcp = 1\npriority = 1\ndl_vlan = 0xffff\n", f"{needs} 0xffff")
+        text = TOP + rule + "dl_type = 0x0800\nnw_proto = 47\ntp_dst = 80\n"
+        self.assert_told(text, "12:1 rule 0: tp_dst needs nw_proto 1, 6 or 17 beside it, but nw_proto is 47")
+        text = TOP + rule + "dl_type = 65536\nnw_proto = 6\n"
+        self.assert_told(text, "10:11 rule 0: dl_type is 65536, but must be a number from 0 to 65535")
+
+    def test_readers(self):
+        self.assert_told(
+            TOP + '[[rule]]\npriority = 1\nwrite = "alice"\nread = ["bob", "alice",\n "bob"]\n',
+            '11:16 rule 0: "alice" stands under write too; it reads what it writes anyway',
+            '12:2 rule 0: "bob" stands twice under read',
+        )
+
+    def test_not_toml(self):
+        text = TOP + '[[rule]\npriority = x\n[[rule]]\npriority = 1\nwrite = alice\nread = ["bob"]\n'
+        self.assert_told(
+            text,
+            "8:7 not TOML: ']]' is missing behind a header",
+            "9:12 not TOML: x is no value; a text stands in quotes, and a number has no leading zero",
+            "12:9 not TOML: alice is no value; a text stands in quotes, and a number has no leading zero",
+        )
+        (fault,) = read_policy(b"a = 1\n\xc3\xa9\xff").faults
+        self.assertEqual((fault.position, fault.text), (Position(2, 2), "not TOML: a byte that isn't UTF-8"))
+
+    def test_counts(self):
+        self.assert_told(many_slices(33), "98:1 there are 33 slices, but at most 32 may be")
+        found = told(TOP + '[[rule]]\npriority = 1\nwrite = "bob"\ndl_type = 1\n' * 257)
+        self.assertIn("1032:1 bob stands under write in 257 rules, but may in at most 256", found)
+
+
+class Overlaps(unittest.TestCase):
+    def test_both_rules_and_a_packet(self):
+        text = TOP + (
+            '[[rule]]\npriority = 1\nwrite = "alice"\ndl_type = 2048\nnw_proto = 6\ntp_src = 80\nnw_src = "10.1.0.0/16"\n'
+            '[[rule]]\nswitch = "00000000000000a1"\npriority = 2\nwrite = "bob"\ndl_type = 2048\nnw_src = "10.0.0.0/8"\n'
+            "[[rule]]\npriority = 9\nin_port = 65534\n"
+        )
+        overlaps = "overlaps rule 1 (line 15), of bob: tcp,nw_src=10.1.0.0,tp_src=80 on switch 00000000000000a1 is in both"
+        self.assertEqual(
+            told(text),
+            [
+                f"8:1 rule 0 (line 8), of alice, {overlaps}",
+                "8:1 rule 0 (line 8), of alice, overlaps rule 2 (line 21), nobody's: "
+                "tcp,in_port=LOCAL,nw_src=10.1.0.0,tp_src=80 is in both",
+                "15:1 rule 1 (line 15), of bob, overlaps rule 2 (line 21), nobody's: "
+                "ip,in_port=LOCAL,nw_src=10.0.0.0 on switch 00000000000000a1 is in both",
+            ],
+        )
+
+    def test_the_packet_is_in_both(self):
+        """Of drawn policies each packet that is told is read again, and lies in both rules."""
+        maker = PolicyMaker(22)
+        overlap = re.compile(r"rule (\d+) .*overlaps rule (\d+) [^:]*: (\S+)(?: on switch (\w+))? is in both")
+        count = 0
+        for _ in range(COUNT // 2):
+            reading = read_policy(maker.policy())
+            rules = {rule.index: rule for rule in reading.policy.rules}
+            for later, earlier, packet, switch in overlap.findall("\n".join(found.text for found in reading.faults)):
+                for rule in (rules[int(later)], rules[int(earlier)]):
+                    self.assertEqual(rule.pattern.unmet(header_of_words(packet)), [])
+                    self.assertTrue(rule.pattern.holds_on(int(switch, 16) if switch else None))
+                    count += 1
+        self.assertGreater(count, 100)
+
+
+class Warnings(unittest.TestCase):
+    def assert_warned(self, text, *wanted):
+        self.assertTrue(is_accepted(text.encode()))
+        self.assertEqual(told(text), list(wanted))
+
+    def test_a_hidden_rule(self):
+        rule = '[[rule]]\npriority = {}\nwrite = "alice"\ndl_type = 2048\n'
+        text = TOP + rule.format(1) + 'nw_dst = "10.1.0.0/16"\n' + rule.format(2) + 'nw_dst = "10.0.0.0/8"\n'
+        self.assert_warned(text, "8:1 rule 0 (line 8) never applies: rule 1 (line 13) comes before it and has all of its packets")
+        self.assert_warned(text.replace("priority = 2", "priority = 0"))
+
+    def test_bits_behind_a_prefix(self):
+        text = TOP + '[[rule]]\npriority = 1\ndl_type = 2048\nnw_src = "10.1.2.3/16"\nnw_dst = "10.1.2.3/32"\n'
+        why = "whose bits behind the first 16 don't count"
+        self.assert_warned(text, f'11:10 rule 0: nw_src is "10.1.2.3/16", {why}: it is "10.1.0.0/16"')
+
+    def test_controllers(self):
+        for controller, why in (
+            ("c:0", "has the port 0, but a port is a number from 1 to 65535"),
+            ("c:x", "has the port x, but a port is a number from 1 to 65535"),
+            ("c", "has no port: it is written as host:port"),
+            ("300.0.0.1:1", "has the host 300.0.0.1, which is no IPv4 address"),
+            ("[::g]:1", "has the host ::g, which is no IPv6 address"),
+            ("fd00::5:6633", "has an IPv6 address without brackets: it is written as [fd00::5]:6633"),
+            ("a b:1", "has the host 'a b', which is neither an address nor a name"),
+        ):
+            self.assert_warned(TOP.replace("c:2", controller), f'7:14 slice 1: the controller "{controller}" {why}')
+        for controller in ("127.0.0.1:6633", "[fd00::5]:65535", "c-1.example.org.:1", "localhost:06633"):
+            self.assert_warned(TOP.replace("c:2", controller))
+
+    def test_one_controller_for_two(self):
+        self.assert_warned(TOP.replace("c:2", "C:1"), "7:14 slice 1: the controller is that of slice 0 (line 2) too")
+
+
+class Command(unittest.TestCase):
+    def test_accepted(self):
+        outcome = run_tool("lint", EXAMPLES / "two-slices.toml")
+        self.assertEqual((outcome.status, outcome.out, outcome.err), (0, "accepted: 2 slices, 2 rules\n", ""))
+
+    def test_warnings_leave_the_verdict(self):
+        with tempfile.NamedTemporaryFile("w", suffix=".toml") as file:
+            file.write(TOP.replace("c:2", "c:0"))
+            file.flush()
+            outcome = run_tool("lint", file.name)
+        self.assertEqual(outcome.status, 0)
+        self.assertRegex(outcome.out, r"\A.*:7:14: warning: .*\naccepted: 2 slices, 0 rules, 1 warning\n\Z")
+
+    def test_refused(self):
+        with tempfile.NamedTemporaryFile("w", suffix=".toml") as file:
+            file.write(TOP.replace("bob", "Bob"))
+            file.flush()
+            outcome = run_tool("lint", file.name)
+        self.assertEqual(outcome.status, 1)
+        self.assertRegex(outcome.out, r"\A.*:6:8: fault: .*\nrefused: 1 fault\n\Z")
+
+    def test_one_line_for_each(self):
+        with tempfile.NamedTemporaryFile("w", suffix=".toml") as file:
+            file.write(TOP + '"a\\nb" = 1\n')
+            file.flush()
+            outcome = run_tool("lint", file.name)
+        self.assertEqual(outcome.out, f"{file.name}:8:1: fault: slice 1 has no key a\\nb\nrefused: 1 fault\n")
+
+    def test_no_file(self):
+        outcome = run_tool("lint", "no-such-file")
+        self.assertEqual((outcome.status, outcome.err), (1, "flowvisor-tool: no-such-file: No such file or directory\n"))
