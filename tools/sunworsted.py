@@ -3,12 +3,13 @@ import pathlib
 import struct
 import sys
 
+from flowvisor_tool.recordings import HEAD, MAGIC, Kind
+
 ROOT = pathlib.Path(__file__).resolve().parent.parent
 PROGRAM = ROOT / "crates/flowvisor/out/flowvisor"
 
-# What a recording begins with, and the kinds of its records.
-MAGIC = bytes.fromhex("4656524543000001")
-SWITCH_UP, SWITCH_BYTES, SWITCH_DOWN, SLICE_UP, SLICE_BYTES, SLICE_DOWN = range(6)
+# The kinds of a recording's records.
+SWITCH_UP, SWITCH_BYTES, SWITCH_DOWN, SLICE_UP, SLICE_BYTES, SLICE_DOWN = Kind
 
 
 def words_of(usage):
@@ -37,13 +38,8 @@ def numbers_of(usage, *defaults):
     return *map(int, words), *defaults[len(words) :]
 
 
-def record_head(kind, moment, length, slot=0, switch=0):
-    """The head of a record of so many bytes."""
-    return struct.pack(">BBBBIQ", kind, switch, slot, 0, length, moment)
-
-
 def record(kind, moment, data=b"", slot=0, switch=0):
-    return record_head(kind, moment, len(data), slot, switch) + data
+    return HEAD.pack(kind, switch, slot, 0, len(data), moment) + data
 
 
 def recording(*records):

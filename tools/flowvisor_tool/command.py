@@ -5,11 +5,11 @@ import os
 import signal
 import sys
 
-from flowvisor_tool import explain, lint
+from flowvisor_tool import explain, from_pcap, lint, show, to_pcap
 from .faults import Fault
 
 # Each has NAME, SUMMARY, add_arguments(parser) and run(arguments), which gives the status.
-SUBCOMMANDS = (lint, explain)
+SUBCOMMANDS = (lint, explain, show, to_pcap, from_pcap)
 BROKEN_PIPE_STATUS = 128 + signal.SIGPIPE
 INTERRUPTED_STATUS = 128 + signal.SIGINT
 

@@ -1,0 +1,59 @@
+"""Files as the subcommands open and write them."""
+import contextlib
+import os
+import pathlib
+import sys
+
+from .faults import Fault
+from .recordings import MAGIC
+
+CAPTURE_MAGICS = {bytes.fromhex(magic) for magic in ("a1b2c3d4", "d4c3b2a1", "a1b23c4d", "4d3cb2a1", "0a0d0d0a")}
+
+
+def is_recording(file, name):
+    """Whether a file, of which nothing was read, begins as a recording does. A fault tells of one that is a capture."""
+    start = file.peek(len(MAGIC))[: len(MAGIC)]
+    if start[:4] in CAPTURE_MAGICS:
+        raise Fault("is a capture, not a recording: see from-pcap", name)
+    return start == MAGIC
+
+
+@contextlib.contextmanager
+def named(name, in_the_place_of=None):
+    """Has the system's faults tell what they are of, where they don't, or where they tell of a file in the place of another."""
+    try:
+        yield
+    except OSError as error:
+        if error.filename in (None, in_the_place_of):
+            error.filename = str(name)
+        raise
+
+
+def say(lines):
+    """Prints each of the lines, and has all of them written."""
+    for line in lines:
+        with named("standard output"):
+            print(line)
+    with named("standard output"):
+        sys.stdout.flush()
+
+
+@contextlib.contextmanager
+def replaced(path, *sources):
+    """A file to be written, which takes the place of the one at the path once it is whole; else all is left as it was."""
+    path = pathlib.Path(os.path.realpath(path))
+    # What is a symbolic link even now is one of a loop.
+    if path.is_symlink() or path.exists() and not path.is_file():
+        raise Fault("can't be written: it is no file", path)
+    if path.exists() and any(path.samefile(source) for source in sources):
+        raise Fault("can't be written: it is read", path)
+    # The file's own name may be as long as names can be.
+    part = path.with_name(f".{os.getpid()}.part")
+    with named(path, in_the_place_of=str(part)), open(str(part), "xb") as file:
+        try:
+            yield file
+            file.flush()
+            os.replace(part, path)
+        except BaseException:
+            part.unlink(missing_ok=True)
+            raise
