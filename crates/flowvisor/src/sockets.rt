@@ -15,6 +15,10 @@ use std::time::Duration;
 /// The longest wait before a dial, in seconds.
 const LONGEST_WAIT: u32 = 10;
 
+/// The wait before a dial behind a link that has ended, in milliseconds. So a controller that takes links and ends them
+/// at once doesn't keep a processor busy.
+const WAIT_BEHIND_A_LINK: u64 = 100;
+
 /// How long a peer may take nothing of what it is sent, in seconds, before that is a fault.
 const LONGEST_STAND: u64 = 30;
 
@@ -113,6 +117,16 @@ impl Sink for SocketSink {
 #[derive(Drop)]
 pub struct SocketDialer {
     faults: u64,
+    /// Whether it gave a link before.
+    has_linked: bool,
+}
+
+/// How long it waits before an attempt, where so many failed in a row.
+fn wait_before(attempt: u32, has_linked: bool) -> Duration {
+    match attempt {
+        0 if has_linked => Duration::from_millis(WAIT_BEHIND_A_LINK),
+        _ => Duration::from_secs(u64::from(attempt.min(LONGEST_WAIT))),
+    }
 }
 
 fn connect<R: Net<Listener = TcpListener, Stream = TcpStream>>(
@@ -137,12 +151,12 @@ impl Dialer for SocketDialer {
         to: &str,
         attempt: u32,
     ) -> Result<(SocketSource, SocketSink), Failed> {
-        thread::sleep(
-            rt,
-            Duration::from_secs(u64::from(attempt.min(LONGEST_WAIT))),
-        );
+        thread::sleep(rt, wait_before(attempt, self.has_linked));
         match connect(rt, to) {
-            Ok(halves) => Ok(halves),
+            Ok(halves) => {
+                self.has_linked = true;
+                Ok(halves)
+            }
             Err(_) => {
                 self.faults = one_more(self.faults);
                 Err(Failed)
@@ -247,6 +261,9 @@ impl Wires for Sockets {
     }
 
     fn dialer(&self) -> SocketDialer {
-        SocketDialer { faults: 0 }
+        SocketDialer {
+            faults: 0,
+            has_linked: false,
+        }
     }
 }
