@@ -28,10 +28,10 @@ module _ {O : Type 0} where
 
 module _ {O P R : Type 0} (acts : O → P → R → O → Type 0) (first : O) where
   abbrev newest : Member O P R
-  newest = record { first = first; number = 0; stride = 1; left = 2 ^ 63; stage = Idle; seen = []; other = [] }
+  newest = record { first = first; number = 0; stride = 1; left = 2 ^ 63; stage = Idle; seen = []; mine = []; other = [] }
 
   new_fits : Fits first [] first 0 newest
-  new_fits = record { opening = refl; later = []; whole = refl; others = tt; ahead = (λ i. tt); gap = omega arith; met = ([], refl); place = tt }
+  new_fits = record { opening = refl; later = []; whole = refl; others = tt; ahead = (λ i. tt); gap = omega arith; own = ([], refl, tt); met = ([], refl); place = tt }
 
   here : (m : Member O P R) → some (newcomer {O = O} {P = P} {R = R} first) ≡ some (Some m) → newest ≡ m
   here m e = cc

@@ -1,5 +1,5 @@
 -- Splitting, joining and meeting keep the rule.
-use Rattle.std.proofs.Common.{◌≡◌, ◌≢◌, ◌⊎◌, ℕ, ◌+◌, ◌*◌, ◌≤◌, ◌&&◌, Bool, true, false, true≢false, List, [], ◌∷◌, ◌++◌, length, set, refl, sym, ◌∙◌, subst, inl, inr, ⊎_elim, arith}
+use Rattle.std.proofs.Common.{◌≡◌, ◌≢◌, ◌⊎◌, ℕ, ◌+◌, ◌*◌, ◌≤◌, ◌&&◌, Bool, true, false, true≢false, List, [], ◌∷◌, ◌++◌, length, set, refl, sym, ap, ◌∙◌, subst, inl, inr, ⊎_elim, arith, append-nil, length-append}
 use Rattle.std.specs.Prelude.{nat_lt, slice_index}
 use Rattle.std.proofs.lemmas.Bool.Decides.{nat_tests}
 use Rattle.std.specs.declared.option.Option.{Option}
@@ -14,7 +14,7 @@ use Rattle.turn_desk.specs.declared.view.Stage.TheVariants.{Idle, Waits, Holds}
 use Rattle.turn_desk.specs.declared.view.Member.{Member}
 use Rattle.turn_desk.specs.Histories.{NoneBy, if_longer}
 use Rattle.turn_desk.specs.Rule.{tickets_of, IsHolder, lefts, tickets, FitsStage, Fits, Apart, Kept, left_of, right_of, cut_left, cut_right, both_of, joined, idle_of, idle_stage, Known, is_idle, is_empty, Learned}
-use Rattle.turn_desk.proofs.Lists.{part_total, total_set, total_snoc, set_there, kept_at, at_end, none_back, shorter}
+use Rattle.turn_desk.proofs.Lists.{part_total, total_set, total_snoc, set_there, kept_at, at_end, none_front, none_back, shorter}
 use Rattle.turn_desk.proofs.Numbers.{left_ahead, right_ahead, left_number, right_number, never_one}
 
 module _ {O : Type 0} where
@@ -47,24 +47,30 @@ module _ {O P R : Type 0} where
       others = f.others;
       ahead = (λ i. subst (λ k. NoneBy k log) (sym (left_ahead m.number m.stride i)) (f.ahead (2 * i + 1)));
       gap = (let g = f.gap in omega arith);
+      own = f.own;
       met = f.met;
       place = f.place;
     }
+
+    -- no entry is of the number that the new seat gets
+    unused : NoneBy (m.number + m.stride) (m.seen ++ f.later)
+    unused = subst (NoneBy (m.number + m.stride)) f.whole (subst (λ k. NoneBy k log) once (f.ahead 0))
+      where
+        once : m.number + 1 * m.stride ≡ m.number + m.stride
+        once = grind arith
 
     right_fits : Fits first log now drawn (right_of n m)
     right_fits = record {
       opening = f.opening;
       later = f.later;
       whole = f.whole;
-      others = none_back (m.number + m.stride) m.seen f.later (subst (NoneBy (m.number + m.stride)) f.whole (subst (λ k. NoneBy k log) once (f.ahead 0)));
+      others = none_back (m.number + m.stride) m.seen f.later unused;
       ahead = (λ i. subst (λ k. NoneBy k log) (sym (right_ahead m.number m.stride i)) (f.ahead (2 * i + 2)));
       gap = (let g = f.gap in omega arith);
+      own = (m.seen, refl, none_front (m.number + m.stride) m.seen f.later unused);
       met = f.met;
       place = tt;
     }
-      where
-        once : m.number + 1 * m.stride ≡ m.number + m.stride
-        once = grind arith
 
     siblings : Apart (left_of n m) (right_of n m)
     siblings = record { numbers = (λ i j e. never_one m.number m.stride i j f.gap e); turns = (λ t p q. q) }
@@ -158,21 +164,23 @@ module _ {O P R : Type 0} where
   idle_fits log now drawn seen (Holds t x) e = absurd (true≢false (sym e))
 
   module _ (first : O) (log : List (Entry P R)) (now : O) (drawn : ℕ) (a b : Member O P R) (f : Fits first log now drawn a) (g : Fits first log now drawn b) (idle : idle_stage a.stage ≡ true) where
-    -- with the list that was seen, and the other
-    abbrev shown : List (Entry P R) → List (Entry P R) → Member O P R
-    shown seen other = record { first = a.first; number = a.number; stride = a.stride; left = a.left + b.left; stage = a.stage; seen = seen; other = other }
+    -- with the list that was seen
+    abbrev shown : List (Entry P R) → Member O P R
+    shown seen = record { first = a.first; number = a.number; stride = a.stride; left = a.left + b.left; stage = a.stage; seen = seen; mine = a.seen; other = b.seen }
 
-    both_fits : (c : Bool) → nat_lt (length a.seen) (length b.seen) ≡ c → Fits first log now drawn (shown (if_longer c a.seen b.seen) (if_longer c b.seen a.seen))
+    both_fits : (c : Bool) → nat_lt (length a.seen) (length b.seen) ≡ c → Fits first log now drawn (shown (if_longer c a.seen b.seen))
     both_fits true e =
         let p = shorter a.seen b.seen f.later g.later (sym f.whole ∙ g.whole) (grind (arith, nat_tests, e)) in
+        let none = subst (NoneBy a.number) p.2 f.others in
         record {
           opening = f.opening;
           later = g.later;
           whole = g.whole;
-          others = none_back a.number p.0 g.later (subst (NoneBy a.number) p.2 f.others);
+          others = none_back a.number p.0 g.later none;
           ahead = f.ahead;
           gap = f.gap;
-          met = (p.0, p.1);
+          own = (p.0, p.1, none_front a.number p.0 g.later none);
+          met = ([], sym (append-nil b.seen));
           place = idle_fits log now drawn b.seen a.stage idle;
         }
     both_fits false e =
@@ -184,6 +192,7 @@ module _ {O P R : Type 0} where
           others = f.others;
           ahead = f.ahead;
           gap = f.gap;
+          own = ([], sym (append-nil a.seen), tt);
           met = (p.0, p.1);
           place = idle_fits log now drawn a.seen a.stage idle;
         }
@@ -259,4 +268,10 @@ module _ {O P R : Type 0} where
 
         known : (v : Option (Member O P R)) → get_elem? s.views id ≡ some v → Known v
         known None e = tt
-        known (Some m) e = ((h.each id m e).met, (let p = part_total lefts s.views id (Some m) e in let q = h.calls in omega arith))
+        known (Some m) e =
+            let f = h.each id m e in
+            let p = part_total lefts s.views id (Some m) e in
+            let q = h.calls in
+            let r = h.waiting in
+            let l : length h.log ≡ length m.seen + length f.later = ap length f.whole ∙ length-append m.seen f.later in
+            (f.own, f.met, (omega arith))

@@ -41,6 +41,10 @@ module _ {V : Type 0} where
   at_end (x ∷ xs) r u (suc k) e = ⊎_elim (λ p. inl p) (λ p. inr (ap suc p.0, p.1)) (at_end xs r u k e)
 
 module _ {P R : Type 0} where
+  pub none_front : (n : ℕ) (xs ys : List (Entry P R)) → NoneBy n (xs ++ ys) → NoneBy n xs
+  none_front n [] ys h = tt
+  none_front n (x ∷ xs) ys h = (h.0, none_front n xs ys h.1)
+
   pub none_back : (n : ℕ) (xs ys : List (Entry P R)) → NoneBy n (xs ++ ys) → NoneBy n ys
   none_back n [] ys h = h
   none_back n (x ∷ xs) ys h = none_back n xs ys h.1

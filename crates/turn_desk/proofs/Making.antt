@@ -5,7 +5,7 @@ use Rattle.std.specs.declared.option.Option.{Option}
 use Rattle.std.specs.declared.option.Option.TheVariants.{Some}
 use Rattle.turn_desk.specs.declared.view.Entry.{Entry}
 use Rattle.turn_desk.specs.declared.view.Member.{Member}
-use Rattle.turn_desk.specs.Histories.{NoneBy, Runs, entry, seen_of, number_of, first_of, longer, if_longer, IsLegal, Called}
+use Rattle.turn_desk.specs.Histories.{NoneBy, GoesOn, Runs, entry, seen_of, number_of, first_of, longer, if_longer, IsLegal, Called}
 use Rattle.turn_desk.specs.Calls.{Call, call_of, calls_by, Made}
 
 module _ {P R : Type 0} where
@@ -43,6 +43,16 @@ module _ {O P R : Type 0} (acts : O → P → R → O → Type 0) where
         number = c.number;
         legal = λ opening h. subst (λ x. IsLegal acts x w) (some_is c.opening opening (sym c.first ∙ h.0)) c.legal;
       }
+
+  -- a seat that went on without an entry of its own made no call
+  pub made_nothing : (opening : O) (v w : Option (Member O P R)) → IsLegal acts opening v → IsLegal acts opening w → number_of w ≡ number_of v → GoesOn (number_of v) (seen_of w) (seen_of v) → Made acts v [] w
+  made_nothing opening v w h k number on = record {
+    later = on.0;
+    seen = on.1;
+    own = calls_none (number_of v) on.0 on.2;
+    number = number;
+    legal = λ x l. subst (λ o. IsLegal acts o w) (some_is opening x (sym h.0 ∙ l.0)) k;
+  }
 
   pub made_more : (u v w : Option (Member O P R)) (xs ys : List (Call P R)) → Made acts u xs v → Made acts v ys w → Made acts u (xs ++ ys) w
   made_more u v w xs ys h k =

@@ -47,7 +47,7 @@ module _ {O P R : Type 0} where
 
   module _ (first : O) (log : List (Entry P R)) (now : O) (drawn : ℕ) (a : Member O P R) (f : Fits first log now drawn a) where
     fits_drawn : Fits first log now (suc drawn) a
-    fits_drawn = record { opening = f.opening; later = f.later; whole = f.whole; others = f.others; ahead = f.ahead; gap = f.gap; met = f.met; place = more_drawn log now drawn a.seen a.stage f.place }
+    fits_drawn = record { opening = f.opening; later = f.later; whole = f.whole; others = f.others; ahead = f.ahead; gap = f.gap; own = f.own; met = f.met; place = more_drawn log now drawn a.seen a.stage f.place }
 
   module _ (acts : O → P → R → O → Type 0) (first : O) (id : ℕ) (m w : Member O P R) (s : State (Option O) (Option (Member O P R))) (h : Kept acts first s) (at : get_elem? s.views id ≡ some (Some m)) where
     abbrev next : List (Option (Member O P R))
@@ -93,7 +93,7 @@ module _ {O P R : Type 0} where
 
       waits_fits : Fits first h.log h.now (suc h.drawn) waiting
       waits_fits = let f = h.each id m at in
-          record { opening = f.opening; later = f.later; whole = f.whole; others = f.others; ahead = f.ahead; gap = f.gap; met = f.met; place = ((let p = h.waiting in omega arith), (omega arith)) }
+          record { opening = f.opening; later = f.later; whole = f.whole; others = f.others; ahead = f.ahead; gap = f.gap; own = ([], sym (append-nil m.seen), tt); met = f.met; place = ((let p = h.waiting in omega arith), (omega arith)) }
 
       waits_apart : (k : ℕ) (b : Member O P R) → k ≢ id → get_elem? s.views k ≡ some (Some b) → Apart waiting b
       waits_apart k b ne e = record {
@@ -150,6 +150,7 @@ module _ {O P R : Type 0} where
         others = tt;
         ahead = mine.ahead;
         gap = mine.gap;
+        own = ([], sym (append-nil h.log), tt);
         met = (mine.met.0 ++ mine.later, mine.whole ∙ (ap (λ l. l ++ mine.later) mine.met.1 ∙ append_assoc m.other mine.met.0 mine.later));
         place = (sym turn, in_line.1, refl, refl);
       }
@@ -269,6 +270,7 @@ module _ {O P R : Type 0} where
         others = tt;
         ahead = (λ i. none_snoc (m.number + suc i * m.stride) h.log new (m_fits.ahead i) (not_ahead i));
         gap = m_fits.gap;
+        own = ([], sym (append-nil (m.seen ++ new ∷ [])), tt);
         met = (m_fits.met.0 ++ new ∷ [], ap (λ l. l ++ new ∷ []) m_fits.met.1 ∙ append_assoc m.other m_fits.met.0 (new ∷ []));
         place = tt;
       }
@@ -293,6 +295,7 @@ module _ {O P R : Type 0} where
             others = none_snoc b.number f.later new f.others (λ q. a.numbers 0 0 (here m.number m.stride ∙ (q ∙ sym (here b.number b.stride))));
             ahead = (λ i. none_snoc (b.number + suc i * b.stride) h.log new (f.ahead i) (λ q. a.numbers 0 (suc i) (here m.number m.stride ∙ q)));
             gap = f.gap;
+            own = f.own;
             met = f.met;
             place = later_stage b.stage b.seen f.place (λ q. a.turns t m_ticket q);
           }

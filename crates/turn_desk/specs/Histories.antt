@@ -19,6 +19,10 @@ module _ {P R : Type 0} where
   abbrev pub StartsWith : List (Entry P R) → List (Entry P R) → Type 0
   StartsWith xs ys = (later : List (Entry P R)) × (xs ≡ ys ++ later)
 
+  -- the first list begins with the second, and behind that has no entry of the seat with this number
+  abbrev pub GoesOn : ℕ → List (Entry P R) → List (Entry P R) → Type 0
+  GoesOn n xs ys = (later : List (Entry P R)) × (xs ≡ ys ++ later) × NoneBy n later
+
   -- the second list where the test says that it is longer
   abbrev pub if_longer : Bool → List (Entry P R) → List (Entry P R) → List (Entry P R)
   if_longer true xs ys = ys

@@ -1,5 +1,5 @@
 -- The rule of the lock: one history of turns, and what each seat knows of it. This proxy's own rules.
-use Rattle.std.specs.Prelude.{◌≡◌, ◌≢◌, ℕ, suc, ◌+◌, ◌-◌, ◌*◌, ◌^◌, ◌<◌, ◌≤◌, ◌==◌, ◌&&◌, Bool, true, false, List, [], ◌∷◌, ◌++◌, length, nat_lt, MatchBool}
+use Rattle.std.specs.Prelude.{◌≡◌, ◌≢◌, ℕ, suc, ◌+◌, ◌-◌, ◌*◌, ◌^◌, ◌<◌, ◌≤◌, ◌==◌, ◌&&◌, Bool, true, false, List, [], ◌∷◌, ◌++◌, length, MatchBool}
 use Rattle.std.specs.declared.option.Option.{Option}
 use Rattle.std.specs.declared.option.Option.TheVariants.{None, Some}
 use mathlib.Core.Option.{some}
@@ -9,7 +9,7 @@ use Rattle.turn_desk.specs.declared.view.Entry.{Entry}
 use Rattle.turn_desk.specs.declared.view.Stage.{Stage}
 use Rattle.turn_desk.specs.declared.view.Stage.TheVariants.{Idle, Waits, Holds}
 use Rattle.turn_desk.specs.declared.view.Member.{Member}
-use Rattle.turn_desk.specs.Histories.{entry, NoneBy, StartsWith, if_longer, longer, Runs}
+use Rattle.turn_desk.specs.Histories.{entry, NoneBy, StartsWith, GoesOn, longer, Runs}
 
 -- the sum of f over the list
 abbrev pub total : {V : Type 0} → (V → ℕ) → List V → ℕ
@@ -64,7 +64,8 @@ module _ {O P R : Type 0} where
   FitsStage log now drawn seen (Holds t x) = (t ≡ length log) × (t < drawn) × (x ≡ now) × (seen ≡ log)
 
   -- What one seat knows: the first object, and a beginning of the history, after which there is no entry of its number.
-  -- Numbers that it may still give to others have no entry at all. The list of a seat that it met begins its own.
+  -- Numbers that it may still give to others have no entry at all. What it had seen when it met another seat begins its
+  -- list, and behind that is no entry of its number; what the other had seen begins it too.
   pub record Fits (first : O) (log : List (Entry P R)) (now : O) (drawn : ℕ) (m : Member O P R) : Type 0 where
     pub opening : m.first ≡ first
     pub later : List (Entry P R)
@@ -72,6 +73,7 @@ module _ {O P R : Type 0} where
     pub others : NoneBy m.number later
     pub ahead : (i : ℕ) → NoneBy (m.number + suc i * m.stride) log
     pub gap : 0 < m.stride
+    pub own : GoesOn m.number m.seen m.mine
     pub met : StartsWith m.seen m.other
     pub place : FitsStage log now drawn m.seen m.stage
 
@@ -97,15 +99,15 @@ module _ {O P R : Type 0} where
 
   -- the first seat
   abbrev pub newcomer : O → Option (Member O P R)
-  newcomer first = Some (record { first = first; number = 0; stride = 1; left = 2 ^ 63; stage = Idle; seen = []; other = [] })
+  newcomer first = Some (record { first = first; number = 0; stride = 1; left = 2 ^ 63; stage = Idle; seen = []; mine = []; other = [] })
 
   -- a seat after it gave n calls, and every second of its numbers to come, to another
   abbrev pub left_of : ℕ → Member O P R → Member O P R
-  left_of n m = record { first = m.first; number = m.number; stride = 2 * m.stride; left = m.left - n; stage = m.stage; seen = m.seen; other = m.other }
+  left_of n m = record { first = m.first; number = m.number; stride = 2 * m.stride; left = m.left - n; stage = m.stage; seen = m.seen; mine = m.mine; other = m.other }
 
   -- the other seat
   abbrev pub right_of : ℕ → Member O P R → Member O P R
-  right_of n m = record { first = m.first; number = m.number + m.stride; stride = 2 * m.stride; left = n; stage = Idle; seen = m.seen; other = m.other }
+  right_of n m = record { first = m.first; number = m.number + m.stride; stride = 2 * m.stride; left = n; stage = Idle; seen = m.seen; mine = []; other = m.other }
 
   abbrev pub cut_left : ℕ → Option (Member O P R) → Option (Member O P R)
   cut_left n None = None
@@ -115,7 +117,7 @@ module _ {O P R : Type 0} where
   cut_right n None = None
   cut_right n (Some m) = Some (right_of n m)
 
-  -- the first seat with the calls of both and the longer list; the shorter one is kept beside it
+  -- the first seat with the calls of both and the longer list; what each had seen is kept beside it
   abbrev pub both_of : Member O P R → Member O P R → Member O P R
   both_of a b =
       record {
@@ -125,7 +127,8 @@ module _ {O P R : Type 0} where
         left = a.left + b.left;
         stage = a.stage;
         seen = longer a.seen b.seen;
-        other = if_longer (nat_lt (length a.seen) (length b.seen)) b.seen a.seen;
+        mine = a.seen;
+        other = b.seen;
       }
 
   abbrev pub joined : Option (Member O P R) → Option (Member O P R) → Option (Member O P R)
@@ -133,10 +136,11 @@ module _ {O P R : Type 0} where
   joined (Some a) None = Some a
   joined (Some a) (Some b) = Some (both_of a b)
 
-  -- the shorter of the two lists that met begins the longer, and the calls left are within all calls
+  -- what the seat had seen when it met another begins its list, which went on without an entry of its own; what the
+  -- other had seen begins it too; and the calls left and those that it has seen are within all calls
   abbrev pub Known : Option (Member O P R) → Type 0
   Known None = Unit {0}
-  Known (Some m) = StartsWith m.seen m.other × (m.left ≤ 2 ^ 63)
+  Known (Some m) = GoesOn m.number m.seen m.mine × StartsWith m.seen m.other × (m.left + length m.seen ≤ 2 ^ 63)
 
   -- a load tells this, and changes nothing
   abbrev pub Learned : Step (Option O) → Me (Option O) (Option (Member O P R)) → ℕ → Me (Option O) (Option (Member O P R)) → Type 0
@@ -158,7 +162,7 @@ module _ {O P R : Type 0} where
 
   -- the seat with so many calls left, at this stage and with this list
   abbrev pub staged : Member O P R → ℕ → Stage O → List (Entry P R) → Member O P R
-  staged m left stage seen = record { first = m.first; number = m.number; stride = m.stride; left = left; stage = stage; seen = seen; other = m.other }
+  staged m left stage seen = record { first = m.first; number = m.number; stride = m.stride; left = left; stage = stage; seen = seen; mine = seen; other = m.other }
 
   -- a seat that drew this ticket has one call fewer left
   abbrev pub drawn_view : ℕ → Option (Member O P R) → Option (Member O P R)

@@ -1,7 +1,7 @@
 // Seats are split, joined and met.
 
-ghost use Rattle.std.specs.Prelude.{true, ◌≡◌, ◌≢◌, ◌≤◌, ◌+◌};
-ghost use Rattle.turn_desk.specs.Histories.{StartsWith, longer};
+ghost use Rattle.std.specs.Prelude.{true, ◌≡◌, ◌≢◌, ◌≤◌, ◌+◌, ◌^◌, length};
+ghost use Rattle.turn_desk.specs.Histories.{GoesOn, NoneBy, StartsWith, longer};
 ghost use Rattle.turn_desk.specs.Rule.{is_idle, joined, Known};
 ghost use Rattle.turn_desk.specs.Seats.{IsSeatOf, SameDesk, number, seen, first};
 
@@ -31,9 +31,11 @@ impl<O: Object> TurnDesk<O> {
         ensures seen { (seen seat.new ≡ seen seat.old) × (seen result ≡ seen seat.old) }
         ensures number { number seat.new ≡ number seat.old }
         ensures own { number result ≢ number seat.new }
+        ensures fresh { NoneBy (number result) (seen result) }
         ensures first { (first seat.new ≡ first seat.old) × (first result ≡ first seat.old) }
     {
-        let other = self.table.shared.split_seat::<Cut<W>>(&mut seat.seat);
+        let mut other = self.table.shared.split_seat::<Cut<W>>(&mut seat.seat);
+        self.learn(&mut other);
         seat.left -= calls;
         TurnSeat {
             seat: other,
@@ -42,8 +44,8 @@ impl<O: Object> TurnDesk<O> {
         }
     }
 
-    /// A new seat with a number of its own, which has seen what `seat` has seen. It has `calls` of the calls
-    /// that `seat` had left, and `seat` keeps the rest. Takes no memory.
+    /// A new seat with a number of its own, of which there is no entry yet. It has seen what `seat` has seen, and
+    /// has `calls` of the calls that `seat` had left, and `seat` keeps the rest. Takes no memory.
     pub fn split(&self, seat: &mut TurnSeat<O>, calls: u64) -> TurnSeat<O>
         requires desk { IsSeatOf self.now seat.old }
         requires enough { calls ≤ seat.old.left }
@@ -52,12 +54,14 @@ impl<O: Object> TurnDesk<O> {
         ensures seen { (seen seat.new ≡ seen seat.old) × (seen result ≡ seen seat.old) }
         ensures number { number seat.new ≡ number seat.old }
         ensures own { number result ≢ number seat.new }
+        ensures fresh { NoneBy (number result) (seen result) }
         ensures first { (first seat.new ≡ first seat.old) × (first result ≡ first seat.old) }
     {
         self.cut::<Brand>(seat, calls)
     }
 
-    // A load, by which a seat that met another learns that the shorter list begins the longer.
+    // A load, by which a seat learns which entries of its list aren't its own, and that what the one that it met had
+    // seen begins it.
     fn learn(&self, seat: &mut Seat<Option<O>, View<O>>)
         requires desk { seat.old.table_id ≡ self.now.table.shared.table_id }
         ensures desk { seat.new.table_id ≡ seat.old.table_id }
@@ -80,15 +84,18 @@ impl<O: Object> TurnDesk<O> {
     }
 
     /// Ends `other`. The calls that it had left are added to those of `seat`, which has then seen the longer
-    /// of the two lists; the other is a beginning of it.
+    /// of the two lists; the other is a beginning of it. What is new to `seat` has no entry of its own, and no
+    /// more calls are left than the desk has ever had but for those on the list.
     pub fn join(&self, seat: &mut TurnSeat<O>, other: TurnSeat<O>)
         requires desk { IsSeatOf self.now seat.old × IsSeatOf self.now other }
         ensures desk { SameDesk seat.new seat.old }
         ensures calls { seat.new.left ≡ seat.old.left + other.left }
         ensures seen { seen seat.new ≡ longer (seen seat.old) (seen other) }
         ensures mine { StartsWith (seen seat.new) (seen seat.old) }
+        ensures own { GoesOn (number seat.old) (seen seat.new) (seen seat.old) }
         ensures theirs { StartsWith (seen seat.new) (seen other) }
         ensures number { number seat.new ≡ number seat.old }
+        ensures within { seat.new.left + length (seen seat.new) ≤ 2 ^ 63 }
         ensures first { first seat.new ≡ first seat.old }
     {
         let TurnSeat {
@@ -101,7 +108,8 @@ impl<O: Object> TurnDesk<O> {
         seat.count = seat.count.max(count);
     }
 
-    /// Both seats have then seen the longer of their two lists; the other is a beginning of it.
+    /// Both seats have then seen the longer of their two lists; the other is a beginning of it. What is new to
+    /// a seat has no entry of its own.
     pub fn meet(&self, a: &mut TurnSeat<O>, b: &mut TurnSeat<O>)
         requires desk { IsSeatOf self.now a.old × IsSeatOf self.now b.old }
         ensures desk { SameDesk a.new a.old × SameDesk b.new b.old }
@@ -110,6 +118,7 @@ impl<O: Object> TurnDesk<O> {
         ensures same { seen a.new ≡ seen b.new }
         ensures from_a { StartsWith (seen b.new) (seen a.old) }
         ensures from_b { StartsWith (seen b.new) (seen b.old) }
+        ensures own { GoesOn (number a.old) (seen a.new) (seen a.old) × GoesOn (number b.old) (seen b.new) (seen b.old) }
         ensures number { (number a.new ≡ number a.old) × (number b.new ≡ number b.old) }
         ensures first { (first a.new ≡ first a.old) × (first b.new ≡ first b.old) }
     {

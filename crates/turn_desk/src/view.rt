@@ -16,8 +16,8 @@ pub enum Stage<O> {
 }
 
 // The first object; the seat's number, and the distance of the numbers `number + stride`, `number + 2 * stride` and so
-// on, which it may give to seats that are split off; the calls that are left; the list that it has seen, and that of
-// the seat that it met last, where that was shorter.
+// on, which it may give to seats that are split off; the calls that are left; the list that it has seen, a beginning
+// of it that has all its own calls, and the list of the seat that it met last.
 pub struct Member<O, P, R> {
     pub first: O,
     pub number: u64,
@@ -25,5 +25,6 @@ pub struct Member<O, P, R> {
     pub left: u64,
     pub stage: Stage<O>,
     pub seen: LinkedList<Entry<P, R>>,
+    pub mine: LinkedList<Entry<P, R>>,
     pub other: LinkedList<Entry<P, R>>,
 }
