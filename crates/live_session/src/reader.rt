@@ -98,6 +98,27 @@ fn ask_alone<R: Wait, C: Clock>(
     asked
 }
 
+/// One event in a turn of the reader's.
+fn ask_in_turn<R: Wait, C: Clock>(
+    rt: &R,
+    desk: &TurnDesk<DeskObject>,
+    seat: &mut TurnSeat<DeskObject>,
+    clock: &mut C,
+    turns: &mut Turns<'_>,
+    event: Event,
+) -> Result<Result<Verdict, AllocError>, Spent>
+    requires desk { IsSeatOf desk.now seat.old }
+    ensures desk { SameDesk seat.new seat.old }
+    ensures went { IfOk result (λ stepped. WentOne (spot seat.old (C.coming clock.old)) event (Stepped stepped) (spot seat.new (C.coming clock.new))) }
+    ensures spent { OnErr result (seat.old.left ≡ 0) }
+    ensures same { OnErr result (spot seat.new (C.coming clock.new) ≡ spot seat.old (C.coming clock.old)) }
+{
+    turns.begin(rt);
+    let asked = ask(rt, desk, seat, clock, event);
+    turns.end(rt, goes_on(&asked));
+    asked
+}
+
 /// How a connection ends by the answer to a step, if it does.
 fn end_by(stepped: Result<Verdict, AllocError>) -> Option<ReaderEnd>
     ensures { Tells result (Stepped stepped) }
@@ -135,9 +156,7 @@ fn hand_each<R: Host + Net<Listener = TcpListener, Stream = TcpStream>, C: Clock
         };
         gate.pass(rt, side, *count);
         *count = count.wrapping_add(1);
-        turns.begin(rt);
-        let asked = ask(rt, desk, seat, clock, message(side, frame));
-        turns.end(rt, goes_on(&asked));
+        let asked = ask_in_turn(rt, desk, seat, clock, turns, message(side, frame));
         let Ok(stepped) = asked else {
             return Some(ReaderEnd::Spent);
         };

@@ -45,14 +45,14 @@ pub returns-in_default-clause-handed : goal.returns-in_default-clause-handed
 returns-in_default-clause-handed g c = λ fed given stands.
     let a = spot c.args.seat.now (g.C.Clock.coming c.args.clock.now) in
     let b = spot c.loop.seat (g.C.Clock.coming c.loop.clock) in
-    let d = spot c.ask-asked.new.seat (g.C.Clock.coming c.ask-asked.new.clock) in
+    let d = spot c.ask_in_turn-asked.new.seat (g.C.Clock.coming c.ask_in_turn-asked.new.clock) in
     hands_spent c.args.side a b d c.loop.framer c.next-in-loop.new.self fed given (c.loop.invariant.handed fed given stands) c.in_default.ensures.same c.in_default.ensures.spent
 
 pub returns-in-Some-end_by-clause-handed : goal.returns-in-Some-end_by-clause-handed
 returns-in-Some-end_by-clause-handed g c = λ fed given stands.
     let a = spot c.args.seat.now (g.C.Clock.coming c.args.clock.now) in
     let b = spot c.loop.seat (g.C.Clock.coming c.loop.clock) in
-    let d = spot c.ask-asked.new.seat (g.C.Clock.coming c.ask-asked.new.clock) in
+    let d = spot c.ask_in_turn-asked.new.seat (g.C.Clock.coming c.ask_in_turn-asked.new.clock) in
     let h = c.loop.invariant.handed fed given stands in
     hands_end c.args.side a b d c.loop.framer c.next-in-loop.new.self fed given c.in-Ok-Frame.frame (Stepped c.in-Ok.stepped) c.in-Some-end_by.end h (subst (λ n. Stands c.next-in-loop.new.self fed ((given ++ h.0) ++ frame_in n)) c.in-Ok-Frame.field-0-is (c.in-Ok-Frame.ensures.stands fed (given ++ h.0) h.2)) (rw (← c.message.ensures) c.in-Ok.ensures.went) c.in-Some-end_by.ensures
 
@@ -60,7 +60,7 @@ pub loop-preserved : goal.loop-preserved
 loop-preserved g c =
     let a = spot c.args.seat.now (g.C.Clock.coming c.args.clock.now) in
     let b = spot c.loop.seat (g.C.Clock.coming c.loop.clock) in
-    let d = spot c.ask-asked.new.seat (g.C.Clock.coming c.ask-asked.new.clock) in
+    let d = spot c.ask_in_turn-asked.new.seat (g.C.Clock.coming c.ask_in_turn-asked.new.clock) in
     record {
       can = tt;
       ends = tt;
