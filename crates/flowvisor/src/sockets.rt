@@ -9,6 +9,7 @@ use fv_live::{Dialer, Host, Source, Wires};
 use std::alloc::Global;
 use std::io::{self, ErrorKind, Read, Write};
 use std::net::{Net, Shutdown, TcpListener, TcpStream};
+use std::rt::Clock;
 use std::thread;
 use std::time::Duration;
 
@@ -18,6 +19,18 @@ const LONGEST_WAIT: u32 = 10;
 /// The wait before a dial behind a link that has ended, in milliseconds. So a controller that takes links and ends them
 /// at once doesn't keep a processor busy.
 const WAIT_BEHIND_A_LINK: u64 = 100;
+
+/// The wait before another accept where there were no descriptors, or no memory of the system, in seconds.
+const WAIT_FOR_ROOM: u64 = 1;
+
+// Linux's numbers of errors that tell of such a want: ENOMEM, ENFILE, EMFILE, ENOBUFS.
+const OUT_OF_MEMORY: i32 = 12;
+
+const FILE_TABLE_FULL: i32 = 23;
+
+const TOO_MANY_OPEN_FILES: i32 = 24;
+
+const NO_BUFFER_SPACE: i32 = 105;
 
 /// How long a peer may take nothing of what it is sent, in seconds, before that is a fault.
 const LONGEST_STAND: u64 = 30;
@@ -201,11 +214,23 @@ fn is_of_one(error: &io::Error) -> bool {
     )
 }
 
-fn accept(listener: &TcpListener) -> io::Result<(SocketSource, SocketSink)> {
+// Whether an accept failed since there is no more of what a connection takes: memory of the system, or descriptors.
+// That passes when another connection ends.
+fn is_of_want(error: &io::Error) -> bool {
+    matches!(
+        error.raw_os_error(),
+        Some(OUT_OF_MEMORY | FILE_TABLE_FULL | TOO_MANY_OPEN_FILES | NO_BUFFER_SPACE)
+    )
+}
+
+fn accept<R: Clock>(rt: &R, listener: &TcpListener) -> io::Result<(SocketSource, SocketSink)> {
     for _ in 0..u64::MAX {
-        match listener.accept() {
-            Ok((stream, _)) => return halves(stream),
+        match listener.accept().and_then(|(stream, _)| halves(stream)) {
+            Ok(halves) => return Ok(halves),
             Err(error) if is_of_one(&error) => {}
+            Err(error) if is_of_want(&error) => {
+                thread::sleep(rt, Duration::from_secs(WAIT_FOR_ROOM));
+            }
             Err(error) => return Err(error),
         }
     }
@@ -246,12 +271,12 @@ impl Wires for Sockets {
 
     fn accept<R: Host + Net<Listener = TcpListener, Stream = TcpStream>>(
         &mut self,
-        _rt: &R,
+        rt: &R,
     ) -> Result<(SocketSource, SocketSink), Failed> {
         let Some(listener) = &self.listener else {
             unreachable!()
         };
-        match accept(listener) {
+        match accept(rt, listener) {
             Ok(halves) => Ok(halves),
             Err(_) => {
                 self.faults = one_more(self.faults);
