@@ -4,6 +4,7 @@ ghost use Rattle.std.specs.Prelude.{◌≡◌, ◌≤◌, ℕ, List, Option, Som
 ghost use Rattle.std.specs.Str.{bytes_eq};
 ghost use Rattle.fv_base.specs.Counts.{count_at, is_declared};
 ghost use Rattle.fv_base.specs.Told.{Rose};
+ghost use Rattle.fv_live.specs.Calls.{count_after};
 ghost use Rattle.fv_live.specs.Dialers.{IsFresh, IsOneDialMore, fails_dial, given_after};
 ghost use Rattle.fv_live.specs.Live.{counted};
 
@@ -116,6 +117,7 @@ impl<S: Source, K: Sink> Dialer for MemoryDialer<S, K> {
         ensures count { (at : List ℕ) → count_at self.old.counts at ≤ count_at self.new.counts at }
         ensures listed { OnOk result (fails_dial self.old ≡ false) }
         ensures made { IsOneDialMore self.old self.new }
+        ensures counted { OnErr result ((at : List ℕ) → count_at self.new.counts at ≡ count_after self.old.counts self.new.counts to.now at) }
         ensures own { (at : List ℕ) → IsFalse (bytes_eq to.now at) → IsTrue (is_declared self.new.counts to.now) → count_at self.new.counts at ≡ count_at self.old.counts at }
     {
         let next = self.next(rt, to);

@@ -1,6 +1,6 @@
 // What runs beside the others, on a thread of its own.
 
-ghost use Rattle.std.specs.Prelude.{◌≡◌, ◌≤◌, ◌<◌, ◌∷◌, [], ℕ, List, Option, Some, false, map, vec_len, vec_capacity, IsTrue, OnOk, OnErr};
+ghost use Rattle.std.specs.Prelude.{◌≡◌, ◌≤◌, ◌<◌, ◌+◌, ◌∷◌, [], ℕ, List, Option, Some, false, map, vec_len, vec_capacity, IsTrue, OnOk, OnErr};
 ghost use Rattle.fv_base.specs.Counts.{one_more};
 ghost use Rattle.fv_base.specs.Told.{Rose};
 ghost use Rattle.fv_live.specs.Calls.{NoCallYet, fails_next, one_call_more};
@@ -75,6 +75,7 @@ impl<W: Work, F: FnMut(W) -> Option<JoinHandle<()>> + Drop> MemorySpawner<W, F> 
         ensures count { result.faults ≡ 0 }
         ensures failing { NoCallYet result.failing failing.items }
         ensures closure { result.by ≡ by }
+        ensures idle { vec_len result.threads ≡ 0 }
     {
         MemorySpawner {
             by,
@@ -100,6 +101,7 @@ impl<W: Work, F: FnMut(W) -> Option<JoinHandle<()>> + Drop> MemorySpawner<W, F> 
         ensures closure { self.new.by ≡ self.old.by }
         ensures failing { self.new.failing ≡ self.old.failing }
         ensures count { self.new.faults ≡ self.old.faults }
+        ensures running { vec_len self.new.threads ≡ vec_len self.old.threads }
     {
         self.started.reserve(1)?;
         self.threads.reserve(1)
@@ -129,6 +131,8 @@ impl<W: Work, F: FnMut(W) -> Option<JoinHandle<()>> + Drop> Spawner<W> for Memor
         ensures unasked { IsTrue (fails_next self.old.failing) → self.new.by ≡ self.old.by }
         ensures counted { OnErr result (self.new.faults ≡ one_more self.old.faults) }
         ensures made { self.new.failing ≡ one_call_more self.old.failing }
+        ensures running { OnOk result (vec_len self.new.threads ≡ vec_len self.old.threads + 1) }
+        ensures idle { OnErr result (vec_len self.new.threads ≡ vec_len self.old.threads) }
     {
         let fails = self.failing.next();
         if fails || self.make_room().is_err() {
@@ -150,6 +154,9 @@ impl<W: Work, F: FnMut(W) -> Option<JoinHandle<()>> + Drop> Spawner<W> for Memor
         ensures ready { F.IsAlwaysCallable self.new.by }
         ensures same { Some (map (λ work. W.role work.value) self.new.started.items) ≡ Some (map (λ work. W.role work.value) self.old.started.items) }
         ensures calm { self.new.faults ≡ self.old.faults }
+        ensures ended { vec_len self.new.threads ≡ 0 }
+        ensures closure { self.new.by ≡ self.old.by }
+        ensures failing { self.new.failing ≡ self.old.failing }
     {
         while let Some(thread) = self.threads.pop() {
             thread.join(rt);

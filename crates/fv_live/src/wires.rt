@@ -6,7 +6,7 @@ ghost use Rattle.std.specs.Str.{bytes_eq};
 ghost use Rattle.std.specs.VecDeque.{deque_len};
 ghost use Rattle.fv_base.specs.Counts.{count_at, is_declared};
 ghost use Rattle.fv_base.specs.Told.{Rose};
-ghost use Rattle.fv_live.specs.Calls.{NoCallYet, fails_next, one_call_more};
+ghost use Rattle.fv_live.specs.Calls.{NoCallYet, count_after, fails_next, one_call_more};
 ghost use Rattle.fv_live.specs.Dialers.{IsFresh};
 ghost use Rattle.fv_live.specs.Live.{counted};
 ghost use Rattle.fv_live.specs.Wires.{place_bytes};
@@ -171,6 +171,7 @@ impl<S: Source, K: Sink> Wires for MemoryWires<S, K> {
         ensures count { (at : List ℕ) → count_at self.old.counts at ≤ count_at self.new.counts at }
         ensures listed { OnOk result (fails_next self.old.failing ≡ false) }
         ensures made { self.new.failing ≡ one_call_more self.old.failing }
+        ensures counted { OnErr result ((other : List ℕ) → count_at self.new.counts other ≡ count_after self.old.counts self.new.counts at.now other) }
         ensures declared { OnOk result (is_declared self.new.counts at.now ≡ true) }
         ensures own { (other : List ℕ) → IsFalse (bytes_eq at.now other) → IsTrue (is_declared self.new.counts at.now) → count_at self.new.counts other ≡ count_at self.old.counts other }
         ensures connections { self.new.connections ≡ self.old.connections }
@@ -205,6 +206,7 @@ impl<S: Source, K: Sink> Wires for MemoryWires<S, K> {
         ensures kept { OnErr result (self.new.connections.items ≡ self.old.connections.items) }
         ensures listed { OnOk result (fails_next self.old.failing ≡ false) }
         ensures none { OnErr result (fails_next self.old.failing ≡ false → self.old.connections.items ≡ []) }
+        ensures counted { OnErr result ((at : List ℕ) → count_at self.new.counts at ≡ count_after self.old.counts self.new.counts (place_bytes self.old.place) at) }
         ensures made { self.new.failing ≡ one_call_more self.old.failing }
         ensures own { (at : List ℕ) → IsFalse (bytes_eq (place_bytes self.old.place) at) → IsTrue (is_declared self.old.counts (place_bytes self.old.place)) → count_at self.new.counts at ≡ count_at self.old.counts at }
     {

@@ -6,6 +6,7 @@ invariant-loop-thread g l = record {
   closure : l.self.by ≡ l.fn.self.by;
   started : l.self.started ≡ l.fn.self.started;
   faults : l.self.faults ≡ l.fn.self.faults;
+  failing : l.self.failing ≡ l.fn.self.failing;
 }
 
 abbrev pub decreases-loop-thread : goal.decreases-loop-thread
