@@ -6,3 +6,4 @@ pub mod Booking
 pub mod Counting
 pub mod Collected
 pub mod Lasting
+pub mod Holding

@@ -2,3 +2,4 @@ pub mod Requests
 pub mod Bookings
 pub mod Rates
 pub mod Collecting
+pub mod Packets

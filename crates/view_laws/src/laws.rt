@@ -1,7 +1,7 @@
 //! Laws of what the parts of a slice's state stand for, for all settings and every view. Each function's
 //! contract is the law; its body does nothing.
 
-ghost use Rattle.std.specs.Prelude.{ℕ, ◌≡◌, ◌+◌, ◌*◌, ◌%◌, ◌^◌, ◌↔◌, IsTrue, true, List, ◌∷◌, ◌++◌, Bool, All, take, reverse, slice_get, Some};
+ghost use Rattle.std.specs.Prelude.{ℕ, ◌≡◌, ◌+◌, ◌*◌, ◌%◌, ◌^◌, ◌↔◌, IsTrue, true, List, ◌∷◌, ◌++◌, Bool, All, take, reverse, slice_get, Some, Contains};
 ghost use Rattle.of10_model.specs.declared.pattern.Pattern.{Pattern};
 ghost use Rattle.of10_model.specs.Normal.{IsNormal};
 ghost use Rattle.of10_message.specs.Heads.{xid_of};
@@ -11,6 +11,7 @@ ghost use Rattle.xid_map.specs.Requests.{issued};
 ghost use Rattle.flow_book.specs.declared.booked.Booked.{Booked};
 ghost use Rattle.slice_words.specs.Messages.{Reading, asked_of, quoted};
 ghost use Rattle.slice_words.specs.Items.{Settings, Item, Msg, latest};
+ghost use Rattle.slice_words.specs.Buffers.{HeldPacket};
 ghost use Rattle.slice_words.specs.Alone.{answer_to};
 ghost use Rattle.slice_words.specs.Calls.{request_calls, questions};
 ghost use Rattle.slice_words.specs.Answers.{keeps_rate};
@@ -18,6 +19,7 @@ ghost use Rattle.slice_words.specs.Standing.{past_of};
 ghost use Rattle.view_laws.specs.Requests.{is_request, requests_in, next_number, IsUnder, remembered_for, IsRemembered};
 ghost use Rattle.view_laws.specs.Collecting.{Collects, IsCollecting};
 ghost use Rattle.view_laws.specs.Bookings.{booking_after, IsBooked, IsLastBooked, IsFirstBooked};
+ghost use Rattle.view_laws.specs.Packets.{held_in, held_at, IsHeld};
 ghost use Rattle.view_laws.specs.Rates.{counted};
 
 /// As many requests were issued as messages put something for the switch; and the n-th of these, from 0 and
@@ -56,6 +58,15 @@ pub fn pair_is_booked_by_the_last_item()
 pub fn booked_pair_is_as_its_items_say()
     ensures asked { (s : Settings) (view : List Item) (pattern : Pattern) (priority : ℕ) (b : Booked) → IsNormal pattern → booking_after s pattern priority view ≡ Some b → IsLastBooked s pattern priority b.asked view }
     ensures number { (s : Settings) (view : List Item) (pattern : Pattern) (priority : ℕ) (b : Booked) → IsNormal pattern → booking_after s pattern priority view ≡ Some b → IsFirstBooked s pattern priority b.number view }
+{}
+
+/// A slice holds a packet exactly where it was handed up to it as its writer and the switch had buffered it, it
+/// is among the last 256 of these, no item since then forgets, the switch didn't use its number for another, and
+/// no message of the slice used it. The one that is found under a number is the held one whose ordinal has
+/// these low 24 bits.
+pub fn packet_is_held_until_an_item_ends_it()
+    ensures held { (s : Settings) (view : List Item) (held : HeldPacket) → Contains (held_in s view) held ↔ IsHeld s view held }
+    ensures number { (s : Settings) (view : List Item) (number : ℕ) (held : HeldPacket) → (held_at s view number ≡ Some held) ↔ (IsHeld s view held × (held.ordinal % 2 ^ 24 ≡ number)) }
 {}
 
 /// The moments that count for the rate are those of the messages that passed it, each the greatest moment up
