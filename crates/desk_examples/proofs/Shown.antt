@@ -10,6 +10,7 @@ use Rattle.of10_port.specs.PortStatus.{read_port_status, spell_port_status}
 use Rattle.of10_port.specs.Ports.{ports_in}
 use Rattle.of10_flow.specs.FlowMods.{spell_flow_mod, flow_mod_with, read_flow_mod}
 use Rattle.of10_flow.specs.PacketIns.{read_packet_in, spell_packet_in}
+use Rattle.of10_flow.specs.PacketOuts.{read_packet_out, spell_packet_out}
 use Rattle.frame_header.specs.Headers.{header_of_packet}
 use Rattle.frame_header.specs.Links.{link_of, tagged_link, typed}
 use Rattle.frame_header.specs.Networks.{arp_of, ipv4_of, network_of, transport_at, transport_of}
@@ -20,7 +21,7 @@ use Rattle.of10_model.specs.Inclusion.{includes_of}
 use Rattle.of10_model.specs.Meet.{meet_of}
 use Rattle.of10_model.specs.Same.{is_same}
 use Rattle.of10_action.specs.Reading.{head_at, action_of, action_at, actions_at}
-use Rattle.of10_flow.specs.FlowRemoveds.{read_flow_removed}
+use Rattle.of10_flow.specs.FlowRemoveds.{read_flow_removed, spell_flow_removed}
 use Rattle.of10_message.specs.Controller.{read_controller, read_typed}
 use Rattle.of10_message.specs.Errors.{read_error, pair_in}
 use Rattle.of10_message.specs.Replies.{read_queues}
@@ -35,19 +36,21 @@ use Rattle.stats_filter.specs.Keeping.{entries_at, entries_in, is_own_entry}
 use Rattle.stats_filter.specs.Replies.{placed, replies_of, sum_reply, table_reply}
 use Rattle.flow_book.specs.Books.{book}
 use Rattle.slice_words.specs.FlowMods.{flow_mod_fault}
+use Rattle.slice_words.specs.PacketOuts.{packet_out_fault}
 use Rattle.slice_words.specs.Answers.{read_answer, packet_told}
 use Rattle.desk_words.specs.Histories.{message_items}
 use Rattle.desk_words.specs.Reports.{report_from}
 use Rattle.desk_examples.specs.Examples.{PacketReaches, PacketPasses, BadLengthCloses, FeaturesAreTold, ConfigIsKept, FlagsAreRefused, OldVersionCloses, EchoIsAnswered, VendorIsRefused, PortModIsRefused}
-use Rattle.desk_examples.specs.Ports.{StatusReachesBob, OwnPortsAreTold}
+use Rattle.desk_examples.specs.Ports.{StatusReachesBob, OwnPortsAreTold, OtherPortIsRefused}
 use Rattle.desk_examples.specs.Connections.{NothingHappens, SwitchGoes, BadLengthEndsTheSwitch, EarlySliceIsRefused}
 use Rattle.desk_examples.specs.Readers.{WriterIsToldAlone, ReaderIsTold}
 use Rattle.desk_examples.specs.Statistics.{BarrierComesBack, QueuesComeBack, OwnFlowsAreTold, FlowsAreSummed, TableIsTold}
-use Rattle.desk_examples.specs.FlowMods.{FlowModIsCut, FlowModIsRefused, ErrorIsToldOnce}
+use Rattle.desk_examples.specs.FlowMods.{FlowModIsCut, FlowModIsRefused, ErrorIsToldOnce, FlowModHasTwoPieces, FloodIsSpread, ActionsAreHeldToTheSlice, QuotaHolds, OverlapIsRefused}
+use Rattle.desk_examples.specs.PacketOuts.{ReusedPacketIsLost, PacketIsUsedOnce, PacketOutIsHeldToTheSlice, ProbeComesBack}
 
 -- what the examples compute with
 computing : Bool
-unfolding digits encode_with has Spell frames_at frames_of features_front read_features spell_features read_port_status spell_port_status ports_in spell_flow_mod read_packet_in spell_packet_in header_of_packet link_of tagged_link typed arp_of ipv4_of network_of transport_at transport_of probe_slot_of trailer_slot changed changed_plainly first_known kept_of with_port without_port spelled applied includes_of meet_of is_same head_at action_of action_at actions_at flow_mod_with read_flow_mod read_flow_removed read_controller read_typed read_error pair_in code_of sent_for has_room is_conforming accepted is_accepted requests remembered found book flow_mod_fault read_answer packet_told message_items report_from part_of read_request request_of spell_request length_of entries_at entries_in is_own_entry collecting since added summed joined kept gathered placed replies_of sum_reply table_reply read_queues
+unfolding digits encode_with has Spell frames_at frames_of features_front read_features spell_features read_port_status spell_port_status ports_in spell_flow_mod read_packet_in spell_packet_in header_of_packet link_of tagged_link typed arp_of ipv4_of network_of transport_at transport_of probe_slot_of trailer_slot changed changed_plainly first_known kept_of with_port without_port spelled applied includes_of meet_of is_same head_at action_of action_at actions_at flow_mod_with read_flow_mod read_flow_removed read_controller read_typed read_error pair_in code_of sent_for has_room is_conforming accepted is_accepted requests remembered found book flow_mod_fault read_answer packet_told message_items report_from part_of read_request request_of spell_request length_of entries_at entries_in is_own_entry collecting since added summed joined kept gathered placed replies_of sum_reply table_reply read_queues spell_flow_removed read_packet_out spell_packet_out packet_out_fault
 computing = true
 
 pub packet_reaches_shown : PacketReaches
@@ -153,3 +156,43 @@ flows_are_summed_shown = refl
 pub table_is_told_shown : TableIsTold
 unfolding computing
 table_is_told_shown = refl
+
+pub flow_mod_has_two_pieces_shown : FlowModHasTwoPieces
+unfolding computing
+flow_mod_has_two_pieces_shown = refl
+
+pub flood_is_spread_shown : FloodIsSpread
+unfolding computing
+flood_is_spread_shown = refl
+
+pub actions_are_held_to_the_slice_shown : ActionsAreHeldToTheSlice
+unfolding computing
+actions_are_held_to_the_slice_shown = refl
+
+pub quota_holds_shown : QuotaHolds
+unfolding computing
+quota_holds_shown = refl
+
+pub overlap_is_refused_shown : OverlapIsRefused
+unfolding computing
+overlap_is_refused_shown = refl
+
+pub other_port_is_refused_shown : OtherPortIsRefused
+unfolding computing
+other_port_is_refused_shown = refl
+
+pub reused_packet_is_lost_shown : ReusedPacketIsLost
+unfolding computing
+reused_packet_is_lost_shown = refl
+
+pub packet_is_used_once_shown : PacketIsUsedOnce
+unfolding computing
+packet_is_used_once_shown = refl
+
+pub packet_out_is_held_to_the_slice_shown : PacketOutIsHeldToTheSlice
+unfolding computing
+packet_out_is_held_to_the_slice_shown = refl
+
+pub probe_comes_back_shown : ProbeComesBack
+unfolding computing
+probe_comes_back_shown = refl

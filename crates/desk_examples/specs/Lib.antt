@@ -3,4 +3,5 @@ pub mod Ports
 pub mod Connections
 pub mod Readers
 pub mod FlowMods
+pub mod PacketOuts
 pub mod Statistics

@@ -1,8 +1,9 @@
 -- Worked examples of ports: alice writes packets of port 1 alone.
-use Rattle.std.specs.Prelude.{[], ◌∷◌, codes, Some}
+use Rattle.std.specs.Prelude.{[], ◌∷◌, ◌++◌, codes, Some}
 use Rattle.flowspace.specs.Policies.{PolicyView}
 use Rattle.recording.specs.Recordings.{switch_bytes}
 use Rattle.desk_examples.specs.Examples.{named, tcp_to, written, told, Follows, alice_sends}
+use Rattle.desk_examples.specs.FlowMods.{all_headers, add_fields, quoted_fields, output_2}
 
 abbrev pub port_policy : PolicyView
 port_policy = record {
@@ -19,3 +20,9 @@ StatusReachesBob =
 abbrev pub OwnPortsAreTold : Type 0
 OwnPortsAreTold =
     Follows port_policy (alice_sends (codes "0105000800000008") ∷ []) (codes "4 0 to alice 010600500000000800000000000000a100000100010000000000000000000fff000100000000000000000000000000000000000000000000000000000000000000000000000000000000000000000000\nend 5\n")
+
+-- she may not output to port 2: BAD_ACTION, BAD_OUT_PORT
+abbrev pub OtherPortIsRefused : Type 0
+OtherPortIsRefused = Follows port_policy
+    (alice_sends (codes "010e00500000002a" ++ all_headers ++ add_fields ++ codes "0000" ++ output_2) ∷ [])
+    (codes "4 0 to alice 0101004c0000002a00020004010e00500000002a" ++ all_headers ++ quoted_fields ++ codes "\nend 5\n")

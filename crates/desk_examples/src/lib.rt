@@ -3,9 +3,10 @@
 #![tactic(auto)]
 
 ghost use Rattle.desk_examples.specs.Examples.{PacketReaches, PacketPasses, BadLengthCloses, FeaturesAreTold, ConfigIsKept, FlagsAreRefused, OldVersionCloses, EchoIsAnswered, VendorIsRefused, PortModIsRefused};
-ghost use Rattle.desk_examples.specs.Ports.{StatusReachesBob, OwnPortsAreTold};
+ghost use Rattle.desk_examples.specs.Ports.{StatusReachesBob, OwnPortsAreTold, OtherPortIsRefused};
 ghost use Rattle.desk_examples.specs.Connections.{NothingHappens, SwitchGoes, BadLengthEndsTheSwitch, EarlySliceIsRefused};
-ghost use Rattle.desk_examples.specs.FlowMods.{FlowModIsCut, FlowModIsRefused, ErrorIsToldOnce};
+ghost use Rattle.desk_examples.specs.FlowMods.{FlowModIsCut, FlowModIsRefused, ErrorIsToldOnce, FlowModHasTwoPieces, FloodIsSpread, ActionsAreHeldToTheSlice, QuotaHolds, OverlapIsRefused};
+ghost use Rattle.desk_examples.specs.PacketOuts.{ReusedPacketIsLost, PacketIsUsedOnce, PacketOutIsHeldToTheSlice, ProbeComesBack};
 ghost use Rattle.desk_examples.specs.Statistics.{BarrierComesBack, QueuesComeBack, OwnFlowsAreTold, FlowsAreSummed, TableIsTold};
 ghost use Rattle.desk_examples.specs.Readers.{WriterIsToldAlone, ReaderIsTold};
 
@@ -36,10 +37,11 @@ pub fn message_is_refused()
     ensures ports { PortModIsRefused }
 {}
 
-/// A slice that may write packets of port 1 alone isn't told of port 2.
+/// A slice that may write packets of port 1 alone isn't told of port 2, and may not output to it.
 pub fn slice_is_told_its_ports()
     ensures status { StatusReachesBob }
     ensures features { OwnPortsAreTold }
+    ensures output { OtherPortIsRefused }
 {}
 
 /// Without a record nothing happens; the switch's connection ends, also by a message whose length field
@@ -64,6 +66,34 @@ pub fn flow_mod_is_sent_on()
     ensures cut { FlowModIsCut }
     ensures refused { FlowModIsRefused }
     ensures error { ErrorIsToldOnce }
+{}
+
+/// A flow-mod is sent once for each piece of its match, and an output to FLOOD or ALL for each port; its
+/// actions may send nothing out of the slice.
+pub fn flow_mod_stays_in_the_slice()
+    ensures pieces { FlowModHasTwoPieces }
+    ensures flood { FloodIsSpread }
+    ensures actions { ActionsAreHeldToTheSlice }
+{}
+
+/// A pair beyond the quota is refused until another is gone, and one that overlaps where that is asked for.
+pub fn booked_pairs_refuse()
+    ensures quota { QuotaHolds }
+    ensures overlap { OverlapIsRefused }
+{}
+
+/// A slice uses a packet that the switch holds for it by its own number, once, and no more once the switch
+/// has used its number for another.
+pub fn held_packet_is_used()
+    ensures lost { ReusedPacketIsLost }
+    ensures once { PacketIsUsedOnce }
+{}
+
+/// A packet that comes along is sent where its header and what its actions make of it are the slice's; a probe
+/// is marked, and comes back to its slice alone.
+pub fn packet_out_is_sent_on()
+    ensures packet { PacketOutIsHeldToTheSlice }
+    ensures probe { ProbeComesBack }
 {}
 
 /// A barrier and a question for queues are sent on under transaction ids of their own, and the replies come
