@@ -1,5 +1,6 @@
 //! What is answered to the messages of a slice, and what they change.
 
+mod flow_mods;
 mod given;
 mod packet_outs;
 

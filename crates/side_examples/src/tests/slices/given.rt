@@ -1,8 +1,8 @@
-//! States for the tests.
+//! States and errors for the tests.
 
 use flow_book::SliceState;
 use flowspace::SwitchPolicy;
-use slice_side::come_up;
+use slice_side::{Reaction, come_up};
 use std::alloc::{AllocError, Global};
 
 /// The state of a slice whose controller has connected.
@@ -14,5 +14,13 @@ pub fn state_up(alloc: Global, policy: &SwitchPolicy, slot: u8) -> Result<SliceS
             Ok(state)
         }
         _ => Err(AllocError),
+    }
+}
+
+/// Class and code of the error that is answered.
+pub fn error_in(reaction: &Reaction) -> &[u8] {
+    match reaction.to_slice.first() {
+        Some(error) => error.as_slice().get(8..12).unwrap_or(&[]),
+        None => &[],
     }
 }

@@ -1,10 +1,10 @@
 //! Packet-outs of each length, whatever they say of the length of their actions.
 
+use super::given::error_in;
 use super::set_up;
 use of10_ctl::kind::PACKET_OUT;
 use of10_ctl::{Frame, message};
 use samples::bytes;
-use slice_side::Reaction;
 use std::alloc::{AllocError, Global};
 use std::test::Fail;
 
@@ -36,14 +36,6 @@ fn error_for(size: u16, listed: u16) -> &'static [u8] {
         8 if size >= 24 + 38 => &[],
         0 | 8 => &[0, 1, 0, 5],
         _ => &[0, 2, 0, 1],
-    }
-}
-
-/// Class and code of the error that is answered.
-fn error_in(reaction: &Reaction) -> &[u8] {
-    match reaction.to_slice.first() {
-        Some(error) => error.as_slice().get(8..12).unwrap_or(&[]),
-        None => &[],
     }
 }
 
