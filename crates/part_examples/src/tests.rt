@@ -1,4 +1,5 @@
 mod bookings;
+mod buffers;
 mod ports;
 mod queues;
 mod rates;
