@@ -1,7 +1,7 @@
 // A gate that holds messages back until others were answered.
 
-use crate::sent::{Sent, all_hold, shares};
 use fv_live::Host;
+use live_samples::{HELLO, Sent, all_hold, shares};
 use live_session::{Gate, Side};
 use std::alloc::{AllocError, Global};
 use std::net::{Net, TcpListener, TcpStream};
@@ -13,20 +13,7 @@ use std::time::Duration;
 /// How often a message that is held is looked at again.
 const TURNS: u32 = 10_000;
 
-/// What a switch is sent until its slices' controllers are dialled: a greeting, the question what it is, that
-/// packets are to be handed up whole, an empty table, and a barrier.
-pub const LANE: [&str; 5] = [
-    "01000008ff000000",
-    "01050008ff000001",
-    "0109000cff0000020000ffff",
-    "010e0048ff000003003820ff0000000000000000000000000000000000000000000000000000000000000000\
-0000000000000000000000000003000000000000ffffffffffff0000",
-    "01120008ff000004",
-];
-
-/// What the greeting of a controller is, and the answers to questions of alice and bob.
-pub const HELLO: &[u8] = &[1, 0, 0, 8, 0, 0, 0, 0];
-
+/// The answers to the questions of alice and bob.
 pub const TO_ALICE: [[u8; 8]; 2] = [[1, 3, 0, 8, 0, 0, 0, 1], [1, 3, 0, 8, 0, 0, 0, 2]];
 
 pub const TO_BOB: [u8; 8] = [1, 3, 0, 8, 0, 0, 0, 11];

@@ -4,12 +4,6 @@
 #[cfg(test)]
 mod gate;
 #[cfg(test)]
-mod outside;
-#[cfg(test)]
-mod sent;
-#[cfg(test)]
 mod sessions;
-#[cfg(test)]
-mod spawner;
 #[cfg(test)]
 mod statuses;

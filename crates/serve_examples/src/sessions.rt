@@ -1,11 +1,12 @@
 ghost use Rattle.std.specs.Prelude.{◌≡◌, None, IfOk};
 
-use crate::gate::{LANE, Order, TO_ALICE, TO_BOB};
-use crate::outside::{ALICE, BOB, POLICY, SWITCH, Still, link, source, words};
-use crate::sent::{Sent, all_hold, nothing};
-use crate::spawner::ClosureSpawner;
+use crate::gate::{Order, TO_ALICE, TO_BOB};
 use fv_base::{MemoryFiles, MemorySink};
 use fv_live::{Links, MemorySource, MemoryWires, SharedSink, Work};
+use live_samples::{
+    ALICE, BOB, ClosureSpawner, LANE, POLICY, SWITCH, Sent, Still, all_hold, link, nothing, source,
+    words,
+};
 use live_serve::{SessionWork, serve};
 use std::alloc::{AllocError, Global};
 use std::collections::VecDeque;

@@ -1,9 +1,8 @@
 ghost use Rattle.std.specs.Prelude.{◌≡◌, None, IfOk};
 
-use crate::outside::{POLICY, Still, source, words};
-use crate::spawner::ClosureSpawner;
 use fv_base::{MemoryFiles, MemorySink};
 use fv_live::{Links, MemorySource, MemoryWires, Work};
+use live_samples::{ClosureSpawner, POLICY, Still, source, words};
 use live_serve::{SessionWork, serve};
 use live_session::OpenGate;
 use std::alloc::{AllocError, Global};

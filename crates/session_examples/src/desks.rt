@@ -1,13 +1,13 @@
 // Desks, and what comes to them.
 
-ghost use Rattle.std.specs.Prelude.{◌≡◌, ◌<◌, ◌^◌, IfOk, vec_len};
+ghost use Rattle.std.specs.Prelude.{◌≡◌, ◌<◌, vec_len};
 ghost use Rattle.turn_desk.specs.Seats.{IsSeatOf, SameDesk};
 
 use fv_live::{MemoryClock, MemorySource};
-use live_session::{Bells, DeskObject, DeskOp, DeskReply};
+use live_session::{DeskObject, DeskOp, DeskReply};
 use of10_ctl::Frame;
-use proxy_core::{Desk, Dest, Event, Taken, Timed, Verdict};
-use samples::{bytes, frame, policy, rule, tcp};
+use proxy_core::{Dest, Event, Taken, Timed, Verdict};
+use samples::{bytes, frame};
 use std::alloc::{AllocError, Global};
 use std::process::Abort;
 use std::sync::Wait;
@@ -29,26 +29,6 @@ pub const FIRST_VERSION: &str = "0000000800000000";
 
 /// What a controller is sent that comes, asks the question and sends that message.
 pub const TO_DISMISSED: &str = "010000080000000001030008000000050101000c0000000000000000";
-
-/// A desk of alice, who writes TCP packets for port 80, and bob, who writes those for port 22; its first seat and its
-/// bells.
-pub fn desk(alloc: Global) -> Result<(TurnDesk<DeskObject>, TurnSeat<DeskObject>, Bells), Fail>
-    ensures seat { IfOk result (λ made. IsSeatOf made.0 made.1) }
-    ensures calls { IfOk result (λ made. made.1.left ≡ 2 ^ 63) }
-{
-    let alice = rule(100, &tcp(None, 80), 0, 0);
-    let bob = rule(50, &tcp(None, 22), 1, 0);
-    let desk = Desk::new(alloc, policy(alloc, &[alice, bob])?);
-    let bells = Bells::new(alloc, 2)?;
-    let waiting = bells.waiting()?;
-    let object = DeskObject {
-        alloc,
-        desk,
-        waiting,
-    };
-    let (desk, seat) = TurnDesk::new(alloc, object)?;
-    Ok((desk, seat, bells))
-}
 
 /// What becomes of the connection that an event comes from.
 pub fn step<R: Wait>(

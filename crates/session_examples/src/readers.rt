@@ -1,8 +1,7 @@
-use crate::desks::{
-    ECHO, FIRST_VERSION, TO_DISMISSED, clock, desk, features, open, source, step, take,
-};
+use crate::desks::{ECHO, FIRST_VERSION, TO_DISMISSED, clock, features, open, source, step, take};
 use fv_base::MemorySink;
 use fv_live::{Clock, MemorySource};
+use live_samples::desk;
 use live_session::{OpenGate, ReaderEnd, Side, WriterEnd, run_reader, run_writer};
 use proxy_core::{Dest, Event, Taken, Verdict};
 use samples::bytes;

@@ -1,6 +1,7 @@
-use crate::desks::{clock, desk, open};
+use crate::desks::{clock, open};
 use fv_base::MemorySink;
 use fv_live::{MemoryDialer, MemorySource};
+use live_samples::desk;
 use live_session::{Half, OpenGate, SliceEnd, run_slice};
 use std::test::Fail;
 

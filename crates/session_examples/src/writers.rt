@@ -1,6 +1,7 @@
-use crate::desks::{ECHO, FIRST_VERSION, TO_DISMISSED, clock, desk, open, source};
+use crate::desks::{ECHO, FIRST_VERSION, TO_DISMISSED, clock, open, source};
 use fv_base::MemorySink;
 use fv_live::MemorySource;
+use live_samples::desk;
 use live_session::{OpenGate, ReaderEnd, Side, WriterEnd, run_reader, run_writer};
 use of10_ctl::message;
 use proxy_core::Dest;

@@ -1,4 +1,4 @@
-// What switches and controllers were sent.
+//! What switches and controllers were sent.
 
 use fv_live::SharedBytes;
 use std::alloc::{AllocError, Global};

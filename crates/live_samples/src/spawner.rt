@@ -1,4 +1,4 @@
-// What starts works on threads by a closure. Nothing is told of which it started.
+//! What starts works on threads by a closure. Nothing is told of which it started.
 
 ghost use Rattle.std.specs.Prelude.{◌≡◌, ◌≤◌, ◌<◌, None, OnOk, OnErr, vec_len, vec_capacity};
 ghost use Rattle.fv_base.specs.Told.{Rose};
@@ -54,6 +54,16 @@ impl<F: Drop> ClosureSpawner<F> {
     {
         self.threads.reserve(1)
     }
+
+    // Counts a start that failed.
+    fn refuse(&mut self) -> Failed
+        ensures closure { self.new.by ≡ self.old.by }
+        ensures cause { Rose self.old.faults self.new.faults }
+        ensures count { self.old.faults ≤ self.new.faults }
+    {
+        self.faults = one_more(self.faults);
+        Failed
+    }
 }
 
 impl<W: Work, F: FnMut(W) -> Option<JoinHandle<()>> + Drop> Spawner<W> for ClosureSpawner<F> {
@@ -76,12 +86,10 @@ impl<W: Work, F: FnMut(W) -> Option<JoinHandle<()>> + Drop> Spawner<W> for Closu
     {
         let fails = self.fails_next();
         if fails || self.make_room().is_err() {
-            self.faults = one_more(self.faults);
-            return Err(Failed);
+            return Err(self.refuse());
         }
         let Some(thread) = (self.by)(work) else {
-            self.faults = one_more(self.faults);
-            return Err(Failed);
+            return Err(self.refuse());
         };
         self.threads.push_reserved(thread);
         Ok(())

@@ -1,8 +1,8 @@
-// Switches and controllers in memory, a clock that stands, and words.
+//! Switches and controllers in memory, a clock that stands, and words.
 
 ghost use Rattle.std.specs.Prelude.{None};
 
-use crate::sent::Sent;
+use crate::traffic::Sent;
 use fv_base::Words;
 use fv_live::{Clock, Link, MemorySource, SharedSink};
 use std::alloc::{AllocError, Global};
@@ -36,22 +36,34 @@ pub const ALICE: &str = "127.0.0.1:6633";
 
 pub const BOB: &str = "127.0.0.1:6634";
 
-/// What a switch with three ports and the local one says, and then a question.
-pub const SWITCH: [&str; 10] = [
-    "010600e0ff00000100000000000000a100000100010000000000000000000fff",
-    "0001",
-    ZEROS,
-    "0002",
-    ZEROS,
-    "0003",
-    ZEROS,
-    "fffe",
-    ZEROS,
-    "0102000800000000",
+/// What a switch tells of itself that has three ports and its own.
+pub const FEATURES: &str = "\
+010600e0ff00000100000000000000a100000100010000000000000000000fff\
+00010000000000000000000000000000000000000000000000000000000000000000000000000000000000000000\
+0000\
+00020000000000000000000000000000000000000000000000000000000000000000000000000000000000000000\
+0000\
+00030000000000000000000000000000000000000000000000000000000000000000000000000000000000000000\
+0000\
+fffe0000000000000000000000000000000000000000000000000000000000000000000000000000000000000000\
+0000";
+
+/// That, and then a question.
+pub const SWITCH: [&str; 2] = [FEATURES, "0102000800000000"];
+
+/// What a switch is sent until its slices' controllers are dialled: a greeting, the question what it is, that
+/// packets are to be handed up whole, an empty table, and a barrier.
+pub const LANE: [&str; 5] = [
+    "01000008ff000000",
+    "01050008ff000001",
+    "0109000cff0000020000ffff",
+    "010e0048ff000003003820ff0000000000000000000000000000000000000000000000000000000000000000\
+0000000000000000000000000003000000000000ffffffffffff0000",
+    "01120008ff000004",
 ];
 
-const ZEROS: &str =
-    "00000000000000000000000000000000000000000000000000000000000000000000000000000000000000000000";
+/// The greeting of a controller.
+pub const HELLO: &[u8] = &[1, 0, 0, 8, 0, 0, 0, 0];
 
 /// A clock that always answers 0.
 #[derive(Clone, Copy)]
