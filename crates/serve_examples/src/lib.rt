@@ -4,6 +4,8 @@
 #[cfg(test)]
 mod gate;
 #[cfg(test)]
+mod many;
+#[cfg(test)]
 mod sessions;
 #[cfg(test)]
 mod statuses;
