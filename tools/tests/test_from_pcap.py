@@ -3,12 +3,14 @@
 What can't be read must be told with its packet, end with status 1 (with 2 where words have no form), and leave the
 folder as it was. The cases run in this process, and a few runs are of the script by itself.
 """
+import contextlib
 import os
 import pathlib
 import resource
 import signal
 import subprocess
 import tempfile
+import time
 import unittest
 import unittest.mock
 
@@ -28,6 +30,8 @@ from flowvisor_tool import from_pcap
 
 NAME = "flowvisor-tool: "
 MISSPELLED = "flowvisor-tool from-pcap: error: argument "
+# In seconds.
+LONGEST_WAIT = 60
 
 
 def is_accepted(spelled):
@@ -267,11 +271,24 @@ class Runs(SmallRun):
         os.mkfifo(pipe)
         words = [SCRIPT, "from-pcap", *OPTIONS, pipe, self.written]
         with subprocess.Popen(words, stdout=subprocess.PIPE, stderr=subprocess.PIPE, preexec_fn=listen) as process:
-            with open(pipe, "wb"):
-                process.send_signal(signal.SIGINT)
-                told = process.communicate()
+            try:
+                with open(self.opened(pipe, process), "wb"):
+                    process.send_signal(signal.SIGINT)
+                # The pipe is closed by now: that wakes a read that began just as the signal came.
+                told = process.communicate(timeout=LONGEST_WAIT)
+            finally:
+                process.kill()
         self.assertEqual((process.returncode, *told), (130, b"", b""))
         self.assertFalse(self.written.exists())
+
+    def opened(self, pipe, process):
+        """A pipe, opened for writing once the process reads it."""
+        for _ in range(LONGEST_WAIT * 100):
+            with contextlib.suppress(OSError):  # it has no reader yet
+                return os.open(pipe, os.O_WRONLY | os.O_NONBLOCK)
+            self.assertIsNone(process.poll(), "it has ended before it read the pipe")
+            time.sleep(0.01)
+        self.fail("it doesn't read the pipe")
 
     def test_slices_without_a_connection(self):
         switch, alice, bob = TOLD
