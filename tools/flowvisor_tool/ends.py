@@ -1,10 +1,9 @@
 """The addresses at which connections are served, and the words that give them."""
 import ipaddress
-import pathlib
-import tomllib
 
 from .connections import SWITCH
 from .faults import Fault
+from .policy_text import accepted_policy
 from .recordings import SLOTS
 
 
@@ -56,14 +55,7 @@ def end_of(text):
 
 def slices_of(path):
     """The names and the controllers of a policy's slices, by slot."""
-    try:
-        policy = tomllib.loads(pathlib.Path(path).read_text(encoding="utf-8-sig"))
-        slices = [(str(slice_["name"]), str(slice_["controller"])) for slice_ in policy["slice"]]
-    except (ValueError, KeyError, TypeError, RecursionError):
-        raise Fault("is no policy: `flowvisor check` says more", path) from None
-    if len(slices) > SLOTS:
-        raise Fault(f"has more than {SLOTS} slices: `flowvisor check` says more", path)
-    return slices
+    return [(one.name, one.controller) for one in accepted_policy(path).slices]
 
 
 def slot_of(word, slices):

@@ -5,7 +5,7 @@ import re
 from .faults import Fault
 from .fields import header_of_words, packet_text, value_of, value_text
 from .frame_header import header_of, probe_slot
-from .policy_text import read_policy_file
+from .policy_text import accepted_policy
 
 NAME = "explain"
 SUMMARY = "tell who gets a packet, and by which rule"
@@ -34,10 +34,7 @@ def add_arguments(parser):
 
 
 def run(arguments):
-    reading = read_policy_file(arguments.policy)
-    if reading.faults:
-        raise Fault("it isn't accepted: flowvisor-tool lint tells why", arguments.policy)
-    for line in told(reading.policy, arguments.packet, arguments.switch):
+    for line in told(accepted_policy(arguments.policy), arguments.packet, arguments.switch):
         print(line)
     return 0
 

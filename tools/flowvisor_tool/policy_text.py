@@ -8,6 +8,7 @@ import pathlib
 from dataclasses import dataclass, field
 
 from .acceptance import MOST_SLICES, acceptance_faults
+from .faults import Fault
 from .fields import BITS, NEEDS
 from .policy import Finding, Pattern, Policy, Rule, Slice
 from .policy_forms import RULE_FORMS, RULE_REQUIRED, SLICE_FORMS, SLICE_REQUIRED, TOP_KEYS, constraint, read_names
@@ -215,3 +216,11 @@ def read_policy(data):
 
 def read_policy_file(path):
     return read_policy(pathlib.Path(path).read_bytes())
+
+
+def accepted_policy(path):
+    """The policy in a file. One that has faults isn't told of further: lint does that."""
+    reading = read_policy_file(path)
+    if reading.faults:
+        raise Fault("it isn't accepted: flowvisor-tool lint tells why", path)
+    return reading.policy

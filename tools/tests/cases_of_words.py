@@ -3,6 +3,8 @@ from from_pcap_cases import Case, HOSTS, OPTIONS, POLICY, SLICES, records_of, ru
 from made_captures import alice_talk, bob_talk, pcap, switch_talk, timed
 from sunworsted import SLICE_UP, record, recording
 
+NOT_ACCEPTED = "it isn't accepted: flowvisor-tool lint tells why"
+
 
 def options():
     """The ways to say which connections are recorded."""
@@ -24,8 +26,14 @@ def options():
     unnamed = "[[slice]]\ncontroller = '10.0.0.5:1'"
     yield Case("a policy with a byte order mark", capture, expected, [*port, "--policy", "policy.toml"], "\ufeff" + POLICY)
     deep = "a = " + "[" * 9999
-    for name, policy in {"no TOML": "[", "deep nesting": deep, "no slices": "version = 1", "no name": unnamed, "a number": "slice = 1"}.items():
-        yield Case(f"a policy with {name}", capture, "is no policy", hosts, policy)
+    refused = {"no TOML": "[", "deep nesting": deep, "no slices": "version = 1", "no name": unnamed, "a number": "slice = 1",
+               "a key too many": POLICY + "speed = 1"}
+    for name, policy in refused.items():
+        yield Case(f"a policy with {name}", capture, NOT_ACCEPTED, hosts, policy)
+    newer = POLICY + 'burst = 0x10\n[[rule]]\npriority = 1\nread = ["\\x61lice", # of TOML 1.1\n]\n'
+    tables = 'version = 1\nslice = [{\n  name = "alice", controller = "10.0.0.5:6653",\n}, {name = "bob", controller = "10.0.0.6:6654"}]'
+    for name, policy in {"an escape": newer, "a table over lines": tables}.items():
+        yield Case(f"a policy with {name} of TOML 1.1", capture, expected, hosts, policy)
     for number in (1, 65535):
         far = run_of(switch_talk(server=f"10.0.0.1:{number}"), alice_talk(), bob_talk())
         yield Case(f"port {number}", pcap(timed(far[0])), far[1], ["--switch-port", f"{number}", *SLICES])
@@ -36,11 +44,11 @@ def options():
     yield Case("another address", capture, no_switch, ["--switch-port", "10.0.0.2:6633"])
     yield Case("one address of two slots", capture, "slots 0 and 2 have the same", [*OPTIONS, "--slice", "2=10.0.0.5:6653"])
     for count in (32, 33, 300):
-        policy = "".join(f"[[slice]]\nname = 's{slot}'\ncontroller = '10.0.1.1:{slot + 1}'\n" for slot in range(count))
+        policy = "version = 1\n" + "".join(f"[[slice]]\nname = 's{slot}'\ncontroller = '10.0.1.1:{slot + 1}'\n" for slot in range(count))
         policy = policy.replace("10.0.1.1:32", "10.0.0.6:6654").replace("10.0.1.1:5'", "10.0.0.5:6653'")
         moved = recording(*(record(kind, moment, data, (4, 31)[slot] if kind >= SLICE_UP else 0) for kind, moment, data, slot, _switch
                             in records_of(expected)))
-        yield Case(f"{count} slices", capture, moved if count == 32 else "has more than 32 slices", hosts, policy)
+        yield Case(f"{count} slices", capture, moved if count == 32 else NOT_ACCEPTED, hosts, policy)
 
 
 def misspelled(capture, turned):
