@@ -3,7 +3,8 @@ import enum
 import ipaddress
 import struct
 
-from .segments import ACK, FIN, PUSH, SYN, TCP
+from .openflow.ethernet import TCP
+from .segments import ACK, FIN, PUSH, SYN
 from .streams import SEQUENCES
 
 MAGIC = 0xA1B23C4D

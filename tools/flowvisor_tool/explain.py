@@ -3,8 +3,9 @@ import argparse
 import re
 
 from .faults import Fault
-from .fields import header_of_words, packet_text, value_of, value_text
+from .fields import header_of_words, packet_text, value_of
 from .frame_header import header_of, probe_slot
+from .openflow.header_fields import value_text
 from .policy_text import accepted_policy
 
 NAME = "explain"

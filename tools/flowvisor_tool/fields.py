@@ -1,4 +1,4 @@
-"""The twelve fields of a packet's header, and their text as `ovs-ofctl` writes it.
+"""The twelve fields of a packet's header, read from text as `ovs-ofctl` writes it.
 
 The names, the sizes and the order are those of a match (OpenFlow 1.0.0, sections 3.1 and 5.2.3).
 """
@@ -8,14 +8,12 @@ from collections.abc import Container
 from typing import NamedTuple
 
 from .faults import Fault
+from .openflow.ethernet import ARP, ICMP, IPV4, TCP, UDP
+from .openflow.header_fields import KEYWORDS, NAMES_BEHIND, fields_text, value_text
+from .openflow.protocol import UNTAGGED, Port
 
-UNTAGGED = 0xFFFF
 LARGEST_VLAN = 4095
 TAG_IS_THERE = 0x1000
-LARGEST_PHYSICAL_PORT = 0xFF00
-LOCAL_PORT = 0xFFFE
-IPV4, ARP, LLDP = 0x0800, 0x0806, 0x88CC
-ICMP, TCP, UDP = 1, 6, 17
 
 BITS = {
     "in_port": 16,
@@ -34,26 +32,7 @@ BITS = {
 HARDWARE_FIELDS = ("dl_src", "dl_dst")
 NETWORK_FIELDS = ("nw_src", "nw_dst")
 
-# What a keyword of `ovs-ofctl` says, and other names that it has for fields.
-KEYWORDS = {
-    "ip": {"dl_type": IPV4},
-    "arp": {"dl_type": ARP},
-    "icmp": {"dl_type": IPV4, "nw_proto": ICMP},
-    "tcp": {"dl_type": IPV4, "nw_proto": TCP},
-    "udp": {"dl_type": IPV4, "nw_proto": UDP},
-}
-OTHER_NAMES = {
-    "arp_op": "nw_proto",
-    "arp_spa": "nw_src",
-    "arp_tpa": "nw_dst",
-    "icmp_type": "tp_src",
-    "icmp_code": "tp_dst",
-}
-# The order in which `ovs-ofctl` writes fields behind the keyword.
-WRITTEN = (
-    *("in_port", "dl_vlan", "dl_vlan_pcp", "dl_src", "dl_dst", "dl_type"),
-    *("nw_src", "nw_dst", "nw_proto", "nw_tos", "tp_src", "tp_dst"),
-)
+OTHER_NAMES = {other: name for names in NAMES_BEHIND.values() for name, other in names.items()}
 
 HARDWARE = re.compile(r"[0-9A-Fa-f]{2}(?::[0-9A-Fa-f]{2}){5}")
 NUMBER = re.compile(r"0[xX][0-9A-Fa-f]+|[0-9]+")
@@ -98,37 +77,10 @@ NEEDS = {
 }
 
 
-def hardware_text(address):
-    """An Ethernet address."""
-    return address.to_bytes(6, "big").hex(":")
-
-
-def network_text(address):
-    """An IPv4 address."""
-    return str(ipaddress.IPv4Address(address))
-
-
-def value_text(name, value):
-    """The value of a field."""
-    if name in HARDWARE_FIELDS:
-        return hardware_text(value)
-    if name in NETWORK_FIELDS:
-        return network_text(value)
-    if name == "dl_type":
-        return f"0x{value:04x}"
-    if name == "in_port" and value == LOCAL_PORT:
-        return "LOCAL"
-    return str(value)
-
-
 def packet_text(header):
     """A packet as `ovs-ofctl` writes it; fields that are as in an empty one are left out."""
     shown = {name: value for name, value in header._asdict().items() if value != Header._field_defaults[name]}
-    keywords = [word for word, fields in KEYWORDS.items() if fields.items() <= shown.items()]
-    words = keywords[-1:]
-    said = KEYWORDS[words[0]] if words else {}
-    words += [f"{name}={value_text(name, shown[name])}" for name in WRITTEN if name in shown and name not in said]
-    return ",".join(words) or "in_port=0"
+    return fields_text(shown) or "in_port=0"
 
 
 def number_of(text, greatest):
@@ -148,8 +100,8 @@ def value_of(name, text):
             return int(ipaddress.IPv4Address(text))
         except ipaddress.AddressValueError:
             return None
-    if name == "in_port" and text.upper() == "LOCAL":
-        return LOCAL_PORT
+    if name == "in_port" and text.upper() in Port.__members__:
+        return Port[text.upper()].value
     value = number_of(text, (1 << BITS[name]) - 1)
     if value is None or not is_value(name, value):
         return None

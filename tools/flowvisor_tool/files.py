@@ -4,10 +4,11 @@ import os
 import pathlib
 import sys
 
+from .captures import PCAP_MAGICS, SECTION_HEADER
 from .faults import Fault
 from .recordings import MAGIC
 
-CAPTURE_MAGICS = {bytes.fromhex(magic) for magic in ("a1b2c3d4", "d4c3b2a1", "a1b23c4d", "4d3cb2a1", "0a0d0d0a")}
+CAPTURE_MAGICS = {*PCAP_MAGICS, SECTION_HEADER}
 
 
 def is_recording(file, name):

@@ -1,15 +1,14 @@
 """The header of an Ethernet frame, and the mark of a probe (OpenFlow 1.0.0, section 3.4; probes are this proxy's own)."""
 import struct
 
-from .fields import ARP, ICMP, IPV4, LLDP, TCP, UDP, UNTAGGED, Header
+from .fields import Header
+from .openflow.ethernet import (
+    ARP, FRAGMENT_OFFSET, ICMP, IPV4, LEAST_TYPE, LLDP, MORE_FRAGMENTS, SNAP, TCP, UDP, VLAN_TAG,
+)
+from .openflow.protocol import UNTAGGED
 
-VLAN_TAG = 0x8100
-LEAST_TYPE = 0x0600
 # What an IEEE 802.3 frame without SNAP has as its type.
 NO_TYPE = 0x05FF
-SNAP = bytes.fromhex("aaaa03000000")
-# The bytes 6 and 7 of IPv4: more fragments follow, or an offset.
-FRAGMENT = 0x3FFF
 PROBE_MARK = b"FVSL"
 PROBE_TRAILER = struct.Struct(">4sB3x")
 
@@ -60,7 +59,7 @@ def network_fields(dl_type, payload):
 def transport_fields(packet):
     """The ports of TCP and UDP, or the type and code of ICMP; a fragment has none."""
     protocol = packet[9]
-    if number_at(packet, 6) & FRAGMENT:
+    if number_at(packet, 6) & (MORE_FRAGMENTS | FRAGMENT_OFFSET):
         return {}
     segment = packet[4 * (packet[0] & 0x0F) :]
     form = {TCP: ">HH", UDP: ">HH", ICMP: ">BB"}.get(protocol)

@@ -3,7 +3,8 @@ import re
 from collections.abc import Callable
 from dataclasses import dataclass
 
-from .fields import BITS, LARGEST_PHYSICAL_PORT, LARGEST_VLAN, LOCAL_PORT, UNTAGGED
+from .fields import BITS, LARGEST_VLAN
+from .openflow.protocol import LARGEST_PHYSICAL_PORT, UNTAGGED, Port
 
 FULL_NETWORK = (1 << 32) - 1
 
@@ -84,7 +85,7 @@ RULE_FORMS = {
     "priority": number(0, (1 << 32) - 1),
     "write": text("the name of a slice, a text", re.compile(".*", re.DOTALL)),
     "read": Form('an array of names, as ["bob"]', read_names),
-    "in_port": number(0, LARGEST_PHYSICAL_PORT, also=LOCAL_PORT),
+    "in_port": number(0, LARGEST_PHYSICAL_PORT, also=Port.LOCAL.value),
     "dl_src": HARDWARE_ADDRESS,
     "dl_dst": HARDWARE_ADDRESS,
     "dl_vlan": number(0, LARGEST_VLAN, also=UNTAGGED),

@@ -3,12 +3,13 @@ import struct
 from dataclasses import dataclass
 
 from .captures import Problem
+from .openflow.ethernet import FRAGMENT_OFFSET, IPV4, IPV6, MORE_FRAGMENTS, TCP, VLAN_TAG
 
-VLAN_TAGS = (0x8100, 0x88A8, 0x9100)
-IP_TYPES = (0x0800, 0x86DD)
+VLAN_TAGS = (VLAN_TAG, 0x88A8, 0x9100)
+IP_TYPES = (IPV4, IPV6)
 # AF_INET, and AF_INET6 on Linux, NetBSD and OpenBSD, FreeBSD, and macOS.
 IP_FAMILIES = (2, 10, 24, 28, 30)
-TCP, HOP_BY_HOP, ROUTING, FRAGMENT, AUTHENTICATION, DESTINATION = 6, 0, 43, 44, 51, 60
+HOP_BY_HOP, ROUTING, FRAGMENT, AUTHENTICATION, DESTINATION = 0, 43, 44, 51, 60
 FIN, SYN, RST, PUSH, ACK = 1, 2, 4, 8, 16
 
 
@@ -112,9 +113,9 @@ def ipv4_datagram(packet, start):
     # A length of 0 is one of 65,536 and more, which a host shows that has its network card cut packets.
     end = start + number_at(packet, start + 2) if number_at(packet, start + 2) else packet.full
     addresses = packet.data[start + 12 : start + 16], packet.data[start + 16 : start + 20]
-    if fragment & 0x1FFF:
+    if fragment & FRAGMENT_OFFSET:
         return later_fragment(addresses)
-    return between_ports(packet, addresses, start + header, end, bool(fragment & 0x2000))
+    return between_ports(packet, addresses, start + header, end, bool(fragment & MORE_FRAGMENTS))
 
 
 def ipv6_datagram(packet, start):

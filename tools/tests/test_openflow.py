@@ -1,7 +1,11 @@
 """The wire of OpenFlow 1.0: matches, actions, packets, and messages in one line each."""
 import pathlib
 import random
+import re
+import shutil
 import struct
+import subprocess
+import tempfile
 import unittest
 
 from running import EXAMPLES
@@ -9,7 +13,7 @@ from sunworsted import features_reply, message, packet_in, tcp_packet
 
 from flowvisor_tool.openflow.actions import actions_text
 from flowvisor_tool.openflow.framing import Frames
-from flowvisor_tool.openflow.matches import Match
+from flowvisor_tool.openflow.matches import SHIFTS, Match, Wildcard
 from flowvisor_tool.openflow.messages import message_text
 from flowvisor_tool.openflow.packets import summary
 from flowvisor_tool.openflow.protocol import Malformed, MessageType
@@ -36,7 +40,7 @@ class Matches(unittest.TestCase):
     def test_port_protocol_and_network(self):
         bound = FREE & ~(1 | 1 << 4 | 1 << 5 | 1 << 7 | 0x3F << 14) | 24 << 14
         text = match_text(bound, in_port=1, dl_type=0x0800, nw_proto=6, nw_dst=0x0A000000, tp_dst=80)
-        self.assertEqual(text, "in_port=1,tcp,nw_dst=10.0.0.0/8,tp_dst=80")
+        self.assertEqual(text, "tcp,in_port=1,nw_dst=10.0.0.0/8,tp_dst=80")
 
     def test_every_field(self):
         text = match_text(
@@ -44,7 +48,7 @@ class Matches(unittest.TestCase):
             nw_tos=184, nw_proto=17, nw_src=0x0A000001, nw_dst=0x0A000002, tp_src=53, tp_dst=1024,
         )
         self.assertEqual(
-            text, "in_port=LOCAL,udp,dl_vlan=5,dl_vlan_pcp=3,dl_src=00:01:02:03:04:05,dl_dst=06:07:08:09:0a:0b,"
+            text, "udp,in_port=LOCAL,dl_vlan=5,dl_vlan_pcp=3,dl_src=00:01:02:03:04:05,dl_dst=06:07:08:09:0a:0b,"
             "nw_src=10.0.0.1,nw_dst=10.0.0.2,nw_tos=184,tp_src=53,tp_dst=1024",
         )
 
@@ -56,6 +60,57 @@ class Matches(unittest.TestCase):
         self.assertEqual(match_text(FREE & ~(kind | protocol), dl_type=0x0800, nw_proto=47), "ip,nw_proto=47")
         icmp = match_text(FREE & ~(kind | protocol | 3 << 6), dl_type=0x0800, nw_proto=1, tp_src=8)
         self.assertEqual(icmp, "icmp,icmp_type=8,icmp_code=0")
+        arp = match_text(FREE & ~(kind | 0x3F << 8), dl_type=0x0806, nw_src=0x0A000001)
+        self.assertEqual(arp, "arp,arp_spa=10.0.0.1")
+        self.assertEqual(match_text(FREE & ~(2 | kind), dl_vlan=0xFFFF, dl_type=0x86DD), "ipv6,vlan_tci=0x0000")
+
+
+# What drawn matches bind a field to.
+DRAWN = {
+    "in_port": (1, 0xFF00, 0xFFFE), "dl_vlan": (0, 5, 4095, 0xFFFF), "dl_vlan_pcp": range(8), "dl_src": (bytes(range(6)),),
+    "dl_dst": (bytes(range(6, 12)),), "dl_type": (0x0800, 0x0800, 0x0800, 0x0806, 0x8035, 0x86DD, 0x88CC),
+    "nw_tos": range(0, 256, 4), "nw_proto": (1, 2, 6, 17, 47), "tp_src": (8, 80), "tp_dst": (0, 53),
+}
+
+
+def drawn_match(rng):
+    """A match in which no field is bound without those that it needs: others are left out by ovs-ofctl."""
+    bound = {name: rng.choice(values) for name, values in DRAWN.items() if rng.random() < 0.5}
+    lengths = {name: rng.choice((0, 8, 24, 32)) for name in ("nw_src", "nw_dst")}
+    if bound.get("dl_vlan", 0xFFFF) == 0xFFFF:
+        bound.pop("dl_vlan_pcp", None)
+    if bound.get("dl_type") not in (0x0800, 0x0806):
+        lengths = {"nw_src": 0, "nw_dst": 0}
+        bound.pop("nw_proto", None)
+    if bound.get("dl_type") != 0x0800:
+        bound.pop("nw_tos", None)
+    if bound.get("dl_type") != 0x0800 or bound.get("nw_proto") not in (1, 6, 17):
+        bound.pop("tp_src", None)
+        bound.pop("tp_dst", None)
+    wildcards = FREE & ~sum(Wildcard[name.upper()] for name in bound) & ~(0x3F << 8 | 0x3F << 14)
+    for name, length in lengths.items():
+        wildcards |= (32 - length) << SHIFTS[name]
+        bound[name] = rng.getrandbits(32) >> (32 - length) << (32 - length)
+    return Match(wildcards, **{name: bound.get(name, bytes(6) if name in ("dl_src", "dl_dst") else 0) for name in Match._fields[1:]})
+
+
+@unittest.skipUnless(shutil.which("ovs-ofctl"), "ovs-ofctl isn't installed")
+class AgreementWithOvs(unittest.TestCase):
+    def test_drawn_matches_and_each_action(self):
+        rng = random.Random(1)
+        actions = [bytes.fromhex(spelled) for spelled in Actions.ROWS if not spelled.startswith("ffff")]
+        drawn = [(drawn_match(rng), rng.choice(actions)) for _ in range(1000)]
+        with tempfile.NamedTemporaryFile() as file:
+            for match, spelled in drawn:
+                body = Match.LAYOUT.pack(*match) + struct.pack(">QHHHHIHH", 0, 0, 0, 0, 0x8000, 0xFFFFFFFF, 0xFFFF, 0) + spelled
+                file.write(message(MessageType.FLOW_MOD, 1, body))
+            file.flush()
+            printed = subprocess.run(["ovs-ofctl", "ofp-parse", file.name], capture_output=True, text=True, check=True).stdout
+        texts = re.findall(r": ADD (?:table:\d+ )?(.*)", printed)
+        self.assertEqual(len(texts), len(drawn))
+        for text, (match, spelled) in zip(texts, drawn):
+            own = f"{match} actions={actions_text(spelled)}"
+            self.assertEqual(text, own.removeprefix("any "))
 
 
 class Actions(unittest.TestCase):

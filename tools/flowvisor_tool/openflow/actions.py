@@ -1,7 +1,7 @@
 """Actions (section 5.2.4), as ovs-ofctl writes them."""
 import struct
 
-from .protocol import ActionType, Malformed, Port
+from .protocol import LARGEST_PHYSICAL_PORT, ActionType, Malformed, Port
 from .text import ipv4_of, mac_of, port_of
 
 HEAD = struct.Struct(">HH")
@@ -11,7 +11,7 @@ def output(port, max_length):
     """An output to the controller has a limit of its own; to other ports it has none."""
     if port == Port.CONTROLLER:
         return f"CONTROLLER:{max_length}"
-    return f"output:{port}" if port <= 0xFF00 else port_of(port)
+    return f"output:{port}" if port <= LARGEST_PHYSICAL_PORT else port_of(port)
 
 
 # For each type the layout of what is behind its head, and how it is written.

@@ -3,11 +3,7 @@ import enum
 import struct
 from typing import NamedTuple
 
-from .text import ipv4_of, mac_of, port_of
-
-IPV4, ARP = 0x0800, 0x0806
-ICMP, TCP, UDP = 1, 6, 17
-PROTOCOLS = {ICMP: "icmp", TCP: "tcp", UDP: "udp"}
+from .header_fields import WRITTEN, fields_text, value_text
 
 
 class Wildcard(enum.IntFlag):
@@ -25,7 +21,9 @@ class Wildcard(enum.IntFlag):
     NW_TOS = 1 << 21
 
 
-NW_SRC_SHIFT, NW_DST_SHIFT, FREE_BITS = 8, 14, 0x3F
+# Where the numbers of the free bits of addresses stand.
+SHIFTS = {"nw_src": 8, "nw_dst": 14}
+FREE_BITS, ADDRESS_BITS = 0x3F, 32
 
 
 class Match(NamedTuple):
@@ -52,59 +50,24 @@ class Match(NamedTuple):
         """The match of 40 bytes."""
         return cls(*cls.LAYOUT.unpack(data))
 
-    def has(self, field):
-        """Whether a field is bound."""
-        return not self.wildcards & field
+    def length(self, name):
+        """How many bits of an address are bound."""
+        return ADDRESS_BITS - min(ADDRESS_BITS, self.wildcards >> SHIFTS[name] & FREE_BITS)
 
-    def protocol(self):
-        """The one word that ovs-ofctl has for the types of this match, or None."""
-        if not self.has(Wildcard.DL_TYPE):
-            return None
-        if self.dl_type == IPV4:
-            return PROTOCOLS.get(self.nw_proto, "ip") if self.has(Wildcard.NW_PROTO) else "ip"
-        return "arp" if self.dl_type == ARP else None
+    def is_bound(self, name):
+        """Whether a field isn't free, or an address not wholly."""
+        return self.length(name) > 0 if name in SHIFTS else not self.wildcards & Wildcard[name.upper()]
 
-    def network(self, address, shift):
-        """An address with its length, as far as it isn't free: None where all of it is."""
-        length = 32 - min(32, self.wildcards >> shift & FREE_BITS)
-        if length == 0:
-            return None
-        return ipv4_of(address) if length == 32 else f"{ipv4_of(address)}/{length}"
+    def number(self, name):
+        """The value of a field as a number."""
+        value = getattr(self, name)
+        return int.from_bytes(value) if isinstance(value, bytes) else value
 
-    def link_fields(self):
-        """The fields up to the type, each with its text."""
-        if self.has(Wildcard.IN_PORT):
-            yield "in_port", port_of(self.in_port)
-        if self.protocol():
-            yield self.protocol(), None
-        if self.has(Wildcard.DL_VLAN):
-            yield "dl_vlan", self.dl_vlan
-        if self.has(Wildcard.DL_VLAN_PCP):
-            yield "dl_vlan_pcp", self.dl_vlan_pcp
-        if self.has(Wildcard.DL_SRC):
-            yield "dl_src", mac_of(self.dl_src)
-        if self.has(Wildcard.DL_DST):
-            yield "dl_dst", mac_of(self.dl_dst)
-        if self.has(Wildcard.DL_TYPE) and not self.protocol():
-            yield "dl_type", f"0x{self.dl_type:04x}"
-
-    def network_fields(self):
-        """The fields behind the type, each with its text."""
-        if source := self.network(self.nw_src, NW_SRC_SHIFT):
-            yield "nw_src", source
-        if destination := self.network(self.nw_dst, NW_DST_SHIFT):
-            yield "nw_dst", destination
-        protocol = self.protocol()
-        if self.has(Wildcard.NW_PROTO) and protocol not in PROTOCOLS.values():
-            yield "arp_op" if protocol == "arp" else "nw_proto", self.nw_proto
-        if self.has(Wildcard.NW_TOS):
-            yield "nw_tos", self.nw_tos
-        source, destination = ("icmp_type", "icmp_code") if protocol == "icmp" else ("tp_src", "tp_dst")
-        if self.has(Wildcard.TP_SRC):
-            yield source, self.tp_src
-        if self.has(Wildcard.TP_DST):
-            yield destination, self.tp_dst
+    def value_text(self, name, value):
+        """The value of a field, with the length of a network."""
+        is_network = name in SHIFTS and self.length(name) < ADDRESS_BITS
+        return f"{value_text(name, value)}/{self.length(name)}" if is_network else value_text(name, value)
 
     def __str__(self):
-        fields = [*self.link_fields(), *self.network_fields()]
-        return ",".join(name if value is None else f"{name}={value}" for name, value in fields) or "any"
+        bound = {name: self.number(name) for name in WRITTEN if self.is_bound(name)}
+        return fields_text(bound, self.value_text) or "any"

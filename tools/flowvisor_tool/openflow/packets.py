@@ -2,13 +2,11 @@
 import ipaddress
 import struct
 
-from .matches import ARP, ICMP, IPV4, PROTOCOLS, TCP, UDP
+from .ethernet import ARP, FRAGMENT_OFFSET, ICMP, IPV4, IPV6, LEAST_TYPE, LLDP, RARP, SNAP, TCP, UDP, VLAN_TAG
 from .text import mac_of
 
-VLAN, IPV6, LLDP = 0x8100, 0x86DD, 0x88CC
-LEAST_TYPE = 0x0600
-SNAP = bytes.fromhex("aaaa03000000")
-NAMES = {IPV4: "ip", ARP: "arp", IPV6: "ipv6", LLDP: "lldp"}
+NAMES = {IPV4: "ip", ARP: "arp", RARP: "rarp", IPV6: "ipv6", LLDP: "lldp"}
+PROTOCOLS = {ICMP: "icmp", TCP: "tcp", UDP: "udp"}
 ARP_OPERATIONS = {1: "request", 2: "reply"}
 
 ETHERNET = struct.Struct(">6s6sH")
@@ -48,7 +46,7 @@ def ethernet_parts(data):
     destination, source, kind = take(ETHERNET, data)
     yield f"{mac_of(source)} > {mac_of(destination)}"
     at = ETHERNET.size
-    while kind == VLAN:
+    while kind == VLAN_TAG:
         tag, kind = take(TAG, data, at)
         yield f"vlan {tag & 0xFFF} pcp {tag >> 13}"
         at += TAG.size
@@ -84,7 +82,7 @@ def ipv4_parts(payload):
     source, destination = ipaddress.IPv4Address(source), ipaddress.IPv4Address(destination)
     yield PROTOCOLS.get(protocol, f"ip protocol {protocol}")
     transport = payload[(first & 15) * 4 :]
-    if fragment & 0x1FFF:
+    if fragment & FRAGMENT_OFFSET:
         yield f"{source} > {destination}, a later fragment"
     elif protocol in (TCP, UDP):
         source_port, destination_port = take(PORTS, transport)

@@ -6,6 +6,9 @@ from typing import NamedTuple
 VERSION = 1
 HEADER = struct.Struct(">BBHI")
 NO_BUFFER = 0xFFFFFFFF
+LARGEST_PHYSICAL_PORT = 0xFF00
+# The VLAN of a packet without a tag.
+UNTAGGED = 0xFFFF
 
 
 class Malformed(ValueError):
