@@ -29,11 +29,14 @@ demo: build
 check:
 	@rt ci
 
-# The tests of flowvisor-tool, of the completion, and of the examples of the documents.
-check-tools: build
+# The tests of flowvisor-tool, of the completion, and of the examples of the documents: with the program that
+# FLOWVISOR names, or the built one. Where there is none, and no kit to build it, what needs it is left out.
+check-tools:
+	@if test -z "$$FLOWVISOR" && { test -x $(program) || command -v rt > /dev/null; }; then $(MAKE) -s build; fi
 	python3 -m unittest discover -s tools/tests
 	tools/try-completion
-	tools/try-operating
+	@program=$${FLOWVISOR:-$(program)}; if test -x "$$program"; then tools/try-operating "$$program"; \
+	else echo "there is no program $$program: the examples, and the tests that compare with it, were left out"; fi
 
 install: build
 	install -d "$(bin)" "$(manual)" "$(completions)"
