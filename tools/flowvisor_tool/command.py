@@ -14,6 +14,11 @@ BROKEN_PIPE_STATUS = 128 + signal.SIGPIPE
 INTERRUPTED_STATUS = 128 + signal.SIGINT
 
 
+def help_formatter(prog):
+    """Has the help of each option on its line."""
+    return argparse.HelpFormatter(prog, max_help_position=30)
+
+
 def parser():
     """The parser of the words, with a parser for each subcommand."""
     command = argparse.ArgumentParser(
@@ -24,7 +29,8 @@ def parser():
     subparsers = command.add_subparsers(required=True, metavar="COMMAND")
     for subcommand in SUBCOMMANDS:
         words = subparsers.add_parser(
-            subcommand.NAME, help=subcommand.SUMMARY, description=subcommand.__doc__, allow_abbrev=False
+            subcommand.NAME, help=subcommand.SUMMARY, description=subcommand.__doc__, allow_abbrev=False,
+            formatter_class=help_formatter,
         )
         subcommand.add_arguments(words)
         words.set_defaults(run=subcommand.run, usage_error=words.error)

@@ -20,6 +20,15 @@ def is_recording(file, name):
 
 
 @contextlib.contextmanager
+def opened_recording(name):
+    """The file of a recording. A fault tells of one that is something else."""
+    with open(name, "rb") as file, named(name):
+        if not is_recording(file, name) and file.peek(1):
+            raise Fault("is no recording", name)
+        yield file
+
+
+@contextlib.contextmanager
 def named(name, in_the_place_of=None):
     """Has the system's faults tell what they are of, where they don't, or where they tell of a file in the place of another."""
     try:
@@ -42,15 +51,15 @@ def say(lines):
 @contextlib.contextmanager
 def replaced(path, *sources):
     """A file to be written, which takes the place of the one at the path once it is whole; else all is left as it was."""
-    path = pathlib.Path(os.path.realpath(path))
+    name, path = path, pathlib.Path(os.path.realpath(path))
     # What is a symbolic link even now is one of a loop.
     if path.is_symlink() or path.exists() and not path.is_file():
-        raise Fault("can't be written: it is no file", path)
+        raise Fault("can't be written: it is no file", name)
     if path.exists() and any(path.samefile(source) for source in sources):
-        raise Fault("can't be written: it is read", path)
+        raise Fault("can't be written: it is read", name)
     # The file's own name may be as long as names can be.
     part = path.with_name(f".{os.getpid()}.part")
-    with named(path, in_the_place_of=str(part)), open(str(part), "xb") as file:
+    with named(name, in_the_place_of=str(part)), open(str(part), "xb") as file:
         try:
             yield file
             file.flush()

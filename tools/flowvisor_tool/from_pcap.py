@@ -1,4 +1,4 @@
-"""Makes a recording for `flowvisor replay` of a capture (pcap, pcapng) of a proxy's connections."""
+"""Makes a recording for `flowvisor replay` of a capture (pcap, pcapng)."""
 import argparse
 import math
 
@@ -15,13 +15,12 @@ from .sessions import ProxyRecorder
 
 NAME = "from-pcap"
 SUMMARY = "make a recording of a capture"
-USAGE = "%(prog)s --switch-port [ADDRESS:]PORT [OPTION]... CAPTURE RECORDING"
+USAGE = "%(prog)s --switch-port PORT [OPTION]... CAPTURE RECORDING"
 EPILOG = """\
 What switches and controllers send is recorded; what a proxy sends isn't, since replay makes it anew. The connections
-must be in the capture whole: what can't be read is told with its packet, and nothing is written. With --direct the
-switch's answers to its controller are left out, which are ERROR and all replies but the first FEATURES_REPLY: in a
-replay they would come under the transaction ids of the proxy's own requests. The slice comes up once the switch has
-told its features. docs/REFERENCE.md of flowvisor says all of this at length.
+must be in the capture whole: what can't be read is told with its packet, and nothing is written. With --direct what
+the switch answers to its controller is left out, since the proxy asks under transaction ids of its own.
+docs/REFERENCE.md of flowvisor says all of this at length.
 """
 
 
@@ -29,16 +28,14 @@ def add_arguments(parser):
     parser.usage = USAGE
     parser.epilog = EPILOG
     add = parser.add_argument
-    add("--switch-port", required=True, type=switch_end, metavar="[ADDRESS:]PORT",
-        help="where switches connect to: the proxy, or with --direct the controller")
-    add("--policy", metavar="POLICY", help="has the slices' names and their controllers' addresses")
+    add("--switch-port", required=True, type=switch_end, metavar="PORT", help="where switches connect to, or ADDRESS:PORT")
+    add("--policy", metavar="POLICY", help="has the slices' names, and their controllers")
     add("--slice", action="append", default=[], type=slice_end, metavar="SLICE=ADDRESS:PORT",
-        help="the controller of a slice, named as in the policy or by its slot, from 0")
+        help="a slice's controller, by name or slot (from 0)")
     add("--attach", action="append", default=[], type=attachment, metavar="PACKET=SWITCH",
-        help="this packet begins a controller's connection for this switch")
-    add("--direct", metavar="SLICE", help="controllers and switches speak directly: they are this slice's")
-    add("--drop", default=frozenset(), type=message_types, metavar="TYPES",
-        help="leave out messages of these types: names or numbers, as ECHO_REQUEST,3")
+        help="this packet begins a connection for the switch")
+    add("--direct", metavar="SLICE", help="without a proxy: the controller is this slice's")
+    add("--drop", default=frozenset(), type=message_types, metavar="TYPES", help="leave out messages, as ECHO_REQUEST,3")
     add("capture", metavar="CAPTURE", help="the capture to be read")
     add("recording", metavar="RECORDING", help="the recording to be written")
 

@@ -4,12 +4,12 @@ A policy has a fault here exactly where `flowvisor check` refuses it.
 """
 import difflib
 import functools
-import pathlib
 from dataclasses import dataclass, field
 
 from .acceptance import MOST_SLICES, acceptance_faults
 from .faults import Fault
 from .fields import BITS, NEEDS
+from .files import named
 from .policy import Finding, Pattern, Policy, Rule, Slice
 from .policy_forms import RULE_FORMS, RULE_REQUIRED, SLICE_FORMS, SLICE_REQUIRED, TOP_KEYS, constraint, read_names
 from .toml_reader import Document, Position, read_document
@@ -215,7 +215,8 @@ def read_policy(data):
 
 
 def read_policy_file(path):
-    return read_policy(pathlib.Path(path).read_bytes())
+    with open(path, "rb") as file, named(path):
+        return read_policy(file.read())
 
 
 def accepted_policy(path):

@@ -4,7 +4,7 @@ import itertools
 
 from .capture_writer import Capture, MadeConnection, Side, end_of
 from .faults import Fault
-from .files import is_recording, replaced, say
+from .files import is_recording, opened_recording, replaced, say
 from .openflow.protocol import HEADER, Header, MessageType
 from .recordings import Kind, events_of, records_of
 from .reports import What, lines_of
@@ -51,7 +51,7 @@ def play(network, file, arguments, is_alone):
             for event in events_of(records_of(file, arguments.file)):
                 hear(network, event)
         elif arguments.recording:
-            with open(arguments.recording, "rb") as recording:
+            with opened_recording(arguments.recording) as recording:
                 events = events_of(records_of(recording, arguments.recording))
                 play_both(network, events, lines_of(file, arguments.file))
         else:
