@@ -11,6 +11,7 @@ from .faults import Fault
 # Each has NAME, SUMMARY, add_arguments(parser) and run(arguments), which gives the status.
 SUBCOMMANDS = (lint, explain, show, to_pcap, from_pcap)
 BROKEN_PIPE_STATUS = 128 + signal.SIGPIPE
+MISSPELLED_STATUS = 2
 INTERRUPTED_STATUS = 128 + signal.SIGINT
 
 
@@ -19,9 +20,20 @@ def help_formatter(prog):
     return argparse.HelpFormatter(prog, max_help_position=30)
 
 
+class Parser(argparse.ArgumentParser):
+    """A parser that ends with its status also where standard error takes nothing: that of Python 3.11.2 doesn't."""
+
+    def error(self, message):
+        with contextlib.suppress(OSError):
+            self.print_usage(sys.stderr)
+        with contextlib.suppress(OSError):
+            print(f"{self.prog}: error: {message}", file=sys.stderr, flush=True)
+        sys.exit(MISSPELLED_STATUS)
+
+
 def parser():
     """The parser of the words, with a parser for each subcommand."""
-    command = argparse.ArgumentParser(
+    command = Parser(
         prog="flowvisor-tool",
         description="Reads what flowvisor takes and gives: policies, recordings, reports and captures.",
         allow_abbrev=False,
