@@ -23,7 +23,7 @@ _flowvisor() {
     COMPREPLY=()
     _flowvisor_redirected && return
     case $COMP_CWORD:${COMP_WORDS[1]} in
-        1:*) mapfile -t COMPREPLY < <(compgen -W 'check replay gen serve --help --version' -- "$word") ;;
+        1:*) mapfile -t COMPREPLY < <(compgen -W 'check replay gen serve --help -h --version' -- "$word") ;;
         2:check | 2:replay | 2:serve) _flowvisor_files "$word" .toml ;;
         3:replay) _flowvisor_files "$word" .rec ;;
     esac
@@ -32,10 +32,10 @@ _flowvisor() {
 # The options of a subcommand of flowvisor-tool.
 _flowvisor_tool_options() {
     case $1 in
-        explain) echo '--help --switch' ;;
-        to-pcap) echo '--help --recording' ;;
-        from-pcap) echo '--help --switch-port --policy --slice --attach --direct --drop' ;;
-        *) echo --help ;;
+        explain) echo '--help -h --switch' ;;
+        to-pcap) echo '--help -h --recording' ;;
+        from-pcap) echo '--help -h --switch-port --policy --slice --attach --direct --drop' ;;
+        *) echo '--help -h' ;;
     esac
 }
 
@@ -44,7 +44,7 @@ _flowvisor_tool() {
     COMPREPLY=()
     _flowvisor_redirected && return
     if ((COMP_CWORD == 1)); then
-        mapfile -t COMPREPLY < <(compgen -W 'lint explain show to-pcap from-pcap --help' -- "$word")
+        mapfile -t COMPREPLY < <(compgen -W 'lint explain show to-pcap from-pcap --help -h' -- "$word")
         return
     fi
     case $before:$command:$word in
