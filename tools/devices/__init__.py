@@ -1,0 +1,1 @@
+"""Peers of the proxy that fail, and what becomes of the others: the modules of tools/try-devices."""

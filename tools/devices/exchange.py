@@ -1,0 +1,118 @@
+"""The traffic of those to whom nothing is done: numbered, both ways, and looked at."""
+
+import asyncio
+
+from devices.messages import echo_request, numbered_flow_mod, numbered_packet_in
+from devices.numbers import Numbers
+
+TICK = 0.01
+SETTLING = 20
+
+
+class Exchange:
+    """What goes between a switch and the controller of one slice."""
+
+    def __init__(self, switch, slot, link):
+        self.switch, self.slot = switch, slot
+        self.name = f"slot {slot} of switch {switch.datapath}"
+        self.packets = Numbers(f"packet-ins to {self.name}")
+        self.mods = Numbers(f"flow-mods of {self.name}")
+        self.echoes = Numbers(f"echoes of {self.name}")
+        self.link = None
+        switch.exchanges[slot] = self
+        self.begin(link)
+
+    def begin(self, link):
+        self.link = link
+        link.exchange = self
+
+    def leave(self):
+        """The controller closes its link; what is under way may be lost."""
+        self.link.exchange = None
+        self.link.transport.close()
+        self.link = None
+        for numbers in self.all_numbers:
+            numbers.renew()
+
+    @property
+    def all_numbers(self):
+        return self.packets, self.mods, self.echoes
+
+    def hear_flow_mod(self, number):
+        self.mods.take(number)
+
+    def turn(self):
+        """A packet-in, a flow-mod and an echo, where there is a link."""
+        if self.link is None or self.link.is_closed or self.switch.is_closed:
+            return
+        self.switch.send(numbered_packet_in(self.slot, self.packets.next()))
+        self.link.send(numbered_flow_mod(self.slot, self.mods.next()) + echo_request(self.echoes.next()))
+
+    @property
+    def is_settled(self):
+        return self.link is None or all(numbers.is_settled for numbers in self.all_numbers)
+
+    def faults(self):
+        found = [fault for numbers in self.all_numbers for fault in numbers.all_faults()]
+        if self.link is not None and self.link.is_closed:
+            found.append(f"the link of {self.name} was closed")
+        if self.link is not None and self.link.errors:
+            found.append(f"{self.link.errors} errors came to {self.name}")
+        return found
+
+
+class Traffic:
+    """Exchanges that have their turns one after another, so many turns a second, and an echo of each switch at each
+    tick; from `async with` on until its end, when all that was sent has a while to come."""
+
+    def __init__(self, exchanges, turns_per_second):
+        self.exchanges = exchanges
+        self.switches = list({id(each.switch): each.switch for each in exchanges}.values())
+        self.rate = turns_per_second
+        self.task = None
+        self.found = []
+
+    async def __aenter__(self):
+        self.task = asyncio.create_task(self.run())
+        return self
+
+    async def __aexit__(self, *_):
+        self.task.cancel()
+        await asyncio.gather(self.task, return_exceptions=True)
+        await self.settle()
+        self.found = self.faults()
+
+    async def run(self):
+        loop = asyncio.get_running_loop()
+        began, done = loop.time(), 0
+        while True:
+            due = int((loop.time() - began) * self.rate)
+            for place in range(done, due):
+                self.exchanges[place % len(self.exchanges)].turn()
+            done = due
+            for switch in self.switches:
+                if not switch.is_closed:
+                    switch.send(echo_request(switch.echoes.next()))
+            await asyncio.sleep(TICK)
+
+    async def settle(self):
+        for _ in range(SETTLING * 20):
+            if all(each.is_settled for each in self.exchanges) and all(s.echoes.is_settled for s in self.switches):
+                return
+            await asyncio.sleep(0.05)
+
+    def faults(self):
+        found = [fault for each in self.exchanges for fault in each.faults()]
+        for switch in self.switches:
+            found += switch.echoes.all_faults()
+            if switch.is_closed:
+                found.append(f"the connection of switch {switch.datapath} was closed")
+        return found
+
+    def told(self):
+        """How much came."""
+        packets = sum(each.packets.whole for each in self.exchanges)
+        mods = sum(each.mods.whole for each in self.exchanges)
+        echoes = sum(each.echoes.whole for each in self.exchanges) + sum(s.echoes.whole for s in self.switches)
+        loss = "none lost, none doubled" if not self.found else f"{len(self.found)} FAULTS"
+        return f"of the others {packets:,} packet-ins, {mods:,} flow-mods and {echoes:,} echoes came, {loss}"
