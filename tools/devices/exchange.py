@@ -42,28 +42,35 @@ class Exchange:
         self.mods.take(number)
 
     def turn(self):
-        """A packet-in, a flow-mod and an echo, where there is a link."""
+        """A packet-in, a flow-mod and an echo of each, where there is a link."""
         if self.link is None or self.link.is_closed or self.switch.is_closed:
             return
-        self.switch.send(numbered_packet_in(self.slot, self.packets.next()))
+        number = self.switch.echoes.next()
+        self.switch.send(numbered_packet_in(self.slot, self.packets.next()) + echo_request(number))
         self.link.send(numbered_flow_mod(self.slot, self.mods.next()) + echo_request(self.echoes.next()))
 
     @property
     def is_settled(self):
         return self.link is None or all(numbers.is_settled for numbers in self.all_numbers)
 
-    def faults(self):
-        found = [fault for numbers in self.all_numbers for fault in numbers.all_faults()]
+    def link_faults(self):
+        found = []
         if self.link is not None and self.link.is_closed:
             found.append(f"the link of {self.name} was closed")
         if self.link is not None and self.link.errors:
             found.append(f"{self.link.errors} errors came to {self.name}")
         return found
 
+    def order_faults(self):
+        return [fault for numbers in self.all_numbers for fault in numbers.faults] + self.link_faults()
+
+    def faults(self):
+        return [fault for numbers in self.all_numbers for fault in numbers.all_faults()] + self.link_faults()
+
 
 class Traffic:
-    """Exchanges that have their turns one after another, so many turns a second, and an echo of each switch at each
-    tick; from `async with` on until its end, when all that was sent has a while to come."""
+    """Exchanges that have their turns one after another, so many turns a second, from `async with` on until its end,
+    when all that was sent has a while to come."""
 
     def __init__(self, exchanges, turns_per_second):
         self.exchanges = exchanges
@@ -90,9 +97,6 @@ class Traffic:
             for place in range(done, due):
                 self.exchanges[place % len(self.exchanges)].turn()
             done = due
-            for switch in self.switches:
-                if not switch.is_closed:
-                    switch.send(echo_request(switch.echoes.next()))
             await asyncio.sleep(TICK)
 
     async def settle(self):
@@ -100,6 +104,11 @@ class Traffic:
             if all(each.is_settled for each in self.exchanges) and all(s.echoes.is_settled for s in self.switches):
                 return
             await asyncio.sleep(0.05)
+
+    def order_faults(self):
+        """What came out of its order up to now, and the links that were closed."""
+        found = [fault for each in self.exchanges for fault in each.order_faults()]
+        return found + [fault for switch in self.switches for fault in switch.echoes.faults]
 
     def faults(self):
         found = [fault for each in self.exchanges for fault in each.faults()]

@@ -1,0 +1,113 @@
+"""As many switches and slices as the proxy serves, for as long as is wanted."""
+
+import asyncio
+import sys
+import time
+
+from devices.exchange import Traffic
+from devices.outcome import Outcome, expect
+from devices.peers import Controller
+from devices.site import connect_switch, exchanges_of, site
+
+SWITCHES, SLICES = 16, 32
+# The slots from this one on have their links made anew.
+RESTLESS = 24
+THREADS = SWITCHES * (2 + 2 * SLICES) + 1
+PATIENCE = 30
+# In how many minutes memory may settle, and what it may grow by after them, in KB.
+SETTLING = 3
+GROWTH = 2_048
+
+
+class Renewal:
+    """Makes one link after another anew, one each second."""
+
+    def __init__(self, exchanges, controllers):
+        self.exchanges, self.controllers = exchanges, controllers
+        self.count = 0
+        self.faults = []
+
+    async def run(self):
+        loop = asyncio.get_running_loop()
+        began = loop.time()
+        while True:
+            await asyncio.sleep(max(0, began + self.count + 1 - loop.time()))
+            exchange = self.exchanges[self.count % len(self.exchanges)]
+            try:
+                await self.renew(exchange)
+            except TimeoutError:
+                self.faults.append(f"{exchange.name} wasn't dialled again in {PATIENCE} seconds")
+                return
+            self.count += 1
+
+    async def renew(self, exchange):
+        exchange.leave()
+        link = await self.controllers[exchange.slot].next_link(PATIENCE)
+        expect(self.faults, link.datapath == exchange.switch.datapath, f"{exchange.name}: another switch was dialled for")
+        exchange.begin(link)
+
+
+class Watch:
+    """What the proxy holds, minute by minute."""
+
+    def __init__(self, proxy, traffic):
+        self.proxy, self.traffic = proxy, traffic
+        self.memory, self.threads = [], []
+
+    async def run(self, minutes):
+        loop = asyncio.get_running_loop()
+        began, theirs, ours = loop.time(), self.proxy.processor_seconds, time.process_time()
+        for minute in range(minutes + 1):
+            await asyncio.sleep(max(0, began + 60 * minute - loop.time()))
+            self.memory.append(self.proxy.memory)
+            self.threads.append(self.proxy.threads)
+            passed = max(1, loop.time() - began)
+            print(
+                f"minute {minute}: {self.memory[-1]:,} KB, {self.threads[-1]:,} threads, of a processor "
+                f"{(self.proxy.processor_seconds - theirs) / passed:.2f}, the peers {(time.process_time() - ours) / passed:.2f}, "
+                f"{len(self.traffic.order_faults())} faults",
+                file=sys.stderr,
+                flush=True,
+            )
+
+    def faults(self):
+        found = []
+        settled = self.memory[min(SETTLING, len(self.memory) // 2)]
+        expect(found, max(self.memory) - settled < GROWTH, f"memory went from {settled:,} to {max(self.memory):,} KB")
+        expect(found, set(self.threads) == {THREADS}, f"there were {self.threads} threads")
+        return found
+
+    def told(self):
+        shown = self.memory if len(self.memory) < 8 else [*self.memory[:3], *self.memory[SETTLING::10], self.memory[-1]]
+        return ", ".join(f"{kilobytes:,}" for kilobytes in shown)
+
+
+async def end_all(proxy, switches):
+    """All switches end, and with them the proxy; how it ended."""
+    for switch in switches:
+        switch.transport.close()
+    return await proxy.ending(PATIENCE)
+
+
+async def run(program, minutes=2, rate=500):
+    controllers = [Controller(slot) for slot in range(SLICES)]
+    async with site(program, controllers, connections=SWITCHES) as proxy:
+        exchanges = []
+        for datapath in range(1, SWITCHES + 1):
+            switch = await connect_switch(proxy, datapath)
+            exchanges += await exchanges_of(switch, controllers)
+        restless = [each for each in exchanges if each.slot >= RESTLESS]
+        renewal = Renewal(restless, controllers)
+        async with Traffic(exchanges, rate) as traffic:
+            watch = Watch(proxy, traffic)
+            renewing = asyncio.create_task(renewal.run())
+            await watch.run(minutes)
+            renewing.cancel()
+        ended = await end_all(proxy, traffic.switches)
+    faults = [*renewal.faults, *watch.faults(), *traffic.found]
+    expect(faults, ended == (0, ""), f"it ended so: {ended}")
+    seen = (
+        f"{SWITCHES} switches with {SLICES} slices each ({THREADS:,} threads) for {minutes} minutes with {rate} turns a "
+        f"second, {renewal.count:,} links made anew; memory {watch.told()} KB; {traffic.told()}"
+    )
+    return Outcome(seen, faults)
