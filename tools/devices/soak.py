@@ -1,6 +1,7 @@
 """As many switches and slices as the proxy serves, for as long as is wanted."""
 
 import asyncio
+import itertools
 import sys
 import time
 
@@ -14,9 +15,10 @@ SWITCHES, SLICES = 16, 32
 RESTLESS = 24
 THREADS = SWITCHES * (2 + 2 * SLICES) + 1
 PATIENCE = 30
-# In how many minutes memory may settle, and what it may grow by after them, in KB.
-SETTLING = 3
-GROWTH = 2_048
+# The proxy remembers the last requests of each slice, and grows by so many bytes with each until there are as many.
+REQUESTS, REQUEST_BYTES = 4_096, 100
+# What memory may grow by beside that from the first minute on, in KB.
+GROWTH = 4_096
 
 
 class Renewal:
@@ -52,7 +54,11 @@ class Watch:
 
     def __init__(self, proxy, traffic):
         self.proxy, self.traffic = proxy, traffic
-        self.memory, self.threads = [], []
+        self.memory, self.threads, self.requests = [], [], []
+
+    def remembered(self):
+        """How many requests the proxy remembers at most."""
+        return sum(min(REQUESTS, each.mods.whole) for each in self.traffic.exchanges)
 
     async def run(self, minutes):
         loop = asyncio.get_running_loop()
@@ -61,6 +67,7 @@ class Watch:
             await asyncio.sleep(max(0, began + 60 * minute - loop.time()))
             self.memory.append(self.proxy.memory)
             self.threads.append(self.proxy.threads)
+            self.requests.append(self.remembered())
             passed = max(1, loop.time() - began)
             print(
                 f"minute {minute}: {self.memory[-1]:,} KB, {self.threads[-1]:,} threads, of a processor "
@@ -70,15 +77,19 @@ class Watch:
                 flush=True,
             )
 
+    def growth(self):
+        """The most by which memory grew between two minutes beyond what the requests between them may take, in KB."""
+        owned = [kb - count * REQUEST_BYTES // 1_024 for kb, count in zip(self.memory, self.requests)][1:]
+        return max((later - least for least, later in zip(itertools.accumulate(owned, min), owned)), default=0)
+
     def faults(self):
         found = []
-        settled = self.memory[min(SETTLING, len(self.memory) // 2)]
-        expect(found, max(self.memory) - settled < GROWTH, f"memory went from {settled:,} to {max(self.memory):,} KB")
+        expect(found, self.growth() < GROWTH, f"memory grew by {self.growth():,} KB beyond what is remembered")
         expect(found, set(self.threads) == {THREADS}, f"there were {self.threads} threads")
         return found
 
     def told(self):
-        shown = self.memory if len(self.memory) < 8 else [*self.memory[:3], *self.memory[SETTLING::10], self.memory[-1]]
+        shown = self.memory if len(self.memory) < 8 else [*self.memory[:-1:6], self.memory[-1]]
         return ", ".join(f"{kilobytes:,}" for kilobytes in shown)
 
 
