@@ -13,14 +13,14 @@ TURNS_PER_SECOND = 500
 TICK = 0.05
 LARGE_PACKET = 1_400
 RECEIVE_BUFFER = 4_096
-# After 30 seconds in which nothing is taken of a write it ends, and the next one begins them anew where something was:
-# some pieces fill the buffers of the system.
-PATIENCE = 130
+# What is sent fills the buffers of the system first; after that a write ends in which nothing is taken for 30 seconds,
+# and the next one begins them anew where a part was.
+PATIENCE = 240
 # What may wait for both, and be held beside that, in KB.
 GROWTH = 2 * 4_096 + 4_096
 
-# How many packet-ins each is sent at each tick: 14 MB a second, and 28 KB.
-MUCH, LITTLE = 500, 1
+# How many packet-ins each is sent at each tick: 14 MB a second, and 57 KB.
+MUCH, LITTLE = 500, 2
 
 
 class Deaf(Peer):
@@ -72,7 +72,7 @@ async def run(program):
     expect(faults, little < PATIENCE, "the link of the one that is sent little wasn't closed")
     expect(faults, growth < GROWTH, f"memory grew by {growth:,} KB")
     seen = (
-        f"the link of one that is sent 14 MB a second was closed after {much:.1f} seconds, that of one that is sent 28 "
+        f"the link of one that is sent 14 MB a second was closed after {much:.1f} seconds, that of one that is sent 57 "
         f"KB after {little:.1f}, and both were dialled again; memory grew by at most {growth:,} KB; {traffic.told()}"
     )
     return Outcome(seen, faults)
