@@ -6,7 +6,9 @@ from devices.messages import echo_request, numbered_flow_mod, numbered_packet_in
 from devices.numbers import Numbers
 
 TICK = 0.01
-SETTLING = 20
+# For how many seconds turns may be made up for at once, and what was sent may be under way at the end.
+MOST_OWED = 0.1
+SETTLING = 60
 
 
 class Exchange:
@@ -91,13 +93,17 @@ class Traffic:
 
     async def run(self):
         loop = asyncio.get_running_loop()
-        began, done = loop.time(), 0
+        last, owed, place = loop.time(), 0.0, 0
         while True:
-            due = int((loop.time() - began) * self.rate)
-            for place in range(done, due):
-                self.exchanges[place % len(self.exchanges)].turn()
-            done = due
             await asyncio.sleep(TICK)
+            now = loop.time()
+            # Where the machine lets this run too late, what is owed is given up.
+            owed = min(owed + (now - last) * self.rate, self.rate * MOST_OWED)
+            last = now
+            for _ in range(int(owed)):
+                self.exchanges[place % len(self.exchanges)].turn()
+                place += 1
+            owed -= int(owed)
 
     async def settle(self):
         for _ in range(SETTLING * 20):

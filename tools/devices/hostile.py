@@ -123,7 +123,7 @@ class Oracle:
         return [line.split() for line in done.stdout.decode().splitlines()]
 
     async def answer(self, data):
-        """What the controller is sent on its next connection, where it sends these bytes, and whether that is closed."""
+        """What the controller is sent on its next connection, where it sends these bytes, and whether it is closed."""
         self.records += [record(SLICE_UP, 0), record(SLICE_BYTES, 0, data)]
         lines = await asyncio.to_thread(self.replay)
         mine = [line for line in lines[self.told : -1] if line[2] != "lane"]

@@ -23,11 +23,11 @@ FLOW_ENTRY = 88
 
 @dataclasses.dataclass
 class Load:
-    """What is sent in a round, and the class and code by which each message of it is refused, if it is."""
+    """What is sent in a round, and whether each message of it is refused."""
 
     name: str
     data: bytes
-    refusal: tuple[int, int] | None = None
+    is_refused: bool = False
 
 
 def everything(actions, command=Command.ADD, priority=PRIORITY, flags=0):
@@ -68,10 +68,10 @@ def loads():
     overlap = everything(output(2), flags=CHECK_OVERLAP)
     return [
         Load("flow-mod in 256 pieces of 1,024 bytes", everything(output(2) * 119)),
-        Load("flow-mod of 8,182 outputs in 256 pieces", everything(output(2) * 8_182), (2, 7)),
+        Load("flow-mod of 8,182 outputs in 256 pieces", everything(output(2) * 8_182), is_refused=True),
         Load("MODIFY in 256 pieces over a full book", everything(output(2), Command.MODIFY, PRIORITY - 1)),
-        Load("CHECK_OVERLAP in 256 pieces over a full book", overlap, (3, 1)),
-        Load("800 of these at once", overlap * 800, (3, 1)),
+        Load("CHECK_OVERLAP in 256 pieces over a full book", overlap, is_refused=True),
+        Load("800 of these at once", overlap * 800, is_refused=True),
         Load("packet-out of 65,535 bytes", own_packet_out(output(2), LARGEST)),
         Load("packet-out to 1,364 ports, five times", own_packet_out(output(ALL_PORTS) * 5, 200)),
         Load("question for all flows, with 744 in the answer", flows_request()),

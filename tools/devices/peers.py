@@ -105,18 +105,25 @@ class Link(Peer):
                 self.errors += 1
 
 
-class Raw(Peer):
-    """A controller's end of a connection, which says nothing by itself and keeps what comes."""
+class End(Peer):
+    """A controller's end of a connection, which doesn't ask which switch it is."""
 
     def __init__(self, controller):
         super().__init__()
         self.controller = controller
-        self.taken = bytearray()
-        self.changed = asyncio.Event()
 
     def connection_made(self, transport):
         super().connection_made(transport)
         self.controller.came.put_nowait(self)
+
+
+class Raw(End):
+    """A controller's end that says nothing by itself, and keeps what comes."""
+
+    def __init__(self, controller):
+        super().__init__(controller)
+        self.taken = bytearray()
+        self.changed = asyncio.Event()
 
     def data_received(self, data):
         self.taken += data

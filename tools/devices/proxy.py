@@ -4,7 +4,6 @@ import asyncio
 import dataclasses
 import os
 import pathlib
-import resource
 import socket
 import subprocess
 import tempfile
@@ -50,25 +49,19 @@ def free_port():
 class Proxy:
     """`serve` under a policy, from `async with` on until its end."""
 
-    def __init__(self, program, slices, connections=CONNECTIONS, descriptors=None):
+    def __init__(self, program, slices, connections=CONNECTIONS):
         self.folder = tempfile.TemporaryDirectory()
         self.policy = pathlib.Path(self.folder.name) / "policy.toml"
         self.policy.write_text(policy_text(slices))
         self.program = program
         self.port = free_port()
         self.connections = connections
-        self.descriptors = descriptors
         self.process = None
-
-    def limit(self):
-        if self.descriptors is not None:
-            resource.setrlimit(resource.RLIMIT_NOFILE, (self.descriptors, self.descriptors))
 
     async def __aenter__(self):
         self.process = subprocess.Popen(
             [self.program, "serve", self.policy, f"127.0.0.1:{self.port}", str(self.connections)],
             stderr=subprocess.PIPE,
-            preexec_fn=self.limit,
         )
         return self
 

@@ -5,7 +5,7 @@ import asyncio
 from devices.exchange import Traffic
 from devices.messages import Kind
 from devices.outcome import Outcome, expect
-from devices.peers import Controller, Peer
+from devices.peers import Controller, End
 from devices.site import connect_switch, exchanges_of, site
 from sunworsted import message
 
@@ -16,18 +16,13 @@ PATIENCE = 120
 GROWTH = 512
 
 
-class Fickle(Peer):
+class Fickle(End):
     """A controller's end that greets, and leaves."""
-
-    def __init__(self, controller):
-        super().__init__()
-        self.controller = controller
 
     def connection_made(self, transport):
         super().connection_made(transport)
         self.send(message(Kind.HELLO, 1, b""))
         transport.close()
-        self.controller.came.put_nowait(self)
 
 
 async def come_and_go(controller, times):

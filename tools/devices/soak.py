@@ -45,7 +45,8 @@ class Renewal:
     async def renew(self, exchange):
         exchange.leave()
         link = await self.controllers[exchange.slot].next_link(PATIENCE)
-        expect(self.faults, link.datapath == exchange.switch.datapath, f"{exchange.name}: another switch was dialled for")
+        is_same = link.datapath == exchange.switch.datapath
+        expect(self.faults, is_same, f"{exchange.name}: it was dialled for another switch")
         exchange.begin(link)
 
 
@@ -69,10 +70,10 @@ class Watch:
             self.threads.append(self.proxy.threads)
             self.requests.append(self.remembered())
             passed = max(1, loop.time() - began)
+            proxy, peers = (self.proxy.processor_seconds - theirs) / passed, (time.process_time() - ours) / passed
             print(
-                f"minute {minute}: {self.memory[-1]:,} KB, {self.threads[-1]:,} threads, of a processor "
-                f"{(self.proxy.processor_seconds - theirs) / passed:.2f}, the peers {(time.process_time() - ours) / passed:.2f}, "
-                f"{len(self.traffic.order_faults())} faults",
+                f"minute {minute}: {self.memory[-1]:,} KB, {self.threads[-1]:,} threads, of a processor {proxy:.2f}, "
+                f"the peers {peers:.2f}, {len(self.traffic.order_faults())} faults",
                 file=sys.stderr,
                 flush=True,
             )
@@ -118,7 +119,7 @@ async def run(program, minutes=2, rate=500):
     faults = [*renewal.faults, *watch.faults(), *traffic.found]
     expect(faults, ended == (0, ""), f"it ended so: {ended}")
     seen = (
-        f"{SWITCHES} switches with {SLICES} slices each ({THREADS:,} threads) for {minutes} minutes with {rate} turns a "
-        f"second, {renewal.count:,} links made anew; memory {watch.told()} KB; {traffic.told()}"
+        f"{SWITCHES} switches with {SLICES} slices each ({THREADS:,} threads) for {minutes} minutes with {rate:,} "
+        f"turns a second, {renewal.count:,} links made anew; memory {watch.told()} KB; {traffic.told()}"
     )
     return Outcome(seen, faults)

@@ -72,7 +72,7 @@ async def run(program):
             expect(faults, controller.came.empty(), f"slot {controller.slot} was dialled without a switch")
         expect(faults, proxy.open_files < 10, f"{proxy.open_files} descriptors stay open")
     seen = (
-        f"{sessions} sessions of a switch that ended behind 1 to {whole - 1} bytes of a message of {whole}, by an end and "
-        "by a reset: each time both links were closed, nothing of it was handed on, and the next session began anew"
+        f"{sessions} sessions of a switch that ended behind 1 to {whole - 1} bytes of a message of {whole}, by an end "
+        "and by a reset: each time both links were closed, nothing of it was handed on, and the next one began anew"
     )
     return Outcome(seen, faults)

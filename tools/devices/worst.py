@@ -6,10 +6,8 @@ may wait for a switch, which reads all the time.
 """
 
 import asyncio
-import collections
 import contextlib
 import dataclasses
-import re
 import statistics
 import struct
 
@@ -30,20 +28,39 @@ PATIENCE = 60
 ROUNDS = 5
 # What the others' latency may grow to, as a multiple.
 RATIO = 2
+# How many bytes begin with a mark.
+SCANNED = 8
 # A burst of small flow-mods in 256 pieces each: 2 MB in all for the switch.
 BURST = 100
 
-# The cookie of an answer, and what a switch is asked, by its first bytes: a barrier, and for flows.
-LOOKED_FOR = re.compile(rb"SW\x00(.)(....)|\x01\x12\x00\x08(....)|\x01\x10\x00\x38(....)\x00\x01", re.DOTALL)
-LONGEST = 9
+
+class Scanning(Peer):
+    """A peer that looks for some marks in all that comes, and not message by message, so that it keeps up."""
+
+    def __init__(self, marks):
+        super().__init__()
+        self.marks = marks
+        self.left = b""
+
+    def data_received(self, data):
+        data = self.left + data
+        for mark, hear in self.marks.items():
+            # Two bytes of which the second is rare are found soonest.
+            at = data.find(mark[:2])
+            while 0 <= at <= len(data) - SCANNED:
+                if data.startswith(mark, at):
+                    hear(data[at : at + SCANNED])
+                at = data.find(mark[:2], at + 1)
+        self.left = data[1 - SCANNED :]
 
 
-class QuickSwitch(Peer):
-    """A switch with many ports, which looks for answers and questions in all that comes, and not message by message."""
+class QuickSwitch(Scanning):
+    """A switch with many ports, which is asked for barriers and flows, and sees how long its packet-ins take."""
 
     def __init__(self):
-        super().__init__()
-        self.left = b""
+        super().__init__(
+            {b"SW\0": self.hear_answer, b"\x01\x12\0\x08": self.hear_barrier, b"\x01\x10\0\x38": self.hear_question}
+        )
         self.flows = flows_told()
         # When the packet-ins were sent that aren't answered yet, and how long the others took.
         self.sent = {}
@@ -58,22 +75,17 @@ class QuickSwitch(Peer):
         self.sent[slot, number] = asyncio.get_running_loop().time()
         self.send(numbered_packet_in(slot, number))
 
-    def data_received(self, data):
-        data = self.left + data
-        end = 0
-        for found in LOOKED_FOR.finditer(data):
-            self.hear_found(*found.groups())
-            end = found.end()
-        self.left = data[max(end, len(data) - LONGEST) :]
-
-    def hear_found(self, slot, number, barrier, flows):
-        if barrier is not None:
-            self.send(message(Kind.BARRIER_REPLY, int.from_bytes(barrier), b""))
-        elif flows is not None:
-            self.send(message(Kind.STATS_REPLY, int.from_bytes(flows), self.flows))
-        else:
-            began = self.sent.pop((slot[0], int.from_bytes(number)))
+    def hear_answer(self, cookie):
+        # Other bytes of a message may look like a cookie.
+        began = self.sent.pop(struct.unpack(">HI", cookie[2:]), None)
+        if began is not None:
             self.times.append(asyncio.get_running_loop().time() - began)
+
+    def hear_barrier(self, head):
+        self.send(message(Kind.BARRIER_REPLY, int.from_bytes(head[4:]), b""))
+
+    def hear_question(self, head):
+        self.send(message(Kind.STATS_REPLY, int.from_bytes(head[4:]), self.flows))
 
 
 class Answering(Link):
@@ -86,22 +98,24 @@ class Answering(Link):
             super().hear(kind, frame)
 
 
-class Heavy(Link):
-    """The end of the controller whose messages are the worst."""
+class Heavy(Scanning):
+    """The end of the controller whose messages are the worst; by their length errors are told from what else comes."""
 
     def __init__(self, controller):
-        super().__init__(controller)
-        self.refusals = collections.Counter()
+        super().__init__({b"\x01\x13\0\x08": self.hear_done, b"\0\x4c": self.hear_refusal})
+        self.controller = controller
+        self.is_refused = False
         self.done = asyncio.Event()
 
-    def hear(self, kind, frame):
-        match kind:
-            case Kind.BARRIER_REPLY:
-                self.done.set()
-            case Kind.ERROR:
-                self.refusals[struct.unpack_from(">HH", frame, 8)] += 1
-            case _:
-                super().hear(kind, frame)
+    def connection_made(self, transport):
+        super().connection_made(transport)
+        self.controller.came.put_nowait(self)
+
+    def hear_done(self, _):
+        self.done.set()
+
+    def hear_refusal(self, _):
+        self.is_refused = True
 
     async def round(self, data):
         """Sends this, and a barrier that is answered."""
@@ -143,6 +157,8 @@ class Bench:
         switch.times, began = [], loop.time()
         for place in range(TURNS):
             await asyncio.sleep(began + place * INTERVAL - loop.time())
+            if switch.is_closed:
+                raise ConnectionError("the switch's connection was closed")
             switch.hand_up(self.links[place % len(self.links)].controller.slot, self.turns)
             self.turns += 1
         while switch.sent:
@@ -179,17 +195,17 @@ class Bench:
 
     async def seen_under(self, load, faults):
         """What is seen under a load, in some words."""
-        self.heavy.refusals.clear()
+        self.heavy.is_refused = False
         cost = await self.cost(load)
         without, beside, rounds = await self.compare(load)
-        codes = set(self.heavy.refusals)
-        expect(faults, codes == ({load.refusal} if load.refusal else set()), f"{load.name}: refused by {codes}")
+        is_refused = self.heavy.is_refused
+        expect(faults, is_refused == load.is_refused, f"{load.name}: refused {is_refused}, and not {load.is_refused}")
         ratio, late = beside.median / without.median, beside.late / without.late
         expect(faults, ratio <= RATIO, f"{load.name}: the median grew {ratio:.1f} times")
         expect(faults, late <= RATIO, f"{load.name}: the 99th grew {late:.1f} times")
         return (
-            f"{load.name} ({rounds} rounds of {cost:.1f} ms): median {without.median:.0f} to {beside.median:.0f} us ({ratio:.1f}), 99th "
-            f"{without.late:.0f} to {beside.late:.0f} ({late:.1f})"
+            f"{load.name} ({rounds} rounds of {cost:.1f} ms): median {without.median:.0f} to {beside.median:.0f} us "
+            f"({ratio:.1f}), 99th {without.late:.0f} to {beside.late:.0f} ({late:.1f})"
         )
 
     async def burst(self, faults):
