@@ -52,7 +52,6 @@ class Command(enum.IntEnum):
 
     ADD = 0
     MODIFY = 1
-    DELETE = 3
 
 
 def port_of(slot):
