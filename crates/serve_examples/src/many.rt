@@ -8,6 +8,7 @@ use live_session::{Gate, Side};
 use std::alloc::{AllocError, Global};
 use std::collections::VecDeque;
 use std::net::{Net, TcpListener, TcpStream};
+use std::process::Abort;
 use std::sync::atomic::{AtomicU64, Ordering};
 use std::sync::{Arc, Wait};
 use std::test::Fail;
@@ -21,6 +22,9 @@ const LATER: usize = 2;
 
 /// How many works the first sessions have: a reader and a writer for the switch, for alice and for bob.
 const WORKS: u64 = 96;
+
+/// How many works all sessions have: there is none for the one connection too many.
+const WORKS_OF_ALL: u64 = 108;
 
 /// How often what is waited for is looked at again.
 const TURNS: u32 = 10_000;
@@ -177,9 +181,11 @@ fn one_session_too_many_is_closed_and_later_ones_are_served(rt: HostRuntime) -> 
         &mut err,
     );
     assert_eq!(rt; status, 0);
-    for (place, sent) in switches.iter().enumerate() {
-        let is_served = !sent.so_far(&rt, alloc)?.is_empty();
-        assert_eq!(rt; is_served, place != SESSIONS);
-    }
+    let works = ended.load(Ordering::SeqCst);
+    assert_eq!(rt; works, WORKS_OF_ALL);
+    let Some(one_too_many) = switches.get(SESSIONS) else {
+        panic!(rt; "no seventeenth connection");
+    };
+    assert!(rt; one_too_many.so_far(&rt, alloc)?.is_empty());
     Ok(())
 }
