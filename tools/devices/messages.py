@@ -1,8 +1,8 @@
 """The messages that the peers send, and where their numbers stand (OpenFlow 1.0.0, section 5)."""
 
-import enum
 import struct
 
+from flowvisor_tool.openflow.protocol import FlowModCommand as Command, MessageType as Kind
 from sunworsted import message, packet_in, tcp_packet
 
 HEAD = 8
@@ -18,40 +18,6 @@ COOKIE_MARK = 0x5357
 
 # Where a message has its number: in the TCP sequence number of a packet-in's packet, and in a flow-mod's cookie.
 PACKET_NUMBER, COOKIE = 56, 48
-
-
-class Kind(enum.IntEnum):
-    """The types of messages (section 5.1)."""
-
-    HELLO = 0
-    ERROR = 1
-    ECHO_REQUEST = 2
-    ECHO_REPLY = 3
-    VENDOR = 4
-    FEATURES_REQUEST = 5
-    FEATURES_REPLY = 6
-    GET_CONFIG_REQUEST = 7
-    GET_CONFIG_REPLY = 8
-    SET_CONFIG = 9
-    PACKET_IN = 10
-    FLOW_REMOVED = 11
-    PORT_STATUS = 12
-    PACKET_OUT = 13
-    FLOW_MOD = 14
-    PORT_MOD = 15
-    STATS_REQUEST = 16
-    STATS_REPLY = 17
-    BARRIER_REQUEST = 18
-    BARRIER_REPLY = 19
-    QUEUE_GET_CONFIG_REQUEST = 20
-    QUEUE_GET_CONFIG_REPLY = 21
-
-
-class Command(enum.IntEnum):
-    """What a flow-mod does (section 5.3.3)."""
-
-    ADD = 0
-    MODIFY = 1
 
 
 def port_of(slot):
