@@ -8,13 +8,16 @@ use fv_base::{Failed, Sink, one_more};
 use fv_live::{Dialer, Host, Source, Wires};
 use std::alloc::Global;
 use std::io::{self, ErrorKind, Read, Write};
-use std::net::{Net, Shutdown, TcpListener, TcpStream};
+use std::net::{Net, Shutdown, TcpListener, TcpStream, ToSocketAddrs};
 use std::rt::Clock;
 use std::thread;
 use std::time::Duration;
 
 /// The longest wait before a dial, in seconds.
 const LONGEST_WAIT: u32 = 10;
+
+/// How long a controller may take to answer a dial, in seconds.
+const LONGEST_DIAL: u64 = 5;
 
 /// The wait before a dial behind a link that has ended, in milliseconds. So a controller that takes links and ends them
 /// at once doesn't keep a processor busy.
@@ -31,6 +34,18 @@ const FILE_TABLE_FULL: i32 = 23;
 const TOO_MANY_OPEN_FILES: i32 = 24;
 
 const NO_BUFFER_SPACE: i32 = 105;
+
+// Linux's numbers of errors that an accept tells of the connection it would give: EPERM, ENONET, EPROTO, ENOPROTOOPT,
+// EHOSTDOWN.
+const FORBIDDEN: i32 = 1;
+
+const NOT_ON_THE_NETWORK: i32 = 64;
+
+const PROTOCOL_ERROR: i32 = 71;
+
+const NO_SUCH_OPTION: i32 = 92;
+
+const HOST_IS_DOWN: i32 = 112;
 
 /// How long a peer may take nothing of what it is sent, in seconds, before that is a fault.
 const LONGEST_STAND: u64 = 30;
@@ -146,7 +161,12 @@ fn connect<R: Net<Listener = TcpListener, Stream = TcpStream>>(
     rt: &R,
     to: &str,
 ) -> io::Result<(SocketSource, SocketSink)> {
-    halves(TcpStream::connect(rt, to)?)
+    for at in to.to_socket_addrs(rt)? {
+        if let Ok(stream) = TcpStream::connect_timeout(rt, &at, Duration::from_secs(LONGEST_DIAL)) {
+            return halves(stream);
+        }
+    }
+    Err(io::Error::from(ErrorKind::NotConnected))
 }
 
 impl Dialer for SocketDialer {
@@ -201,9 +221,9 @@ impl Sockets {
     }
 }
 
-// Whether an accept failed for one connection alone, which was gone before it was accepted.
+// Whether an accept failed for one connection alone, which was gone before it was accepted, or is forbidden.
 fn is_of_one(error: &io::Error) -> bool {
-    matches!(
+    let is_by_kind = matches!(
         error.kind(),
         ErrorKind::Interrupted
             | ErrorKind::ConnectionAborted
@@ -211,7 +231,12 @@ fn is_of_one(error: &io::Error) -> bool {
             | ErrorKind::HostUnreachable
             | ErrorKind::NetworkUnreachable
             | ErrorKind::NetworkDown
-    )
+    );
+    is_by_kind
+        || matches!(
+            error.raw_os_error(),
+            Some(FORBIDDEN | NOT_ON_THE_NETWORK | PROTOCOL_ERROR | NO_SUCH_OPTION | HOST_IS_DOWN)
+        )
 }
 
 // Whether an accept failed since there is no more of what a connection takes: memory of the system, or descriptors.

@@ -44,7 +44,7 @@ impl Sessions {
 }
 
 // Whether all works of the connection were started, none before that is known; then the switch's halves until
-// they are taken; and how many works haven't ended.
+// they are taken; and how many works of the switch haven't ended.
 #[derive(Drop)]
 struct Word<N: Wires> {
     started: Option<bool>,
@@ -101,7 +101,7 @@ impl<N: Wires> Connection<N> {
                 started: None,
                 source: None,
                 sink: None,
-                works: 2 * u32::from(slices) + 2,
+                works: 2,
             }),
             given: Condvar::new(),
             sessions,
@@ -147,8 +147,9 @@ impl<N: Wires> Connection<N> {
         word.sink.take()
     }
 
-    /// A work has ended. The session has with the last of them.
-    pub(crate) fn end_work<R: Wait>(&self, rt: &R) {
+    /// A work of the switch has ended. With both of them another session may take the place of this one, though works
+    /// of its slices may still dial or write for a while.
+    pub(crate) fn end_of_switch<R: Wait>(&self, rt: &R) {
         let mut word = self.word.lock(rt);
         word.works = word.works.saturating_sub(1);
         let is_last = word.works == 0;

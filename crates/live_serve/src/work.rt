@@ -3,13 +3,18 @@ ghost use Rattle.std.specs.Arc.{arc_value};
 ghost use Rattle.turn_desk.specs.Seats.{IsSeatOf};
 
 use crate::connection::Connection;
-use fv_live::{Clock, Dialer, Host, Wires, Work};
-use live_session::{DeskObject, Gate, Side, run_reader, run_slice, run_writer};
+use fv_live::{Clock, Dialer, Host, NeverSource, Wires, Work};
+use live_session::{DeskObject, Gate, ReaderEnd, Side, run_reader, run_slice, run_writer};
 use proxy_core::Dest;
 use std::alloc::Global;
 use std::net::{Net, TcpListener, TcpStream};
 use std::sync::{Arc, Wait};
+use std::thread;
+use std::time::Duration;
 use turn_desk::TurnSeat;
+
+/// The wait before another attempt to end a switch for which there was no memory, in milliseconds.
+const WAIT_FOR_MEMORY: u64 = 10;
 
 /// What a work does.
 #[derive(Drop)]
@@ -46,9 +51,13 @@ impl<N: Wires, C: Clock, G: Gate> Work for SessionWork<N, C, G> {
         }
         match job {
             Job::ReadSwitch(mut clock, gate) => {
-                read_switch(rt, shared, &mut seat, &mut clock, &gate)
+                read_switch(rt, shared, &mut seat, &mut clock, &gate);
+                shared.end_of_switch(rt);
             }
-            Job::WriteSwitch => write_switch(rt, shared, &mut seat),
+            Job::WriteSwitch => {
+                write_switch(rt, shared, &mut seat);
+                shared.end_of_switch(rt);
+            }
             Job::ReadSlice(slot, to, mut dialer, mut clock, gate) => {
                 read_links(
                     rt,
@@ -63,7 +72,6 @@ impl<N: Wires, C: Clock, G: Gate> Work for SessionWork<N, C, G> {
             }
             Job::WriteSlice(slot) => write_links(rt, shared, &mut seat, slot),
         }
-        shared.end_work(rt);
     }
 }
 
@@ -78,7 +86,7 @@ fn read_switch<
     let Some(mut source) = shared.take_source(rt) else {
         return;
     };
-    let _end = run_reader(
+    let end = run_reader(
         rt,
         shared.alloc,
         &shared.desk,
@@ -89,6 +97,38 @@ fn read_switch<
         gate,
         &shared.bells,
     );
+    if end == ReaderEnd::Memory {
+        end_switch(rt, shared, seat, clock, gate);
+    }
+}
+
+// Where there was no memory for the first event, the desk knows of no switch that could end, and others would wait
+// for ever: one comes and ends, as soon as there is memory for that.
+fn end_switch<
+    R: Host + Net<Listener = TcpListener, Stream = TcpStream>,
+    N: Wires,
+    C: Clock,
+    G: Gate,
+>(rt: &R, shared: &Connection<N>, seat: &mut TurnSeat<DeskObject>, clock: &mut C, gate: &G)
+    requires desk { IsSeatOf shared.now.desk seat.old }
+{
+    for _ in rt.forever() {
+        let end = run_reader(
+            rt,
+            shared.alloc,
+            &shared.desk,
+            seat,
+            &mut NeverSource,
+            Side::Switch,
+            clock,
+            gate,
+            &shared.bells,
+        );
+        if end != ReaderEnd::Memory {
+            return;
+        }
+        thread::sleep(rt, Duration::from_millis(WAIT_FOR_MEMORY));
+    }
 }
 
 fn write_switch<R: Wait, N: Wires>(rt: &R, shared: &Connection<N>, seat: &mut TurnSeat<DeskObject>)

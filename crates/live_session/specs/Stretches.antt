@@ -19,7 +19,7 @@ use Rattle.live_session.specs.declared.ends.ReaderEnd.TheVariants.{Closed, ReadF
 use Rattle.live_desk.specs.Acts.{Acts}
 use Rattle.turn_desk.specs.declared.object.Object.{Ghosts}
 use Rattle.turn_desk.specs.declared.parts.TurnSeat.{TurnSeat}
-use Rattle.turn_desk.specs.Calls.{Call, LastReply, Made}
+use Rattle.turn_desk.specs.Calls.{Call, Made}
 use Rattle.turn_desk.specs.Seats.{view as view_of}
 
 -- the connection of a side came
@@ -80,14 +80,31 @@ WentOne a event reply b = (op : DeskOp) × Went a (event ∷ []) (record { op = 
 abbrev pub messages : Side → List (List ℕ) → List Event
 messages side frames = map (message_of side) frames
 
--- how a connection's part without its up and its down ended: all frames were handed on, or the last reply ended it, or memory or the calls ran out
+-- each call was answered that the connection goes on
+abbrev pub WentOn : List DeskCall → Type 0
+WentOn [] = Unit {0}
+WentOn (c ∷ cs) = (c.reply ≡ Stepped (Ok verdict.Go)) × WentOn cs
+
+-- this holds of the calls but the last one
+abbrev pub ButLast : (List DeskCall → Type 0) → List DeskCall → Type 0
+ButLast holds calls = (before : List DeskCall) × (last : DeskCall) × (calls ≡ before ++ last ∷ []) × holds before
+
+-- the last call was answered so, and each one before it that the connection goes on
+abbrev pub StoppedBy : DeskReply → List DeskCall → Type 0
+StoppedBy reply calls = (before : List DeskCall) × (op : DeskOp) × (calls ≡ before ++ record { op = op; reply = reply } ∷ []) × WentOn before
+
+-- each call was answered that the connection goes on, but perhaps the last one
+abbrev pub WentOnTo : List DeskCall → Type 0
+WentOnTo calls = WentOn calls ⊎ ButLast WentOn calls
+
+-- How a connection's part without its up and its down ended: all frames were handed on, or the first reply that doesn't let the connection go on ended it, or memory or the calls ran out.
 abbrev pub ReadTo : ReaderEnd → List (List ℕ) → List (List ℕ) → List DeskCall → ℕ → Type 0
-ReadTo Closed given all calls left = given ≡ all
-ReadTo ReadFault given all calls left = given ≡ all
-ReadTo Dismissed given all calls left = LastReply (Stepped (Ok verdict.Close)) calls
-ReadTo DeskEnded given all calls left = LastReply (Stepped (Ok verdict.Ended)) calls
-ReadTo Spent given all calls left = left ≡ 0
-ReadTo Memory given all calls left = Unit {0}
+ReadTo Closed given all calls left = (given ≡ all) × WentOn calls
+ReadTo ReadFault given all calls left = (given ≡ all) × WentOn calls
+ReadTo Dismissed given all calls left = StoppedBy (Stepped (Ok verdict.Close)) calls
+ReadTo DeskEnded given all calls left = StoppedBy (Stepped (Ok verdict.Ended)) calls
+ReadTo Spent given all calls left = (left ≡ 0) × WentOn calls
+ReadTo Memory given all calls left = WentOnTo calls
 
 -- the messages between the up and the down: those of the first frames of the bytes that were taken
 pub record Reading (side : Side) (a : Spot) (before : Option (List ℕ)) (end : ReaderEnd) (after : Option (List ℕ)) (b : Spot) : Type 0 where
@@ -101,7 +118,7 @@ pub record Reading (side : Side) (a : Spot) (before : Option (List ℕ)) (end : 
 
 -- the frames of what a framer was fed were handed on, to the end or to where the connection ended
 abbrev pub HandedTo : Option ReaderEnd → Stream → List ℕ → List (List ℕ) → List DeskCall → ℕ → Type 0
-HandedTo None framer fed given calls left = Stands framer fed given × (given ≡ frames_of fed)
+HandedTo None framer fed given calls left = Stands framer fed given × (given ≡ frames_of fed) × WentOn calls
 HandedTo (Some Closed) framer fed given calls left = ⊥
 HandedTo (Some ReadFault) framer fed given calls left = ⊥
 HandedTo (Some end) framer fed given calls left = ReadTo end given (frames_of fed) calls left
@@ -114,7 +131,7 @@ Tells (Some Closed) reply = ⊥
 Tells (Some ReadFault) reply = ⊥
 Tells (Some Spent) reply = ⊥
 Tells (Some Memory) reply = Unit {0}
-Tells None reply = Unit {0}
+Tells None reply = reply ≡ Stepped (Ok verdict.Go)
 
 -- up, messages, down
 abbrev pub whole : Side → List (List ℕ) → List Event
@@ -126,7 +143,7 @@ cut_off side frames = up_of side ∷ messages side frames
 
 -- how a connection without its down ended
 abbrev pub BeginsAs : ReaderEnd → Side → List (List ℕ) → List (List ℕ) → List Event → List DeskCall → ℕ → Type 0
-BeginsAs Spent side given all events calls left = ((events ≡ []) ⊎ (events ≡ cut_off side given)) × (left ≡ 0)
+BeginsAs Spent side given all events calls left = ((events ≡ []) ⊎ (events ≡ cut_off side given)) × (left ≡ 0) × WentOn calls
 BeginsAs end side given all events calls left = (events ≡ cut_off side given) × ReadTo end given all calls left
 
 -- one connection without its down
@@ -157,14 +174,14 @@ FinishesBy false side end a result b = (result ≡ end) × (b ≡ a)
 abbrev pub Finishes : Side → ReaderEnd → Spot → ReaderEnd → Spot → Type 0
 Finishes side end a result b = FinishesBy (closes end) side end a result b
 
--- How a stretch ended. The first frames were handed on, all of them at the end of the source and at its fault. The down is missing where the last reply ended the connection, and may be missing where no calls are left.
+-- How a stretch ended. The first frames were handed on, all of them at the end of the source and at its fault, and none behind a reply that doesn't let the connection go on. The down is missing where the last reply ended the connection, and may be missing where no calls are left.
 abbrev pub EndsAs : ReaderEnd → Side → List (List ℕ) → List (List ℕ) → List Event → List DeskCall → ℕ → Type 0
-EndsAs Closed side given all events calls left = (events ≡ whole side given) × (given ≡ all)
-EndsAs ReadFault side given all events calls left = (events ≡ whole side given) × (given ≡ all)
-EndsAs Dismissed side given all events calls left = (events ≡ cut_off side given) × LastReply (Stepped (Ok verdict.Close)) calls
-EndsAs DeskEnded side given all events calls left = (events ≡ cut_off side given) × LastReply (Stepped (Ok verdict.Ended)) calls
-EndsAs Spent side given all events calls left = ((events ≡ []) ⊎ (events ≡ cut_off side given)) × (left ≡ 0)
-EndsAs Memory side given all events calls left = events ≡ whole side given
+EndsAs Closed side given all events calls left = (events ≡ whole side given) × (given ≡ all) × ButLast WentOn calls
+EndsAs ReadFault side given all events calls left = (events ≡ whole side given) × (given ≡ all) × ButLast WentOn calls
+EndsAs Dismissed side given all events calls left = (events ≡ cut_off side given) × StoppedBy (Stepped (Ok verdict.Close)) calls
+EndsAs DeskEnded side given all events calls left = (events ≡ cut_off side given) × StoppedBy (Stepped (Ok verdict.Ended)) calls
+EndsAs Spent side given all events calls left = ((events ≡ []) ⊎ (events ≡ cut_off side given)) × (left ≡ 0) × WentOnTo calls
+EndsAs Memory side given all events calls left = (events ≡ whole side given) × ButLast WentOnTo calls
 
 -- one connection: the seat's own new calls, by what was taken from the source, in which order and at which moments
 pub record Stretch (side : Side) (a : Spot) (before : Option (List ℕ)) (end : ReaderEnd) (after : Option (List ℕ)) (b : Spot) : Type 0 where

@@ -17,12 +17,24 @@ use crate::side::{Side, down, message, up};
 use crate::turns::Turns;
 use fv_live::{Clock, Host, Source};
 use live_desk::{DeskObject, DeskOp, DeskReply};
+use of10_ctl::kind::{
+    BARRIER_REQUEST, FLOW_MOD, PACKET_OUT, QUEUE_GET_CONFIG_REQUEST, STATS_REQUEST,
+};
 use of10_ctl::{Framer, Next};
 use proxy_core::{Event, Timed, Verdict};
 use std::alloc::{AllocError, Global};
 use std::net::{Net, TcpListener, TcpStream};
 use std::sync::Wait;
 use turn_desk::{Spent, TurnDesk, TurnSeat};
+
+/// The types of messages that are sent on to a switch.
+const FOR_THE_SWITCH: [u8; 5] = [
+    PACKET_OUT,
+    FLOW_MOD,
+    STATS_REQUEST,
+    BARRIER_REQUEST,
+    QUEUE_GET_CONFIG_REQUEST,
+];
 
 /// How many bytes are taken from a source at once.
 const PIECE: usize = 65_536;
@@ -98,6 +110,14 @@ fn ask_alone<R: Wait, C: Clock>(
     asked
 }
 
+// Whether the event is a message of a slice that may be sent on to the switch.
+fn is_for_the_switch(event: &Event) -> bool {
+    let Event::SliceMsg(_, frame) = event else {
+        return false;
+    };
+    FOR_THE_SWITCH.iter().any(|kind| frame.is_of(*kind))
+}
+
 /// One event in a turn of the reader's.
 fn ask_in_turn<R: Wait, C: Clock>(
     rt: &R,
@@ -113,7 +133,7 @@ fn ask_in_turn<R: Wait, C: Clock>(
     ensures spent { OnErr result (seat.old.left ≡ 0) }
     ensures same { OnErr result (spot seat.new (C.coming clock.new) ≡ spot seat.old (C.coming clock.old)) }
 {
-    turns.begin(rt);
+    turns.begin(rt, is_for_the_switch(&event));
     let asked = ask(rt, desk, seat, clock, event);
     turns.end(rt, goes_on(&asked));
     asked
@@ -336,8 +356,8 @@ fn finish<R: Wait, C: Clock>(
 
 /// Reads one connection: the seat asks the desk for its up, a message for each frame of the bytes taken, in
 /// order, and its down, each at the clock's next answer. No down follows a reply that ends the connection, so
-/// that what it sent before can still be taken. After each of these it wakes the writers for which messages wait, and all of them after
-/// an up, a down, an end and at its own end.
+/// that what it sent before can still be taken. It wakes the writers for which messages wait after the messages of a
+/// turn, which is one where the gate may wait, and all of them after an up, a down, an end and at its own end.
 pub fn run_reader<
     R: Host + Net<Listener = TcpListener, Stream = TcpStream>,
     S: Source,

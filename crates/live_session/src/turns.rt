@@ -6,7 +6,7 @@ use crate::side::Side;
 use std::sync::{MutexGuard, Wait};
 
 /// After how many of a slice's messages others have their turn: one of them may cost as much as many packets do.
-const MESSAGES_OF_A_SLICE: u32 = 64;
+const MESSAGES_OF_A_SLICE: u32 = 16;
 
 /// The same of a switch's messages.
 const MESSAGES_OF_A_SWITCH: u32 = 1024;
@@ -54,11 +54,11 @@ impl<'a> Turns<'a> {
         self.left = messages_of(self.side);
     }
 
-    /// Before a message: nobody else asks the desk. A slice's message waits while much waits for the switch, so that
-    /// no slice fills the lane up.
-    pub(crate) fn begin<R: Wait>(&mut self, rt: &R) {
+    /// Before a message: nobody else asks the desk. One that a slice has for the switch waits while much waits there
+    /// already, so that no slice fills the lane up.
+    pub(crate) fn begin<R: Wait>(&mut self, rt: &R, is_for_the_switch: bool) {
         self.take_hold(rt);
-        if self.each || self.side == Side::Switch {
+        if self.each || !is_for_the_switch {
             return;
         }
         for _ in rt.forever() {

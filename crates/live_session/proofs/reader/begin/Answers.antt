@@ -10,4 +10,4 @@ pub returns-in-Some-clause-begun : goal.returns-in-Some-clause-begun
 returns-in-Some-clause-begun g c = begins_end c.args.side (spot c.args.seat.now (g.C.Clock.coming c.args.clock.now)) (spot c.ask_alone-stepped.new.seat (g.C.Clock.coming c.ask_alone-stepped.new.clock)) (g.S.Source.left c.args.source.now) (Stepped c.in-Ok.stepped) c.in-Some.end (rw (← c.up.ensures) c.in-Ok.ensures.went) c.in-Some.ensures
 
 pub returns-clause-begun : goal.returns-clause-begun
-returns-clause-begun g c = begins_reading c.args.side (spot c.args.seat.now (g.C.Clock.coming c.args.clock.now)) (spot c.ask_alone-stepped.new.seat (g.C.Clock.coming c.ask_alone-stepped.new.clock)) (spot c.read_all.new.seat (g.C.Clock.coming c.read_all.new.clock)) (g.S.Source.left c.args.source.now) (g.S.Source.left c.read_all.new.source) (Stepped c.in-Ok.stepped) c.read_all.result (rw (← c.up.ensures) c.in-Ok.ensures.went) c.read_all.ensures.reading
+returns-clause-begun g c = begins_reading c.args.side (spot c.args.seat.now (g.C.Clock.coming c.args.clock.now)) (spot c.ask_alone-stepped.new.seat (g.C.Clock.coming c.ask_alone-stepped.new.clock)) (spot c.read_all.new.seat (g.C.Clock.coming c.read_all.new.clock)) (g.S.Source.left c.args.source.now) (g.S.Source.left c.read_all.new.source) (Stepped c.in-Ok.stepped) c.read_all.result (rw (← c.up.ensures) c.in-Ok.ensures.went) c.in_default-end_by.ensures c.read_all.ensures.reading

@@ -67,5 +67,5 @@ loop-preserved g c =
       desk = c.in-Ok.ensures.desk ∙ c.loop.invariant.desk;
       handed = λ fed given stands.
           let h = c.loop.invariant.handed fed given stands in
-          hands_more c.args.side a b d c.loop.framer c.next-in-loop.new.self fed given c.in-Ok-Frame.frame (Stepped c.in-Ok.stepped) h (subst (λ n. Stands c.next-in-loop.new.self fed ((given ++ h.0) ++ frame_in n)) c.in-Ok-Frame.field-0-is (c.in-Ok-Frame.ensures.stands fed (given ++ h.0) h.2)) (rw (← c.message.ensures) c.in-Ok.ensures.went);
+          hands_more c.args.side a b d c.loop.framer c.next-in-loop.new.self fed given c.in-Ok-Frame.frame (Stepped c.in-Ok.stepped) h (subst (λ n. Stands c.next-in-loop.new.self fed ((given ++ h.0) ++ frame_in n)) c.in-Ok-Frame.field-0-is (c.in-Ok-Frame.ensures.stands fed (given ++ h.0) h.2)) (rw (← c.message.ensures) c.in-Ok.ensures.went) c.in_default-end_by.ensures;
     }
