@@ -74,8 +74,7 @@ by_reply Memory op reply framer fed given calls left on t = inr (calls, record {
 -- a reply ended it
 pub hands_end : (side : Side) (a b c : Spot) (framer next : Stream) (fed : List ℕ) (given : List (List ℕ)) (frame : List ℕ) (reply : DeskReply) (end : ReaderEnd) → (h : Hands side a fed given framer b) → Stands next fed ((given ++ h.0) ++ frame ∷ []) → WentOne b (message_of side frame) reply c → Tells (Some end) reply → HandsTo side a fed given next (Some end) c
 hands_end side a b c framer next fed given frame reply end h stands w t =
-    let more = h.0 ++ frame ∷ [] in
-    (
+    let more = h.0 ++ frame ∷ [] in (
       more,
       h.1 ++ record { op = w.0; reply = reply } ∷ [],
       went_message side a b c h.0 frame h.1 reply h.3 w,
