@@ -74,7 +74,7 @@ fn put_bytes(out: &mut Vec<u8>, bytes: &[u8]) -> Result<(), AllocError> {
 }
 
 /// The recording of so many packets, in records that are as long as may be.
-fn recording_of(alloc: Global, keeping: Keeping, count: u64) -> Result<Vec<u8>, AllocError> {
+pub fn recording_of(alloc: Global, keeping: Keeping, count: u64) -> Result<Vec<u8>, AllocError> {
     let mut out = Vec::new(alloc);
     begin_recording(&mut out)?;
     add_item(&mut out, SWITCH_UP, 0, 0, 0, &[])?;
