@@ -248,8 +248,7 @@ impl Worst {
         let micros = desk.longest();
         println!(rt;
             "{name}: {} messages for the switch and {} for slices, longest step {micros} us",
-            brought.to_switch,
-            brought.to_slices
+            brought.to_switch, brought.to_slices
         )
     }
 }
