@@ -1,4 +1,5 @@
 pub mod Apart
+pub mod Covering
 pub mod CoverNormal
 pub mod CoverHas
 pub mod Ranges

@@ -1,11 +1,11 @@
 //! Matches as sets of headers.
 
-ghost use Rattle.std.specs.Prelude.{◌≡◌, ◌↔◌, ◌||◌, IsTrue, IfSome, IfNone, is_none};
+ghost use Rattle.std.specs.Prelude.{◌≡◌, ◌↔◌, ◌||◌, ◌&&◌, IsTrue, IfSome, IfNone, is_none};
 ghost use Rattle.of10_model.specs.Header.{Header, IsHeader};
 ghost use Rattle.of10_model.specs.Pattern.{Has};
 ghost use Rattle.of10_model.specs.Normal.{IsPrefix};
 ghost use Rattle.of10_model.specs.Meet.{both, both_prefix, meet_of, is_disjoint, Disjoint};
-ghost use Rattle.of10_model.specs.Inclusion.{includes_of, Includes, any_in_port};
+ghost use Rattle.of10_model.specs.Inclusion.{covers, covers_prefix, includes_of, Includes, any_in_port};
 
 use crate::constraint::{
     both_prefix, both_u8, both_u16, both_u64, covers_prefix, covers_u8, covers_u16, covers_u64,
@@ -75,33 +75,50 @@ fn disjoint_patterns(a: &Pattern, b: &Pattern) -> bool
     differ(a, b)
 }
 
-fn any_in_port(m: &Pattern) -> Pattern
-    ensures { result ≡ any_in_port m.now }
+// Whether the first match covers the second in each field but the in_port, in the order of `differ`.
+fn covers_rest(a: &Pattern, b: &Pattern) -> bool
+    requires source { IsPrefix a.now.nw_src }
+    requires destination { IsPrefix a.now.nw_dst }
+    ensures { result ≡ (covers a.now.tp_dst b.now.tp_dst && covers_prefix a.now.nw_dst b.now.nw_dst && covers_prefix a.now.nw_src b.now.nw_src
+        && covers a.now.dl_vlan b.now.dl_vlan && covers a.now.dl_dst b.now.dl_dst && covers a.now.dl_src b.now.dl_src
+        && covers a.now.nw_proto b.now.nw_proto && covers a.now.dl_type b.now.dl_type && covers a.now.tp_src b.now.tp_src
+        && covers a.now.nw_tos b.now.nw_tos && covers a.now.dl_vlan_pcp b.now.dl_vlan_pcp) }
 {
-    Pattern {
-        in_port: None,
-        ..*m
-    }
+    covers_u16(a.tp_dst, b.tp_dst)
+        && covers_prefix(a.nw_dst, b.nw_dst)
+        && covers_prefix(a.nw_src, b.nw_src)
+        && covers_u16(a.dl_vlan, b.dl_vlan)
+        && covers_u64(a.dl_dst, b.dl_dst)
+        && covers_u64(a.dl_src, b.dl_src)
+        && covers_u8(a.nw_proto, b.nw_proto)
+        && covers_u16(a.dl_type, b.dl_type)
+        && covers_u16(a.tp_src, b.tp_src)
+        && covers_u8(a.nw_tos, b.nw_tos)
+        && covers_u8(a.dl_vlan_pcp, b.dl_vlan_pcp)
 }
 
-#[tactic(auto, unfolding(of10_model::specs::Inclusion::includes_of))]
+fn includes_pattern_aside(a: &Pattern, b: &Pattern) -> bool
+    requires source { IsPrefix a.now.nw_src }
+    requires destination { IsPrefix a.now.nw_dst }
+    ensures { result ≡ includes_of (any_in_port a.now) b.now }
+{
+    covers_rest(a, b)
+}
+
+fn covers_each(a: &Pattern, b: &Pattern) -> bool
+    requires source { IsPrefix a.now.nw_src }
+    requires destination { IsPrefix a.now.nw_dst }
+    ensures { result ≡ (includes_of (any_in_port a.now) b.now && covers a.now.in_port b.now.in_port) }
+{
+    includes_pattern_aside(a, b) && covers_u16(a.in_port, b.in_port)
+}
+
 fn includes_pattern(a: &Pattern, b: &Pattern) -> bool
     requires source { IsPrefix a.now.nw_src }
     requires destination { IsPrefix a.now.nw_dst }
     ensures { result ≡ includes_of a.now b.now }
 {
-    covers_u16(a.in_port, b.in_port)
-        && covers_u64(a.dl_src, b.dl_src)
-        && covers_u64(a.dl_dst, b.dl_dst)
-        && covers_u16(a.dl_vlan, b.dl_vlan)
-        && covers_u8(a.dl_vlan_pcp, b.dl_vlan_pcp)
-        && covers_u16(a.dl_type, b.dl_type)
-        && covers_u8(a.nw_tos, b.nw_tos)
-        && covers_u8(a.nw_proto, b.nw_proto)
-        && covers_prefix(a.nw_src, b.nw_src)
-        && covers_prefix(a.nw_dst, b.nw_dst)
-        && covers_u16(a.tp_src, b.tp_src)
-        && covers_u16(a.tp_dst, b.tp_dst)
+    covers_each(a, b)
 }
 
 /// The match of the headers that are in both; `None` where there is none.
@@ -130,7 +147,7 @@ pub fn includes_aside(a: &Match, b: &Match) -> bool
     ensures value { result ≡ includes_of (any_in_port a.now) b.now }
     ensures headers { IsTrue result ↔ Includes (any_in_port a.now) b.now }
 {
-    includes_pattern(&any_in_port(a.pattern()), b.pattern())
+    includes_pattern_aside(a.pattern(), b.pattern())
 }
 
 /// Whether no header is in both.
