@@ -40,10 +40,12 @@ use Rattle.slice_words.specs.PacketOuts.{packet_out_fault}
 use Rattle.slice_words.specs.Answers.{read_answer, packet_told}
 use Rattle.desk_words.specs.Histories.{message_items}
 use Rattle.desk_words.specs.Reports.{report_from}
-use Rattle.desk_examples.specs.Examples.{PacketReaches, PacketPasses, BadLengthCloses, FeaturesAreTold, ConfigIsKept, FlagsAreRefused, OldVersionCloses, EchoIsAnswered, VendorIsRefused, PortModIsRefused}
+use Rattle.desk_examples.specs.Examples.{policy, PacketReaches, PacketPasses, BadLengthCloses, FeaturesAreTold, ConfigIsKept, FlagsAreRefused, OldVersionCloses, EchoIsAnswered, VendorIsRefused, PortModIsRefused}
 use Rattle.desk_examples.specs.Ports.{StatusReachesBob, OwnPortsAreTold, OtherPortIsRefused}
 use Rattle.desk_examples.specs.Connections.{NothingHappens, SwitchGoes, BadLengthEndsTheSwitch, EarlySliceIsRefused}
 use Rattle.desk_examples.specs.Readers.{WriterIsToldAlone, ReaderIsTold}
+use Rattle.desk_examples.specs.Worlds.{other_policy, history, FirstWorld, OtherWorld, HasTheSameSettings, SeesTheSame, IsSentTheSame}
+use Rattle.desk_words.proofs.Alone.{alike}
 use Rattle.desk_examples.specs.Statistics.{BarrierComesBack, QueuesComeBack, OwnFlowsAreTold, FlowsAreSummed, TableIsTold}
 use Rattle.desk_examples.specs.FlowMods.{FlowModIsCut, FlowModIsRefused, ErrorIsToldOnce, FlowModHasTwoPieces, FloodIsSpread, ActionsAreHeldToTheSlice, QuotaHolds, OverlapIsRefused}
 use Rattle.desk_examples.specs.PacketOuts.{ReusedPacketIsLost, PacketIsUsedOnce, PacketOutIsHeldToTheSlice, ProbeComesBack}
@@ -196,3 +198,23 @@ packet_out_is_held_to_the_slice_shown = refl
 pub probe_comes_back_shown : ProbeComesBack
 unfolding computing
 probe_comes_back_shown = refl
+
+pub first_world_shown : FirstWorld
+unfolding computing
+first_world_shown = refl
+
+pub other_world_shown : OtherWorld
+unfolding computing
+other_world_shown = refl
+
+pub same_settings_shown : HasTheSameSettings
+unfolding computing
+same_settings_shown = refl
+
+pub sees_the_same_shown : SeesTheSame
+unfolding computing
+sees_the_same_shown = refl
+
+-- by the law of two worlds
+pub sent_the_same_shown : IsSentTheSame
+sent_the_same_shown = alike policy 0 (history policy) other_policy 0 (history other_policy) same_settings_shown sees_the_same_shown

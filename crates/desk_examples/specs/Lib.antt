@@ -5,3 +5,4 @@ pub mod Readers
 pub mod FlowMods
 pub mod PacketOuts
 pub mod Statistics
+pub mod Worlds

@@ -9,6 +9,7 @@ ghost use Rattle.desk_examples.specs.FlowMods.{FlowModIsCut, FlowModIsRefused, E
 ghost use Rattle.desk_examples.specs.PacketOuts.{ReusedPacketIsLost, PacketIsUsedOnce, PacketOutIsHeldToTheSlice, ProbeComesBack};
 ghost use Rattle.desk_examples.specs.Statistics.{BarrierComesBack, QueuesComeBack, OwnFlowsAreTold, FlowsAreSummed, TableIsTold};
 ghost use Rattle.desk_examples.specs.Readers.{WriterIsToldAlone, ReaderIsTold};
+ghost use Rattle.desk_examples.specs.Worlds.{FirstWorld, OtherWorld, HasTheSameSettings, SeesTheSame, IsSentTheSame};
 
 /// A packet goes to the slice that may write its header, whole and without a buffer, and to no other.
 pub fn packet_reaches_its_writer()
@@ -109,4 +110,15 @@ pub fn statistics_are_told()
     ensures flows { OwnFlowsAreTold }
     ensures sum { FlowsAreSummed }
     ensures table { TableIsTold }
+{}
+
+/// Under a policy that differs in what another slice may write, in who reads and in priorities, a slice has the
+/// same settings and sees the same. So it is sent the same, and what it has the switch sent is the same too; the
+/// other slice is sent more.
+pub fn worlds_alike_for_a_slice()
+    ensures first { FirstWorld }
+    ensures other { OtherWorld }
+    ensures settings { HasTheSameSettings }
+    ensures view { SeesTheSame }
+    ensures sent { IsSentTheSame }
 {}

@@ -1,0 +1,5 @@
+use Rattle.lane_laws.proofs.Sent.{each_buffer}
+use Rattle.promise.proofs.buffers_are_the_slices_own.Goals as goal
+
+pub returns : goal.returns
+returns c = each_buffer

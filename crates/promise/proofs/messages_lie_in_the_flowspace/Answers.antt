@@ -1,0 +1,5 @@
+use Rattle.lane_laws.proofs.Sent.{each_lies}
+use Rattle.promise.proofs.messages_lie_in_the_flowspace.Goals as goal
+
+pub returns : goal.returns
+returns c = each_lies

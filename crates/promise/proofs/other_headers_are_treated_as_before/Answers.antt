@@ -1,0 +1,5 @@
+use Rattle.lane_laws.proofs.Sent.{each_leaves}
+use Rattle.promise.proofs.other_headers_are_treated_as_before.Goals as goal
+
+pub returns : goal.returns
+returns c = each_leaves

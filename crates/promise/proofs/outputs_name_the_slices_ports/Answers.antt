@@ -1,0 +1,5 @@
+use Rattle.lane_laws.proofs.Sent.{each_outputs}
+use Rattle.promise.proofs.outputs_name_the_slices_ports.Goals as goal
+
+pub returns : goal.returns
+returns c = each_outputs
