@@ -5,3 +5,4 @@ pub mod Allowing
 pub mod Sending
 pub mod Ways
 pub mod Forbidding
+pub mod Found

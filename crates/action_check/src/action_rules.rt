@@ -1,6 +1,6 @@
 //! The rules by which each action of a list is tested.
 
-ghost use Rattle.std.specs.Prelude.{◌≡◌, ◌&&◌};
+ghost use Rattle.std.specs.Prelude.{◌≡◌, ◌&&◌, IsTrue, find, is_some, option_copied};
 ghost use Rattle.std.specs.List.{list_any};
 ghost use Rattle.of10_model.specs.Pattern.{has};
 ghost use Rattle.of10_model.specs.Inclusion.{includes_of, any_in_port};
@@ -11,7 +11,7 @@ ghost use Rattle.action_check.specs.Verdicts.{AreVerdicts};
 use crate::fault::{BAD_ARGUMENT, BAD_OUT_PORT, NOT_PERMITTED};
 use crate::origin::Origin;
 use crate::verdicts::{Verdicts, may_go_kept};
-use flowspace::{Rule, SwitchPolicy};
+use flowspace::{Rule, SwitchPolicy, is_written_by};
 use match_meet::{includes, includes_aside};
 use of10_action::Action;
 use of10_match::{Header12, Match};
@@ -135,32 +135,38 @@ fn has_header_at(rules: &[Rule], place: u16, header: &Header12, port: u16) -> bo
     }
 }
 
-fn is_cover_among(rules: &[Rule], places: &[u16], cover: &Match, port: u16) -> bool
-    ensures { result ≡ list_any (passes_at (λ rule. includes_of (counted port rule.pattern) cover.now) rules.now) places.now }
+/// The place of the first of some rules that has all of the cover.
+fn cover_among<'a>(rules: &[Rule], places: &'a [u16], cover: &Match, port: u16) -> Option<&'a u16>
+    ensures { option_copied result ≡ find (passes_at (λ rule. includes_of (counted port rule.pattern) cover.now) rules.now) places.now }
 {
     places
         .iter()
-        .any(|place| covers_at(rules, *place, cover, port))
+        .find(|place| covers_at(rules, **place, cover, port))
 }
 
-fn is_header_among(rules: &[Rule], places: &[u16], header: &Header12, port: u16) -> bool
-    ensures { result ≡ list_any (passes_at (λ rule. has (counted port rule.pattern) header.now) rules.now) places.now }
+fn header_among<'a>(
+    rules: &[Rule],
+    places: &'a [u16],
+    header: &Header12,
+    port: u16,
+) -> Option<&'a u16>
+    ensures { option_copied result ≡ find (passes_at (λ rule. has (counted port rule.pattern) header.now) rules.now) places.now }
 {
     places
         .iter()
-        .any(|place| has_header_at(rules, *place, header, port))
+        .find(|place| has_header_at(rules, **place, header, port))
 }
 
-fn is_cover_written(policy: &SwitchPolicy, slot: u8, cover: &Match, port: u16) -> bool
-    ensures { result ≡ list_any (λ rule. is_written_by slot rule && includes_of (counted port rule.pattern) cover.now) policy.now.rules }
+fn cover_place(policy: &SwitchPolicy, slot: u8, cover: &Match, port: u16) -> Option<u16>
+    ensures { is_some result ≡ list_any (λ rule. is_written_by slot rule && includes_of (counted port rule.pattern) cover.now) policy.now.rules }
 {
-    is_cover_among(policy.rules(), policy.write_places(slot), cover, port)
+    cover_among(policy.rules(), policy.write_places(slot), cover, port).copied()
 }
 
-fn is_header_written(policy: &SwitchPolicy, slot: u8, header: &Header12, port: u16) -> bool
-    ensures { result ≡ list_any (λ rule. is_written_by slot rule && has (counted port rule.pattern) header.now) policy.now.rules }
+fn header_place(policy: &SwitchPolicy, slot: u8, header: &Header12, port: u16) -> Option<u16>
+    ensures { is_some result ≡ list_any (λ rule. is_written_by slot rule && has (counted port rule.pattern) header.now) policy.now.rules }
 {
-    is_header_among(policy.rules(), policy.write_places(slot), header, port)
+    header_among(policy.rules(), policy.write_places(slot), header, port).copied()
 }
 
 /// Whether some rule by which the slice at the slot writes has the header, by whichever port the packet came
@@ -168,15 +174,66 @@ fn is_header_written(policy: &SwitchPolicy, slot: u8, header: &Header12, port: u
 pub fn writes_by_some_port(policy: &SwitchPolicy, slot: u8, header: &Header12) -> bool
     ensures { result ≡ list_any (λ rule. is_written_by slot rule && has (any_in_port rule.pattern) header.now) policy.now.rules }
 {
-    is_header_written(policy, slot, header, NONE)
+    header_place(policy, slot, header, NONE).is_some()
 }
 
-pub(crate) fn may_go(policy: &SwitchPolicy, slot: u8, image: &Origin, port: u16) -> bool
+fn is_written_at(rules: &[Rule], slot: u8, place: u16) -> bool
+    ensures { result ≡ passes_at (is_written_by slot) rules.now place }
+{
+    match rules.get(usize::from(place)) {
+        Some(rule) => is_written_by(rule, usize::from(slot)),
+        None => false,
+    }
+}
+
+/// Whether the rule at a place lets the slice send the image to the port.
+fn is_let_at(policy: &SwitchPolicy, slot: u8, place: u16, image: &Origin, port: u16) -> bool
+    ensures { IsTrue result → IsTrue (may_go policy.now.rules slot image.now port) }
+{
+    let rules = policy.rules();
+    if !is_written_at(rules, slot, place) {
+        return false;
+    }
+    match image {
+        Origin::Piece(cover) => covers_at(rules, place, cover, port),
+        Origin::Packet(header) => has_header_at(rules, place, header, port),
+        Origin::Probe { .. } => true,
+    }
+}
+
+/// The same of the place that is kept, if there is one.
+fn is_let_by(policy: &SwitchPolicy, slot: u8, last: Option<u16>, image: &Origin, port: u16) -> bool
+    ensures { IsTrue result → IsTrue (may_go policy.now.rules slot image.now port) }
+{
+    match last {
+        Some(place) => is_let_at(policy, slot, place, image, port),
+        None => false,
+    }
+}
+
+/// Whether the image may go to the port. The rule at the last place is asked first; where another lets the
+/// image go, its place is the last from then on.
+pub(crate) fn may_go(
+    policy: &SwitchPolicy,
+    slot: u8,
+    image: &Origin,
+    last: &mut Option<u16>,
+    port: u16,
+) -> bool
     ensures { result ≡ may_go policy.now.rules slot image.now port }
 {
+    if is_let_by(policy, slot, *last, image, port) {
+        return true;
+    }
     match image {
-        Origin::Piece(cover) => is_cover_written(policy, slot, cover, port),
-        Origin::Packet(header) => is_header_written(policy, slot, header, port),
+        Origin::Piece(cover) => {
+            *last = cover_place(policy, slot, cover, port);
+            last.is_some()
+        }
+        Origin::Packet(header) => {
+            *last = header_place(policy, slot, header, port);
+            last.is_some()
+        }
         Origin::Probe { .. } => true,
     }
 }

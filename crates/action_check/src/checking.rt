@@ -35,7 +35,7 @@ fn advance(image: &mut Origin, verdicts: &mut Verdicts, action: &Action)
 {
     if !keeps_headers(action) {
         *image = after(image, action);
-        *verdicts = Verdicts::new();
+        verdicts.forget();
     }
 }
 

@@ -16,6 +16,8 @@ use flowspace::SwitchPolicy;
 pub(crate) struct Verdicts {
     seeing: Option<bool>,
     aside: Option<bool>,
+    /// Where the rule stands that let an image go last. It is tested on each image anew.
+    last: Option<u16>,
 }
 
 impl Verdicts {
@@ -26,7 +28,16 @@ impl Verdicts {
         Verdicts {
             seeing: None,
             aside: None,
+            last: None,
         }
+    }
+
+    /// Nothing was asked yet of another image.
+    pub(crate) fn forget(&mut self)
+        ensures { (rules : List Rule) (slot : ℕ) (image : Image) → AreVerdicts rules slot image self.new }
+    {
+        self.seeing = None;
+        self.aside = None;
     }
 
     fn found(&self, port: u16) -> Option<bool>
@@ -65,7 +76,7 @@ pub(crate) fn may_go_kept(
     if let Some(verdict) = verdicts.found(port) {
         return verdict;
     }
-    let verdict = may_go(policy, slot, image, port);
+    let verdict = may_go(policy, slot, image, &mut verdicts.last, port);
     verdicts.keep(port, verdict);
     verdict
 }
