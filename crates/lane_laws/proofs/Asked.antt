@@ -40,7 +40,7 @@ use Rattle.slice_words.specs.Questions.{is_port_on, may_ask}
 use Rattle.slice_words.proofs.LoneRules.{same_port}
 use Rattle.lane_laws.specs.Lane.{AsksForReply, AsksOwnPort, MayBeAsked, IsReadAsQuestion}
 use Rattle.lane_laws.proofs.Reading.{bytes-take}
-use Rattle.lane_laws.proofs.Forwarded.{IsQuestion}
+use Rattle.slice_side.specs.Checking.{IsQuestion}
 
 -- ---- what is read of a controller's message
 

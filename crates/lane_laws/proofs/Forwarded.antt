@@ -8,26 +8,19 @@ use Rattle.of10_message.specs.declared.controller.FromController.{FromController
 use Rattle.of10_message.specs.declared.controller.FromController.TheVariants as said
 use Rattle.of10_message.specs.Heads.{xid_of}
 use Rattle.of10_message.specs.Controller.{read_controller}
-use Rattle.stats_filter.specs.Asking.{question_for}
 use Rattle.stats_filter.specs.Replies.{table_reply}
 use Rattle.slice_words.specs.Messages.{Reading, asks_switch}
 use Rattle.slice_words.specs.Items.{Settings, Item}
 use Rattle.slice_words.specs.Pasts.{Outgoing, Asks, Answer, Past, told, forwarded}
 use Rattle.slice_words.specs.FlowMods.{Ground, ground_of, flow_mod_fault, sent_on}
 use Rattle.slice_words.specs.PacketOuts.{packet_out_fault, sent_out}
-use Rattle.slice_words.specs.Questions.{is_port_on, may_ask, asking, statistics_asked, queues_asked}
+use Rattle.slice_words.specs.Questions.{asking, statistics_asked, queues_asked}
 use Rattle.slice_words.specs.Answers.{refused, not_permitted, unread_answer, forwarded_answer, keeps_rate, read_answer, message_answer}
 use Rattle.slice_words.proofs.AnswerKinds.{message_holds}
+use Rattle.slice_side.specs.Checking.{IsQuestion}
 use Rattle.slice_side.proofs.Answering.{asked_answer}
 
--- with this message the slice may ask the switch this
-abbrev pub IsQuestion : Ground → List ℕ → FromController → List ℕ → Type 0
-IsQuestion g message (said.StatsRequest request) question = (may_ask g request ≡ true) × (question_for request g.xid ≡ Some question)
-IsQuestion g message said.BarrierRequest question = question ≡ message_of BARRIER_REQUEST g.xid []
-IsQuestion g message (said.QueueGetConfigRequest port) question = (is_port_on g port ≡ true) × (question ≡ message_of QUEUE_GET_CONFIG_REQUEST g.xid (drop 8 message))
-IsQuestion g message asked question = ⊥
-
--- such a message is to be sent on
+-- a message with which a slice may ask the switch something is to be sent on
 is_question : (g : Ground) (message question : List ℕ) (asked : FromController) → IsQuestion g message asked question → asks_switch (Ok asked) ≡ true
 is_question g message question (said.StatsRequest request) is = refl
 is_question g message question said.BarrierRequest is = refl

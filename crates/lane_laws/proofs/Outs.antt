@@ -159,7 +159,7 @@ packet_holds P g buffer packet all is = at_number P (buffer == NO_BUFFER) buffer
 -- ---- where it comes in, and what it carries
 
 -- it counts as received where it may
-came_in : (g : Ground) (rules : List Rule) (slot port : ℕ) → g.slot ≡ slot → g.patterns ≡ writes_of rules slot → may_come_by g port ≡ true → MayComeBy rules slot port
+pub came_in : (g : Ground) (rules : List Rule) (slot port : ℕ) → g.slot ≡ slot → g.patterns ≡ writes_of rules slot → may_come_by g port ≡ true → MayComeBy rules slot port
 came_in g rules slot port on_slot on_patterns may =
     elim (or_cases (has_port (lone_rules g.slot g.patterns) g.slot port || port == NONE) (port == CONTROLLER) may) [
       | inr controller ↦ inr (inr (eqb-true port CONTROLLER controller))
@@ -193,7 +193,7 @@ has_by m bytes in_port has = Has-entry m (header_of_packet 0 bytes) (record {
   tp_dst = has.tp_dst;
 })
 
-carries_written : (ss : List Slice) (rules : List Rule) → IsSwitchPolicy ss rules → (g : Ground) (slot : ℕ) (m : PacketOut) → g.patterns ≡ writes_of rules slot → lies_aside g (carried_header m) ≡ true
+pub carries_written : (ss : List Slice) (rules : List Rule) → IsSwitchPolicy ss rules → (g : Ground) (slot : ℕ) (m : PacketOut) → g.patterns ≡ writes_of rules slot → lies_aside g (carried_header m) ≡ true
     → CarriesWritten rules slot (sent_carried g m)
 carries_written ss rules policy g slot m on_patterns lies =
     let test = λ (pattern : Pattern). has (any_in_port pattern) (carried_header m) in
@@ -221,7 +221,7 @@ out_lies IsHeaderUnder ss rules policy came g slot m on_slot on_patterns all = r
 -- ---- ports
 
 -- no bytes are no probe
-not_lldp : (in_port : ℕ) → ((header_of_packet in_port []).dl_type == 0x88cc) ≡ false
+pub not_lldp : (in_port : ℕ) → ((header_of_packet in_port []).dl_type == 0x88cc) ≡ false
 unfolding header_of_packet link_of
 not_lldp in_port = refl
 

@@ -1,154 +1,212 @@
--- The same of what follows from a slice's message by what is said of its switch.
-use Rattle.std.proofs.Common.{◌≡◌, refl, sym, ◌∙◌, ap, subst, ℕ, inl, inr, Bool, true, if◌then◌else◌, List, [], ◌∷◌, map, get_or, All, None}
+-- The same of what follows from a slice's message by the slice's state, whatever that stands for.
+use Rattle.std.proofs.Common.{◌≡◌, refl, sym, ◌∙◌, ap, subst, ℕ, ◌+◌, ◌<◌, ◌==◌, ◌&&◌, inl, inr, Bool, true, false, true≢false, if◌then◌else◌, List, [], length, get_or, All, Option, Some, None, option_map, is_some}
+use Rattle.std.proofs.lemmas.Bool.{and_parts}
 use Rattle.std.proofs.lemmas.List.{get_or_default}
 use Rattle.std.proofs.lemmas.List.Elements.{All-nil, All-cons, All-map, All-weaker}
+use Rattle.of10_model.specs.declared.pattern.Pattern.{Pattern}
 use Rattle.of10_model.specs.Header.{Header}
 use Rattle.of10_model.proofs.Results.{either}
-use Rattle.of10_port.specs.declared.features.Features.{Features}
+use Rattle.of10_message.specs.Controller.{read_controller}
 use Rattle.of10_flow.specs.declared.flow_mod.FlowMod.{FlowMod}
 use Rattle.of10_flow.specs.declared.packet_out.PacketOut.{PacketOut}
+use Rattle.of10_flow.specs.declared.protocol.TheConstants.{NO_BUFFER}
 use Rattle.of10_flow.specs.FlowMods.{spell_flow_mod}
 use Rattle.of10_flow.specs.PacketOuts.{spell_packet_out}
 use Rattle.of10_flow.specs.Tables.{is_delete}
-use Rattle.flowspace.specs.Policies.{SwitchView, IsSwitchPolicy}
-use Rattle.flowspace.specs.Owners.{Owns, Writes}
-use Rattle.flowmod_expand.specs.Pieces.{writes_of, pieces_of}
-use Rattle.flowmod_expand.specs.Messages.{sent_for}
+use Rattle.frame_header.specs.Headers.{header_of_packet}
+use Rattle.flowspace.specs.declared.slices.Slice.{Slice}
+use Rattle.flowspace.specs.declared.rules.Rule.{Rule}
+use Rattle.flowspace.specs.Policies.{PolicyView, SwitchView, IsSwitchPolicy}
+use Rattle.flowspace.specs.Owners.{Writes}
+use Rattle.buffer_map.specs.declared.held.Held.{Held}
+use Rattle.buffer_map.specs.Buffers.{numbered, held_under}
+use Rattle.flow_book.specs.declared.state.SliceState.{SliceState}
+use Rattle.port_view.specs.SlicePorts.{ports_of_slice}
+use Rattle.flowmod_expand.specs.Pieces.{writes_of}
+use Rattle.flowmod_expand.specs.Messages.{buffer_at, sent_for}
 use Rattle.flowmod_expand.proofs.Space.{Owns-pieces_of}
 use Rattle.action_check.specs.declared.origin.Origin.{Origin}
-use Rattle.action_check.specs.declared.origin.Origin.TheVariants.{Piece}
+use Rattle.action_check.specs.declared.origin.Origin.TheVariants as origins
 use Rattle.action_check.specs.Soundness.{HasWay}
-use Rattle.slice_words.specs.Items.{Settings, Sight, Msg, is_up, known_ports}
-use Rattle.slice_words.specs.Pasts.{silence}
-use Rattle.slice_words.specs.FlowMods.{Ground, ground_of, packet_at, packet_of, permitted_on, list_given}
-use Rattle.slice_words.specs.PacketOuts.{packet_out_on, packet_out_fault}
-use Rattle.slice_words.specs.Answers.{message_answer}
-use Rattle.slice_words.specs.Alone.{number_of, rendered, answer_to}
-use Rattle.slice_words.specs.Standing.{past_of}
-use Rattle.slice_words.proofs.Forwarding.{flow_mods_numbered, rendered_sent}
-use Rattle.slice_side.specs.declared.answered.Reaction.{Reaction}
-use Rattle.slice_side.specs.Reactions.{Sees, IsReaction}
-use Rattle.lane_laws.specs.Lane.{IsSentThat, LiesInFlowspace, NamesOwnPort, OutputsToOwnPorts, LeavesOtherHeaders, SendsOwnPacket, SendsToOwnPorts, ChangesNoTable, IsHeldHeader, HoldsWritten}
-use Rattle.lane_laws.proofs.Forwarded.{IsPut, put_whole, out_whole, question_whole, put_or_none}
+use Rattle.slice_words.specs.Buffers.{HeldPacket, held_packets}
+use Rattle.slice_words.specs.FlowMods.{Ground, pieces_on, packet_at, permitted_on, list_given}
+use Rattle.slice_words.specs.PacketOuts.{carried_header, is_probe, origin_with, sent_out_with, packet_out_fault}
+use Rattle.slice_words.specs.Standing.{SliceStands, past_of, held_as}
+use Rattle.slice_words.proofs.Holding.{found_holds}
+use Rattle.slice_side.specs.Reactions.{kept, ground_at}
+use Rattle.slice_side.specs.Checking.{packet_in, packet_for, carrier_in, number_in, flow_mods_from, packet_out_from, IsSentOn, AreSentOn}
+use Rattle.slice_side.proofs.Packets.{kept_packet}
+use Rattle.desk_words.specs.declared.event.Timed.{Timed}
+use Rattle.desk_words.specs.Histories.{side_of, view_of}
+use Rattle.lane_laws.specs.Lane.{IsSentThat, LiesInFlowspace, NamesOwnPort, OutputsToOwnPorts, LeavesOtherHeaders, SendsOwnPacket, SendsToOwnPort, SendsProbeToOwnPort, SendsToOwnPorts, ChangesNoTable, KeepsWritten, IsKeptHeader, rules_in, settings_in}
+use Rattle.lane_laws.proofs.Marks.{IsProbe-marked}
 use Rattle.lane_laws.proofs.Asked.{asks_for_reply}
-use Rattle.lane_laws.proofs.Own.{sent_within, permitted_own, permitted_ways, given_holds, sent_holds}
-use Rattle.lane_laws.proofs.Outs.{list_for, out_with, out_holds, out_lies, out_outputs}
-use Rattle.lane_laws.proofs.Sent.{rendered_out, MayCarry, list, each_on, leaves}
+use Rattle.lane_laws.proofs.Own.{each_sent, sent_within, permitted_own, permitted_ways, given_holds, sent_holds, named_out, named_probe}
+use Rattle.lane_laws.proofs.Outs.{list_for, out_with, HoldsOfOuts, out_holds, came_in, carries_written, not_lldp}
+use Rattle.lane_laws.proofs.Sent.{list, leaves, held_are_written}
 
--- what is sent on for a message that comes while a slice sees this
-abbrev sent_on : Settings → Sight → List ℕ → ℕ → List (List ℕ)
-sent_on s sight message moment = map (rendered sight.came) (answer_to s sight.view (Msg message moment)).to_switch
-
-module _ (s : Settings) (sight : Sight) where
+module _ (rules : List Rule) (slot : ℕ) (known : List (List ℕ)) (state : SliceState) (quota xid : ℕ) where
   abbrev ground : Ground
-  ground = ground_of s sight.view (past_of s sight.view)
+  ground = ground_at rules slot known quota xid state
 
   -- what holds of all that a slice may have sent
   pub record HoldsOfAll (P : FlowMod → Type 0) (Q : PacketOut → Type 0) : Type 0 where
-    pub flow_mods : (m : FlowMod) → All P (flow_mods_numbered sight.came ground m)
-    pub packet_outs : (m : PacketOut) → packet_out_fault ground m ≡ None → Q (out_with sight.came ground m (packet_at ground m.buffer))
-
-  by_put : (P : FlowMod → Type 0) (Q : PacketOut → Type 0) → HoldsOfAll P Q → (message : List ℕ) (moment : ℕ) → IsPut s sight.view (past_of s sight.view) moment message
-      → All (IsSentThat P Q) (map (rendered sight.came) (message_answer s sight.view (past_of s sight.view) moment message).to_switch)
-  by_put P Q holds message moment (inl none) =
-      subst (All (IsSentThat P Q)) (sym (ap (map (rendered sight.came)) none)) (All-nil (IsSentThat P Q))
-  by_put P Q holds message moment (inr (inl some)) =
-      let ms = flow_mods_numbered sight.came ground some.0 in
-      subst (All (IsSentThat P Q)) (sym (ap (map (rendered sight.came)) (put_whole s sight.view (past_of s sight.view) moment message some.0 some.1) ∙ rendered_sent sight.came ground some.0))
-      (All-map (IsSentThat P Q) spell_flow_mod ms
-      (All-weaker P (λ sent. IsSentThat P Q (spell_flow_mod sent)) (λ sent own. inl (inl (sent, refl, own))) ms (holds.flow_mods some.0)))
-  by_put P Q holds message moment (inr (inr (inr some))) =
-      subst (All (IsSentThat P Q)) (sym (ap (map (rendered sight.came)) (question_whole s sight.view (past_of s sight.view) moment message some.0 some.1 some.2)))
-      (All-cons (IsSentThat P Q) some.1 [] (inr (asks_for_reply ground message some.1 some.0 some.2.read some.2.may)) (All-nil (IsSentThat P Q)))
-  by_put P Q holds message moment (inr (inr (inl some))) =
-      let sent = out_with sight.came ground some.0 (packet_at ground some.0.buffer) in
-      let whole : map (rendered sight.came) (message_answer s sight.view (past_of s sight.view) moment message).to_switch ≡ spell_packet_out sent ∷ [] =
-      ap (map (rendered sight.came)) (out_whole s sight.view (past_of s sight.view) moment message some.0 some.1)
-      ∙ ap (λ (bytes : List ℕ). bytes ∷ []) (rendered_out sight.came (packet_out_on ground some.0) (packet_at ground some.0.buffer)) in
-      subst (All (IsSentThat P Q)) (sym whole)
-      (All-cons (IsSentThat P Q) (spell_packet_out sent) [] (inl (inr (sent, refl, holds.packet_outs some.0 some.1.no_fault))) (All-nil (IsSentThat P Q)))
+    pub flow_mods : (m : FlowMod) → All P (flow_mods_from state ground m)
+    pub packet_outs : (m : PacketOut) → packet_out_fault ground m ≡ None → Q (packet_out_from state ground m)
 
   -- holds of what is sent on
-  all_sent : (P : FlowMod → Type 0) (Q : PacketOut → Type 0) → HoldsOfAll P Q → is_up sight.view ≡ true → (message : List ℕ) (moment : ℕ) → All (IsSentThat P Q) (sent_on s sight message moment)
-  all_sent P Q holds up message moment =
-      let past = past_of s sight.view in
-      let whole : (answer_to s sight.view (Msg message moment)).to_switch ≡ (message_answer s sight.view past moment message).to_switch =
-      ap (λ (b : Bool). (if b then message_answer s sight.view past moment message else silence).to_switch) up in
-      subst (λ messages. All (IsSentThat P Q) (map (rendered sight.came) messages)) (sym whole)
-      (by_put P Q holds message moment (put_or_none s sight.view past moment message))
+  all_sent : (P : FlowMod → Type 0) (Q : PacketOut → Type 0) → HoldsOfAll P Q → (message : List ℕ) (sent : List (List ℕ)) → IsSentOn state ground message (read_controller message) sent → All (IsSentThat P Q) sent
+  all_sent P Q holds message sent (inl none) = subst (All (IsSentThat P Q)) (sym none) (All-nil (IsSentThat P Q))
+  all_sent P Q holds message sent (inr (inl some)) =
+      let ms = flow_mods_from state ground some.0 in
+      subst (All (IsSentThat P Q)) (sym some.2)
+      (All-map (IsSentThat P Q) spell_flow_mod ms
+      (All-weaker P (λ one. IsSentThat P Q (spell_flow_mod one)) (λ one own. inl (inl (one, refl, own))) ms (holds.flow_mods some.0)))
+  all_sent P Q holds message sent (inr (inr (inl some))) =
+      let out = packet_out_from state ground some.0 in
+      subst (All (IsSentThat P Q)) (sym some.2)
+      (All-cons (IsSentThat P Q) (spell_packet_out out) [] (inl (inr (out, refl, holds.packet_outs some.0 some.1))) (All-nil (IsSentThat P Q)))
+  all_sent P Q holds message sent (inr (inr (inr some))) =
+      subst (All (IsSentThat P Q)) (sym some.4)
+      (All-cons (IsSentThat P Q) some.1 [] (inr (asks_for_reply ground message some.1 some.0 some.2 some.3)) (All-nil (IsSentThat P Q)))
 
-  module _ (policy : SwitchView) (known : List (List ℕ)) (features : Features) (slot : ℕ) (sees : Sees s sight.view policy known features slot) where
-    lies_seen : IsSwitchPolicy policy.slices policy.rules → (m : FlowMod) → All (LiesInFlowspace policy.rules slot) (flow_mods_numbered sight.came ground m)
-    lies_seen accepted m =
-        let P = LiesInFlowspace policy.rules slot in
-        each_on P sight.came ground m (writes_of policy.rules slot) sees.same_patterns
-        (All-weaker (Owns policy.rules slot) (λ piece. (buffer : ℕ) → MayCarry sight.came (packet_of ground m) piece buffer → P (sent_for m ground.xid piece (list ground m piece) buffer))
-        (λ piece owns buffer carrying. sent_within policy.slices policy.rules accepted slot m ground.xid piece (list ground m piece) buffer owns)
-        (pieces_of policy.rules slot m.pattern) (Owns-pieces_of policy.rules slot m.pattern))
+  -- ---- flow-mods
 
-    outputs_seen : (m : FlowMod) → All (OutputsToOwnPorts policy.rules slot) (flow_mods_numbered sight.came ground m)
-    outputs_seen m =
-        let P = All (NamesOwnPort policy.rules slot) in
-        let none = All-nil (NamesOwnPort policy.rules slot) in
-        each_on (OutputsToOwnPorts policy.rules slot) sight.came ground m (writes_of policy.rules slot) sees.same_patterns
-        (λ k d within buffer carrying.
-        let piece = get_or (pieces_of policy.rules slot m.pattern) k d in
-        sent_holds P m ground.xid piece (list ground m piece) buffer none
-        (either P (is_delete m) [] (list_given (permitted_on ground m piece)) none
-        (given_holds P policy.rules slot s.slot s.patterns (known_ports sight.view) known (Piece piece) m.actions sees.same_slot sees.same_patterns sees.same_ports (record {
-          none = none;
-          some = λ flood all given on_flood on_all permits. permitted_own policy.rules slot piece m.actions flood all given on_flood on_all permits;
-        }))))
+  -- what holds of the flow-mod of each piece, whatever number it carries, holds of all
+  each_from : (P : FlowMod → Type 0) (m : FlowMod)
+      → ((k : ℕ) (d : Pattern) → k < length (pieces_on ground m) → (buffer : ℕ) → P (sent_for m xid (get_or (pieces_on ground m) k d) (list ground m (get_or (pieces_on ground m) k d)) buffer))
+      → All P (flow_mods_from state ground m)
+  each_from P m each =
+      let carrier = carrier_in (packet_for state m) (pieces_on ground m) in
+      each_sent P m xid (list ground m) carrier 0 (pieces_on ground m) (λ k d within. each k d within (buffer_at carrier (0 + k)))
 
-    ways_seen : (m : PacketOut) (origin : Origin) → All (HasWay policy.rules slot origin) (list_for ground m origin)
-    ways_seen m origin =
-        given_holds (All (HasWay policy.rules slot origin)) policy.rules slot s.slot s.patterns (known_ports sight.view) known origin m.actions sees.same_slot sees.same_patterns sees.same_ports (record {
-          none = All-nil (HasWay policy.rules slot origin);
-          some = λ flood all given on_flood on_all permits. permitted_ways policy.rules slot origin m.actions flood all given on_flood on_all permits;
-        })
+  lies_from : (slices : List Slice) → IsSwitchPolicy slices rules → (m : FlowMod) → All (LiesInFlowspace rules slot) (flow_mods_from state ground m)
+  lies_from slices accepted m =
+      each_from (LiesInFlowspace rules slot) m
+      (λ k d within buffer.
+      let piece = get_or (pieces_on ground m) k d in
+      sent_within slices rules accepted slot m xid piece (list ground m piece) buffer (Owns-pieces_of rules slot m.pattern k d within))
 
-    held_seen : HoldsWritten policy.rules slot s sight → All (λ packet. (header : Header) × IsHeldHeader s sight (number_of sight.came packet.ordinal) header × Writes policy.rules slot header) ground.held
-    held_seen written =
-        λ k d within.
-        let packet = get_or ground.held k d in
-        (packet.header, (k, packet, within, get_or_default ground.held k packet d within, (refl, refl)), written k d within)
+  outputs_from : (m : FlowMod) → All (OutputsToOwnPorts rules slot) (flow_mods_from state ground m)
+  outputs_from m =
+      let P = All (NamesOwnPort rules slot) in
+      let none = All-nil (NamesOwnPort rules slot) in
+      each_from (OutputsToOwnPorts rules slot) m
+      (λ k d within buffer.
+      let piece = get_or (pieces_on ground m) k d in
+      sent_holds P m xid piece (list ground m piece) buffer none
+      (either P (is_delete m) [] (list_given (permitted_on ground m piece)) none
+      (given_holds P rules slot slot (writes_of rules slot) (ports_of_slice rules slot known) known (origins.Piece piece) m.actions refl refl refl (record {
+        none = none;
+        some = λ flood all given on_flood on_all permits. permitted_own rules slot piece m.actions flood all given on_flood on_all permits;
+      }))))
 
-    out_lies_seen : IsSwitchPolicy policy.slices policy.rules → HoldsWritten policy.rules slot s sight → (m : PacketOut) → packet_out_fault ground m ≡ None
-        → SendsOwnPacket (IsHeldHeader s sight) policy.rules slot (out_with sight.came ground m (packet_at ground m.buffer))
-    out_lies_seen accepted written m none =
-        out_holds (SendsOwnPacket (IsHeldHeader s sight) policy.rules slot) sight.came ground m none
-        (out_lies (IsHeldHeader s sight) policy.slices policy.rules accepted sight.came ground slot m sees.same_slot sees.same_patterns (held_seen written))
+  -- ---- packet-outs
 
-    out_outputs_seen : (m : PacketOut) → packet_out_fault ground m ≡ None → SendsToOwnPorts policy.rules slot (out_with sight.came ground m (packet_at ground m.buffer))
-    out_outputs_seen m none =
-        out_holds (SendsToOwnPorts policy.rules slot) sight.came ground m none (out_outputs policy.rules sight.came ground slot m (ways_seen m))
+  ways_from : (m : PacketOut) (origin : Origin) → All (HasWay rules slot origin) (list_for ground m origin)
+  ways_from m origin =
+      given_holds (All (HasWay rules slot origin)) rules slot slot (writes_of rules slot) (ports_of_slice rules slot known) known origin m.actions refl refl refl (record {
+        none = All-nil (HasWay rules slot origin);
+        some = λ flood all given on_flood on_all permits. permitted_ways rules slot origin m.actions flood all given on_flood on_all permits;
+      })
 
-pub reaction_lies : (s : Settings) (sight : Sight) (policy : SwitchView) (known : List (List ℕ)) (features : Features) (slot : ℕ) (message : List ℕ) (moment : ℕ) (r : Reaction)
-    → IsSwitchPolicy policy.slices policy.rules → Sees s sight.view policy known features slot → HoldsWritten policy.rules slot s sight → IsReaction s sight (Msg message moment) r
-    → All (IsSentThat (LiesInFlowspace policy.rules slot) (SendsOwnPacket (IsHeldHeader s sight) policy.rules slot)) r.to_switch.items
-reaction_lies s sight policy known features slot message moment r accepted sees written is =
-    let P = LiesInFlowspace policy.rules slot in
-    let Q = SendsOwnPacket (IsHeldHeader s sight) policy.rules slot in
-    subst (All (IsSentThat P Q)) (sym is.to_switch)
-    (all_sent s sight P Q (record { flow_mods = lies_seen s sight policy known features slot sees accepted; packet_outs = out_lies_seen s sight policy known features slot sees accepted written }) sees.up message moment)
+  -- the number that it carries
+  abbrev number : PacketOut → ℕ
+  number m = number_in (packet_in state m.buffer)
 
-pub reaction_outputs : (s : Settings) (sight : Sight) (policy : SwitchView) (known : List (List ℕ)) (features : Features) (slot : ℕ) (message : List ℕ) (moment : ℕ) (r : Reaction)
-    → Sees s sight.view policy known features slot → IsReaction s sight (Msg message moment) r → All (IsSentThat (OutputsToOwnPorts policy.rules slot) (SendsToOwnPorts policy.rules slot)) r.to_switch.items
-reaction_outputs s sight policy known features slot message moment r sees is =
-    let P = OutputsToOwnPorts policy.rules slot in
-    let Q = SendsToOwnPorts policy.rules slot in
-    subst (All (IsSentThat P Q)) (sym is.to_switch)
-    (all_sent s sight P Q (record { flow_mods = outputs_seen s sight policy known features slot sees; packet_outs = out_outputs_seen s sight policy known features slot sees }) sees.up message moment)
+  no_number : (m : PacketOut) → m.buffer ≡ NO_BUFFER → number m ≡ NO_BUFFER
+  no_number m is = ap (λ (buffer : ℕ). number_in (packet_in state buffer)) is
 
-pub reaction_leaves : (s : Settings) (sight : Sight) (policy : SwitchView) (known : List (List ℕ)) (features : Features) (slot : ℕ) (message : List ℕ) (moment : ℕ) (r : Reaction)
-    → IsSwitchPolicy policy.slices policy.rules → Sees s sight.view policy known features slot → IsReaction s sight (Msg message moment) r
-    → All (IsSentThat (LeavesOtherHeaders policy.rules slot) ChangesNoTable) r.to_switch.items
-reaction_leaves s sight policy known features slot message moment r accepted sees is =
-    let P = LeavesOtherHeaders policy.rules slot in
-    subst (All (IsSentThat P ChangesNoTable)) (sym is.to_switch)
-    (all_sent s sight P ChangesNoTable (record {
+  numbered_out : (m : PacketOut) (named : Option HeldPacket)
+      → record (out_with [] ground m named) { buffer = number m } ≡ record (sent_out_with named ground m (list_for ground m (origin_with named m))) { buffer = number m }
+  numbered_out m None = refl
+  numbered_out m (Some packet) = refl
+
+  -- what holds in each of the three ways, with this number, holds of what is sent
+  out_from : (Q : PacketOut → Type 0) (m : PacketOut) → packet_out_fault ground m ≡ None → HoldsOfOuts (λ (out : PacketOut). Q (record out { buffer = number m })) [] ground m → Q (packet_out_from state ground m)
+  out_from Q m none holds =
+      subst Q (numbered_out m (packet_at ground m.buffer)) (out_holds (λ (out : PacketOut). Q (record out { buffer = number m })) [] ground m none holds)
+
+  -- a packet that is found is one that the state holds
+  found_in : (P : Held → Type 0) (none : Bool) (buffer : ℕ) (held : List Held) (packet : Held) → All P held → (if none then None else held_under buffer held) ≡ Some packet → P packet
+  found_in P true buffer held packet all is = absurd (true≢false (sym (ap is_some is)))
+  found_in P false buffer held packet all is = (found_holds P (numbered buffer) held packet all is).0
+
+  -- it is there under its number, with its header
+  all_kept : All (λ (packet : Held). IsKeptHeader state packet.physical packet.header) state.buffers.held
+  all_kept = λ k d within.
+      let packet = get_or state.buffers.held k d in
+      (k, packet, within, get_or_default state.buffers.held k packet d within, (refl, refl))
+
+  own_held : KeepsWritten rules slot state → (m : PacketOut) (packet : HeldPacket) (found : Option Held) → packet_in state m.buffer ≡ found → option_map kept found ≡ Some packet
+      → (h : Header) × IsKeptHeader state (number_in found) h × Writes rules slot h
+  own_held written m packet None is named = absurd (true≢false (sym (ap is_some named)))
+  own_held written m packet (Some held) is named = (
+    held.header,
+    found_in (λ (other : Held). IsKeptHeader state other.physical other.header) (m.buffer == NO_BUFFER) m.buffer state.buffers.held held all_kept is,
+    found_in (λ (other : Held). Writes rules slot other.header) (m.buffer == NO_BUFFER) m.buffer state.buffers.held held written is,
+  )
+
+  out_lies_from : (slices : List Slice) → IsSwitchPolicy slices rules → KeepsWritten rules slot state → (m : PacketOut) → packet_out_fault ground m ≡ None
+      → SendsOwnPacket (IsKeptHeader state) rules slot (packet_out_from state ground m)
+  out_lies_from slices accepted written m none =
+      out_from (SendsOwnPacket (IsKeptHeader state) rules slot) m none (record {
+        held = λ packet is. inl (own_held written m packet (packet_in state m.buffer) refl (kept_packet state ground m.buffer refl ∙ is));
+        probe = λ comes is. inr (no_number m comes.0, came_in ground rules slot m.in_port refl refl comes.1, inr (IsProbe-marked slot m is));
+        carried = λ comes is lies. inr (no_number m comes.0, came_in ground rules slot m.in_port refl refl comes.1, inl (carries_written slices rules accepted ground slot m refl lies));
+      })
+
+  -- what it carries is no probe if the slice's message wasn't
+  same_probe_from : (m : PacketOut) → m.buffer ≡ NO_BUFFER → (number m == NO_BUFFER && (carried_header m).dl_type == 0x88cc) ≡ is_probe m
+  same_probe_from m is = ap (λ (n : ℕ). n == NO_BUFFER && (carried_header m).dl_type == 0x88cc) (no_number m is ∙ sym is)
+
+  out_outputs_from : (m : PacketOut) → packet_out_fault ground m ≡ None → SendsToOwnPorts rules slot (packet_out_from state ground m)
+  out_outputs_from m none =
+      out_from (SendsToOwnPorts rules slot) m none (record {
+        held = λ packet is. (
+          All-weaker (HasWay rules slot (origins.Packet packet.header)) (SendsToOwnPort rules slot) (named_out rules slot packet.header) (list_for ground m (origins.Packet packet.header)) (ways_from m (origins.Packet packet.header)),
+          λ probe. absurd (true≢false (sym (and_parts (number m == NO_BUFFER) ((header_of_packet packet.header.in_port []).dl_type == 0x88cc) probe).1 ∙ not_lldp packet.header.in_port)),
+        );
+        probe = λ comes is.
+            let way = ways_from m (origins.Probe m.in_port) in (
+              All-weaker (HasWay rules slot (origins.Probe m.in_port)) (SendsToOwnPort rules slot) (λ action has. (named_probe rules slot m.in_port action has).0) (list_for ground m (origins.Probe m.in_port)) way,
+              λ probe. All-weaker (HasWay rules slot (origins.Probe m.in_port)) (SendsProbeToOwnPort rules slot) (λ action has. (named_probe rules slot m.in_port action has).1) (list_for ground m (origins.Probe m.in_port)) way,
+            );
+        carried = λ comes is lies. (
+          All-weaker (HasWay rules slot (origins.Packet (carried_header m))) (SendsToOwnPort rules slot) (named_out rules slot (carried_header m)) (list_for ground m (origins.Packet (carried_header m))) (ways_from m (origins.Packet (carried_header m))),
+          λ probe. absurd (true≢false (sym probe ∙ same_probe_from m comes.0 ∙ is)),
+        );
+      })
+
+pub reaction_lies : (policy : SwitchView) (known : List (List ℕ)) (state : SliceState) (slot : ℕ) (message : List ℕ) (sent : List (List ℕ))
+    → IsSwitchPolicy policy.slices policy.rules → KeepsWritten policy.rules slot state → AreSentOn policy.rules slot known state message (read_controller message) sent
+    → All (IsSentThat (LiesInFlowspace policy.rules slot) (SendsOwnPacket (IsKeptHeader state) policy.rules slot)) sent
+reaction_lies policy known state slot message sent accepted written is =
+    all_sent policy.rules slot known state is.0 is.1 (LiesInFlowspace policy.rules slot) (SendsOwnPacket (IsKeptHeader state) policy.rules slot)
+    (record { flow_mods = lies_from policy.rules slot known state is.0 is.1 policy.slices accepted; packet_outs = out_lies_from policy.rules slot known state is.0 is.1 policy.slices accepted written }) message sent is.2
+
+pub reaction_outputs : (policy : SwitchView) (known : List (List ℕ)) (state : SliceState) (slot : ℕ) (message : List ℕ) (sent : List (List ℕ))
+    → AreSentOn policy.rules slot known state message (read_controller message) sent → All (IsSentThat (OutputsToOwnPorts policy.rules slot) (SendsToOwnPorts policy.rules slot)) sent
+reaction_outputs policy known state slot message sent is =
+    all_sent policy.rules slot known state is.0 is.1 (OutputsToOwnPorts policy.rules slot) (SendsToOwnPorts policy.rules slot)
+    (record { flow_mods = outputs_from policy.rules slot known state is.0 is.1; packet_outs = out_outputs_from policy.rules slot known state is.0 is.1 }) message sent is.2
+
+pub reaction_leaves : (policy : SwitchView) (known : List (List ℕ)) (state : SliceState) (slot : ℕ) (message : List ℕ) (sent : List (List ℕ))
+    → IsSwitchPolicy policy.slices policy.rules → AreSentOn policy.rules slot known state message (read_controller message) sent
+    → All (IsSentThat (LeavesOtherHeaders policy.rules slot) ChangesNoTable) sent
+reaction_leaves policy known state slot message sent accepted is =
+    all_sent policy.rules slot known state is.0 is.1 (LeavesOtherHeaders policy.rules slot) ChangesNoTable
+    (record {
       flow_mods = λ m.
-          All-weaker (LiesInFlowspace policy.rules slot) P (λ sent lies. leaves policy.rules slot sent lies) (flow_mods_numbered sight.came (ground s sight) m)
-          (lies_seen s sight policy known features slot sees accepted m);
+          All-weaker (LiesInFlowspace policy.rules slot) (LeavesOtherHeaders policy.rules slot) (λ one lies. leaves policy.rules slot one lies)
+          (flow_mods_from state (ground_at policy.rules slot known is.0 is.1 state) m) (lies_from policy.rules slot known state is.0 is.1 policy.slices accepted m);
       packet_outs = λ m none. tt;
-    }) sees.up message moment)
+    }) message sent is.2
+
+-- ---- states of histories
+
+pub kept_are_written : (policy : PolicyView) (h : List Timed) (slot : ℕ) (state : SliceState) → SliceStands (settings_in policy slot h) (side_of policy slot h).sight state → KeepsWritten (rules_in policy h) slot state
+kept_are_written policy h slot state stands =
+    let IsWritten = λ (packet : Held). Writes (rules_in policy h) slot packet.header in
+    subst (All IsWritten) (sym stands.held)
+    (All-map IsWritten (held_as (side_of policy slot h).sight.came) (held_packets (past_of (settings_in policy slot h) (view_of policy slot h))) (held_are_written policy h slot))

@@ -65,7 +65,8 @@ use Rattle.desk_words.proofs.Silence.{sees_nothing}
 use Rattle.desk_words.proofs.Seen.{seen}
 use Rattle.lane_laws.specs.Lane.{IsEitherThat, AsksForReply, IsSentThat, LiesInFlowspace, NamesOwnPort, OutputsToOwnPorts, LeavesOtherHeaders, SendsOwnPacket, SendsToOwnPorts, ChangesNoTable, IsBufferHeader, CarriesOwnBuffer, SendsOwnBuffer, IsOwnBuffer, HoldsWritten, rules_in, settings_in, ports_in, ground_at, switch_number, flow_mods_at, packet_out_at, KeepsRate, IsPermitted, IsPermittedOut, IsPermittedQuestion, IsAnyPermitted, AsksOwnPort}
 use Rattle.lane_laws.proofs.Keeping.{IsKept, kept_now}
-use Rattle.lane_laws.proofs.Forwarded.{IsQuestion, put_whole, out_whole, question_whole, put_or_none}
+use Rattle.slice_side.specs.Checking.{IsQuestion}
+use Rattle.lane_laws.proofs.Forwarded.{put_whole, out_whole, question_whole, put_or_none}
 use Rattle.lane_laws.proofs.Asked.{asks_for_reply, owns, own_may, may_be}
 use Rattle.lane_laws.proofs.Own.{each_sent, sent_within, permitted_own, permitted_ways, permitted_alike, HoldsOfLists, given_holds, sent_holds}
 use Rattle.lane_laws.proofs.Outs.{list_for, out_with, out_holds, packet_holds, out_lies, out_outputs}

@@ -26,6 +26,7 @@ use Rattle.flowspace.specs.declared.rules.Rule.{Rule}
 use Rattle.flowspace.specs.Owners.{Writes, HasPort}
 use Rattle.flowspace.specs.Policies.{PolicyView}
 use Rattle.port_view.specs.SlicePorts.{ports_of_slice}
+use Rattle.flow_book.specs.declared.state.SliceState.{SliceState}
 use Rattle.flowmod_expand.specs.Messages.{sent_from}
 use Rattle.action_check.specs.declared.origin.Origin.TheVariants.{Piece, Packet}
 use Rattle.action_check.specs.Soundness.{IsSound}
@@ -237,13 +238,17 @@ SendsOwnBuffer policy slot h m = (m.buffer ≡ NO_BUFFER) ⊎ IsOwnBuffer policy
 
 -- ---- packets that a slice holds
 
--- a header is that of a packet which the slice holds, and which came with this number
-abbrev pub IsHeldHeader : Settings → Sight → ℕ → Header → Type 0
-IsHeldHeader s sight number header = Any (λ packet. (number_of sight.came packet.ordinal ≡ number) × (packet.header ≡ header)) (held_packets (past_of s sight.view))
-
 -- the slice writes the header of each packet that it holds
 abbrev pub HoldsWritten : List Rule → ℕ → Settings → Sight → Type 0
 HoldsWritten rules slot s sight = All (λ packet. Writes rules slot packet.header) (held_packets (past_of s sight.view))
+
+-- so it is of each packet that a state of the slice holds
+abbrev pub KeepsWritten : List Rule → ℕ → SliceState → Type 0
+KeepsWritten rules slot state = All (λ packet. Writes rules slot packet.header) state.buffers.held
+
+-- a header is that of a packet which the state holds, and which the switch keeps under this number
+abbrev pub IsKeptHeader : SliceState → ℕ → Header → Type 0
+IsKeptHeader state number header = Any (λ packet. (packet.physical ≡ number) × (packet.header ≡ header)) state.buffers.held
 
 -- ---- after a history
 

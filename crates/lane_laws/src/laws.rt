@@ -13,10 +13,10 @@ ghost use Rattle.of10_stats.specs.Requests.{spell_request};
 ghost use Rattle.of10_message.specs.declared.controller.FromController.TheVariants as said;
 ghost use Rattle.stats_filter.specs.Asking.{asked_as};
 ghost use Rattle.flowspace.specs.Policies.{PolicyView, SwitchView, IsPolicy, IsSwitchPolicy, AreNormal};
-ghost use Rattle.of10_port.specs.declared.features.Features.{Features};
-ghost use Rattle.slice_words.specs.Items.{Settings, Sight, Msg};
-ghost use Rattle.slice_side.specs.declared.answered.Reaction.{Reaction};
-ghost use Rattle.slice_side.specs.Reactions.{Sees, IsReaction};
+ghost use Rattle.of10_message.specs.Controller.{read_controller};
+ghost use Rattle.flow_book.specs.declared.state.SliceState.{SliceState};
+ghost use Rattle.slice_words.specs.Standing.{SliceStands};
+ghost use Rattle.slice_side.specs.Checking.{AreSentOn};
 ghost use Rattle.port_view.specs.SlicePorts.{flooded};
 ghost use Rattle.flowmod_expand.specs.Pieces.{pieces_of};
 ghost use Rattle.action_check.specs.declared.origin.Origin.TheVariants.{Piece};
@@ -27,7 +27,7 @@ ghost use Rattle.desk_words.specs.declared.event.Event.TheVariants.{SliceMsg};
 ghost use Rattle.desk_words.specs.declared.event.Timed.{Timed};
 ghost use Rattle.desk_words.specs.Histories.{side_of, is_slice_up};
 ghost use Rattle.desk_words.specs.Sent.{lane_by};
-ghost use Rattle.lane_laws.specs.Lane.{IsSentThat, LiesInFlowspace, OutputsToOwnPorts, LeavesOtherHeaders, StaysWithin, SendsOwnPacket, SendsToOwnPorts, ChangesNoTable, SendsWithin, IsReadThat, IsOfBytes, IsBufferHeader, CarriesOwnBuffer, SendsOwnBuffer, HoldsWritten, IsHeldHeader, rules_in, settings_in, ports_in, ground_at, flow_mods_at, packet_out_at, IsPermitted, IsPermittedOut, IsPermittedQuestion, IsAnyPermitted};
+ghost use Rattle.lane_laws.specs.Lane.{IsSentThat, LiesInFlowspace, OutputsToOwnPorts, LeavesOtherHeaders, StaysWithin, SendsOwnPacket, SendsToOwnPorts, ChangesNoTable, SendsWithin, IsReadThat, IsOfBytes, IsBufferHeader, CarriesOwnBuffer, SendsOwnBuffer, HoldsWritten, KeepsWritten, IsKeptHeader, rules_in, settings_in, ports_in, ground_at, flow_mods_at, packet_out_at, IsPermitted, IsPermittedOut, IsPermittedQuestion, IsAnyPermitted};
 
 /// Whatever a message of a slice has sent to the switch is a flow-mod, and the slice writes each header of its
 /// match; or it is a packet-out of a packet that the slice writes, or of a probe with the slice's mark; or it is
@@ -107,17 +107,19 @@ pub fn permitted_questions_are_sent()
         → IsPermittedQuestion policy slot h timed.moment message (said.QueueGetConfigRequest port) → lane_by policy h timed ≡ message_of QUEUE_GET_CONFIG_REQUEST (ground_at policy slot h).xid (drop 8 message) ∷ [] }
 {}
 
-/// The first three hold of what `slice_side::react` has sent on, for the policy and the ports that it is given,
-/// where the slice writes the header of each packet that it holds. In the place of the header under a number is
-/// that of the packet that is held.
+/// The first three hold of what `slice_side::react` has sent on by its clause `sent`, for the policy, the ports
+/// and the state that it is given, whatever the state stands for, where the slice writes the header of each packet
+/// that the state holds. In the place of the header under a number is that of the packet that is held. Where the
+/// state stands for what the slice sees of a history, the slice writes these headers.
 pub fn reactions_stay_within_the_slice()
-    ensures flowspace { (s : Settings) (sight : Sight) (policy : SwitchView) (known : List (List ℕ)) (features : Features) (slot : ℕ) (message : List ℕ) (moment : ℕ) (r : Reaction)
-        → IsSwitchPolicy policy.slices policy.rules → Sees s sight.view policy known features slot → HoldsWritten policy.rules slot s sight → IsReaction s sight (Msg message moment) r
-        → All (IsSentThat (LiesInFlowspace policy.rules slot) (SendsOwnPacket (IsHeldHeader s sight) policy.rules slot)) r.to_switch.items }
-    ensures ports { (s : Settings) (sight : Sight) (policy : SwitchView) (known : List (List ℕ)) (features : Features) (slot : ℕ) (message : List ℕ) (moment : ℕ) (r : Reaction)
-        → Sees s sight.view policy known features slot → IsReaction s sight (Msg message moment) r
-        → All (IsSentThat (OutputsToOwnPorts policy.rules slot) (SendsToOwnPorts policy.rules slot)) r.to_switch.items }
-    ensures headers { (s : Settings) (sight : Sight) (policy : SwitchView) (known : List (List ℕ)) (features : Features) (slot : ℕ) (message : List ℕ) (moment : ℕ) (r : Reaction)
-        → IsSwitchPolicy policy.slices policy.rules → Sees s sight.view policy known features slot → IsReaction s sight (Msg message moment) r
-        → All (IsSentThat (LeavesOtherHeaders policy.rules slot) ChangesNoTable) r.to_switch.items }
+    ensures flowspace { (policy : SwitchView) (known : List (List ℕ)) (state : SliceState) (slot : ℕ) (message : List ℕ) (sent : List (List ℕ))
+        → IsSwitchPolicy policy.slices policy.rules → KeepsWritten policy.rules slot state → AreSentOn policy.rules slot known state message (read_controller message) sent
+        → All (IsSentThat (LiesInFlowspace policy.rules slot) (SendsOwnPacket (IsKeptHeader state) policy.rules slot)) sent }
+    ensures ports { (policy : SwitchView) (known : List (List ℕ)) (state : SliceState) (slot : ℕ) (message : List ℕ) (sent : List (List ℕ))
+        → AreSentOn policy.rules slot known state message (read_controller message) sent
+        → All (IsSentThat (OutputsToOwnPorts policy.rules slot) (SendsToOwnPorts policy.rules slot)) sent }
+    ensures headers { (policy : SwitchView) (known : List (List ℕ)) (state : SliceState) (slot : ℕ) (message : List ℕ) (sent : List (List ℕ))
+        → IsSwitchPolicy policy.slices policy.rules → AreSentOn policy.rules slot known state message (read_controller message) sent
+        → All (IsSentThat (LeavesOtherHeaders policy.rules slot) ChangesNoTable) sent }
+    ensures states { (policy : PolicyView) (h : List Timed) (slot : ℕ) (state : SliceState) → SliceStands (settings_in policy slot h) (side_of policy slot h).sight state → KeepsWritten (rules_in policy h) slot state }
 {}

@@ -6,5 +6,6 @@ mod Inquiring
 mod Changing
 pub mod Answering
 mod Bytes
-mod Packets
+pub mod Packets
 mod Outs
+mod Sending

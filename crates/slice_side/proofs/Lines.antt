@@ -13,14 +13,14 @@ use Rattle.of10_action.specs.declared.action.Action.{Action}
 use Rattle.flowmod_expand.specs.Messages.{are_too_large, flow_messages, Gives}
 use Rattle.flowmod_expand.specs.declared.fault.BuildFault.{BuildFault}
 use Rattle.flowmod_expand.specs.declared.fault.BuildFault.TheVariants.{TooLarge}
-use Rattle.slice_words.specs.FlowMods.{Ground, first_refusal, list_given, permitted_on, entry_not_permitted, bad_command, first_some, wrong_command, emergency, buffer_not_held, outside_flowspace, forbidden_action, first_forbidden, too_large, is_too_long, pieces_on, lists_on, packet_of, carrier_of, sent_on, flow_mods_on, is_packet_in, unknown_buffer, overlapping, over_quota, flow_mod_fault, too_many_actions, bad_action, refused_where}
+use Rattle.slice_words.specs.FlowMods.{Ground, first_refusal, list_given, permitted_on, entry_not_permitted, bad_command, first_some, wrong_command, emergency, buffer_not_held, outside_flowspace, forbidden_action, first_forbidden, too_large, is_too_long, pieces_on, lists_on, sent_on, flow_mods_on, is_packet_in, unknown_buffer, overlapping, over_quota, flow_mod_fault, too_many_actions, bad_action, refused_where}
 use Rattle.slice_words.specs.Alone.{rendered}
-use Rattle.slice_words.proofs.Forwarding.{numbered, rendered_sent, same_large}
+use Rattle.slice_words.proofs.Forwarding.{rendered_sent, same_large}
 use Rattle.flow_book.specs.declared.state.SliceState.{SliceState}
 use Rattle.slice_words.specs.Buffers.{HeldPacket}
 use Rattle.slice_side.specs.Reactions.{kept}
-use Rattle.slice_side.proofs.Packets.{kept_for}
-use Rattle.slice_side.specs.Checking.{not_held_in, PassesEarly, HasLists, IsListing, IsListed}
+use Rattle.slice_side.proofs.Packets.{kept_for, carrier_come}
+use Rattle.slice_side.specs.Checking.{not_held_in, HaveCome, flow_mods_from, PassesEarly, HasLists, IsListing, IsListed}
 use Rattle.slice_side.specs.declared.pieces.Listing.{Listing}
 use Rattle.slice_side.specs.declared.pieces.Listing.TheVariants.{Given, TooMany, Forbidden}
 
@@ -92,13 +92,17 @@ module _ (g : Ground) (m : FlowMod) where
   built_late pieces lists buffer fault passes has same small is = refused_late passes has.0 has.2 (sizes_same pieces lists buffer has same ∙ small) ∙ sym is
 
   -- they are the messages for the switch, with the number of the packet that one carries
-  pub built_messages : (came : List ℕ) (pieces : List Pattern) (lists : List (List Action)) (buffer : Option (ℕ × ℕ)) (frames : List (List ℕ)) → HasLists g m lists → pieces ≡ pieces_on g m → frames ≡ flow_messages m g.xid pieces lists buffer
-      → buffer ≡ numbered came (carrier_of (packet_of g m) pieces) → frames ≡ map (rendered came) (sent_on g m)
-  built_messages came pieces lists buffer frames has same is carried =
+  pub built_messages : (pieces : List Pattern) (lists : List (List Action)) (carrier buffer : Option (ℕ × ℕ)) (frames : List (List ℕ)) → HasLists g m lists → pieces ≡ pieces_on g m → frames ≡ flow_messages m g.xid pieces lists carrier
+      → carrier ≡ buffer → frames ≡ flow_messages m g.xid (pieces_on g m) (lists_on g m) buffer
+  built_messages pieces lists carrier buffer frames has same is carried =
       is
       ∙ ap (flow_messages m g.xid pieces lists) carried
-      ∙ ap₂ (λ (ps : List Pattern) (ls : List (List Action)). flow_messages m g.xid ps ls (numbered came (carrier_of (packet_of g m) ps))) same has.1
-      ∙ sym (rendered_sent came g m)
+      ∙ ap₂ (λ (ps : List Pattern) (ls : List (List Action)). flow_messages m g.xid ps ls buffer) same has.1
+
+  -- under the numbers with which packets came they are those that the slice has sent on
+  pub rendered_from : (came : List ℕ) (state : SliceState) → HaveCome came state.buffers.held → g.held ≡ map kept state.buffers.held → map spell_flow_mod (flow_mods_from state g m) ≡ map (rendered came) (sent_on g m)
+  rendered_from came state come same =
+      ap (flow_messages m g.xid (pieces_on g m) (lists_on g m)) (carrier_come came state g m (pieces_on g m) come same) ∙ sym (rendered_sent came g m)
 
   pub outside_refused : (pieces : List Pattern) → first_some (wrong_command m ∷ emergency m ∷ buffer_not_held g m ∷ []) ≡ None → pieces ≡ pieces_on g m → (not (is_delete m) && length pieces == 0) ≡ true
       → flow_mod_fault g m ≡ Some entry_not_permitted

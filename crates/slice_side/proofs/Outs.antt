@@ -24,12 +24,12 @@ use Rattle.slice_words.specs.Items.{lone_rules}
 use Rattle.slice_words.specs.Pasts.{SendsOut}
 use Rattle.slice_words.specs.Buffers.{HeldPacket}
 use Rattle.slice_words.specs.FlowMods.{Ground, packet_at, list_given, refused_where, first_some, unknown_buffer, bad_action, too_many_actions, is_too_long}
-use Rattle.slice_words.specs.PacketOuts.{packet_not_permitted, is_buffered_out, carried_header, is_probe, may_come_by, lies_aside, permitted_out, sent_out_with, sent_out, names_no_packet, comes_by_another, carries_another, code_given, packet_out_size, packet_out_fault}
+use Rattle.slice_words.specs.PacketOuts.{packet_not_permitted, is_buffered_out, carried_header, is_probe, may_come_by, lies_aside, permitted_out, sent_out_with, packet_out_on, sent_out, names_no_packet, comes_by_another, carries_another, code_given, packet_out_size, packet_out_fault}
 use Rattle.slice_words.specs.Alone.{rendered}
 use Rattle.slice_words.specs.Standing.{held_as}
 use Rattle.slice_words.proofs.LoneRules.{same_port, any_alone}
 use Rattle.slice_side.specs.Reactions.{kept, ground_at}
-use Rattle.slice_side.specs.Checking.{packet_in, HaveCome, number_in, early, MayBeSent}
+use Rattle.slice_side.specs.Checking.{packet_in, HaveCome, number_in, packet_out_from, early, MayBeSent}
 use Rattle.slice_side.proofs.Lines.{before, behind}
 use Rattle.slice_side.proofs.Packets.{kept_packet, come_packet}
 
@@ -85,20 +85,25 @@ module _ (g : Ground) (m : PacketOut) where
   pub out_not_refused : (actions : List Action) (size : ℕ) → MayBeSent g m actions → size ≡ packet_out_size (sent_out_with (packet_at g m.buffer) g m actions) → size ≤ 65535 → packet_out_fault g m ≡ None
   out_not_refused actions size may is small = out_by_size actions size false may is (fits size small)
 
-  -- as it is sent, with the switch's number of the packet that it names
   rendered_out : (came : List ℕ) (packet : Option HeldPacket) (actions : List Action)
       → spell_packet_out (record (sent_out_with packet g m actions) { buffer = number_in (option_map (held_as came) packet) }) ∷ []
       ≡ map (rendered came) (SendsOut (sent_out_with packet g m actions) (option_map (λ (held : HeldPacket). held.ordinal) packet) ∷ [])
   rendered_out came None actions = refl
   rendered_out came (Some packet) actions = refl
 
-  pub out_sent : (came : List ℕ) (state : SliceState) (actions : List Action) (out : PacketOut) → HaveCome came state.buffers.held → g.held ≡ map kept state.buffers.held → permitted_out g m ≡ Ok actions
-      → out ≡ record (sent_out_with (option_map kept (packet_in state m.buffer)) g m actions) { buffer = number_in (packet_in state m.buffer) } → spell_packet_out out ∷ [] ≡ map (rendered came) (sent_out g m)
-  out_sent came state actions out come same is built =
-      ap (λ (o : PacketOut). spell_packet_out o ∷ []) built
-      ∙ ap₂ (λ (packet : Option HeldPacket) (held : Option Held). spell_packet_out (record (sent_out_with packet g m actions) { buffer = number_in held }) ∷ []) (kept_packet state g m.buffer same) (come_packet came state g m.buffer come same)
-      ∙ rendered_out came (packet_at g m.buffer) actions
-      ∙ ap (λ (permitted : Result (List Action) ℕ). map (rendered came) (SendsOut (sent_out_with (packet_at g m.buffer) g m (list_given permitted)) (option_map (λ (held : HeldPacket). held.ordinal) (packet_at g m.buffer)) ∷ [])) (sym is)
+  -- as it is sent, with the switch's number of the packet that it names
+  pub out_sent : (state : SliceState) (actions : List Action) (out : PacketOut) → g.held ≡ map kept state.buffers.held → permitted_out g m ≡ Ok actions
+      → out ≡ record (sent_out_with (option_map kept (packet_in state m.buffer)) g m actions) { buffer = number_in (packet_in state m.buffer) } → out ≡ packet_out_from state g m
+  out_sent state actions out same is built =
+      built
+      ∙ ap (λ (packet : Option HeldPacket). record (sent_out_with packet g m actions) { buffer = number_in (packet_in state m.buffer) }) (kept_packet state g m.buffer same)
+      ∙ ap (λ (permitted : Result (List Action) ℕ). record (sent_out_with (packet_at g m.buffer) g m (list_given permitted)) { buffer = number_in (packet_in state m.buffer) }) (sym is)
+
+  -- under the numbers with which packets came it is the one that the slice has sent on
+  pub out_rendered : (came : List ℕ) (state : SliceState) → HaveCome came state.buffers.held → g.held ≡ map kept state.buffers.held → spell_packet_out (packet_out_from state g m) ∷ [] ≡ map (rendered came) (sent_out g m)
+  out_rendered came state come same =
+      ap (λ (held : Option Held). spell_packet_out (record (packet_out_on g m) { buffer = number_in held }) ∷ []) (come_packet came state g m.buffer come same)
+      ∙ rendered_out came (packet_at g m.buffer) (list_given (permitted_out g m))
 
   number_of_kept : (packet : Option Held) → option_map (λ (held : Held). m.buffer) packet ≡ option_map (λ (held : HeldPacket). m.buffer) (option_map kept packet)
   number_of_kept None = refl

@@ -1,5 +1,5 @@
 -- What comes of actions, flow-mods and packet-outs, in words of the code.
-use Rattle.std.specs.Prelude.{ℕ, ◌≡◌, ◌≢◌, ◌≤◌, ◌==◌, ◌&&◌, not, Bool, true, false, if◌then◌else◌, List, [], ◌∷◌, length, map, AllPairs, Option, Some, None, option_map, Result, Ok, Err}
+use Rattle.std.specs.Prelude.{ℕ, ◌≡◌, ◌≢◌, ◌⊎◌, ◌≤◌, ◌==◌, ◌&&◌, not, Bool, true, false, if◌then◌else◌, List, [], ◌∷◌, length, map, drop, AllPairs, Option, Some, None, option_map, Result, Ok, Err}
 use Rattle.std.specs.List.{list_any}
 use Rattle.of10_model.specs.declared.pattern.Pattern.{Pattern}
 use Rattle.of10_action.specs.declared.action.Action.{Action}
@@ -7,17 +7,27 @@ use Rattle.of10_flow.specs.declared.flow_mod.FlowMod.{FlowMod}
 use Rattle.of10_action.specs.declared.action.Action.TheVariants.{Output}
 use Rattle.of10_flow.specs.declared.packet_out.PacketOut.{PacketOut}
 use Rattle.of10_flow.specs.declared.protocol.TheConstants.{NO_BUFFER}
+use Rattle.of10_flow.specs.FlowMods.{spell_flow_mod}
+use Rattle.of10_flow.specs.PacketOuts.{spell_packet_out}
 use Rattle.of10_flow.specs.Tables.{is_delete}
+use Rattle.of10_ctl.specs.declared.kind.TheConstants.{BARRIER_REQUEST, QUEUE_GET_CONFIG_REQUEST}
+use Rattle.of10_ctl.specs.Frames.{message_of}
+use Rattle.of10_message.specs.declared.controller.FromController.{FromController}
+use Rattle.of10_message.specs.declared.controller.FromController.TheVariants as said
+use Rattle.flowspace.specs.declared.rules.Rule.{Rule}
+use Rattle.flowmod_expand.specs.Messages.{sent_from}
+use Rattle.stats_filter.specs.Asking.{question_for}
 use Rattle.buffer_map.specs.declared.held.Held.{Held}
 use Rattle.buffer_map.specs.Buffers.{held_under}
 use Rattle.flow_book.specs.declared.state.SliceState.{SliceState}
-use Rattle.slice_words.specs.Alone.{rendered}
+use Rattle.slice_words.specs.Messages.{Reading}
+use Rattle.slice_words.specs.Questions.{is_port_on, may_ask}
 use Rattle.slice_words.specs.Standing.{held_as}
-use Rattle.slice_words.specs.PacketOuts.{permitted_out, sent_out, names_no_packet, comes_by_another, carries_another, packet_out_fault}
-use Rattle.slice_side.specs.Reactions.{kept}
+use Rattle.slice_words.specs.PacketOuts.{permitted_out, packet_out_on, names_no_packet, comes_by_another, carries_another, packet_out_fault}
+use Rattle.slice_side.specs.Reactions.{kept, ground_at}
 use Rattle.slice_side.specs.declared.packet_outs.PacketOutcome.{PacketOutcome}
 use Rattle.slice_side.specs.declared.packet_outs.PacketOutcome.TheVariants as packet_outcome
-use Rattle.slice_words.specs.FlowMods.{Ground, pieces_on, first_refusal, list_given, is_too_long, first_forbidden, lists_on, first_some, packet_at, packet_of, is_packet_in, place_of, carrier_of, sent_on, wrong_command, emergency, buffer_not_held, outside_flowspace, flow_mod_fault}
+use Rattle.slice_words.specs.FlowMods.{Ground, pieces_on, first_refusal, list_given, is_too_long, first_forbidden, lists_on, first_some, packet_at, packet_of, is_packet_in, place_of, carrier_of, wrong_command, emergency, buffer_not_held, outside_flowspace, flow_mod_fault}
 use Rattle.slice_side.specs.declared.pieces.Checked.{Checked}
 use Rattle.slice_side.specs.declared.pieces.Checked.TheVariants as checked
 use Rattle.slice_side.specs.declared.pieces.Listing.{Listing}
@@ -52,6 +62,35 @@ carrier_in (Some packet) pieces = option_map (λ place. (place, packet.physical)
 abbrev pub number_in : Option Held → ℕ
 number_in None = NO_BUFFER
 number_in (Some packet) = packet.physical
+
+-- ---- what is sent on, by the state alone
+
+-- the flow-mods for the pieces of a match: the first whose piece has the header of the packet that is named carries the switch's number for it
+abbrev pub flow_mods_from : SliceState → Ground → FlowMod → List FlowMod
+flow_mods_from state g m = sent_from 0 m g.xid (pieces_on g m) (lists_on g m) (carrier_in (packet_for state m) (pieces_on g m))
+
+-- the packet-out that is sent, with the switch's number for the packet that is named
+abbrev pub packet_out_from : SliceState → Ground → PacketOut → PacketOut
+packet_out_from state g m = record (packet_out_on g m) { buffer = number_in (packet_in state m.buffer) }
+
+-- with this message, of which this was read, the slice may ask the switch this
+abbrev pub IsQuestion : Ground → List ℕ → FromController → List ℕ → Type 0
+IsQuestion g message (said.StatsRequest request) question = (may_ask g request ≡ true) × (question_for request g.xid ≡ Some question)
+IsQuestion g message said.BarrierRequest question = question ≡ message_of BARRIER_REQUEST g.xid []
+IsQuestion g message (said.QueueGetConfigRequest port) question = (is_port_on g port ≡ true) × (question ≡ message_of QUEUE_GET_CONFIG_REQUEST g.xid (drop 8 message))
+IsQuestion g message asked question = ⊥
+
+-- this is sent on for a message of which this was read: nothing; the flow-mods for one that no line refuses; the packet-out for one that no line refuses; or one question that the slice may ask
+abbrev pub IsSentOn : SliceState → Ground → List ℕ → Reading → List (List ℕ) → Type 0
+IsSentOn state g message read sent =
+    (sent ≡ [])
+    ⊎ (((m : FlowMod) × (flow_mod_fault g m ≡ None) × (sent ≡ map spell_flow_mod (flow_mods_from state g m)))
+    ⊎ (((m : PacketOut) × (packet_out_fault g m ≡ None) × (sent ≡ spell_packet_out (packet_out_from state g m) ∷ []))
+    ⊎ ((asked : FromController) × (question : List ℕ) × (read ≡ Ok asked) × IsQuestion g message asked question × (sent ≡ question ∷ []))))
+
+-- so it is by the rules of the switch, its ports and the slice's state, with some quota and some transaction id
+abbrev pub AreSentOn : List Rule → ℕ → List (List ℕ) → SliceState → List ℕ → Reading → List (List ℕ) → Type 0
+AreSentOn rules slot known state message read sent = (quota : ℕ) × (xid : ℕ) × IsSentOn state (ground_at rules slot known quota xid state) message read sent
 
 -- ---- ports
 
@@ -102,11 +141,11 @@ IsListed g m (listing.Forbidden code) = first_forbidden g m ≡ Some code
 abbrev pub PassesEarly : Ground → FlowMod → Type 0
 PassesEarly g m = (first_some (wrong_command m ∷ emergency m ∷ buffer_not_held g m ∷ []) ≡ None) × (outside_flowspace g m ≡ None)
 
--- the class and code of the first line that refuses it, or what is sent on for its pieces under the numbers with which packets came, and the number of the packet that is used up
-abbrev pub IsOutcome : List ℕ → Ground → FlowMod → Outcome → Type 0
-IsOutcome came g m (outcome.Refused class code) = flow_mod_fault g m ≡ Some (class, code)
-IsOutcome came g m (outcome.Sent frames pieces used) =
-    (flow_mod_fault g m ≡ None) × (frames.items ≡ map (rendered came) (sent_on g m)) × (pieces.items ≡ pieces_on g m)
+-- the class and code of the first line that refuses it, or what is sent on for its pieces, and the number of the packet that is used up
+abbrev pub IsOutcome : SliceState → Ground → FlowMod → Outcome → Type 0
+IsOutcome state g m (outcome.Refused class code) = flow_mod_fault g m ≡ Some (class, code)
+IsOutcome state g m (outcome.Sent frames pieces used) =
+    (flow_mod_fault g m ≡ None) × (frames.items ≡ map spell_flow_mod (flow_mods_from state g m)) × (pieces.items ≡ pieces_on g m)
     × (used ≡ option_map (λ own. m.buffer) (carrier_of (packet_of g m) (pieces_on g m)))
 
 -- the pieces of one that is sent on differ, and are few
@@ -124,8 +163,8 @@ early g m = names_no_packet g m ∷ comes_by_another g m ∷ carries_another g m
 abbrev pub MayBeSent : Ground → PacketOut → List Action → Type 0
 MayBeSent g m actions = (first_some (early g m) ≡ None) × (permitted_out g m ≡ Ok actions) × (is_too_long actions ≡ false)
 
--- the class and code of the first line that refuses it, or what is sent on for it under the numbers with which packets came, and the number of the packet that is used up
-abbrev pub IsPacketOutcome : List ℕ → Ground → PacketOut → PacketOutcome → Type 0
-IsPacketOutcome came g m (packet_outcome.Refused class code) = packet_out_fault g m ≡ Some (class, code)
-IsPacketOutcome came g m (packet_outcome.Sent frame used) =
-    (packet_out_fault g m ≡ None) × (frame ∷ [] ≡ map (rendered came) (sent_out g m)) × (used ≡ option_map (λ packet. m.buffer) (packet_at g m.buffer))
+-- the class and code of the first line that refuses it, or what is sent on for it, and the number of the packet that is used up
+abbrev pub IsPacketOutcome : SliceState → Ground → PacketOut → PacketOutcome → Type 0
+IsPacketOutcome state g m (packet_outcome.Refused class code) = packet_out_fault g m ≡ Some (class, code)
+IsPacketOutcome state g m (packet_outcome.Sent frame used) =
+    (packet_out_fault g m ≡ None) × (frame ≡ spell_packet_out (packet_out_from state g m)) × (used ≡ option_map (λ packet. m.buffer) (packet_at g m.buffer))

@@ -1,14 +1,14 @@
 //! Flow-mods of a slice, line by line (OpenFlow 1.0.0, section 5.3.3; the order of the lines is this proxy's
 //! own rule).
 
-ghost use Rattle.std.specs.Prelude.{ℕ, ◌≡◌, ◌≢◌, ◌≤◌, ◌<◌, ◌==◌, ◌&&◌, not, ◌∷◌, [], length, map, AllPairs, IfOk, List, option_map};
+ghost use Rattle.std.specs.Prelude.{ℕ, ◌≡◌, ◌≢◌, ◌≤◌, ◌<◌, ◌==◌, ◌&&◌, not, ◌∷◌, [], length, map, AllPairs, IfOk, option_map};
 ghost use Rattle.of10_flow.specs.declared.protocol.TheConstants.{CHECK_OVERLAP, EMERG};
 ghost use Rattle.of10_flow.specs.Tables.{is_delete, has_flag};
 ghost use Rattle.slice_words.specs.FlowMods.{Ground, pieces_on, first_some, is_packet_in, wrong_command, emergency, refused_where, unknown_buffer, overlapping, over_quota};
 ghost use Rattle.slice_side.specs.Reactions.{kept, ground_at};
 ghost use Rattle.flowmod_expand.specs.Pieces.{pieces_of};
 ghost use Rattle.flow_book.specs.Books.{overlaps_in};
-ghost use Rattle.slice_side.specs.Checking.{packet_for, not_held_in, HaveCome, IsListed, PassesEarly, IsOutcome, HasDistinctPieces, HasLists};
+ghost use Rattle.slice_side.specs.Checking.{packet_for, not_held_in, IsListed, PassesEarly, IsOutcome, HasDistinctPieces, HasLists};
 
 use crate::held::{carrier, packet_at};
 use crate::pieces::{Listing, list_pieces, no_actions};
@@ -164,7 +164,7 @@ fn built(
     requires few { length pieces.items ≤ 256 }
     requires lists { length lists.now ≡ length pieces.items }
     ensures sound { IfOk result HasDistinctPieces }
-    ensures outcome { (came : List ℕ) → HaveCome came around.now.state.now.buffers.held → PassesEarly (ground_at around.now.policy.now.rules around.now.slot around.now.ports.now quota xid around.now.state.now) m.now → HasLists (ground_at around.now.policy.now.rules around.now.slot around.now.ports.now quota xid around.now.state.now) m.now lists.now → IfOk result (IsOutcome came (ground_at around.now.policy.now.rules around.now.slot around.now.ports.now quota xid around.now.state.now) m.now) }
+    ensures outcome { PassesEarly (ground_at around.now.policy.now.rules around.now.slot around.now.ports.now quota xid around.now.state.now) m.now → HasLists (ground_at around.now.policy.now.rules around.now.slot around.now.ports.now quota xid around.now.state.now) m.now lists.now → IfOk result (IsOutcome around.now.state.now (ground_at around.now.policy.now.rules around.now.slot around.now.ports.now quota xid around.now.state.now) m.now) }
 {
     let carrier = carrier(&packet_for(around.state, m), &pieces);
     match build(alloc, m, xid, &pieces, lists, carrier) {
@@ -191,7 +191,7 @@ pub(crate) fn outcome_of(
     m: &FlowMod,
 ) -> Result<Outcome, AllocError>
     ensures sound { IfOk result HasDistinctPieces }
-    ensures outcome { (came : List ℕ) → HaveCome came around.now.state.now.buffers.held → IfOk result (IsOutcome came (ground_at around.now.policy.now.rules around.now.slot around.now.ports.now quota xid around.now.state.now) m.now) }
+    ensures outcome { IfOk result (IsOutcome around.now.state.now (ground_at around.now.policy.now.rules around.now.slot around.now.ports.now quota xid around.now.state.now) m.now) }
 {
     match early_fault(around.state, m) {
         Some((class, code)) => return Ok(Outcome::Refused(class, code)),

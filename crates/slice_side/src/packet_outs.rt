@@ -1,7 +1,7 @@
 //! Packet-outs of a slice, line by line (OpenFlow 1.0.0, section 5.3.6; the order of the lines is this
 //! proxy's own rule).
 
-ghost use Rattle.std.specs.Prelude.{ℕ, ◌≡◌, ◌==◌, ◌&&◌, ◌||◌, not, is_none, if◌then◌else◌, List, IfOk, option_map};
+ghost use Rattle.std.specs.Prelude.{ℕ, ◌≡◌, ◌==◌, ◌&&◌, ◌||◌, not, is_none, if◌then◌else◌, IfOk, option_map};
 ghost use Rattle.std.specs.List.{list_any};
 ghost use Rattle.of10_model.specs.Pattern.{has};
 ghost use Rattle.of10_model.specs.Inclusion.{any_in_port};
@@ -11,7 +11,7 @@ ghost use Rattle.flowspace.specs.Rules.{is_written_by};
 ghost use Rattle.slice_words.specs.PacketOuts.{is_buffered_out, carried_header, is_probe, marked, origin_with, permitted_out, sent_out_with, packet_out_size};
 ghost use Rattle.slice_words.specs.FlowMods.{first_some};
 ghost use Rattle.slice_side.specs.Reactions.{kept, ground_at};
-ghost use Rattle.slice_side.specs.Checking.{packet_in, HaveCome, number_in, IsChecked, early, MayBeSent, IsPacketOutcome};
+ghost use Rattle.slice_side.specs.Checking.{packet_in, number_in, IsChecked, early, MayBeSent, IsPacketOutcome};
 
 use crate::held::packet_at;
 use crate::pieces::{Checked, check_actions};
@@ -236,7 +236,7 @@ fn sent(
     actions: Actions,
 ) -> Result<PacketOutcome, AllocError>
     requires { packet.now ≡ packet_in around.now.state.now m.now.buffer }
-    ensures { (came : List ℕ) (quota : ℕ) → HaveCome came around.now.state.now.buffers.held → MayBeSent (ground_at around.now.policy.now.rules around.now.slot around.now.ports.now quota xid around.now.state.now) m.now actions → IfOk result (IsPacketOutcome came (ground_at around.now.policy.now.rules around.now.slot around.now.ports.now quota xid around.now.state.now) m.now) }
+    ensures { (quota : ℕ) → MayBeSent (ground_at around.now.policy.now.rules around.now.slot around.now.ports.now quota xid around.now.state.now) m.now actions → IfOk result (IsPacketOutcome around.now.state.now (ground_at around.now.policy.now.rules around.now.slot around.now.ports.now quota xid around.now.state.now) m.now) }
 {
     let out = packet_out_for(alloc, around, xid, m, packet, actions)?;
     if size(&out) > MOST_BYTES {
@@ -256,7 +256,7 @@ pub(crate) fn packet_outcome(
     xid: u32,
     m: &PacketOut,
 ) -> Result<PacketOutcome, AllocError>
-    ensures { (came : List ℕ) (quota : ℕ) → HaveCome came around.now.state.now.buffers.held → IfOk result (IsPacketOutcome came (ground_at around.now.policy.now.rules around.now.slot around.now.ports.now quota xid around.now.state.now) m.now) }
+    ensures { (quota : ℕ) → IfOk result (IsPacketOutcome around.now.state.now (ground_at around.now.policy.now.rules around.now.slot around.now.ports.now quota xid around.now.state.now) m.now) }
 {
     let packet = packet_at(around.state, m.buffer);
     match early_fault(around, m, &packet) {

@@ -1,8 +1,10 @@
 ghost use Rattle.std.specs.Prelude.{◌≡◌, IfOk, Ok};
+ghost use Rattle.of10_message.specs.Controller.{read_controller};
 ghost use Rattle.slice_words.specs.Messages.{asks_switch};
 ghost use Rattle.slice_words.specs.Items.{Settings, Sight, Msg};
 ghost use Rattle.slice_words.specs.Standing.{SliceStands};
 ghost use Rattle.slice_side.specs.Reactions.{Sees, IsReaction, IsSound};
+ghost use Rattle.slice_side.specs.Checking.{AreSentOn};
 
 use crate::answered::Reaction;
 use crate::questions::question;
@@ -31,7 +33,8 @@ fn asks_switch(message: &FromController) -> bool
 
 /// What follows from a message of the controller of the slice at the slot, which came at the moment. It
 /// changes nothing: `reserve` makes the room for the change, and `apply` makes the change. `features` are
-/// those with which the switch told what it is.
+/// those with which the switch told what it is. What is sent on is told of every state; that it is the answer,
+/// of a state that stands for what the slice sees.
 pub fn react(
     alloc: Global,
     policy: &SwitchPolicy,
@@ -43,6 +46,7 @@ pub fn react(
     moment: u64,
 ) -> Result<Reaction, AllocError>
     ensures reaction { (s : Settings) (sight : Sight) → SliceStands s sight state.now → Sees s sight.view policy.now ports.now features.now slot → IfOk result (IsReaction s sight (Msg frame.now moment)) }
+    ensures sent { IfOk result (λ r. AreSentOn policy.now.rules slot ports.now state.now frame.now (read_controller frame.now) r.to_switch.items) }
     ensures sound { IfOk result (λ r. IsSound r.change) }
 {
     let around = Around {

@@ -101,6 +101,7 @@ pub(crate) fn unread(
     moment: u64,
 ) -> Result<Reaction, AllocError>
     ensures sound { IfOk result (λ r. IsSound r.change) }
+    ensures nothing { IfOk result (λ r. r.to_switch.items ≡ []) }
     ensures follows { (s : Settings) (sight : Sight) → IfOk result (Follows s sight frame.now (Err fault) (unread_answer fault frame.now) moment) }
 {
     match fault {
@@ -152,6 +153,7 @@ fn setting(
     moment: u64,
 ) -> Result<Reaction, AllocError>
     ensures sound { IfOk result (λ r. IsSound r.change) }
+    ensures nothing { IfOk result (λ r. r.to_switch.items ≡ []) }
     ensures follows { (s : Settings) (sight : Sight) → IfOk result (Follows s sight frame.now (Ok (said.SetConfig config.now)) (setting_answer config.now frame.now) moment) }
 {
     if config.flags != 0 {
@@ -206,6 +208,7 @@ pub(crate) fn local(
 ) -> Result<Reaction, AllocError>
     requires { asks_switch (Ok message.now) ≡ false }
     ensures sound { IfOk result (λ r. IsSound r.change) }
+    ensures nothing { IfOk result (λ r. r.to_switch.items ≡ []) }
     ensures follows { (s : Settings) (sight : Sight) (past : List Past) → Shown sight.view around.now.policy.now.rules around.now.ports.now around.now.features.now around.now.slot around.now.state.now.miss_send_len → IfOk result (Follows s sight frame.now (Ok message.now) (read_answer s sight.view past moment message.now frame.now) moment) }
 {
     match message {

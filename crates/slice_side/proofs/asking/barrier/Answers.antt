@@ -7,6 +7,7 @@ use Rattle.slice_words.specs.FlowMods.{ground_of}
 use Rattle.slice_words.specs.Questions.{asking, barrier_asked}
 use Rattle.slice_words.specs.Standing.{past_of}
 use Rattle.slice_side.proofs.Inquiring.{inquiry_result}
+use Rattle.slice_side.proofs.Sending.{question_sent}
 use Rattle.slice_side.proofs.asking.barrier.Goals as goal
 
 pub returns-clause-follows : goal.returns-clause-follows
@@ -15,3 +16,6 @@ returns-clause-follows c s sight stands sees =
     inquiry_result c.sending.result s sight c.args.frame.now (Ok said.BarrierRequest) c.args.moment (barrier_asked (ground_of s sight.view (past_of s sight.view))) c.in_ok-question.question c.asked-asked.result
     (ap asking (sym (c.in_ok-question.ensures.value ∙ ap (λ (xid : ℕ). message_of BARRIER_REQUEST xid []) xids)))
     refl c.asked-asked.ensures.value c.sending.ensures.to_slice c.sending.ensures.to_switch c.sending.ensures.close c.sending.ensures.change
+
+pub returns-clause-sent : goal.returns-clause-sent
+returns-clause-sent c = question_sent c.sending.result c.args.around.now.policy.now.rules c.args.around.now.slot c.args.around.now.ports.now c.args.around.now.state.now c.args.frame.now c.next-xid.result.1 said.BarrierRequest c.in_ok-question.question c.in_ok-question.ensures.value c.sending.ensures.to_switch

@@ -11,6 +11,7 @@ use Rattle.slice_words.proofs.LoneRules.{same_port}
 use Rattle.slice_side.proofs.Grounds.{same_but_booked}
 use Rattle.slice_side.proofs.Following.{refusal_result}
 use Rattle.slice_side.proofs.Inquiring.{queues_refused, queues_sent, inquiry_result}
+use Rattle.slice_side.proofs.Sending.{nothing_sent, question_sent}
 use Rattle.slice_side.proofs.asking.queues.Goals as goal
 
 pub returns-then-not-has_port-clause-follows : goal.returns-then-not-has_port-clause-follows
@@ -32,3 +33,13 @@ returns-clause-follows c s sight stands sees =
     ∙ same_port c.args.around.now.slot c.args.around.now.policy.now.rules c.args.port ∙ sym c.has_port.ensures.value ∙ c.if-not-has_port.false)
     ∙ ap asking (sym (c.in_ok-question.ensures.value ∙ ap₂ (λ (xid : ℕ) (body : List ℕ). message_of QUEUE_GET_CONFIG_REQUEST xid body) xids c.body.ensures)))
     refl c.asked-asked.ensures.value c.sending.ensures.to_slice c.sending.ensures.to_switch c.sending.ensures.close c.sending.ensures.change
+
+pub returns-then-not-has_port-clause-sent : goal.returns-then-not-has_port-clause-sent
+returns-then-not-has_port-clause-sent c = nothing_sent c.refused.result c.args.around.now.policy.now.rules c.args.around.now.slot c.args.around.now.ports.now c.args.around.now.state.now c.args.frame.now (Ok (said.QueueGetConfigRequest c.args.port)) c.refused.ensures.to_switch
+
+pub returns-clause-sent : goal.returns-clause-sent
+returns-clause-sent c = question_sent c.sending.result c.args.around.now.policy.now.rules c.args.around.now.slot c.args.around.now.ports.now c.args.around.now.state.now c.args.frame.now c.next-xid.result.1 (said.QueueGetConfigRequest c.args.port) c.in_ok-question.question (
+  same_port c.args.around.now.slot c.args.around.now.policy.now.rules c.args.port ∙ sym c.has_port.ensures.value ∙ c.if-not-has_port.false,
+  c.in_ok-question.ensures.value ∙ ap (λ (body : List ℕ). message_of QUEUE_GET_CONFIG_REQUEST c.next-xid.result.1 body) c.body.ensures,
+)
+    c.sending.ensures.to_switch

@@ -12,6 +12,7 @@ use Rattle.slice_words.specs.Standing.{past_of}
 use Rattle.slice_side.proofs.Grounds.{same_but_booked}
 use Rattle.slice_side.proofs.Following.{refusal_result}
 use Rattle.slice_side.proofs.Inquiring.{may_ask_booked, statistics_refused, statistics_sent, inquiry_result}
+use Rattle.slice_side.proofs.Sending.{nothing_sent, question_sent}
 use Rattle.slice_side.proofs.asking.statistics.Goals as goal
 
 pub returns-then-not-may_ask-clause-follows : goal.returns-then-not-may_ask-clause-follows
@@ -35,3 +36,14 @@ returns-in-Some-clause-follows c s sight stands sees =
     refl
     (c.asked-asked.ensures.value ∙ ap (λ (kind : AskKind). record { xid = xid_of c.args.frame.now; first = take 64 (c.args.frame.now ++ padding 64); first_len = min (length c.args.frame.now) 64; kind = kind; port = 0 }) c.kind_of.ensures)
     c.sending.ensures.to_slice c.sending.ensures.to_switch c.sending.ensures.close c.sending.ensures.change
+
+pub returns-then-not-may_ask-clause-sent : goal.returns-then-not-may_ask-clause-sent
+returns-then-not-may_ask-clause-sent c = nothing_sent c.refused.result c.args.around.now.policy.now.rules c.args.around.now.slot c.args.around.now.ports.now c.args.around.now.state.now c.args.frame.now (Ok (said.StatsRequest c.args.request.now)) c.refused.ensures.to_switch
+
+pub returns-in_ok-reply-in-None-clause-sent : goal.returns-in_ok-reply-in-None-clause-sent
+returns-in_ok-reply-in-None-clause-sent c = nothing_sent c.replying.result c.args.around.now.policy.now.rules c.args.around.now.slot c.args.around.now.ports.now c.args.around.now.state.now c.args.frame.now (Ok (said.StatsRequest c.args.request.now)) c.replying.ensures.to_switch
+
+pub returns-in-Some-clause-sent : goal.returns-in-Some-clause-sent
+returns-in-Some-clause-sent c = question_sent c.sending.result c.args.around.now.policy.now.rules c.args.around.now.slot c.args.around.now.ports.now c.args.around.now.state.now c.args.frame.now c.next-xid.result.1 (said.StatsRequest c.args.request.now) c.in-Some.question
+    (sym (c.may_ask.ensures 0 c.next-xid.result.1) ∙ c.if-not-may_ask.false, sym c.in_ok-ask.ensures ∙ c.in-Some.is)
+    c.sending.ensures.to_switch

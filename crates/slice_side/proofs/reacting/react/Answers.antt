@@ -1,10 +1,13 @@
-use Rattle.std.proofs.Common.{sym, subst, ◌∙◌, Ok, Err}
+use Rattle.std.proofs.Common.{sym, subst, ◌∙◌, Ok, Err, IfOk}
 use Rattle.std.proofs.lemmas.Result.{IfOk-weaker}
 use Rattle.of10_message.specs.Controller.{read_controller}
+use Rattle.slice_words.specs.Messages.{Reading}
 use Rattle.slice_words.specs.Pasts.{Answer}
 use Rattle.slice_words.specs.Standing.{past_of}
 use Rattle.slice_side.specs.Reactions.{Follows}
+use Rattle.slice_side.specs.Checking.{AreSentOn}
 use Rattle.slice_side.proofs.Answering.{shown, reaction_of, asked_answer, unread_is}
+use Rattle.slice_side.proofs.Sending.{nothing_sent}
 use Rattle.slice_side.proofs.reacting.react.Goals as goal
 
 pub returns-in-Err-clause-reaction : goal.returns-in-Err-clause-reaction
@@ -22,3 +25,13 @@ pub returns-clause-reaction : goal.returns-clause-reaction
 returns-clause-reaction c s sight stands sees = IfOk-weaker c.local.result _ _
     (λ r follows. reaction_of s sight c.args.frame.now c.args.moment r (Ok c.in-Ok.message) sees.up c.in-Ok.ensures follows)
     (c.local.ensures.follows s sight (past_of s sight.view) (shown s sight c.args.state.now c.args.policy.now c.args.ports.now c.args.features.now c.args.slot stands sees))
+
+pub returns-in-Err-clause-sent : goal.returns-in-Err-clause-sent
+returns-in-Err-clause-sent c = nothing_sent c.unread.result c.args.policy.now.rules c.args.slot c.args.ports.now c.args.state.now c.args.frame.now (read_controller c.args.frame.now) c.unread.ensures.nothing
+
+pub returns-then-asks_switch-clause-sent : goal.returns-then-asks_switch-clause-sent
+returns-then-asks_switch-clause-sent c =
+    subst (λ (read : Reading). IfOk c.question.result (λ r. AreSentOn c.args.policy.now.rules c.args.slot c.args.ports.now c.args.state.now c.args.frame.now read r.to_switch.items)) (sym c.in-Ok.ensures) c.question.ensures.sent
+
+pub returns-clause-sent : goal.returns-clause-sent
+returns-clause-sent c = nothing_sent c.local.result c.args.policy.now.rules c.args.slot c.args.ports.now c.args.state.now c.args.frame.now (read_controller c.args.frame.now) c.local.ensures.nothing
