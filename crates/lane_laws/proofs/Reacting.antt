@@ -59,13 +59,13 @@ module _ (rules : List Rule) (slot : ℕ) (known : List (List ℕ)) (state : Sli
   all_sent P Q holds message sent (inl none) = subst (All (IsSentThat P Q)) (sym none) (All-nil (IsSentThat P Q))
   all_sent P Q holds message sent (inr (inl some)) =
       let ms = flow_mods_from state ground some.0 in
-      subst (All (IsSentThat P Q)) (sym some.2)
+      subst (All (IsSentThat P Q)) (sym some.3)
       (All-map (IsSentThat P Q) spell_flow_mod ms
       (All-weaker P (λ one. IsSentThat P Q (spell_flow_mod one)) (λ one own. inl (inl (one, refl, own))) ms (holds.flow_mods some.0)))
   all_sent P Q holds message sent (inr (inr (inl some))) =
       let out = packet_out_from state ground some.0 in
-      subst (All (IsSentThat P Q)) (sym some.2)
-      (All-cons (IsSentThat P Q) (spell_packet_out out) [] (inl (inr (out, refl, holds.packet_outs some.0 some.1))) (All-nil (IsSentThat P Q)))
+      subst (All (IsSentThat P Q)) (sym some.3)
+      (All-cons (IsSentThat P Q) (spell_packet_out out) [] (inl (inr (out, refl, holds.packet_outs some.0 some.2))) (All-nil (IsSentThat P Q)))
   all_sent P Q holds message sent (inr (inr (inr some))) =
       subst (All (IsSentThat P Q)) (sym some.4)
       (All-cons (IsSentThat P Q) some.1 [] (inr (asks_for_reply ground message some.1 some.0 some.2 some.3)) (All-nil (IsSentThat P Q)))

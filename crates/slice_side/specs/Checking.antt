@@ -80,12 +80,12 @@ IsQuestion g message said.BarrierRequest question = question ≡ message_of BARR
 IsQuestion g message (said.QueueGetConfigRequest port) question = (is_port_on g port ≡ true) × (question ≡ message_of QUEUE_GET_CONFIG_REQUEST g.xid (drop 8 message))
 IsQuestion g message asked question = ⊥
 
--- this is sent on for a message of which this was read: nothing; the flow-mods for one that no line refuses; the packet-out for one that no line refuses; or one question that the slice may ask
+-- this is sent on for a message of which this was read: nothing; the flow-mods for it where it is one that no line refuses; the packet-out for it where it is one that no line refuses; or one question that the slice may ask with it
 abbrev pub IsSentOn : SliceState → Ground → List ℕ → Reading → List (List ℕ) → Type 0
 IsSentOn state g message read sent =
     (sent ≡ [])
-    ⊎ (((m : FlowMod) × (flow_mod_fault g m ≡ None) × (sent ≡ map spell_flow_mod (flow_mods_from state g m)))
-    ⊎ (((m : PacketOut) × (packet_out_fault g m ≡ None) × (sent ≡ spell_packet_out (packet_out_from state g m) ∷ []))
+    ⊎ (((m : FlowMod) × (read ≡ Ok (said.FlowMod m)) × (flow_mod_fault g m ≡ None) × (sent ≡ map spell_flow_mod (flow_mods_from state g m)))
+    ⊎ (((m : PacketOut) × (read ≡ Ok (said.PacketOut m)) × (packet_out_fault g m ≡ None) × (sent ≡ spell_packet_out (packet_out_from state g m) ∷ []))
     ⊎ ((asked : FromController) × (question : List ℕ) × (read ≡ Ok asked) × IsQuestion g message asked question × (sent ≡ question ∷ []))))
 
 -- so it is by the rules of the switch, its ports and the slice's state, with some quota and some transaction id

@@ -62,4 +62,4 @@ returns-then-is_empty-clause-sent c = (0, 0, inl c.silent.ensures.to_switch)
 pub returns-else-is_empty-clause-sent : goal.returns-else-is_empty-clause-sent
 returns-else-is_empty-clause-sent c =
     let o = subst (IsOutcome c.args.around.now.state.now (ground_at c.args.around.now.policy.now.rules c.args.around.now.slot c.args.around.now.ports.now c.quota-quota.result c.next-xid.result.1 c.args.around.now.state.now) c.args.m.now) c.in-Sent.is c.in_ok-class.ensures.outcome in
-    (c.quota-quota.result, c.next-xid.result.1, inr (inl (c.args.m.now, o.0, c.forwarding.ensures.to_switch ∙ o.1)))
+    (c.quota-quota.result, c.next-xid.result.1, inr (inl (c.args.m.now, refl, o.0, c.forwarding.ensures.to_switch ∙ o.1)))

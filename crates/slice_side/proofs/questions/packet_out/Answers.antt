@@ -44,4 +44,4 @@ returns-in-Refused-clause-sent c = nothing_sent c.refused.result c.args.around.n
 pub returns-in-Sent-clause-sent : goal.returns-in-Sent-clause-sent
 returns-in-Sent-clause-sent c =
     let o = subst (IsPacketOutcome c.args.around.now.state.now (ground_at c.args.around.now.policy.now.rules c.args.around.now.slot c.args.around.now.ports.now 0 c.next-xid.result.1 c.args.around.now.state.now) c.args.m.now) c.in-Sent.is (c.in_ok-class.ensures 0) in
-    IfOk-weaker c.sending.result _ _ (λ r is. (0, c.next-xid.result.1, inr (inr (inl (c.args.m.now, o.0, is ∙ ap (λ (bytes : List ℕ). bytes ∷ []) o.1))))) c.sending.ensures.to_switch
+    IfOk-weaker c.sending.result _ _ (λ r is. (0, c.next-xid.result.1, inr (inr (inl (c.args.m.now, refl, o.0, is ∙ ap (λ (bytes : List ℕ). bytes ∷ []) o.1))))) c.sending.ensures.to_switch
