@@ -23,7 +23,7 @@ type Case = (
     &'static str,
 );
 
-const CASES: [Case; 13] = [
+const CASES: [Case; 14] = [
     (&["serve", "good", "here", "1"], &[], &[], 0, ""),
     (&["serve", "good", "here", "2"], &[], &[], 0, ""),
     (&["serve", "good", "here"], &[], &[], 1, USAGE),
@@ -38,6 +38,7 @@ const CASES: [Case; 13] = [
         "policy: missing version\n",
     ),
     (&["serve", "none", "here", "1"], &[], &[], 4, "read fault\n"),
+    (&["serve", "large", "here", "1"], &[], &[], 7, "too large\n"),
     (
         &["serve", "good", "here", "1"],
         &[0],
@@ -73,6 +74,7 @@ fn files(alloc: Global) -> Result<MemoryFiles, AllocError> {
     let mut files = MemoryFiles::new(alloc);
     files.add("good", POLICY.as_bytes())?;
     files.add("bad", b"")?;
+    files.add("large", &vec![in alloc; 0; 1_048_577]?)?;
     Ok(files)
 }
 

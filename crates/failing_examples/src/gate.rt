@@ -1,0 +1,84 @@
+// A gate that holds messages back until something came.
+
+use crate::notes::{Mark, Notes};
+use fv_live::Host;
+use live_session::{Gate, Side};
+use std::alloc::{AllocError, Global};
+use std::net::{Net, TcpListener, TcpStream};
+use std::sync::Arc;
+use std::thread;
+use std::time::Duration;
+
+/// How often a message that is held is looked at again.
+const TURNS: u32 = 10_000;
+
+/// The message at this place of the side's stream is held until all of these came.
+pub type Hold = (Side, u64, &'static [Mark]);
+
+/// How long such a message is held on, in milliseconds, so that others could come before it.
+const PAUSE: u64 = 20;
+
+/// Holds the messages of a list, and lets all others pass.
+#[derive(Drop)]
+pub struct Holding {
+    notes: Arc<Notes, Global>,
+    holds: &'static [Hold],
+    may_wait: bool,
+}
+
+impl Clone for Holding {
+    fn clone(&self) -> Result<Holding, AllocError> {
+        Holding::new(&self.notes, self.holds)
+    }
+}
+
+impl Holding {
+    /// A gate for these messages.
+    pub fn new(notes: &Arc<Notes, Global>, holds: &'static [Hold]) -> Result<Holding, AllocError> {
+        Ok(Holding {
+            notes: Arc::try_clone(notes)?,
+            holds,
+            may_wait: true,
+        })
+    }
+
+    /// A gate that holds nothing, as that of the program.
+    pub fn open(notes: &Arc<Notes, Global>) -> Result<Holding, AllocError> {
+        Ok(Holding {
+            notes: Arc::try_clone(notes)?,
+            holds: &[],
+            may_wait: false,
+        })
+    }
+
+    fn hold<R: Host>(&self, rt: &R, until: &[Mark]) {
+        for _ in 0..TURNS {
+            if self.notes.has_all(rt, until) {
+                thread::sleep(rt, Duration::from_millis(PAUSE));
+                return;
+            }
+            thread::sleep(rt, Duration::from_millis(1));
+        }
+        self.notes.note(rt, Mark::HeldTooLong);
+    }
+}
+
+impl Gate for Holding {
+    fn pass<R: Host + Net<Listener = TcpListener, Stream = TcpStream>>(
+        &self,
+        rt: &R,
+        side: Side,
+        count: u64,
+    ) {
+        self.notes.note(rt, Mark::AtGate(side, count));
+        for (held, place, until) in self.holds {
+            if *held == side && *place == count {
+                self.hold(rt, until);
+            }
+        }
+    }
+
+    fn may_wait(&self) -> bool {
+        self.may_wait
+    }
+}

@@ -1,0 +1,408 @@
+ghost use Rattle.std.specs.Arc.{arc_value};
+ghost use Rattle.turn_desk.specs.Seats.{IsSeatOf, SameDesk};
+
+use crate::devices::{
+    ALICE, BOB, Device, GREETING, Long, NOTHING, SWITCH, Stream, Told, UNANSWERED, told_to_all,
+};
+use crate::gate::Hold;
+use crate::notes::{Mark, Notes};
+use crate::parts::{End, Job, Part, Session};
+use crate::sinks::{Watched, link};
+use fv_live::{Host, Links, MemoryDialer, MemorySource};
+use live_samples::{FEATURES, LANE, Sent, nothing};
+use live_session::{DeskObject, ReaderEnd, Side, SliceEnd, WriterEnd};
+use std::alloc::{AllocError, Global};
+use std::net::{Net, TcpListener, TcpStream};
+use std::sync::{Arc, Wait};
+use std::test::Fail;
+use std::thread;
+use turn_desk::TurnSeat;
+
+/// A switch and the controllers of alice and bob, which messages are held back, whose pass an open gate, what raises
+/// the flag on which a sink that stands still waits, what comes before what, and how the threads end: reader and writer
+/// of the switch, of alice and of bob.
+struct Case {
+    name: &'static str,
+    devices: [Device; 3],
+    holds: &'static [Hold],
+    opened: Option<Side>,
+    raised_by: Mark,
+    order: Option<(Mark, Mark)>,
+    ends: [End; 6],
+}
+
+const ALICES: Side = Side::Slice(0);
+
+const BOBS: Side = Side::Slice(1);
+
+const ECHO: Long = Long {
+    kind: 2,
+    body: &[],
+    count: 65,
+};
+
+/// Packets for TCP port 80, to be sent out by port 2.
+const OUT: Long = Long {
+    kind: 13,
+    body: &["ffffffffffff00080000000800020000", TO_80],
+    count: 18,
+};
+
+const MORE_THAN_MAY_WAIT: Long = Long { count: 40, ..OUT };
+
+const TO_80: &str = "0000000000020000000000010800450000280000000040060000\
+0a0000010a000002040000500000000000000000500200000000\
+0000";
+
+const TO_22: &str = "0000000000020000000000010800450000280000000040060000\
+0a0000010a000002040000160000000000000000500200000000\
+0000";
+
+/// The head of a packet-in by port 1 that the switch doesn't keep.
+const IN: &str = "010a004800000000ffffffff003600010000";
+
+/// The switch's reader and the writers of both slices have ended.
+const ALL_IS_OVER: &[Mark] = &[
+    Mark::Read(Side::Switch),
+    Mark::Wrote(ALICES),
+    Mark::Wrote(BOBS),
+];
+
+/// The third take from the switch fails, after a packet for each slice.
+const SOURCE_FAILS: Case = Case {
+    name: "source fails",
+    devices: [
+        Device {
+            says: Stream {
+                first: &[FEATURES, IN, TO_80, IN, TO_22],
+                last: UNANSWERED,
+                ..NOTHING
+            },
+            most: 224,
+            takes: &[2],
+            ..SWITCH
+        },
+        Device {
+            sent: Stream {
+                first: GREETING,
+                last: &["0103000800000001", IN, TO_80],
+                ..NOTHING
+            },
+            free: 0,
+            ..ALICE
+        },
+        Device {
+            sent: Stream {
+                first: GREETING,
+                last: &["010300080000000b", IN, TO_22],
+                ..NOTHING
+            },
+            free: 0,
+            ..BOB
+        },
+    ],
+    holds: &[
+        (
+            Side::Switch,
+            1,
+            &[Mark::AtGate(ALICES, 1), Mark::AtGate(BOBS, 1)],
+        ),
+        (ALICES, 1, ALL_IS_OVER),
+        (BOBS, 1, ALL_IS_OVER),
+    ],
+    opened: None,
+    raised_by: Mark::Read(Side::Switch),
+    order: None,
+    ends: [
+        End::Switch(ReaderEnd::ReadFault, 6),
+        End::Writer(WriterEnd::Ended),
+        End::Slice(SliceEnd::DeskEnded),
+        End::Writer(WriterEnd::Ended),
+        End::Slice(SliceEnd::DeskEnded),
+        End::Writer(WriterEnd::Ended),
+    ],
+};
+
+/// The second put to alice fails.
+const SINK_FAILS: Case = Case {
+    name: "sink fails",
+    devices: [
+        SWITCH,
+        Device {
+            sent: Stream {
+                first: GREETING,
+                ..NOTHING
+            },
+            waited_for: 8,
+            puts: &[1],
+            ..ALICE
+        },
+        BOB,
+    ],
+    holds: &[
+        (ALICES, 0, &[Mark::Sent(ALICES)]),
+        (ALICES, 1, &[Mark::Wrote(ALICES)]),
+        (BOBS, 1, &[Mark::Wrote(ALICES), Mark::Sent(BOBS)]),
+        (Side::Switch, 1, &[Mark::Read(ALICES), Mark::Read(BOBS)]),
+    ],
+    opened: None,
+    raised_by: Mark::AtGate(ALICES, 1),
+    order: None,
+    ends: [
+        End::Switch(ReaderEnd::Closed, 4),
+        End::Writer(WriterEnd::Ended),
+        End::Slice(SliceEnd::GaveUp),
+        End::Writer(WriterEnd::WriteFault),
+        End::Slice(SliceEnd::GaveUp),
+        End::Writer(WriterEnd::Ended),
+    ],
+};
+
+/// Alice doesn't take her greeting while she asks 65 long questions.
+const SLICE_IS_CHOKED: Case = Case {
+    name: "slice is choked",
+    devices: [
+        SWITCH,
+        Device {
+            says: Stream {
+                long: ECHO,
+                last: UNANSWERED,
+                ..NOTHING
+            },
+            sent: Stream {
+                first: GREETING,
+                long: Long {
+                    kind: 3,
+                    count: 64,
+                    ..ECHO
+                },
+                ..NOTHING
+            },
+            free: 0,
+            ..ALICE
+        },
+        BOB,
+    ],
+    holds: &[
+        (ALICES, 0, &[Mark::Standing(ALICES)]),
+        (ALICES, 65, &[Mark::Wrote(ALICES)]),
+        (BOBS, 1, &[Mark::Wrote(ALICES), Mark::Sent(BOBS)]),
+        (Side::Switch, 1, &[Mark::Read(ALICES), Mark::Read(BOBS)]),
+    ],
+    opened: None,
+    raised_by: Mark::AtGate(ALICES, 65),
+    order: None,
+    ends: [
+        End::Switch(ReaderEnd::Closed, 4),
+        End::Writer(WriterEnd::Ended),
+        End::Slice(SliceEnd::GaveUp),
+        End::Writer(WriterEnd::Choked),
+        End::Slice(SliceEnd::GaveUp),
+        End::Writer(WriterEnd::Ended),
+    ],
+};
+
+/// The switch doesn't take the first of 18 long packets that alice sends out.
+const LANE_IS_CHOKED: Case = Case {
+    name: "lane is choked",
+    devices: [
+        Device {
+            sent: Stream {
+                first: &LANE,
+                long: Long { count: 17, ..OUT },
+                ..NOTHING
+            },
+            free: 108,
+            ..SWITCH
+        },
+        Device {
+            says: Stream {
+                long: OUT,
+                last: UNANSWERED,
+                ..NOTHING
+            },
+            sent: Stream {
+                first: GREETING,
+                ..NOTHING
+            },
+            ..ALICE
+        },
+        BOB,
+    ],
+    holds: &[
+        (ALICES, 0, &[Mark::Sent(Side::Switch)]),
+        (ALICES, 1, &[Mark::Standing(Side::Switch)]),
+        (
+            ALICES,
+            18,
+            &[Mark::Wrote(Side::Switch), Mark::Read(Side::Switch)],
+        ),
+        (
+            Side::Switch,
+            1,
+            &[Mark::Wrote(Side::Switch), Mark::Sent(BOBS)],
+        ),
+        (BOBS, 1, &[Mark::Read(Side::Switch)]),
+    ],
+    opened: None,
+    raised_by: Mark::AtGate(ALICES, 18),
+    order: None,
+    ends: [
+        End::Switch(ReaderEnd::Closed, 4),
+        End::Writer(WriterEnd::Choked),
+        End::Slice(SliceEnd::DeskEnded),
+        End::Writer(WriterEnd::Ended),
+        End::Slice(SliceEnd::DeskEnded),
+        End::Writer(WriterEnd::Ended),
+    ],
+};
+
+/// The switch takes nothing for a while, and alice, whose messages pass at once, has more for it than may wait: her
+/// reader waits for room, and bob is heard meanwhile. Without the wait the lane would be choked.
+const LANE_IS_FULL: Case = Case {
+    name: "lane is full",
+    devices: [
+        Device {
+            sent: Stream {
+                first: &LANE,
+                long: MORE_THAN_MAY_WAIT,
+                ..NOTHING
+            },
+            free: 108,
+            ..SWITCH
+        },
+        Device {
+            says: Stream {
+                long: MORE_THAN_MAY_WAIT,
+                last: UNANSWERED,
+                ..NOTHING
+            },
+            sent: Stream {
+                first: GREETING,
+                ..NOTHING
+            },
+            ..ALICE
+        },
+        BOB,
+    ],
+    holds: &[
+        (
+            BOBS,
+            0,
+            &[Mark::AtGate(ALICES, 9), Mark::Standing(Side::Switch)],
+        ),
+        (Side::Switch, 1, &[Mark::Read(ALICES), Mark::Read(BOBS)]),
+    ],
+    opened: Some(ALICES),
+    raised_by: Mark::AtGate(BOBS, 1),
+    order: Some((Mark::AtGate(BOBS, 1), Mark::AtGate(ALICES, 12))),
+    ends: [
+        End::Switch(ReaderEnd::Closed, 4),
+        End::Writer(WriterEnd::Ended),
+        End::Slice(SliceEnd::GaveUp),
+        End::Writer(WriterEnd::Ended),
+        End::Slice(SliceEnd::GaveUp),
+        End::Writer(WriterEnd::Ended),
+    ],
+};
+
+const CASES: [Case; 5] = [
+    SOURCE_FAILS,
+    SINK_FAILS,
+    SLICE_IS_CHOKED,
+    LANE_IS_CHOKED,
+    LANE_IS_FULL,
+];
+
+type Dials<R> = MemoryDialer<MemorySource, Watched<R>>;
+
+// What gives the one link of a slice, to be read.
+fn slice_reader<R: Wait + Copy>(
+    rt: R,
+    alloc: Global,
+    notes: &Arc<Notes, Global>,
+    slot: u8,
+    device: &Device,
+    sent: &Sent,
+) -> Result<Job<Dials<R>>, AllocError> {
+    let mut links = Vec::new(alloc);
+    links.push(link(rt, alloc, notes, slot, device, sent)?)?;
+    let links = Arc::new(alloc, Links::new(links, Vec::new(alloc)))?;
+    Ok(Job::ReadSlice(slot, MemoryDialer::new(alloc, Some(links))))
+}
+
+// Adds the bodies of the threads of a reader and of its writer.
+fn add<R: Wait + Copy>(
+    parts: &mut Vec<Part<Dials<R>>>,
+    session: &Arc<Session<Watched<R>>, Global>,
+    seat: &mut TurnSeat<DeskObject>,
+    reader: Job<Dials<R>>,
+    writer: Job<Dials<R>>,
+) -> Result<(), AllocError>
+    requires desk { IsSeatOf (arc_value session.now).desk seat.old }
+    ensures desk { SameDesk seat.new seat.old }
+{
+    parts.push(Part::new(session, seat, reader)?)?;
+    parts.push(Part::new(session, seat, writer)?)?;
+    Ok(())
+}
+
+// The bodies of the six threads.
+fn parts<R: Wait + Copy>(
+    rt: R,
+    alloc: Global,
+    notes: &Arc<Notes, Global>,
+    case: &Case,
+    sent: &[Sent],
+) -> Result<Vec<Part<Dials<R>>>, AllocError> {
+    let [switch, alice, bob] = &case.devices;
+    let [to_switch, to_alice, to_bob] = sent else {
+        return Err(AllocError);
+    };
+    let source = switch.source(alloc)?;
+    let sink = Watched::new(rt, alloc, notes, Side::Switch, switch, to_switch)?;
+    let alice = slice_reader(rt, alloc, notes, 0, alice, to_alice)?;
+    let bob = slice_reader(rt, alloc, notes, 1, bob, to_bob)?;
+    let (session, mut seat) = Session::new(alloc, notes, case.holds, case.opened)?;
+    let mut parts = Vec::new(alloc);
+    let (reader, writer) = (Job::ReadSwitch(source), Job::WriteSwitch(sink));
+    add(&mut parts, &session, &mut seat, reader, writer)?;
+    add(&mut parts, &session, &mut seat, alice, Job::WriteSlice(0))?;
+    add(&mut parts, &session, &mut seat, bob, Job::WriteSlice(1))?;
+    Ok(parts)
+}
+
+// Runs these on threads, and answers how they ended.
+fn ends<R: Host + Net<Listener = TcpListener, Stream = TcpStream> + Send + 'static>(
+    rt: R,
+    alloc: Global,
+    parts: Vec<Part<Dials<R>>>,
+) -> Result<Vec<End>, AllocError> {
+    let mut threads = Vec::with_capacity(alloc, parts.len())?;
+    for part in parts {
+        threads.push(thread::spawn(&rt, move || part.run(&rt))?)?;
+    }
+    let mut ends = Vec::with_capacity(alloc, threads.len())?;
+    for thread in threads {
+        ends.push(thread.join(&rt))?;
+    }
+    Ok(ends)
+}
+
+#[test]
+fn what_fails_ends_its_own_connection(rt: HostRuntime) -> Result<(), Fail> {
+    let alloc = rt.alloc();
+    for case in &CASES {
+        let notes = Notes::new(alloc, case.raised_by)?;
+        let sent = nothing(alloc, 3)?;
+        let ends = ends(rt, alloc, parts(rt, alloc, &notes, case, &sent)?)?;
+        assert_eq!(rt; ends.as_slice(), case.ends.as_slice(), "{}", case.name);
+        let told = told_to_all(&rt, alloc, &case.devices, &sent)?;
+        assert_eq!(rt; told, [Told::All; 3], "{}", case.name);
+        assert!(rt; notes.is_right(&rt), "{}", case.name);
+        if let Some((first, second)) = case.order {
+            assert!(rt; notes.has_first(&rt, first, second), "{}", case.name);
+        }
+    }
+    Ok(())
+}
