@@ -109,6 +109,17 @@ pub fn rewritten_outputs(alloc: Global, count: u16) -> Result<Vec<u8>, AllocErro
     Ok(actions)
 }
 
+/// So many outputs, before each of which the packet goes to the last port of the crowded slice or to the one before,
+/// in turn, so that another rule has it each time.
+pub fn turning_outputs(alloc: Global, count: u16) -> Result<Vec<u8>, AllocError> {
+    let mut actions = Vec::new(alloc);
+    for place in 0..count {
+        put_rewrite(&mut actions, 10, LAST_PORT - place % 2)?;
+        put_output(&mut actions, OUT)?;
+    }
+    Ok(actions)
+}
+
 /// A flow-mod with these actions.
 pub fn flow_mod(alloc: Global, entry: &Entry, actions: &[u8]) -> Result<Frame, AllocError> {
     let mut body = Vec::new(alloc);

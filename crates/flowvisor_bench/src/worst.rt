@@ -3,7 +3,7 @@
 use crate::policies::FIRST_PORT;
 use crate::spelling::{
     Entry, OUT, Packets, flow_mod, flows_part, flows_question, longest_echo, longest_packet_in,
-    longest_packet_out, outputs, packet_out, rewritten_outputs,
+    longest_packet_out, outputs, packet_out, rewritten_outputs, turning_outputs,
 };
 use crate::timing::{Brought, SLOTS, TimedDesk};
 use of10_ctl::Frame;
@@ -46,6 +46,8 @@ enum Worst {
     Rewrites,
     /// The same with as few outputs as let it be sent.
     FewRewrites,
+    /// Outputs of packets that two rules have in turn.
+    Turning,
     /// One with as many outputs to all ports as there is room for.
     Floods,
     /// The same with as many as one message has room for.
@@ -69,12 +71,13 @@ enum Worst {
 }
 
 /// All of them.
-const KINDS: [Worst; 16] = [
+const KINDS: [Worst; 17] = [
     Worst::Pieces,
     Worst::Outputs,
     Worst::NamedOutputs,
     Worst::Rewrites,
     Worst::FewRewrites,
+    Worst::Turning,
     Worst::Floods,
     Worst::FewFloods,
     Worst::Modify,
@@ -176,6 +179,8 @@ impl Worst {
             Worst::NamedOutputs => "the same by rules that name their ports of entry",
             Worst::Rewrites => "flow-mod of 4,090 rewritten outputs in 256 pieces",
             Worst::FewRewrites => "flow-mod of 59 rewritten outputs in 256 pieces",
+            Worst::Turning =>
+                "flow-mod of 4,090 outputs that two rules have in turn, in 256 pieces",
             Worst::Floods => "flow-mod to all of 1,364 ports, 8,182 times in 256 pieces",
             Worst::FewFloods => "flow-mod to all of 1,364 ports, five times in 256 pieces",
             Worst::Modify => "MODIFY in 256 pieces over a full book",
@@ -197,6 +202,7 @@ impl Worst {
             Worst::Outputs | Worst::NamedOutputs => add(alloc, &outputs(alloc, OUT, 8_182)?),
             Worst::Rewrites => add(alloc, &rewritten_outputs(alloc, 4_090)?),
             Worst::FewRewrites => add(alloc, &rewritten_outputs(alloc, 59)?),
+            Worst::Turning => add(alloc, &turning_outputs(alloc, 4_090)?),
             Worst::Floods => add(alloc, &outputs(alloc, ALL, 8_182)?),
             Worst::FewFloods => add(alloc, &outputs(alloc, ALL, 5)?),
             Worst::Modify => modify(alloc, MEASURED),
