@@ -6,6 +6,31 @@
 /// (`ends`). It `repeats` a message, so many times, or `asks` for flows, which the switch answers. It `gets` the oldest
 /// message, which is the one of a name, or `passes` so many, or `finds` no message and why.
 pub(crate) const TABLE: &str = "\
+# A switch is asked what it is when it connects, and prepared when it has told that, once. Packets go to their writer.
+switch goes up
+switch gets ask_nothing
+switch gets ask_features
+switch goes features
+switch gets ask_for_whole_packets
+switch gets clear_table
+switch gets ask_barrier
+switch goes features
+switch finds nothing
+alice goes up
+bob goes up
+switch goes web_packet
+alice gets greeting
+alice gets web_packet
+alice finds nothing
+bob gets greeting
+bob finds nothing
+nobody finds ended
+# The 65th of the longest replies finds no room.
+opened
+alice repeats 65 long_echo
+alice gets long_echoed
+alice passes 63
+alice finds choked
 # Flow-mods fill the lane: 51 with all of their 256 messages, and the 52nd with 52 of them, since one was taken.
 opened
 switch finds nothing
