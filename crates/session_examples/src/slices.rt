@@ -6,8 +6,10 @@ use live_session::{Half, OpenGate, SliceEnd, run_slice};
 use std::test::Fail;
 
 /// How many calls the seat has; how the reader ends, how many dials failed, and how many calls are left.
-const CASES: [(u32, SliceEnd, u64, u64); 2] =
-    [(100, SliceEnd::GaveUp, 1_000, 99), (0, SliceEnd::Spent, 0, 0)];
+const CASES: [(u32, SliceEnd, u64, u64); 2] = [
+    (100, SliceEnd::GaveUp, 1_000, 99),
+    (0, SliceEnd::Spent, 0, 0),
+];
 
 #[test]
 fn reader_ends_after_a_thousand_dials_or_without_calls(rt: HostRuntime) -> Result<(), Fail> {
