@@ -202,7 +202,7 @@ impl Props {
         Ok(Props {
             words: words(alloc, &["serve", "policy", "here", case.count])?,
             files,
-            gate: Holding::new(notes, case.holds)?,
+            gate: Holding::new(notes, case.holds, true)?,
         })
     }
 }

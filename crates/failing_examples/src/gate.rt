@@ -28,26 +28,22 @@ pub struct Holding {
 
 impl Clone for Holding {
     fn clone(&self) -> Result<Holding, AllocError> {
-        Holding::new(&self.notes, self.holds)
+        Holding::new(&self.notes, self.holds, self.may_wait)
     }
 }
 
 impl Holding {
-    /// A gate for these messages.
-    pub fn new(notes: &Arc<Notes, Global>, holds: &'static [Hold]) -> Result<Holding, AllocError> {
+    /// A gate for these messages. Where it says that it may not wait, as that of the program does, it may hold none
+    /// but the first of what comes at once.
+    pub fn new(
+        notes: &Arc<Notes, Global>,
+        holds: &'static [Hold],
+        may_wait: bool,
+    ) -> Result<Holding, AllocError> {
         Ok(Holding {
             notes: Arc::try_clone(notes)?,
             holds,
-            may_wait: true,
-        })
-    }
-
-    /// A gate that holds nothing, as that of the program.
-    pub fn open(notes: &Arc<Notes, Global>) -> Result<Holding, AllocError> {
-        Ok(Holding {
-            notes: Arc::try_clone(notes)?,
-            holds: &[],
-            may_wait: false,
+            may_wait,
         })
     }
 

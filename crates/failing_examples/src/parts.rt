@@ -35,28 +35,27 @@ pub enum End {
     NoLink,
 }
 
-/// What the threads share: the desk, bells, a gate that holds messages and an open one for the side that is opened, a
-/// place for the writing half of alice's link and one for that of bob's, and what came.
+/// What the threads share: the desk, bells, a gate, a place for the writing half of alice's link and one for that of
+/// bob's, and what came.
 #[derive(Drop)]
 pub struct Session<K: Sink> {
     alloc: Global,
     desk: TurnDesk<DeskObject>,
     bells: Bells,
     gate: Holding,
-    open: Holding,
-    opened: Option<Side>,
     alice: Half<K>,
     bob: Half<K>,
     notes: Arc<Notes, Global>,
 }
 
 impl<K: Sink> Session<K> {
-    /// A session in which nothing came and these messages are held, and the first seat of its desk.
+    /// A session in which nothing came and these messages are held, and the first seat of its desk. Its gate says
+    /// whether it may wait.
     pub fn new(
         alloc: Global,
         notes: &Arc<Notes, Global>,
         holds: &'static [Hold],
-        opened: Option<Side>,
+        may_wait: bool,
     ) -> Result<(Arc<Session<K>, Global>, TurnSeat<DeskObject>), AllocError>
         ensures seat { IfOk result (λ made. IsSeatOf (arc_value made.0).desk made.1) }
     {
@@ -65,22 +64,12 @@ impl<K: Sink> Session<K> {
             alloc,
             desk,
             bells,
-            gate: Holding::new(notes, holds)?,
-            open: Holding::open(notes)?,
-            opened,
+            gate: Holding::new(notes, holds, may_wait)?,
             alice: Half::new(alloc)?,
             bob: Half::new(alloc)?,
             notes: Arc::try_clone(notes)?,
         };
         Ok((Arc::new(alloc, session)?, seat))
-    }
-
-    fn gate(&self, side: Side) -> &Holding {
-        if self.opened == Some(side) {
-            &self.open
-        } else {
-            &self.gate
-        }
     }
 
     fn link(&self, slot: u8) -> &Half<K> {
@@ -163,7 +152,7 @@ fn read_switch<R: Host + Net<Listener = TcpListener, Stream = TcpStream>, K: Sin
         &mut source,
         Side::Switch,
         &mut Still,
-        session.gate(Side::Switch),
+        &session.gate,
         &session.bells,
     );
     session.notes.note(rt, Mark::Read(Side::Switch));
@@ -189,7 +178,7 @@ fn read_slice<R: Host + Net<Listener = TcpListener, Stream = TcpStream>, D: Dial
         address(slot),
         slot,
         &mut Still,
-        session.gate(Side::Slice(slot)),
+        &session.gate,
         session.link(slot),
         &session.bells,
     );

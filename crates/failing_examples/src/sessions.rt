@@ -18,14 +18,14 @@ use std::test::Fail;
 use std::thread;
 use turn_desk::TurnSeat;
 
-/// A switch and the controllers of alice and bob, which messages are held back, whose pass an open gate, what raises
+/// A switch and the controllers of alice and bob, which messages are held back, whether the gate may wait, what raises
 /// the flag on which a sink that stands still waits, what comes before what, and how the threads end: reader and writer
 /// of the switch, of alice and of bob.
 struct Case {
     name: &'static str,
     devices: [Device; 3],
     holds: &'static [Hold],
-    opened: Option<Side>,
+    may_wait: bool,
     raised_by: Mark,
     order: Option<(Mark, Mark)>,
     ends: [End; 6],
@@ -110,7 +110,7 @@ const SOURCE_FAILS: Case = Case {
         (ALICES, 1, ALL_IS_OVER),
         (BOBS, 1, ALL_IS_OVER),
     ],
-    opened: None,
+    may_wait: true,
     raised_by: Mark::Read(Side::Switch),
     order: None,
     ends: [
@@ -145,7 +145,7 @@ const SINK_FAILS: Case = Case {
         (BOBS, 1, &[Mark::Wrote(ALICES), Mark::Sent(BOBS)]),
         (Side::Switch, 1, &[Mark::Read(ALICES), Mark::Read(BOBS)]),
     ],
-    opened: None,
+    may_wait: true,
     raised_by: Mark::AtGate(ALICES, 1),
     order: None,
     ends: [
@@ -189,7 +189,7 @@ const SLICE_IS_CHOKED: Case = Case {
         (BOBS, 1, &[Mark::Wrote(ALICES), Mark::Sent(BOBS)]),
         (Side::Switch, 1, &[Mark::Read(ALICES), Mark::Read(BOBS)]),
     ],
-    opened: None,
+    may_wait: true,
     raised_by: Mark::AtGate(ALICES, 65),
     order: None,
     ends: [
@@ -244,7 +244,7 @@ const LANE_IS_CHOKED: Case = Case {
         ),
         (BOBS, 1, &[Mark::Read(Side::Switch)]),
     ],
-    opened: None,
+    may_wait: true,
     raised_by: Mark::AtGate(ALICES, 18),
     order: None,
     ends: [
@@ -257,8 +257,8 @@ const LANE_IS_CHOKED: Case = Case {
     ],
 };
 
-/// The switch takes nothing for a while, and alice, whose messages pass at once, has more for it than may wait: her
-/// reader waits for room, and bob is heard meanwhile. Without the wait the lane would be choked.
+/// The switch takes nothing for a while, and alice has more for it than may wait: her reader waits for room, and bob,
+/// who has nothing for it, is heard meanwhile. Without the wait the lane would be choked.
 const LANE_IS_FULL: Case = Case {
     name: "lane is full",
     devices: [
@@ -268,6 +268,7 @@ const LANE_IS_FULL: Case = Case {
                 long: MORE_THAN_MAY_WAIT,
                 ..NOTHING
             },
+            most: 224,
             free: 108,
             ..SWITCH
         },
@@ -293,7 +294,7 @@ const LANE_IS_FULL: Case = Case {
         ),
         (Side::Switch, 1, &[Mark::Read(ALICES), Mark::Read(BOBS)]),
     ],
-    opened: Some(ALICES),
+    may_wait: false,
     raised_by: Mark::AtGate(BOBS, 1),
     order: Some((Mark::AtGate(BOBS, 1), Mark::AtGate(ALICES, 12))),
     ends: [
@@ -363,7 +364,7 @@ fn parts<R: Wait + Copy>(
     let sink = Watched::new(rt, alloc, notes, Side::Switch, switch, to_switch)?;
     let alice = slice_reader(rt, alloc, notes, 0, alice, to_alice)?;
     let bob = slice_reader(rt, alloc, notes, 1, bob, to_bob)?;
-    let (session, mut seat) = Session::new(alloc, notes, case.holds, case.opened)?;
+    let (session, mut seat) = Session::new(alloc, notes, case.holds, case.may_wait)?;
     let mut parts = Vec::new(alloc);
     let (reader, writer) = (Job::ReadSwitch(source), Job::WriteSwitch(sink));
     add(&mut parts, &session, &mut seat, reader, writer)?;

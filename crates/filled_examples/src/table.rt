@@ -25,12 +25,20 @@ alice finds nothing
 bob gets greeting
 bob finds nothing
 nobody finds ended
-# The 65th of the longest replies finds no room.
-opened
+# The 65th of the longest replies finds no room. She is greeted once she has gone and comes again.
+switch goes up
+switch goes features
+alice goes up
 alice repeats 65 long_echo
+alice gets greeting
 alice gets long_echoed
 alice passes 63
 alice finds choked
+alice goes down
+alice finds ended
+alice goes up
+alice gets greeting
+alice finds nothing
 # Flow-mods fill the lane: 51 with all of their 256 messages, and the 52nd with 52 of them, since one was taken.
 opened
 switch finds nothing

@@ -26,7 +26,8 @@ const WAIT_BEHIND_A_LINK: u64 = 100;
 /// The wait before another accept where there were no descriptors, or no memory of the system, in seconds.
 const WAIT_FOR_ROOM: u64 = 1;
 
-// Linux's numbers of errors that tell of such a want: ENOMEM, ENFILE, EMFILE, ENOBUFS.
+// Linux's numbers of errors that tell of such a want: ENOMEM, ENFILE, EMFILE, ENOBUFS; and of one that passes, EPERM,
+// by which a firewall's rules forbid a connection.
 const OUT_OF_MEMORY: i32 = 12;
 
 const FILE_TABLE_FULL: i32 = 23;
@@ -35,15 +36,17 @@ const TOO_MANY_OPEN_FILES: i32 = 24;
 
 const NO_BUFFER_SPACE: i32 = 105;
 
-// Linux's numbers of errors that an accept tells of the connection it would give: EPERM, ENONET, EPROTO, ENOPROTOOPT,
-// EHOSTDOWN.
 const FORBIDDEN: i32 = 1;
 
+// Linux's numbers of errors that an accept tells of the connection it would give: ENONET, EPROTO, ENOPROTOOPT,
+// EOPNOTSUPP, EHOSTDOWN.
 const NOT_ON_THE_NETWORK: i32 = 64;
 
 const PROTOCOL_ERROR: i32 = 71;
 
 const NO_SUCH_OPTION: i32 = 92;
+
+const NOT_SUPPORTED: i32 = 95;
 
 const HOST_IS_DOWN: i32 = 112;
 
@@ -221,7 +224,7 @@ impl Sockets {
     }
 }
 
-// Whether an accept failed for one connection alone, which was gone before it was accepted, or is forbidden.
+// Whether an accept failed for one connection alone, which was gone before it was accepted.
 fn is_of_one(error: &io::Error) -> bool {
     let is_by_kind = matches!(
         error.kind(),
@@ -235,16 +238,18 @@ fn is_of_one(error: &io::Error) -> bool {
     is_by_kind
         || matches!(
             error.raw_os_error(),
-            Some(FORBIDDEN | NOT_ON_THE_NETWORK | PROTOCOL_ERROR | NO_SUCH_OPTION | HOST_IS_DOWN)
+            Some(
+                NOT_ON_THE_NETWORK | PROTOCOL_ERROR | NO_SUCH_OPTION | NOT_SUPPORTED | HOST_IS_DOWN
+            )
         )
 }
 
 // Whether an accept failed since there is no more of what a connection takes: memory of the system, or descriptors.
-// That passes when another connection ends.
+// That passes when another connection ends. What forbids connections may pass, too.
 fn is_of_want(error: &io::Error) -> bool {
     matches!(
         error.raw_os_error(),
-        Some(OUT_OF_MEMORY | FILE_TABLE_FULL | TOO_MANY_OPEN_FILES | NO_BUFFER_SPACE)
+        Some(FORBIDDEN | OUT_OF_MEMORY | FILE_TABLE_FULL | TOO_MANY_OPEN_FILES | NO_BUFFER_SPACE)
     )
 }
 

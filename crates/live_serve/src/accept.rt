@@ -7,7 +7,7 @@ ghost use Rattle.live_serve.specs.declared.group.StartFault.TheVariants.{Start};
 ghost use Rattle.live_serve.specs.Roles.{controller_of, group, Partly};
 ghost use Rattle.live_serve.specs.Running.{outside, EndsBy, IsRunCause};
 
-use crate::connection::{Connection, Sessions};
+use crate::connection::{Connection, SESSIONS, Sessions};
 use crate::group::{StartFault, start_group};
 use crate::work::SessionWork;
 use flowspace::Policy;
@@ -16,9 +16,6 @@ use live_session::Gate;
 use std::alloc::Global;
 use std::net::{Net, TcpListener, TcpStream};
 use std::sync::{Arc, Wait};
-
-/// How many sessions run at once.
-const SESSIONS: u32 = 16;
 
 /// How a run under a policy ends.
 #[derive(Clone, Copy, Debug, PartialEq, Eq)]
@@ -37,7 +34,7 @@ pub(crate) enum RunEnd {
 fn is_full<R: Wait>(rt: &R, sessions: &Sessions, begun: u32) -> bool
     ensures { IsTrue result → 16 ≤ begun }
 {
-    begun >= SESSIONS && sessions.running(rt) >= SESSIONS
+    begun >= SESSIONS && sessions.are_full(rt)
 }
 
 /// Starts the works of one connection. Where all were started, a session more runs, and they are given its halves.
@@ -92,7 +89,8 @@ fn open<
     Ok(())
 }
 
-/// Accepts so many connections, and starts a session for each, or closes it at once where 16 sessions run.
+/// Accepts so many connections, and starts a session for each, or closes it at once where 16 sessions run, or works of
+/// 48.
 pub(crate) fn accept_all<
     R: Host + Net<Listener = TcpListener, Stream = TcpStream>,
     N: Wires,

@@ -12,44 +12,69 @@ use std::alloc::{AllocError, Global};
 use std::sync::{Arc, Condvar, Mutex, Wait};
 use turn_desk::{TurnDesk, TurnSeat};
 
-/// How many sessions run.
+/// How many sessions run at once.
+pub(crate) const SESSIONS: u32 = 16;
+
+/// Of how many connections works may run at once, those included whose switch has gone while works of slices still
+/// dial or write.
+const CONNECTIONS: u32 = 48;
+
+// How many sessions run, and of how many connections works do.
+#[derive(Drop)]
+struct Running {
+    sessions: u32,
+    connections: u32,
+}
+
+/// What runs.
 #[derive(Drop)]
 pub(crate) struct Sessions {
-    running: Mutex<u32>,
+    running: Mutex<Running>,
 }
 
 impl Sessions {
     /// None.
     pub(crate) fn new() -> Sessions {
         Sessions {
-            running: Mutex::new(0),
+            running: Mutex::new(Running {
+                sessions: 0,
+                connections: 0,
+            }),
         }
     }
 
-    pub(crate) fn running<R: Wait>(&self, rt: &R) -> u32 {
+    /// Whether no other may run beside these.
+    pub(crate) fn are_full<R: Wait>(&self, rt: &R) -> bool {
         let running = self.running.lock(rt);
-        *running
+        running.sessions >= SESSIONS || running.connections >= CONNECTIONS
     }
 
     /// One more.
     pub(crate) fn begin<R: Wait>(&self, rt: &R) {
         let mut running = self.running.lock(rt);
-        *running = running.saturating_add(1);
+        running.sessions = running.sessions.saturating_add(1);
+        running.connections = running.connections.saturating_add(1);
     }
 
-    fn end<R: Wait>(&self, rt: &R) {
+    fn end_session<R: Wait>(&self, rt: &R) {
         let mut running = self.running.lock(rt);
-        *running = running.saturating_sub(1);
+        running.sessions = running.sessions.saturating_sub(1);
+    }
+
+    fn end_connection<R: Wait>(&self, rt: &R) {
+        let mut running = self.running.lock(rt);
+        running.connections = running.connections.saturating_sub(1);
     }
 }
 
 // Whether all works of the connection were started, none before that is known; then the switch's halves until
-// they are taken; and how many works of the switch haven't ended.
+// they are taken; and how many works of the switch, and how many of all, haven't ended.
 #[derive(Drop)]
 struct Word<N: Wires> {
     started: Option<bool>,
     source: Option<N::In>,
     sink: Option<N::Out>,
+    works_of_switch: u32,
     works: u32,
 }
 
@@ -101,7 +126,8 @@ impl<N: Wires> Connection<N> {
                 started: None,
                 source: None,
                 sink: None,
-                works: 2,
+                works_of_switch: 2,
+                works: 2 * u32::from(slices) + 2,
             }),
             given: Condvar::new(),
             sessions,
@@ -151,11 +177,22 @@ impl<N: Wires> Connection<N> {
     /// of its slices may still dial or write for a while.
     pub(crate) fn end_of_switch<R: Wait>(&self, rt: &R) {
         let mut word = self.word.lock(rt);
+        word.works_of_switch = word.works_of_switch.saturating_sub(1);
+        let is_last = word.works_of_switch == 0;
+        drop(word);
+        if is_last {
+            self.sessions.end_session(rt);
+        }
+    }
+
+    /// A work has ended.
+    pub(crate) fn end_work<R: Wait>(&self, rt: &R) {
+        let mut word = self.word.lock(rt);
         word.works = word.works.saturating_sub(1);
         let is_last = word.works == 0;
         drop(word);
         if is_last {
-            self.sessions.end(rt);
+            self.sessions.end_connection(rt);
         }
     }
 }

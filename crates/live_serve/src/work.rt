@@ -72,6 +72,7 @@ impl<N: Wires, C: Clock, G: Gate> Work for SessionWork<N, C, G> {
             }
             Job::WriteSlice(slot) => write_links(rt, shared, &mut seat, slot),
         }
+        shared.end_work(rt);
     }
 }
 

@@ -42,7 +42,7 @@ up_tells ReadFault side op reply all left t = absurd t
 up_tells Dismissed side op reply all left t = (refl, ([], op, ap (λ r. record { op = op; reply = r } ∷ []) t, tt))
 up_tells DeskEnded side op reply all left t = (refl, ([], op, ap (λ r. record { op = op; reply = r } ∷ []) t, tt))
 up_tells Spent side op reply all left t = absurd t
-up_tells Memory side op reply all left t = (refl, inr ([], record { op = op; reply = reply }, refl, tt))
+up_tells Memory side op reply all left t = (refl, inr ([], record { op = op; reply = reply }, refl, tt, t))
 
 -- the reply to the up ended it
 pub begins_end : (side : Side) (a b : Spot) (before : Option (List ℕ)) (reply : DeskReply) (end : ReaderEnd) → WentOne a (up_of side) reply b → Tells (Some end) reply → Begun side a before end before b

@@ -69,7 +69,7 @@ by_reply ReadFault op reply framer fed given calls left on t = absurd t
 by_reply Dismissed op reply framer fed given calls left on t = (calls, op, ap (λ r. calls ++ record { op = op; reply = r } ∷ []) t, on)
 by_reply DeskEnded op reply framer fed given calls left on t = (calls, op, ap (λ r. calls ++ record { op = op; reply = r } ∷ []) t, on)
 by_reply Spent op reply framer fed given calls left on t = absurd t
-by_reply Memory op reply framer fed given calls left on t = inr (calls, record { op = op; reply = reply }, refl, on)
+by_reply Memory op reply framer fed given calls left on t = inr (calls, record { op = op; reply = reply }, refl, on, t)
 
 -- a reply ended it
 pub hands_end : (side : Side) (a b c : Spot) (framer next : Stream) (fed : List ℕ) (given : List (List ℕ)) (frame : List ℕ) (reply : DeskReply) (end : ReaderEnd) → (h : Hands side a fed given framer b) → Stands next fed ((given ++ h.0) ++ frame ∷ []) → WentOne b (message_of side frame) reply c → Tells (Some end) reply → HandsTo side a fed given next (Some end) c

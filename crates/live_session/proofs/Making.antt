@@ -22,4 +22,4 @@ stopped_more reply xs ys h k = (xs ++ k.0, k.1, ap (λ l. xs ++ l) k.2 ∙ sym (
 
 pub went_on_to_more : (xs ys : List DeskCall) → WentOn xs → WentOnTo ys → WentOnTo (xs ++ ys)
 went_on_to_more xs ys h (inl k) = inl (went_on_more xs ys h k)
-went_on_to_more xs ys h (inr k) = inr (xs ++ k.0, k.1, ap (λ l. xs ++ l) k.2 ∙ sym (append_assoc xs k.0 _), went_on_more xs k.0 h k.3)
+went_on_to_more xs ys h (inr k) = inr (xs ++ k.0, k.1, ap (λ l. xs ++ l) k.2 ∙ sym (append_assoc xs k.0 _), went_on_more xs k.0 h k.3, k.4)

@@ -1,5 +1,5 @@
 -- What a seat asks of a desk for one connection. This proxy's own rules.
-use Rattle.std.specs.Prelude.{◌≡◌, ◌⊎◌, ◌+◌, ℕ, List, [], ◌∷◌, ◌++◌, map, length, Option, Some, None, Ok, Bool, true, false}
+use Rattle.std.specs.Prelude.{◌≡◌, ◌⊎◌, ◌+◌, ℕ, List, [], ◌∷◌, ◌++◌, map, length, Option, Some, None, Ok, Err, Bool, true, false}
 use Rattle.of10_ctl.specs.Streams.{frames_of, AreFirst, Stream, Stands}
 use Rattle.fv_live.specs.Live.{Asked, Moved}
 use Rattle.desk_words.specs.declared.event.Event.{Event}
@@ -11,7 +11,7 @@ use Rattle.live_desk.specs.declared.object.DeskObject.{DeskObject}
 use Rattle.live_desk.specs.declared.object.DeskOp.{DeskOp}
 use Rattle.live_desk.specs.declared.object.DeskOp.TheVariants.{Step}
 use Rattle.live_desk.specs.declared.object.DeskReply.{DeskReply}
-use Rattle.live_desk.specs.declared.object.DeskReply.TheVariants.{Stepped}
+use Rattle.live_desk.specs.declared.object.DeskReply.TheVariants.{Stepped, Took}
 use Rattle.live_session.specs.declared.side.Side.{Side}
 use Rattle.live_session.specs.declared.side.Side.TheVariants.{Switch, Slice}
 use Rattle.live_session.specs.declared.ends.ReaderEnd.{ReaderEnd}
@@ -93,9 +93,15 @@ ButLast holds calls = (before : List DeskCall) × (last : DeskCall) × (calls �
 abbrev pub StoppedBy : DeskReply → List DeskCall → Type 0
 StoppedBy reply calls = (before : List DeskCall) × (op : DeskOp) × (calls ≡ before ++ record { op = op; reply = reply } ∷ []) × WentOn before
 
--- each call was answered that the connection goes on, but perhaps the last one
+-- the answer was want of memory
+abbrev pub IsWant : DeskReply → Type 0
+IsWant (Stepped (Ok answer)) = ⊥
+IsWant (Stepped (Err fault)) = Unit {0}
+IsWant (Took answer) = ⊥
+
+-- each call was answered that the connection goes on, but perhaps the last one, which then found no memory
 abbrev pub WentOnTo : List DeskCall → Type 0
-WentOnTo calls = WentOn calls ⊎ ButLast WentOn calls
+WentOnTo calls = WentOn calls ⊎ ((before : List DeskCall) × (last : DeskCall) × (calls ≡ before ++ last ∷ []) × WentOn before × IsWant last.reply)
 
 -- How a connection's part without its up and its down ended: all frames were handed on, or the first reply that doesn't let the connection go on ended it, or memory or the calls ran out.
 abbrev pub ReadTo : ReaderEnd → List (List ℕ) → List (List ℕ) → List DeskCall → ℕ → Type 0
@@ -130,7 +136,7 @@ Tells (Some DeskEnded) reply = reply ≡ Stepped (Ok verdict.Ended)
 Tells (Some Closed) reply = ⊥
 Tells (Some ReadFault) reply = ⊥
 Tells (Some Spent) reply = ⊥
-Tells (Some Memory) reply = Unit {0}
+Tells (Some Memory) reply = IsWant reply
 Tells None reply = reply ≡ Stepped (Ok verdict.Go)
 
 -- up, messages, down

@@ -64,6 +64,10 @@ fn goes_on(stepped: &Result<Result<Verdict, AllocError>, Spent>) -> bool {
     matches!(stepped, Ok(Ok(Verdict::Go)))
 }
 
+fn is_over(stepped: &Result<Result<Verdict, AllocError>, Spent>) -> bool {
+    matches!(stepped, Ok(Ok(Verdict::Close | Verdict::Ended)))
+}
+
 /// One event, at the moment that the clock answers. Where the seat has no calls left the clock isn't asked.
 fn ask<R: Wait, C: Clock>(
     rt: &R,
@@ -104,7 +108,11 @@ fn ask_alone<R: Wait, C: Clock>(
     ensures same { OnErr result (spot seat.new (C.coming clock.new) ≡ spot seat.old (C.coming clock.old)) }
 {
     let hold = bells.hold(rt);
+    let ends = matches!(&event, Event::SwitchDown);
     let asked = ask(rt, desk, seat, clock, event);
+    if ends {
+        bells.end(Side::Switch);
+    }
     drop(hold);
     bells.ring_all(rt);
     asked
@@ -135,6 +143,9 @@ fn ask_in_turn<R: Wait, C: Clock>(
 {
     turns.begin(rt, is_for_the_switch(&event));
     let asked = ask(rt, desk, seat, clock, event);
+    if is_over(&asked) {
+        turns.close();
+    }
     turns.end(rt, goes_on(&asked));
     asked
 }

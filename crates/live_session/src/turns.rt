@@ -81,6 +81,11 @@ impl<'a> Turns<'a> {
         }
     }
 
+    /// The desk has said that the connection is over. Who is woken then sees that a switch's is.
+    pub(crate) fn close(&self) {
+        self.bells.end(self.side);
+    }
+
     /// After all messages.
     pub(crate) fn finish<R: Wait>(mut self, rt: &R) {
         self.let_go();
