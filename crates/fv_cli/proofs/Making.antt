@@ -5,12 +5,10 @@ use Rattle.std.specs.List.{flat_map}
 use Rattle.std.proofs.Math.Seq.{drop-append_seam, take-append_seam}
 use Rattle.std.proofs.lemmas.List.{length-append}
 use Rattle.std.proofs.lemmas.Bool.{and_parts}
-use Rattle.recording.specs.declared.item.Item.{Item}
-use Rattle.recording.specs.Recordings.{Told, head_spelling, spell, magic, told_at, all_told, read_items}
+use Rattle.recording.specs.Recordings.{Told, head_spelling, spell, magic, told_at, all_told}
 use Rattle.desk_words.specs.Recorded.{told_by, told_in}
 use Rattle.fv_base.specs.Words.{FormBytes, OfCheck, OfReplay, OfGen, OfServe, replay_of, gen_of, seed_of, rounds_of, number_of, within, serve_of, form_of, is_plain, connections_of}
 use Rattle.fv_generator.specs.Made.{records_of, recording_of}
-use Rattle.fv_generator.proofs.Accepted.{recording_is_read}
 
 pub same_Ok : {A E : Type 0} (result : Result A E) (x y : A) → result ≡ Ok x → result ≡ Ok y → x ≡ y
 same_Ok {A} {E} result x y first second = subst (λ (r : Result A E). IfOk r (λ v. x ≡ v)) (sym first ∙ second) refl
@@ -42,11 +40,9 @@ read_behind before (t ∷ others) =
     (subst (λ (text : List ℕ). told_in text (all_told (length (before ++ spell t)) others) ≡ others) (append_assoc before (spell t) rest) (read_behind (before ++ spell t) others)) in
     ap₂ (λ (bytes : List ℕ) (more : List Told). told_by (told_at (length before) t) bytes ∷ more) carries later
 
--- the items that are read of a made recording tell the records that were drawn
-pub made_is_told : (slices seed count : ℕ) (items : List Item) → slices ≡ 2 → count ≤ 1000000 → read_items slices (recording_of seed count) ≡ Ok items → told_in (recording_of seed count) items ≡ records_of seed count
-made_is_told slices seed count items two few read =
-    let same : items ≡ all_told 8 (records_of seed count) = same_Ok (read_items slices (recording_of seed count)) items (all_told 8 (records_of seed count)) read (ap (λ (n : ℕ). read_items n (recording_of seed count)) two ∙ recording_is_read seed count few) in
-    ap (told_in (recording_of seed count)) same ∙ read_behind magic (records_of seed count)
+-- the records that are read of a made recording tell those that were drawn
+pub made_is_told : (seed count : ℕ) → told_in (recording_of seed count) (all_told 8 (records_of seed count)) ≡ records_of seed count
+made_is_told seed count = read_behind magic (records_of seed count)
 
 -- ---- how many rounds
 

@@ -3,7 +3,7 @@
 ghost use Rattle.std.specs.Prelude.{◌≡◌, ◌≤◌, ◌<◌, ◌^◌, ℕ, List, length, true, Ok, IfOk, IfErr, IfSome, OnOk};
 ghost use Rattle.std.specs.List.{All};
 ghost use Rattle.fv_base.specs.Words.{form_of};
-ghost use Rattle.recording.specs.Recordings.{IsItem};
+ghost use Rattle.recording.specs.Recordings.{IsItem, all_told, read_items};
 ghost use Rattle.desk_words.specs.Recorded.{told_in};
 ghost use Rattle.desk_words.specs.Reports.{report};
 ghost use Rattle.fv_generator.specs.Made.{records_of};
@@ -150,19 +150,13 @@ fn run<O: Sink>(alloc: Global, policy: &Policy, recording: &Recording, out: &mut
     }
 }
 
-/// A made recording, and the records of it, under a policy of so many slices.
-fn made_recording(alloc: Global, seed: u64, count: u32, slices: u8) -> Result<Recording, AllocError>
-    requires few { count ≤ 1000000 }
-    requires slices { slices ≡ length the_policy.slices }
-    ensures records { IfOk result (λ recording. told_in recording.bytes.items recording.items.items ≡ records_of seed count) }
-    ensures items { IfOk result (λ recording. All (IsItem (length the_policy.slices) recording.bytes.items) recording.items.items) }
+/// A made recording, which is accepted under the policy that is made for it.
+fn made_recording(alloc: Global, seed: u64, count: u32) -> Result<Vec<u8>, AllocError>
+    requires { count ≤ 1000000 }
+    ensures read { IfOk result (λ bytes. read_items (length the_policy.slices) bytes.items ≡ Ok (all_told 8 (records_of seed count))) }
+    ensures told { IfOk result (λ bytes. told_in bytes.items (all_told 8 (records_of seed count)) ≡ records_of seed count) }
 {
-    let bytes = fv_generator::made(alloc, seed, count)?;
-    match items(alloc, &bytes, slices) {
-        Ok(items) => Ok(Recording { bytes, items }),
-        // A made recording is accepted, so this is want of memory.
-        Err(_) => Err(AllocError),
-    }
+    fv_generator::made(alloc, seed, count)
 }
 
 /// Makes a recording, runs it under the policy that is made for it, and writes the summary.
@@ -175,10 +169,10 @@ fn generate<O: Sink>(alloc: Global, seed: u64, count: u32, out: &mut O) -> Endin
     let Ok(policy) = fv_generator::policy(alloc) else {
         return Ending::NoMemory;
     };
-    let Ok(recording) = made_recording(alloc, seed, count, policy.slice_count()) else {
+    let Ok(bytes) = made_recording(alloc, seed, count) else {
         return Ending::NoMemory;
     };
-    match summarise(alloc, &policy, &recording.bytes, &recording.items, out) {
+    match summarise(alloc, &policy, &bytes, out) {
         Ok(()) => Ending::Done,
         Err(ReportFault::WriteFault) => Ending::WriteFault,
         Err(ReportFault::Memory) => Ending::NoMemoryToRun,

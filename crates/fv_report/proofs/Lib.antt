@@ -9,3 +9,4 @@ pub mod Playing
 pub mod Running
 pub mod Texts
 pub mod Counting
+mod Walking

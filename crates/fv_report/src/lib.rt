@@ -13,6 +13,7 @@ mod summary;
 mod switch;
 mod teller;
 mod turn;
+mod walk;
 
 pub use fault::ReportFault;
 pub use run::{report, report_items};

@@ -29,7 +29,7 @@ fn carried<'a>(file: &'a [u8], item: &Item) -> &'a [u8]
 }
 
 /// No switch is known yet.
-fn no_switches(alloc: Global) -> Result<Vec<Option<Switch>>, AllocError>
+pub(crate) fn no_switches(alloc: Global) -> Result<Vec<Option<Switch>>, AllocError>
     ensures { IfOk result (λ v. AreUnknown v.items) }
 {
     let mut switches = Vec::new(alloc);
@@ -85,7 +85,7 @@ fn play_among<T: Teller>(
 }
 
 /// Plays a record of the file.
-fn play_item<T: Teller>(
+pub(crate) fn play_item<T: Teller>(
     alloc: Global,
     teller: &mut T,
     policy: &Policy,

@@ -1,8 +1,8 @@
 //! The summary of a recording.
 
-ghost use Rattle.std.specs.Prelude.{ℕ, ◌≡◌, ◌++◌, List, length, codes, decimal, OnOk, IfOk};
-ghost use Rattle.std.specs.List.{All};
-ghost use Rattle.recording.specs.Recordings.{IsItem};
+ghost use Rattle.std.specs.Prelude.{ℕ, ◌≡◌, ◌++◌, List, length, codes, decimal, Ok, OnOk, IfOk};
+ghost use Rattle.recording.specs.declared.item.Item.{Item};
+ghost use Rattle.recording.specs.Recordings.{read_items};
 ghost use Rattle.desk_words.specs.Recorded.{told_in};
 ghost use Rattle.summary_words.specs.Summaries.{count_line, count_lines, summary};
 ghost use Rattle.fv_report.specs.Counting.{IsCount, AreCounts, Counts, summary_text};
@@ -11,11 +11,10 @@ ghost use Rattle.fv_report.specs.Writing.{Wrote, Counted};
 use crate::counter::{Count, Counter};
 use crate::fault::ReportFault;
 use crate::line::put;
-use crate::run::tell_items;
+use crate::walk::tell_file;
 use flowspace::Policy;
 use fv_base::Sink;
 use itoa::Buffer;
-use recording::Item;
 use std::alloc::{AllocError, Global};
 
 fn put_number(text: &mut Vec<u8>, number: u64) -> Result<(), AllocError>
@@ -66,21 +65,21 @@ fn made(
     Ok(text)
 }
 
-/// Writes the summary of the records of a file to `out`: how many events there were, and how many messages
-/// the switch and each slice got. A fault leaves a prefix of it.
+/// Writes the summary of a recording to `out`: how many events there were, and how many messages the switch
+/// and each slice got. A fault leaves a prefix of it. Each record is read as it is played, so that memory is
+/// taken for what is played alone.
 pub fn summarise<K: Sink>(
     alloc: Global,
     policy: &Policy,
     bytes: &[u8],
-    items: &[Item],
     out: &mut K,
 ) -> Result<(), ReportFault>
-    requires { All (IsItem (length policy.now.slices) bytes.now) items.now }
-    ensures writes { Wrote result (summary policy.now (told_in bytes.now items.now)) (K.contents out.old) (K.contents out.new) }
+    requires { (items : List Item) × (read_items (length policy.now.slices) bytes.now ≡ Ok items) }
+    ensures writes { (items : List Item) → read_items (length policy.now.slices) bytes.now ≡ Ok items → Wrote result (summary policy.now (told_in bytes.now items)) (K.contents out.old) (K.contents out.new) }
     ensures counted { Counted result (K.faults out.old) (K.faults out.new) }
 {
     let mut counter = Counter::new(alloc, policy.slice_count())?;
-    let events = tell_items(alloc, &mut counter, policy, bytes, items)?;
+    let events = tell_file(alloc, &mut counter, policy, bytes)?;
     let text = made(alloc, policy, events, &counter)?;
     put(out, &text)
 }

@@ -1,16 +1,22 @@
-use Rattle.std.proofs.Common.{ℕ, List, ◌≡◌, ◌∙◌, Ok, ap, subst}
-use Rattle.recording.specs.Recordings.{read_items}
+use Rattle.std.proofs.Common.{ℕ, List, ◌≡◌, ◌∙◌, length, Ok, ap, sym, subst}
+use Rattle.std.proofs.lemmas.Result.{IfOk-weaker}
+use Rattle.recording.specs.Recordings.{all_told, read_items}
 use Rattle.desk_words.specs.Recorded.{told_in}
-use Rattle.fv_generator.specs.Made.{recording_of}
+use Rattle.fv_generator.specs.Made.{records_of, recording_of}
 use Rattle.fv_generator.specs.Policies.{the_policy}
+use Rattle.fv_generator.proofs.Accepted.{recording_is_read}
 use Rattle.fv_cli.proofs.Making.{made_is_told}
 use Rattle.fv_cli.proofs.program.made_recording.Goals as goal
 
-pub returns-in-Ok-clause-records : goal.returns-in-Ok-clause-records
+pub returns-clause-read : goal.returns-clause-read
 unfolding the_policy
-returns-in-Ok-clause-records c =
-    let file = recording_of c.args.seed c.args.count in
-    let items = c.in-Ok.items.items in
-    let made : c.in_ok-bytes.bytes.items ≡ file = c.in_ok-bytes.ensures in
-    let read : read_items c.args.slices file ≡ Ok items = subst (λ (bytes : List ℕ). read_items c.args.slices bytes ≡ Ok items) (c.deref.ensures.value ∙ made) c.in-Ok.ensures.exact in
-    ap (λ (bytes : List ℕ). told_in bytes items) made ∙ made_is_told c.args.slices c.args.seed c.args.count items c.requires.slices c.requires.few read
+returns-clause-read c =
+    let told = all_told 8 (records_of c.args.seed c.args.count) in
+    IfOk-weaker c.made.result (λ v. v.items ≡ recording_of c.args.seed c.args.count) (λ v. read_items (length the_policy.slices) v.items ≡ Ok told)
+    (λ v made. subst (λ (bytes : List ℕ). read_items (length the_policy.slices) bytes ≡ Ok told) (sym made) (recording_is_read c.args.seed c.args.count c.requires)) c.made.ensures
+
+pub returns-clause-told : goal.returns-clause-told
+returns-clause-told c =
+    let told = all_told 8 (records_of c.args.seed c.args.count) in
+    IfOk-weaker c.made.result (λ v. v.items ≡ recording_of c.args.seed c.args.count) (λ v. told_in v.items told ≡ records_of c.args.seed c.args.count)
+    (λ v made. ap (λ (bytes : List ℕ). told_in bytes told) made ∙ made_is_told c.args.seed c.args.count) c.made.ensures
