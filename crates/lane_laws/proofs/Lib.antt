@@ -6,5 +6,7 @@ pub mod Outs
 pub mod Forwarded
 pub mod Asked
 pub mod Sent
+pub mod Ranged
+pub mod Told
 pub mod Whole
 pub mod Reacting

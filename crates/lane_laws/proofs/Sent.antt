@@ -63,7 +63,7 @@ use Rattle.desk_words.specs.Laws.{HasSeen}
 use Rattle.desk_words.proofs.Alone.{has_told, opened_told, blind}
 use Rattle.desk_words.proofs.Silence.{sees_nothing}
 use Rattle.desk_words.proofs.Seen.{seen}
-use Rattle.lane_laws.specs.Lane.{IsEitherThat, AsksForReply, IsSentThat, LiesInFlowspace, NamesOwnPort, OutputsToOwnPorts, LeavesOtherHeaders, SendsOwnPacket, SendsToOwnPorts, ChangesNoTable, IsBufferHeader, CarriesOwnBuffer, SendsOwnBuffer, IsOwnBuffer, HoldsWritten, rules_in, settings_in, ports_in, ground_at, switch_number, flow_mods_at, packet_out_at, KeepsRate, IsPermitted, IsPermittedOut, IsPermittedQuestion, IsAnyPermitted, AsksOwnPort}
+use Rattle.lane_laws.specs.Lane.{AsksForReply, LiesInFlowspace, NamesOwnPort, OutputsToOwnPorts, LeavesOtherHeaders, SendsOwnPacket, SendsToOwnPorts, ChangesNoTable, IsBufferHeader, CarriesOwnBuffer, SendsOwnBuffer, IsOwnBuffer, HoldsWritten, rules_in, settings_in, ports_in, ground_at, switch_number, flow_mods_at, packet_out_at, KeepsRate, IsPermitted, IsPermittedOut, IsPermittedQuestion, IsAnyPermitted, AsksOwnPort}
 use Rattle.lane_laws.proofs.Keeping.{IsKept, kept_now}
 use Rattle.slice_side.specs.Checking.{IsQuestion}
 use Rattle.lane_laws.proofs.Forwarded.{put_whole, out_whole, question_whole, put_or_none}
@@ -214,11 +214,15 @@ pub record HoldsOfSent (P : List Rule → FlowMod → Type 0) (Q : List Rule →
   pub questions : (features : Features) → opening_of h ≡ Some features → is_slot policy slot ≡ true → (asked : FromController) (question : List ℕ) → read_controller message ≡ Ok asked
       → IsQuestion (ground_by policy slot h (Some features)) message asked question → R (rules_on features.datapath policy.rules) question
 
+-- a message is spelled from a flow-mod of which one thing holds, or from a packet-out of which another does
+abbrev pub IsSpelled : (FlowMod → Type 0) → (PacketOut → Type 0) → List ℕ → Type 0
+IsSpelled OfFlowMod OfPacketOut message = ((m : FlowMod) × (message ≡ spell_flow_mod m) × OfFlowMod m) ⊎ ((m : PacketOut) × (message ≡ spell_packet_out m) × OfPacketOut m)
+
 -- holds of each message
 pub each_in_lane : (P : List Rule → FlowMod → Type 0) (Q : List Rule → PacketOut → Type 0) (R : List Rule → List ℕ → Type 0) (policy : PolicyView) (h : List Timed) (timed : Timed) (slot : ℕ) (message : List ℕ) → timed.event ≡ SliceMsg slot message
-    → HoldsOfSent P Q R policy slot h message → All (λ sent. IsEitherThat (P (rules_in policy h)) (Q (rules_in policy h)) sent ⊎ R (rules_in policy h) sent) (lane_by policy h timed)
+    → HoldsOfSent P Q R policy slot h message → All (λ sent. IsSpelled (P (rules_in policy h)) (Q (rules_in policy h)) sent ⊎ R (rules_in policy h) sent) (lane_by policy h timed)
 each_in_lane P Q R policy h timed slot message is holds =
-    let Each = λ (sent : List ℕ). IsEitherThat (P (rules_in policy h)) (Q (rules_in policy h)) sent ⊎ R (rules_in policy h) sent in
+    let Each = λ (sent : List ℕ). IsSpelled (P (rules_in policy h)) (Q (rules_in policy h)) sent ⊎ R (rules_in policy h) sent in
     elim (lane_or_some policy h timed slot message is) [
       | inl none ↦ rw none (All-nil Each)
       | inr (up, inl some) ↦
@@ -454,14 +458,13 @@ out_lies_on policy accepted slot h features is here m none =
     (out_lies (IsBufferHeader h) policy.slices rules (IsSwitchPolicy-rules_on policy.slices policy.rules features.datapath accepted) came g slot m
     (slot_is policy slot (Some features) (slice_get policy.slices slot) refl) (patterns_are policy slot (Some features) here) (held_written policy slot h features is here))
 
-pub each_lies : (policy : PolicyView) → IsPolicy policy.slices policy.rules → (h : List Timed) (timed : Timed) (slot : ℕ) (message : List ℕ) → timed.event ≡ SliceMsg slot message
-    → All (IsSentThat (LiesInFlowspace (rules_in policy h) slot) (SendsOwnPacket (IsBufferHeader h) (rules_in policy h) slot)) (lane_by policy h timed)
-each_lies policy accepted h timed slot message is =
-    each_in_lane (λ rules. LiesInFlowspace rules slot) (λ rules. SendsOwnPacket (IsBufferHeader h) rules slot) (λ rules. AsksForReply) policy h timed slot message is (record {
-      questions = λ features opened here asked question read may. asks_for_reply (ground_by policy slot h (Some features)) message question asked read may;
-      flow_mods = λ features opened here m read none. lies_on policy accepted slot h features here m;
-      packet_outs = λ features opened here m read none. out_lies_on policy accepted slot h features opened here m none;
-    })
+pub all_lie : (policy : PolicyView) → IsPolicy policy.slices policy.rules → (h : List Timed) (slot : ℕ) (message : List ℕ)
+    → HoldsOfSent (λ rules. LiesInFlowspace rules slot) (λ rules. SendsOwnPacket (IsBufferHeader h) rules slot) (λ rules. AsksForReply) policy slot h message
+all_lie policy accepted h slot message = record {
+  questions = λ features opened here asked question read may. asks_for_reply (ground_by policy slot h (Some features)) message question asked read may;
+  flow_mods = λ features opened here m read none. lies_on policy accepted slot h features here m;
+  packet_outs = λ features opened here m read none. out_lies_on policy accepted slot h features opened here m none;
+}
 
 -- ---- the law on ports
 
@@ -487,31 +490,28 @@ out_outputs_on policy slot h features is here m none =
     let came = (side_of policy slot h).sight.came in
     out_holds (SendsToOwnPorts rules slot) came g m none (out_outputs rules came g slot m (ways_hold policy slot h features is here m))
 
-pub each_outputs : (policy : PolicyView) (h : List Timed) (timed : Timed) (slot : ℕ) (message : List ℕ) → timed.event ≡ SliceMsg slot message
-    → All (IsSentThat (OutputsToOwnPorts (rules_in policy h) slot) (SendsToOwnPorts (rules_in policy h) slot)) (lane_by policy h timed)
-each_outputs policy h timed slot message is =
-    each_in_lane (λ rules. OutputsToOwnPorts rules slot) (λ rules. SendsToOwnPorts rules slot) (λ rules. AsksForReply) policy h timed slot message is (record {
-      questions = λ features opened here asked question read may. asks_for_reply (ground_by policy slot h (Some features)) message question asked read may;
-      flow_mods = λ features opened here m read none. outputs_on policy slot h features opened here m;
-      packet_outs = λ features opened here m read none. out_outputs_on policy slot h features opened here m none;
-    })
+pub all_output : (policy : PolicyView) (h : List Timed) (slot : ℕ) (message : List ℕ) → HoldsOfSent (λ rules. OutputsToOwnPorts rules slot) (λ rules. SendsToOwnPorts rules slot) (λ rules. AsksForReply) policy slot h message
+all_output policy h slot message = record {
+  questions = λ features opened here asked question read may. asks_for_reply (ground_by policy slot h (Some features)) message question asked read may;
+  flow_mods = λ features opened here m read none. outputs_on policy slot h features opened here m;
+  packet_outs = λ features opened here m read none. out_outputs_on policy slot h features opened here m none;
+}
 
 -- ---- the law on flow tables
 
 pub leaves : (rules : List Rule) (slot : ℕ) (m : FlowMod) → LiesInFlowspace rules slot m → LeavesOtherHeaders rules slot m
 leaves rules slot m lies h range outside table = Treatment-Apply table m h (λ has. outside (lies h range has))
 
-pub each_leaves : (policy : PolicyView) → IsPolicy policy.slices policy.rules → (h : List Timed) (timed : Timed) (slot : ℕ) (message : List ℕ) → timed.event ≡ SliceMsg slot message
-    → All (IsSentThat (LeavesOtherHeaders (rules_in policy h) slot) ChangesNoTable) (lane_by policy h timed)
-each_leaves policy accepted h timed slot message is =
-    each_in_lane (λ rules. LeavesOtherHeaders rules slot) (λ rules. ChangesNoTable) (λ rules. AsksForReply) policy h timed slot message is (record {
-      questions = λ features opened here asked question read may. asks_for_reply (ground_by policy slot h (Some features)) message question asked read may;
-      flow_mods = λ features opened here m read none.
-          let rules = rules_on features.datapath policy.rules in
-          let ms = flow_mods_by policy slot h (ground_by policy slot h (Some features)) m in
-          All-weaker (LiesInFlowspace rules slot) (LeavesOtherHeaders rules slot) (λ sent lies. leaves rules slot sent lies) ms (lies_on policy accepted slot h features here m);
-      packet_outs = λ features opened here m read none. tt;
-    })
+pub all_leave : (policy : PolicyView) → IsPolicy policy.slices policy.rules → (h : List Timed) (slot : ℕ) (message : List ℕ)
+    → HoldsOfSent (λ rules. LeavesOtherHeaders rules slot) (λ rules. ChangesNoTable) (λ rules. AsksForReply) policy slot h message
+all_leave policy accepted h slot message = record {
+  questions = λ features opened here asked question read may. asks_for_reply (ground_by policy slot h (Some features)) message question asked read may;
+  flow_mods = λ features opened here m read none.
+      let rules = rules_on features.datapath policy.rules in
+      let ms = flow_mods_by policy slot h (ground_by policy slot h (Some features)) m in
+      All-weaker (LiesInFlowspace rules slot) (LeavesOtherHeaders rules slot) (λ sent lies. leaves rules slot sent lies) ms (lies_on policy accepted slot h features here m);
+  packet_outs = λ features opened here m read none. tt;
+}
 
 -- ---- the law on buffers
 
@@ -600,11 +600,9 @@ held_are_written policy h slot = elim (cases_Bool (is_slot policy slot)) [
         (All-weaker (λ packet. IsKept policy slot rules h (switch_number policy slot h packet.ordinal) packet) (λ packet. Writes rules slot packet.header)
         (λ packet kept. subst (Writes rules slot) (sym kept.header) kept.written) (held_packets (past_of s (view_of policy slot h))) (kept_now policy slot s h features here is))
 
-pub each_buffer : (policy : PolicyView) (h : List Timed) (timed : Timed) (slot : ℕ) (message : List ℕ) → timed.event ≡ SliceMsg slot message
-    → All (IsSentThat (CarriesOwnBuffer policy slot h) (SendsOwnBuffer policy slot h)) (lane_by policy h timed)
-each_buffer policy h timed slot message is =
-    each_in_lane (λ rules. CarriesOwnBuffer policy slot h) (λ rules. SendsOwnBuffer policy slot h) (λ rules. AsksForReply) policy h timed slot message is (record {
-      questions = λ features opened here asked question read may. asks_for_reply (ground_by policy slot h (Some features)) message question asked read may;
-      flow_mods = λ features opened here m read none. buffers_on policy slot h features opened here m;
-      packet_outs = λ features opened here m read none. out_buffers_on policy slot h features opened here m none;
-    })
+pub all_own : (policy : PolicyView) (h : List Timed) (slot : ℕ) (message : List ℕ) → HoldsOfSent (λ rules. CarriesOwnBuffer policy slot h) (λ rules. SendsOwnBuffer policy slot h) (λ rules. AsksForReply) policy slot h message
+all_own policy h slot message = record {
+  questions = λ features opened here asked question read may. asks_for_reply (ground_by policy slot h (Some features)) message question asked read may;
+  flow_mods = λ features opened here m read none. buffers_on policy slot h features opened here m;
+  packet_outs = λ features opened here m read none. out_buffers_on policy slot h features opened here m none;
+}

@@ -2,7 +2,8 @@
 use Rattle.std.specs.Prelude.{ℕ, ◌≡◌, ◌⊎◌, ◌<◌, ◌^◌, true, false, List, [], ◌∷◌, Any, All, find, Option, Some, None, IsSome, option_map, Ok}
 use Rattle.of10_model.specs.Header.{Header, IsHeader}
 use Rattle.of10_model.specs.Pattern.{Has}
-use Rattle.of10_model.specs.Normal.{is_value}
+use Rattle.of10_model.specs.Normal.{IsNormal, is_value}
+use Rattle.of10_action.specs.Actions.{IsAction}
 use Rattle.of10_action.specs.declared.action.Action.{Action}
 use Rattle.of10_action.specs.declared.action.Action.TheVariants.{Output, Enqueue}
 use Rattle.of10_ctl.specs.declared.kind.TheConstants.{FLOW_MOD, PACKET_OUT, STATS_REQUEST, BARRIER_REQUEST, QUEUE_GET_CONFIG_REQUEST}
@@ -48,13 +49,32 @@ use Rattle.desk_words.specs.Histories.{settings_at, header_in, handed, packet_to
 
 -- ---- of one message
 
--- a message is a flow-mod of which something holds (OpenFlow 1.0.0, section 5.3.3)
-abbrev pub IsFlowModThat : (FlowMod → Type 0) → List ℕ → Type 0
-IsFlowModThat Holds message = (m : FlowMod) × (message ≡ spell_flow_mod m) × Holds m
+-- each field of a flow-mod but its transaction id lies in its range, and its match is normal: so its bytes tell it, and are of no other such flow-mod (OpenFlow 1.0.0, section 5.3.3)
+pub record IsRanged (m : FlowMod) : Type 0 where
+  pub pattern : IsNormal m.pattern
+  pub cookie : m.cookie < 2 ^ 64
+  pub command : m.command < 2 ^ 16
+  pub idle : m.idle < 2 ^ 16
+  pub hard : m.hard < 2 ^ 16
+  pub priority : m.priority < 2 ^ 16
+  pub buffer : m.buffer < 2 ^ 32
+  pub out_port : m.out_port < 2 ^ 16
+  pub flags : m.flags < 2 ^ 16
+  pub actions : All IsAction m.actions
 
--- a message is a packet-out of which something holds (section 5.3.6)
+-- the number, the port and the actions of a packet-out lie in their ranges (section 5.3.6)
+pub record IsRangedOut (m : PacketOut) : Type 0 where
+  pub buffer : m.buffer < 2 ^ 32
+  pub in_port : m.in_port < 2 ^ 16
+  pub actions : All IsAction m.actions
+
+-- a message is a flow-mod, with its fields in their ranges, of which something holds
+abbrev pub IsFlowModThat : (FlowMod → Type 0) → List ℕ → Type 0
+IsFlowModThat Holds message = (m : FlowMod) × (message ≡ spell_flow_mod m) × IsRanged m × Holds m
+
+-- a message is a packet-out, with its fields in their ranges, of which something holds
 abbrev pub IsPacketOutThat : (PacketOut → Type 0) → List ℕ → Type 0
-IsPacketOutThat Holds message = (m : PacketOut) × (message ≡ spell_packet_out m) × Holds m
+IsPacketOutThat Holds message = (m : PacketOut) × (message ≡ spell_packet_out m) × IsRangedOut m × Holds m
 
 -- a message is a flow-mod of which one thing holds, or a packet-out of which another does
 abbrev pub IsEitherThat : (FlowMod → Type 0) → (PacketOut → Type 0) → List ℕ → Type 0
@@ -245,6 +265,10 @@ HoldsWritten rules slot s sight = All (λ packet. Writes rules slot packet.heade
 -- so it is of each packet that a state of the slice holds
 abbrev pub KeepsWritten : List Rule → ℕ → SliceState → Type 0
 KeepsWritten rules slot state = All (λ packet. Writes rules slot packet.header) state.buffers.held
+
+-- the switch's number of each packet that a state holds has 32 bits, and the port by which it came 16, as their types have in the code
+abbrev pub KeepsRanged : SliceState → Type 0
+KeepsRanged state = All (λ packet. (packet.physical < 2 ^ 32) × (packet.header.in_port < 2 ^ 16)) state.buffers.held
 
 -- a header is that of a packet which the state holds, and which the switch keeps under this number
 abbrev pub IsKeptHeader : SliceState → ℕ → Header → Type 0

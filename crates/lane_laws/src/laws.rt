@@ -1,11 +1,12 @@
 //! Laws of what a slice has sent to the switch. Each function's contract is the law; its body does nothing.
 
-ghost use Rattle.std.specs.Prelude.{ℕ, ◌≡◌, ◌<◌, ◌⊎◌, true, false, List, [], ◌∷◌, map, drop, Some, All};
+ghost use Rattle.std.specs.Prelude.{ℕ, ◌≡◌, ◌<◌, ◌≤◌, ◌⊎◌, true, false, List, [], ◌∷◌, length, map, drop, Some, Ok, All};
+ghost use Rattle.of10_model.specs.Normal.{number_at};
 ghost use Rattle.of10_model.specs.declared.pattern.Pattern.{Pattern};
 ghost use Rattle.of10_flow.specs.declared.flow_mod.FlowMod.{FlowMod};
 ghost use Rattle.of10_flow.specs.declared.packet_out.PacketOut.{PacketOut};
-ghost use Rattle.of10_flow.specs.FlowMods.{spell_flow_mod};
-ghost use Rattle.of10_flow.specs.PacketOuts.{spell_packet_out};
+ghost use Rattle.of10_flow.specs.FlowMods.{spell_flow_mod, read_flow_mod};
+ghost use Rattle.of10_flow.specs.PacketOuts.{spell_packet_out, read_packet_out};
 ghost use Rattle.of10_ctl.specs.declared.kind.TheConstants.{BARRIER_REQUEST, QUEUE_GET_CONFIG_REQUEST};
 ghost use Rattle.of10_ctl.specs.Frames.{message_of};
 ghost use Rattle.of10_stats.specs.declared.request.StatsRequest.{StatsRequest};
@@ -27,37 +28,47 @@ ghost use Rattle.desk_words.specs.declared.event.Event.TheVariants.{SliceMsg};
 ghost use Rattle.desk_words.specs.declared.event.Timed.{Timed};
 ghost use Rattle.desk_words.specs.Histories.{side_of, is_slice_up};
 ghost use Rattle.desk_words.specs.Sent.{lane_by};
-ghost use Rattle.lane_laws.specs.Lane.{IsSentThat, LiesInFlowspace, OutputsToOwnPorts, LeavesOtherHeaders, StaysWithin, SendsOwnPacket, SendsToOwnPorts, ChangesNoTable, SendsWithin, IsReadThat, IsOfBytes, IsBufferHeader, CarriesOwnBuffer, SendsOwnBuffer, HoldsWritten, KeepsWritten, IsKeptHeader, rules_in, settings_in, ports_in, ground_at, flow_mods_at, packet_out_at, IsPermitted, IsPermittedOut, IsPermittedQuestion, IsAnyPermitted};
+ghost use Rattle.lane_laws.specs.Lane.{IsRanged, IsRangedOut, IsSentThat, LiesInFlowspace, OutputsToOwnPorts, LeavesOtherHeaders, StaysWithin, SendsOwnPacket, SendsToOwnPorts, ChangesNoTable, SendsWithin, IsReadThat, IsOfBytes, IsBufferHeader, CarriesOwnBuffer, SendsOwnBuffer, HoldsWritten, KeepsWritten, KeepsRanged, IsKeptHeader, rules_in, settings_in, ports_in, ground_at, flow_mods_at, packet_out_at, IsPermitted, IsPermittedOut, IsPermittedQuestion, IsAnyPermitted};
 
 /// Whatever a message of a slice has sent to the switch is a flow-mod, and the slice writes each header of its
 /// match; or it is a packet-out of a packet that the slice writes, or of a probe with the slice's mark; or it is
-/// neither, and asks for statistics, for a port's queues, or for the reply to a barrier.
+/// neither, and asks for statistics, for a port's queues, or for the reply to a barrier. The flow-mod's match is
+/// normal, and the fields of both lie in their ranges, so that the message is the bytes of no other
+/// (`messages_tell_their_fields`). Here and in the next three laws the messages are of bytes and the rules' matches
+/// are normal, as each `u8` and each `Match` is.
 pub fn messages_lie_in_the_flowspace()
-    ensures { (policy : PolicyView) → IsPolicy policy.slices policy.rules → (h : List Timed) (timed : Timed) (slot : ℕ) (message : List ℕ) → timed.event ≡ SliceMsg slot message
-        → All (IsSentThat (LiesInFlowspace (rules_in policy h) slot) (SendsOwnPacket (IsBufferHeader h) (rules_in policy h) slot)) (lane_by policy h timed) }
+    ensures { (policy : PolicyView) → IsPolicy policy.slices policy.rules → AreNormal policy.rules → (h : List Timed) (timed : Timed) (slot : ℕ) (message : List ℕ) → All (λ t. IsOfBytes t.event) (timed ∷ h)
+        → timed.event ≡ SliceMsg slot message → All (IsSentThat (LiesInFlowspace (rules_in policy h) slot) (SendsOwnPacket (IsBufferHeader h) (rules_in policy h) slot)) (lane_by policy h timed) }
 {}
 
 /// Each OUTPUT and ENQUEUE of such a flow-mod or packet-out names a port of the slice or IN_PORT, an OUTPUT maybe CONTROLLER,
 /// and in a packet-out maybe TABLE, but of a probe neither.
 pub fn outputs_name_the_slices_ports()
-    ensures { (policy : PolicyView) (h : List Timed) (timed : Timed) (slot : ℕ) (message : List ℕ) → timed.event ≡ SliceMsg slot message
-        → All (IsSentThat (OutputsToOwnPorts (rules_in policy h) slot) (SendsToOwnPorts (rules_in policy h) slot)) (lane_by policy h timed) }
+    ensures { (policy : PolicyView) → AreNormal policy.rules → (h : List Timed) (timed : Timed) (slot : ℕ) (message : List ℕ) → All (λ t. IsOfBytes t.event) (timed ∷ h)
+        → timed.event ≡ SliceMsg slot message → All (IsSentThat (OutputsToOwnPorts (rules_in policy h) slot) (SendsToOwnPorts (rules_in policy h) slot)) (lane_by policy h timed) }
 {}
 
 /// It leaves every flow table treating each header that the slice doesn't write as before: it is a flow-mod
 /// that does, or a packet-out or a question, which change none.
 pub fn other_headers_are_treated_as_before()
-    ensures { (policy : PolicyView) → IsPolicy policy.slices policy.rules → (h : List Timed) (timed : Timed) (slot : ℕ) (message : List ℕ) → timed.event ≡ SliceMsg slot message
-        → All (IsSentThat (LeavesOtherHeaders (rules_in policy h) slot) ChangesNoTable) (lane_by policy h timed) }
+    ensures { (policy : PolicyView) → IsPolicy policy.slices policy.rules → AreNormal policy.rules → (h : List Timed) (timed : Timed) (slot : ℕ) (message : List ℕ) → All (λ t. IsOfBytes t.event) (timed ∷ h)
+        → timed.event ≡ SliceMsg slot message → All (IsSentThat (LeavesOtherHeaders (rules_in policy h) slot) ChangesNoTable) (lane_by policy h timed) }
 {}
 
 /// Where such a message carries a number, the last packet-in that has the number gave its packet to the slice
 /// as the one who writes it, and the packet lies in what the slice writes; that of a flow-mod, in its match, too.
 /// The slice writes the header of each packet that it holds.
 pub fn buffers_are_the_slices_own()
-    ensures messages { (policy : PolicyView) (h : List Timed) (timed : Timed) (slot : ℕ) (message : List ℕ) → timed.event ≡ SliceMsg slot message
-        → All (IsSentThat (CarriesOwnBuffer policy slot h) (SendsOwnBuffer policy slot h)) (lane_by policy h timed) }
+    ensures messages { (policy : PolicyView) → AreNormal policy.rules → (h : List Timed) (timed : Timed) (slot : ℕ) (message : List ℕ) → All (λ t. IsOfBytes t.event) (timed ∷ h)
+        → timed.event ≡ SliceMsg slot message → All (IsSentThat (CarriesOwnBuffer policy slot h) (SendsOwnBuffer policy slot h)) (lane_by policy h timed) }
     ensures held { (policy : PolicyView) (h : List Timed) (slot : ℕ) → HoldsWritten (rules_in policy h) slot (settings_in policy slot h) (side_of policy slot h).sight }
+{}
+
+/// From the bytes of a flow-mod of which these laws speak, or of a packet-out of at most 65,535 bytes, a switch
+/// reads just its fields, all but the transaction id. So what they say of a message is said of what a switch reads.
+pub fn messages_tell_their_fields()
+    ensures flow_mods { (m : FlowMod) → IsRanged m → read_flow_mod (spell_flow_mod m) ≡ Ok (record m { xid = number_at (spell_flow_mod m) 4 4 }) }
+    ensures packet_outs { (m : PacketOut) → IsRangedOut m → length (spell_packet_out m) ≤ 65535 → read_packet_out (spell_packet_out m) ≡ Ok (record m { xid = number_at (spell_packet_out m) 4 4 }) }
 {}
 
 /// Where the messages of the switch and of the slice are of bytes, a switch reads whatever it has sent as a
@@ -110,16 +121,18 @@ pub fn permitted_questions_are_sent()
 /// The first three hold of what `slice_side::react` has sent on by its clause `sent`, for the policy, the ports
 /// and the state that it is given, whatever the state stands for, where the slice writes the header of each packet
 /// that the state holds. In the place of the header under a number is that of the packet that is held. Where the
-/// state stands for what the slice sees of a history, the slice writes these headers.
+/// state stands for what the slice sees of a history, the slice writes these headers. The rules' matches are
+/// normal, the message is of bytes, and the switch's numbers and the ports of the packets that are held have their
+/// 32 and 16 bits, as each `Match`, `u8`, `u32` and `u16`.
 pub fn reactions_stay_within_the_slice()
     ensures flowspace { (policy : SwitchView) (known : List (List ℕ)) (state : SliceState) (slot : ℕ) (message : List ℕ) (sent : List (List ℕ))
-        → IsSwitchPolicy policy.slices policy.rules → KeepsWritten policy.rules slot state → AreSentOn policy.rules slot known state message (read_controller message) sent
+        → IsSwitchPolicy policy.slices policy.rules → KeepsWritten policy.rules slot state → AreNormal policy.rules → KeepsRanged state → All (λ byte. byte < 256) message → AreSentOn policy.rules slot known state message (read_controller message) sent
         → All (IsSentThat (LiesInFlowspace policy.rules slot) (SendsOwnPacket (IsKeptHeader state) policy.rules slot)) sent }
     ensures ports { (policy : SwitchView) (known : List (List ℕ)) (state : SliceState) (slot : ℕ) (message : List ℕ) (sent : List (List ℕ))
-        → AreSentOn policy.rules slot known state message (read_controller message) sent
+        → AreNormal policy.rules → KeepsRanged state → All (λ byte. byte < 256) message → AreSentOn policy.rules slot known state message (read_controller message) sent
         → All (IsSentThat (OutputsToOwnPorts policy.rules slot) (SendsToOwnPorts policy.rules slot)) sent }
     ensures headers { (policy : SwitchView) (known : List (List ℕ)) (state : SliceState) (slot : ℕ) (message : List ℕ) (sent : List (List ℕ))
-        → IsSwitchPolicy policy.slices policy.rules → AreSentOn policy.rules slot known state message (read_controller message) sent
+        → IsSwitchPolicy policy.slices policy.rules → AreNormal policy.rules → KeepsRanged state → All (λ byte. byte < 256) message → AreSentOn policy.rules slot known state message (read_controller message) sent
         → All (IsSentThat (LeavesOtherHeaders policy.rules slot) ChangesNoTable) sent }
     ensures states { (policy : PolicyView) (h : List Timed) (slot : ℕ) (state : SliceState) → SliceStands (settings_in policy slot h) (side_of policy slot h).sight state → KeepsWritten (rules_in policy h) slot state }
 {}

@@ -5,17 +5,17 @@
 //! definitions.
 #![tactic(auto)]
 
-ghost use Rattle.std.specs.Prelude.{ℕ, ◌≡◌, true, List, map, All};
+ghost use Rattle.std.specs.Prelude.{ℕ, ◌≡◌, true, List, ◌∷◌, map, All};
 ghost use Rattle.of10_flow.specs.declared.flow_mod.FlowMod.{FlowMod};
 ghost use Rattle.of10_flow.specs.FlowMods.{spell_flow_mod};
-ghost use Rattle.flowspace.specs.Policies.{PolicyView, IsPolicy};
+ghost use Rattle.flowspace.specs.Policies.{PolicyView, IsPolicy, AreNormal};
 ghost use Rattle.recording.specs.Recordings.{Told};
 ghost use Rattle.desk_words.specs.declared.event.Event.TheVariants.{SliceMsg};
 ghost use Rattle.desk_words.specs.declared.event.Timed.{Timed};
 ghost use Rattle.desk_words.specs.Histories.{is_slice_up};
 ghost use Rattle.desk_words.specs.Sent.{lane_by};
 ghost use Rattle.desk_words.specs.Laws.{IsAlone, AreAlike, IsErasable};
-ghost use Rattle.lane_laws.specs.Lane.{IsSentThat, LiesInFlowspace, OutputsToOwnPorts, LeavesOtherHeaders, SendsOwnPacket, SendsToOwnPorts, ChangesNoTable, IsBufferHeader, CarriesOwnBuffer, SendsOwnBuffer, IsPermitted, flow_mods_at, rules_in};
+ghost use Rattle.lane_laws.specs.Lane.{IsSentThat, LiesInFlowspace, OutputsToOwnPorts, LeavesOtherHeaders, StaysWithin, SendsOwnPacket, SendsToOwnPorts, ChangesNoTable, SendsWithin, IsReadThat, IsOfBytes, IsBufferHeader, CarriesOwnBuffer, SendsOwnBuffer, IsPermitted, flow_mods_at, rules_in};
 ghost use Rattle.promise.specs.Ups.{IsToldAsAloneAtEachUp};
 
 // A slice is served as by a proxy of its own.
@@ -47,31 +47,41 @@ pub fn slice_is_told_as_alone_at_each_up()
 
 /// Whatever a message of a slice has sent to the switch is a flow-mod, and the slice writes each header of its
 /// match; or it is a packet-out of a packet that the slice writes, or of a probe with the slice's mark; or it
-/// asks the switch for a reply. A law of `lane_laws`, where `switches_read_such_messages` says the same of what a
-/// switch reads.
+/// asks the switch for a reply. The flow-mod's match is normal, and the fields of both lie in their ranges, so that
+/// the message is the bytes of no other (`messages_tell_their_fields` of `lane_laws`). Here and in the next four
+/// laws the messages are of bytes and the rules' matches are normal, as each `u8` and each `Match` is. A law of
+/// `lane_laws`.
 pub fn messages_lie_in_the_flowspace()
-    ensures { (policy : PolicyView) → IsPolicy policy.slices policy.rules → (h : List Timed) (timed : Timed) (slot : ℕ) (message : List ℕ) → timed.event ≡ SliceMsg slot message
-        → All (IsSentThat (LiesInFlowspace (rules_in policy h) slot) (SendsOwnPacket (IsBufferHeader h) (rules_in policy h) slot)) (lane_by policy h timed) }
+    ensures { (policy : PolicyView) → IsPolicy policy.slices policy.rules → AreNormal policy.rules → (h : List Timed) (timed : Timed) (slot : ℕ) (message : List ℕ) → All (λ t. IsOfBytes t.event) (timed ∷ h)
+        → timed.event ≡ SliceMsg slot message → All (IsSentThat (LiesInFlowspace (rules_in policy h) slot) (SendsOwnPacket (IsBufferHeader h) (rules_in policy h) slot)) (lane_by policy h timed) }
 {}
 
 /// Each OUTPUT and ENQUEUE of such a flow-mod or packet-out names a port of the slice or IN_PORT, an OUTPUT maybe
 /// CONTROLLER, and in a packet-out maybe TABLE, but of a probe neither. A law of `lane_laws`.
 pub fn outputs_name_the_slices_ports()
-    ensures { (policy : PolicyView) (h : List Timed) (timed : Timed) (slot : ℕ) (message : List ℕ) → timed.event ≡ SliceMsg slot message
-        → All (IsSentThat (OutputsToOwnPorts (rules_in policy h) slot) (SendsToOwnPorts (rules_in policy h) slot)) (lane_by policy h timed) }
+    ensures { (policy : PolicyView) → AreNormal policy.rules → (h : List Timed) (timed : Timed) (slot : ℕ) (message : List ℕ) → All (λ t. IsOfBytes t.event) (timed ∷ h)
+        → timed.event ≡ SliceMsg slot message → All (IsSentThat (OutputsToOwnPorts (rules_in policy h) slot) (SendsToOwnPorts (rules_in policy h) slot)) (lane_by policy h timed) }
 {}
 
 /// It leaves every flow table treating each header that the slice doesn't write as before. A law of `lane_laws`.
 pub fn other_headers_are_treated_as_before()
-    ensures { (policy : PolicyView) → IsPolicy policy.slices policy.rules → (h : List Timed) (timed : Timed) (slot : ℕ) (message : List ℕ) → timed.event ≡ SliceMsg slot message
-        → All (IsSentThat (LeavesOtherHeaders (rules_in policy h) slot) ChangesNoTable) (lane_by policy h timed) }
+    ensures { (policy : PolicyView) → IsPolicy policy.slices policy.rules → AreNormal policy.rules → (h : List Timed) (timed : Timed) (slot : ℕ) (message : List ℕ) → All (λ t. IsOfBytes t.event) (timed ∷ h)
+        → timed.event ≡ SliceMsg slot message → All (IsSentThat (LeavesOtherHeaders (rules_in policy h) slot) ChangesNoTable) (lane_by policy h timed) }
 {}
 
 /// Where such a message carries a number, the last packet-in that has the number gave its packet to the slice as
 /// the one who writes it. In `lane_laws` the law says also that the slice writes each packet that it holds.
 pub fn buffers_are_the_slices_own()
-    ensures { (policy : PolicyView) (h : List Timed) (timed : Timed) (slot : ℕ) (message : List ℕ) → timed.event ≡ SliceMsg slot message
-        → All (IsSentThat (CarriesOwnBuffer policy slot h) (SendsOwnBuffer policy slot h)) (lane_by policy h timed) }
+    ensures { (policy : PolicyView) → AreNormal policy.rules → (h : List Timed) (timed : Timed) (slot : ℕ) (message : List ℕ) → All (λ t. IsOfBytes t.event) (timed ∷ h)
+        → timed.event ≡ SliceMsg slot message → All (IsSentThat (CarriesOwnBuffer policy slot h) (SendsOwnBuffer policy slot h)) (lane_by policy h timed) }
+{}
+
+/// A switch reads whatever such a message has sent as a flow-mod or a packet-out of which the first three of these
+/// hold, and whose actions send only what the slice writes, or as a question that the slice may ask. A law of
+/// `lane_laws`.
+pub fn switches_read_such_messages()
+    ensures { (policy : PolicyView) → IsPolicy policy.slices policy.rules → AreNormal policy.rules → (h : List Timed) (timed : Timed) (slot : ℕ) (message : List ℕ) → All (λ t. IsOfBytes t.event) (timed ∷ h)
+        → timed.event ≡ SliceMsg slot message → All (IsReadThat (StaysWithin (rules_in policy h) slot) (SendsWithin (IsBufferHeader h) (rules_in policy h) slot) (rules_in policy h) slot) (lane_by policy h timed) }
 {}
 
 /// And a slice isn't refused what it may do: a flow-mod of a slice that is up is sent where it keeps the rate and

@@ -1,4 +1,4 @@
-use Rattle.lane_laws.proofs.Sent.{each_outputs}
+use Rattle.lane_laws.proofs.Ranged.{each_outputs}
 use Rattle.promise.proofs.outputs_name_the_slices_ports.Goals as goal
 
 pub returns : goal.returns
