@@ -25,13 +25,13 @@ pub struct FlowMod {
     pub cookie: u64,
     /// What to do, such as `protocol::ADD`.
     pub command: u16,
-    /// Seconds without a packet after which the entry goes; 0 for never.
+    /// Seconds without a packet after which the entry goes (idle_timeout); 0 for never.
     pub idle: u16,
-    /// Seconds after which the entry goes; 0 for never.
+    /// Seconds after which the entry goes (hard_timeout); 0 for never.
     pub hard: u16,
     /// The higher one is looked at first.
     pub priority: u16,
-    /// The buffered packet that the actions are applied to as well, or `protocol::NO_BUFFER`.
+    /// The buffered packet that the actions are applied to as well (buffer_id), or `protocol::NO_BUFFER`.
     pub buffer: u32,
     /// What a delete asks of an entry: an output to this port, or to any port where this is 0xffff.
     pub out_port: u16,
@@ -49,13 +49,13 @@ pub struct FlowModView<'a> {
     pub cookie: u64,
     /// What to do, such as `protocol::ADD`.
     pub command: u16,
-    /// Seconds without a packet after which the entry goes; 0 for never.
+    /// Seconds without a packet after which the entry goes (idle_timeout); 0 for never.
     pub idle: u16,
-    /// Seconds after which the entry goes; 0 for never.
+    /// Seconds after which the entry goes (hard_timeout); 0 for never.
     pub hard: u16,
     /// The higher one is looked at first.
     pub priority: u16,
-    /// The buffered packet that the actions are applied to as well, or `protocol::NO_BUFFER`.
+    /// The buffered packet that the actions are applied to as well (buffer_id), or `protocol::NO_BUFFER`.
     pub buffer: u32,
     /// What a delete asks of an entry: an output to this port, or to any port where this is 0xffff.
     pub out_port: u16,

@@ -28,7 +28,7 @@ pub struct FlowRemoved {
     /// How long the entry stood: whole seconds, and the nanoseconds beyond them.
     pub seconds: u32,
     pub nanos: u32,
-    /// The seconds without a packet that it was given.
+    /// The seconds without a packet that it was given (idle_timeout).
     pub idle: u16,
     /// Packets that it matched, and their bytes.
     pub packets: u64,

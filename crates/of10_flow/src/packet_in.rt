@@ -17,7 +17,7 @@ use std::alloc::{AllocError, Global};
 #[derive(Debug, Drop)]
 pub struct PacketIn {
     pub xid: u32,
-    /// The buffer that holds the packet, or `protocol::NO_BUFFER`.
+    /// The buffer that holds the packet (buffer_id), or `protocol::NO_BUFFER`.
     pub buffer: u32,
     /// Bytes of the whole packet, of which the payload may be the first ones.
     pub total_len: u16,
@@ -32,7 +32,7 @@ pub struct PacketIn {
 #[derive(Clone, Copy, Debug)]
 pub struct PacketInView<'a> {
     pub xid: u32,
-    /// The buffer that holds the packet, or `protocol::NO_BUFFER`.
+    /// The buffer that holds the packet (buffer_id), or `protocol::NO_BUFFER`.
     pub buffer: u32,
     /// Bytes of the whole packet, of which the payload may be the first ones.
     pub total_len: u16,

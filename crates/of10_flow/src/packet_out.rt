@@ -18,7 +18,7 @@ use std::alloc::{AllocError, Global};
 #[derive(Debug, Drop)]
 pub struct PacketOut {
     pub xid: u32,
-    /// The buffer that holds the packet, or `protocol::NO_BUFFER` where the payload is the packet.
+    /// The buffer that holds the packet (buffer_id), or `protocol::NO_BUFFER` where the payload is the packet.
     pub buffer: u32,
     /// The port by which the packet counts as received.
     pub in_port: u16,

@@ -22,11 +22,11 @@ const PORT: usize = 48;
 /// What a switch says of itself (OpenFlow 1.0.0, section 5.3.1).
 #[derive(Debug, Drop)]
 pub struct Features {
-    /// The number of the switch's datapath.
+    /// The number of the switch's datapath (datapath_id).
     pub datapath: u64,
-    /// How many packets it can hold for a controller.
+    /// How many packets it can hold for a controller (n_buffers).
     pub buffers: u32,
-    /// How many flow tables it has.
+    /// How many flow tables it has (n_tables).
     pub tables: u8,
     /// What it can do beside forwarding, a bit for each.
     pub capabilities: u32,
