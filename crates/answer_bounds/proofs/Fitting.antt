@@ -7,7 +7,7 @@ use Rattle.desk_words.specs.declared.event.Event.{Event}
 use Rattle.desk_words.specs.declared.event.Event.TheVariants.{SwitchUp, SwitchMsg, SwitchDown, SliceUp, SliceMsg, SliceDown}
 use Rattle.desk_words.specs.declared.event.Timed.{Timed}
 use Rattle.desk_words.specs.declared.phase.Phase.{Phase}
-use Rattle.desk_words.specs.declared.phase.Phase.TheVariants.{Fresh, Begun, Opened, Ended}
+use Rattle.desk_words.specs.declared.phase.Phase.TheVariants.{Fresh, Begun, Opened, Gone}
 use Rattle.desk_words.specs.Openings.{phase_of, opening_of}
 use Rattle.desk_words.specs.Histories.{is_slot, settings_at, side_of, view_of}
 use Rattle.desk_words.specs.Sent.{slice_lane}
@@ -32,7 +32,7 @@ of_slice_small : (policy : PolicyView) (h : List Timed) (timed : Timed) (phase :
     → IsSmallOfSlice (λ slot. slice_lane policy slot h timed) phase event
 of_slice_small policy h timed Fresh event at is framed one = tt
 of_slice_small policy h timed Begun event at is framed one = tt
-of_slice_small policy h timed Ended event at is framed one = tt
+of_slice_small policy h timed Gone event at is framed one = tt
 of_slice_small policy h timed Opened SwitchUp at is framed one = tt
 of_slice_small policy h timed Opened (SwitchMsg message) at is framed one = tt
 of_slice_small policy h timed Opened SwitchDown at is framed one = tt

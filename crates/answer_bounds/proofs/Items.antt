@@ -32,7 +32,7 @@ use Rattle.desk_words.specs.declared.event.Event.{Event}
 use Rattle.desk_words.specs.declared.event.Event.TheVariants.{SwitchUp, SwitchMsg, SwitchDown, SliceUp, SliceMsg, SliceDown}
 use Rattle.desk_words.specs.declared.event.Timed.{Timed}
 use Rattle.desk_words.specs.declared.phase.Phase.{Phase}
-use Rattle.desk_words.specs.declared.phase.Phase.TheVariants.{Fresh, Begun, Opened, Ended}
+use Rattle.desk_words.specs.declared.phase.Phase.TheVariants.{Fresh, Begun, Opened, Gone}
 use Rattle.of10_ctl.specs.Kinds.{is_of}
 use Rattle.desk_words.specs.Openings.{well_formed, status_told, opening_with, rules_of, Switch, switch_of, phase_of, opening_of}
 use Rattle.desk_words.specs.Histories.{is_slot, settings_at, own_features, handed, header_in, number_given, marked_slot, shares_of, holder, packet_items, packet_in_items, Side, status_items, removed_items, is_reply_to, error_items, barrier_items, queues_items, message_items, opening_items, event_items, phase_items, items_of, side_of, view_of}
@@ -223,7 +223,7 @@ phase_answered policy slot switch side timed Fresh ports whole framed = answered
 phase_answered policy slot switch side timed Begun ports whole framed =
     answered_few (tells_statistics timed.event) (settings_at policy slot switch.features) side.sight.view _ (opening_few policy slot side.sight.view (opening_with Begun timed.event))
 phase_answered policy slot switch side timed Opened ports whole framed = event_answered policy slot timed.moment switch side timed.event ports whole framed
-phase_answered policy slot switch side timed Ended ports whole framed = answered_few (tells_statistics timed.event) (settings_at policy slot switch.features) side.sight.view [] (no_items side.sight.view)
+phase_answered policy slot switch side timed Gone ports whole framed = answered_few (tells_statistics timed.event) (settings_at policy slot switch.features) side.sight.view [] (no_items side.sight.view)
 
 -- ---- histories
 

@@ -10,7 +10,7 @@ use Rattle.of10_model.proofs.Results.{either}
 use Rattle.desk_words.specs.declared.event.Event.{Event}
 use Rattle.desk_words.specs.declared.event.Event.TheVariants.{SwitchUp, SwitchMsg, SwitchDown, SliceUp, SliceMsg, SliceDown}
 use Rattle.desk_words.specs.declared.phase.Phase.{Phase}
-use Rattle.desk_words.specs.declared.phase.Phase.TheVariants.{Fresh, Begun, Opened, Ended}
+use Rattle.desk_words.specs.declared.phase.Phase.TheVariants.{Fresh, Begun, Opened, Gone}
 use Rattle.of10_ctl.specs.Kinds.{is_of}
 use Rattle.desk_words.specs.Openings.{features_told}
 use Rattle.desk_words.specs.Sent.{greeting, whole_packets, clearing, preparation, echo_for, lane_in}
@@ -56,7 +56,7 @@ IsSmallOfSlice of_slice Opened (SliceMsg slot message) = AreSmall 262144 (of_sli
 IsSmallOfSlice of_slice phase event = Unit {0}
 
 pub lane_small : (of_slice : ℕ → List (List ℕ)) (phase : Phase) (event : Event) → IsSmallOfSlice of_slice phase event → IsFramed event → AreSmall 262144 (lane_in of_slice phase event)
-lane_small of_slice Ended event small framed = small-none 262144
+lane_small of_slice Gone event small framed = small-none 262144
 lane_small of_slice Fresh SwitchUp small framed = small_greeting
 lane_small of_slice Fresh (SwitchMsg message) small framed = small-none 262144
 lane_small of_slice Fresh SwitchDown small framed = small-none 262144

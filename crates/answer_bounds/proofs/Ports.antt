@@ -27,9 +27,9 @@ use Rattle.desk_words.specs.declared.event.Event.{Event}
 use Rattle.desk_words.specs.declared.event.Event.TheVariants.{SwitchUp, SwitchMsg, SwitchDown, SliceUp, SliceMsg, SliceDown}
 use Rattle.desk_words.specs.declared.event.Timed.{Timed}
 use Rattle.desk_words.specs.declared.phase.Phase.{Phase}
-use Rattle.desk_words.specs.declared.phase.Phase.TheVariants.{Fresh, Begun, Opened, Ended}
+use Rattle.desk_words.specs.declared.phase.Phase.TheVariants.{Fresh, Begun, Opened, Gone}
 use Rattle.of10_ctl.specs.Kinds.{is_of}
-use Rattle.desk_words.specs.Openings.{well_formed, features_told, status_told, phase_of, opening_after, opening_of, known_of}
+use Rattle.desk_words.specs.Openings.{well_formed, features_told, status_told, phase_of, opening_after, opening_of, ports_after}
 use Rattle.desk_words.specs.Histories.{is_slot, settings_at, Side, view_of}
 use Rattle.desk_words.specs.Laws.{HasSeen}
 use Rattle.desk_words.proofs.Alone.{blind}
@@ -133,7 +133,7 @@ whole_plainly status known one all =
 whole_changed : (status : PortStatus) (known : List (List ℕ)) → IsWhole status → All IsPort known → All IsPort (changed status known)
 whole_changed status known one all = by_kept (All IsPort) status known (λ is. whole_plainly status known one all) (λ isnt. all)
 
-whole_known : (h : List Timed) → All IsPort (known_of h)
+whole_known : (h : List Timed) → All IsPort (ports_after h)
 whole_known h = known_holds (All IsPort) (record {
   none = All-nil IsPort;
   first = λ message. IfSome_then (features_told message) (told_whole message) (λ features has. whole_first features.ports has);
@@ -146,7 +146,7 @@ few_after : (phase : Phase) (told : Option Features) (event : Event) → IfSome 
 few_after phase (Some features) event has framed = has
 few_after Fresh None event has framed = tt
 few_after Opened None event has framed = tt
-few_after Ended None event has framed = tt
+few_after Gone None event has framed = tt
 few_after Begun None (SwitchMsg message) has framed = told_few message framed.small
 few_after Begun None SwitchUp has framed = tt
 few_after Begun None SwitchDown has framed = tt
@@ -159,7 +159,7 @@ few_opening [] framed = tt
 few_opening (timed ∷ h) framed =
     few_after (phase_of h) (opening_of h) timed.event (few_opening h (All-tail (λ t. IsFramed t.event) timed h framed)) (All-head (λ t. IsFramed t.event) timed h framed)
 
-few_known : (h : List Timed) → AreFramed h → length (known_of h) ≤ 1364
+few_known : (h : List Timed) → AreFramed h → length (ports_after h) ≤ 1364
 few_known h framed = (in_order h).few (few_opening h framed)
 
 -- ---- the slice's own of them
@@ -187,8 +187,8 @@ few_by : (policy : PolicyView) (slot : ℕ) (h : List Timed) (told : Option Feat
 few_by policy slot h None is framed here = subst (λ (side : Side). HasFewPorts side.sight.view) (sym (blind policy slot h is)) few_start
 few_by policy slot h (Some features) is framed here =
     let s = settings_at policy slot (Some features) in
-    let has : HasSeen policy slot features (known_of h) (view_of policy slot h) = seen policy slot h features is here in
-    few_view (view_of policy slot h) (own_rules s) s.slot (known_of h) has.ports_known (few_known h framed) (whole_known h)
+    let has : HasSeen policy slot features (ports_after h) (view_of policy slot h) = seen policy slot h features is here in
+    few_view (view_of policy slot h) (own_rules s) s.slot (ports_after h) has.ports_known (few_known h framed) (whole_known h)
 
 pub few_ports : (policy : PolicyView) (slot : ℕ) (h : List Timed) → AreFramed h → is_slot policy slot ≡ true → HasFewPorts (view_of policy slot h)
 few_ports policy slot h framed here = few_by policy slot h (opening_of h) refl framed here

@@ -11,7 +11,7 @@ use Rattle.desk_words.specs.declared.event.Event.{Event}
 use Rattle.desk_words.specs.declared.event.Event.TheVariants.{SwitchUp, SwitchMsg, SwitchDown, SliceUp, SliceMsg, SliceDown}
 use Rattle.desk_words.specs.declared.event.Timed.{Timed}
 use Rattle.desk_words.specs.declared.phase.Phase.{Phase}
-use Rattle.desk_words.specs.declared.phase.Phase.TheVariants.{Fresh, Begun, Opened, Ended}
+use Rattle.desk_words.specs.declared.phase.Phase.TheVariants.{Fresh, Begun, Opened, Gone}
 use Rattle.desk_words.specs.Openings.{features_told, phase_after, phase_of, opening_with, opening_after, opening_of, Switch, switch_of}
 use Rattle.desk_words.specs.Histories.{is_slot, settings_at, Side, side_start, items_of, phase_items, opening_items, with_shown, side_of, view_of, is_open}
 use Rattle.desk_words.specs.Laws.{IsAlone, AreAlike, IsBlindBefore}
@@ -23,7 +23,7 @@ abbrev pub has_told : Option Features → Bool
 has_told None = false
 has_told (Some features) = true
 
-told_begun : (bad : Bool) (told : Option Features) → is_open (if bad then Ended else elim told [ None ↦ Begun | Some features ↦ Opened ]) ≡ true → has_told told ≡ true
+told_begun : (bad : Bool) (told : Option Features) → is_open (if bad then Gone else elim told [ None ↦ Begun | Some features ↦ Opened ]) ≡ true → has_told told ≡ true
 told_begun true told opened = absurd (true≢false (sym opened))
 told_begun false None opened = absurd (true≢false (sym opened))
 told_begun false (Some features) opened = refl
@@ -51,7 +51,7 @@ told_after Begun told (SliceUp slot) before opened = absurd (true≢false (sym o
 told_after Begun told (SliceMsg slot message) before opened = absurd (true≢false (sym opened))
 told_after Begun told (SliceDown slot) before opened = absurd (true≢false (sym opened))
 told_after Opened told event before opened = told_still told Opened event (before refl)
-told_after Ended told event before opened = absurd (true≢false (sym opened))
+told_after Gone told event before opened = absurd (true≢false (sym opened))
 
 -- an open desk has its opening
 pub opened_told : (h : List Timed) → is_open (phase_of h) ≡ true → has_told (opening_of h) ≡ true
@@ -72,7 +72,7 @@ pub none_in : (policy : PolicyView) (slot : ℕ) (switch : Switch) (side : Side)
 none_in policy slot switch side timed Fresh shut none = refl
 none_in policy slot switch side timed Begun shut none = none_begun policy slot (opening_with Begun timed.event) none
 none_in policy slot switch side timed Opened shut none = absurd (true≢false shut)
-none_in policy slot switch side timed Ended shut none = refl
+none_in policy slot switch side timed Gone shut none = refl
 
 shut_of : (opened : Bool) (told : Option Features) → (opened ≡ true → has_told told ≡ true) → told ≡ None → opened ≡ false
 shut_of true None tells none = sym (tells refl)
@@ -88,7 +88,7 @@ unnumbered : (phase : Phase) (timed : Timed) (side : Side) → is_open phase ≡
 unnumbered Fresh timed side shut = refl
 unnumbered Begun timed side shut = refl
 unnumbered Opened timed side shut = absurd (true≢false shut)
-unnumbered Ended timed side shut = refl
+unnumbered Gone timed side shut = refl
 
 pub blind : (policy : PolicyView) (slot : ℕ) (h : List Timed) → IsBlindBefore policy slot h
 blind policy slot [] none = refl
@@ -113,7 +113,7 @@ early_in : (s : Settings) (policy : PolicyView) (slot : ℕ) (switch : Switch) (
 early_in s policy slot switch timed Fresh shut = refl
 early_in s policy slot switch timed Begun shut = opening_unsent s policy slot (opening_with Begun timed.event)
 early_in s policy slot switch timed Opened shut = absurd (true≢false shut)
-early_in s policy slot switch timed Ended shut = refl
+early_in s policy slot switch timed Gone shut = refl
 
 early_unsent : (b : Bool) (s : Settings) (items : List Item) → sent_for s [] items ≡ [] → sent_for s [] (cond b items []) ≡ []
 early_unsent true s items none = none

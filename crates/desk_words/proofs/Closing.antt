@@ -8,7 +8,7 @@ use Rattle.desk_words.specs.declared.event.Event.{Event}
 use Rattle.desk_words.specs.declared.event.Event.TheVariants.{SwitchUp, SwitchMsg, SwitchDown, SliceUp, SliceMsg, SliceDown}
 use Rattle.desk_words.specs.declared.event.Timed.{Timed}
 use Rattle.desk_words.specs.declared.phase.Phase.{Phase}
-use Rattle.desk_words.specs.declared.phase.Phase.TheVariants.{Fresh, Begun, Opened, Ended}
+use Rattle.desk_words.specs.declared.phase.Phase.TheVariants.{Fresh, Begun, Opened, Gone}
 use Rattle.desk_words.specs.Openings.{phase_after, phase_of}
 use Rattle.desk_words.specs.Histories.{is_slot, is_open, view_of, is_slice_up}
 use Rattle.desk_words.specs.Verdicts.{is_fresh, closes}
@@ -31,7 +31,7 @@ still_fresh Fresh (SliceMsg other message) slot of fresh = refl
 still_fresh Fresh (SliceDown other) slot of fresh = refl
 still_fresh Begun event slot of fresh = absurd cc
 still_fresh Opened event slot of fresh = absurd cc
-still_fresh Ended event slot of fresh = absurd cc
+still_fresh Gone event slot of fresh = absurd cc
 
 by_parts : (fresh here up : Bool) → (fresh ≡ true → up ≡ false) → (here ≡ false → up ≡ false) → up ≡ not ((fresh && not false) || not here || (not false && not up))
 by_parts true here up early out = early refl
@@ -68,11 +68,11 @@ goes_on phase (SliceDown other) slot of = absurd cc
 goes_on Fresh (SliceUp other) slot of = refl
 goes_on Begun (SliceUp other) slot of = refl
 goes_on Opened (SliceUp other) slot of = refl
-goes_on Ended (SliceUp other) slot of = refl
+goes_on Gone (SliceUp other) slot of = refl
 goes_on Fresh (SliceMsg other message) slot of = refl
 goes_on Begun (SliceMsg other message) slot of = refl
 goes_on Opened (SliceMsg other message) slot of = refl
-goes_on Ended (SliceMsg other message) slot of = refl
+goes_on Gone (SliceMsg other message) slot of = refl
 
 pub none_ends : (h : List Timed) (timed : Timed) (slot : ℕ) → speaker timed.event ≡ Some slot → ends h timed ≡ false
 none_ends h timed slot of = goes_on (phase_of h) timed.event slot of

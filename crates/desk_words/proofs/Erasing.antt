@@ -8,7 +8,7 @@ use Rattle.desk_words.specs.declared.event.Event.{Event}
 use Rattle.desk_words.specs.declared.event.Event.TheVariants.{SwitchUp, SwitchMsg, SwitchDown, SliceUp, SliceMsg, SliceDown}
 use Rattle.desk_words.specs.declared.event.Timed.{Timed}
 use Rattle.desk_words.specs.declared.phase.Phase.{Phase}
-use Rattle.desk_words.specs.declared.phase.Phase.TheVariants.{Fresh, Begun, Opened, Ended}
+use Rattle.desk_words.specs.declared.phase.Phase.TheVariants.{Fresh, Begun, Opened, Gone}
 use Rattle.slice_words.specs.Alone.{sent_for}
 use Rattle.desk_words.specs.Openings.{phase_of, phase_after, opening_after, known_after, Switch, switch_after, switch_of, opening_of}
 use Rattle.desk_words.specs.Histories.{is_slot, settings_at, Side, items_of, phase_items, event_items, with_shown, side_of, view_of}
@@ -32,9 +32,9 @@ slices_phase Begun (SliceDown slot) is = refl
 slices_phase Opened (SliceUp slot) is = refl
 slices_phase Opened (SliceMsg slot message) is = refl
 slices_phase Opened (SliceDown slot) is = refl
-slices_phase Ended (SliceUp slot) is = refl
-slices_phase Ended (SliceMsg slot message) is = refl
-slices_phase Ended (SliceDown slot) is = refl
+slices_phase Gone (SliceUp slot) is = refl
+slices_phase Gone (SliceMsg slot message) is = refl
+slices_phase Gone (SliceDown slot) is = refl
 slices_phase phase SwitchUp is = absurd (true≢false (sym is))
 slices_phase phase (SwitchMsg message) is = absurd (true≢false (sym is))
 slices_phase phase SwitchDown is = absurd (true≢false (sym is))
@@ -49,11 +49,11 @@ slices_opening Begun None SwitchUp is = refl
 slices_opening Begun None (SwitchMsg message) is = absurd (true≢false (sym is))
 slices_opening Begun None SwitchDown is = refl
 slices_opening Opened None event is = refl
-slices_opening Ended None event is = refl
+slices_opening Gone None event is = refl
 
 slices_known : (phase : Phase) (known : List (List ℕ)) (event : Event) → is_slices event ≡ true → known_after phase known event ≡ known
 slices_known Fresh known event is = refl
-slices_known Ended known event is = refl
+slices_known Gone known event is = refl
 slices_known Begun known (SliceUp slot) is = refl
 slices_known Begun known (SliceMsg slot message) is = refl
 slices_known Begun known (SliceDown slot) is = refl
@@ -102,7 +102,7 @@ others_in : (policy : PolicyView) (slot : ℕ) (switch : Switch) (side : Side) (
 others_in policy slot switch side timed Fresh is = refl
 others_in policy slot switch side timed Begun is = others_begun policy slot switch side timed timed.event refl is
 others_in policy slot switch side timed Opened is = others_shown policy slot switch side timed.moment timed.event is
-others_in policy slot switch side timed Ended is = refl
+others_in policy slot switch side timed Gone is = refl
 
 pub others_items : (policy : PolicyView) (slot : ℕ) (switch : Switch) (side : Side) (timed : Timed)
     → is_others slot timed.event ≡ true → items_of policy slot switch side timed ≡ []
@@ -119,7 +119,7 @@ slices_unnumbered Opened (SwitchMsg message) moment side is = absurd (true≢fal
 slices_unnumbered Opened SwitchDown moment side is = absurd (true≢false (sym is))
 slices_unnumbered Fresh event moment side is = refl
 slices_unnumbered Begun event moment side is = refl
-slices_unnumbered Ended event moment side is = refl
+slices_unnumbered Gone event moment side is = refl
 
 -- ---- histories
 

@@ -25,7 +25,7 @@ use Rattle.slice_words.specs.Answers.{answer}
 use Rattle.slice_words.specs.Alone.{number_of, with_items, answer_to}
 use Rattle.slice_words.specs.Standing.{past_of}
 use Rattle.slice_words.proofs.Holding.{recent, view_in-played}
-use Rattle.desk_words.specs.Histories.{is_slot, settings_at, header_in, handed, packet_told, number_given, marked_slot, packet_items, packet_in_items, lost_items, message_items, event_items, opening_items, phase_items, status_items, number_told, with_shown, side_start, side_of, Numbered, Side, holder, is_given, is_any_given, came_with, numbered_with}
+use Rattle.desk_words.specs.Histories.{is_slot, settings_at, header_in, handed, packet_in_read, number_given, marked_slot, packet_items, packet_in_items, lost_items, message_items, event_items, opening_items, phase_items, status_items, number_told, with_shown, side_start, side_of, Numbered, Side, holder, is_given, is_any_given, came_with, numbered_with}
 use Rattle.desk_words.specs.Numbers.{AreNumbered}
 use Rattle.of10_model.proofs.Results.{either}
 use Rattle.of10_flow.specs.FlowRemoveds.{read_flow_removed}
@@ -39,7 +39,7 @@ use Rattle.desk_words.specs.declared.event.Event.{Event}
 use Rattle.desk_words.specs.declared.event.Event.TheVariants.{SwitchUp, SwitchMsg, SwitchDown, SliceUp, SliceMsg, SliceDown}
 use Rattle.desk_words.specs.declared.event.Timed.{Timed}
 use Rattle.desk_words.specs.declared.phase.Phase.{Phase}
-use Rattle.desk_words.specs.declared.phase.Phase.TheVariants.{Fresh, Begun, Opened, Ended}
+use Rattle.desk_words.specs.declared.phase.Phase.TheVariants.{Fresh, Begun, Opened, Gone}
 use Rattle.desk_words.specs.Openings.{well_formed, status_told, opening_with, rules_of, Switch, switch_of, phase_of}
 use Rattle.desk_words.proofs.Silence.{none_or, none_of_removed, none_of_error, none_of_replies}
 use Rattle.desk_words.proofs.Seen.{no_kind}
@@ -394,14 +394,14 @@ none_of_others policy slot switch side message other =
     none_of_status t known (Some status) = none_or is_given (is_kept status known && is_own_port t (port_number status.port)) (Status status ∷ []) refl
 
 other_message : (s : Settings) (policy : PolicyView) (slot : ℕ) (switch : Switch) (side : Side) (message : List ℕ) → is_of PACKET_IN message ≡ false → AreNumbered s side
-    → AreNumbered s (after_items (option_and_then number_given (packet_told message)) (message_items policy slot switch side message) side)
+    → AreNumbered s (after_items (option_and_then number_given (packet_in_read message)) (message_items policy slot switch side message) side)
 other_message s policy slot switch side message is n =
-    let none : option_and_then number_given (packet_told message) ≡ None = rw is refl in
+    let none : option_and_then number_given (packet_in_read message) ≡ None = rw is refl in
     subst (λ number. AreNumbered s (after_items number (message_items policy slot switch side message) side)) (sym none)
     (still_numbered s side (message_items policy slot switch side message) (none_of_others policy slot switch side message is) n)
 
 by_message : (s : Settings) (policy : PolicyView) (slot : ℕ) (switch : Switch) (side : Side) (message : List ℕ) (of_packet : Bool) → is_of PACKET_IN message ≡ of_packet → AreNumbered s side
-    → AreNumbered s (after_items (option_and_then number_given (packet_told message)) (message_items policy slot switch side message) side)
+    → AreNumbered s (after_items (option_and_then number_given (packet_in_read message)) (message_items policy slot switch side message) side)
 unfolding message_items
 by_message s policy slot switch side message true is n =
     rw (is, not_bad message is) (by_packet s policy (rules_of policy switch.features) slot side (well_formed (read_packet_in message)) n)
@@ -426,7 +426,7 @@ by_phase : (s : Settings) (policy : PolicyView) (slot : ℕ) (switch : Switch) (
 by_phase s policy slot switch side timed Fresh n = n
 by_phase s policy slot switch side timed Begun n = by_opening s policy slot side (opening_with Begun timed.event) n
 by_phase s policy slot switch side timed Opened n = by_event s policy slot timed.moment switch side timed.event n
-by_phase s policy slot switch side timed Ended n = n
+by_phase s policy slot switch side timed Gone n = n
 
 -- ---- histories
 

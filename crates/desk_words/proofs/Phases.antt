@@ -8,11 +8,11 @@ use Rattle.desk_words.specs.declared.event.Event.{Event}
 use Rattle.desk_words.specs.declared.event.Event.TheVariants.{SwitchUp, SwitchMsg, SwitchDown, SliceUp, SliceMsg, SliceDown}
 use Rattle.desk_words.specs.declared.event.Timed.{Timed}
 use Rattle.desk_words.specs.declared.phase.Phase.{Phase}
-use Rattle.desk_words.specs.declared.phase.Phase.TheVariants.{Fresh, Begun, Opened, Ended}
+use Rattle.desk_words.specs.declared.phase.Phase.TheVariants.{Fresh, Begun, Opened, Gone}
 use Rattle.desk_words.specs.Openings.{features_told, phase_after, phase_of, opening_after, opening_of}
 use Rattle.desk_words.specs.Histories.{is_open}
 use Rattle.desk_words.specs.Verdicts.{is_fresh, is_ended, is_switch_up}
-use Rattle.desk_words.specs.Laws.{has_begun, is_last, has_ended, features_with, first_told, IsPhaseByEvents}
+use Rattle.desk_words.specs.Laws.{has_begun, is_last, has_ended, features_in_event, first_told, IsPhaseByEvents}
 
 -- what events say: whether the switch has connected and ended, and what it told first; beside that the phase and the opening
 record Says (begun ended : Bool) (told : Option Features) (phase : Phase) (opening : Option Features) : Type 0 where
@@ -24,7 +24,7 @@ record Says (begun ended : Bool) (told : Option Features) (phase : Phase) (openi
 -- the same with one event more
 abbrev Goes : Bool → Bool → Option Features → Phase → Option Features → Event → Type 0
 Goes begun ended told phase opening event =
-    Says (is_switch_up event || begun) (ended || (begun && is_last event)) (option_or told (if begun && not ended then features_with event else None))
+    Says (is_switch_up event || begun) (ended || (begun && is_last event)) (option_or told (if begun && not ended then features_in_event event else None))
     (phase_after phase event) (opening_after phase opening event)
 
 all_four : (begun ended : Bool) (told : Option Features) (phase : Phase) (opening : Option Features)
@@ -39,35 +39,35 @@ from_fresh (SliceUp slot) = all_four false false None Fresh None refl refl refl 
 from_fresh (SliceMsg slot message) = all_four false false None Fresh None refl refl refl refl
 from_fresh (SliceDown slot) = all_four false false None Fresh None refl refl refl refl
 
-begun_message : (bad : Bool) (told : Option Features) → Says true bad (option_or None told) (if bad then Ended else elim told [ None ↦ Begun | Some features ↦ Opened ]) told
-begun_message true None = all_four true true None Ended None refl refl refl refl
-begun_message true (Some features) = all_four true true (Some features) Ended (Some features) refl refl refl refl
+begun_message : (bad : Bool) (told : Option Features) → Says true bad (option_or None told) (if bad then Gone else elim told [ None ↦ Begun | Some features ↦ Opened ]) told
+begun_message true None = all_four true true None Gone None refl refl refl refl
+begun_message true (Some features) = all_four true true (Some features) Gone (Some features) refl refl refl refl
 begun_message false None = all_four true false None Begun None refl refl refl refl
 begun_message false (Some features) = all_four true false (Some features) Opened (Some features) refl refl refl refl
 
 from_begun : (event : Event) → Goes true false None Begun None event
 from_begun SwitchUp = all_four true false None Begun None refl refl refl refl
 from_begun (SwitchMsg message) = begun_message (is_bad message) (features_told message)
-from_begun SwitchDown = all_four true true None Ended None refl refl refl refl
+from_begun SwitchDown = all_four true true None Gone None refl refl refl refl
 from_begun (SliceUp slot) = all_four true false None Begun None refl refl refl refl
 from_begun (SliceMsg slot message) = all_four true false None Begun None refl refl refl refl
 from_begun (SliceDown slot) = all_four true false None Begun None refl refl refl refl
 
-opened_message : (bad : Bool) (features : Features) (other : Option Features) → Says true bad (option_or (Some features) other) (if bad then Ended else Opened) (Some features)
-opened_message true features other = all_four true true (Some features) Ended (Some features) refl refl refl refl
+opened_message : (bad : Bool) (features : Features) (other : Option Features) → Says true bad (option_or (Some features) other) (if bad then Gone else Opened) (Some features)
+opened_message true features other = all_four true true (Some features) Gone (Some features) refl refl refl refl
 opened_message false features other = all_four true false (Some features) Opened (Some features) refl refl refl refl
 
 from_opened : (features : Features) (event : Event) → Goes true false (Some features) Opened (Some features) event
 from_opened features SwitchUp = all_four true false (Some features) Opened (Some features) refl refl refl refl
 from_opened features (SwitchMsg message) = opened_message (is_bad message) features (features_told message)
-from_opened features SwitchDown = all_four true true (Some features) Ended (Some features) refl refl refl refl
+from_opened features SwitchDown = all_four true true (Some features) Gone (Some features) refl refl refl refl
 from_opened features (SliceUp slot) = all_four true false (Some features) Opened (Some features) refl refl refl refl
 from_opened features (SliceMsg slot message) = all_four true false (Some features) Opened (Some features) refl refl refl refl
 from_opened features (SliceDown slot) = all_four true false (Some features) Opened (Some features) refl refl refl refl
 
-from_ended : (told : Option Features) (event : Event) → Goes true true told Ended told event
-from_ended None event = rw (or-true (is_switch_up event)) (all_four true true None Ended None refl refl refl refl)
-from_ended (Some features) event = rw (or-true (is_switch_up event)) (all_four true true (Some features) Ended (Some features) refl refl refl refl)
+from_ended : (told : Option Features) (event : Event) → Goes true true told Gone told event
+from_ended None event = rw (or-true (is_switch_up event)) (all_four true true None Gone None refl refl refl refl)
+from_ended (Some features) event = rw (or-true (is_switch_up event)) (all_four true true (Some features) Gone (Some features) refl refl refl refl)
 
 not_is : (b c : Bool) → c ≡ not b → b ≡ not c
 not_is true c is = sym (ap not is)
@@ -96,7 +96,7 @@ goes_on begun ended told Opened opening event s =
     let b : begun ≡ true = not_is begun false s.freshly in
     let e : ended ≡ false = sym s.finally in
     some_told told (s.between ∙ ap (λ (x : Bool). is_some told && not x) e) (λ features t. rw (b, e, s.first, t) (from_opened features event))
-goes_on begun ended told Ended opening event s =
+goes_on begun ended told Gone opening event s =
     let b : begun ≡ true = not_is begun false s.freshly in
     let e : ended ≡ true = sym s.finally in
     rw (b, e, s.first) (from_ended told event)

@@ -18,9 +18,9 @@ use Rattle.flowspace.specs.Owners.{has_port}
 use Rattle.flowspace.specs.Policies.{PolicyView}
 use Rattle.port_view.specs.declared.answer.Kept.{Kept as Answer}
 use Rattle.port_view.specs.declared.answer.Kept.TheVariants.{Kept, Ignored, TooManyPorts}
-use Rattle.port_view.specs.KnownPorts.{is_kept, IsAscending, first_known, changed, changed_plainly, kept_of, says_kept, known_of as known_by}
+use Rattle.port_view.specs.KnownPorts.{is_kept, IsAscending, first_known, changed, changed_plainly, kept_of, says_kept, ports_after as known_by}
 use Rattle.port_view.specs.SlicePorts.{ports_of_slice}
-use Rattle.port_view.proofs.Knowing.{changed-not_kept, IsAscending-changed, IsAscending-none, IsAscending-known_of, few-changed, few-known_of}
+use Rattle.port_view.proofs.Knowing.{changed-not_kept, IsAscending-changed, IsAscending-none, IsAscending-ports_after, few-changed, few-ports_after}
 use Rattle.port_view.proofs.Following.{own-changed, own-changed_other}
 use Rattle.of10_message.specs.Heads.{is_kind, version_of, kind_of, xid_of}
 use Rattle.slice_words.specs.Items.{Settings, Item, Opened as Told, Up, Down, Msg, Lost, Handed, Removed, Status, Fault, Barrier, Queues, Entry, Last, End, is_up, features_in, known_ports, own_rules, is_own_port}
@@ -29,9 +29,9 @@ use Rattle.desk_words.specs.declared.event.Event.{Event}
 use Rattle.desk_words.specs.declared.event.Event.TheVariants.{SwitchUp, SwitchMsg, SwitchDown, SliceUp, SliceMsg, SliceDown}
 use Rattle.desk_words.specs.declared.event.Timed.{Timed}
 use Rattle.desk_words.specs.declared.phase.Phase.{Phase}
-use Rattle.desk_words.specs.declared.phase.Phase.TheVariants.{Fresh, Begun, Opened, Ended}
+use Rattle.desk_words.specs.declared.phase.Phase.TheVariants.{Fresh, Begun, Opened, Gone}
 use Rattle.of10_ctl.specs.Kinds.{is_of}
-use Rattle.desk_words.specs.Openings.{well_formed, features_told, status_told, phase_of, opening_after, opening_of, rules_of, known_after, known_of, Switch, switch_of}
+use Rattle.desk_words.specs.Openings.{well_formed, features_told, status_told, phase_of, opening_after, opening_of, rules_of, known_after, ports_after, Switch, switch_of}
 use Rattle.desk_words.specs.Verdicts.{is_before}
 use Rattle.desk_words.specs.Histories.{is_slot, settings_at, own_ports, own_features, packet_in_items, status_items, removed_items, error_items, barrier_items, queues_items, statistics_items, message_items, event_items, phase_items, Side, side_start, side_of, view_of}
 use Rattle.desk_words.specs.Laws.{HasSeen, SeesItsSwitch, AreKnownInOrder}
@@ -212,7 +212,7 @@ by_phase : (policy : PolicyView) (slot : ℕ) (switch : Switch) (side : Side) (t
 by_phase policy slot switch side timed Fresh late order same = absurd (true≢false late)
 by_phase policy slot switch side timed Begun late order same = absurd (true≢false late)
 by_phase policy slot switch side timed Opened late order same = by_event policy slot timed.moment switch side timed.event order same
-by_phase policy slot switch side timed Ended late order same = record { features_stay = refl; ports_follow = same }
+by_phase policy slot switch side timed Gone late order same = record { features_stay = refl; ports_follow = same }
 
 abbrev known_begun : List (List ℕ) → Option Features → List (List ℕ)
 known_begun known told = elim told [ None ↦ known | Some features ↦ first_known features.ports ]
@@ -235,7 +235,7 @@ holds_still P known (Some status) still before = still known before
 
 holds_after : (P : List (List ℕ) → Type 0) → HoldsOfPorts P → (phase : Phase) (known : List (List ℕ)) (event : Event) → P known → P (known_after phase known event)
 holds_after P each Fresh known event before = before
-holds_after P each Ended known event before = before
+holds_after P each Gone known event before = before
 holds_after P each Begun known (SwitchMsg message) before = holds_first P known (features_told message) (each.first message) before
 holds_after P each Begun known SwitchUp before = before
 holds_after P each Begun known SwitchDown before = before
@@ -249,9 +249,9 @@ holds_after P each Opened known (SliceUp slot) before = before
 holds_after P each Opened known (SliceMsg slot message) before = before
 holds_after P each Opened known (SliceDown slot) before = before
 
-pub known_holds : (P : List (List ℕ) → Type 0) → HoldsOfPorts P → (h : List Timed) → P (known_of h)
+pub known_holds : (P : List (List ℕ) → Type 0) → HoldsOfPorts P → (h : List Timed) → P (ports_after h)
 known_holds P each [] = each.none
-known_holds P each (timed ∷ h) = holds_after P each (phase_of h) (known_of h) timed.event (known_holds P each h)
+known_holds P each (timed ∷ h) = holds_after P each (phase_of h) (ports_after h) timed.event (known_holds P each h)
 
 -- ---- the known ports ascend
 
@@ -261,9 +261,9 @@ if_any P (Some x) all = all x
 
 first_ascending : (features : Features) → IsAscending (first_known features.ports)
 unfolding known_by
-first_ascending features = IsAscending-known_of features []
+first_ascending features = IsAscending-ports_after features []
 
-pub ascending : (h : List Timed) → IsAscending (known_of h)
+pub ascending : (h : List Timed) → IsAscending (ports_after h)
 ascending h = known_holds IsAscending (record {
   none = IsAscending-none;
   first = λ message. if_any (λ features. IsAscending (first_known features.ports)) (features_told message) first_ascending;
@@ -279,7 +279,7 @@ seen_first : (policy : PolicyView) (slot : ℕ) (switch : Switch) (timed : Timed
     × (known_ports (with_items (phase_items policy slot switch side_start timed phase) []) ≡ own_ports (settings_at policy slot (Some features)) (known_after phase switch.known event))
 seen_first policy slot switch timed event Fresh features e told = absurd (none-some features told)
 seen_first policy slot switch timed event Opened features e told = absurd (none-some features told)
-seen_first policy slot switch timed event Ended features e told = absurd (none-some features told)
+seen_first policy slot switch timed event Gone features e told = absurd (none-some features told)
 seen_first policy slot switch timed SwitchUp Begun features e told = absurd (none-some features told)
 seen_first policy slot switch timed SwitchDown Begun features e told = absurd (none-some features told)
 seen_first policy slot switch timed (SliceUp other) Begun features e told = absurd (none-some features told)
@@ -290,19 +290,19 @@ seen_first policy slot switch timed (SwitchMsg message) Begun features e told =
 
 -- an event more, once the switch has told what it is
 seen_more : (policy : PolicyView) (slot : ℕ) (h : List Timed) (timed : Timed) (features : Features) → opening_of h ≡ Some features → is_slot policy slot ≡ true
-    → HasSeen policy slot features (known_of h) (view_of policy slot h) → HasSeen policy slot features (known_of (timed ∷ h)) (view_of policy slot (timed ∷ h))
+    → HasSeen policy slot features (ports_after h) (view_of policy slot h) → HasSeen policy slot features (ports_after (timed ∷ h)) (view_of policy slot (timed ∷ h))
 seen_more policy slot h timed features is here before =
     let s = settings_at policy slot (Some features) in
     let same_settings : settings_at policy slot (opening_of h) ≡ s = ap (settings_at policy slot) is in
     let late : is_before (phase_of h) ≡ false = false_from_ne_true (is_before (phase_of h)) (λ early. none-some features (sym (untold h early) ∙ is)) in
-    let follows = by_phase policy slot (switch_of h) (side_of policy slot h) timed (phase_of h) late (ascending h) (before.ports_known ∙ ap (λ (t : Settings). own_ports t (known_of h)) (sym same_settings)) in
+    let follows = by_phase policy slot (switch_of h) (side_of policy slot h) timed (phase_of h) late (ascending h) (before.ports_known ∙ ap (λ (t : Settings). own_ports t (ports_after h)) (sym same_settings)) in
     record {
       features_seen = rw here (follows.features_stay ∙ before.features_seen);
-      ports_known = rw here (follows.ports_follow ∙ ap (λ (t : Settings). own_ports t (known_after (phase_of h) (known_of h) timed.event)) same_settings);
+      ports_known = rw here (follows.ports_follow ∙ ap (λ (t : Settings). own_ports t (known_after (phase_of h) (ports_after h) timed.event)) same_settings);
     }
 
 seen_now : (policy : PolicyView) (slot : ℕ) (h : List Timed) (timed : Timed) (features : Features) → opening_of h ≡ None → is_slot policy slot ≡ true
-    → opening_after (phase_of h) None timed.event ≡ Some features → HasSeen policy slot features (known_of (timed ∷ h)) (view_of policy slot (timed ∷ h))
+    → opening_after (phase_of h) None timed.event ≡ Some features → HasSeen policy slot features (ports_after (timed ∷ h)) (view_of policy slot (timed ∷ h))
 seen_now policy slot h timed features is here told =
     let both = seen_first policy slot (switch_of h) timed timed.event (phase_of h) features refl told in
     let start = blind policy slot h is in
@@ -313,7 +313,7 @@ seen_now policy slot h timed features is here told =
 
 -- by whether the switch had told what it is before
 seen_by : (policy : PolicyView) (slot : ℕ) (h : List Timed) (timed : Timed) (features : Features) (told : Option Features) → opening_of h ≡ told → is_slot policy slot ≡ true
-    → SeesItsSwitch policy slot h features → opening_after (phase_of h) told timed.event ≡ Some features → HasSeen policy slot features (known_of (timed ∷ h)) (view_of policy slot (timed ∷ h))
+    → SeesItsSwitch policy slot h features → opening_after (phase_of h) told timed.event ≡ Some features → HasSeen policy slot features (ports_after (timed ∷ h)) (view_of policy slot (timed ∷ h))
 seen_by policy slot h timed features None is here before now = seen_now policy slot h timed features is here now
 seen_by policy slot h timed features (Some own) is here before now =
     let same : opening_of h ≡ Some features = is ∙ now in
@@ -332,7 +332,7 @@ few_told known (Some status) few = few-changed status known few
 
 first_few : (features : Features) → length features.ports ≤ 1364 → length (first_known features.ports) ≤ 1364
 unfolding known_by
-first_few features few = few-known_of features [] few
+first_few features few = few-ports_after features [] few
 
 abbrev HasFew : Option Features → Type 0
 HasFew told = IfSome told (λ features. length features.ports ≤ 1364)
@@ -344,7 +344,7 @@ few_begun known (Some features) few has = first_few features has
 few_after : (phase : Phase) (told : Option Features) (known : List (List ℕ)) (event : Event) → (is_before phase ≡ true → told ≡ None) → length known ≤ 1364
     → HasFew (opening_after phase told event) → length (known_after phase known event) ≤ 1364
 few_after Fresh told known event early few has = few
-few_after Ended told known event early few has = few
+few_after Gone told known event early few has = few
 few_after Begun told known (SwitchMsg message) early few has = few_begun known (features_told message) few (subst (λ t. HasFew (opening_after Begun t (SwitchMsg message))) (early refl) has)
 few_after Begun told known SwitchUp early few has = few
 few_after Begun told known SwitchDown early few has = few
@@ -363,10 +363,10 @@ few_before : (phase : Phase) (told : Option Features) (event : Event) → HasFew
 few_before phase None event has = tt
 few_before phase (Some features) event has = has
 
-few_known : (h : List Timed) → HasFew (opening_of h) → length (known_of h) ≤ 1364
+few_known : (h : List Timed) → HasFew (opening_of h) → length (ports_after h) ≤ 1364
 few_known [] has = omega arith
 few_known (timed ∷ h) has =
-    few_after (phase_of h) (opening_of h) (known_of h) timed.event (untold h) (few_known h (few_before (phase_of h) (opening_of h) timed.event has)) has
+    few_after (phase_of h) (opening_of h) (ports_after h) timed.event (untold h) (few_known h (few_before (phase_of h) (opening_of h) timed.event has)) has
 
 pub in_order : (h : List Timed) → AreKnownInOrder h
 in_order h = record { ascending = ascending h; few = few_known h }

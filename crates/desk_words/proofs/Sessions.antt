@@ -17,7 +17,7 @@ use Rattle.desk_words.specs.Sent.{sent}
 use Rattle.desk_words.specs.Verdicts.{is_ended, is_over, is_switch_up}
 use Rattle.desk_words.specs.Recorded.{completed, timed_at, happenings, is_there, next_of, next_after, Happened, each_after, timed_of, history_of, history_at, happened_in, events_in}
 use Rattle.desk_words.specs.Reports.{sent_to_slice, told_over}
-use Rattle.desk_words.specs.Laws.{is_up_at, since_up, IsToldAsAlone}
+use Rattle.desk_words.specs.Laws.{comes_up, since_up, IsToldAsAlone}
 use Rattle.desk_words.proofs.Alone.{sent_alone}
 use Rattle.recording.proofs.Refused.{newest_first}
 use Rattle.desk_words.proofs.Making.{made_where, made_next, makes_the_first, happened_each, at_their_switch}
@@ -46,25 +46,25 @@ kept_front : (b : Bool) (one : Happened) (first second : List Happened) → (if 
 kept_front true one first second = refl
 kept_front false one first second = refl
 
-since_both : (switch : ℕ) (first second : List Happened) → list_any (is_up_at switch) second ≡ false → since_up switch (first ++ second) ≡ since_up switch first ++ since_up switch second
+since_both : (switch : ℕ) (first second : List Happened) → list_any (comes_up switch) second ≡ false → since_up switch (first ++ second) ≡ since_up switch first ++ since_up switch second
 since_both switch [] second none = refl
 since_both switch (one ∷ first) second none =
     ap₂ (λ (any : Bool) (rest : List Happened). if one.switch == switch && not any then one ∷ rest else rest)
-    (list_any-append (is_up_at switch) first second ∙ ap (λ (b : Bool). list_any (is_up_at switch) first || b) none ∙ or-false (list_any (is_up_at switch) first)) (since_both switch first second none)
-    ∙ kept_front (one.switch == switch && not (list_any (is_up_at switch) first)) one (since_up switch first) (since_up switch second)
+    (list_any-append (comes_up switch) first second ∙ ap (λ (b : Bool). list_any (comes_up switch) first || b) none ∙ or-false (list_any (comes_up switch) first)) (since_both switch first second none)
+    ∙ kept_front (one.switch == switch && not (list_any (comes_up switch) first)) one (since_up switch first) (since_up switch second)
 
 since_last : (switch : ℕ) (first : List Happened) (up : Happened) → (up.switch == switch) ≡ true → is_switch_up up.timed.event ≡ true → since_up switch (first ++ up ∷ []) ≡ up ∷ []
 since_last switch [] up at comes = rw at refl
 since_last switch (one ∷ first) up at comes =
-    let any : list_any (is_up_at switch) (up ∷ []) ≡ true = (rw (at, comes) refl) in
+    let any : list_any (comes_up switch) (up ∷ []) ≡ true = (rw (at, comes) refl) in
     ap (λ (b : Bool). if one.switch == switch && not b then one ∷ since_up switch (first ++ up ∷ []) else since_up switch (first ++ up ∷ []))
-    (list_any-append (is_up_at switch) first (up ∷ []) ∙ ap (λ (b : Bool). list_any (is_up_at switch) first || b) any ∙ or-true (list_any (is_up_at switch) first))
+    (list_any-append (comes_up switch) first (up ∷ []) ∙ ap (λ (b : Bool). list_any (comes_up switch) first || b) any ∙ or-true (list_any (comes_up switch) first))
     ∙ ap (λ (b : Bool). if b then one ∷ since_up switch (first ++ up ∷ []) else since_up switch (first ++ up ∷ [])) (and-false (one.switch == switch))
     ∙ since_last switch first up at comes
 
 -- none of these events is an up of the switch, and so much of them is since its last
 abbrev AreSince : ℕ → List Happened → List Happened → Type 0
-AreSince switch events kept = (list_any (is_up_at switch) events ≡ false) × (since_up switch events ≡ kept)
+AreSince switch events kept = (list_any (comes_up switch) events ≡ false) × (since_up switch events ≡ kept)
 
 of_others : (switch other : ℕ) (h own : List Timed) → (other == switch) ≡ false → AreSince switch (each_after other h own) []
 of_others switch other h [] differs = (refl, refl)

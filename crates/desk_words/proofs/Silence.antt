@@ -29,7 +29,7 @@ use Rattle.desk_words.specs.declared.event.Event.{Event}
 use Rattle.desk_words.specs.declared.event.Event.TheVariants.{SwitchUp, SwitchMsg, SwitchDown, SliceUp, SliceMsg, SliceDown}
 use Rattle.desk_words.specs.declared.event.Timed.{Timed}
 use Rattle.desk_words.specs.declared.phase.Phase.{Phase}
-use Rattle.desk_words.specs.declared.phase.Phase.TheVariants.{Fresh, Begun, Opened, Ended}
+use Rattle.desk_words.specs.declared.phase.Phase.TheVariants.{Fresh, Begun, Opened, Gone}
 use Rattle.of10_ctl.specs.Kinds.{is_of}
 use Rattle.desk_words.specs.Openings.{well_formed, status_told, features_told, phase_after, phase_of, opening_with, opening_after, opening_of, rules_of, Switch, switch_of}
 use Rattle.desk_words.specs.Verdicts.{is_before}
@@ -218,16 +218,16 @@ none_in : (policy : PolicyView) (slot : ℕ) (switch : Switch) (side : Side) (ti
 none_in policy slot switch side timed Fresh still = refl
 none_in policy slot switch side timed Begun still = plain_none (opening_items policy slot (opening_with Begun timed.event)) (plain_opening policy slot (opening_with Begun timed.event))
 none_in policy slot switch side timed Opened still = none_event policy slot switch side timed.moment timed timed.event refl still
-none_in policy slot switch side timed Ended still = refl
+none_in policy slot switch side timed Gone still = refl
 
 -- ---- before the opening nobody is up
 
-early_told : (bad : Bool) (told : Option Features) → is_before (if bad then Ended else elim told [ None ↦ Begun | Some features ↦ Opened ]) ≡ true → told ≡ None
+early_told : (bad : Bool) (told : Option Features) → is_before (if bad then Gone else elim told [ None ↦ Begun | Some features ↦ Opened ]) ≡ true → told ≡ None
 early_told true told early = absurd (true≢false (sym early))
 early_told false None early = refl
 early_told false (Some features) early = absurd (true≢false (sym early))
 
-not_early : (bad : Bool) → is_before (if bad then Ended else Opened) ≡ true → ⊥
+not_early : (bad : Bool) → is_before (if bad then Gone else Opened) ≡ true → ⊥
 not_early true early = true≢false (sym early)
 not_early false early = true≢false (sym early)
 
@@ -245,7 +245,7 @@ untold_after Opened told SwitchDown before early = absurd (true≢false (sym ear
 untold_after Opened told (SliceUp slot) before early = absurd (true≢false (sym early))
 untold_after Opened told (SliceMsg slot message) before early = absurd (true≢false (sym early))
 untold_after Opened told (SliceDown slot) before early = absurd (true≢false (sym early))
-untold_after Ended told event before early = absurd (true≢false (sym early))
+untold_after Gone told event before early = absurd (true≢false (sym early))
 
 pub untold : (h : List Timed) → is_before (phase_of h) ≡ true → opening_of h ≡ None
 untold [] early = refl
@@ -256,16 +256,16 @@ early_down policy slot h early = ap (λ (side : Side). is_up side.sight.view) (b
 
 -- a phase is early, open, or over
 down_in : (policy : PolicyView) (slot : ℕ) (h : List Timed) (phase : Phase) → phase_of h ≡ phase → is_slice_up policy slot h ≡ false
-    → (is_up (view_of policy slot h) ≡ false) ⊎ (phase_of h ≡ Ended)
+    → (is_up (view_of policy slot h) ≡ false) ⊎ (phase_of h ≡ Gone)
 down_in policy slot h Fresh is down = inl (early_down policy slot h (ap is_before is))
 down_in policy slot h Begun is down = inl (early_down policy slot h (ap is_before is))
 down_in policy slot h Opened is down = inl (rw is at down)
-down_in policy slot h Ended is down = inr is
+down_in policy slot h Gone is down = inr is
 
 -- ---- one event, and more
 
 one_silent : (policy : PolicyView) (slot : ℕ) (h : List Timed) (timed : Timed) → is_up_of slot timed ≡ false
-    → (is_up (view_of policy slot h) ≡ false) ⊎ (phase_of h ≡ Ended)
+    → (is_up (view_of policy slot h) ≡ false) ⊎ (phase_of h ≡ Gone)
     → (sent_by policy slot h timed ≡ []) × (is_slice_up policy slot (timed ∷ h) ≡ false)
 one_silent policy slot h timed still (inl down) =
     let side = side_of policy slot h in
@@ -314,7 +314,7 @@ down_in_view policy slot moment switch side false out = ap is_up (out refl)
 down_at : (policy : PolicyView) (slot moment : ℕ) (h : List Timed) (phase : Phase) → phase_of h ≡ phase → IsDownAfterDown policy slot moment h
 down_at policy slot moment h Fresh is = rw is refl
 down_at policy slot moment h Begun is = rw is refl
-down_at policy slot moment h Ended is = rw is refl
+down_at policy slot moment h Gone is = rw is refl
 down_at policy slot moment h Opened is =
     rw is (down_in_view policy slot moment (switch_of h) (side_of policy slot h) (is_slot policy slot) (λ out. ap (λ sight. sight.view) (sees_nothing policy slot h out)))
 

@@ -3,13 +3,13 @@ use Rattle.std.proofs.Common.{◌≡◌, ℕ, true, List, [], ◌∷◌, filter_
 use Rattle.std.specs.List.{cons_option}
 use Rattle.of10_port.specs.declared.features.Features.{Features}
 use Rattle.of10_port.specs.declared.status.PortStatus.{PortStatus}
-use Rattle.port_view.specs.KnownPorts.{first_known, changed, known_of as known_by}
+use Rattle.port_view.specs.KnownPorts.{first_known, changed, ports_after as known_by}
 use Rattle.desk_words.specs.declared.event.Event.{Event}
 use Rattle.desk_words.specs.declared.event.Event.TheVariants.{SwitchUp, SwitchMsg, SwitchDown, SliceUp, SliceMsg, SliceDown}
 use Rattle.desk_words.specs.declared.event.Timed.{Timed}
 use Rattle.desk_words.specs.declared.phase.Phase.{Phase}
-use Rattle.desk_words.specs.declared.phase.Phase.TheVariants.{Fresh, Begun, Opened, Ended}
-use Rattle.desk_words.specs.Openings.{features_told, status_told, phase_of, opening_after, opening_of, known_after, known_of}
+use Rattle.desk_words.specs.declared.phase.Phase.TheVariants.{Fresh, Begun, Opened, Gone}
+use Rattle.desk_words.specs.Openings.{features_told, status_told, phase_of, opening_after, opening_of, known_after, ports_after}
 use Rattle.desk_words.specs.Verdicts.{is_before}
 use Rattle.desk_words.specs.Histories.{is_open}
 use Rattle.desk_words.specs.Laws.{after_opening, status_with, statuses_since, AreKnownAsTold}
@@ -80,12 +80,12 @@ by_event Opened (Some opening) known timed events SwitchDown e early opened are 
 by_event Opened (Some opening) known timed events (SliceUp slot) e early opened are = rw e are
 by_event Opened (Some opening) known timed events (SliceMsg slot message) e early opened are = rw e are
 by_event Opened (Some opening) known timed events (SliceDown slot) e early opened are = rw e are
-by_event Ended None known timed events event e early opened are = are
-by_event Ended (Some opening) known timed events event e early opened are = are
+by_event Gone None known timed events event e early opened are = are
+by_event Gone (Some opening) known timed events event e early opened are = are
 
-are_by : (h : List Timed) → AreBy (opening_of h) (known_of h) (statuses_since h)
+are_by : (h : List Timed) → AreBy (opening_of h) (ports_after h) (statuses_since h)
 are_by [] = record { none_known = λ none. refl; none_came = λ none. refl; since = λ features is. absurd (true≢false (sym (ap has_told is))) }
-are_by (timed ∷ h) = by_event (phase_of h) (opening_of h) (known_of h) timed (after_opening h) timed.event refl (untold h) (opened_told h) (are_by h)
+are_by (timed ∷ h) = by_event (phase_of h) (opening_of h) (ports_after h) timed (after_opening h) timed.event refl (untold h) (opened_told h) (are_by h)
 
 pub known_as_told : (h : List Timed) → AreKnownAsTold h
 known_as_told h = let are = are_by h in record { before = are.none_known; since = are.since }

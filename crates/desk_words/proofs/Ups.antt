@@ -9,10 +9,10 @@ use Rattle.desk_words.specs.declared.event.Event.{Event}
 use Rattle.desk_words.specs.declared.event.Event.TheVariants.{SwitchUp, SwitchMsg, SwitchDown, SliceUp, SliceMsg, SliceDown}
 use Rattle.desk_words.specs.declared.event.Timed.{Timed}
 use Rattle.desk_words.specs.declared.phase.Phase.{Phase}
-use Rattle.desk_words.specs.declared.phase.Phase.TheVariants.{Fresh, Begun, Opened, Ended}
+use Rattle.desk_words.specs.declared.phase.Phase.TheVariants.{Fresh, Begun, Opened, Gone}
 use Rattle.desk_words.specs.Openings.{phase_of, opening_with, Switch, switch_of}
 use Rattle.desk_words.specs.Histories.{is_slot, Side, side_of, view_of, message_items, opening_items, event_items, phase_items, is_open}
-use Rattle.desk_words.specs.Laws.{is_up_of, after_opening, tells_of, is_last_up, IsUpByEvents}
+use Rattle.desk_words.specs.Laws.{is_up_of, after_opening, tells_of, is_last_event_up, IsUpByEvents}
 use Rattle.desk_words.proofs.Silence.{stays_all, plain_message, plain_opening}
 
 -- the events that say whether the slice is up
@@ -45,20 +45,20 @@ one_event policy slot switch side timed (SliceMsg other message) e last same =
     by_message (other == slot) (is_up side.sight.view) (is_dismissing message) message timed.moment side.sight.view (is_up_of slot timed) last refl same (rw e refl) refl
 one_event policy slot switch side timed (SliceDown other) e last same = by_item (other == slot) Down side.sight.view (is_up_of slot timed) last same (λ own. rw e refl)
 
-last_of : (b : Bool) (slot : ℕ) (timed : Timed) (events : List Timed) → is_last_up slot (if b then timed ∷ events else events) ≡ (if b then is_up_of slot timed else is_last_up slot events)
+last_of : (b : Bool) (slot : ℕ) (timed : Timed) (events : List Timed) → is_last_event_up slot (if b then timed ∷ events else events) ≡ (if b then is_up_of slot timed else is_last_event_up slot events)
 last_of true slot timed events = refl
 last_of false slot timed events = refl
 
-one_more : (policy : PolicyView) (slot : ℕ) (switch : Switch) (side : Side) (timed : Timed) (events : List Timed) (phase : Phase) → is_up side.sight.view ≡ is_last_up slot (telling slot events)
-    → is_up (with_items (phase_items policy slot switch side timed phase) side.sight.view) ≡ is_last_up slot (telling slot (if is_open phase then timed ∷ events else events))
+one_more : (policy : PolicyView) (slot : ℕ) (switch : Switch) (side : Side) (timed : Timed) (events : List Timed) (phase : Phase) → is_up side.sight.view ≡ is_last_event_up slot (telling slot events)
+    → is_up (with_items (phase_items policy slot switch side timed phase) side.sight.view) ≡ is_last_event_up slot (telling slot (if is_open phase then timed ∷ events else events))
 one_more policy slot switch side timed events Fresh same = same
 one_more policy slot switch side timed events Begun same = stays_all (opening_items policy slot (opening_with Begun timed.event)) side.sight.view (plain_opening policy slot (opening_with Begun timed.event)) ∙ same
 one_more policy slot switch side timed events Opened same =
-    one_event policy slot switch side timed timed.event refl (is_last_up slot (telling slot events)) same
+    one_event policy slot switch side timed timed.event refl (is_last_event_up slot (telling slot events)) same
     ∙ sym (last_of (tells_of slot timed.event) slot timed (telling slot events))
-one_more policy slot switch side timed events Ended same = same
+one_more policy slot switch side timed events Gone same = same
 
-up_in_view : (policy : PolicyView) (slot : ℕ) (h : List Timed) → is_slot policy slot ≡ true → is_up (view_of policy slot h) ≡ is_last_up slot (telling slot (after_opening h))
+up_in_view : (policy : PolicyView) (slot : ℕ) (h : List Timed) → is_slot policy slot ≡ true → is_up (view_of policy slot h) ≡ is_last_event_up slot (telling slot (after_opening h))
 up_in_view policy slot [] here = refl
 up_in_view policy slot (timed ∷ h) here =
     rw here (one_more policy slot (switch_of h) (side_of policy slot h) timed (after_opening h) (phase_of h) (up_in_view policy slot h here))

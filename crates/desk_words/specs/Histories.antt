@@ -35,7 +35,7 @@ use Rattle.desk_words.specs.declared.event.Event.{Event}
 use Rattle.desk_words.specs.declared.event.Event.TheVariants.{SwitchUp, SwitchMsg, SwitchDown, SliceUp, SliceMsg, SliceDown}
 use Rattle.desk_words.specs.declared.event.Timed.{Timed}
 use Rattle.desk_words.specs.declared.phase.Phase.{Phase}
-use Rattle.desk_words.specs.declared.phase.Phase.TheVariants.{Fresh, Begun, Opened, Ended}
+use Rattle.desk_words.specs.declared.phase.Phase.TheVariants.{Fresh, Begun, Opened, Gone}
 use Rattle.of10_ctl.specs.Kinds.{is_of}
 use Rattle.desk_words.specs.Openings.{well_formed, status_told, opening_with, rules_of, Switch, switch_of, phase_of}
 
@@ -89,8 +89,8 @@ abbrev pub header_in : PacketIn → Header
 header_in packet = header_of_packet packet.in_port packet.payload
 
 -- what a message says of a packet, where it hands one up (section 5.4.1)
-abbrev pub packet_told : List ℕ → Option PacketIn
-packet_told message = if is_of PACKET_IN message then well_formed (read_packet_in message) else None
+abbrev pub packet_in_read : List ℕ → Option PacketIn
+packet_in_read message = if is_of PACKET_IN message then well_formed (read_packet_in message) else None
 
 -- the number by which the switch keeps a packet that it hands up, if it keeps it (section 5.4.1)
 abbrev pub number_given : PacketIn → Option ℕ
@@ -206,7 +206,7 @@ abbrev pub phase_items : PolicyView → ℕ → Switch → Side → Timed → Ph
 phase_items policy slot switch side timed Fresh = []
 phase_items policy slot switch side timed Begun = opening_items policy slot (opening_with Begun timed.event)
 phase_items policy slot switch side timed Opened = event_items policy slot switch side timed.moment timed.event
-phase_items policy slot switch side timed Ended = []
+phase_items policy slot switch side timed Gone = []
 
 -- what an event shows the slice at a slot of the policy, after what is known of the switch and what the slice sees, the oldest first
 abbrev pub items_of : PolicyView → ℕ → Switch → Side → Timed → List Item
@@ -216,7 +216,7 @@ items_of policy slot switch side timed = if is_slot policy slot then phase_items
 
 -- the number of the packet that an event hands up, once the switch has told what it is
 abbrev pub number_told : Phase → Event → Option ℕ
-number_told Opened (SwitchMsg message) = option_and_then number_given (packet_told message)
+number_told Opened (SwitchMsg message) = option_and_then number_given (packet_in_read message)
 number_told phase event = None
 
 -- an item hands up a packet that the slice may use by number

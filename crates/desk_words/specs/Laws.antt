@@ -8,7 +8,7 @@ use Rattle.of10_port.specs.declared.features.Features.{Features}
 use Rattle.of10_port.specs.declared.status.PortStatus.{PortStatus}
 use Rattle.of10_ctl.specs.Streams.{frames_of}
 use Rattle.flowspace.specs.Policies.{PolicyView}
-use Rattle.port_view.specs.KnownPorts.{IsAscending, known_of as known_by}
+use Rattle.port_view.specs.KnownPorts.{IsAscending, ports_after as known_by}
 use Rattle.recording.specs.Recordings.{Told}
 use Rattle.outbox.specs.Queues.{Queue, size}
 use Rattle.slice_words.specs.Messages.{is_dismissing}
@@ -21,7 +21,7 @@ use Rattle.desk_words.specs.declared.event.Timed.{Timed}
 use Rattle.desk_words.specs.declared.answer.Verdict.{Verdict}
 use Rattle.desk_words.specs.declared.answer.Taken.{Taken}
 use Rattle.desk_words.specs.declared.answer.Taken.TheVariants.{Message}
-use Rattle.desk_words.specs.Openings.{features_told, status_told, phase_of, opening_of, known_of, switch_of}
+use Rattle.desk_words.specs.Openings.{features_told, status_told, phase_of, opening_of, ports_after, switch_of}
 use Rattle.desk_words.specs.Histories.{is_slot, settings_at, own_ports, own_features, side_start, side_of, view_of, is_open, is_slice_up}
 use Rattle.desk_words.specs.Sent.{sent_by, sent, lane_by}
 use Rattle.desk_words.specs.Verdicts.{is_fresh, is_ended, is_over, is_switch_up, closes}
@@ -47,14 +47,14 @@ has_ended [] = false
 has_ended (timed ∷ h) = has_ended h || (has_begun h && is_last timed.event)
 
 -- what an event tells of the switch
-abbrev pub features_with : Event → Option Features
-features_with (SwitchMsg message) = features_told message
-features_with event = None
+abbrev pub features_in_event : Event → Option Features
+features_in_event (SwitchMsg message) = features_told message
+features_in_event event = None
 
 -- what the switch told of itself first, after it connected and before it ended
 abbrev pub first_told : List Timed → Option Features
 first_told [] = None
-first_told (timed ∷ h) = option_or (first_told h) (if has_begun h && not (has_ended h) then features_with timed.event else None)
+first_told (timed ∷ h) = option_or (first_told h) (if has_begun h && not (has_ended h) then features_in_event timed.event else None)
 
 -- the phase and the opening of a history are those that its events say
 pub record IsPhaseByEvents (h : List Timed) : Type 0 where
@@ -145,15 +145,15 @@ tells_of slot (SliceDown other) = other == slot
 tells_of slot event = false
 
 -- the newest of these events is an up
-abbrev pub is_last_up : ℕ → List Timed → Bool
-is_last_up slot [] = false
-is_last_up slot (timed ∷ before) = is_up_of slot timed
+abbrev pub is_last_event_up : ℕ → List Timed → Bool
+is_last_event_up slot [] = false
+is_last_event_up slot (timed ∷ before) = is_up_of slot timed
 
 -- a slice is up where the switch has told what it is and hasn't ended, and the last event since that says so is the slice's up
 abbrev pub IsUpByEvents : PolicyView → ℕ → List Timed → Type 0
 IsUpByEvents policy slot h =
     is_slot policy slot ≡ true
-    → is_slice_up policy slot h ≡ (is_open (phase_of h) && is_last_up slot (filter (λ timed. tells_of slot timed.event) (after_opening h)))
+    → is_slice_up policy slot h ≡ (is_open (phase_of h) && is_last_event_up slot (filter (λ timed. tells_of slot timed.event) (after_opening h)))
 
 -- ---- what is taken
 
@@ -236,12 +236,12 @@ pub record HasSeen (policy : PolicyView) (slot : ℕ) (features : Features) (kno
 
 -- so it is for each slice of the policy once the switch has told what it is
 abbrev pub SeesItsSwitch : PolicyView → ℕ → List Timed → Features → Type 0
-SeesItsSwitch policy slot h features = opening_of h ≡ Some features → is_slot policy slot ≡ true → HasSeen policy slot features (known_of h) (view_of policy slot h)
+SeesItsSwitch policy slot h features = opening_of h ≡ Some features → is_slot policy slot ≡ true → HasSeen policy slot features (ports_after h) (view_of policy slot h)
 
 -- the known ports ascend, and fit a FEATURES_REPLY where those of the opening do
 pub record AreKnownInOrder (h : List Timed) : Type 0 where
-  pub ascending : IsAscending (known_of h)
-  pub few : IfSome (opening_of h) (λ features. length features.ports ≤ 1364) → length (known_of h) ≤ 1364
+  pub ascending : IsAscending (ports_after h)
+  pub few : IfSome (opening_of h) (λ features. length features.ports ≤ 1364) → length (ports_after h) ≤ 1364
 
 -- ---- the known ports, by the events
 
@@ -256,8 +256,8 @@ statuses_since h = filter_map (λ timed. status_with timed.event) (after_opening
 
 -- no port is known before the switch tells what it is; then those are known that follow from its features and its statuses since
 pub record AreKnownAsTold (h : List Timed) : Type 0 where
-  pub before : opening_of h ≡ None → known_of h ≡ []
-  pub since : (features : Features) → opening_of h ≡ Some features → known_of h ≡ known_by features (statuses_since h)
+  pub before : opening_of h ≡ None → ports_after h ≡ []
+  pub since : (features : Features) → opening_of h ≡ Some features → ports_after h ≡ known_by features (statuses_since h)
 
 -- ---- the events of a recording
 
@@ -307,13 +307,13 @@ abbrev pub IsClosedByVerdict : PolicyView → ℕ → List Timed → Timed → T
 IsClosedByVerdict policy slot h timed = speaker timed.event ≡ Some slot → is_slice_up policy slot (timed ∷ h) ≡ not (closes policy h timed)
 
 -- a switch comes up
-abbrev pub is_up_at : ℕ → Happened → Bool
-is_up_at switch one = one.switch == switch && is_switch_up one.timed.event
+abbrev pub comes_up : ℕ → Happened → Bool
+comes_up switch one = one.switch == switch && is_switch_up one.timed.event
 
 -- of these events those of a switch from its last up on
 abbrev pub since_up : ℕ → List Happened → List Happened
 since_up switch [] = []
-since_up switch (one ∷ later) = if one.switch == switch && not (list_any (is_up_at switch) later) then one ∷ since_up switch later else since_up switch later
+since_up switch (one ∷ later) = if one.switch == switch && not (list_any (comes_up switch) later) then one ∷ since_up switch later else since_up switch later
 
 -- from a switch's last up on a report tells a slice what a proxy sends that serves it alone, with its settings on its view of the switch's history
 abbrev pub IsToldAsAlone : PolicyView → ℕ → ℕ → List Told → Type 0

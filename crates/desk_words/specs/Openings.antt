@@ -16,7 +16,7 @@ use Rattle.desk_words.specs.declared.event.Event.{Event}
 use Rattle.desk_words.specs.declared.event.Event.TheVariants.{SwitchUp, SwitchMsg, SwitchDown}
 use Rattle.desk_words.specs.declared.event.Timed.{Timed}
 use Rattle.desk_words.specs.declared.phase.Phase.{Phase}
-use Rattle.desk_words.specs.declared.phase.Phase.TheVariants.{Fresh, Begun, Opened, Ended}
+use Rattle.desk_words.specs.declared.phase.Phase.TheVariants.{Fresh, Begun, Opened, Gone}
 
 -- ---- messages of the switch
 
@@ -37,23 +37,23 @@ status_told message = if is_of PORT_STATUS message then well_formed (read_port_s
 
 -- the first message that tells what the switch is opens the desk (section 5.3.1); one of a bad length ends it (this proxy's own rule)
 abbrev pub begun_after : List ℕ → Phase
-begun_after message = if is_bad message then Ended else elim (features_told message) [ None ↦ Begun | Some features ↦ Opened ]
+begun_after message = if is_bad message then Gone else elim (features_told message) [ None ↦ Begun | Some features ↦ Opened ]
 
 -- after the opening only a message of a bad length moves on
 abbrev pub opened_after : List ℕ → Phase
-opened_after message = if is_bad message then Ended else Opened
+opened_after message = if is_bad message then Gone else Opened
 
 -- the switch connects, tells what it is, and its connection ends; nothing else of it moves on
 abbrev pub phase_after : Phase → Event → Phase
 phase_after Fresh SwitchUp = Begun
 phase_after Fresh event = Fresh
 phase_after Begun (SwitchMsg message) = begun_after message
-phase_after Begun SwitchDown = Ended
+phase_after Begun SwitchDown = Gone
 phase_after Begun event = Begun
 phase_after Opened (SwitchMsg message) = opened_after message
-phase_after Opened SwitchDown = Ended
+phase_after Opened SwitchDown = Gone
 phase_after Opened event = Opened
-phase_after Ended event = Ended
+phase_after Gone event = Gone
 
 -- how far the connection is after a history
 abbrev pub phase_of : List Timed → Phase
@@ -91,9 +91,9 @@ known_after Opened known (SwitchMsg message) = elim (status_told message) [ None
 known_after phase known event = known
 
 -- the ports that the switch told of: those of the opening, and then each change (sections 5.3.1 and 5.4.3)
-abbrev pub known_of : List Timed → List (List ℕ)
-known_of [] = []
-known_of (timed ∷ h) = known_after (phase_of h) (known_of h) timed.event
+abbrev pub ports_after : List Timed → List (List ℕ)
+ports_after [] = []
+ports_after (timed ∷ h) = known_after (phase_of h) (ports_after h) timed.event
 
 -- the change of a port, where there is one and it is kept beside the ports that are known
 abbrev pub kept_beside : List (List ℕ) → Option PortStatus → Option PortStatus
@@ -122,4 +122,4 @@ switch_after switch event = record {
 
 -- what a history says of the switch
 abbrev pub switch_of : List Timed → Switch
-switch_of h = record { phase = phase_of h; features = opening_of h; known = known_of h }
+switch_of h = record { phase = phase_of h; features = opening_of h; known = ports_after h }

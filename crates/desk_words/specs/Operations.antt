@@ -117,12 +117,12 @@ is_early phase Switch = is_fresh phase
 is_early phase (Slice slot) = not (is_open phase)
 
 -- what is answered where nothing waits
-abbrev pub silence : PolicyView → Phase → (ℕ → Bool) → Dest → Bool → Taken
-silence policy phase slice_up dest choked = if is_gone policy phase slice_up dest then Ended else if is_early phase dest then NotOpen else if choked then Choked else Nothing
+abbrev pub why_none : PolicyView → Phase → (ℕ → Bool) → Dest → Bool → Taken
+why_none policy phase slice_up dest choked = if is_gone policy phase slice_up dest then Ended else if is_early phase dest then NotOpen else if choked then Choked else Nothing
 
 -- the same after a history
 abbrev pub empty_reply : PolicyView → List Timed → Dest → Bool → Taken
-empty_reply policy h dest choked = silence policy (phase_of h) (λ slot. is_slice_up policy slot h) dest choked
+empty_reply policy h dest choked = why_none policy (phase_of h) (λ slot. is_slice_up policy slot h) dest choked
 
 -- what is answered to a take: the oldest message that waits, or why there is none
 abbrev pub take_reply : PolicyView → List Operation → Dest → Taken

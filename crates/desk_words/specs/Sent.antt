@@ -13,7 +13,7 @@ use Rattle.desk_words.specs.declared.event.Event.{Event}
 use Rattle.desk_words.specs.declared.event.Event.TheVariants.{SwitchUp, SwitchMsg, SliceMsg}
 use Rattle.desk_words.specs.declared.event.Timed.{Timed}
 use Rattle.desk_words.specs.declared.phase.Phase.{Phase}
-use Rattle.desk_words.specs.declared.phase.Phase.TheVariants.{Begun, Opened, Ended}
+use Rattle.desk_words.specs.declared.phase.Phase.TheVariants.{Begun, Opened, Gone}
 use Rattle.of10_ctl.specs.Kinds.{is_of}
 use Rattle.desk_words.specs.Openings.{features_told, Switch, switch_of, phase_of}
 use Rattle.desk_words.specs.Histories.{settings_at, items_of, Side, side_of}
@@ -86,7 +86,7 @@ slice_lane policy slot h timed = put_with policy slot (switch_of h) (side_of pol
 
 -- what the switch is sent in a phase, where the slice at a slot has so much sent: before the switch connects nothing, and from its end on nothing
 abbrev pub lane_in : (ℕ → List (List ℕ)) → Phase → Event → List (List ℕ)
-lane_in of_slice Ended event = []
+lane_in of_slice Gone event = []
 lane_in of_slice phase SwitchUp = greeting
 lane_in of_slice Begun (SwitchMsg message) = begun_lane message
 lane_in of_slice Opened (SwitchMsg message) = echo_for message

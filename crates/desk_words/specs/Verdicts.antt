@@ -5,7 +5,7 @@ use Rattle.desk_words.specs.declared.event.Event.{Event}
 use Rattle.desk_words.specs.declared.event.Event.TheVariants.{SwitchUp, SwitchDown, SliceUp, SliceMsg, SliceDown}
 use Rattle.desk_words.specs.declared.event.Timed.{Timed}
 use Rattle.desk_words.specs.declared.phase.Phase.{Phase}
-use Rattle.desk_words.specs.declared.phase.Phase.TheVariants.{Fresh, Begun, Ended}
+use Rattle.desk_words.specs.declared.phase.Phase.TheVariants.{Fresh, Begun, Gone}
 use Rattle.desk_words.specs.declared.answer.Verdict.{Verdict}
 use Rattle.desk_words.specs.declared.answer.Verdict.TheVariants as verdicts
 use Rattle.desk_words.specs.Openings.{phase_of}
@@ -18,7 +18,7 @@ is_fresh phase = false
 
 -- the switch's connection has ended
 abbrev pub is_ended : Phase → Bool
-is_ended Ended = true
+is_ended Gone = true
 is_ended phase = false
 
 -- the switch hasn't told yet what it is, and may still do so

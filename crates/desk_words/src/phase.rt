@@ -8,5 +8,5 @@ pub enum Phase {
     /// It has told what it is.
     Opened,
     /// Its connection has ended.
-    Ended,
+    Gone,
 }

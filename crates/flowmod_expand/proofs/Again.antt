@@ -12,7 +12,7 @@ use Rattle.of10_flow.specs.declared.flow_mod.FlowMod.{FlowMod}
 use Rattle.of10_flow.specs.FlowMods.{IsFlowMod, spell_flow_mod, read_flow_mod}
 use Rattle.of10_flow.proofs.Again.{flow_mod_of, flow_mod_again}
 use Rattle.of10_flow.specs.Tables.{is_delete}
-use Rattle.flowmod_expand.specs.Messages.{buffer_at, sent_for, are_too_large}
+use Rattle.flowmod_expand.specs.Messages.{buffer_at, piece_message, are_too_large}
 use Rattle.flowmod_expand.specs.Laws.{Order, IsPaired, IsInRange, messages_of, Place, flow_mod_at}
 use Rattle.flowmod_expand.proofs.Walks.{spell_size, flow_messages_length, flow_messages_at, sizes_within}
 
@@ -38,8 +38,8 @@ none_are false actions all = all
 
 -- what is sent for a piece has each field in its range
 is_sent : (m : FlowMod) (xid : ℕ) (piece : Pattern) (actions : List Action) (buffer : ℕ) → IsFlowMod m → xid < 2 ^ 32 → IsNormal piece → All IsAction actions → buffer < 2 ^ 32
-    → length (spell_flow_mod (sent_for m xid piece actions buffer)) ≤ 65535 → IsFlowMod (sent_for m xid piece actions buffer)
-unfolding sent_for
+    → length (spell_flow_mod (piece_message m xid piece actions buffer)) ≤ 65535 → IsFlowMod (piece_message m xid piece actions buffer)
+unfolding piece_message
 is_sent m xid piece actions buffer is xid_fits normal all number small =
     record {
       xid = xid_fits;
@@ -53,7 +53,7 @@ is_sent m xid piece actions buffer is xid_fits normal all number small =
       out_port = is.out_port;
       flags = flags_fit (is_delete m);
       actions = none_are (is_delete m) actions all;
-      fits = let size = spell_size (sent_for m xid piece actions buffer) in omega arith;
+      fits = let size = spell_size (piece_message m xid piece actions buffer) in omega arith;
     }
 
 -- the message at a place is that of the piece, the list and the buffer there
@@ -64,7 +64,7 @@ message_there o paired at =
     let piece = get_or_from_slice_get o.pieces at.number at.piece at.piece at.has_piece in
     let actions = get_or_from_slice_get o.lists at.number at.actions at.actions at.has_actions in
     sym (get_or_from_slice_get (messages_of o) at.number at.message at.message at.has_message) ∙ made
-    ∙ ap₂ (λ (p : Pattern) (l : List Action). spell_flow_mod (sent_for o.flow_mod o.xid p l (buffer_at o.buffer at.number))) piece actions
+    ∙ ap₂ (λ (p : Pattern) (l : List Action). spell_flow_mod (piece_message o.flow_mod o.xid p l (buffer_at o.buffer at.number))) piece actions
 
 -- and it is read as that
 pub read_there : (o : Order) → IsPaired o → IsInRange o → are_too_large (messages_of o) ≡ false → (at : Place o)

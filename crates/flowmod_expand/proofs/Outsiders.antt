@@ -21,22 +21,22 @@ use Rattle.flowspace.specs.Policies.{IsSwitchPolicy}
 use Rattle.flowspace.specs.Owners.{Writes, HasWriteRule}
 use Rattle.flowspace.proofs.Owning.{Writes-iff}
 use Rattle.flowmod_expand.specs.Pieces.{pieces_within, writes_of}
-use Rattle.flowmod_expand.specs.Messages.{sent_for, sent_from, buffer_at}
+use Rattle.flowmod_expand.specs.Messages.{piece_message, piece_messages, buffer_at}
 use Rattle.flowmod_expand.proofs.Repeats.{All-without_repeats}
 use Rattle.flowmod_expand.proofs.Somewhere.{All-filter_map}
 use Rattle.flowmod_expand.proofs.Space.{Any-writes_of}
 
 -- the match of a message is its piece
-piece_is : (m : FlowMod) (xid : ℕ) (piece : Pattern) (actions : List Action) (buffer : ℕ) → (sent_for m xid piece actions buffer).pattern ≡ piece
-unfolding sent_for
+piece_is : (m : FlowMod) (xid : ℕ) (piece : Pattern) (actions : List Action) (buffer : ℕ) → (piece_message m xid piece actions buffer).pattern ≡ piece
+unfolding piece_message
 piece_is m xid piece actions buffer = refl
 
 -- what holds of the pieces holds of the matches of the messages
-sent_matches : (P : Pattern → Type 0) (place : ℕ) (m : FlowMod) (xid : ℕ) (pieces : List Pattern) (lists : List (List Action)) (buffer : Option (ℕ × ℕ)) → All P pieces → All (λ s. P s.pattern) (sent_from place m xid pieces lists buffer)
+sent_matches : (P : Pattern → Type 0) (place : ℕ) (m : FlowMod) (xid : ℕ) (pieces : List Pattern) (lists : List (List Action)) (buffer : Option (ℕ × ℕ)) → All P pieces → All (λ s. P s.pattern) (piece_messages place m xid pieces lists buffer)
 sent_matches P place m xid [] lists buffer all = All-nil (λ (s : FlowMod). P s.pattern)
 sent_matches P place m xid (piece ∷ pieces) [] buffer all = All-nil (λ (s : FlowMod). P s.pattern)
 sent_matches P place m xid (piece ∷ pieces) (actions ∷ lists) buffer all =
-    All-cons (λ (s : FlowMod). P s.pattern) (sent_for m xid piece actions (buffer_at buffer place)) (sent_from (place + 1) m xid pieces lists buffer)
+    All-cons (λ (s : FlowMod). P s.pattern) (piece_message m xid piece actions (buffer_at buffer place)) (piece_messages (place + 1) m xid pieces lists buffer)
     (rw (piece_is m xid piece actions (buffer_at buffer place)) (All-head P piece pieces all))
     (sent_matches P (place + 1) m xid pieces lists buffer (All-tail P piece pieces all))
 
@@ -49,16 +49,16 @@ module _ (given : List Pattern) (h : Header) (outside : Any (λ w. Has w h) give
       (let w = get_or given k d in outside (k, w, lt, get_or_default given k w d lt, ((some_meet m w p e h).0 in_p).1))))
 
   -- nor has a message's match
-  not_in_messages : (m : FlowMod) (xid : ℕ) (lists : List (List Action)) (buffer : Option (ℕ × ℕ)) → All (λ sent. Has sent.pattern h → ⊥) (sent_from 0 m xid (pieces_within given m.pattern) lists buffer)
+  not_in_messages : (m : FlowMod) (xid : ℕ) (lists : List (List Action)) (buffer : Option (ℕ × ℕ)) → All (λ sent. Has sent.pattern h → ⊥) (piece_messages 0 m xid (pieces_within given m.pattern) lists buffer)
   not_in_messages m xid lists buffer = sent_matches (λ p. Has p h → ⊥) 0 m xid (pieces_within given m.pattern) lists buffer (not_in_pieces m.pattern)
 
-  pub each_message : (m : FlowMod) (xid : ℕ) (lists : List (List Action)) (buffer : Option (ℕ × ℕ)) → All (λ sent. LeavesTreatment sent h) (sent_from 0 m xid (pieces_within given m.pattern) lists buffer)
+  pub each_message : (m : FlowMod) (xid : ℕ) (lists : List (List Action)) (buffer : Option (ℕ × ℕ)) → All (λ sent. LeavesTreatment sent h) (piece_messages 0 m xid (pieces_within given m.pattern) lists buffer)
   each_message m xid lists buffer =
       All-weaker (λ sent. Has sent.pattern h → ⊥) (λ sent. LeavesTreatment sent h) (λ sent not_in table. Treatment-Apply table sent h not_in)
-      (sent_from 0 m xid (pieces_within given m.pattern) lists buffer) (not_in_messages m xid lists buffer)
+      (piece_messages 0 m xid (pieces_within given m.pattern) lists buffer) (not_in_messages m xid lists buffer)
 
-  pub all_messages : (m : FlowMod) (xid : ℕ) (lists : List (List Action)) (buffer : Option (ℕ × ℕ)) (table : List FlowEntry) → Treatment (ApplyAll table (sent_from 0 m xid (pieces_within given m.pattern) lists buffer)) h ≡ Treatment table h
-  all_messages m xid lists buffer table = Treatment-ApplyAll (sent_from 0 m xid (pieces_within given m.pattern) lists buffer) table h (not_in_messages m xid lists buffer)
+  pub all_messages : (m : FlowMod) (xid : ℕ) (lists : List (List Action)) (buffer : Option (ℕ × ℕ)) (table : List FlowEntry) → Treatment (ApplyAll table (piece_messages 0 m xid (pieces_within given m.pattern) lists buffer)) h ≡ Treatment table h
+  all_messages m xid lists buffer table = Treatment-ApplyAll (piece_messages 0 m xid (pieces_within given m.pattern) lists buffer) table h (not_in_messages m xid lists buffer)
 
 -- what no write rule has no match of theirs has
 pub no_match : (rules : List Rule) (slot : ℕ) (h : Header) → (HasWriteRule rules slot h → ⊥) → Any (λ w. Has w h) (writes_of rules slot) → ⊥

@@ -15,18 +15,18 @@ use Rattle.of10_ctl.specs.Kinds.{IsOf}
 use Rattle.of10_flow.specs.declared.flow_mod.FlowMod.{FlowMod}
 use Rattle.of10_flow.specs.FlowMods.{spell_flow_mod}
 use Rattle.of10_flow.specs.Tables.{is_delete}
-use Rattle.flowmod_expand.specs.Messages.{buffer_at, sent_for, sent_from, flow_messages, are_too_large}
+use Rattle.flowmod_expand.specs.Messages.{buffer_at, piece_message, piece_messages, flow_messages, are_too_large}
 
 -- ---- the message at a place
 
-sent_from_length : (place : ℕ) (m : FlowMod) (xid : ℕ) (pieces : List Pattern) (lists : List (List Action)) (buffer : Option (ℕ × ℕ)) → length lists ≡ length pieces → length (sent_from place m xid pieces lists buffer) ≡ length pieces
+sent_from_length : (place : ℕ) (m : FlowMod) (xid : ℕ) (pieces : List Pattern) (lists : List (List Action)) (buffer : Option (ℕ × ℕ)) → length lists ≡ length pieces → length (piece_messages place m xid pieces lists buffer) ≡ length pieces
 sent_from_length place m xid [] lists buffer e = refl
 sent_from_length place m xid (piece ∷ pieces) [] buffer e = absurd (omega arith)
 sent_from_length place m xid (piece ∷ pieces) (actions ∷ lists) buffer e = ap suc (sent_from_length (place + 1) m xid pieces lists buffer (omega arith))
 
 -- the flow-mod at a place is that of the piece and the list there
 pub sent_from_at : (place : ℕ) (m : FlowMod) (xid : ℕ) (pieces : List Pattern) (lists : List (List Action)) (buffer : Option (ℕ × ℕ)) (i : ℕ) (d : FlowMod) (p : Pattern) (l : List Action)
-    → i < length pieces → length lists ≡ length pieces → get_or (sent_from place m xid pieces lists buffer) i d ≡ sent_for m xid (get_or pieces i p) (get_or lists i l) (buffer_at buffer (place + i))
+    → i < length pieces → length lists ≡ length pieces → get_or (piece_messages place m xid pieces lists buffer) i d ≡ piece_message m xid (get_or pieces i p) (get_or lists i l) (buffer_at buffer (place + i))
 sent_from_at place m xid [] lists buffer i d p l lt e = absurd (omega arith)
 sent_from_at place m xid (piece ∷ pieces) [] buffer i d p l lt e = absurd (omega arith)
 sent_from_at place m xid (piece ∷ pieces) (actions ∷ lists) buffer zero d p l lt e = let same : place + zero ≡ place = omega arith in rw same refl
@@ -35,15 +35,15 @@ sent_from_at place m xid (piece ∷ pieces) (actions ∷ lists) buffer (suc i) d
     rw same (sent_from_at (place + 1) m xid pieces lists buffer i d p l (omega arith) (omega arith))
 
 pub flow_messages_length : (m : FlowMod) (xid : ℕ) (pieces : List Pattern) (lists : List (List Action)) (buffer : Option (ℕ × ℕ)) → length lists ≡ length pieces → length (flow_messages m xid pieces lists buffer) ≡ length pieces
-flow_messages_length m xid pieces lists buffer e = length-map (sent_from 0 m xid pieces lists buffer) spell_flow_mod ∙ sent_from_length 0 m xid pieces lists buffer e
+flow_messages_length m xid pieces lists buffer e = length-map (piece_messages 0 m xid pieces lists buffer) spell_flow_mod ∙ sent_from_length 0 m xid pieces lists buffer e
 
 pub flow_messages_at : (m : FlowMod) (xid : ℕ) (pieces : List Pattern) (lists : List (List Action)) (buffer : Option (ℕ × ℕ)) (i : ℕ) (b : List ℕ) (p : Pattern) (l : List Action)
-    → i < length pieces → length lists ≡ length pieces → get_or (flow_messages m xid pieces lists buffer) i b ≡ spell_flow_mod (sent_for m xid (get_or pieces i p) (get_or lists i l) (buffer_at buffer i))
+    → i < length pieces → length lists ≡ length pieces → get_or (flow_messages m xid pieces lists buffer) i b ≡ spell_flow_mod (piece_message m xid (get_or pieces i p) (get_or lists i l) (buffer_at buffer i))
 flow_messages_at m xid pieces lists buffer i b p l lt e =
-    let mods = sent_from 0 m xid pieces lists buffer in
+    let mods = piece_messages 0 m xid pieces lists buffer in
     let long = sent_from_length 0 m xid pieces lists buffer e in
     let same : 0 + i ≡ i = omega arith in
-    get_or-map spell_flow_mod mods i m b (omega arith) ∙ ap spell_flow_mod (sent_from_at 0 m xid pieces lists buffer i m p l lt e) ∙ ap (λ n. spell_flow_mod (sent_for m xid (get_or pieces i p) (get_or lists i l) (buffer_at buffer n))) same
+    get_or-map spell_flow_mod mods i m b (omega arith) ∙ ap spell_flow_mod (sent_from_at 0 m xid pieces lists buffer i m p l lt e) ∙ ap (λ n. spell_flow_mod (piece_message m xid (get_or pieces i p) (get_or lists i l) (buffer_at buffer n))) same
 
 -- ---- sizes
 
@@ -113,9 +113,9 @@ together_within messages e = ltb-false 262144 (sum_by length messages) (or_parts
 
 -- ---- what stands at a place
 
-sent_size : (m : FlowMod) (xid : ℕ) (piece : Pattern) (actions : List Action) (number : ℕ) → length (spell_flow_mod (sent_for m xid piece actions number)) ≡ 72 + length (spelling (if is_delete m then [] else actions))
-unfolding sent_for
-sent_size m xid piece actions number = spell_size (sent_for m xid piece actions number)
+sent_size : (m : FlowMod) (xid : ℕ) (piece : Pattern) (actions : List Action) (number : ℕ) → length (spell_flow_mod (piece_message m xid piece actions number)) ≡ 72 + length (spelling (if is_delete m then [] else actions))
+unfolding piece_message
+sent_size m xid piece actions number = spell_size (piece_message m xid piece actions number)
 
 -- the size of the message there
 pub size_at : (m : FlowMod) (xid : ℕ) (pieces : List Pattern) (lists : List (List Action)) (buffer : Option (ℕ × ℕ)) (i : ℕ) (actions sent : List Action) (size : ℕ) → i < length lists → length lists ≡ length pieces
@@ -124,17 +124,17 @@ pub size_at : (m : FlowMod) (xid : ℕ) (pieces : List Pattern) (lists : List (L
 size_at m xid pieces lists buffer i actions sent size lt long at_list is sized =
     let piece = get_or pieces i m.pattern in
     ap length (flow_messages_at m xid pieces lists buffer i [] m.pattern actions (omega arith) long)
-    ∙ ap (λ l. length (spell_flow_mod (sent_for m xid piece l (buffer_at buffer i)))) (sym at_list)
+    ∙ ap (λ l. length (spell_flow_mod (piece_message m xid piece l (buffer_at buffer i)))) (sym at_list)
     ∙ sent_size m xid piece actions (buffer_at buffer i) ∙ ap (λ s. 72 + length (spelling s)) (sym is) ∙ ap (λ n. 72 + n) (sym sized)
 
 -- the message there is that of the flow-mod which is sent for the piece
 pub made_at : (m : FlowMod) (xid : ℕ) (pieces : List Pattern) (lists : List (List Action)) (buffer : Option (ℕ × ℕ)) (i : ℕ) (piece : Pattern) (actions : List Action) (number : ℕ) (sent : FlowMod) (b : List ℕ) → i < length pieces → length lists ≡ length pieces
-    → piece ≡ get_or pieces i piece → actions ≡ get_or lists i actions → number ≡ buffer_at buffer i → sent ≡ sent_for m xid piece actions number
+    → piece ≡ get_or pieces i piece → actions ≡ get_or lists i actions → number ≡ buffer_at buffer i → sent ≡ piece_message m xid piece actions number
     → spell_flow_mod sent ≡ get_or (flow_messages m xid pieces lists buffer) i b
 made_at m xid pieces lists buffer i piece actions number sent b lt long at_piece at_list at_number is =
-    ap spell_flow_mod is ∙ ap (λ n. spell_flow_mod (sent_for m xid piece actions n)) at_number
-    ∙ ap (λ p. spell_flow_mod (sent_for m xid p actions (buffer_at buffer i))) at_piece
-    ∙ ap (λ l. spell_flow_mod (sent_for m xid (get_or pieces i piece) l (buffer_at buffer i))) at_list
+    ap spell_flow_mod is ∙ ap (λ n. spell_flow_mod (piece_message m xid piece actions n)) at_number
+    ∙ ap (λ p. spell_flow_mod (piece_message m xid p actions (buffer_at buffer i))) at_piece
+    ∙ ap (λ l. spell_flow_mod (piece_message m xid (get_or pieces i piece) l (buffer_at buffer i))) at_list
     ∙ sym (flow_messages_at m xid pieces lists buffer i b piece actions lt long)
 
 -- and fits its length field, where none is too large

@@ -6,7 +6,7 @@ use Rattle.of10_action.specs.declared.action.Action.{Action}
 use Rattle.of10_action.specs.Actions.{IsAction}
 use Rattle.of10_flow.specs.declared.flow_mod.FlowMod.{FlowMod}
 use Rattle.of10_flow.specs.FlowMods.{IsFlowMod}
-use Rattle.flowmod_expand.specs.Messages.{buffer_at, sent_for, flow_messages}
+use Rattle.flowmod_expand.specs.Messages.{buffer_at, piece_message, flow_messages}
 
 -- a flow-mod is to be sent in pieces, each with its list of actions, under a transaction id, and the piece at a place may have a buffer
 pub record Order : Type 0 where
@@ -44,4 +44,4 @@ pub record Place (o : Order) : Type 0 where
 
 -- the flow-mod for a place: that of its piece, its list and its buffer
 abbrev pub flow_mod_at : (o : Order) → Place o → FlowMod
-flow_mod_at o at = sent_for o.flow_mod o.xid at.piece at.actions (buffer_at o.buffer at.number)
+flow_mod_at o at = piece_message o.flow_mod o.xid at.piece at.actions (buffer_at o.buffer at.number)

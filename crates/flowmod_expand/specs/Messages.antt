@@ -16,8 +16,8 @@ buffer_at None place = NO_BUFFER
 buffer_at (Some own) place = if own.0 == place then own.1 else NO_BUFFER
 
 -- the flow-mod that is sent for a piece: a delete has no buffer, no flags and no actions; another has the buffer of its place, of the flags SEND_FLOW_REM alone, and the piece's own actions
-unfoldable pub sent_for : FlowMod → ℕ → Pattern → List Action → ℕ → FlowMod
-sent_for m xid piece actions buffer =
+unfoldable pub piece_message : FlowMod → ℕ → Pattern → List Action → ℕ → FlowMod
+piece_message m xid piece actions buffer =
     record m {
       xid = xid;
       pattern = piece;
@@ -27,15 +27,15 @@ sent_for m xid piece actions buffer =
     }
 
 -- those of all pieces, each with the list of actions at its place; the places count from a number on
-abbrev pub sent_from : ℕ → FlowMod → ℕ → List Pattern → List (List Action) → Option (ℕ × ℕ) → List FlowMod
-sent_from place m xid [] lists buffer = []
-sent_from place m xid (piece ∷ pieces) [] buffer = []
-sent_from place m xid (piece ∷ pieces) (actions ∷ lists) buffer =
-    sent_for m xid piece actions (buffer_at buffer place) ∷ sent_from (place + 1) m xid pieces lists buffer
+abbrev pub piece_messages : ℕ → FlowMod → ℕ → List Pattern → List (List Action) → Option (ℕ × ℕ) → List FlowMod
+piece_messages place m xid [] lists buffer = []
+piece_messages place m xid (piece ∷ pieces) [] buffer = []
+piece_messages place m xid (piece ∷ pieces) (actions ∷ lists) buffer =
+    piece_message m xid piece actions (buffer_at buffer place) ∷ piece_messages (place + 1) m xid pieces lists buffer
 
 -- the bytes of the messages, one for each piece
 abbrev pub flow_messages : FlowMod → ℕ → List Pattern → List (List Action) → Option (ℕ × ℕ) → List (List ℕ)
-flow_messages m xid pieces lists buffer = map spell_flow_mod (sent_from 0 m xid pieces lists buffer)
+flow_messages m xid pieces lists buffer = map spell_flow_mod (piece_messages 0 m xid pieces lists buffer)
 
 -- all messages together pass 262,144 bytes, or one passes the 65,535 that its length field can say
 abbrev pub are_too_large : List (List ℕ) → Bool

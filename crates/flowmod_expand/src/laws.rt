@@ -20,7 +20,7 @@ ghost use Rattle.of10_flow.specs.FlowMods.{spell_flow_mod, read_flow_mod};
 ghost use Rattle.of10_flow.specs.Tables.{ApplyAll, Treatment};
 ghost use Rattle.of10_flow.specs.Outside.{LeavesTreatment};
 ghost use Rattle.flowmod_expand.specs.Pieces.{pieces_within, pieces_of};
-ghost use Rattle.flowmod_expand.specs.Messages.{sent_from, are_too_large};
+ghost use Rattle.flowmod_expand.specs.Messages.{piece_messages, are_too_large};
 ghost use Rattle.flowmod_expand.specs.Laws.{Order, IsPaired, IsInRange, messages_of, Place, flow_mod_at};
 
 /// The pieces of a match have together the headers of the match that the slice's rules let it write; so
@@ -66,19 +66,19 @@ pub fn message_is_read_again()
 /// slice doesn't write.
 pub fn message_changes_only_what_its_slice_writes()
     ensures matches { (given : List Pattern) (h : Header) → (Any (λ w. Has w h) given → ⊥) → (m : FlowMod) (xid : ℕ) (lists : List (List Action)) (buffer : Option (ℕ × ℕ))
-        → All (λ sent. LeavesTreatment sent h) (sent_from 0 m xid (pieces_within given m.pattern) lists buffer) }
+        → All (λ sent. LeavesTreatment sent h) (piece_messages 0 m xid (pieces_within given m.pattern) lists buffer) }
     ensures rules { (rules : List Rule) (slot : ℕ) (h : Header) → (HasWriteRule rules slot h → ⊥) → (m : FlowMod) (xid : ℕ) (lists : List (List Action)) (buffer : Option (ℕ × ℕ))
-        → All (λ sent. LeavesTreatment sent h) (sent_from 0 m xid (pieces_of rules slot m.pattern) lists buffer) }
+        → All (λ sent. LeavesTreatment sent h) (piece_messages 0 m xid (pieces_of rules slot m.pattern) lists buffer) }
     ensures policy { (slices : List Slice) (rules : List Rule) → IsSwitchPolicy slices rules → (slot : ℕ) (h : Header) → IsHeader h → (Writes rules slot h → ⊥) → (m : FlowMod) (xid : ℕ) (lists : List (List Action)) (buffer : Option (ℕ × ℕ))
-        → All (λ sent. LeavesTreatment sent h) (sent_from 0 m xid (pieces_of rules slot m.pattern) lists buffer) }
+        → All (λ sent. LeavesTreatment sent h) (piece_messages 0 m xid (pieces_of rules slot m.pattern) lists buffer) }
 {}
 
 /// So do all messages of a flow-mod together, in their order.
 pub fn flow_mod_changes_only_what_its_slice_writes()
     ensures matches { (given : List Pattern) (h : Header) → (Any (λ w. Has w h) given → ⊥) → (m : FlowMod) (xid : ℕ) (lists : List (List Action)) (buffer : Option (ℕ × ℕ)) (table : List Entry)
-        → Treatment (ApplyAll table (sent_from 0 m xid (pieces_within given m.pattern) lists buffer)) h ≡ Treatment table h }
+        → Treatment (ApplyAll table (piece_messages 0 m xid (pieces_within given m.pattern) lists buffer)) h ≡ Treatment table h }
     ensures rules { (rules : List Rule) (slot : ℕ) (h : Header) → (HasWriteRule rules slot h → ⊥) → (m : FlowMod) (xid : ℕ) (lists : List (List Action)) (buffer : Option (ℕ × ℕ)) (table : List Entry)
-        → Treatment (ApplyAll table (sent_from 0 m xid (pieces_of rules slot m.pattern) lists buffer)) h ≡ Treatment table h }
+        → Treatment (ApplyAll table (piece_messages 0 m xid (pieces_of rules slot m.pattern) lists buffer)) h ≡ Treatment table h }
     ensures policy { (slices : List Slice) (rules : List Rule) → IsSwitchPolicy slices rules → (slot : ℕ) (h : Header) → IsHeader h → (Writes rules slot h → ⊥) → (m : FlowMod) (xid : ℕ) (lists : List (List Action)) (buffer : Option (ℕ × ℕ)) (table : List Entry)
-        → Treatment (ApplyAll table (sent_from 0 m xid (pieces_of rules slot m.pattern) lists buffer)) h ≡ Treatment table h }
+        → Treatment (ApplyAll table (piece_messages 0 m xid (pieces_of rules slot m.pattern) lists buffer)) h ≡ Treatment table h }
 {}

@@ -7,7 +7,7 @@ ghost use Rattle.of10_ctl.specs.Kinds.{IsOf};
 ghost use Rattle.flowmod_expand.specs.Messages.{buffer_at, flow_messages, are_too_large, Gives};
 
 use crate::fault::BuildFault;
-use crate::sending::{sent_actions, sent_for};
+use crate::sending::{sent_actions, piece_message};
 use of10_action::{Actions, list_size};
 use of10_ctl::Frame;
 use of10_flow::FlowMod;
@@ -67,7 +67,7 @@ fn messages(
     let mut frames = Vec::with_capacity(alloc, pieces.len())?;
     for (place, piece) in pieces.iter().enumerate() {
         let number = buffer_at(buffer, place);
-        let sent = sent_for(m, xid, piece, &actions[place], number);
+        let sent = piece_message(m, xid, piece, &actions[place], number);
         frames.push(sent.encode(alloc)?)?;
     }
     Ok(frames)

@@ -5,7 +5,7 @@ ghost use Rattle.std.specs.List.{All};
 ghost use Rattle.of10_action.specs.Actions.{HasAddress};
 ghost use Rattle.of10_flow.specs.FlowMods.{shown_flow_mod};
 ghost use Rattle.of10_flow.specs.Tables.{is_delete};
-ghost use Rattle.flowmod_expand.specs.Messages.{sent_for};
+ghost use Rattle.flowmod_expand.specs.Messages.{piece_message};
 
 use of10_action::{Action, Actions};
 use of10_flow::protocol::{DELETE, NO_BUFFER, SEND_FLOW_REM};
@@ -31,15 +31,15 @@ pub(crate) fn sent_actions<'a>(m: &FlowMod, actions: &'a Actions) -> &'a [Action
 }
 
 /// The flow-mod that is sent for a piece, which has these actions and this buffer where it isn't a delete.
-#[tactic(auto, unfolding(crate::specs::Messages::sent_for))]
-pub(crate) fn sent_for<'a>(
+#[tactic(auto, unfolding(crate::specs::Messages::piece_message))]
+pub(crate) fn piece_message<'a>(
     m: &FlowMod,
     xid: u32,
     piece: &'a Match,
     actions: &'a Actions,
     buffer: u32,
 ) -> FlowModView<'a>
-    ensures value { shown_flow_mod result ≡ sent_for m.now xid piece.now actions.now buffer }
+    ensures value { shown_flow_mod result ≡ piece_message m.now xid piece.now actions.now buffer }
     ensures addresses { All HasAddress result.actions.now }
 {
     let (buffer, flags) = if is_delete(m) {

@@ -6,7 +6,7 @@ use Rattle.of10_model.specs.Normal.{is_value, IsInRange}
 use Rattle.of10_model.specs.Meet.{meet_of, is_disjoint}
 use Rattle.of10_model.proofs.Disjointness.{shared, Disjoint-none}
 use Rattle.flowspace.specs.declared.rules.Rule.{Rule}
-use Rattle.flowspace.specs.Rules.{names, have_switch, is_usurped, is_refused, Share, Yields}
+use Rattle.flowspace.specs.Rules.{names, have_switch, is_usurped, is_refused, ShareHeader, Yields}
 use Rattle.flowspace.proofs.Parts.{have_switch-names}
 
 -- ---- writers
@@ -67,7 +67,7 @@ a_meet a b (Some r) e h = record { match = r; is = e }
 
 -- what a refusal means
 pub record Refusal (earlier later : Rule) : Type 0 where
-  pub share : Share earlier later
+  pub share : ShareHeader earlier later
   pub slot : ℕ
   pub written : later.writer ≡ Some slot
   pub not_written : earlier.writer ≢ Some slot
@@ -121,6 +121,6 @@ is_refused-Yields earlier later i j yields =
     (λ t. let refusal = Refusal-is_refused earlier later i j t in refusal.not_written (yields refusal.share refusal.slot refusal.written))
 
 -- a rule that takes headers of an earlier one is refused
-pub is_refused-Share : (earlier later : Rule) (slot : ℕ) → Share earlier later → later.writer ≡ Some slot → earlier.writer ≢ Some slot → is_refused earlier later ≡ true
-is_refused-Share earlier later slot share written not_written =
+pub is_refused-ShareHeader : (earlier later : Rule) (slot : ℕ) → ShareHeader earlier later → later.writer ≡ Some slot → earlier.writer ≢ Some slot → is_refused earlier later ≡ true
+is_refused-ShareHeader earlier later slot share written not_written =
     true_from_ne_false (is_refused earlier later) (λ f. not_written (Yields-is_refused earlier later f share slot written))

@@ -4,7 +4,7 @@ use Rattle.of10_model.specs.Normal.{IsNormal}
 use Rattle.flowspace.specs.declared.slices.Slice.{Slice}
 use Rattle.flowspace.specs.declared.rules.Rule.{Rule}
 use Rattle.flowspace.specs.Slices.{IsPlainSlice}
-use Rattle.flowspace.specs.Rules.{IsPlainRule, is_written_by, is_own_reader, have_switch, Share, Yields}
+use Rattle.flowspace.specs.Rules.{IsPlainRule, is_written_by, is_own_reader, have_switch, ShareHeader, Yields}
 use Rattle.flowspace.specs.Order.{HasNoLower, IsAccepted}
 
 -- the slices and the rules of a policy, both as they stand in its text
@@ -57,7 +57,7 @@ pub record ComesBefore (rules : List Rule) (i j : ℕ) : Type 0 where
 -- and both hold on a switch and share a header, where a slice writes the second that doesn't write the first
 pub record IsOverlap (rules : List Rule) (i j : ℕ) : Type 0 where
   pub places : ComesBefore rules i j
-  pub share : Share places.earlier places.later
+  pub share : ShareHeader places.earlier places.later
   pub slot : ℕ
   pub written : places.later.writer ≡ Some slot
   pub not_written : places.earlier.writer ≢ Some slot

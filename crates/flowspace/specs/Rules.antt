@@ -64,7 +64,7 @@ first_improper m =
 -- ---- headers in two rules
 
 -- two rules share a header where both hold on a switch and the header is in both matches
-pub record Share (a b : Rule) : Type 0 where
+pub record ShareHeader (a b : Rule) : Type 0 where
   pub datapath : ℕ
   pub on_first : IsTrue (holds datapath a)
   pub on_second : IsTrue (holds datapath b)
@@ -75,7 +75,7 @@ pub record Share (a b : Rule) : Type 0 where
 
 -- where a header of the later rule is one of the earlier too, the later one is written by nobody or by the writer of the earlier
 abbrev pub Yields : Rule → Rule → Type 0
-Yields earlier later = Share earlier later → (slot : ℕ) → later.writer ≡ Some slot → earlier.writer ≡ Some slot
+Yields earlier later = ShareHeader earlier later → (slot : ℕ) → later.writer ≡ Some slot → earlier.writer ≡ Some slot
 
 -- ---- the same as a test that computes
 

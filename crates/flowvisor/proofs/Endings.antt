@@ -6,7 +6,7 @@ use Rattle.fv_base.proofs.Appending.{appended_none}
 use Rattle.fv_base.specs.Words.{FormBytes, OfCheck, OfReplay, OfGen, OfServe, form_of}
 use Rattle.fv_cli.specs.declared.ending.Ending.{Ending}
 use Rattle.fv_cli.specs.declared.ending.Ending.TheVariants.{Done, Usage, ReadFault, WriteFault, NoMemory, NoMemoryToRun, TooLarge, PolicyRefused, RecordingRefused}
-use Rattle.fv_cli.specs.Endings.{status_of, line_of, IsPut, Outside, Ended, Causes, IsCheckCause, IsReplayCause, IsGenEnding}
+use Rattle.fv_cli.specs.Endings.{status_of, line_of, IsPut, Outside, EndedWith, Causes, IsCheckCause, IsReplayCause, IsGenEnding}
 use Rattle.flowvisor.specs.Asked.{Suits, EndedSo, is_of_check, is_of_gen}
 
 -- ---- lines
@@ -98,7 +98,7 @@ only_done (PolicyRefused fault) failed e = absurd (cc)
 only_done (RecordingRefused fault) failed e = absurd (cc)
 
 pub after_run : (w : Outside) (words : List (List ℕ)) (failed : Bool) (before between after : Option (List ℕ)) (count count_between count_after status result : ℕ)
-    → Ended w words before between count count_between status
+    → EndedWith w words before between count count_between status
     → result ≡ (if status == 0 && failed then 5 else status)
     → ((status == 0 && failed) ≡ true → IsPut (line_of WriteFault) between after count_between count_after)
     → ((status == 0 && failed) ≡ false → (after ≡ between) × (count_after ≡ count_between))

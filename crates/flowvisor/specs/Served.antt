@@ -4,7 +4,7 @@ use Rattle.fv_live.specs.Roles.{Role}
 use Rattle.fv_cli.specs.declared.ending.Ending.TheVariants.{NoMemory}
 use Rattle.fv_cli.specs.Endings.{status_of, line_of, IsPut}
 use Rattle.live_serve.specs.Running.{outside}
-use Rattle.live_serve.specs.Serving.{Reads, Places, Ended}
+use Rattle.live_serve.specs.Serving.{Reads, Places, ServeEnded}
 
 -- what switches connect to: how many connections it accepted, where it is told, and how often a call for each place has failed
 pub record Listening : Type 0 where
@@ -19,7 +19,7 @@ places listening roles start_faults = λ at. outside listening.accepted roles (l
 pub record ServedBy (w : Reads) (roles roles_after : Option (List Role)) (start_faults start_faults_after : ℕ) (words : List (List ℕ)) (err_before err_after : Option (List ℕ)) (err_faults err_faults_after status : ℕ) : Type 0 where
   pub first : Listening
   pub last : Listening
-  pub ended : Ended w (places first roles start_faults) (places last roles_after start_faults_after) words err_before err_after err_faults err_faults_after status
+  pub ended : ServeEnded w (places first roles start_faults) (places last roles_after start_faults_after) words err_before err_after err_faults err_faults_after status
 
 -- there was no memory for the words
 abbrev pub WordsHadNoMemory : Option (List ℕ) → Option (List ℕ) → ℕ → ℕ → ℕ → Type 0

@@ -185,7 +185,7 @@ IsPut line before after count_before count_after =
     ((after ≡ appended before line) × (count_after ≡ count_before)) ⊎ ((piece : List ℕ) × IsPrefix piece line × (after ≡ appended before piece) × Rose count_before count_after)
 
 -- A call that ended with a status: one ending gives the status, has its cause, left the output alone before the run, left the counts that aren't its cause, and put its line.
-pub record Ended (w : Outside) (words : List (List ℕ)) (err_before err_after : Option (List ℕ)) (err_faults err_faults_after status : ℕ) : Type 0 where
+pub record EndedWith (w : Outside) (words : List (List ℕ)) (err_before err_after : Option (List ℕ)) (err_faults err_faults_after status : ℕ) : Type 0 where
   pub ending : Ending
   pub answer : status ≡ status_of ending
   pub cause : Causes w (form_of words) ending

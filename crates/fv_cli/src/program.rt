@@ -9,7 +9,7 @@ ghost use Rattle.desk_words.specs.Reports.{report};
 ghost use Rattle.fv_generator.specs.Made.{records_of};
 ghost use Rattle.fv_generator.specs.Policies.{the_policy};
 ghost use Rattle.summary_words.specs.Summaries.{summary};
-ghost use Rattle.fv_cli.specs.Endings.{PolicySays, HasRecording, IsLoadCause, IsPolicyCause, IsRecordingCause, IsRunEnding, IsGenEnding, IsCheckCause, IsReplayCause, Causes, is_early, CountsReads, CountsPuts, Ended, Completes};
+ghost use Rattle.fv_cli.specs.Endings.{PolicySays, HasRecording, IsLoadCause, IsPolicyCause, IsRecordingCause, IsRunEnding, IsGenEnding, IsCheckCause, IsReplayCause, Causes, is_early, CountsReads, CountsPuts, EndedWith, Completes};
 
 use crate::base::{Failed, Files, Form, LoadFault, Sink, Words, WordsFault, load_file, read_words};
 use crate::ending::Ending;
@@ -216,7 +216,7 @@ pub fn offline<F: Files, O: Sink, E: Sink>(
     out: &mut O,
     err: &mut E,
 ) -> u8
-    ensures ended { Ended (record { files = F.contents files.old; read_before = F.faults files.old; read_after = F.faults files.new; out_before = O.contents out.old; out_after = O.contents out.new; put_before = O.faults out.old; put_after = O.faults out.new }) words.now (E.contents err.old) (E.contents err.new) (E.faults err.old) (E.faults err.new) result }
+    ensures ended { EndedWith (record { files = F.contents files.old; read_before = F.faults files.old; read_after = F.faults files.new; out_before = O.contents out.old; out_after = O.contents out.new; put_before = O.faults out.old; put_after = O.faults out.new }) words.now (E.contents err.old) (E.contents err.new) (E.faults err.old) (E.faults err.new) result }
     ensures complete { Completes (record { files = F.contents files.old; read_before = F.faults files.old; read_after = F.faults files.new; out_before = O.contents out.old; out_after = O.contents out.new; put_before = O.faults out.old; put_after = O.faults out.new }) (form_of words.now) result }
 {
     let ending = decide(alloc, words, files, out);

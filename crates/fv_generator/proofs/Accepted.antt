@@ -7,7 +7,7 @@ use Rattle.std.proofs.lemmas.Bool.{le-leb}
 use Rattle.std.proofs.lemmas.List.Elements.{All-from_recursion}
 use Rattle.of10_port.specs.Features.{spell_features, features_front}
 use Rattle.recording.specs.declared.item.Item.{Item}
-use Rattle.recording.specs.Recordings.{Told, HasMoment, told_at, all_told, may_be_told, is_formed, fits, is_switch_up, is_slice_up, read_items, magic, spell, head_spelling}
+use Rattle.recording.specs.Recordings.{Told, HasMoment, told_at, all_told, may_be_told, is_formed, fits, is_switch_open, is_slice_open, read_items, magic, spell, head_spelling}
 use Rattle.recording.proofs.Told.{told_again}
 use Rattle.fv_generator.specs.Made.{by_switch, by_slice, features_told, opening, drawn_round, rounds, records_of, recording_of}
 use Rattle.fv_generator.proofs.Sizes.{features_size}
@@ -15,9 +15,9 @@ use Rattle.fv_generator.proofs.Cases.{of_round}
 
 -- the switch and both slices are up
 record AllUp (before : List Item) : Type 0 where
-  switch : is_switch_up 0 before ≡ true
-  alice : is_slice_up 0 0 before ≡ true
-  bob : is_slice_up 0 1 before ≡ true
+  switch : is_switch_open 0 before ≡ true
+  alice : is_slice_open 0 0 before ≡ true
+  bob : is_slice_open 0 1 before ≡ true
 
 -- a record may come next, and leaves all up
 record MayCome (at : ℕ) (before : List Item) (r : Told) : Type 0 where

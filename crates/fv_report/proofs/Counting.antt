@@ -23,7 +23,7 @@ use Rattle.fv_report.specs.declared.counter.Count.{Count}
 use Rattle.fv_report.specs.declared.counter.Counter.{Counter}
 use Rattle.fv_report.specs.Telling.{Line, Saying, Lane, To, Close, Down, lane_told, slice_told, told_by_slot, closing_told, close_told, down_line, down_told, event_told, lines_from, all_lines, Heard}
 use Rattle.fv_report.proofs.Recorded.{same_number, set_get}
-use Rattle.fv_report.specs.Counting.{Added, lane_in, slice_in, lane_of, slice_of, IsCount, Counts, CountsLine, summary_text}
+use Rattle.fv_report.specs.Counting.{Added, lane_said, slice_in, lane_told_in, slice_told_in, IsCount, Counts, CountsLine, summary_text}
 
 -- ---- what lines tell of
 
@@ -95,53 +95,53 @@ of_events picked makes p picks is number (one ∷ later) =
 
 -- ---- for the switch
 
-lane_of_lane : (place : Place) (messages : List (List ℕ)) → lane_of (lane_told place messages) ≡ messages
+lane_of_lane : (place : Place) (messages : List (List ℕ)) → lane_told_in (lane_told place messages) ≡ messages
 lane_of_lane place [] = refl
 lane_of_lane place (m ∷ messages) = ap (λ (others : List (List ℕ)). m ∷ others) (lane_of_lane place messages)
 
-lane_of_slice : (place : Place) (slot : ℕ) (name : List ℕ) (messages : List (List ℕ)) → lane_of (slice_told place slot name messages) ≡ []
+lane_of_slice : (place : Place) (slot : ℕ) (name : List ℕ) (messages : List (List ℕ)) → lane_told_in (slice_told place slot name messages) ≡ []
 lane_of_slice place slot name [] = refl
 lane_of_slice place slot name (m ∷ messages) = lane_of_slice place slot name messages
 
-lane_of_slots : (place : Place) (messages : ℕ → List (List ℕ)) (slot : ℕ) (slices : List Slice) → lane_of (told_by_slot place messages slot slices) ≡ []
+lane_of_slots : (place : Place) (messages : ℕ → List (List ℕ)) (slot : ℕ) (slices : List Slice) → lane_told_in (told_by_slot place messages slot slices) ≡ []
 lane_of_slots place messages slot [] = refl
 lane_of_slots place messages slot (s ∷ others) =
-    flat_map-append (λ (line : Line). lane_in line.saying) (slice_told place slot s.name (messages slot)) (told_by_slot place messages (slot + 1) others)
+    flat_map-append (λ (line : Line). lane_said line.saying) (slice_told place slot s.name (messages slot)) (told_by_slot place messages (slot + 1) others)
     ∙ ap₂ (λ (a b : List (List ℕ)). a ++ b) (lane_of_slice place slot s.name (messages slot)) (lane_of_slots place messages (slot + 1) others)
 
-lane_is_picked : (p : PolicyView) → IsPicked lane_in (lane_by p) p
+lane_is_picked : (p : PolicyView) → IsPicked lane_said (lane_by p) p
 lane_is_picked p place h timed =
     let messages = λ (slot : ℕ). sent_by p slot h timed in
-    flat_map-append (λ (line : Line). lane_in line.saying) (lane_told place (lane_by p h timed)) (told_by_slot place messages 0 p.slices)
+    flat_map-append (λ (line : Line). lane_said line.saying) (lane_told place (lane_by p h timed)) (told_by_slot place messages 0 p.slices)
     ∙ ap₂ (λ (a b : List (List ℕ)). a ++ b) (lane_of_lane place (lane_by p h timed)) (lane_of_slots place messages 0 p.slices)
     ∙ append-nil (lane_by p h timed)
 
 -- the lines of a recording tell of its messages for the switch
-pub lane_told_of : (p : PolicyView) (records : List Told) → lane_of (all_lines p records) ≡ lane_messages p records
-lane_told_of p records = of_events lane_in (lane_by p) p (record { close = λ name. refl; down = refl }) (lane_is_picked p) 0 (all_happened p records)
+pub lane_told_of : (p : PolicyView) (records : List Told) → lane_told_in (all_lines p records) ≡ lane_messages p records
+lane_told_of p records = of_events lane_said (lane_by p) p (record { close = λ name. refl; down = refl }) (lane_is_picked p) 0 (all_happened p records)
 
 -- ---- for a slice
 
-slice_of_lane : (slot : ℕ) (place : Place) (messages : List (List ℕ)) → slice_of slot (lane_told place messages) ≡ []
+slice_of_lane : (slot : ℕ) (place : Place) (messages : List (List ℕ)) → slice_told_in slot (lane_told place messages) ≡ []
 slice_of_lane slot place [] = refl
 slice_of_lane slot place (m ∷ messages) = slice_of_lane slot place messages
 
-slice_of_own : (slot at : ℕ) (place : Place) (name : List ℕ) (messages : List (List ℕ)) → (at == slot) ≡ true → slice_of slot (slice_told place at name messages) ≡ messages
+slice_of_own : (slot at : ℕ) (place : Place) (name : List ℕ) (messages : List (List ℕ)) → (at == slot) ≡ true → slice_told_in slot (slice_told place at name messages) ≡ messages
 slice_of_own slot at place name [] is = refl
 slice_of_own slot at place name (m ∷ messages) is = rw is (ap (λ (others : List (List ℕ)). m ∷ others) (slice_of_own slot at place name messages is))
 
-slice_of_other : (slot at : ℕ) (place : Place) (name : List ℕ) (messages : List (List ℕ)) → (at == slot) ≡ false → slice_of slot (slice_told place at name messages) ≡ []
+slice_of_other : (slot at : ℕ) (place : Place) (name : List ℕ) (messages : List (List ℕ)) → (at == slot) ≡ false → slice_told_in slot (slice_told place at name messages) ≡ []
 slice_of_other slot at place name [] other = refl
 slice_of_other slot at place name (m ∷ messages) other = rw other (slice_of_other slot at place name messages other)
 
 -- slices behind a slot
-slice_of_behind : (slot : ℕ) (place : Place) (messages : ℕ → List (List ℕ)) (from : ℕ) (slices : List Slice) → slot < from → slice_of slot (told_by_slot place messages from slices) ≡ []
+slice_of_behind : (slot : ℕ) (place : Place) (messages : ℕ → List (List ℕ)) (from : ℕ) (slices : List Slice) → slot < from → slice_told_in slot (told_by_slot place messages from slices) ≡ []
 slice_of_behind slot place messages from [] behind = refl
 slice_of_behind slot place messages from (s ∷ others) behind =
     flat_map-append (λ (line : Line). slice_in slot line.saying) (slice_told place from s.name (messages from)) (told_by_slot place messages (from + 1) others)
     ∙ ap₂ (λ (a b : List (List ℕ)). a ++ b) (slice_of_other slot from place s.name (messages from) (ne_eqb from slot (λ same. absurd (omega (arith, same, behind))))) (slice_of_behind slot place messages (from + 1) others (omega (arith, behind)))
 
-slice_of_slots : (slot : ℕ) (place : Place) (messages : ℕ → List (List ℕ)) (from : ℕ) (slices : List Slice) → from ≤ slot → slot < from + length slices → slice_of slot (told_by_slot place messages from slices) ≡ messages slot
+slice_of_slots : (slot : ℕ) (place : Place) (messages : ℕ → List (List ℕ)) (from : ℕ) (slices : List Slice) → from ≤ slot → slot < from + length slices → slice_told_in slot (told_by_slot place messages from slices) ≡ messages slot
 slice_of_slots slot place messages from [] reached within = absurd (omega (arith, reached, within))
 slice_of_slots slot place messages from (s ∷ others) reached within =
     flat_map-append (λ (line : Line). slice_in slot line.saying) (slice_told place from s.name (messages from)) (told_by_slot place messages (from + 1) others)
@@ -160,7 +160,7 @@ slice_is_picked p slot known place h timed =
     ∙ ap₂ (λ (a b : List (List ℕ)). a ++ b) (slice_of_lane slot place (lane_by p h timed)) (slice_of_slots slot place messages 0 p.slices (omega arith) (omega (arith, known)))
 
 -- the lines of a recording tell of its messages for the slice at a slot
-pub slice_told_of : (p : PolicyView) (slot : ℕ) (records : List Told) → slot < length p.slices → slice_of slot (all_lines p records) ≡ slice_messages p slot records
+pub slice_told_of : (p : PolicyView) (slot : ℕ) (records : List Told) → slot < length p.slices → slice_told_in slot (all_lines p records) ≡ slice_messages p slot records
 slice_told_of p slot records known = of_events (slice_in slot) (sent_by p slot) p (record { close = λ name. refl; down = refl }) (slice_is_picked p slot known) 0 (all_happened p records)
 
 -- ---- the summary
@@ -175,12 +175,12 @@ counts_same first second from (s ∷ others) same =
     ap₂ (λ (a b : List ℕ). a ++ b) (ap (count_line s.name) (same from (omega arith) (omega arith))) (counts_same first second (from + 1) others (λ slot reached within. same slot (omega (arith, reached)) (omega (arith, within))))
 
 -- what the lines of a recording tell of is summed in its summary
-pub summary_told : (p : PolicyView) (records : List Told) → let lines = all_lines p records in summary_text (event_count p records) (lane_of lines) (λ slot. slice_of slot lines) p.slices ≡ summary p records
+pub summary_told : (p : PolicyView) (records : List Told) → let lines = all_lines p records in summary_text (event_count p records) (lane_told_in lines) (λ slot. slice_told_in slot lines) p.slices ≡ summary p records
 summary_told p records =
     let lines = all_lines p records in
     ap₂ (λ (lane : List (List ℕ)) (counts : List ℕ). codes "events " ++ decimal (event_count p records) ++ codes "\n" ++ count_line (codes "lane") lane ++ counts)
     (lane_told_of p records)
-    (counts_same (λ slot. slice_of slot lines) (λ slot. slice_messages p slot records) 0 p.slices (λ slot reached within. slice_told_of p slot records (omega (arith, within))))
+    (counts_same (λ slot. slice_told_in slot lines) (λ slot. slice_messages p slot records) 0 p.slices (λ slot reached within. slice_told_of p slot records (omega (arith, within))))
 
 -- ---- counting
 
@@ -248,16 +248,16 @@ counts_as slots lane other_lane slices other_slices counter same same_slices cou
 
 -- after lines that were told the messages that they tell of are counted
 pub counted_lines : (lines : List Line) (old new : Counter) (slots : ℕ) (lane : List (List ℕ)) (slices : ℕ → List (List ℕ)) → Counts slots lane slices old → Heard (λ was line whole is. CountsLine line.saying whole was is) old lines new
-    → Counts slots (lane ++ lane_of lines) (λ slot. slices slot ++ slice_of slot lines) new
+    → Counts slots (lane ++ lane_told_in lines) (λ slot. slices slot ++ slice_told_in slot lines) new
 counted_lines [] old new slots lane slices counts same =
     subst (Counts slots (lane ++ []) (λ slot. slices slot ++ [])) (sym same)
     (counts_as slots lane (lane ++ []) slices (λ slot. slices slot ++ []) old (sym (append-nil lane)) (λ slot. sym (append-nil (slices slot))) counts)
 counted_lines (line ∷ lines) old new slots lane slices counts (next, told, others) =
     let more = λ (slot : ℕ). slices slot ++ slice_in slot line.saying in
-    counts_as slots ((lane ++ lane_in line.saying) ++ lane_of lines) (lane ++ (lane_in line.saying ++ lane_of lines)) (λ slot. more slot ++ slice_of slot lines) (λ slot. slices slot ++ (slice_in slot line.saying ++ slice_of slot lines)) new
-    (append_assoc lane (lane_in line.saying) (lane_of lines))
-    (λ slot. append_assoc (slices slot) (slice_in slot line.saying) (slice_of slot lines))
-    (counted_lines lines next new slots (lane ++ lane_in line.saying) more (told slots lane slices counts) others)
+    counts_as slots ((lane ++ lane_said line.saying) ++ lane_told_in lines) (lane ++ (lane_said line.saying ++ lane_told_in lines)) (λ slot. more slot ++ slice_told_in slot lines) (λ slot. slices slot ++ (slice_in slot line.saying ++ slice_told_in slot lines)) new
+    (append_assoc lane (lane_said line.saying) (lane_told_in lines))
+    (λ slot. append_assoc (slices slot) (slice_in slot line.saying) (slice_told_in slot lines))
+    (counted_lines lines next new slots (lane ++ lane_said line.saying) more (told slots lane slices counts) others)
 
 -- ---- the lines of a summary
 

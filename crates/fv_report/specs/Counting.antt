@@ -13,9 +13,9 @@ pub record Added (message : List ℕ) (old new : Count) : Type 0 where
   pub bytes : new.bytes ≡ old.bytes + length message
 
 -- the message for the switch that is told of, if one is
-abbrev pub lane_in : Saying → List (List ℕ)
-lane_in (Lane message) = message ∷ []
-lane_in saying = []
+abbrev pub lane_said : Saying → List (List ℕ)
+lane_said (Lane message) = message ∷ []
+lane_said saying = []
 
 -- the message for the slice at a slot that is told of, if one is
 abbrev pub slice_in : ℕ → Saying → List (List ℕ)
@@ -23,12 +23,12 @@ slice_in slot (To at name message) = if at == slot then message ∷ [] else []
 slice_in slot saying = []
 
 -- the messages for the switch that lines tell of
-abbrev pub lane_of : List Line → List (List ℕ)
-lane_of lines = flat_map (λ line. lane_in line.saying) lines
+abbrev pub lane_told_in : List Line → List (List ℕ)
+lane_told_in lines = flat_map (λ line. lane_said line.saying) lines
 
 -- those for the slice at a slot
-abbrev pub slice_of : ℕ → List Line → List (List ℕ)
-slice_of slot lines = flat_map (λ line. slice_in slot line.saying) lines
+abbrev pub slice_told_in : ℕ → List Line → List (List ℕ)
+slice_told_in slot lines = flat_map (λ line. slice_in slot line.saying) lines
 
 -- a count is that of these messages
 pub record IsCount (all : List (List ℕ)) (count : Count) : Type 0 where
@@ -50,7 +50,7 @@ abbrev pub CountsLine : Saying → Bool → Counter → Counter → Type 0
 CountsLine saying false old new = Unit {0}
 CountsLine saying true old new =
     (slots : ℕ) (lane : List (List ℕ)) (slices : ℕ → List (List ℕ)) → Counts slots lane slices old
-    → Counts slots (lane ++ lane_in saying) (λ slot. slices slot ++ slice_in slot saying) new
+    → Counts slots (lane ++ lane_said saying) (λ slot. slices slot ++ slice_in slot saying) new
 
 -- the summary of so many events with these messages
 abbrev pub summary_text : ℕ → List (List ℕ) → (ℕ → List (List ℕ)) → List Slice → List ℕ

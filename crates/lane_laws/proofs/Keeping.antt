@@ -28,7 +28,7 @@ use Rattle.desk_words.specs.declared.event.Event.{Event}
 use Rattle.desk_words.specs.declared.event.Event.TheVariants.{SwitchUp, SwitchMsg, SwitchDown, SliceUp, SliceMsg, SliceDown}
 use Rattle.desk_words.specs.declared.event.Timed.{Timed}
 use Rattle.desk_words.specs.declared.phase.Phase.{Phase}
-use Rattle.desk_words.specs.declared.phase.Phase.TheVariants.{Fresh, Begun, Opened, Ended}
+use Rattle.desk_words.specs.declared.phase.Phase.TheVariants.{Fresh, Begun, Opened, Gone}
 use Rattle.desk_words.specs.Openings.{well_formed, opening_with, rules_of, Switch, switch_of, phase_of, opening_of}
 use Rattle.desk_words.specs.Histories.{is_slot, Side, side_of, header_in, handed, number_given, marked_slot, lost_items, packet_items, packet_in_items, message_items, event_items, opening_items, phase_items, items_of, number_told, Numbered, holder, is_given, is_any_given, numbered_with, is_open}
 use Rattle.desk_words.specs.Numbers.{AreNumbered}
@@ -110,7 +110,7 @@ module _ (policy : PolicyView) (slot : ℕ) where
       → Shows rules slot (phase_items policy slot switch side timed phase) (packet_handed phase timed.event)
   shows_in rules switch side timed Fresh same = NoneShown refl
   shows_in rules switch side timed Begun same = NoneShown (plain_opening (opening_with Begun timed.event))
-  shows_in rules switch side timed Ended same = NoneShown refl
+  shows_in rules switch side timed Gone same = NoneShown refl
   shows_in rules switch side timed Opened same =
       subst (λ (rs : List Rule). Shows rs slot (event_items policy slot switch side timed.moment timed.event) (packet_handed Opened timed.event)) (same refl) (shows_event switch side timed.moment timed.event)
 
@@ -132,7 +132,7 @@ any_within P item (first ∷ lost) rest holds = Any-later P first (lost ++ (item
 number_by : (phase : Phase) (event : Event) → number_told phase event ≡ option_and_then number_given (packet_handed phase event)
 number_by Fresh event = refl
 number_by Begun event = refl
-number_by Ended event = refl
+number_by Gone event = refl
 number_by Opened SwitchUp = refl
 number_by Opened (SwitchMsg message) = refl
 number_by Opened SwitchDown = refl

@@ -15,7 +15,7 @@ use Rattle.flowspace.specs.Owners.{Owns, HasPort, has_port}
 use Rattle.flowspace.proofs.Owning.{Writes-iff, has_port-iff}
 use Rattle.port_view.specs.SlicePorts.{ports_of_slice, is_flooded, flooded}
 use Rattle.flowmod_expand.specs.Pieces.{writes_of}
-use Rattle.flowmod_expand.specs.Messages.{buffer_at, sent_for, sent_from}
+use Rattle.flowmod_expand.specs.Messages.{buffer_at, piece_message, piece_messages}
 use Rattle.action_check.specs.declared.origin.Origin.{Origin}
 use Rattle.action_check.specs.declared.origin.Origin.TheVariants.{Piece, Packet, Probe}
 use Rattle.action_check.specs.Permitted.{permitted}
@@ -30,22 +30,22 @@ use Rattle.lane_laws.specs.Lane.{LiesInFlowspace, NamesOwnPort, SendsToOwnPort, 
 
 -- what holds of the flow-mod of each piece, with the number that its place carries, holds of all that are sent
 pub each_sent : (P : FlowMod → Type 0) (m : FlowMod) (xid : ℕ) (list : Pattern → List Action) (carrier : Option (ℕ × ℕ)) (place : ℕ) (pieces : List Pattern)
-    → ((k : ℕ) (d : Pattern) → k < length pieces → P (sent_for m xid (get_or pieces k d) (list (get_or pieces k d)) (buffer_at carrier (place + k)))) → All P (sent_from place m xid pieces (map list pieces) carrier)
+    → ((k : ℕ) (d : Pattern) → k < length pieces → P (piece_message m xid (get_or pieces k d) (list (get_or pieces k d)) (buffer_at carrier (place + k)))) → All P (piece_messages place m xid pieces (map list pieces) carrier)
 each_sent P m xid list carrier place [] each = All-nil P
 each_sent P m xid list carrier place (piece ∷ pieces) each =
-    All-cons P (sent_for m xid piece (list piece) (buffer_at carrier place)) (sent_from (place + 1) m xid pieces (map list pieces) carrier)
-    (subst (λ n. P (sent_for m xid piece (list piece) (buffer_at carrier n))) {x = place + 0} {y = place} (omega arith) (each 0 piece (omega arith)))
+    All-cons P (piece_message m xid piece (list piece) (buffer_at carrier place)) (piece_messages (place + 1) m xid pieces (map list pieces) carrier)
+    (subst (λ n. P (piece_message m xid piece (list piece) (buffer_at carrier n))) {x = place + 0} {y = place} (omega arith) (each 0 piece (omega arith)))
     (each_sent P m xid list carrier (place + 1) pieces
     (λ k d within.
-    subst (λ n. P (sent_for m xid (get_or pieces k d) (list (get_or pieces k d)) (buffer_at carrier n))) {x = place + suc k} {y = place + 1 + k} (omega arith)
+    subst (λ n. P (piece_message m xid (get_or pieces k d) (list (get_or pieces k d)) (buffer_at carrier n))) {x = place + suc k} {y = place + 1 + k} (omega arith)
     (each (suc k) d (omega (arith, within)))))
 
 -- ---- headers
 
 -- a piece that lies in one rule of the slice has only headers that the slice writes
 pub sent_within : (ss : List Slice) (rs : List Rule) → IsSwitchPolicy ss rs → (slot : ℕ) (m : FlowMod) (xid : ℕ) (piece : Pattern) (actions : List Action) (buffer : ℕ)
-    → Owns rs slot piece → LiesInFlowspace rs slot (sent_for m xid piece actions buffer)
-unfolding sent_for
+    → Owns rs slot piece → LiesInFlowspace rs slot (piece_message m xid piece actions buffer)
+unfolding piece_message
 sent_within ss rs policy slot m xid piece actions buffer owns h range has =
     (Writes-iff ss rs policy slot h range).1 (owns.0, owns.1, owns.2, owns.3, (owns.4.0, owns.4.1 h range has))
 
@@ -159,6 +159,6 @@ given_holds P rs slot own_slot patterns ports known origin actions is_slot patte
     (list_holds P rs slot origin actions flood all holds (flooded_own rs slot false known) (flooded_own rs slot true known) (permitted rs slot origin actions flood all) refl)
 
 -- and so of the actions that are sent
-pub sent_holds : (P : List Action → Type 0) (m : FlowMod) (xid : ℕ) (piece : Pattern) (actions : List Action) (buffer : ℕ) → P [] → P actions → P (sent_for m xid piece actions buffer).actions
-unfolding sent_for
+pub sent_holds : (P : List Action → Type 0) (m : FlowMod) (xid : ℕ) (piece : Pattern) (actions : List Action) (buffer : ℕ) → P [] → P actions → P (piece_message m xid piece actions buffer).actions
+unfolding piece_message
 sent_holds P m xid piece actions buffer none some = either P _ [] actions none some

@@ -29,7 +29,7 @@ use Rattle.flowspace.specs.Policies.{PolicyView, IsPolicy, AreNormal}
 use Rattle.flowspace.proofs.Ordering.{IsPermutation-in_order}
 use Rattle.flowspace.proofs.Refusing.{is_value-Some}
 use Rattle.flowmod_expand.specs.Pieces.{writes_of, pieces_of}
-use Rattle.flowmod_expand.specs.Messages.{sent_for}
+use Rattle.flowmod_expand.specs.Messages.{piece_message}
 use Rattle.flowmod_expand.proofs.Space.{pieces_of_normal}
 use Rattle.action_check.specs.declared.origin.Origin.TheVariants.{Piece, Packet, Probe}
 use Rattle.action_check.specs.declared.origin.Origin.{Origin}
@@ -43,7 +43,7 @@ use Rattle.slice_words.proofs.Holding.{found_holds}
 use Rattle.desk_words.specs.declared.event.Event.{Event}
 use Rattle.desk_words.specs.declared.event.Event.TheVariants.{SwitchUp, SwitchMsg, SwitchDown, SliceUp, SliceMsg, SliceDown}
 use Rattle.desk_words.specs.declared.phase.Phase.{Phase}
-use Rattle.desk_words.specs.declared.phase.Phase.TheVariants.{Fresh, Begun, Opened, Ended}
+use Rattle.desk_words.specs.declared.phase.Phase.TheVariants.{Fresh, Begun, Opened, Gone}
 use Rattle.desk_words.specs.declared.event.Timed.{Timed}
 use Rattle.desk_words.specs.Openings.{well_formed, phase_of, opening_of}
 use Rattle.desk_words.specs.Histories.{is_slot, header_in, number_given, side_of}
@@ -58,9 +58,9 @@ use Rattle.lane_laws.proofs.Sent.{kept_all, packet_named, HoldsOfSent, IsSpelled
 -- ---- flow-mods
 
 -- what is sent for a piece has each field in its range
-pub ranged_sent : (m : FlowMod) (xid : ℕ) (piece : Pattern) (actions : List Action) (buffer : ℕ) → IsRead m → IsNormal piece → buffer < 2 ^ 32 → All IsAction (sent_for m xid piece actions buffer).actions
-    → IsRanged (sent_for m xid piece actions buffer)
-unfolding sent_for
+pub ranged_sent : (m : FlowMod) (xid : ℕ) (piece : Pattern) (actions : List Action) (buffer : ℕ) → IsRead m → IsNormal piece → buffer < 2 ^ 32 → All IsAction (piece_message m xid piece actions buffer).actions
+    → IsRanged (piece_message m xid piece actions buffer)
+unfolding piece_message
 ranged_sent m xid piece actions buffer read normal kept each = record {
   pattern = normal;
   cookie = read.cookie;
@@ -100,7 +100,7 @@ packet_read message packet true bytes is = read_in message packet (bytes_of mess
 handed_read : (phase : Phase) (event : Event) (packet : PacketIn) → IsOfBytes event → packet_handed phase event ≡ Some packet → IsReadIn packet
 handed_read Fresh event packet bytes is = absurd (none-some packet is)
 handed_read Begun event packet bytes is = absurd (none-some packet is)
-handed_read Ended event packet bytes is = absurd (none-some packet is)
+handed_read Gone event packet bytes is = absurd (none-some packet is)
 handed_read Opened SwitchUp packet bytes is = absurd (none-some packet is)
 handed_read Opened (SwitchMsg message) packet bytes is = packet_read message packet (is_of PACKET_IN message) bytes is
 handed_read Opened SwitchDown packet bytes is = absurd (none-some packet is)

@@ -27,7 +27,7 @@ use Rattle.buffer_map.specs.Buffers.{numbered, held_under}
 use Rattle.flow_book.specs.declared.state.SliceState.{SliceState}
 use Rattle.port_view.specs.SlicePorts.{ports_of_slice, flooded}
 use Rattle.flowmod_expand.specs.Pieces.{writes_of}
-use Rattle.flowmod_expand.specs.Messages.{buffer_at, sent_for}
+use Rattle.flowmod_expand.specs.Messages.{buffer_at, piece_message}
 use Rattle.flowmod_expand.proofs.Space.{Owns-pieces_of, pieces_of_normal}
 use Rattle.action_check.specs.declared.origin.Origin.{Origin}
 use Rattle.action_check.specs.declared.origin.Origin.TheVariants as origins
@@ -86,7 +86,7 @@ module _ (rules : List Rule) (slot : ℕ) (known : List (List ℕ)) (state : Sli
 
   -- what holds of the flow-mod of each piece, whatever number it carries, holds of all
   each_from : (P : FlowMod → Type 0) (m : FlowMod)
-      → ((k : ℕ) (d : Pattern) → k < length (pieces_on ground m) → (buffer : ℕ) → P (sent_for m xid (get_or (pieces_on ground m) k d) (list ground m (get_or (pieces_on ground m) k d)) buffer))
+      → ((k : ℕ) (d : Pattern) → k < length (pieces_on ground m) → (buffer : ℕ) → P (piece_message m xid (get_or (pieces_on ground m) k d) (list ground m (get_or (pieces_on ground m) k d)) buffer))
       → All P (flow_mods_from state ground m)
   each_from P m each =
       let carrier = carrier_in (packet_for state m) (pieces_on ground m) in

@@ -36,7 +36,7 @@ use Rattle.flowspace.specs.Order.{rules_on}
 use Rattle.flowspace.proofs.Parts.{IsSwitchPolicy-rules_on}
 use Rattle.port_view.specs.SlicePorts.{ports_of_slice, flooded}
 use Rattle.flowmod_expand.specs.Pieces.{pieces_within, writes_of, pieces_of}
-use Rattle.flowmod_expand.specs.Messages.{buffer_at, sent_for}
+use Rattle.flowmod_expand.specs.Messages.{buffer_at, piece_message}
 use Rattle.flowmod_expand.proofs.Space.{Owns-pieces_of}
 use Rattle.action_check.specs.declared.origin.Origin.{Origin}
 use Rattle.action_check.specs.declared.origin.Origin.TheVariants.{Piece}
@@ -55,15 +55,15 @@ use Rattle.slice_words.proofs.Forwarding.{numbered, flow_mods_numbered, rendered
 use Rattle.desk_words.specs.declared.event.Event.TheVariants.{SliceMsg}
 use Rattle.desk_words.specs.declared.event.Timed.{Timed}
 use Rattle.desk_words.specs.declared.phase.Phase.{Phase}
-use Rattle.desk_words.specs.declared.phase.Phase.TheVariants.{Fresh, Begun, Opened, Ended}
-use Rattle.desk_words.specs.Openings.{phase_of, opening_of, rules_of, known_of}
+use Rattle.desk_words.specs.declared.phase.Phase.TheVariants.{Fresh, Begun, Opened, Gone}
+use Rattle.desk_words.specs.Openings.{phase_of, opening_of, rules_of, ports_after}
 use Rattle.desk_words.specs.Histories.{is_slot, settings_at, header_in, Side, side_start, side_of, view_of, is_open, is_slice_up}
 use Rattle.desk_words.specs.Sent.{lane_by}
 use Rattle.desk_words.specs.Laws.{HasSeen}
 use Rattle.desk_words.proofs.Alone.{has_told, opened_told, blind}
 use Rattle.desk_words.proofs.Silence.{sees_nothing}
 use Rattle.desk_words.proofs.Seen.{seen}
-use Rattle.lane_laws.specs.Lane.{AsksForReply, LiesInFlowspace, NamesOwnPort, OutputsToOwnPorts, LeavesOtherHeaders, SendsOwnPacket, SendsToOwnPorts, ChangesNoTable, IsBufferHeader, CarriesOwnBuffer, SendsOwnBuffer, IsOwnBuffer, HoldsWritten, rules_in, settings_in, ports_in, ground_at, switch_number, flow_mods_at, packet_out_at, KeepsRate, IsPermitted, IsPermittedOut, IsPermittedQuestion, IsAnyPermitted, AsksOwnPort}
+use Rattle.lane_laws.specs.Lane.{AsksForReply, LiesInFlowspace, NamesOwnPort, OutputsToOwnPorts, LeavesOtherHeaders, SendsOwnPacket, SendsToOwnPorts, ChangesNoTable, IsBufferHeader, CarriesOwnBuffer, SendsOwnBuffer, IsOwnBuffer, HoldsWritten, rules_in, settings_in, ports_in, ground_in, switch_number, flow_mods_at, packet_out_at, KeepsRate, IsPermitted, IsPermittedOut, IsPermittedQuestion, IsAnyPermitted, AsksOwnPort}
 use Rattle.lane_laws.proofs.Keeping.{IsKept, kept_now}
 use Rattle.slice_side.specs.Checking.{IsQuestion}
 use Rattle.lane_laws.proofs.Forwarded.{put_whole, out_whole, question_whole, put_or_none}
@@ -100,7 +100,7 @@ lane_of_up : (policy : PolicyView) (h : List Timed) (timed : Timed) (slot : ℕ)
     → (is_open phase && is_up (view_of policy slot h)) ≡ true → lane_by policy h timed ≡ map (rendered (side_of policy slot h).sight.came) (answer_in policy slot h timed.moment message).to_switch
 lane_of_up policy h timed slot message Fresh at is up = absurd (true≢false (sym up))
 lane_of_up policy h timed slot message Begun at is up = absurd (true≢false (sym up))
-lane_of_up policy h timed slot message Ended at is up = absurd (true≢false (sym up))
+lane_of_up policy h timed slot message Gone at is up = absurd (true≢false (sym up))
 lane_of_up policy h timed slot message Opened at is up =
     rw (at, is)
     (put_up (settings_in policy slot h) (view_of policy slot h) (side_of policy slot h).sight.came message timed.moment (is_slot policy slot) (slot == slot) (here_of policy slot h up) (eq-eqb slot slot refl) up)
@@ -109,7 +109,7 @@ lane_of_down : (policy : PolicyView) (h : List Timed) (timed : Timed) (slot : �
     → (is_open phase && is_up (view_of policy slot h)) ≡ false → lane_by policy h timed ≡ []
 lane_of_down policy h timed slot message Fresh at is down = rw (at, is) refl
 lane_of_down policy h timed slot message Begun at is down = rw (at, is) refl
-lane_of_down policy h timed slot message Ended at is down = rw at refl
+lane_of_down policy h timed slot message Gone at is down = rw at refl
 lane_of_down policy h timed slot message Opened at is down =
     rw (at, is)
     (put_down (settings_in policy slot h) (view_of policy slot h) (side_of policy slot h).sight.came message timed.moment (is_slot policy slot) (slot == slot) (eq-eqb slot slot refl) down)
@@ -117,7 +117,7 @@ lane_of_down policy h timed slot message Opened at is down =
 up_here : (policy : PolicyView) (slot : ℕ) (h : List Timed) (phase : Phase) → phase_of h ≡ phase → (is_open phase && is_up (view_of policy slot h)) ≡ true → is_slot policy slot ≡ true
 up_here policy slot h Fresh at up = absurd (true≢false (sym up))
 up_here policy slot h Begun at up = absurd (true≢false (sym up))
-up_here policy slot h Ended at up = absurd (true≢false (sym up))
+up_here policy slot h Gone at up = absurd (true≢false (sym up))
 up_here policy slot h Opened at up = here_of policy slot h up
 
 -- ---- what is sent
@@ -136,7 +136,7 @@ lane_whole policy h timed slot message m is up p =
     let came = (side_of policy slot h).sight.came in
     lane_of_up policy h timed slot message (phase_of h) refl is up
     ∙ ap (map (rendered came)) (put_whole s view (past_of s view) timed.moment message m (record { read = p.read; rate = p.rate; no_fault = p.no_fault }))
-    ∙ rendered_sent came (ground_at policy slot h) m
+    ∙ rendered_sent came (ground_in policy slot h) m
 
 pub out_lane_whole : (policy : PolicyView) (h : List Timed) (timed : Timed) (slot : ℕ) (message : List ℕ) (m : PacketOut) → timed.event ≡ SliceMsg slot message → is_slice_up policy slot h ≡ true
     → IsPermittedOut policy slot h timed.moment message m → lane_by policy h timed ≡ spell_packet_out (packet_out_at policy slot h m) ∷ []
@@ -144,14 +144,14 @@ out_lane_whole policy h timed slot message m is up p =
     let s = settings_in policy slot h in
     let view = view_of policy slot h in
     let came = (side_of policy slot h).sight.came in
-    let g = ground_at policy slot h in
+    let g = ground_in policy slot h in
     lane_of_up policy h timed slot message (phase_of h) refl is up
     ∙ ap (map (rendered came)) (out_whole s view (past_of s view) timed.moment message m (record { read = p.read; rate = p.rate; no_fault = p.no_fault }))
     ∙ ap (λ (bytes : List ℕ). bytes ∷ []) (rendered_out came (packet_out_on g m) (packet_at g m.buffer))
 
 -- a question is sent as it was put
 question_lane_whole : (policy : PolicyView) (h : List Timed) (timed : Timed) (slot : ℕ) (message question : List ℕ) (asked : FromController) → timed.event ≡ SliceMsg slot message → is_slice_up policy slot h ≡ true
-    → read_controller message ≡ Ok asked → KeepsRate policy slot h timed.moment → IsQuestion (ground_at policy slot h) message asked question → lane_by policy h timed ≡ question ∷ []
+    → read_controller message ≡ Ok asked → KeepsRate policy slot h timed.moment → IsQuestion (ground_in policy slot h) message asked question → lane_by policy h timed ≡ question ∷ []
 question_lane_whole policy h timed slot message question asked is up read rate may =
     let s = settings_in policy slot h in
     let view = view_of policy slot h in
@@ -164,7 +164,7 @@ abbrev IsAnyPut : PolicyView → ℕ → List Timed → ℕ → List ℕ → Typ
 IsAnyPut policy slot h moment message =
     ((m : FlowMod) × IsPermitted policy slot h moment message m)
     ⊎ (((m : PacketOut) × IsPermittedOut policy slot h moment message m)
-    ⊎ ((asked : FromController) × (question : List ℕ) × (read_controller message ≡ Ok asked) × KeepsRate policy slot h moment × IsQuestion (ground_at policy slot h) message asked question))
+    ⊎ ((asked : FromController) × (question : List ℕ) × (read_controller message ≡ Ok asked) × KeepsRate policy slot h moment × IsQuestion (ground_in policy slot h) message asked question))
 
 lane_or_some : (policy : PolicyView) (h : List Timed) (timed : Timed) (slot : ℕ) (message : List ℕ) → timed.event ≡ SliceMsg slot message
     → (lane_by policy h timed ≡ []) ⊎ ((is_slice_up policy slot h ≡ true) × IsAnyPut policy slot h timed.moment message)
@@ -265,7 +265,7 @@ patterns_are policy slot told here = elim (slice_get_cases policy.slices slot).1
   | inr none ↦ absurd (true≢false (sym here ∙ le-ltb slot (length policy.slices) none.0))
 ]
 
-pub pieces_are : (policy : PolicyView) (h : List Timed) (slot : ℕ) (m : FlowMod) → is_slice_up policy slot h ≡ true → pieces_on (ground_at policy slot h) m ≡ pieces_of (rules_in policy h) slot m.pattern
+pub pieces_are : (policy : PolicyView) (h : List Timed) (slot : ℕ) (m : FlowMod) → is_slice_up policy slot h ≡ true → pieces_on (ground_in policy slot h) m ≡ pieces_of (rules_in policy h) slot m.pattern
 pieces_are policy h slot m up = ap (λ patterns. pieces_within patterns m.pattern) (patterns_are policy slot (opening_of h) (up_here policy slot h (phase_of h) refl up))
 
 -- ---- questions that are permitted
@@ -279,22 +279,22 @@ module _ (policy : PolicyView) (h : List Timed) (timed : Timed) (slot : ℕ) (me
     | inr (up, inr (inl some)) ↦ inr (up, inr (inl some))
     | inr (up, inr (inr some)) ↦
         let here = up_here policy slot h (phase_of h) refl up in
-        let may = may_be (ground_at policy slot h) (rules_in policy h) slot (slot_is policy slot (opening_of h) _ refl) (patterns_are policy slot (opening_of h) here) message some.1 some.0 some.4 in
+        let may = may_be (ground_in policy slot h) (rules_in policy h) slot (slot_is policy slot (opening_of h) _ refl) (patterns_are policy slot (opening_of h) here) message some.1 some.0 some.4 in
         inr (up, inr (inr (some.0, record { read = some.2; rate = some.3; may = may })))
   ]
 
   module _ (up : is_slice_up policy slot h ≡ true) where
     abbrev next_xid : ℕ
-    next_xid = (ground_at policy slot h).xid
+    next_xid = (ground_in policy slot h).xid
 
     pub statistics_sent : (request asked : StatsRequest) → IsPermittedQuestion policy slot h timed.moment message (said.StatsRequest request) → asked_as request ≡ Some asked → lane_by policy h timed ≡ spell_request asked next_xid ∷ []
     statistics_sent request asked p sent =
         question_lane_whole policy h timed slot message (spell_request asked next_xid) (said.StatsRequest request) is up p.read p.rate
         (may_ask_own p.may.1, ap (option_map (λ sent_. spell_request sent_ next_xid)) sent)
       where
-        may_ask_own : AsksOwnPort (rules_in policy h) slot request → may_ask (ground_at policy slot h) request ≡ true
+        may_ask_own : AsksOwnPort (rules_in policy h) slot request → may_ask (ground_in policy slot h) request ≡ true
         may_ask_own own =
-            own_may (ground_at policy slot h) (rules_in policy h) slot (slot_is policy slot (opening_of h) _ refl) (patterns_are policy slot (opening_of h) (up_here policy slot h (phase_of h) refl up)) request own
+            own_may (ground_in policy slot h) (rules_in policy h) slot (slot_is policy slot (opening_of h) _ refl) (patterns_are policy slot (opening_of h) (up_here policy slot h (phase_of h) refl up)) request own
 
     pub barrier_sent : IsPermittedQuestion policy slot h timed.moment message said.BarrierRequest → lane_by policy h timed ≡ message_of BARRIER_REQUEST next_xid [] ∷ []
     barrier_sent p = question_lane_whole policy h timed slot message (message_of BARRIER_REQUEST next_xid []) said.BarrierRequest is up p.read p.rate refl
@@ -302,7 +302,7 @@ module _ (policy : PolicyView) (h : List Timed) (timed : Timed) (slot : ℕ) (me
     pub queues_sent : (port : ℕ) → IsPermittedQuestion policy slot h timed.moment message (said.QueueGetConfigRequest port) → lane_by policy h timed ≡ message_of QUEUE_GET_CONFIG_REQUEST next_xid (drop 8 message) ∷ []
     queues_sent port p =
         question_lane_whole policy h timed slot message (message_of QUEUE_GET_CONFIG_REQUEST next_xid (drop 8 message)) (said.QueueGetConfigRequest port) is up p.read p.rate
-        (owns (ground_at policy slot h) (rules_in policy h) slot (slot_is policy slot (opening_of h) _ refl) (patterns_are policy slot (opening_of h) (up_here policy slot h (phase_of h) refl up)) port p.may, refl)
+        (owns (ground_in policy slot h) (rules_in policy h) slot (slot_is policy slot (opening_of h) _ refl) (patterns_are policy slot (opening_of h) (up_here policy slot h (phase_of h) refl up)) port p.may, refl)
 
 -- ---- one flow-mod for each piece
 
@@ -331,16 +331,16 @@ list g m piece = if is_delete m then [] else list_given (permitted_on g m piece)
 
 -- what holds of the flow-mod of each piece holds of all
 pub each_on : (P : FlowMod → Type 0) (came : List ℕ) (g : Ground) (m : FlowMod) (patterns : List Pattern) → g.patterns ≡ patterns
-    → All (λ piece. (buffer : ℕ) → MayCarry came (packet_of g m) piece buffer → P (sent_for m g.xid piece (list g m piece) buffer)) (pieces_within patterns m.pattern)
+    → All (λ piece. (buffer : ℕ) → MayCarry came (packet_of g m) piece buffer → P (piece_message m g.xid piece (list g m piece) buffer)) (pieces_within patterns m.pattern)
     → All P (flow_mods_numbered came g m)
 each_on P came g m patterns is each =
     let carrier = numbered came (carrier_of (packet_of g m) (pieces_on g m)) in
-    let own : All (λ piece. (buffer : ℕ) → MayCarry came (packet_of g m) piece buffer → P (sent_for m g.xid piece (list g m piece) buffer)) (pieces_on g m) =
-    subst (λ ps. All (λ piece. (buffer : ℕ) → MayCarry came (packet_of g m) piece buffer → P (sent_for m g.xid piece (list g m piece) buffer)) (pieces_within ps m.pattern)) (sym is) each in
+    let own : All (λ piece. (buffer : ℕ) → MayCarry came (packet_of g m) piece buffer → P (piece_message m g.xid piece (list g m piece) buffer)) (pieces_on g m) =
+    subst (λ ps. All (λ piece. (buffer : ℕ) → MayCarry came (packet_of g m) piece buffer → P (piece_message m g.xid piece (list g m piece) buffer)) (pieces_within ps m.pattern)) (sym is) each in
     each_sent P m g.xid (list g m) carrier 0 (pieces_on g m)
     (λ k d within.
     let piece = get_or (pieces_on g m) k d in
-    subst (λ n. P (sent_for m g.xid piece (list g m piece) (buffer_at carrier n))) {x = k} {y = 0 + k} (omega arith)
+    subst (λ n. P (piece_message m g.xid piece (list g m piece) (buffer_at carrier n))) {x = k} {y = 0 + k} (omega arith)
     (own k d within (buffer_at carrier k) (carries came (packet_of g m) (pieces_on g m) k d)))
 
 -- ---- ports and actions
@@ -351,29 +351,29 @@ own_ports_are rules slot own_slot patterns known is_slot patterns_are = rw (is_s
 
 -- the ports that the slice knows are its own of the known ones
 ports_are : (policy : PolicyView) (slot : ℕ) (h : List Timed) (features : Features) → opening_of h ≡ Some features → is_slot policy slot ≡ true
-    → known_ports (view_of policy slot h) ≡ ports_of_slice (rules_on features.datapath policy.rules) slot (known_of h)
+    → known_ports (view_of policy slot h) ≡ ports_of_slice (rules_on features.datapath policy.rules) slot (ports_after h)
 ports_are policy slot h features is here =
     let s = settings_at policy slot (Some features) in
-    let has : HasSeen policy slot features (known_of h) (view_of policy slot h) = seen policy slot h features is here in
+    let has : HasSeen policy slot features (ports_after h) (view_of policy slot h) = seen policy slot h features is here in
     has.ports_known
-    ∙ own_ports_are (rules_on features.datapath policy.rules) slot s.slot s.patterns (known_of h) (slot_is policy slot (Some features) (slice_get policy.slices slot) refl) (patterns_are policy slot (Some features) here)
+    ∙ own_ports_are (rules_on features.datapath policy.rules) slot s.slot s.patterns (ports_after h) (slot_is policy slot (Some features) (slice_get policy.slices slot) refl) (patterns_are policy slot (Some features) here)
 
 -- by the rules of the switch and these ports the actions are judged
 judged : (policy : PolicyView) (slot : ℕ) (h : List Timed) (features : Features) → opening_of h ≡ Some features → is_slot policy slot ≡ true → (origin : Origin) (actions : List Action)
     → permitted (lone_rules (settings_at policy slot (Some features)).slot (settings_at policy slot (Some features)).patterns) (settings_at policy slot (Some features)).slot origin actions
     (flooded false (known_ports (view_of policy slot h))) (flooded true (known_ports (view_of policy slot h)))
     ≡ permitted (rules_on features.datapath policy.rules) slot origin actions
-    (flooded false (ports_of_slice (rules_on features.datapath policy.rules) slot (known_of h))) (flooded true (ports_of_slice (rules_on features.datapath policy.rules) slot (known_of h)))
+    (flooded false (ports_of_slice (rules_on features.datapath policy.rules) slot (ports_after h))) (flooded true (ports_of_slice (rules_on features.datapath policy.rules) slot (ports_after h)))
 judged policy slot h features is here origin actions =
     let s = settings_at policy slot (Some features) in
-    permitted_alike (rules_on features.datapath policy.rules) slot s.slot s.patterns (known_ports (view_of policy slot h)) (known_of h) origin actions
+    permitted_alike (rules_on features.datapath policy.rules) slot s.slot s.patterns (known_ports (view_of policy slot h)) (ports_after h) origin actions
     (slot_is policy slot (Some features) (slice_get policy.slices slot) refl) (patterns_are policy slot (Some features) here) (ports_are policy slot h features is here)
 
 -- the same by whatever the switch told
 judged_by : (policy : PolicyView) (slot : ℕ) (h : List Timed) → is_slice_up policy slot h ≡ true → (origin : Ground → Origin) (actions : List Action)
-    → permitted (lone_rules (settings_in policy slot h).slot (settings_in policy slot h).patterns) (settings_in policy slot h).slot (origin (ground_at policy slot h)) actions
+    → permitted (lone_rules (settings_in policy slot h).slot (settings_in policy slot h).patterns) (settings_in policy slot h).slot (origin (ground_in policy slot h)) actions
     (flooded false (known_ports (view_of policy slot h))) (flooded true (known_ports (view_of policy slot h)))
-    ≡ permitted (rules_in policy h) slot (origin (ground_at policy slot h)) actions (flooded false (ports_in policy slot h)) (flooded true (ports_in policy slot h))
+    ≡ permitted (rules_in policy h) slot (origin (ground_in policy slot h)) actions (flooded false (ports_in policy slot h)) (flooded true (ports_in policy slot h))
 judged_by policy slot h up origin actions =
     let told = told_up policy slot h up in
     let here = up_here policy slot h (phase_of h) refl up in
@@ -381,16 +381,16 @@ judged_by policy slot h up origin actions =
     permitted (lone_rules (settings_at policy slot found).slot (settings_at policy slot found).patterns) (settings_at policy slot found).slot (origin (ground_by policy slot h found)) actions
     (flooded false (known_ports (view_of policy slot h))) (flooded true (known_ports (view_of policy slot h)))
     ≡ permitted (rules_of policy found) slot (origin (ground_by policy slot h found)) actions
-    (flooded false (ports_of_slice (rules_of policy found) slot (known_of h))) (flooded true (ports_of_slice (rules_of policy found) slot (known_of h))))
+    (flooded false (ports_of_slice (rules_of policy found) slot (ports_after h))) (flooded true (ports_of_slice (rules_of policy found) slot (ports_after h))))
     (sym told.1) (judged policy slot h told.0 told.1 here (origin (ground_by policy slot h (Some told.0))) actions)
 
 pub actions_are : (policy : PolicyView) (h : List Timed) (slot : ℕ) (m : FlowMod) (piece : Pattern) → is_slice_up policy slot h ≡ true
-    → permitted_on (ground_at policy slot h) m piece ≡ permitted (rules_in policy h) slot (Piece piece) m.actions (flooded false (ports_in policy slot h)) (flooded true (ports_in policy slot h))
+    → permitted_on (ground_in policy slot h) m piece ≡ permitted (rules_in policy h) slot (Piece piece) m.actions (flooded false (ports_in policy slot h)) (flooded true (ports_in policy slot h))
 actions_are policy h slot m piece up = judged_by policy slot h up (λ g. Piece piece) m.actions
 
 pub out_actions_are : (policy : PolicyView) (h : List Timed) (slot : ℕ) (m : PacketOut) → is_slice_up policy slot h ≡ true
-    → permitted_out (ground_at policy slot h) m
-    ≡ permitted (rules_in policy h) slot (origin_with (packet_at (ground_at policy slot h) m.buffer) m) m.actions (flooded false (ports_in policy slot h)) (flooded true (ports_in policy slot h))
+    → permitted_out (ground_in policy slot h) m
+    ≡ permitted (rules_in policy h) slot (origin_with (packet_at (ground_in policy slot h) m.buffer) m) m.actions (flooded false (ports_in policy slot h)) (flooded true (ports_in policy slot h))
 out_actions_are policy h slot m up = judged_by policy slot h up (λ g. origin_with (packet_at g m.buffer) m) m.actions
 
 -- what holds of the lists that a slice may have for an origin holds of the one that it has
@@ -400,13 +400,13 @@ pub lists_hold : (P : List Action → Type 0) (policy : PolicyView) (slot : ℕ)
     (flooded false (known_ports (view_of policy slot h))) (flooded true (known_ports (view_of policy slot h)))))
 lists_hold P policy slot h features is here origin actions holds =
     let s = settings_at policy slot (Some features) in
-    given_holds P (rules_on features.datapath policy.rules) slot s.slot s.patterns (known_ports (view_of policy slot h)) (known_of h) origin actions
+    given_holds P (rules_on features.datapath policy.rules) slot s.slot s.patterns (known_ports (view_of policy slot h)) (ports_after h) origin actions
     (slot_is policy slot (Some features) (slice_get policy.slices slot) refl) (patterns_are policy slot (Some features) here) (ports_are policy slot h features is here) holds
 
 -- so it holds of the actions that are sent for a piece
 pub actions_hold : (P : List Action → Type 0) (policy : PolicyView) (slot : ℕ) (h : List Timed) (features : Features) → opening_of h ≡ Some features → is_slot policy slot ≡ true
     → (m : FlowMod) (xid : ℕ) (piece : Pattern) (buffer : ℕ) → HoldsOfLists P (rules_on features.datapath policy.rules) slot (Piece piece) m.actions
-    → P (sent_for m xid piece (list (ground_by policy slot h (Some features)) m piece) buffer).actions
+    → P (piece_message m xid piece (list (ground_by policy slot h (Some features)) m piece) buffer).actions
 actions_hold P policy slot h features is here m xid piece buffer holds =
     let g = ground_by policy slot h (Some features) in
     sent_holds P m xid piece (list g m piece) buffer holds.none
@@ -432,7 +432,7 @@ lies_on policy accepted slot h features here m =
     let P = LiesInFlowspace rules slot in
     let came = (side_of policy slot h).sight.came in
     each_on P came g m (writes_of rules slot) (patterns_are policy slot (Some features) here)
-    (All-weaker (Owns rules slot) (λ piece. (buffer : ℕ) → MayCarry came (packet_of g m) piece buffer → P (sent_for m g.xid piece (list g m piece) buffer))
+    (All-weaker (Owns rules slot) (λ piece. (buffer : ℕ) → MayCarry came (packet_of g m) piece buffer → P (piece_message m g.xid piece (list g m piece) buffer))
     (λ piece owns buffer carrying. sent_within policy.slices rules (IsSwitchPolicy-rules_on policy.slices policy.rules features.datapath accepted) slot m g.xid piece (list g m piece) buffer owns)
     (pieces_of rules slot m.pattern) (Owns-pieces_of rules slot m.pattern))
 
@@ -525,12 +525,12 @@ own_buffer policy slot h features number packet is kept = record {
   written = subst (λ (found : Option Features). Writes (rules_of policy found) slot (header_in kept.arrival.packet)) (sym is) kept.written;
 }
 
-pattern_sent : (m : FlowMod) (xid : ℕ) (piece : Pattern) (actions : List Action) (buffer : ℕ) → (sent_for m xid piece actions buffer).pattern ≡ piece
-unfolding sent_for
+pattern_sent : (m : FlowMod) (xid : ℕ) (piece : Pattern) (actions : List Action) (buffer : ℕ) → (piece_message m xid piece actions buffer).pattern ≡ piece
+unfolding piece_message
 pattern_sent m xid piece actions buffer = refl
 
-buffer_sent : (m : FlowMod) (xid : ℕ) (piece : Pattern) (actions : List Action) (buffer : ℕ) → ((sent_for m xid piece actions buffer).buffer ≡ NO_BUFFER) ⊎ ((sent_for m xid piece actions buffer).buffer ≡ buffer)
-unfolding sent_for
+buffer_sent : (m : FlowMod) (xid : ℕ) (piece : Pattern) (actions : List Action) (buffer : ℕ) → ((piece_message m xid piece actions buffer).buffer ≡ NO_BUFFER) ⊎ ((piece_message m xid piece actions buffer).buffer ≡ buffer)
+unfolding piece_message
 buffer_sent m xid piece actions buffer = either (λ n. (n ≡ NO_BUFFER) ⊎ (n ≡ buffer)) (is_delete m) NO_BUFFER buffer (inl refl) (inr refl)
 
 module _ (policy : PolicyView) (slot : ℕ) (h : List Timed) (features : Features) (is : opening_of h ≡ Some features) (here : is_slot policy slot ≡ true) where
@@ -560,7 +560,7 @@ module _ (policy : PolicyView) (slot : ℕ) (h : List Timed) (features : Feature
       each_on (CarriesOwnBuffer policy slot h) (side_of policy slot h).sight.came ground m (writes_of rules slot) (patterns_are policy slot (Some features) here)
       (λ k d within buffer carrying.
       let piece = get_or (pieces_of rules slot m.pattern) k d in
-      let sent = sent_for m ground.xid piece (list ground m piece) buffer in
+      let sent = piece_message m ground.xid piece (list ground m piece) buffer in
       elim (buffer_sent m ground.xid piece (list ground m piece) buffer) [
         | inl none ↦ inl none
         | inr same ↦

@@ -22,7 +22,7 @@ use Rattle.flowspace.specs.Order.{rules_on}
 use Rattle.flowspace.specs.Policies.{PolicyView, IsPolicy, IsSwitchPolicy, AreNormal}
 use Rattle.flowspace.proofs.Parts.{IsSwitchPolicy-rules_on}
 use Rattle.flowmod_expand.specs.Pieces.{writes_of, pieces_of}
-use Rattle.flowmod_expand.specs.Messages.{sent_for}
+use Rattle.flowmod_expand.specs.Messages.{piece_message}
 use Rattle.flowmod_expand.proofs.Space.{Owns-pieces_of, pieces_of_normal}
 use Rattle.flowmod_expand.proofs.Walks.{spell_size, sizes_within}
 use Rattle.action_check.specs.declared.origin.Origin.TheVariants.{Piece, Packet}
@@ -63,8 +63,8 @@ each_fits ms small k d within =
     subst (λ bytes. length bytes ≤ 65535) (get_or-map spell_flow_mod ms k d (spell_flow_mod d) within) (small k (spell_flow_mod d) (omega arith))
 
 -- what is sent has its piece's transaction id
-xid_sent : (m : FlowMod) (xid : ℕ) (piece : Pattern) (actions : List Action) (buffer : ℕ) → (sent_for m xid piece actions buffer).xid ≡ xid
-unfolding sent_for
+xid_sent : (m : FlowMod) (xid : ℕ) (piece : Pattern) (actions : List Action) (buffer : ℕ) → (piece_message m xid piece actions buffer).xid ≡ xid
+unfolding piece_message
 xid_sent m xid piece actions buffer = refl
 
 -- with its transaction id in its range, and where its message fits its length field, it has each field in its range
@@ -104,9 +104,9 @@ IsWhole rules slot sent = (sent.xid < 2 ^ 32) × (length (spell_flow_mod sent) �
 abbrev IsWholeOut : List Timed → List Rule → ℕ → PacketOut → Type 0
 IsWholeOut h rules slot sent = (sent.xid < 2 ^ 32) × (packet_out_size sent ≤ 65535) × SendsWithin (IsBufferHeader h) rules slot sent
 
-pattern_of : (m : FlowMod) (xid : ℕ) (piece : Pattern) (actions : List Action) (buffer : ℕ) (rules : List Rule) (slot : ℕ) → IsSound rules slot (Piece piece) (sent_for m xid piece actions buffer).actions
-    → IsSound rules slot (Piece (sent_for m xid piece actions buffer).pattern) (sent_for m xid piece actions buffer).actions
-unfolding sent_for
+pattern_of : (m : FlowMod) (xid : ℕ) (piece : Pattern) (actions : List Action) (buffer : ℕ) (rules : List Rule) (slot : ℕ) → IsSound rules slot (Piece piece) (piece_message m xid piece actions buffer).actions
+    → IsSound rules slot (Piece (piece_message m xid piece actions buffer).pattern) (piece_message m xid piece actions buffer).actions
+unfolding piece_message
 pattern_of m xid piece actions buffer rules slot sound = sound
 
 module _ (policy : PolicyView) (accepted : IsPolicy policy.slices policy.rules) (normal : AreNormal policy.rules) (slot : ℕ) (h : List Timed) (bytes : All (λ t. IsOfBytes t.event) h) (features : Features) (is : opening_of h ≡ Some features) (here : is_slot policy slot ≡ true) where
@@ -137,7 +137,7 @@ module _ (policy : PolicyView) (accepted : IsPolicy policy.slices policy.rules) 
       (λ k d within buffer carrying fits.
       let piece = get_or (pieces_of rules slot m.pattern) k d in
       let actions = list ground m piece in
-      let sent = sent_for m ground.xid piece actions buffer in
+      let sent = piece_message m ground.xid piece actions buffer in
       let piece_normal = pieces_of_normal rules slot m.pattern (normal_on policy.rules features.datapath normal) read.pattern k d within in
       let sound = actions_hold (IsSound rules slot (Piece piece)) policy slot h features is here m ground.xid piece buffer (sound_given (Piece piece) piece_normal m.actions read.actions) in
       let own = actions_hold (All (NamesOwnPort rules slot)) policy slot h features is here m ground.xid piece buffer (record {

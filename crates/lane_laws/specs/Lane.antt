@@ -28,7 +28,7 @@ use Rattle.flowspace.specs.Owners.{Writes, HasPort}
 use Rattle.flowspace.specs.Policies.{PolicyView}
 use Rattle.port_view.specs.SlicePorts.{ports_of_slice}
 use Rattle.flow_book.specs.declared.state.SliceState.{SliceState}
-use Rattle.flowmod_expand.specs.Messages.{sent_from}
+use Rattle.flowmod_expand.specs.Messages.{piece_messages}
 use Rattle.action_check.specs.declared.origin.Origin.TheVariants.{Piece, Packet}
 use Rattle.action_check.specs.Soundness.{IsSound}
 use Rattle.stats_filter.specs.Asking.{asked_as}
@@ -44,8 +44,8 @@ use Rattle.desk_words.specs.declared.event.Event.TheVariants.{SwitchMsg, SliceMs
 use Rattle.desk_words.specs.declared.event.Timed.{Timed}
 use Rattle.desk_words.specs.declared.phase.Phase.{Phase}
 use Rattle.desk_words.specs.declared.phase.Phase.TheVariants.{Opened}
-use Rattle.desk_words.specs.Openings.{phase_of, opening_of, rules_of, known_of, switch_of}
-use Rattle.desk_words.specs.Histories.{settings_at, header_in, handed, packet_told, number_given, items_of, side_of, view_of}
+use Rattle.desk_words.specs.Openings.{phase_of, opening_of, rules_of, ports_after, switch_of}
+use Rattle.desk_words.specs.Histories.{settings_at, header_in, handed, packet_in_read, number_given, items_of, side_of, view_of}
 
 -- ---- of one message
 
@@ -220,7 +220,7 @@ pub record Arrival : Type 0 where
 
 -- what an event says of a packet, once the switch has told what it is
 abbrev pub packet_handed : Phase → Event → Option PacketIn
-packet_handed Opened (SwitchMsg message) = packet_told message
+packet_handed Opened (SwitchMsg message) = packet_in_read message
 packet_handed phase event = None
 
 -- the packet-ins of a history, newest first
@@ -286,11 +286,11 @@ settings_in policy slot h = settings_at policy slot (opening_of h)
 
 -- the slice's own of the known ports
 abbrev pub ports_in : PolicyView → ℕ → List Timed → List (List ℕ)
-ports_in policy slot h = ports_of_slice (rules_in policy h) slot (known_of h)
+ports_in policy slot h = ports_of_slice (rules_in policy h) slot (ports_after h)
 
 -- what a flow-mod or a packet-out of the slice is answered by
-abbrev pub ground_at : PolicyView → ℕ → List Timed → Ground
-ground_at policy slot h = ground_of (settings_in policy slot h) (view_of policy slot h) (past_of (settings_in policy slot h) (view_of policy slot h))
+abbrev pub ground_in : PolicyView → ℕ → List Timed → Ground
+ground_in policy slot h = ground_of (settings_in policy slot h) (view_of policy slot h) (past_of (settings_in policy slot h) (view_of policy slot h))
 
 -- the switch's number for the slice's packet before which it was given so many
 abbrev pub switch_number : PolicyView → ℕ → List Timed → ℕ → ℕ
@@ -299,15 +299,15 @@ switch_number policy slot h ordinal = number_of (side_of policy slot h).sight.ca
 -- the flow-mods for the pieces of a match: the first whose piece has the header of the packet that is named carries the switch's number for it
 abbrev pub flow_mods_at : PolicyView → ℕ → List Timed → FlowMod → List FlowMod
 flow_mods_at policy slot h m =
-    let g = ground_at policy slot h in
-    sent_from 0 m g.xid (pieces_on g m) (lists_on g m) (option_map (λ own. (own.0, switch_number policy slot h own.1)) (carrier_of (packet_of g m) (pieces_on g m)))
+    let g = ground_in policy slot h in
+    piece_messages 0 m g.xid (pieces_on g m) (lists_on g m) (option_map (λ own. (own.0, switch_number policy slot h own.1)) (carrier_of (packet_of g m) (pieces_on g m)))
 
 -- the packet-out that is sent, with the switch's number for the packet that is named
 abbrev pub packet_out_at : PolicyView → ℕ → List Timed → PacketOut → PacketOut
 packet_out_at policy slot h m =
-    elim (packet_at (ground_at policy slot h) m.buffer) [
-      | None ↦ packet_out_on (ground_at policy slot h) m
-      | Some packet ↦ record (packet_out_on (ground_at policy slot h) m) { buffer = switch_number policy slot h packet.ordinal }
+    elim (packet_at (ground_in policy slot h) m.buffer) [
+      | None ↦ packet_out_on (ground_in policy slot h) m
+      | Some packet ↦ record (packet_out_on (ground_in policy slot h) m) { buffer = switch_number policy slot h packet.ordinal }
     ]
 
 -- a message that comes from the slice at a moment keeps the slice's rate
@@ -318,13 +318,13 @@ KeepsRate policy slot h moment = keeps_rate (settings_in policy slot h) (view_of
 pub record IsPermitted (policy : PolicyView) (slot : ℕ) (h : List Timed) (moment : ℕ) (message : List ℕ) (m : FlowMod) : Type 0 where
   pub read : read_controller message ≡ Ok (said.FlowMod m)
   pub rate : KeepsRate policy slot h moment
-  pub no_fault : flow_mod_fault (ground_at policy slot h) m ≡ None
+  pub no_fault : flow_mod_fault (ground_in policy slot h) m ≡ None
 
 -- the same of a packet-out
 pub record IsPermittedOut (policy : PolicyView) (slot : ℕ) (h : List Timed) (moment : ℕ) (message : List ℕ) (m : PacketOut) : Type 0 where
   pub read : read_controller message ≡ Ok (said.PacketOut m)
   pub rate : KeepsRate policy slot h moment
-  pub no_fault : packet_out_fault (ground_at policy slot h) m ≡ None
+  pub no_fault : packet_out_fault (ground_in policy slot h) m ≡ None
 
 -- the same of a question that the slice may ask
 pub record IsPermittedQuestion (policy : PolicyView) (slot : ℕ) (h : List Timed) (moment : ℕ) (message : List ℕ) (asked : FromController) : Type 0 where

@@ -59,7 +59,7 @@ LeavesReads (Early ending) before after = CountsReads ending before after
 LeavesReads (Ran end) before after = (at : List ℕ) → after at ≡ before at
 
 -- A call that ended with a status: one finish gives the status, has its cause, left the counts of files that aren't its cause, and put its line.
-pub record Ended (w : Reads) (a b : Places) (words : List (List ℕ)) (err_before err_after : Option (List ℕ)) (err_faults err_faults_after status : ℕ) : Type 0 where
+pub record ServeEnded (w : Reads) (a b : Places) (words : List (List ℕ)) (err_before err_after : Option (List ℕ)) (err_faults err_faults_after status : ℕ) : Type 0 where
   pub finish : Finish
   pub answer : status ≡ status_of finish
   pub cause : Causes w a b (form_of words) finish

@@ -12,7 +12,7 @@ use Rattle.live_session.specs.declared.writer.Pause.{Pause}
 use Rattle.live_session.specs.declared.writer.Pause.TheVariants.{Over}
 use Rattle.live_desk.specs.Acts.{Acts}
 use Rattle.live_session.specs.Stretches.{DeskCall}
-use Rattle.live_session.specs.Takings.{View, given_by, message_in, joined, AreTakes, Taking, TookOne, in_hand, PausedBy, Gathers}
+use Rattle.live_session.specs.Takings.{View, given_by, message_replied, joined, AreTakes, Taking, TookOne, in_hand, PausedBy, Gathers}
 use Rattle.std.specs.Prelude.{Option, Some, None}
 use Rattle.fv_base.specs.Told.{appended, IsPrefix}
 use Rattle.live_session.specs.Takings.{WrittenBy, Written}
@@ -21,7 +21,7 @@ use Rattle.live_session.proofs.Making.{last_more}
 
 pub joined_append : (xs ys : List DeskCall) → joined (xs ++ ys) ≡ joined xs ++ joined ys
 joined_append [] ys = refl
-joined_append (c ∷ xs) ys = ap (λ l. message_in c.reply ++ l) (joined_append xs ys) ∙ sym (append_assoc (message_in c.reply) (joined xs) (joined ys))
+joined_append (c ∷ xs) ys = ap (λ l. message_replied c.reply ++ l) (joined_append xs ys) ∙ sym (append_assoc (message_replied c.reply) (joined xs) (joined ys))
 
 takes_append : (dest : Dest) (xs ys : List DeskCall) → AreTakes dest xs → AreTakes dest ys → AreTakes dest (xs ++ ys)
 takes_append dest [] ys h k = k

@@ -28,14 +28,14 @@ given_by (taken.Message frame) = frame
 given_by other = []
 
 -- the message that a reply gave
-abbrev pub message_in : DeskReply → List ℕ
-message_in (Took answer) = given_by answer
-message_in (Stepped reply) = []
+abbrev pub message_replied : DeskReply → List ℕ
+message_replied (Took answer) = given_by answer
+message_replied (Stepped reply) = []
 
 -- the messages that the calls gave, joined
 abbrev pub joined : List DeskCall → List ℕ
 joined [] = []
-joined (c ∷ cs) = message_in c.reply ++ joined cs
+joined (c ∷ cs) = message_replied c.reply ++ joined cs
 
 -- the calls are takes for this destination
 abbrev pub AreTakes : Dest → List DeskCall → Type 0

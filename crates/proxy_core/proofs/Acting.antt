@@ -9,7 +9,7 @@ use Rattle.slice_words.specs.Items.{Item, End}
 use Rattle.slice_words.specs.Alone.{sent_for}
 use Rattle.desk_words.specs.declared.event.Timed.{Timed}
 use Rattle.desk_words.specs.declared.phase.Phase.{Phase}
-use Rattle.desk_words.specs.declared.phase.Phase.TheVariants.{Fresh, Begun, Opened, Ended}
+use Rattle.desk_words.specs.declared.phase.Phase.TheVariants.{Fresh, Begun, Opened, Gone}
 use Rattle.desk_words.specs.Openings.{phase_after, opening_after, known_after, Switch, switch_after}
 use Rattle.desk_words.specs.Histories.{is_slot, settings_at, Side, items_of, phase_items, is_open}
 use Rattle.desk_words.specs.Sent.{lane_in, put_with}
@@ -62,7 +62,7 @@ opened_in : (phase : Phase) (told : Option Features) (features : Features) → (
 opened_in Fresh told features before some on = absurd (none-some features (sym (before refl) ∙ some))
 opened_in Begun told features before some on = absurd (none-some features (sym (before refl) ∙ some))
 opened_in Opened told features before some on = refl
-opened_in Ended told features before some on = absurd (true≢false on)
+opened_in Gone told features before some on = absurd (true≢false on)
 
 pub is_opened : (p : PolicyView) (switch : Switch) (sides : ℕ → Side) (qs : ℕ → Queue) (session : Session) → Coherent p switch sides → SessionStands p switch sides qs session → is_ended switch.phase ≡ false
     → switch.phase ≡ Opened
@@ -72,7 +72,7 @@ pub shut_in : (phase : Phase) (told : Option Features) → (phase ≡ Opened →
 shut_in Fresh told opens none = refl
 shut_in Begun told opens none = refl
 shut_in Opened told opens none = (let some = opens refl in absurd (none-some some.0 (sym none ∙ some.1)))
-shut_in Ended told opens none = refl
+shut_in Gone told opens none = refl
 
 -- before the opening there is no session after an event that doesn't open it
 pub still_none : (p : PolicyView) (switch : Switch) (sides : ℕ → Side) (qs : ℕ → Queue) (timed : Timed) → Coherent p switch sides → Opens p switch sides qs None

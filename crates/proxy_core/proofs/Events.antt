@@ -8,7 +8,7 @@ use Rattle.desk_words.specs.declared.event.Event.{Event}
 use Rattle.desk_words.specs.declared.event.Event.TheVariants.{SwitchUp, SwitchMsg, SwitchDown, SliceUp, SliceMsg, SliceDown}
 use Rattle.desk_words.specs.declared.event.Timed.{Timed}
 use Rattle.desk_words.specs.declared.phase.Phase.{Phase}
-use Rattle.desk_words.specs.declared.phase.Phase.TheVariants.{Fresh, Begun, Opened, Ended}
+use Rattle.desk_words.specs.declared.phase.Phase.TheVariants.{Fresh, Begun, Opened, Gone}
 use Rattle.desk_words.specs.Openings.{phase_after, opening_with, opening_after, known_after, Switch, switch_after}
 use Rattle.desk_words.specs.Histories.{is_slot, Side, is_open}
 use Rattle.desk_words.specs.Sent.{greeting, lane_in, put_with}
@@ -29,13 +29,13 @@ nothing_told : (phase : Phase) (event : Event) → opening_with Begun event ≡ 
 nothing_told Fresh event none = refl
 nothing_told Begun event none = none
 nothing_told Opened event none = refl
-nothing_told Ended event none = refl
+nothing_told Gone event none = refl
 
 ports_stay : (phase : Phase) (known : List (List ℕ)) (event : Event) → known_after Begun known event ≡ known → known_after Opened known event ≡ known → known_after phase known event ≡ known
 ports_stay Fresh known event begun opened = refl
 ports_stay Begun known event begun opened = begun
 ports_stay Opened known event begun opened = opened
-ports_stay Ended known event begun opened = refl
+ports_stay Gone known event begun opened = refl
 
 -- ---- the switch connects
 
@@ -45,7 +45,7 @@ comes_up : (p : PolicyView) (up : ℕ → Bool) (f : ℕ → List (List ℕ)) (p
 comes_up p up f Fresh on = (refl, refl, refl)
 comes_up p up f Begun on = (refl, refl, refl)
 comes_up p up f Opened on = (refl, refl, refl)
-comes_up p up f Ended on = absurd (true≢false on)
+comes_up p up f Gone on = absurd (true≢false on)
 
 opens_up : (p : PolicyView) (switch : Switch) (sides : ℕ → Side) (qs : ℕ → Queue) (moment : ℕ) (session : Option Session) → Coherent p switch sides → is_ended switch.phase ≡ false → Opens p switch sides qs session
     → Opens p (switch_after switch SwitchUp) (sides_after p switch sides (record { event = SwitchUp; moment = moment })) (queues_after p switch sides qs (record { event = SwitchUp; moment = moment })) session
@@ -72,11 +72,11 @@ greeted old new moment policy phase more session p switch sides qs ql fit b on =
 
 -- its connection has ended, nothing is sent, and nothing is closed
 goes_down : (p : PolicyView) (up : ℕ → Bool) (f : ℕ → List (List ℕ)) (phase : Phase) → is_ended phase ≡ false → (phase ≡ Fresh → ⊥)
-    → (phase_after phase SwitchDown ≡ Ended) × (lane_in f phase SwitchDown ≡ []) × (is_closing p phase up (phase_after phase SwitchDown) SwitchDown ≡ false)
+    → (phase_after phase SwitchDown ≡ Gone) × (lane_in f phase SwitchDown ≡ []) × (is_closing p phase up (phase_after phase SwitchDown) SwitchDown ≡ false)
 goes_down p up f Fresh on far = absurd (far refl)
 goes_down p up f Begun on far = (refl, refl, refl)
 goes_down p up f Opened on far = (refl, refl, refl)
-goes_down p up f Ended on far = absurd (true≢false on)
+goes_down p up f Gone on far = absurd (true≢false on)
 
 opens_down : (p : PolicyView) (switch : Switch) (sides : ℕ → Side) (qs : ℕ → Queue) (moment : ℕ) (session : Option Session) → Coherent p switch sides → is_ended switch.phase ≡ false → Opens p switch sides qs session
     → Opens p (switch_after switch SwitchDown) (sides_after p switch sides (record { event = SwitchDown; moment = moment })) (queues_after p switch sides qs (record { event = SwitchDown; moment = moment })) session
@@ -147,7 +147,7 @@ before_of : (phase : Phase) → is_ended phase ≡ false → (phase ≡ Opened �
 before_of Fresh on far = refl
 before_of Begun on far = refl
 before_of Opened on far = absurd (far refl)
-before_of Ended on far = absurd (true≢false on)
+before_of Gone on far = absurd (true≢false on)
 
 pub before_in : (p : PolicyView) (switch : Switch) (sides : ℕ → Side) (qs : ℕ → Queue) → Coherent p switch sides → Opens p switch sides qs None → is_ended switch.phase ≡ false → is_before switch.phase ≡ true
 before_in p switch sides qs fit opens on = before_of switch.phase on (λ opened. (let some = fit.open_told opened in absurd (none-some some.0 (sym opens.0 ∙ some.1))))
@@ -157,7 +157,7 @@ early : (P : Phase → Type 0) → P Fresh → P Begun → (phase : Phase) → i
 early P fresh begun Fresh before = fresh
 early P fresh begun Begun before = begun
 early P fresh begun Opened before = absurd (true≢false (sym before))
-early P fresh begun Ended before = absurd (true≢false (sym before))
+early P fresh begun Gone before = absurd (true≢false (sym before))
 
 pub shut_before : (phase : Phase) → is_before phase ≡ true → is_open phase ≡ false
 shut_before = early (λ phase. is_open phase ≡ false) refl refl

@@ -18,7 +18,7 @@ use Rattle.desk_words.specs.declared.event.Event.{Event}
 use Rattle.desk_words.specs.declared.event.Event.TheVariants.{SwitchMsg}
 use Rattle.desk_words.specs.declared.event.Timed.{Timed}
 use Rattle.desk_words.specs.declared.phase.Phase.{Phase}
-use Rattle.desk_words.specs.declared.phase.Phase.TheVariants.{Fresh, Begun, Opened, Ended}
+use Rattle.desk_words.specs.declared.phase.Phase.TheVariants.{Fresh, Begun, Opened, Gone}
 use Rattle.desk_words.specs.Openings.{features_told, status_told, kept_beside, status_kept, phase_after, opening_after, known_after, Switch, switch_after}
 use Rattle.desk_words.specs.Histories.{settings_at, Side, message_items}
 use Rattle.desk_words.specs.Sent.{preparation, echo_for, lane_in, put_with}
@@ -26,7 +26,7 @@ use Rattle.desk_words.specs.Verdicts.{is_fresh, is_ended, is_before, is_closing}
 use Rattle.desk_words.specs.Operations.{slice_limit, lane_limit}
 use Rattle.switch_side.specs.declared.dispatch.Dispatch.{Dispatch}
 use Rattle.switch_side.specs.Changes.{StandOn}
-use Rattle.switch_side.specs.Dispatches.{Surrounds, AllStand, AllNumbered, IsDispatch, AreChanges, told_at, sent_from}
+use Rattle.switch_side.specs.Dispatches.{Surrounds, AllStand, AllNumbered, IsDispatch, AreChanges, told_at, sent_to_all}
 use Rattle.proxy_core.specs.declared.parts.Session.{Session}
 use Rattle.proxy_core.specs.declared.parts.Desk.{Desk}
 use Rattle.proxy_core.specs.Slots.{HasOnly, HasMore}
@@ -42,16 +42,16 @@ use Rattle.desk_words.proofs.Seen.{bad_untold}
 
 -- ---- a message of a switch that hasn't told what it is
 
-begun_bad : (message : List ℕ) → is_bad message ≡ true → phase_after Begun (SwitchMsg message) ≡ Ended
-begun_bad message bad = ap (λ (b : Bool). if b then Ended else elim (features_told message) [ None ↦ Begun | Some features ↦ Opened ]) bad
+begun_bad : (message : List ℕ) → is_bad message ≡ true → phase_after Begun (SwitchMsg message) ≡ Gone
+begun_bad message bad = ap (λ (b : Bool). if b then Gone else elim (features_told message) [ None ↦ Begun | Some features ↦ Opened ]) bad
 
 begun_echo : (message : List ℕ) → is_bad message ≡ false → features_told message ≡ None → phase_after Begun (SwitchMsg message) ≡ Begun
 begun_echo message good none =
-    ap₂ (λ (b : Bool) (told : Option Features). if b then Ended else elim told [ None ↦ Begun | Some features ↦ Opened ]) good none
+    ap₂ (λ (b : Bool) (told : Option Features). if b then Gone else elim told [ None ↦ Begun | Some features ↦ Opened ]) good none
 
 begun_opens : (message : List ℕ) (features : Features) → features_told message ≡ Some features → phase_after Begun (SwitchMsg message) ≡ Opened
 begun_opens message features told =
-    ap₂ (λ (b : Bool) (t : Option Features). if b then Ended else elim t [ None ↦ Begun | Some f ↦ Opened ]) (told_good message features told) told
+    ap₂ (λ (b : Bool) (t : Option Features). if b then Gone else elim t [ None ↦ Begun | Some f ↦ Opened ]) (told_good message features told) told
 
 lane_begun : (f : ℕ → List (List ℕ)) (message : List ℕ) (told : Option Features) → features_told message ≡ told
     → lane_in f Begun (SwitchMsg message) ≡ (elim told [ None ↦ echo_for message | Some features ↦ preparation ])
@@ -66,7 +66,7 @@ closes_msg : (p : PolicyView) (up : ℕ → Bool) (phase after : Phase) (message
 closes_msg p up Fresh after message far = absurd (true≢false far)
 closes_msg p up Begun after message far = twice (is_ended after)
 closes_msg p up Opened after message far = twice (is_ended after)
-closes_msg p up Ended after message far = twice (is_ended after)
+closes_msg p up Gone after message far = twice (is_ended after)
 
 none_begun : (p : PolicyView) (switch : Switch) (sides : ℕ → Side) (qs : ℕ → Queue) (session : Option Session) → Coherent p switch sides → switch.phase ≡ Begun → Opens p switch sides qs session → session ≡ None
 none_begun p switch sides qs None fit begun opens = refl
@@ -108,7 +108,7 @@ told p switch sides qs ql moment message before after over sent old new body was
 pub begun_ends : (old new : Desk) (moment : ℕ) (message : List ℕ) → Ends old new → is_bad message ≡ true → ActsIn Begun old (told_at moment message) false new
 begun_ends old new moment message ends bad p switch sides qs ql fit body begun =
     let none = bad_features message bad in
-    told p switch sides qs ql moment message Begun Ended true [] old new body begun refl (begun_bad message bad) refl
+    told p switch sides qs ql moment message Begun Gone true [] old new body begun refl (begun_bad message bad) refl
     (lane_begun (λ i. put_with p i switch (sides i) (told_at moment message)) message None none ∙ bad_echo message bad) ends.same_policy ends.phase (ends.lane lane_limit ql body.lane)
     (subst (λ (o : Option Session). Opens p (switch_after switch (SwitchMsg message)) (sides_after p switch sides (told_at moment message)) (queues_after p switch sides qs (told_at moment message)) o) (sym ends.session)
     (begun_still p switch sides qs moment message old.session fit begun none body.opens))
@@ -134,11 +134,11 @@ opened old new moment message features session policy phase more now tells begin
 -- ---- a message of a switch that has told what it is
 
 -- a message of a bad length ends the session
-opened_bad : (message : List ℕ) → is_bad message ≡ true → phase_after Opened (SwitchMsg message) ≡ Ended
-opened_bad message bad = ap (λ (b : Bool). if b then Ended else Opened) bad
+opened_bad : (message : List ℕ) → is_bad message ≡ true → phase_after Opened (SwitchMsg message) ≡ Gone
+opened_bad message bad = ap (λ (b : Bool). if b then Gone else Opened) bad
 
 opened_good : (message : List ℕ) → is_bad message ≡ false → phase_after Opened (SwitchMsg message) ≡ Opened
-opened_good message good = ap (λ (b : Bool). if b then Ended else Opened) good
+opened_good message good = ap (λ (b : Bool). if b then Gone else Opened) good
 
 bad_shown : (p : PolicyView) (slot : ℕ) (switch : Switch) (side : Side) (message : List ℕ) → is_bad message ≡ true → message_items p slot switch side message ≡ End ∷ []
 unfolding message_items
@@ -164,7 +164,7 @@ pub hears_bad : (old mid new : Desk) (moment : ℕ) (message : List ℕ) → Pas
 hears_bad old mid new moment message passes ends p switch sides qs ql fit body open_ =
     let passed = passes p switch sides qs ql fit body open_ in
     let bad = passed.0 in
-    told p switch sides qs ql moment message Opened Ended true [] old new body open_ refl (opened_bad message bad) refl (bad_echo message bad)
+    told p switch sides qs ql moment message Opened Gone true [] old new body open_ refl (opened_bad message bad) refl (bad_echo message bad)
     (ends.same_policy ∙ ap (λ (d : Desk). d.policy) passed.1) ends.phase (subst (λ (d : Desk). HasOnly [] d.lane new.lane) passed.1 ends.lane lane_limit ql body.lane)
     (subst (λ (o : Option Session). Opens p (switch_after switch (SwitchMsg message)) (sides_after p switch sides (told_at moment message)) (queues_after p switch sides qs (told_at moment message)) o)
     (sym (ends.session ∙ ap (λ (d : Desk). d.session) passed.1)) (opens_bad p switch sides qs moment message old.session fit open_ bad body.opens))
@@ -198,7 +198,7 @@ all_stand p switch sides qs session s slot state g = (queue_there p switch sides
 -- the session after it
 pub carried_session : (p : PolicyView) (switch : Switch) (sides : ℕ → Side) (qs : ℕ → Queue) (moment : ℕ) (message : List ℕ) (old new : Session) (rooms : List Kept) → SessionStands p switch sides qs old → switch.phase ≡ Opened
     → new.policy ≡ old.policy → new.features ≡ old.features → length new.states.items ≡ length old.states.items → AllStand p switch (sides_after p switch sides (told_at moment message)) new.states.items
-    → new.ports ≡ kept_by (status_kept switch.known message) old.ports → AreSame old.queues.items rooms → AreHanded (sent_from p switch sides (told_at moment message) 0 p.slices) rooms new.queues.items
+    → new.ports ≡ kept_by (status_kept switch.known message) old.ports → AreSame old.queues.items rooms → AreHanded (sent_to_all p switch sides (told_at moment message) 0 p.slices) rooms new.queues.items
     → SessionStands p (switch_after switch (SwitchMsg message)) (sides_after p switch sides (told_at moment message)) (queues_after p switch sides qs (told_at moment message)) new
 carried_session p switch sides qs moment message old new rooms s open_ policy features count stand ports same handed =
     session_goes p switch sides (sides_after p switch sides (told_at moment message)) qs (queues_after p switch sides qs (told_at moment message)) (SwitchMsg message) old new s policy features
@@ -275,10 +275,10 @@ passes_on moment message false old a b lane was carries p switch sides qs ql fit
 pub acts_of : (phase : Phase) (old new : Desk) (timed : Timed) (go : Bool) → old.phase ≡ phase → ActsIn phase old timed go new → Acts old timed go new
 acts_of phase old new timed go is acts p switch sides qs ql fit body on = acts p switch sides qs ql fit body (sym body.phase ∙ is)
 
-pub ended_never : (old new : Desk) (timed : Timed) (go : Bool) → old.phase ≡ Ended → Acts old timed go new
+pub ended_never : (old new : Desk) (timed : Timed) (go : Bool) → old.phase ≡ Gone → Acts old timed go new
 ended_never old new timed go is p switch sides qs ql fit body on = absurd (true≢false (sym (ap is_ended (sym body.phase ∙ is)) ∙ on))
 
-pub not_fresh : (phase : Phase) → (phase ≡ Begun) ⊎ ((phase ≡ Opened) ⊎ (phase ≡ Ended)) → phase ≡ Fresh → ⊥
+pub not_fresh : (phase : Phase) → (phase ≡ Begun) ⊎ ((phase ≡ Opened) ⊎ (phase ≡ Gone)) → phase ≡ Fresh → ⊥
 not_fresh phase (inl is) e = true≢false (sym (ap is_fresh e) ∙ ap is_fresh is)
 not_fresh phase (inr (inl is)) e = true≢false (sym (ap is_fresh e) ∙ ap is_fresh is)
 not_fresh phase (inr (inr is)) e = true≢false (sym (ap is_fresh e) ∙ ap is_fresh is)

@@ -16,7 +16,7 @@ use Rattle.desk_words.specs.declared.answer.Taken.TheVariants.{Message, Nothing,
 use Rattle.desk_words.specs.Openings.{Switch as Known}
 use Rattle.desk_words.specs.Histories.{is_slot, settings_at, Side, is_open}
 use Rattle.desk_words.specs.Verdicts.{is_ended}
-use Rattle.desk_words.specs.Operations.{slice_limit, lane_limit, silence}
+use Rattle.desk_words.specs.Operations.{slice_limit, lane_limit, why_none}
 use Rattle.proxy_core.specs.declared.parts.Session.{Session}
 use Rattle.proxy_core.specs.declared.parts.Desk.{Desk}
 use Rattle.proxy_core.specs.Desks.{SessionStands, Opens, up_now, queues_less, TakesNext, silence_before, IsSilence, is_message, Shrinks}
@@ -113,7 +113,7 @@ not_here : (a : Session) (slot : ℕ) → has_slot a slot ≡ false → is_up_at
 not_here a slot out = ap (λ (b : Bool). b && elim (slice_get a.states.items slot) [ None ↦ false | Some state ↦ state.up ]) out
 
 silence_cases : (p : PolicyView) (switch : Known) (sides : ℕ → Side) (qs : ℕ → Queue) (a : Session) (slot : ℕ) (here up : Bool) → SessionStands p switch sides qs a → switch.phase ≡ Opened → is_slot p slot ≡ here → is_up (sides slot).sight.view ≡ up
-    → silence_at slot a ≡ silence p switch.phase (up_now switch sides) (Slice slot) (qs slot).choked
+    → silence_at slot a ≡ why_none p switch.phase (up_now switch sides) (Slice slot) (qs slot).choked
 silence_cases p switch sides qs a slot false up s open_ here is =
     at_down a slot (not_here a slot (slots_are p switch sides qs a slot s ∙ here))
     ∙ silent_gone (is_slot p slot) (is_up (sides slot).sight.view) (qs slot).choked switch.phase open_ (ap (λ (b : Bool). b && is_up (sides slot).sight.view) here)

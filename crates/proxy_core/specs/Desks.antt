@@ -11,7 +11,7 @@ use Rattle.of10_port.specs.declared.features.Features.{Features}
 use Rattle.desk_words.specs.declared.event.Event.TheVariants.{SwitchMsg}
 use Rattle.desk_words.specs.declared.event.Timed.{Timed}
 use Rattle.desk_words.specs.declared.phase.Phase.{Phase}
-use Rattle.desk_words.specs.declared.phase.Phase.TheVariants.{Begun, Opened, Ended}
+use Rattle.desk_words.specs.declared.phase.Phase.TheVariants.{Begun, Opened, Gone}
 use Rattle.desk_words.specs.declared.answer.Dest.{Dest}
 use Rattle.desk_words.specs.declared.answer.Dest.TheVariants.{Switch, Slice}
 use Rattle.desk_words.specs.declared.answer.Taken.{Taken}
@@ -23,7 +23,7 @@ use Rattle.desk_words.specs.Histories.{is_slot, settings_at, Side, side_start, i
 use Rattle.desk_words.specs.Numbers.{AreNumbered}
 use Rattle.desk_words.specs.Sent.{sent_with, put_with, lane_in, echo_for}
 use Rattle.desk_words.specs.Verdicts.{is_ended, is_before, is_closing}
-use Rattle.desk_words.specs.Operations.{Operation, Step, Take, events_of, slice_limit, lane_limit, empties, is_ending, is_slice, is_switch, queue_of, lane_of, waiting_in, silence, take_reply, IsReply}
+use Rattle.desk_words.specs.Operations.{Operation, Step, Take, events_of, slice_limit, lane_limit, empties, is_ending, is_slice, is_switch, queue_of, lane_of, waiting_in, why_none, take_reply, IsReply}
 use Rattle.desk_words.specs.Laws.{HasSeen}
 use Rattle.proxy_core.specs.declared.parts.Session.{Session}
 use Rattle.proxy_core.specs.declared.parts.Desk.{Desk}
@@ -119,7 +119,7 @@ ActsIn phase old timed go new =
 -- the switch's connection ended, and nothing waits for it
 pub record Ends (old new : Desk) : Type 0 where
   pub same_policy : new.policy ≡ old.policy
-  pub phase : new.phase ≡ Ended
+  pub phase : new.phase ≡ Gone
   pub lane : HasOnly [] old.lane new.lane
   pub session : new.session ≡ old.session
 
@@ -171,7 +171,7 @@ silence_before policy slot = if is_slot policy slot then NotOpen else takens.End
 abbrev pub IsSilence : Desk → Dest → Taken → Type 0
 IsSilence desk dest taken =
     (policy : PolicyView) (switch : Known) (sides : ℕ → Side) (queues : ℕ → Queue) (lane_queue : Queue)
-    → Coherent policy switch sides → Body policy switch sides queues lane_queue desk → taken ≡ silence policy switch.phase (up_now switch sides) dest (waiting_in dest queues lane_queue).choked
+    → Coherent policy switch sides → Body policy switch sides queues lane_queue desk → taken ≡ why_none policy switch.phase (up_now switch sides) dest (waiting_in dest queues lane_queue).choked
 
 abbrev pub is_message : Taken → Bool
 is_message (Message message) = true

@@ -55,7 +55,7 @@ impl Desk {
         ensures told { TellsEnd self.now result }
         ensures phase { result ≡ is_ended self.now.phase }
     {
-        matches!(self.phase, Phase::Ended)
+        matches!(self.phase, Phase::Gone)
     }
 
     /// Whether the switch is connected and has told what it is.

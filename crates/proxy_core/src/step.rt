@@ -32,7 +32,7 @@ fn connected(phase: Phase) -> Phase
 {
     match phase {
         Phase::Fresh => Phase::Begun,
-        Phase::Begun | Phase::Opened | Phase::Ended => phase,
+        Phase::Begun | Phase::Opened | Phase::Gone => phase,
     }
 }
 
@@ -84,7 +84,7 @@ impl Desk {
         ensures ended { Ends self.old self.new }
         ensures events { self.new.events ≡ self.old.events }
     {
-        self.phase = Phase::Ended;
+        self.phase = Phase::Gone;
         self.lane.clear();
     }
 
@@ -167,7 +167,7 @@ impl Desk {
         match self.phase {
             Phase::Begun => self.hear_first(alloc, frame),
             Phase::Opened => self.hear_later(alloc, frame),
-            Phase::Fresh | Phase::Ended => Ok(false),
+            Phase::Fresh | Phase::Gone => Ok(false),
         }
     }
 
@@ -178,7 +178,7 @@ impl Desk {
     {
         match self.phase {
             Phase::Fresh => false,
-            Phase::Begun | Phase::Opened | Phase::Ended => {
+            Phase::Begun | Phase::Opened | Phase::Gone => {
                 self.end();
                 true
             }
@@ -255,7 +255,7 @@ impl Desk {
     fn is_over(&self) -> bool
         ensures { result ≡ (is_ended self.now.phase || leb (2 ^ 60) self.now.events) }
     {
-        matches!(self.phase, Phase::Ended) || self.events >= EVENTS
+        matches!(self.phase, Phase::Gone) || self.events >= EVENTS
     }
 
     /// One event. `AllocError` leaves what the desk stands for as it was, though memory that was taken may

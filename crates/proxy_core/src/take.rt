@@ -78,7 +78,7 @@ impl Desk {
         ensures value { IsSilence self.now Switch result }
     {
         match self.phase {
-            Phase::Ended => Taken::Ended,
+            Phase::Gone => Taken::Ended,
             Phase::Fresh => Taken::NotOpen,
             Phase::Begun | Phase::Opened => nothing(self.lane.choked()),
         }
@@ -102,7 +102,7 @@ impl Desk {
         ensures value { IsSilence self.now (Slice slot) result }
     {
         match self.phase {
-            Phase::Ended => Taken::Ended,
+            Phase::Gone => Taken::Ended,
             Phase::Fresh | Phase::Begun | Phase::Opened => match &self.session {
                 Some(session) => session.silence(slot),
                 None => self.silence_before(slot),

@@ -3,7 +3,7 @@ use Rattle.std.proofs.Common.{◌≡◌, ◌≢◌, ℕ, ◌<◌, Bool, true, fa
 use Rattle.std.proofs.lemmas.Bool.Decides.{eqb_tells}
 use Rattle.std.proofs.lemmas.List.{get_or-set_same, get_or-set_other, get_or-replicate, length-set, length-replicate}
 use Rattle.recording.specs.declared.item.Item.{Item}
-use Rattle.recording.specs.Recordings.{is_switch_up, is_slice_up}
+use Rattle.recording.specs.Recordings.{is_switch_open, is_slice_open}
 use Rattle.recording.specs.Standing.{Stands}
 
 -- ---- a place of a list after one of its places is written
@@ -25,13 +25,13 @@ rows_keep rows k s n row h l was = ap length (written rows k s row [] h) ∙ con
 
 -- ---- what a record says of a switch and of a slice
 
-switch_stays : (r : Item) (before : List Item) (s : ℕ) (b : Bool) → r.kind ≡ 3 → eqb r.switch s ≡ b → is_switch_up s before ≡ is_switch_up s (r ∷ before)
+switch_stays : (r : Item) (before : List Item) (s : ℕ) (b : Bool) → r.kind ≡ 3 → eqb r.switch s ≡ b → is_switch_open s before ≡ is_switch_open s (r ∷ before)
 switch_stays r before s true k e = rw (k, e) refl
 switch_stays r before s false k e = rw (k, e) refl
 
 -- a slice after its SLICE_UP, where the row of its switch was `row` and a row is now `other`
 slice_went_up : (r : Item) (before : List Item) (s t : ℕ) (was : Bool) (b c : Bool) → r.kind ≡ 3 → eqb r.switch s ≡ b → eqb r.slot t ≡ c
-    → was ≡ is_slice_up s t before → cond b (cond c true was) was ≡ is_slice_up s t (r ∷ before)
+    → was ≡ is_slice_open s t before → cond b (cond c true was) was ≡ is_slice_open s t (r ∷ before)
 slice_went_up r before s t was true true k e f h = rw (k, e, f) refl
 slice_went_up r before s t was true false k e f h = rw (k, e, f) h
 slice_went_up r before s t was false c k e f h = rw e h
@@ -62,12 +62,12 @@ slice_goes_up switches slices before r st k hs ht =
 
 -- ---- a switch goes down
 
-switch_went_down : (r : Item) (before : List Item) (s : ℕ) (was : Bool) (b : Bool) → r.kind ≡ 2 → eqb r.switch s ≡ b → was ≡ is_switch_up s before → cond b false was ≡ is_switch_up s (r ∷ before)
+switch_went_down : (r : Item) (before : List Item) (s : ℕ) (was : Bool) (b : Bool) → r.kind ≡ 2 → eqb r.switch s ≡ b → was ≡ is_switch_open s before → cond b false was ≡ is_switch_open s (r ∷ before)
 switch_went_down r before s was true k e h = rw (k, e) refl
 switch_went_down r before s was false k e h = rw e h
 
 slices_went_down : (r : Item) (before : List Item) (s t : ℕ) (row : List Bool) (b : Bool) → r.kind ≡ 2 → t < 256 → eqb r.switch s ≡ b
-    → get_or row t false ≡ is_slice_up s t before → get_or (cond b (replicate 256 false) row) t false ≡ is_slice_up s t (r ∷ before)
+    → get_or row t false ≡ is_slice_open s t before → get_or (cond b (replicate 256 false) row) t false ≡ is_slice_open s t (r ∷ before)
 slices_went_down r before s t row true k g e h = rw (k, e) (get_or-replicate 256 t false false g)
 slices_went_down r before s t row false k g e h = rw e h
 

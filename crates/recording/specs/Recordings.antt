@@ -79,26 +79,26 @@ is_formed slices reserved r =
 -- ---- who is up, by the records so far, newest first
 
 -- a switch is up where its last SWITCH_UP or SWITCH_DOWN is an up
-abbrev pub is_switch_up : ℕ → List Item → Bool
-is_switch_up switch [] = false
-is_switch_up switch (r ∷ before) =
+abbrev pub is_switch_open : ℕ → List Item → Bool
+is_switch_open switch [] = false
+is_switch_open switch (r ∷ before) =
     if r.switch == switch && (r.kind == switch_up || r.kind == switch_down) then r.kind == switch_up
-    else is_switch_up switch before
+    else is_switch_open switch before
 
 -- a slice is up where the last of its SLICE_UP, its SLICE_DOWN and its switch's SWITCH_DOWN is an up
-abbrev pub is_slice_up : ℕ → ℕ → List Item → Bool
-is_slice_up switch slot [] = false
-is_slice_up switch slot (r ∷ before) =
+abbrev pub is_slice_open : ℕ → ℕ → List Item → Bool
+is_slice_open switch slot [] = false
+is_slice_open switch slot (r ∷ before) =
     if r.switch == switch && (r.kind == switch_down || (r.slot == slot && (r.kind == slice_up || r.kind == slice_down))) then r.kind == slice_up
-    else is_slice_up switch slot before
+    else is_slice_open switch slot before
 
 -- a switch goes up where it isn't, and all else of it comes while it is; a slice goes up where it isn't and its switch is, and all else of it comes while it is
 abbrev pub fits : List Item → Item → Bool
 fits before r =
-    if r.kind == switch_up then not (is_switch_up r.switch before)
-    else if r.kind == switch_bytes || r.kind == switch_down then is_switch_up r.switch before
-    else if r.kind == slice_up then is_switch_up r.switch before && not (is_slice_up r.switch r.slot before)
-    else is_slice_up r.switch r.slot before
+    if r.kind == switch_up then not (is_switch_open r.switch before)
+    else if r.kind == switch_bytes || r.kind == switch_down then is_switch_open r.switch before
+    else if r.kind == slice_up then is_switch_open r.switch before && not (is_slice_open r.switch r.slot before)
+    else is_slice_open r.switch r.slot before
 
 -- ---- reading
 

@@ -15,7 +15,7 @@ use Rattle.of10_ctl.specs.Frames.{message_of}
 use Rattle.of10_message.specs.declared.controller.FromController.{FromController}
 use Rattle.of10_message.specs.declared.controller.FromController.TheVariants as said
 use Rattle.flowspace.specs.declared.rules.Rule.{Rule}
-use Rattle.flowmod_expand.specs.Messages.{sent_from}
+use Rattle.flowmod_expand.specs.Messages.{piece_messages}
 use Rattle.stats_filter.specs.Asking.{question_for}
 use Rattle.buffer_map.specs.declared.held.Held.{Held}
 use Rattle.buffer_map.specs.Buffers.{held_under}
@@ -67,7 +67,7 @@ number_in (Some packet) = packet.physical
 
 -- the flow-mods for the pieces of a match: the first whose piece has the header of the packet that is named carries the switch's number for it
 abbrev pub flow_mods_from : SliceState → Ground → FlowMod → List FlowMod
-flow_mods_from state g m = sent_from 0 m g.xid (pieces_on g m) (lists_on g m) (carrier_in (packet_for state m) (pieces_on g m))
+flow_mods_from state g m = piece_messages 0 m g.xid (pieces_on g m) (lists_on g m) (carrier_in (packet_for state m) (pieces_on g m))
 
 -- the packet-out that is sent, with the switch's number for the packet that is named
 abbrev pub packet_out_from : SliceState → Ground → PacketOut → PacketOut

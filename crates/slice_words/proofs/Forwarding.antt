@@ -11,7 +11,7 @@ use Rattle.of10_flow.specs.declared.protocol.TheConstants.{NO_BUFFER}
 use Rattle.of10_flow.specs.FlowMods.{spell_flow_mod}
 use Rattle.of10_flow.specs.Tables.{is_delete}
 use Rattle.flowspace.proofs.Along.{option_or-None}
-use Rattle.flowmod_expand.specs.Messages.{buffer_at, sent_for, sent_from, are_too_large}
+use Rattle.flowmod_expand.specs.Messages.{buffer_at, piece_message, piece_messages, are_too_large}
 use Rattle.flowmod_expand.proofs.Walks.{spell_size}
 use Rattle.slice_words.specs.Pasts.{Modifies}
 use Rattle.slice_words.specs.Buffers.{HeldPacket}
@@ -28,17 +28,17 @@ numbered came carrier = option_map (λ own. (own.0, number_of came own.1)) carri
 
 -- the flow-mods that are sent, with the switch's number where one carries a packet
 abbrev pub flow_mods_numbered : List ℕ → Ground → FlowMod → List FlowMod
-flow_mods_numbered came g m = sent_from 0 m g.xid (pieces_on g m) (lists_on g m) (numbered came (carrier_of (packet_of g m) (pieces_on g m)))
+flow_mods_numbered came g m = piece_messages 0 m g.xid (pieces_on g m) (lists_on g m) (numbered came (carrier_of (packet_of g m) (pieces_on g m)))
 
 -- one message of a flow-mod that may carry a packet
 rendered_one : (came : List ℕ) (own : ℕ × ℕ) (place : ℕ) (m : FlowMod) (xid : ℕ) (piece : Pattern) (actions : List Action) (here : Bool) → (own.0 == place) ≡ here → is_delete m ≡ false
-    → rendered came (Modifies (sent_for m xid piece actions NO_BUFFER) (if own.0 == place then Some own.1 else None)) ≡ spell_flow_mod (sent_for m xid piece actions (if own.0 == place then number_of came own.1 else NO_BUFFER))
-unfolding sent_for
+    → rendered came (Modifies (piece_message m xid piece actions NO_BUFFER) (if own.0 == place then Some own.1 else None)) ≡ spell_flow_mod (piece_message m xid piece actions (if own.0 == place then number_of came own.1 else NO_BUFFER))
+unfolding piece_message
 rendered_one came own place m xid piece actions true is keeps = rw (is, keeps) refl
 rendered_one came own place m xid piece actions false is keeps = rw is refl
 
 rendered_from : (came : List ℕ) (own : ℕ × ℕ) (place : ℕ) (m : FlowMod) (xid : ℕ) (pieces : List Pattern) (lists : List (List Action)) → is_delete m ≡ false
-    → map (rendered came) (naming (Some own) place (sent_from place m xid pieces lists None)) ≡ map spell_flow_mod (sent_from place m xid pieces lists (Some (own.0, number_of came own.1)))
+    → map (rendered came) (naming (Some own) place (piece_messages place m xid pieces lists None)) ≡ map spell_flow_mod (piece_messages place m xid pieces lists (Some (own.0, number_of came own.1)))
 rendered_from came own place m xid [] lists keeps = refl
 rendered_from came own place m xid (piece ∷ pieces) [] keeps = refl
 rendered_from came own place m xid (piece ∷ pieces) (actions ∷ lists) keeps =
@@ -51,8 +51,8 @@ rendered_plain came place [] = refl
 rendered_plain came place (m ∷ ms) = ap (λ (others : List (List ℕ)). spell_flow_mod m ∷ others) (rendered_plain came (place + 1) ms)
 
 rendered_by : (came : List ℕ) (m : FlowMod) (xid : ℕ) (pieces : List Pattern) (lists : List (List Action)) (carrier : Option (ℕ × ℕ)) → (is_some carrier ≡ true → is_delete m ≡ false)
-    → map (rendered came) (naming carrier 0 (sent_from 0 m xid pieces lists None)) ≡ map spell_flow_mod (sent_from 0 m xid pieces lists (numbered came carrier))
-rendered_by came m xid pieces lists None keeps = rendered_plain came 0 (sent_from 0 m xid pieces lists None)
+    → map (rendered came) (naming carrier 0 (piece_messages 0 m xid pieces lists None)) ≡ map spell_flow_mod (piece_messages 0 m xid pieces lists (numbered came carrier))
+rendered_by came m xid pieces lists None keeps = rendered_plain came 0 (piece_messages 0 m xid pieces lists None)
 rendered_by came m xid pieces lists (Some own) keeps = rendered_from came own 0 m xid pieces lists (keeps refl)
 
 -- a delete carries none
@@ -67,14 +67,14 @@ rendered_sent came g m =
 
 -- ---- sizes
 
-same_size : (m : FlowMod) (xid : ℕ) (piece : Pattern) (actions : List Action) (a b : ℕ) → length (spell_flow_mod (sent_for m xid piece actions a)) ≡ length (spell_flow_mod (sent_for m xid piece actions b))
-unfolding sent_for
+same_size : (m : FlowMod) (xid : ℕ) (piece : Pattern) (actions : List Action) (a b : ℕ) → length (spell_flow_mod (piece_message m xid piece actions a)) ≡ length (spell_flow_mod (piece_message m xid piece actions b))
+unfolding piece_message
 same_size m xid piece actions a b =
-    spell_size (sent_for m xid piece actions a) ∙ sym (spell_size (sent_for m xid piece actions b))
+    spell_size (piece_message m xid piece actions a) ∙ sym (spell_size (piece_message m xid piece actions b))
 
 -- the number of a packet changes no size
 same_sizes : (place : ℕ) (m : FlowMod) (xid : ℕ) (pieces : List Pattern) (lists : List (List Action)) (a b : Option (ℕ × ℕ))
-    → map length (map spell_flow_mod (sent_from place m xid pieces lists a)) ≡ map length (map spell_flow_mod (sent_from place m xid pieces lists b))
+    → map length (map spell_flow_mod (piece_messages place m xid pieces lists a)) ≡ map length (map spell_flow_mod (piece_messages place m xid pieces lists b))
 same_sizes place m xid [] lists a b = refl
 same_sizes place m xid (piece ∷ pieces) [] a b = refl
 same_sizes place m xid (piece ∷ pieces) (actions ∷ lists) a b =
@@ -95,11 +95,11 @@ large_by_lengths : (messages : List (List ℕ)) → are_too_large messages ≡ (
 large_by_lengths messages = ap₂ (λ (n : ℕ) (b : Bool). nat_lt 262144 n || b) (sum_of_lengths messages) (any_of_lengths messages)
 
 pub same_large : (m : FlowMod) (xid : ℕ) (pieces : List Pattern) (lists : List (List Action)) (a b : Option (ℕ × ℕ))
-    → are_too_large (map spell_flow_mod (sent_from 0 m xid pieces lists a)) ≡ are_too_large (map spell_flow_mod (sent_from 0 m xid pieces lists b))
+    → are_too_large (map spell_flow_mod (piece_messages 0 m xid pieces lists a)) ≡ are_too_large (map spell_flow_mod (piece_messages 0 m xid pieces lists b))
 same_large m xid pieces lists a b =
-    large_by_lengths (map spell_flow_mod (sent_from 0 m xid pieces lists a))
+    large_by_lengths (map spell_flow_mod (piece_messages 0 m xid pieces lists a))
     ∙ ap (λ (sizes : List ℕ). nat_lt 262144 (sum_by (λ n. n) sizes) || list_any (λ n. nat_lt 65535 n) sizes) (same_sizes 0 m xid pieces lists a b)
-    ∙ sym (large_by_lengths (map spell_flow_mod (sent_from 0 m xid pieces lists b)))
+    ∙ sym (large_by_lengths (map spell_flow_mod (piece_messages 0 m xid pieces lists b)))
 
 -- a line that doesn't refuse doesn't apply
 pub not_applying : (applies : Bool) (fault : ℕ × ℕ) → refused_where applies fault ≡ None → applies ≡ false

@@ -13,7 +13,7 @@ use Rattle.of10_flow.specs.FlowMods.{spell_flow_mod}
 use Rattle.of10_flow.specs.Tables.{is_delete, has_flag}
 use Rattle.action_check.specs.declared.origin.Origin.TheVariants.{Piece}
 use Rattle.action_check.specs.Permitted.{permitted}
-use Rattle.flowmod_expand.specs.Messages.{sent_from, are_too_large}
+use Rattle.flowmod_expand.specs.Messages.{piece_messages, are_too_large}
 use Rattle.flowmod_expand.specs.Pieces.{pieces_within}
 use Rattle.flow_book.specs.declared.booked.Booked.{Booked}
 use Rattle.flow_book.specs.Books.{book, overlaps_in, fits_in}
@@ -91,7 +91,7 @@ packet_of g m = if is_delete m then None else packet_at g m.buffer
 
 -- the flow-mods that are sent for the pieces, under the transaction id that the slice gets next
 abbrev pub flow_mods_on : Ground → FlowMod → List FlowMod
-flow_mods_on g m = sent_from 0 m g.xid (pieces_on g m) (lists_on g m) None
+flow_mods_on g m = piece_messages 0 m g.xid (pieces_on g m) (lists_on g m) None
 
 -- the place of the first piece that has a packet's header
 abbrev pub place_of : Header → List Pattern → Option ℕ

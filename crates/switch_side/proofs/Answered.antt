@@ -18,7 +18,7 @@ use Rattle.desk_words.specs.Openings.{well_formed, status_kept, rules_of, Switch
 use Rattle.desk_words.specs.Histories.{is_slot, settings_at, items_of, Side}
 use Rattle.switch_side.specs.declared.dispatch.Dispatch.{Dispatch}
 use Rattle.switch_side.specs.Changes.{SlotChanges}
-use Rattle.switch_side.specs.Dispatches.{Surrounds, AllStand, AllNumbered, sent_from, told_at, AreChanges, IsDispatch}
+use Rattle.switch_side.specs.Dispatches.{Surrounds, AllStand, AllNumbered, sent_to_all, told_at, AreChanges, IsDispatch}
 use Rattle.switch_side.specs.Carrying.{Carried, carried, Called, Turn, turning, removed_turn, error_turn, barrier_turn, queues_turn, statistics_turn, turn_for, is_for_one, carried_for, message_told, message_changes}
 use Rattle.switch_side.proofs.MessageTypes.{of_one, of_good, IsForAll, packet_for_all, number_none, items_at}
 use Rattle.switch_side.proofs.Standing.{message_stands}
@@ -80,7 +80,7 @@ module _ (called : ℕ → Called) (rules : List Rule) (known : List (List ℕ))
 -- what is told and what changes, by the rules and ports that the switch has
 abbrev Follow : PolicyView → Switch → (ℕ → Side) → ℕ → List ℕ → List SliceState → Type 0
 Follow p switch sides moment message states =
-    (message_told (called_at p switch sides) (rules_of p switch.features) switch.known states message ≡ sent_from p switch sides (told_at moment message) 0 p.slices)
+    (message_told (called_at p switch sides) (rules_of p switch.features) switch.known states message ≡ sent_to_all p switch sides (told_at moment message) 0 p.slices)
     × AreChanges p switch sides moment message (message_changes (called_at p switch sides) (rules_of p switch.features) states message)
 
 module _ (p : PolicyView) (switch : Switch) (sides : ℕ → Side) (moment : ℕ) (message : List ℕ) (states : List SliceState)

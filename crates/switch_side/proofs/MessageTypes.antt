@@ -11,7 +11,7 @@ use Rattle.of10_stats.specs.Replies.{part_of}
 use Rattle.flowspace.specs.Policies.{PolicyView}
 use Rattle.desk_words.specs.declared.event.Event.TheVariants.{SwitchMsg}
 use Rattle.desk_words.specs.declared.phase.Phase.{Phase}
-use Rattle.desk_words.specs.declared.phase.Phase.TheVariants.{Fresh, Begun, Opened, Ended}
+use Rattle.desk_words.specs.declared.phase.Phase.TheVariants.{Fresh, Begun, Opened, Gone}
 use Rattle.desk_words.specs.Openings.{well_formed, Switch}
 use Rattle.desk_words.specs.Histories.{is_slot, settings_at, Side, number_told, removed_items, error_items, barrier_items, queues_items, statistics_items, message_items, phase_items, items_of}
 use Rattle.desk_words.proofs.Seen.{no_kind}
@@ -87,7 +87,7 @@ pub number_none : (phase : Phase) (message : List ℕ) → is_of PACKET_IN messa
 number_none Fresh message none = refl
 number_none Begun message none = refl
 number_none Opened message none = rw none refl
-number_none Ended message none = refl
+number_none Gone message none = refl
 
 pub items_at : (p : PolicyView) (slot moment : ℕ) (switch : Switch) (side : Side) (message : List ℕ) → switch.phase ≡ Opened → is_slot p slot ≡ true
     → items_of p slot switch side (told_at moment message) ≡ message_items p slot switch side message

@@ -19,7 +19,7 @@ use Rattle.of10_ctl.specs.Kinds.{is_of}
 use Rattle.desk_words.specs.Openings.{well_formed, status_kept, rules_of, Switch}
 use Rattle.desk_words.specs.Histories.{settings_at, Side}
 use Rattle.desk_words.specs.Sent.{sent_with}
-use Rattle.switch_side.specs.Dispatches.{addressed, sent_from, told_at, AllStand}
+use Rattle.switch_side.specs.Dispatches.{addressed, sent_to_all, told_at, AllStand}
 use Rattle.switch_side.specs.Audiences.{audience_of}
 use Rattle.switch_side.specs.Carrying.{packet_for, said_from, packet_in_told, port_told}
 use Rattle.switch_side.proofs.MessageTypes.{IsForAll}
@@ -64,7 +64,7 @@ said_told count rules known states message = said_kind count rules states (is_of
 all_sent : (p : PolicyView) (switch : Switch) (sides : ℕ → Side) (timed : Timed) (said : Say) (slot : ℕ) (slices : List Slice) (states : List SliceState)
     → length states ≡ length slices
     → ((i k : ℕ) (state : SliceState) → slot + i ≡ k → slice_get states i ≡ Some state → said k state ≡ sent_with p k switch (sides k) timed)
-    → said_from said slot states ≡ sent_from p switch sides timed slot slices
+    → said_from said slot states ≡ sent_to_all p switch sides timed slot slices
 all_sent p switch sides timed said slot [] [] same each = refl
 all_sent p switch sides timed said slot (slice ∷ slices) (state ∷ states) same each =
     ap₂ (λ (now later : List (ℕ × List ℕ)). now ++ later) (ap (addressed slot) (each 0 slot state (omega arith) refl))
@@ -99,7 +99,7 @@ one_sent p switch sides moment message states opened same stand all slot k state
 pub told_sent : (p : PolicyView) (switch : Switch) (sides : ℕ → Side) (moment : ℕ) (message : List ℕ) (states : List SliceState)
     → switch.phase ≡ Opened → length states ≡ length p.slices → AllStand p switch sides states → IsForAll message
     → (if is_of PACKET_IN message then packet_in_told (rules_of p switch.features) states message else port_told (rules_of p switch.features) states (status_kept switch.known message))
-    ≡ sent_from p switch sides (told_at moment message) 0 p.slices
+    ≡ sent_to_all p switch sides (told_at moment message) 0 p.slices
 told_sent p switch sides moment message states opened same stand all =
     ap (λ (count : ℕ). if is_of PACKET_IN message then told_among count (rules_of p switch.features) states (well_formed (read_packet_in message)) else port_told (rules_of p switch.features) states (status_kept switch.known message)) same
     ∙ sym (said_told (length p.slices) (rules_of p switch.features) switch.known states message)

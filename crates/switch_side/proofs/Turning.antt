@@ -12,7 +12,7 @@ use Rattle.desk_words.specs.declared.event.Event.TheVariants.{SwitchMsg}
 use Rattle.desk_words.specs.Sent.{sent_with}
 use Rattle.switch_side.specs.declared.change.Change.{Change}
 use Rattle.switch_side.specs.Changes.{changes_for, IsChange, SlotChanges}
-use Rattle.switch_side.specs.Dispatches.{addressed, sent_from, told_at, AreChanges}
+use Rattle.switch_side.specs.Dispatches.{addressed, sent_to_all, told_at, AreChanges}
 use Rattle.switch_side.specs.Carrying.{Turn, turn_told, turn_changes}
 use Rattle.switch_side.proofs.MessageTypes.{items_none}
 
@@ -38,14 +38,14 @@ module _ (p : PolicyView) (switch : Switch) (sides : ℕ → Side) (timed : Time
   abbrev to : ℕ → List (List ℕ)
   to k = sent_with p k switch (sides k) timed
 
-  none_sent : (slot : ℕ) (slices : List Slice) → ((k : ℕ) → slot ≤ k → k < slot + length slices → to k ≡ []) → sent_from p switch sides timed slot slices ≡ []
+  none_sent : (slot : ℕ) (slices : List Slice) → ((k : ℕ) → slot ≤ k → k < slot + length slices → to k ≡ []) → sent_to_all p switch sides timed slot slices ≡ []
   none_sent slot [] each = refl
   none_sent slot (slice ∷ others) each =
       ap₂ (λ (here later : List (ℕ × List ℕ)). here ++ later) (ap (addressed slot) (each slot (omega arith) (omega arith)))
       (none_sent (slot + 1) others (λ k from under. each k (omega (arith, from)) (omega (arith, under))))
 
   one_sent : (one : ℕ) (messages : List (List ℕ)) (slot : ℕ) (slices : List Slice) → slot ≤ one → one < slot + length slices → to one ≡ messages
-      → ((k : ℕ) → k < slot + length slices → (one == k) ≡ false → to k ≡ []) → sent_from p switch sides timed slot slices ≡ addressed one messages
+      → ((k : ℕ) → k < slot + length slices → (one == k) ≡ false → to k ≡ []) → sent_to_all p switch sides timed slot slices ≡ addressed one messages
   one_sent one messages slot [] from under own others = absurd (omega (arith, from, under))
   one_sent one messages slot (slice ∷ later) from under own others =
       elim (cases_eq slot one) [
@@ -55,7 +55,7 @@ module _ (p : PolicyView) (switch : Switch) (sides : ℕ → Side) (timed : Time
             (none_sent (slot + 1) later (λ k past under_k. others k (omega (arith, under_k)) (ne_eqb one k (λ is. omega (arith, is, past, same)))))
             ∙ append-nil (addressed one messages)
         | inr other ↦
-            ap (λ (here : List (List ℕ)). addressed slot here ++ sent_from p switch sides timed (slot + 1) later) (others slot (omega arith) (ne_eqb one slot (λ is. other (sym is))))
+            ap (λ (here : List (List ℕ)). addressed slot here ++ sent_to_all p switch sides timed (slot + 1) later) (others slot (omega arith) (ne_eqb one slot (λ is. other (sym is))))
             ∙ one_sent one messages (slot + 1) later (omega (arith, from, other)) (omega (arith, under)) own (λ k under_k isnt. others k (omega (arith, under_k)) isnt)
       ]
 
@@ -101,7 +101,7 @@ module _ (p : PolicyView) (switch : Switch) (sides : ℕ → Side) (moment : ℕ
   other_follows : (turn : Turn) (slot : ℕ) → (turn.slot == slot) ≡ false → Follows slot (turn_at slot (Some turn)) → Follows slot None
   other_follows turn slot isnt follows = subst (Follows slot) (turn_at-other slot turn isnt) follows
 
-  pub sent_turn : (turn : Option Turn) → IsWithin p turn → EachFollows turn → turn_told turn ≡ sent_from p switch sides (told_at moment message) 0 p.slices
+  pub sent_turn : (turn : Option Turn) → IsWithin p turn → EachFollows turn → turn_told turn ≡ sent_to_all p switch sides (told_at moment message) 0 p.slices
   sent_turn None within each = sym (none_sent p switch sides (told_at moment message) 0 p.slices (λ k from under. (each k (lt-ltb k (length p.slices) (omega (arith, under)))).0))
   sent_turn (Some turn) within each =
       sym (one_sent p switch sides (told_at moment message) turn.slot turn.messages 0 p.slices (omega arith) (omega (arith, within))

@@ -134,11 +134,11 @@ abbrev pub changes_with : Audience → PacketIn → List SliceState → List (�
 changes_with audience packet states = if packet.buffer == NO_BUFFER then [] else changes_from (change_for audience packet.buffer (header_in packet)) 0 states
 
 -- a packet that is handed up, for all slices
-abbrev pub packet_told : List Rule → List SliceState → PacketIn → List (ℕ × List ℕ)
-packet_told rules states packet = said_from (packet_for (audience_of (length states) rules packet) packet) 0 states
+abbrev pub packets_for_all : List Rule → List SliceState → PacketIn → List (ℕ × List ℕ)
+packets_for_all rules states packet = said_from (packet_for (audience_of (length states) rules packet) packet) 0 states
 
 abbrev pub packet_in_told : List Rule → List SliceState → List ℕ → List (ℕ × List ℕ)
-packet_in_told rules states message = elim (well_formed (read_packet_in message)) [ None ↦ [] | Some packet ↦ packet_told rules states packet ]
+packet_in_told rules states message = elim (well_formed (read_packet_in message)) [ None ↦ [] | Some packet ↦ packets_for_all rules states packet ]
 
 -- and what changes
 abbrev pub packet_changes : List Rule → List SliceState → PacketIn → List (ℕ × Change)

@@ -41,10 +41,10 @@ abbrev pub addressed : ℕ → List (List ℕ) → List (ℕ × List ℕ)
 addressed slot messages = map (λ message. (slot, message)) messages
 
 -- what each slice from a slot on is sent at an event, slice by slice
-abbrev pub sent_from : PolicyView → Switch → (ℕ → Side) → Timed → ℕ → List Slice → List (ℕ × List ℕ)
-sent_from p switch sides timed slot [] = []
-sent_from p switch sides timed slot (slice ∷ others) =
-    addressed slot (sent_with p slot switch (sides slot) timed) ++ sent_from p switch sides timed (slot + 1) others
+abbrev pub sent_to_all : PolicyView → Switch → (ℕ → Side) → Timed → ℕ → List Slice → List (ℕ × List ℕ)
+sent_to_all p switch sides timed slot [] = []
+sent_to_all p switch sides timed slot (slice ∷ others) =
+    addressed slot (sent_with p slot switch (sides slot) timed) ++ sent_to_all p switch sides timed (slot + 1) others
 
 -- a message came from the switch
 abbrev pub told_at : ℕ → List ℕ → Timed
@@ -57,7 +57,7 @@ AreChanges p switch sides moment message listed =
 
 -- what follows from a message of the switch: what each slice is sent, what the switch is sent, what changes in the slices' states, the change of a port, and whether the switch's connection ends
 pub record IsDispatch (p : PolicyView) (switch : Switch) (sides : ℕ → Side) (moment : ℕ) (message : List ℕ) (d : Dispatch) : Type 0 where
-  pub to_slices : d.to_slices.items ≡ sent_from p switch sides (told_at moment message) 0 p.slices
+  pub to_slices : d.to_slices.items ≡ sent_to_all p switch sides (told_at moment message) 0 p.slices
   pub to_switch : d.to_switch.items ≡ echo_for message
   pub changes : AreChanges p switch sides moment message d.changes.items
   pub port : d.port ≡ status_kept switch.known message

@@ -6,7 +6,7 @@ ghost use Rattle.of10_ctl.specs.Kinds.{IsOf};
 ghost use Rattle.of10_flow.specs.PacketIns.{packet_of, spell_packet_in};
 ghost use Rattle.desk_words.specs.Histories.{header_in};
 ghost use Rattle.switch_side.specs.Dispatches.{addressed};
-ghost use Rattle.switch_side.specs.Carrying.{carried, once, said_from, unnumbered, unmarked, wanted, written, named_told, packet_for, change_for, changes_from, changes_with, packet_told, packet_changes, packet_in_told, packet_in_changes, handing};
+ghost use Rattle.switch_side.specs.Carrying.{carried, once, said_from, unnumbered, unmarked, wanted, written, named_told, packet_for, change_for, changes_from, changes_with, packets_for_all, packet_changes, packet_in_told, packet_in_changes, handing};
 
 use crate::audience::Audience;
 use crate::change::Change;
@@ -239,7 +239,7 @@ fn handed(
     requires few { length states.now ≤ 32 }
     requires fits { 18 + length packet.now.payload.now ≤ 65535 }
     requires index { index.now ≡ policy.now.rules }
-    ensures { IfOk result (λ d. carried d ≡ handing (packet_told policy.now.rules states.now (packet_of packet.now)) (packet_changes policy.now.rules states.now (packet_of packet.now))) }
+    ensures { IfOk result (λ d. carried d ≡ handing (packets_for_all policy.now.rules states.now (packet_of packet.now)) (packet_changes policy.now.rules states.now (packet_of packet.now))) }
 {
     let header = header_of(packet.in_port, packet.payload);
     let audience = Audience::of(policy, index, states.len(), packet, &header);

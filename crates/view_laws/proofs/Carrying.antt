@@ -14,7 +14,7 @@ use Rattle.stats_filter.specs.Asking.{asked_as}
 use Rattle.of10_model.specs.declared.pattern.Pattern.{Pattern}
 use Rattle.of10_flow.specs.declared.flow_mod.FlowMod.{FlowMod}
 use Rattle.of10_flow.specs.declared.packet_out.PacketOut.{PacketOut}
-use Rattle.flowmod_expand.specs.Messages.{sent_for, sent_from, buffer_at}
+use Rattle.flowmod_expand.specs.Messages.{piece_message, piece_messages, buffer_at}
 use Rattle.xid_map.specs.Requests.{physical_of, issued}
 use Rattle.slice_words.specs.Items.{Settings, Item, Opened, Up, Down, Msg, Lost, Handed, Removed, Status, Fault, Barrier, Queues, Entry, Last, End, is_up}
 use Rattle.slice_words.specs.Pasts.{Answer, Past, Outgoing, Modifies, SendsOut, Asks, silence}
@@ -31,15 +31,15 @@ use Rattle.view_laws.proofs.Requesting.{requests_after, issued-requests, others_
 
 -- ---- transaction ids
 
-for_under : (m : FlowMod) (xid : ℕ) (piece : Pattern) (actions : List Action) (buffer : ℕ) → (sent_for m xid piece actions buffer).xid ≡ xid
-unfolding sent_for
+for_under : (m : FlowMod) (xid : ℕ) (piece : Pattern) (actions : List Action) (buffer : ℕ) → (piece_message m xid piece actions buffer).xid ≡ xid
+unfolding piece_message
 for_under m xid piece actions buffer = refl
 
-each_under : (place : ℕ) (m : FlowMod) (xid : ℕ) (pieces : List Pattern) (lists : List (List Action)) (buffer : Option (ℕ × ℕ)) → All (λ (sent : FlowMod). sent.xid ≡ xid) (sent_from place m xid pieces lists buffer)
+each_under : (place : ℕ) (m : FlowMod) (xid : ℕ) (pieces : List Pattern) (lists : List (List Action)) (buffer : Option (ℕ × ℕ)) → All (λ (sent : FlowMod). sent.xid ≡ xid) (piece_messages place m xid pieces lists buffer)
 each_under place m xid [] lists buffer = All-nil (λ (sent : FlowMod). sent.xid ≡ xid)
 each_under place m xid (piece ∷ pieces) [] buffer = All-nil (λ (sent : FlowMod). sent.xid ≡ xid)
 each_under place m xid (piece ∷ pieces) (actions ∷ lists) buffer =
-    All-cons (λ (sent : FlowMod). sent.xid ≡ xid) (sent_for m xid piece actions (buffer_at buffer place)) (sent_from (place + 1) m xid pieces lists buffer)
+    All-cons (λ (sent : FlowMod). sent.xid ≡ xid) (piece_message m xid piece actions (buffer_at buffer place)) (piece_messages (place + 1) m xid pieces lists buffer)
     (for_under m xid piece actions (buffer_at buffer place)) (each_under (place + 1) m xid pieces lists buffer)
 
 -- whichever of them names a packet

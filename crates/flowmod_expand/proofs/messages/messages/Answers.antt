@@ -12,9 +12,9 @@ encode-requires-clause-fits c =
     let lists = c.args.actions.now in
     let messages = flow_messages m c.args.xid pieces lists c.args.buffer in
     let long = flow_messages_length m c.args.xid pieces lists c.args.buffer c.requires.lists in
-    let made = made_at m c.args.xid pieces lists c.args.buffer c.loop-place.place c.index-pieces-place.result c.index-actions-place.result c.buffer_at-number.result (shown_flow_mod c.sent_for-sent.result) []
-    c.loop-place-test.true c.requires.lists c.index-pieces-place.is c.index-actions-place.is c.buffer_at-number.ensures c.sent_for-sent.ensures.value in
-    fits_at messages c.loop-place.place (shown_flow_mod c.sent_for-sent.result) (omega (arith, c.loop-place-test.true, long)) c.requires.fits made
+    let made = made_at m c.args.xid pieces lists c.args.buffer c.loop-place.place c.index-pieces-place.result c.index-actions-place.result c.buffer_at-number.result (shown_flow_mod c.piece_message-sent.result) []
+    c.loop-place-test.true c.requires.lists c.index-pieces-place.is c.index-actions-place.is c.buffer_at-number.ensures c.piece_message-sent.ensures.value in
+    fits_at messages c.loop-place.place (shown_flow_mod c.piece_message-sent.result) (omega (arith, c.loop-place-test.true, long)) c.requires.fits made
 
 pub loop-place-preserved : goal.loop-place-preserved
 loop-place-preserved c =
@@ -23,8 +23,8 @@ loop-place-preserved c =
     let lists = c.args.actions.now in
     let messages = flow_messages m c.args.xid pieces lists c.args.buffer in
     let long = flow_messages_length m c.args.xid pieces lists c.args.buffer c.requires.lists in
-    let frame = c.in_ok-encode.ensures.value ∙ made_at m c.args.xid pieces lists c.args.buffer c.loop-place.place c.index-pieces-place.result c.index-actions-place.result c.buffer_at-number.result (shown_flow_mod c.sent_for-sent.result) c.in_ok-encode.field-0
-    c.loop-place-test.true c.requires.lists c.index-pieces-place.is c.index-actions-place.is c.buffer_at-number.ensures c.sent_for-sent.ensures.value in
+    let frame = c.in_ok-encode.ensures.value ∙ made_at m c.args.xid pieces lists c.args.buffer c.loop-place.place c.index-pieces-place.result c.index-actions-place.result c.buffer_at-number.result (shown_flow_mod c.piece_message-sent.result) c.in_ok-encode.field-0
+    c.loop-place-test.true c.requires.lists c.index-pieces-place.is c.index-actions-place.is c.buffer_at-number.ensures c.piece_message-sent.ensures.value in
     rw c.in_ok-push.ensures.items (made_more messages c.loop-place.frames.items c.loop-place.place c.in_ok-encode.field-0 c.loop-place.invariant (omega (arith, c.loop-place-test.true, long)) frame c.in_ok-encode.ensures.kind)
 
 pub returns-clause-value : goal.returns-clause-value

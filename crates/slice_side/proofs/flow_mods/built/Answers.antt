@@ -1,6 +1,6 @@
 use Rattle.std.proofs.Common.{ℕ, List, Vec, map, option_map, refl, sym, ap, ap₂, ◌∙◌}
 use Rattle.of10_flow.specs.FlowMods.{spell_flow_mod}
-use Rattle.flowmod_expand.specs.Messages.{sent_from}
+use Rattle.flowmod_expand.specs.Messages.{piece_messages}
 use Rattle.slice_words.specs.FlowMods.{pieces_on}
 use Rattle.slice_side.specs.Reactions.{ground_at}
 use Rattle.slice_side.specs.Checking.{packet_for, carrier_in}
@@ -11,7 +11,7 @@ use Rattle.slice_side.proofs.flow_mods.built.Goals as goal
 pub returns-in-Err-TooLarge-clause-outcome : goal.returns-in-Err-TooLarge-clause-outcome
 returns-in-Err-TooLarge-clause-outcome c passes has =
     built_large (ground_at c.args.around.now.policy.now.rules c.args.around.now.slot c.args.around.now.ports.now c.args.quota c.args.xid c.args.around.now.state.now) c.args.m.now c.deref-2.result.now c.args.lists.now c.carrier-carrier.result passes has (c.deref-2.ensures.value ∙ c.requires.pieces)
-    (large_told {A = Vec (List ℕ) (Unit {0})} (λ frames. frames.items) c.in-Err-TooLarge.field-0 (map spell_flow_mod (sent_from 0 c.args.m.now c.args.xid c.deref-2.result.now c.args.lists.now c.carrier-carrier.result)) c.in-Err-TooLarge.field-0-is c.in-Err-TooLarge.ensures.exact)
+    (large_told {A = Vec (List ℕ) (Unit {0})} (λ frames. frames.items) c.in-Err-TooLarge.field-0 (map spell_flow_mod (piece_messages 0 c.args.m.now c.args.xid c.deref-2.result.now c.args.lists.now c.carrier-carrier.result)) c.in-Err-TooLarge.field-0-is c.in-Err-TooLarge.ensures.exact)
 
 pub returns-in-Some-clause-outcome : goal.returns-in-Some-clause-outcome
 returns-in-Some-clause-outcome c passes has =
