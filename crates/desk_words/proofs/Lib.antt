@@ -12,3 +12,4 @@ pub mod Reporting
 pub mod Sessions
 pub mod Ends
 pub mod Numbering
+pub mod Closing

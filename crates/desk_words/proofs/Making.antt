@@ -1,108 +1,93 @@
 -- Which events a record makes, and what history they make.
-use Rattle.std.proofs.Common.{◌≡◌, ℕ, zero, suc, ◌<◌, ◌≤◌, ◌==◌, not, Bool, true, false, if◌then◌else◌, List, [], ◌∷◌, ◌++◌, length, map, take, reverse, refl, ap, sym, ◌∙◌, eq-eqb, eqb-true, true≢false, arith}
+use Rattle.std.proofs.Common.{◌≡◌, ℕ, zero, suc, ◌<◌, ◌≤◌, Bool, true, false, if◌then◌else◌, List, [], ◌∷◌, ◌++◌, length, map, take, reverse, refl, ap, sym, ◌∙◌, eq-eqb, arith}
+use Rattle.std.specs.List.{take_while}
+use Rattle.std.proofs.lemmas.List.Sums.{take_while-cons}
 use Rattle.flowspace.specs.Policies.{PolicyView}
-use Rattle.recording.specs.Recordings.{Told, switch_up, switch_bytes, switch_down, slice_up, slice_bytes}
+use Rattle.recording.specs.Recordings.{Told}
 use Rattle.recording.proofs.Refused.{newest_first}
 use Rattle.desk_words.specs.declared.event.Event.{Event}
-use Rattle.desk_words.specs.declared.event.Event.TheVariants.{SwitchUp, SwitchMsg, SwitchDown, SliceUp, SliceMsg, SliceDown}
 use Rattle.desk_words.specs.declared.event.Timed.{Timed}
-use Rattle.desk_words.specs.Openings.{phase_of}
-use Rattle.desk_words.specs.Histories.{is_slice_up}
-use Rattle.desk_words.specs.Verdicts.{is_ended, is_over}
-use Rattle.desk_words.specs.Recorded.{completed, timed_at, happenings, happens, next_of, next_after, happening, history_at}
-use Rattle.desk_words.specs.Laws.{is_there, MakesTheFirst, GetsTheFirst, ComeAtTheirSwitch}
+use Rattle.desk_words.specs.Verdicts.{is_over}
+use Rattle.desk_words.specs.Recorded.{timed_at, happenings, is_there, next_of, next_after, Happened, each_after, timed_of, history_at, happened_in, events_in}
+use Rattle.desk_words.specs.Laws.{MakesTheFirst, GetsTheFirst, ComeAtTheirSwitch}
+use Rattle.desk_words.proofs.Reporting.{each_next}
 
 -- ---- what happens
 
--- each of these events happens after a history exactly where a test of it says so
-abbrev AreBy : PolicyView → (List Timed → Bool) → List Event → Type 0
-AreBy policy test [] = Unit {0}
-AreBy policy test (event ∷ later) = ((h : List Timed) → happens policy h event ≡ test h) × AreBy policy test later
+-- of these events after a history the first, as long as a test of the history says so
+abbrev pub made_where : (List Timed → Bool) → ℕ → List Timed → List Timed → List Happened
+made_where test switch h events = take_while (λ one. test one.history) (each_after switch h events)
 
--- the first of them happen, before each of which the test says so
-record AreFirst (policy : PolicyView) (moment : ℕ) (test : List Timed → Bool) (h : List Timed) (events : List Event) : Type 0 where
+pub made_next : (test : List Timed → Bool) (switch : ℕ) (h : List Timed) (timed : Timed) (later : List Timed) (now : Bool) → test h ≡ now
+    → made_where test switch h (timed ∷ later) ≡ (if now then record { switch = switch; history = h; timed = timed } ∷ made_where test switch (next_of h timed) later else [])
+made_next test switch h timed later now is =
+    let first : Happened = record { switch = switch; history = h; timed = timed } in
+    let others = each_after switch (next_of h timed) later in
+    ap (take_while (λ one. test one.history)) (each_next switch h timed later)
+    ∙ take_while-cons (λ one. test one.history) first others
+    ∙ ap (λ (b : Bool). if b then first ∷ take_while (λ one. test one.history) others else []) is
+
+pub timed_each : (switch : ℕ) (h events : List Timed) → timed_of (each_after switch h events) ≡ events
+timed_each switch h [] = refl
+timed_each switch h (timed ∷ later) = ap timed_of (each_next switch h timed later) ∙ ap (λ (events : List Timed). timed ∷ events) (timed_each switch (next_of h timed) later)
+
+-- so many of them are made: the test says so before each, and not after them where any is left
+record AreFirst (test : List Timed → Bool) (switch moment : ℕ) (h : List Timed) (events : List Event) : Type 0 where
   count : ℕ
   within : count ≤ length events
-  made : happening policy moment h events ≡ map (timed_at moment) (take count events)
+  made : made_where test switch h (map (timed_at moment) events) ≡ each_after switch h (map (timed_at moment) (take count events))
   there : (k : ℕ) → k < count → test (next_after h (map (timed_at moment) (take k events))) ≡ true
   gone : count < length events → test (next_after h (map (timed_at moment) (take count events))) ≡ false
 
-none_happen : (policy : PolicyView) (moment : ℕ) (test : List Timed → Bool) (h : List Timed) (events : List Event) → AreBy policy test events → test h ≡ false
-    → happening policy moment h events ≡ []
-none_happen policy moment test h [] by none = refl
-none_happen policy moment test h (event ∷ later) by none = rw (by.0 h ∙ none) (none_happen policy moment test h later by.1 none)
-
-first_there : (policy : PolicyView) (moment : ℕ) (test : List Timed → Bool) (h : List Timed) (event : Event) (later : List Event) (count : ℕ) → test h ≡ true
+first_there : (moment : ℕ) (test : List Timed → Bool) (h : List Timed) (event : Event) (later : List Event) (count : ℕ) → test h ≡ true
     → ((k : ℕ) → k < count → test (next_after (next_of h (timed_at moment event)) (map (timed_at moment) (take k later))) ≡ true)
     → (k : ℕ) → k < suc count → test (next_after h (map (timed_at moment) (take k (event ∷ later)))) ≡ true
-first_there policy moment test h event later count is others zero lt = is
-first_there policy moment test h event later count is others (suc k) lt = others k (omega arith)
+first_there moment test h event later count is others zero lt = is
+first_there moment test h event later count is others (suc k) lt = others k (omega arith)
 
-one_first : (policy : PolicyView) (moment : ℕ) (test : List Timed → Bool) (h : List Timed) (event : Event) (later : List Event) → test h ≡ true → happens policy h event ≡ true
-    → AreFirst policy moment test (next_of h (timed_at moment event)) later → AreFirst policy moment test h (event ∷ later)
-one_first policy moment test h event later is happens_ first = record {
-  count = suc first.count;
-  within = (let small = first.within in omega arith);
-  made = rw happens_ (ap (λ (events : List Timed). timed_at moment event ∷ events) first.made);
-  there = first_there policy moment test h event later first.count is first.there;
-  gone = λ lt. first.gone (omega arith);
-}
-
-first_by : (policy : PolicyView) (moment : ℕ) (test : List Timed → Bool) (h : List Timed) (event : Event) (later : List Event) → AreBy policy test (event ∷ later) → (now : Bool) → test h ≡ now
-    → AreFirst policy moment test (next_of h (timed_at moment event)) later → AreFirst policy moment test h (event ∷ later)
-first_by policy moment test h event later by true is first = one_first policy moment test h event later is (by.0 h ∙ is) first
-first_by policy moment test h event later by false is first = record {
+first_by : (test : List Timed → Bool) (switch moment : ℕ) (h : List Timed) (event : Event) (later : List Event) (now : Bool) → test h ≡ now
+    → AreFirst test switch moment (next_of h (timed_at moment event)) later → AreFirst test switch moment h (event ∷ later)
+first_by test switch moment h event later true is first =
+    let timed = timed_at moment event in
+    let one : Happened = record { switch = switch; history = h; timed = timed } in
+    record {
+      count = suc first.count;
+      within = (let small = first.within in omega arith);
+      made =
+          made_next test switch h timed (map (timed_at moment) later) true is
+          ∙ ap (λ (others : List Happened). one ∷ others) first.made
+          ∙ sym (each_next switch h timed (map (timed_at moment) (take first.count later)));
+      there = first_there moment test h event later first.count is first.there;
+      gone = λ lt. first.gone (omega arith);
+    }
+first_by test switch moment h event later false is first = record {
   count = 0;
   within = omega arith;
-  made = none_happen policy moment test h (event ∷ later) by is;
+  made = made_next test switch h (timed_at moment event) (map (timed_at moment) later) false is;
   there = λ k lt. absurd (omega arith);
   gone = λ lt. is;
 }
 
-first_of : (policy : PolicyView) (moment : ℕ) (test : List Timed → Bool) (h : List Timed) (events : List Event) → AreBy policy test events → AreFirst policy moment test h events
-first_of policy moment test h [] by = record { count = 0; within = omega arith; made = refl; there = λ k lt. absurd (omega arith); gone = λ lt. absurd (omega arith) }
-first_of policy moment test h (event ∷ later) by =
-    first_by policy moment test h event later by (test h) refl (first_of policy moment test (next_of h (timed_at moment event)) later by.1)
+first_of : (test : List Timed → Bool) (switch moment : ℕ) (h : List Timed) (events : List Event) → AreFirst test switch moment h events
+first_of test switch moment h [] = record { count = 0; within = omega arith; made = refl; there = λ k lt. absurd (omega arith); gone = λ lt. absurd (omega arith) }
+first_of test switch moment h (event ∷ later) = first_by test switch moment h event later (test h) refl (first_of test switch moment (next_of h (timed_at moment event)) later)
 
--- ---- of each kind of record
+first_in : (policy : PolicyView) (r : Told) (before : List Told) → AreFirst (is_there policy r) r.switch r.moment (history_at policy r before) (happenings r before)
+first_in policy r before = first_of (is_there policy r) r.switch r.moment (history_at policy r before) (happenings r before)
 
-all_of_switch : (policy : PolicyView) (frames : List (List ℕ)) → AreBy policy (λ h. not (is_ended (phase_of h))) (map (λ frame. SwitchMsg frame) frames)
-all_of_switch policy [] = tt
-all_of_switch policy (frame ∷ others) = (λ h. refl, all_of_switch policy others)
-
-all_of_slice : (policy : PolicyView) (slot : ℕ) (frames : List (List ℕ)) → AreBy policy (λ h. is_slice_up policy slot h) (map (λ frame. SliceMsg slot frame) frames)
-all_of_slice policy slot [] = tt
-all_of_slice policy slot (frame ∷ others) = (λ h. refl, all_of_slice policy slot others)
-
--- what a record can make happen, by its kind: it is of at most one
-by_kind : (policy : PolicyView) (r : Told) (before : List Told) (comes bytes goes slice_comes slice_sends : Bool)
-    → (comes ≡ true → bytes ≡ false) → (comes ≡ true → slice_sends ≡ false) → (goes ≡ true → slice_sends ≡ false) → (slice_comes ≡ true → slice_sends ≡ false)
-    → AreBy policy (λ h. if bytes then not (is_ended (phase_of h)) else if slice_sends then is_slice_up policy r.slot h else true)
-    (if comes then SwitchUp ∷ [] else if bytes then map (λ frame. SwitchMsg frame) (completed r before) else if goes then SwitchDown ∷ []
-    else if slice_comes then SliceUp r.slot ∷ [] else if slice_sends then map (λ frame. SliceMsg r.slot frame) (completed r before) else SliceDown r.slot ∷ [])
-by_kind policy r before true true goes slice_comes slice_sends a b c d = absurd (true≢false (a refl))
-by_kind policy r before true false goes slice_comes true a b c d = absurd (true≢false (b refl))
-by_kind policy r before true false goes slice_comes false a b c d = (λ h. refl, tt)
-by_kind policy r before false true goes slice_comes slice_sends a b c d = all_of_switch policy (completed r before)
-by_kind policy r before false false true slice_comes true a b c d = absurd (true≢false (c refl))
-by_kind policy r before false false true slice_comes false a b c d = (λ h. refl, tt)
-by_kind policy r before false false false true true a b c d = absurd (true≢false (d refl))
-by_kind policy r before false false false true false a b c d = (λ h. refl, tt)
-by_kind policy r before false false false false true a b c d = all_of_slice policy r.slot (completed r before)
-by_kind policy r before false false false false false a b c d = (λ h. refl, tt)
-
-apart : (kind one other : ℕ) → (one == other) ≡ false → (kind == one) ≡ true → (kind == other) ≡ false
-apart kind one other differ is = ap (λ (k : ℕ). k == other) (eqb-true kind one is) ∙ differ
-
-all_by : (policy : PolicyView) (r : Told) (before : List Told) → AreBy policy (is_there policy r) (happenings r before)
-all_by policy r before =
-    by_kind policy r before (r.kind == switch_up) (r.kind == switch_bytes) (r.kind == switch_down) (r.kind == slice_up) (r.kind == slice_bytes)
-    (apart r.kind switch_up switch_bytes refl) (apart r.kind switch_up slice_bytes refl) (apart r.kind switch_down slice_bytes refl) (apart r.kind slice_up slice_bytes refl)
+made_as : (policy : PolicyView) (r : Told) (before : List Told) → events_in policy r before ≡ map (timed_at r.moment) (take (first_in policy r before).count (happenings r before))
+made_as policy r before =
+    let first = first_in policy r before in
+    ap timed_of first.made ∙ timed_each r.switch (history_at policy r before) (map (timed_at r.moment) (take first.count (happenings r before)))
 
 pub makes_the_first : (policy : PolicyView) (r : Told) (before : List Told) → MakesTheFirst policy r before
 makes_the_first policy r before =
-    let first = first_of policy r.moment (is_there policy r) (history_at policy r before) (happenings r before) (all_by policy r before) in
-    record { count = first.count; within = first.within; events = first.made; there = first.there; gone = first.gone }
+    let first = first_in policy r before in
+    record { count = first.count; within = first.within; events = made_as policy r before; there = first.there; gone = first.gone }
+
+-- a record's events come one after another
+pub happened_each : (policy : PolicyView) (before : List Told) (r : Told) → happened_in policy before r ≡ each_after r.switch (history_at policy r before) (events_in policy r before)
+happened_each policy before r = (first_in policy r before).made ∙ ap (each_after r.switch (history_at policy r before)) (sym (made_as policy r before))
 
 -- ---- what history they make
 

@@ -1,19 +1,18 @@
--- A report is the lines of all events of its recording, one after another.
-use Rattle.std.proofs.Common.{◌≡◌, ℕ, suc, Bool, true, false, ◌+◌, if◌then◌else◌, List, [], ◌∷◌, ◌++◌, length, map, take, reverse, refl, ap, ap₂, sym, ◌∙◌, append_assoc, append-nil, length-append, slice_get, Option, Some, None, arith}
+-- All that happened in a recording, record by record; and the lines of an event for the slices.
+use Rattle.std.proofs.Common.{◌≡◌, ℕ, suc, Bool, true, false, ◌+◌, if◌then◌else◌, List, [], ◌∷◌, ◌++◌, length, map, take, reverse, refl, ap, ap₂, sym, ◌∙◌, append_assoc, append-nil, slice_get, Option, Some, None, arith}
 use Rattle.std.specs.List.{flat_map, enumerate_from, range_with_len}
 use Rattle.std.proofs.lemmas.List.{length-map}
-use Rattle.std.proofs.lemmas.List.Concat.{flat_map-append}
 use Rattle.std.proofs.lemmas.List.FromFn.{length-enumerate_from}
 use Rattle.std.proofs.Math.Seq.{take-append_seam}
 use Rattle.flowspace.specs.declared.slices.Slice.{Slice}
 use Rattle.flowspace.specs.Policies.{PolicyView}
 use Rattle.recording.specs.Recordings.{Told}
 use Rattle.desk_words.specs.declared.event.Timed.{Timed}
-use Rattle.desk_words.specs.Sent.{sent_by, lane_by}
+use Rattle.desk_words.specs.Sent.{lane_by}
 use Rattle.desk_words.specs.Verdicts.{is_over}
-use Rattle.desk_words.specs.Recorded.{next_of, next_after, history_at, events_in}
-use Rattle.desk_words.specs.Reports.{Place, lane_lines, slice_lines, lines_by_slot, name_at, close_lines, down_lines, event_lines, lines_of, last_line, report_from}
-use Rattle.desk_words.specs.Laws.{Happened, each_after, happened_in, all_happened, ComeBeforeLater, lines_at, HasEachEventOnce, ShowsEachSlice}
+use Rattle.desk_words.specs.Recorded.{next_of, next_after, Happened, each_after, happened_in, all_happened}
+use Rattle.desk_words.specs.Reports.{sent_to_slice, Place, lane_lines, slice_lines, name_at, close_lines, down_lines}
+use Rattle.desk_words.specs.Laws.{ComeBeforeLater, ShowsEachSlice}
 use Rattle.recording.proofs.Refused.{newest_first}
 
 -- ---- numbered lists
@@ -33,7 +32,7 @@ map_later : {X Y : Type 0} (f : ℕ × X → Y) (n : ℕ) (xs : List X) → map 
 map_later f n [] = refl
 map_later f n (x ∷ xs) = ap (λ (k : ℕ). f (suc n, x) ∷ map f (enumerate_from k xs)) (one_more n) ∙ ap (λ rest. f (suc n, x) ∷ rest) (map_later f (n + 1) xs)
 
-enumerate_both : {X : Type 0} (n : ℕ) (xs ys : List X) → enumerate_from n (xs ++ ys) ≡ enumerate_from n xs ++ enumerate_from (n + length xs) ys
+pub enumerate_both : {X : Type 0} (n : ℕ) (xs ys : List X) → enumerate_from n (xs ++ ys) ≡ enumerate_from n xs ++ enumerate_from (n + length xs) ys
 enumerate_both n [] ys = ap (λ (k : ℕ). enumerate_from k ys) (let none : n ≡ n + 0 = omega arith in none)
 enumerate_both n (x ∷ xs) ys =
     ap (λ rest. (n, x) ∷ rest) (enumerate_both (n + 1) xs ys)
@@ -47,15 +46,8 @@ each_next switch h timed later =
     ap (λ (rest : List Happened). record { switch = switch; history = h; timed = timed } ∷ rest)
     (map_later (λ one. record { switch = switch; history = next_after h (take one.0 (timed ∷ later)); timed = one.1 }) 0 later)
 
--- events at their numbers from one on
-abbrev shown : PolicyView → ℕ → List Happened → List ℕ
-shown policy number events = flat_map (lines_at policy) (enumerate_from number events)
-
-lines_shown : (policy : PolicyView) (number switch : ℕ) (h own : List Timed) → lines_of policy (record { number = number; switch = switch }) h own ≡ shown policy number (each_after switch h own)
-lines_shown policy number switch h [] = refl
-lines_shown policy number switch h (timed ∷ later) =
-    ap (λ rest. event_lines policy (record { number = number; switch = switch }) h timed ++ rest) (lines_shown policy (number + 1) switch (next_of h timed) later)
-    ∙ ap (shown policy number) (sym (each_next switch h timed later))
+pub count_of_each : (switch : ℕ) (h own : List Timed) → length (each_after switch h own) ≡ length own
+count_of_each switch h own = length-map (enumerate_from 0 own) _ ∙ length-enumerate_from 0 own
 
 -- ---- the events of all records
 
@@ -82,35 +74,11 @@ happened_both policy before (r ∷ rest) later =
     (sym (next_happened policy before r rest))
     (ap (λ (front : List Told). happened_after policy front later) (sym (newest_first r rest before)))
 
-shown_both : (policy : PolicyView) (number : ℕ) (first second : List Happened) → shown policy number (first ++ second) ≡ shown policy number first ++ shown policy (number + length first) second
-shown_both policy number first second =
-    ap (flat_map (lines_at policy)) (enumerate_both number first second)
-    ∙ flat_map-append (lines_at policy) (enumerate_from number first) (enumerate_from (number + length first) second)
-
-count_of_each : (switch : ℕ) (h own : List Timed) → length (each_after switch h own) ≡ length own
-count_of_each switch h own = length-map (enumerate_from 0 own) _ ∙ length-enumerate_from 0 own
-
-report_shown : (policy : PolicyView) (number : ℕ) (before later : List Told)
-    → report_from policy number before later ≡ shown policy number (happened_after policy before later) ++ last_line (number + length (happened_after policy before later))
-unfolding report_from
-report_shown policy number before [] = ap last_line (let none : number ≡ number + 0 = omega arith in none)
-report_shown policy number before (r ∷ later) =
-    let h = history_at policy r before in
-    let own = events_in policy r before in
-    let rest = happened_after policy (r ∷ before) later in
-    let count = count_of_each r.switch h own in
-    let both = ap (λ (n : ℕ). shown policy number (each_after r.switch h own) ++ shown policy (number + n) rest) (sym count) ∙ sym (shown_both policy number (each_after r.switch h own) rest) in
-    let last : number + length own + length rest ≡ number + length (each_after r.switch h own ++ rest) =
-    (let all = length-append (each_after r.switch h own) rest in omega (arith, count, all)) in
-    ap₂ (λ (a b : List ℕ). a ++ b) (lines_shown policy number r.switch h own) (report_shown policy (number + length own) (r ∷ before) later)
-    ∙ sym (append_assoc (shown policy number (each_after r.switch h own)) (shown policy (number + length own) rest) (last_line (number + length own + length rest)))
-    ∙ ap₂ (λ (a b : List ℕ). a ++ b) both (ap last_line last)
-    ∙ ap (λ (events : List Happened). shown policy number events ++ last_line (number + length events)) (sym (next_happened policy before r later))
-
 pub from_zero : (n : ℕ) → 0 + n ≡ n
 from_zero n = omega arith
 
 pub from_none : (policy : PolicyView) (records : List Told) → happened_after policy [] records ≡ all_happened policy records
+unfolding all_happened
 from_none policy records = flat_map_same _ _ (λ one. ap (λ (front : List Told). happened_in policy front one.1) (append-nil (reverse (take one.0 records)))) (enumerate_from 0 records)
 
 pub come_before_later : (policy : PolicyView) (earlier later : List Told) → ComeBeforeLater policy earlier later
@@ -120,12 +88,6 @@ come_before_later policy earlier later =
     let both : all_happened policy (earlier ++ later) ≡ events ++ behind =
     sym (from_none policy (earlier ++ later)) ∙ happened_both policy [] earlier later ∙ ap (λ first. first ++ behind) (from_none policy earlier) in
     ap (take (length events)) both ∙ take-append_seam events behind
-
-pub each_event_once : (policy : PolicyView) (records : List Told) → HasEachEventOnce policy records
-each_event_once policy records =
-    report_shown policy 0 [] records
-    ∙ ap (λ (n : ℕ). shown policy 0 (happened_after policy [] records) ++ last_line n) (from_zero (length (happened_after policy [] records)))
-    ∙ ap (λ (events : List Happened). shown policy 0 events ++ last_line (length events)) (from_none policy records)
 
 -- ---- the lines for the slices
 
@@ -138,26 +100,19 @@ one_further n k = omega arith
 -- the slices from a slot on, where the slices of the policy have these there
 slices_shown : (policy : PolicyView) (place : Place) (messages : ℕ → List (List ℕ)) (slot : ℕ) (slices : List Slice)
     → ((k : ℕ) → slice_get policy.slices (slot + k) ≡ slice_get slices k)
-    → lines_by_slot place messages slot slices ≡ flat_map (λ s. slice_lines place (name_at policy.slices s) (messages s)) (range_with_len slot (length slices))
+    → flat_map (λ one. slice_lines place one.1.name (messages one.0)) (enumerate_from slot slices) ≡ flat_map (λ s. slice_lines place (name_at policy.slices s) (messages s)) (range_with_len slot (length slices))
 slices_shown policy place messages slot [] at = refl
 slices_shown policy place messages slot (slice ∷ others) at =
     ap₂ (λ (text rest : List ℕ). slice_lines place text (messages slot) ++ rest)
     (sym (ap (λ (found : Option Slice). elim found [ None ↦ [] | Some one ↦ one.name ]) (ap (slice_get policy.slices) (at_once slot) ∙ at 0)))
     (slices_shown policy place messages (slot + 1) others (λ k. ap (slice_get policy.slices) (one_further slot k) ∙ at (suc k)))
 
-no_lines : (policy : PolicyView) (place : Place) (slots : List ℕ) → flat_map (λ s. slice_lines place (name_at policy.slices s) []) slots ≡ []
-no_lines policy place [] = refl
-no_lines policy place (slot ∷ others) = no_lines policy place others
-
-either_shown : (policy : PolicyView) (place : Place) (over : Bool) (lane slices : List ℕ) (sends : ℕ → List (List ℕ))
-    → slices ≡ flat_map (λ s. slice_lines place (name_at policy.slices s) (sends s)) (range_with_len 0 (length policy.slices))
-    → (if over then [] else lane ++ slices)
-    ≡ (if over then [] else lane) ++ flat_map (λ s. slice_lines place (name_at policy.slices s) (if over then [] else sends s)) (range_with_len 0 (length policy.slices))
-either_shown policy place true lane slices sends shows = sym (no_lines policy place (range_with_len 0 (length policy.slices)))
-either_shown policy place false lane slices sends shows = ap (λ (text : List ℕ). lane ++ text) shows
+lane_unless : (place : Place) (over : Bool) (messages : List (List ℕ)) → lane_lines place (if over then [] else messages) ≡ (if over then [] else lane_lines place messages)
+lane_unless place true messages = refl
+lane_unless place false messages = refl
 
 pub each_slice : (policy : PolicyView) (place : Place) (h : List Timed) (timed : Timed) → ShowsEachSlice policy place h timed
 each_slice policy place h timed =
-    ap (λ (front : List ℕ). front ++ close_lines policy place (next_of h timed) timed.event ++ (if is_over h then [] else down_lines place h timed))
-    (either_shown policy place (is_over h) (lane_lines place (lane_by policy h timed)) (lines_by_slot place (λ s. sent_by policy s h timed) 0 policy.slices) (λ s. sent_by policy s h timed)
-    (slices_shown policy place (λ s. sent_by policy s h timed) 0 policy.slices (λ k. ap (slice_get policy.slices) (from_zero k))))
+    ap₂ (λ (lane slices : List ℕ). lane ++ slices ++ close_lines policy place (next_of h timed) timed.event ++ (if is_over h then [] else down_lines place h timed))
+    (lane_unless place (is_over h) (lane_by policy h timed))
+    (slices_shown policy place (λ s. sent_to_slice policy s h timed) 0 policy.slices (λ k. ap (slice_get policy.slices) (from_zero k)))

@@ -18,9 +18,9 @@ use Rattle.flowspace.specs.Owners.{has_port}
 use Rattle.flowspace.specs.Policies.{PolicyView}
 use Rattle.port_view.specs.declared.answer.Kept.{Kept as Answer}
 use Rattle.port_view.specs.declared.answer.Kept.TheVariants.{Kept, Ignored, TooManyPorts}
-use Rattle.port_view.specs.KnownPorts.{is_kept, IsAscending, first_known, changed, changed_plainly, kept_of, says_kept, ports_after as known_by}
+use Rattle.port_view.specs.KnownPorts.{is_kept, IsAscending, first_known, changed, changed_plainly, kept_of, says_kept, known_of as known_by}
 use Rattle.port_view.specs.SlicePorts.{ports_of_slice}
-use Rattle.port_view.proofs.Knowing.{changed-not_kept, IsAscending-changed, IsAscending-none, IsAscending-ports_after, few-changed, few-ports_after}
+use Rattle.port_view.proofs.Knowing.{changed-not_kept, IsAscending-changed, IsAscending-none, IsAscending-known_of, few-changed, few-known_of}
 use Rattle.port_view.proofs.Following.{own-changed, own-changed_other}
 use Rattle.of10_message.specs.Heads.{is_kind, version_of, kind_of, xid_of}
 use Rattle.slice_words.specs.Items.{Settings, Item, Opened as Told, Up, Down, Msg, Lost, Handed, Removed, Status, Fault, Barrier, Queues, Entry, Last, End, is_up, features_in, known_ports, own_rules, is_own_port}
@@ -261,7 +261,7 @@ if_any P (Some x) all = all x
 
 first_ascending : (features : Features) → IsAscending (first_known features.ports)
 unfolding known_by
-first_ascending features = IsAscending-ports_after features []
+first_ascending features = IsAscending-known_of features []
 
 pub ascending : (h : List Timed) → IsAscending (ports_after h)
 ascending h = known_holds IsAscending (record {
@@ -332,7 +332,7 @@ few_told known (Some status) few = few-changed status known few
 
 first_few : (features : Features) → length features.ports ≤ 1364 → length (first_known features.ports) ≤ 1364
 unfolding known_by
-first_few features few = few-ports_after features [] few
+first_few features few = few-known_of features [] few
 
 abbrev HasFew : Option Features → Type 0
 HasFew told = IfSome told (λ features. length features.ports ≤ 1364)

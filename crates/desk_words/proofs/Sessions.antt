@@ -1,5 +1,5 @@
 -- What a report tells a slice since a switch came up last.
-use Rattle.std.proofs.Common.{◌≡◌, ℕ, ◌==◌, ◌&&◌, ◌||◌, not, Bool, true, false, if◌then◌else◌, List, [], ◌∷◌, ◌++◌, map, reverse, refl, ap, ap₂, sym, subst, ◌∙◌, append_assoc, append-nil, eq-eqb, eqb-true}
+use Rattle.std.proofs.Common.{◌≡◌, ℕ, zero, suc, ◌==◌, ◌&&◌, ◌||◌, not, Bool, true, false, if◌then◌else◌, List, [], ◌∷◌, ◌++◌, map, take, reverse, refl, ap, ap₂, sym, subst, ◌∙◌, append_assoc, append-nil, eq-eqb, eqb-true}
 use Rattle.std.proofs.lemmas.Bool.{or_parts}
 use Rattle.std.specs.List.{list_any}
 use Rattle.std.proofs.lemmas.List.Concat.{flat_map-append}
@@ -11,19 +11,22 @@ use Rattle.of10_model.proofs.Results.{either}
 use Rattle.desk_words.specs.declared.event.Event.{Event}
 use Rattle.desk_words.specs.declared.event.Event.TheVariants.{SwitchUp, SwitchMsg, SliceMsg}
 use Rattle.desk_words.specs.declared.event.Timed.{Timed}
+use Rattle.desk_words.specs.Openings.{phase_of}
+use Rattle.desk_words.specs.Histories.{is_slice_up}
 use Rattle.desk_words.specs.Sent.{sent}
-use Rattle.desk_words.specs.Verdicts.{is_over, is_switch_up}
-use Rattle.desk_words.specs.Recorded.{completed, timed_at, happenings, happens, next_of, next_after, happening, history_of, history_at, events_in}
-use Rattle.desk_words.specs.Laws.{Happened, each_after, happened_in, shown_to, comes_up, since_up, told_over, IsToldAsAlone}
+use Rattle.desk_words.specs.Verdicts.{is_ended, is_over, is_switch_up}
+use Rattle.desk_words.specs.Recorded.{completed, timed_at, happenings, is_there, next_of, next_after, Happened, each_after, timed_of, history_of, history_at, happened_in, events_in}
+use Rattle.desk_words.specs.Reports.{sent_to_slice, told_over}
+use Rattle.desk_words.specs.Laws.{comes_up, since_up, IsToldAsAlone}
 use Rattle.desk_words.proofs.Alone.{sent_alone}
 use Rattle.recording.proofs.Refused.{newest_first}
-use Rattle.desk_words.proofs.Making.{at_their_switch}
+use Rattle.desk_words.proofs.Making.{made_where, made_next, makes_the_first, happened_each, at_their_switch}
 use Rattle.desk_words.proofs.Reporting.{each_next, happened_after, next_happened, from_none}
 
 -- ---- what is told and what is sent
 
 sent_next : (policy : PolicyView) (slot : ℕ) (h : List Timed) (timed : Timed) (over : Bool) → is_over h ≡ over
-    → sent policy slot (next_of h timed) ≡ sent policy slot h ++ shown_to policy slot h timed
+    → sent policy slot (next_of h timed) ≡ sent policy slot h ++ sent_to_slice policy slot h timed
 sent_next policy slot h timed true is = rw is (sym (append-nil (sent policy slot h)))
 sent_next policy slot h timed false is = rw is refl
 
@@ -34,7 +37,7 @@ sent_after policy slot switch h (timed ∷ later) =
     let rest = told_over policy slot (each_after switch (next_of h timed) later) in
     sent_after policy slot switch (next_of h timed) later
     ∙ ap (λ (front : List (List ℕ)). front ++ rest) (sent_next policy slot h timed (is_over h) refl)
-    ∙ append_assoc (sent policy slot h) (shown_to policy slot h timed) rest
+    ∙ append_assoc (sent policy slot h) (sent_to_slice policy slot h timed) rest
     ∙ ap (λ (events : List Happened). sent policy slot h ++ told_over policy slot events) (sym (each_next switch h timed later))
 
 -- ---- events since the last up
@@ -79,15 +82,17 @@ of_itself switch h (timed ∷ later) none =
 
 -- ---- ups of a record
 
-none_happens : (policy : PolicyView) (moment : ℕ) (h : List Timed) (events : List Event) → list_any is_switch_up events ≡ false → list_any (λ timed. is_switch_up timed.event) (happening policy moment h events) ≡ false
-none_happens policy moment h [] none = refl
-none_happens policy moment h (event ∷ later) none =
+none_first : (moment count : ℕ) (events : List Event) → list_any is_switch_up events ≡ false → list_any (λ timed. is_switch_up timed.event) (map (timed_at moment) (take count events)) ≡ false
+none_first moment zero events none = refl
+none_first moment (suc count) [] none = refl
+none_first moment (suc count) (event ∷ later) none =
     let parts = or_parts (is_switch_up event) (list_any is_switch_up later) none in
-    either (λ (made : List Timed). list_any (λ timed. is_switch_up timed.event) made ≡ false) (happens policy h event)
-    (timed_at moment event ∷ happening policy moment (next_of h (timed_at moment event)) later) (happening policy moment h later)
-    (ap (λ (b : Bool). b || list_any (λ timed. is_switch_up timed.event) (happening policy moment (next_of h (timed_at moment event)) later)) parts.0
-    ∙ none_happens policy moment (next_of h (timed_at moment event)) later parts.1)
-    (none_happens policy moment h later parts.1)
+    ap (λ (b : Bool). b || list_any (λ timed. is_switch_up timed.event) (map (timed_at moment) (take count later))) parts.0 ∙ none_first moment count later parts.1
+
+none_happens : (policy : PolicyView) (r : Told) (before : List Told) → list_any is_switch_up (happenings r before) ≡ false → list_any (λ timed. is_switch_up timed.event) (events_in policy r before) ≡ false
+none_happens policy r before none =
+    let first = makes_the_first policy r before in
+    ap (list_any (λ timed. is_switch_up timed.event)) first.events ∙ none_first r.moment first.count (happenings r before) none
 
 none_of_switch : (frames : List (List ℕ)) → list_any is_switch_up (map (λ frame. SwitchMsg frame) frames) ≡ false
 none_of_switch [] = refl
@@ -118,20 +123,26 @@ AreTold policy slot switch events before = told_over policy slot (since_up switc
 told_with_others : (policy : PolicyView) (slot switch : ℕ) (events : List Happened) (before : List Told) (r : Told) → (r.switch == switch) ≡ false
     → AreTold policy slot switch events before → AreTold policy slot switch (events ++ happened_in policy before r) (r ∷ before)
 told_with_others policy slot switch events before r differs told =
-    let none = of_others switch r.switch (history_at policy r before) (events_in policy r before) differs in
+    let none = subst (λ (made : List Happened). AreSince switch made []) (sym (happened_each policy before r)) (of_others switch r.switch (history_at policy r before) (events_in policy r before) differs) in
     ap (told_over policy slot) (since_both switch events (happened_in policy before r) none.0 ∙ ap (λ (rest : List Happened). since_up switch events ++ rest) none.1 ∙ append-nil (since_up switch events))
     ∙ told ∙ ap (sent policy slot) (sym ((at_their_switch policy r before).others switch differs))
+
+there_at_up : (policy : PolicyView) (r : Told) (h : List Timed) → (r.kind == switch_up) ≡ true → is_there policy r h ≡ true
+there_at_up policy r h comes = ap (λ (kind : ℕ). if kind == switch_bytes then not (is_ended (phase_of h)) else if kind == slice_bytes then is_slice_up policy r.slot h else true) (eqb-true r.kind switch_up comes)
 
 told_from_up : (policy : PolicyView) (slot : ℕ) (events : List Happened) (before : List Told) (r : Told) → (r.kind == switch_up) ≡ true
     → AreTold policy slot r.switch (events ++ happened_in policy before r) (r ∷ before)
 told_from_up policy slot events before r comes =
     let h = history_at policy r before in
     let own = events_in policy r before in
-    let own_is : own ≡ timed_at r.moment SwitchUp ∷ [] = ap (happening policy r.moment h) (one_of_kind r before comes) in
+    let own_is : own ≡ timed_at r.moment SwitchUp ∷ [] =
+    ap (λ (events : List Event). timed_of (made_where (is_there policy r) r.switch h (map (timed_at r.moment) events))) (one_of_kind r before comes)
+    ∙ ap timed_of (made_next (is_there policy r) r.switch h (timed_at r.moment SwitchUp) [] true (there_at_up policy r h comes)) in
     let fresh : h ≡ [] = ap (λ (b : Bool). if b then [] else history_of policy r.switch before) comes in
     let last = subst (λ (made : List Timed). since_up r.switch (events ++ each_after r.switch h made) ≡ each_after r.switch h made) (sym own_is)
     (since_last r.switch events (record { switch = r.switch; history = h; timed = timed_at r.moment SwitchUp }) (eq-eqb r.switch r.switch refl) refl) in
-    ap (told_over policy slot) last
+    ap (λ (made : List Happened). told_over policy slot (since_up r.switch (events ++ made))) (happened_each policy before r)
+    ∙ ap (told_over policy slot) last
     ∙ ap (λ (front : List Timed). sent policy slot front ++ told_over policy slot (each_after r.switch h own)) (sym fresh)
     ∙ sym (sent_after policy slot r.switch h own) ∙ ap (sent policy slot) (sym (at_their_switch policy r before).own)
 
@@ -141,10 +152,11 @@ told_further policy slot events before r other told =
     let h = history_at policy r before in
     let own = events_in policy r before in
     let text = told_over policy slot (each_after r.switch h own) in
-    let all = of_itself r.switch h own (none_happens policy r.moment h (happenings r before) (none_of_kind r before other)) in
+    let all = of_itself r.switch h own (none_happens policy r before (none_of_kind r before other)) in
     let same : history_of policy r.switch before ≡ h = ap (λ (b : Bool). if b then [] else history_of policy r.switch before) (sym other) in
-    ap (told_over policy slot) (since_both r.switch events (each_after r.switch h own) all.0 ∙ ap (λ (rest : List Happened). since_up r.switch events ++ rest) all.1)
-    ∙ flat_map-append (λ one. shown_to policy slot one.history one.timed) (since_up r.switch events) (each_after r.switch h own)
+    ap (λ (made : List Happened). told_over policy slot (since_up r.switch (events ++ made))) (happened_each policy before r)
+    ∙ ap (told_over policy slot) (since_both r.switch events (each_after r.switch h own) all.0 ∙ ap (λ (rest : List Happened). since_up r.switch events ++ rest) all.1)
+    ∙ flat_map-append (λ one. sent_to_slice policy slot one.history one.timed) (since_up r.switch events) (each_after r.switch h own)
     ∙ ap (λ (front : List (List ℕ)). front ++ text) (told ∙ ap (sent policy slot) same)
     ∙ sym (sent_after policy slot r.switch h own) ∙ ap (sent policy slot) (sym (at_their_switch policy r before).own)
 

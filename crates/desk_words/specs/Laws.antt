@@ -1,15 +1,15 @@
 -- Statements about histories and operations. `src/laws.rt` has a function for each, which is proved.
 use Rattle.std.specs.Prelude.{ℕ, ◌≡◌, ◌+◌, ◌==◌, ◌&&◌, ◌||◌, not, Bool, true, false, if◌then◌else◌, List, [], ◌∷◌, ◌++◌, filter, filter_map, length, map, take, reverse, is_some, IfSome, ◌<◌, ◌≤◌, Option, Some, None, Result}
 use Rattle.std.specs.declared.alloc.AllocError.{AllocError}
-use Rattle.std.specs.List.{list_any, take_while, flat_map, enumerate_from, range_with_len}
+use Rattle.std.specs.List.{list_any, take_while, flat_map, range_with_len}
 use Rattle.std.specs.Option.{option_or}
 use Rattle.of10_ctl.specs.Frames.{is_bad}
 use Rattle.of10_port.specs.declared.features.Features.{Features}
 use Rattle.of10_port.specs.declared.status.PortStatus.{PortStatus}
 use Rattle.of10_ctl.specs.Streams.{frames_of}
 use Rattle.flowspace.specs.Policies.{PolicyView}
-use Rattle.port_view.specs.KnownPorts.{IsAscending, ports_after as known_by}
-use Rattle.recording.specs.Recordings.{Told, switch_bytes, slice_bytes}
+use Rattle.port_view.specs.KnownPorts.{IsAscending, known_of as known_by}
+use Rattle.recording.specs.Recordings.{Told}
 use Rattle.outbox.specs.Queues.{Queue, size}
 use Rattle.slice_words.specs.Messages.{is_dismissing}
 use Rattle.slice_words.specs.Items.{features_in, known_ports}
@@ -24,10 +24,10 @@ use Rattle.desk_words.specs.declared.answer.Taken.TheVariants.{Message}
 use Rattle.desk_words.specs.Openings.{features_told, status_told, phase_of, opening_of, ports_after, switch_of}
 use Rattle.desk_words.specs.Histories.{is_slot, settings_at, own_ports, own_features, side_start, side_of, view_of, is_open, is_slice_up}
 use Rattle.desk_words.specs.Sent.{sent_by, sent, lane_by}
-use Rattle.desk_words.specs.Verdicts.{is_fresh, is_ended, is_over, is_switch_up}
+use Rattle.desk_words.specs.Verdicts.{is_fresh, is_ended, is_over, is_switch_up, closes}
 use Rattle.desk_words.specs.Operations.{Operation, Step, Take, takes_in, events_of, empties_slice, ends, slice_limit, lane_limit, is_slice, is_switch, queue_of, lane_of}
-use Rattle.desk_words.specs.Recorded.{is_same_stream, begins_stream, stream_before, timed_at, happenings, next_of, next_after, history_of, history_at, events_in, completed}
-use Rattle.desk_words.specs.Reports.{Place, lane_lines, slice_lines, name_at, close_lines, down_lines, event_lines, last_line, report}
+use Rattle.desk_words.specs.Recorded.{is_same_stream, begins_stream, stream_before, timed_at, happenings, is_there, next_of, next_after, history_of, history_at, events_in, completed, Happened, all_happened}
+use Rattle.desk_words.specs.Reports.{sent_to_slice, told_over, Place, lane_lines, slice_lines, name_at, speaker, close_lines, down_lines, event_lines}
 
 -- ---- the switch's connection
 
@@ -261,10 +261,6 @@ pub record AreKnownAsTold (h : List Timed) : Type 0 where
 
 -- ---- the events of a recording
 
--- the connection that a record brings bytes of is there after a history: the switch's hasn't ended, or the slice is up. Other records need none
-abbrev pub is_there : PolicyView → Told → List Timed → Bool
-is_there policy r h = if r.kind == switch_bytes then not (is_ended (phase_of h)) else if r.kind == slice_bytes then is_slice_up policy r.slot h else true
-
 -- the history after the first of what a record can make happen
 abbrev pub after_first : PolicyView → Told → List Told → ℕ → List Timed
 after_first policy r before k = next_after (history_at policy r before) (map (timed_at r.moment) (take k (happenings r before)))
@@ -292,50 +288,23 @@ pub record ComeAtTheirSwitch (policy : PolicyView) (r : Told) (before : List Tol
 
 -- ---- the report of a recording
 
--- an event of a recording: its switch, the history of that switch before it, and the event with its moment
-pub record Happened : Type 0 where
-  pub switch : ℕ
-  pub history : List Timed
-  pub timed : Timed
-
--- events that come one after another at a switch, each after the history that those before it left
-abbrev pub each_after : ℕ → List Timed → List Timed → List Happened
-each_after switch h events = map (λ one. record { switch = switch; history = next_after h (take one.0 events); timed = one.1 }) (enumerate_from 0 events)
-
--- the events of a record after others
-abbrev pub happened_in : PolicyView → List Told → Told → List Happened
-happened_in policy before r = each_after r.switch (history_at policy r before) (events_in policy r before)
-
--- all events of a recording, in the order of its records
-abbrev pub all_happened : PolicyView → List Told → List Happened
-all_happened policy records = flat_map (λ one. happened_in policy (reverse (take one.0 records)) one.1) (enumerate_from 0 records)
-
 -- the events of a recording's first records are the first of all its events, whatever records come behind them
 abbrev pub ComeBeforeLater : PolicyView → List Told → List Told → Type 0
 ComeBeforeLater policy earlier later =
     take (length (all_happened policy earlier)) (all_happened policy (earlier ++ later)) ≡ all_happened policy earlier
-
--- the lines of an event at its number
-abbrev pub lines_at : PolicyView → ℕ × Happened → List ℕ
-lines_at policy one = event_lines policy (record { number = one.0; switch = one.1.switch }) one.1.history one.1.timed
-
--- a report is the lines of all events, each at its number, and then the last line with how many there are
-abbrev pub HasEachEventOnce : PolicyView → List Told → Type 0
-HasEachEventOnce policy records =
-    report policy records ≡ flat_map (lines_at policy) (enumerate_from 0 (all_happened policy records)) ++ last_line (length (all_happened policy records))
-
--- what the lines of an event show the slice at a slot: nothing once the history is over
-abbrev pub shown_to : PolicyView → ℕ → List Timed → Timed → List (List ℕ)
-shown_to policy slot h timed = if is_over h then [] else sent_by policy slot h timed
 
 -- the lines of an event are those for the switch, and by slot those of each slice's name for what it is told; then the connection that is closed, and the end
 abbrev pub ShowsEachSlice : PolicyView → Place → List Timed → Timed → Type 0
 ShowsEachSlice policy place h timed =
     event_lines policy place h timed
     ≡ (if is_over h then [] else lane_lines place (lane_by policy h timed))
-    ++ flat_map (λ slot. slice_lines place (name_at policy.slices slot) (shown_to policy slot h timed)) (range_with_len 0 (length policy.slices))
+    ++ flat_map (λ slot. slice_lines place (name_at policy.slices slot) (sent_to_slice policy slot h timed)) (range_with_len 0 (length policy.slices))
     ++ close_lines policy place (next_of h timed) timed.event
     ++ (if is_over h then [] else down_lines place h timed)
+
+-- the slice that connected or sent a message is up after that, unless its connection is to be closed
+abbrev pub IsClosedByVerdict : PolicyView → ℕ → List Timed → Timed → Type 0
+IsClosedByVerdict policy slot h timed = speaker timed.event ≡ Some slot → is_slice_up policy slot (timed ∷ h) ≡ not (closes policy h timed)
 
 -- a switch comes up
 abbrev pub comes_up : ℕ → Happened → Bool
@@ -345,10 +314,6 @@ comes_up switch one = one.switch == switch && is_switch_up one.timed.event
 abbrev pub since_up : ℕ → List Happened → List Happened
 since_up switch [] = []
 since_up switch (one ∷ later) = if one.switch == switch && not (list_any (comes_up switch) later) then one ∷ since_up switch later else since_up switch later
-
--- what events tell a slice, one after another
-abbrev pub told_over : PolicyView → ℕ → List Happened → List (List ℕ)
-told_over policy slot events = flat_map (λ one. shown_to policy slot one.history one.timed) events
 
 -- from a switch's last up on a report tells a slice what a proxy sends that serves it alone, with its settings on its view of the switch's history
 abbrev pub IsToldAsAlone : PolicyView → ℕ → ℕ → List Told → Type 0

@@ -1,5 +1,6 @@
 -- The events of a recording: what each of its records makes happen at the desk of its switch (this proxy's own rule). Records before another have the newest first.
-use Rattle.std.specs.Prelude.{ℕ, ◌==◌, ◌&&◌, ◌||◌, not, Bool, true, if◌then◌else◌, List, [], ◌∷◌, ◌++◌, length, take, drop, map}
+use Rattle.std.specs.Prelude.{ℕ, ◌==◌, ◌&&◌, ◌||◌, not, Bool, true, if◌then◌else◌, List, [], ◌∷◌, ◌++◌, length, take, drop, map, reverse}
+use Rattle.std.specs.List.{flat_map, enumerate_from, take_while}
 use Rattle.flowspace.specs.Policies.{PolicyView}
 use Rattle.of10_ctl.specs.Streams.{frames_of}
 use Rattle.recording.specs.declared.item.Item.{Item}
@@ -48,11 +49,9 @@ happenings r before =
     else if r.kind == slice_bytes then map (λ frame. SliceMsg r.slot frame) (completed r before)
     else SliceDown r.slot ∷ []
 
--- a message is none of an ended switch, and none of a connection that was closed; anything else happens
-abbrev pub happens : PolicyView → List Timed → Event → Bool
-happens policy h (SwitchMsg message) = not (is_ended (phase_of h))
-happens policy h (SliceMsg slot message) = is_slice_up policy slot h
-happens policy h event = true
+-- the connection that a record brings bytes of is there after a history: the switch's hasn't ended, or the slice is up. Other records need none
+abbrev pub is_there : PolicyView → Told → List Timed → Bool
+is_there policy r h = if r.kind == switch_bytes then not (is_ended (phase_of h)) else if r.kind == slice_bytes then is_slice_up policy r.slot h else true
 
 -- the history after an event: one that is over takes nothing in
 abbrev pub next_of : List Timed → Timed → List Timed
@@ -63,12 +62,25 @@ abbrev pub next_after : List Timed → List Timed → List Timed
 next_after h [] = h
 next_after h (timed ∷ later) = next_after (next_of h timed) later
 
--- of what can happen one after another, what does
-abbrev pub happening : PolicyView → ℕ → List Timed → List Event → List Timed
-happening policy moment h [] = []
-happening policy moment h (event ∷ later) =
-    if happens policy h event then timed_at moment event ∷ happening policy moment (next_of h (timed_at moment event)) later
-    else happening policy moment h later
+-- ---- all that happened
+
+-- an event of a recording: its switch, the history of that switch before it, and the event with its moment
+pub record Happened : Type 0 where
+  pub switch : ℕ
+  pub history : List Timed
+  pub timed : Timed
+
+-- events that come one after another at a switch, each after the history that those before it left
+abbrev pub each_after : ℕ → List Timed → List Timed → List Happened
+each_after switch h events = map (λ one. record { switch = switch; history = next_after h (take one.0 events); timed = one.1 }) (enumerate_from 0 events)
+
+-- what a record makes happen after a history: the first of what it can make happen, as long as its connection is there before each
+abbrev pub happened_from : PolicyView → Told → List Told → List Timed → List Happened
+happened_from policy r before h = take_while (λ one. is_there policy r one.history) (each_after r.switch h (map (timed_at r.moment) (happenings r before)))
+
+-- these events alone, with their moments
+abbrev pub timed_of : List Happened → List Timed
+timed_of events = map (λ one. one.timed) events
 
 -- the history of a switch after records. A switch that comes up has a fresh desk
 abbrev pub history_of : PolicyView → ℕ → List Told → List Timed
@@ -76,16 +88,24 @@ history_of policy switch [] = []
 history_of policy switch (r ∷ before) =
     if r.switch == switch then
     (let h = (if r.kind == switch_up then [] else history_of policy switch before) in
-    next_after h (happening policy r.moment h (happenings r before)))
+    next_after h (timed_of (happened_from policy r before h)))
     else history_of policy switch before
 
 -- the history in which a record's events come
 abbrev pub history_at : PolicyView → Told → List Told → List Timed
 history_at policy r before = if r.kind == switch_up then [] else history_of policy r.switch before
 
--- the events that a record makes after others
+-- the events of a record after others
+abbrev pub happened_in : PolicyView → List Told → Told → List Happened
+happened_in policy before r = happened_from policy r before (history_at policy r before)
+
+-- these events alone, with their moments
 abbrev pub events_in : PolicyView → Told → List Told → List Timed
-events_in policy r before = happening policy r.moment (history_at policy r before) (happenings r before)
+events_in policy r before = timed_of (happened_in policy before r)
+
+-- all that happened in a recording, in the order of its records
+unfoldable pub all_happened : PolicyView → List Told → List Happened
+all_happened policy records = flat_map (λ one. happened_in policy (reverse (take one.0 records)) one.1) (enumerate_from 0 records)
 
 -- ---- the records of a file
 

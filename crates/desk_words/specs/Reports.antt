@@ -1,6 +1,6 @@
--- The report of a recording: a line for each message that is sent, by event (this proxy's own rule). A summary of a made recording, which counts the same messages and their bytes, comes with what makes one.
-use Rattle.std.specs.Prelude.{ℕ, ◌+◌, if◌then◌else◌, List, [], ◌∷◌, ◌++◌, length, slice_get, Option, Some, None, codes, decimal}
-use Rattle.std.specs.List.{flat_map}
+-- The report of a recording: of all that happened, a line for each message that is sent (this proxy's own rule). A summary of a made recording, which counts the same messages and their bytes, comes with what makes one.
+use Rattle.std.specs.Prelude.{ℕ, if◌then◌else◌, List, [], ◌++◌, length, slice_get, Option, Some, None, codes, decimal}
+use Rattle.std.specs.List.{flat_map, enumerate_from}
 use Rattle.hex.specs.Hex.{encode_lower}
 use Rattle.flowspace.specs.declared.slices.Slice.{Slice}
 use Rattle.flowspace.specs.Policies.{PolicyView}
@@ -12,7 +12,27 @@ use Rattle.desk_words.specs.Histories.{is_slice_up}
 use Rattle.desk_words.specs.Sent.{sent_by, lane_by}
 use Rattle.desk_words.specs.Verdicts.{is_over}
 use Rattle.desk_words.specs.Operations.{ends}
-use Rattle.desk_words.specs.Recorded.{next_of, history_at, events_in}
+use Rattle.desk_words.specs.Recorded.{next_of, Happened, all_happened}
+
+-- ---- messages
+
+-- what an event after a history sends the switch: nothing once the history is over
+abbrev pub sent_to_switch : PolicyView → List Timed → Timed → List (List ℕ)
+sent_to_switch policy h timed = if is_over h then [] else lane_by policy h timed
+
+-- and what it sends the slice at a slot
+abbrev pub sent_to_slice : PolicyView → ℕ → List Timed → Timed → List (List ℕ)
+sent_to_slice policy slot h timed = if is_over h then [] else sent_by policy slot h timed
+
+-- what events tell the switch, one after another
+abbrev pub lane_over : PolicyView → List Happened → List (List ℕ)
+lane_over policy events = flat_map (λ one. sent_to_switch policy one.history one.timed) events
+
+-- and what they tell the slice at a slot
+abbrev pub told_over : PolicyView → ℕ → List Happened → List (List ℕ)
+told_over policy slot events = flat_map (λ one. sent_to_slice policy slot one.history one.timed) events
+
+-- ---- lines
 
 -- where a line belongs: the number of its event, from 0 over the whole recording, and the event's switch
 pub record Place : Type 0 where
@@ -35,10 +55,9 @@ lane_lines place messages = flat_map (λ message. line place (codes "lane " ++ e
 abbrev pub slice_lines : Place → List ℕ → List (List ℕ) → List ℕ
 slice_lines place name messages = flat_map (λ message. line place (codes "to " ++ name ++ codes " " ++ encode_lower message)) messages
 
--- for each slice from a slot on a line for each of its messages
-abbrev pub lines_by_slot : Place → (ℕ → List (List ℕ)) → ℕ → List Slice → List ℕ
-lines_by_slot place messages slot [] = []
-lines_by_slot place messages slot (slice ∷ others) = slice_lines place slice.name (messages slot) ++ lines_by_slot place messages (slot + 1) others
+-- for each slice by slot a line for each of its messages
+abbrev pub lines_by_slot : Place → (ℕ → List (List ℕ)) → List Slice → List ℕ
+lines_by_slot place messages slices = flat_map (λ one. slice_lines place one.1.name (messages one.0)) (enumerate_from 0 slices)
 
 -- the name of the slice at a slot
 abbrev pub name_at : List Slice → ℕ → List ℕ
@@ -63,31 +82,26 @@ close_lines policy place h event = closing_lines policy place h (speaker event)
 abbrev pub down_lines : Place → List Timed → Timed → List ℕ
 down_lines place h timed = if ends h timed then line place (codes "down") else []
 
+-- ---- reports
+
 -- the lines of one event after a history: for the switch, for the slices by slot, the connection that is closed, and the end
 abbrev pub event_lines : PolicyView → Place → List Timed → Timed → List ℕ
 event_lines policy place h timed =
-    (if is_over h then [] else lane_lines place (lane_by policy h timed) ++ lines_by_slot place (λ slot. sent_by policy slot h timed) 0 policy.slices)
+    lane_lines place (sent_to_switch policy h timed)
+    ++ lines_by_slot place (λ slot. sent_to_slice policy slot h timed) policy.slices
     ++ close_lines policy place (next_of h timed) timed.event
     ++ (if is_over h then [] else down_lines place h timed)
 
--- the lines of events that come one after another
-abbrev pub lines_of : PolicyView → Place → List Timed → List Timed → List ℕ
-lines_of policy place h [] = []
-lines_of policy place h (timed ∷ later) =
-    event_lines policy place h timed ++ lines_of policy (record place { number = place.number + 1 }) (next_of h timed) later
+-- the lines of an event at its number
+abbrev pub lines_at : PolicyView → ℕ × Happened → List ℕ
+lines_at policy one = event_lines policy (record { number = one.0; switch = one.1.switch }) one.1.history one.1.timed
 
 -- the last line: how many events there were
 abbrev pub last_line : ℕ → List ℕ
 last_line events = codes "end " ++ decimal events ++ codes "\n"
 
--- the rest of a report, after so many events and these records, newest first
-unfoldable pub report_from : PolicyView → ℕ → List Told → List Told → List ℕ
-report_from policy events before [] = last_line events
-report_from policy events before (r ∷ later) =
-    let own = events_in policy r before in
-    lines_of policy (record { number = events; switch = r.switch }) (history_at policy r before) own
-    ++ report_from policy (events + length own) (r ∷ before) later
-
--- the report of a recording under a policy
-abbrev pub report : PolicyView → List Told → List ℕ
-report policy records = report_from policy 0 [] records
+-- the report of a recording under a policy: the lines of all that happened, each event at its number, and the last line
+unfoldable pub report : PolicyView → List Told → List ℕ
+report policy records =
+    let all = all_happened policy records in
+    flat_map (lines_at policy) (enumerate_from 0 all) ++ last_line (length all)

@@ -13,7 +13,7 @@ ghost use Rattle.desk_words.specs.Histories.{is_slot, side_of};
 ghost use Rattle.desk_words.specs.Numbers.{AreNumbered};
 ghost use Rattle.desk_words.specs.Operations.{Operation, IsLegal, queue_of, lane_of};
 ghost use Rattle.desk_words.specs.Reports.{Place};
-ghost use Rattle.desk_words.specs.Laws.{IsPhaseByEvents, IsAlone, AreAlike, IsErasable, IsBlindBefore, IsSilentUntilUp, IsDownAfterDown, IsUpByEvents, sent_since, taken_since, lane_since, lane_taken_since, AreInOrder, SliceWaits, LaneWaits, AreCompletedOnce, SeesItsSwitch, AreKnownInOrder, AreKnownAsTold, MakesTheFirst, GetsTheFirst, ComeAtTheirSwitch, ComeBeforeLater, HasEachEventOnce, ShowsEachSlice, IsToldAsAlone};
+ghost use Rattle.desk_words.specs.Laws.{IsPhaseByEvents, IsAlone, AreAlike, IsErasable, IsBlindBefore, IsSilentUntilUp, IsDownAfterDown, IsUpByEvents, sent_since, taken_since, lane_since, lane_taken_since, AreInOrder, SliceWaits, LaneWaits, AreCompletedOnce, SeesItsSwitch, AreKnownInOrder, AreKnownAsTold, MakesTheFirst, GetsTheFirst, ComeAtTheirSwitch, ComeBeforeLater, ShowsEachSlice, IsClosedByVerdict, IsToldAsAlone};
 
 /// The switch's connection has ended where, after it came, it went or a message of a bad length came; the
 /// opening is the first FEATURES_REPLY between.
@@ -109,16 +109,16 @@ pub fn earlier_records_have_the_first_events()
     ensures { (policy : PolicyView) (earlier later : List Told) → ComeBeforeLater policy earlier later }
 {}
 
-/// A report is the lines of all events of its recording, each at its number and after the history of its
-/// switch, one after another, and then the line that tells how many there are.
-pub fn report_has_each_event_once()
-    ensures { (policy : PolicyView) (records : List Told) → HasEachEventOnce policy records }
-{}
-
 /// The lines of an event for the slices are, by slot and each slice once, those of what it is sent there;
 /// there are none once the history is over.
 pub fn event_shows_each_slice()
     ensures { (policy : PolicyView) (place : Place) (h : List Timed) (timed : Timed) → ShowsEachSlice policy place h timed }
+{}
+
+/// The slice that connected or sent a message is up after that, unless the verdict on it is to close its
+/// connection. So the report's line of a connection that is closed is where the verdict says so.
+pub fn slice_is_closed_by_the_verdict()
+    ensures { (policy : PolicyView) (slot : ℕ) (h : List Timed) (timed : Timed) → IsClosedByVerdict policy slot h timed }
 {}
 
 /// What the lines of a switch's events tell a slice from the switch's last up on is, one after the other,

@@ -21,7 +21,7 @@ use Rattle.flowspace.specs.Loading.{first_of_faults, first_along, excess, name_f
 use Rattle.flowspace.proofs.Ranking.{placed-here, placed-later, IsPermutation-placed, IsPermutation-ranked}
 use Rattle.flowspace.proofs.Ordering.{filed_rank}
 use Rattle.flowspace.proofs.Along.{some_along, FoundAt, find-None, find-Some, option_map-None}
-use Rattle.flowspace.proofs.Refusing.{Refusal-is_refused, is_refused-Share}
+use Rattle.flowspace.proofs.Refusing.{Refusal-is_refused, is_refused-ShareHeader}
 
 -- ---- the order of filed rules
 
@@ -275,7 +275,7 @@ is_first rs i j o k l other =
     let at_a = stands_at rs k other.places.earlier other.places.at_first in
     let at_b = stands_at rs l other.places.later other.places.at_second in
     let in_order = ordered_places rs a b at_a at_b other.places.before in
-    let refused = is_refused-Share other.places.earlier other.places.later other.slot other.share other.written other.not_written in
+    let refused = is_refused-ShareHeader other.places.earlier other.places.later other.slot other.share other.written other.not_written in
     let at_earlier : Stands fs o.earlier = record { place = o.first_at; within = let long = o.within in let lt = o.in_order in omega arith; is_there = o.is_earlier } in
     let at_later : Stands fs o.later = record { place = o.second_at; within = o.within; is_there = o.is_later } in
     elim (cases_order at_b.place o.second_at) [

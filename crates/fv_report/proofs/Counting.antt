@@ -1,6 +1,6 @@
 -- The messages that are told are those of the summary, and how they are counted.
 use Rattle.std.proofs.Common.{◌≡◌, inl, inr, ◌+◌, ◌<◌, ◌≤◌, ◌==◌, ℕ, Bool, true, false, if◌then◌else◌, List, [], ◌∷◌, ◌++◌, drop, length, refl, sym, ap, ap₂, ◌∙◌, append_assoc, subst, Option, Some, None, Result, Ok, Err, OnOk, slice_get, codes, decimal, arith}
-use Rattle.std.specs.List.{flat_map}
+use Rattle.std.specs.List.{flat_map, enumerate_from}
 use Rattle.std.specs.Prelude.{is_ok}
 use Rattle.std.specs.Vec.{with_item}
 use Rattle.std.proofs.lemmas.List.{append-nil, drop_more, length-append, length-set}
@@ -16,12 +16,12 @@ use Rattle.desk_words.specs.Histories.{is_slice_up}
 use Rattle.desk_words.specs.Sent.{sent_by, lane_by}
 use Rattle.desk_words.specs.Verdicts.{is_over}
 use Rattle.desk_words.specs.Operations.{ends}
-use Rattle.desk_words.specs.Recorded.{next_of, history_at, events_in}
-use Rattle.desk_words.specs.Reports.{Place, name_at, speaker}
-use Rattle.summary_words.specs.Summaries.{Makes, messages_of, messages_from, lane_messages, slice_messages, event_count, event_count_from, count_line, count_lines, summary}
+use Rattle.desk_words.specs.Recorded.{next_of, Happened, all_happened}
+use Rattle.desk_words.specs.Reports.{Place, name_at, speaker, lane_over, told_over}
+use Rattle.summary_words.specs.Summaries.{lane_messages, slice_messages, event_count, count_line, count_lines, summary}
 use Rattle.fv_report.specs.declared.counter.Count.{Count}
 use Rattle.fv_report.specs.declared.counter.Counter.{Counter}
-use Rattle.fv_report.specs.Telling.{Line, Saying, Lane, To, Close, Down, lane_told, slice_told, told_by_slot, closing_told, close_told, down_line, down_told, event_told, told_of, told_from, Heard}
+use Rattle.fv_report.specs.Telling.{Line, Saying, Lane, To, Close, Down, lane_told, slice_told, told_by_slot, closing_told, close_told, down_line, down_told, event_told, lines_from, all_lines, Heard}
 use Rattle.fv_report.proofs.Recorded.{same_number, set_get}
 use Rattle.fv_report.specs.Counting.{Added, lane_said, slice_in, lane_told_in, slice_told_in, IsCount, Counts, CountsLine, summary_text}
 
@@ -31,6 +31,10 @@ use Rattle.fv_report.specs.Counting.{Added, lane_said, slice_in, lane_told_in, s
 record Picks (picked : Saying → List (List ℕ)) : Type 0 where
   close : (name : List ℕ) → picked (Close name) ≡ []
   down : picked Down ≡ []
+
+-- what one event after a history makes for somebody
+abbrev Makes : Type 0
+Makes = List Timed → Timed → List (List ℕ)
 
 abbrev all_picked : (Saying → List (List ℕ)) → List Line → List (List ℕ)
 all_picked picked lines = flat_map (λ (line : Line). picked line.saying) lines
@@ -80,24 +84,14 @@ of_event picked makes p picks is place h timed =
     (unless_none picked (is_over h) (down_told place h timed) (none_of_down picked picks place h timed))
     ∙ append-nil made
 
-of_events : (picked : Saying → List (List ℕ)) (makes : Makes) (p : PolicyView) → Picks picked → IsPicked picked makes p → (place : Place) (h events : List Timed)
-    → all_picked picked (told_of p place h events) ≡ messages_of makes h events
-of_events picked makes p picks is place h [] = refl
-of_events picked makes p picks is place h (timed ∷ later) =
-    let next : Place = record { number = place.number + 1; switch = place.switch } in
-    flat_map-append (λ (line : Line). picked line.saying) (event_told p place h timed) (told_of p next (next_of h timed) later)
-    ∙ ap₂ (λ (a b : List (List ℕ)). a ++ b) (of_event picked makes p picks is place h timed) (of_events picked makes p picks is next (next_of h timed) later)
-
-of_records : (picked : Saying → List (List ℕ)) (makes : Makes) (p : PolicyView) → Picks picked → IsPicked picked makes p → (events : ℕ) (before later : List Told)
-    → all_picked picked (told_from p events before later) ≡ messages_from makes p before later
-unfolding told_from messages_from
-of_records picked makes p picks is events before [] = refl
-of_records picked makes p picks is events before (r ∷ later) =
-    let own = events_in p r before in
-    let place : Place = record { number = events; switch = r.switch } in
-    let h = history_at p r before in
-    flat_map-append (λ (line : Line). picked line.saying) (told_of p place h own) (told_from p (events + length own) (r ∷ before) later)
-    ∙ ap₂ (λ (a b : List (List ℕ)). a ++ b) (of_events picked makes p picks is place h own) (of_records picked makes p picks is (events + length own) (r ∷ before) later)
+of_events : (picked : Saying → List (List ℕ)) (makes : Makes) (p : PolicyView) → Picks picked → IsPicked picked makes p → (number : ℕ) (events : List Happened)
+    → all_picked picked (lines_from p number events) ≡ flat_map (λ (one : Happened). if is_over one.history then [] else makes one.history one.timed) events
+unfolding lines_from
+of_events picked makes p picks is number [] = refl
+of_events picked makes p picks is number (one ∷ later) =
+    let place : Place = record { number = number; switch = one.switch } in
+    flat_map-append (λ (line : Line). picked line.saying) (event_told p place one.history one.timed) (lines_from p (number + 1) later)
+    ∙ ap₂ (λ (a b : List (List ℕ)). a ++ b) (of_event picked makes p picks is place one.history one.timed) (of_events picked makes p picks is (number + 1) later)
 
 -- ---- for the switch
 
@@ -123,8 +117,8 @@ lane_is_picked p place h timed =
     ∙ append-nil (lane_by p h timed)
 
 -- the lines of a recording tell of its messages for the switch
-pub lane_told_of : (p : PolicyView) (records : List Told) → lane_told_in (told_from p 0 [] records) ≡ lane_messages p records
-lane_told_of p records = of_records lane_said (lane_by p) p (record { close = λ name. refl; down = refl }) (lane_is_picked p) 0 [] records
+pub lane_told_of : (p : PolicyView) (records : List Told) → lane_told_in (all_lines p records) ≡ lane_messages p records
+lane_told_of p records = of_events lane_said (lane_by p) p (record { close = λ name. refl; down = refl }) (lane_is_picked p) 0 (all_happened p records)
 
 -- ---- for a slice
 
@@ -166,23 +160,27 @@ slice_is_picked p slot known place h timed =
     ∙ ap₂ (λ (a b : List (List ℕ)). a ++ b) (slice_of_lane slot place (lane_by p h timed)) (slice_of_slots slot place messages 0 p.slices (omega arith) (omega (arith, known)))
 
 -- the lines of a recording tell of its messages for the slice at a slot
-pub slice_told_of : (p : PolicyView) (slot : ℕ) (records : List Told) → slot < length p.slices → slice_told_in slot (told_from p 0 [] records) ≡ slice_messages p slot records
-slice_told_of p slot records known = of_records (slice_in slot) (sent_by p slot) p (record { close = λ name. refl; down = refl }) (slice_is_picked p slot known) 0 [] records
+pub slice_told_of : (p : PolicyView) (slot : ℕ) (records : List Told) → slot < length p.slices → slice_told_in slot (all_lines p records) ≡ slice_messages p slot records
+slice_told_of p slot records known = of_events (slice_in slot) (sent_by p slot) p (record { close = λ name. refl; down = refl }) (slice_is_picked p slot known) 0 (all_happened p records)
 
 -- ---- the summary
 
-count_lines_same : (first second : ℕ → List (List ℕ)) (from : ℕ) (slices : List Slice) → ((slot : ℕ) → from ≤ slot → slot < from + length slices → first slot ≡ second slot) → count_lines first from slices ≡ count_lines second from slices
-count_lines_same first second from [] same = refl
-count_lines_same first second from (s ∷ others) same =
-    ap₂ (λ (a b : List ℕ). a ++ b) (ap (count_line s.name) (same from (omega arith) (omega arith))) (count_lines_same first second (from + 1) others (λ slot reached within. same slot (omega (arith, reached)) (omega (arith, within))))
+-- the lines of the slices from a slot on
+abbrev pub counts_from : (ℕ → List (List ℕ)) → ℕ → List Slice → List ℕ
+counts_from messages from slices = flat_map (λ one. count_line one.1.name (messages one.0)) (enumerate_from from slices)
+
+counts_same : (first second : ℕ → List (List ℕ)) (from : ℕ) (slices : List Slice) → ((slot : ℕ) → from ≤ slot → slot < from + length slices → first slot ≡ second slot) → counts_from first from slices ≡ counts_from second from slices
+counts_same first second from [] same = refl
+counts_same first second from (s ∷ others) same =
+    ap₂ (λ (a b : List ℕ). a ++ b) (ap (count_line s.name) (same from (omega arith) (omega arith))) (counts_same first second (from + 1) others (λ slot reached within. same slot (omega (arith, reached)) (omega (arith, within))))
 
 -- what the lines of a recording tell of is summed in its summary
-pub summary_told : (p : PolicyView) (records : List Told) → let lines = told_from p 0 [] records in summary_text (event_count_from p [] records) (lane_told_in lines) (λ slot. slice_told_in slot lines) p.slices ≡ summary p records
+pub summary_told : (p : PolicyView) (records : List Told) → let lines = all_lines p records in summary_text (event_count p records) (lane_told_in lines) (λ slot. slice_told_in slot lines) p.slices ≡ summary p records
 summary_told p records =
-    let lines = told_from p 0 [] records in
+    let lines = all_lines p records in
     ap₂ (λ (lane : List (List ℕ)) (counts : List ℕ). codes "events " ++ decimal (event_count p records) ++ codes "\n" ++ count_line (codes "lane") lane ++ counts)
     (lane_told_of p records)
-    (count_lines_same (λ slot. slice_told_in slot lines) (λ slot. slice_messages p slot records) 0 p.slices (λ slot reached within. slice_told_of p slot records (omega (arith, within))))
+    (counts_same (λ slot. slice_told_in slot lines) (λ slot. slice_messages p slot records) 0 p.slices (λ slot reached within. slice_told_of p slot records (omega (arith, within))))
 
 -- ---- counting
 
@@ -265,17 +263,17 @@ counted_lines (line ∷ lines) old new slots lane slices counts (next, told, oth
 
 -- the line of a slot and those behind it
 split : (messages : ℕ → List (List ℕ)) (all : List Slice) (at : ℕ) (slice : Slice) → slice_get all at ≡ Some slice
-    → count_lines messages at (drop at all) ≡ count_line slice.name (messages at) ++ count_lines messages (at + 1) (drop (at + 1) all)
+    → counts_from messages at (drop at all) ≡ count_line slice.name (messages at) ++ counts_from messages (at + 1) (drop (at + 1) all)
 split messages all at slice is =
-    ap (count_lines messages at) (drop_more all at slice (slice_get_within all at slice is))
-    ∙ ap (λ (first : Slice). count_line first.name (messages at) ++ count_lines messages (at + 1) (drop (at + 1) all)) (get_or_from_slice_get all at slice slice is)
+    ap (counts_from messages at) (drop_more all at slice (slice_get_within all at slice is))
+    ∙ ap (λ (first : Slice). count_line first.name (messages at) ++ counts_from messages (at + 1) (drop (at + 1) all)) (get_or_from_slice_get all at slice slice is)
 
 -- the line of one slot more was put
 pub line_put : (messages : ℕ → List (List ℕ)) (all : List Slice) (at : ℕ) (slice : Slice) (name old new whole : List ℕ)
-    → slice_get all at ≡ Some slice → name ≡ slice.name → old ++ count_lines messages at (drop at all) ≡ whole → new ≡ old ++ count_line name (messages at)
-    → new ++ count_lines messages (at + 1) (drop (at + 1) all) ≡ whole
+    → slice_get all at ≡ Some slice → name ≡ slice.name → old ++ counts_from messages at (drop at all) ≡ whole → new ≡ old ++ count_line name (messages at)
+    → new ++ counts_from messages (at + 1) (drop (at + 1) all) ≡ whole
 line_put messages all at slice name old new whole is named before put =
-    let others = count_lines messages (at + 1) (drop (at + 1) all) in
+    let others = counts_from messages (at + 1) (drop (at + 1) all) in
     ap (λ (text : List ℕ). text ++ others) (put ∙ ap (λ (n : List ℕ). old ++ count_line n (messages at)) named)
     ∙ append_assoc old (count_line slice.name (messages at)) others
     ∙ ap (λ (text : List ℕ). old ++ text) (sym (split messages all at slice is))

@@ -14,7 +14,7 @@ use Rattle.desk_words.specs.declared.answer.Taken.{Taken}
 use Rattle.desk_words.specs.declared.answer.Taken.TheVariants.{Message, Nothing, Choked, Ended, NotOpen}
 use Rattle.desk_words.specs.Openings.{phase_of}
 use Rattle.desk_words.specs.Histories.{is_slot, is_open, is_slice_up}
-use Rattle.desk_words.specs.Verdicts.{is_ended, is_fresh, is_over, closes}
+use Rattle.desk_words.specs.Verdicts.{is_ended, is_fresh, is_over, closes, verdict}
 use Rattle.desk_words.specs.Sent.{sent_by, lane_by}
 use Rattle.desk_words.specs.Operations.{Step, Take, takes_in, events_of, slice_limit, lane_limit, empties_slice, ends, queue_of, lane_of, empty_reply}
 use Rattle.answer_bounds.specs.Bounds.{IsFramed, AreFramed}
@@ -182,6 +182,10 @@ pub stepped : (p : PolicyView) (h : List Timed) (timed : Timed) (old new : Desk)
 stepped p h timed old new Go b steps is quiet framed one = subst (λ (k : Bool). After p h timed k new) (sym is) (step_in p h timed old new Go refl steps quiet framed one)
 stepped p h timed old new Close b steps is quiet framed one = subst (λ (k : Bool). After p h timed k new) (sym is) (step_in p h timed old new Close refl steps quiet framed one)
 stepped p h timed old new verdicts.Ended b steps is quiet framed one = subst (λ (k : Bool). After p h timed k new) (sym is) (step_over p h timed old new steps quiet)
+
+-- the verdict on it
+pub answered : (p : PolicyView) (h : List Timed) (timed : Timed) (old new : Desk) (v : Verdict) → Steps old timed (Ok v) new → IsQuiet p h old → v ≡ verdict p h timed
+answered p h timed old new v steps quiet = (steps p quiet.operations quiet.stands).right ∙ ap (λ events. verdict p events timed) quiet.events
 
 -- ---- slices one after another
 

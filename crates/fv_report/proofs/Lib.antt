@@ -10,3 +10,4 @@ pub mod Running
 pub mod Texts
 pub mod Counting
 mod Walking
+mod Happening

@@ -13,7 +13,7 @@ use Rattle.desk_words.specs.declared.event.Timed.{Timed}
 use Rattle.desk_words.specs.declared.answer.Dest.{Dest}
 use Rattle.desk_words.specs.declared.answer.Dest.TheVariants.{Switch, Slice}
 use Rattle.desk_words.specs.Verdicts.{is_over}
-use Rattle.desk_words.specs.Recorded.{timed_at, happens, next_of, next_after, happening}
+use Rattle.desk_words.specs.Recorded.{timed_at, next_of, next_after}
 use Rattle.desk_words.specs.Reports as report
 use Rattle.fv_report.specs.Telling.{Line, Heard, HeardPart, event_told, told_of}
 use Rattle.proxy_core.specs.declared.parts.Desk.{Desk}
@@ -22,7 +22,7 @@ use Rattle.fv_report.specs.declared.teller.Place.{Place}
 use Rattle.fv_report.specs.Lines.{place_of}
 use Rattle.fv_report.specs.Holding.{IsQuiet}
 use Rattle.fv_report.specs.Streams.{TookFrame}
-use Rattle.fv_report.specs.Plays.{event_from, Played, Plays, Hears}
+use Rattle.fv_report.specs.Plays.{event_from, happens, happening, Played, Plays, Hears}
 use Rattle.fv_report.proofs.Streaming.{next_left, nothing_left}
 use Rattle.fv_report.proofs.Writing.{heard_both, heard_part_of_first, heard_part_of_second, heard_part_of_all, tell_fault}
 

@@ -6,13 +6,14 @@ use Rattle.std.proofs.Math.Dec.{eqb-zero-suc, eqb-suc-zero, eqb-suc-suc}
 use Rattle.std.specs.Result.{IsErr}
 use Rattle.std.proofs.lemmas.Result.{IfOk-from_err}
 use Rattle.std.proofs.Common.{inl, inr}
-use Rattle.std.proofs.lemmas.Bool.{cases_Bool, ltb-true, ltb-false, ne_eqb}
+use Rattle.std.proofs.lemmas.Bool.{cases_Bool, cases_eq, ltb-true, ltb-false, ne_eqb}
 use Rattle.std.proofs.lemmas.List.Elements.{All-nil}
 use Rattle.std.proofs.Math.Nat.{le_refl}
 use Rattle.of10_ctl.specs.Streams.{Stream, Stands, frames_at, frames_of}
 use Rattle.flowspace.specs.Policies.{PolicyView}
 use Rattle.recording.specs.declared.item.Item.{Item}
 use Rattle.recording.specs.Recordings.{Told, switch_up, switch_bytes, slice_up, slice_bytes}
+use Rattle.desk_words.specs.declared.event.Event.{Event}
 use Rattle.desk_words.specs.declared.event.Timed.{Timed}
 use Rattle.desk_words.specs.declared.answer.Dest.{Dest}
 use Rattle.desk_words.specs.declared.answer.Dest.TheVariants.{Switch as ToSwitch, Slice}
@@ -27,8 +28,9 @@ use Rattle.fv_report.specs.declared.switch.Switch.{Switch}
 use Rattle.fv_report.specs.declared.streams.Streams.{Streams}
 use Rattle.fv_report.specs.Lines.{place_of}
 use Rattle.fv_report.specs.Holding.{IsQuiet}
-use Rattle.fv_report.specs.Plays.{event_from, Played, Plays}
-use Rattle.fv_report.specs.Switches.{IsFreshSwitch, SwitchStands, RecordPlayed, PlaysRecord, IsTurn, Readies, kind_from, slot_from, told_from, Spoken}
+use Rattle.fv_report.specs.Plays.{event_from, happening, Played, PlaysEvents, Plays}
+use Rattle.fv_report.proofs.Happening.{happening_is}
+use Rattle.fv_report.specs.Switches.{SwitchStands, IsFoundWhere, RecordPlayed, PlaysRecord, IsTurn, Readies, kind_from, slot_from, told_from, Spoken}
 use Rattle.fv_report.proofs.Writing.{tell_fault, heard_none}
 use Rattle.fv_report.specs.Streams.{Restarts, AreFresh, connection, StreamStands, StreamsStand}
 
@@ -203,10 +205,6 @@ pub by_kind : {E T : Type 0} (Tells : T → Line → Bool → T → Type 0) (p :
     → PlaysRecord Tells p (record { kind = kind; switch = item.switch; slot = item.slot; moment = item.moment; bytes = bytes }) number result before after old new → PlaysRecord Tells p (told_by item bytes) number result before after old new
 by_kind Tells p item bytes kind number result before after old new is plays = subst (λ (r : Told). PlaysRecord Tells p r number result before after old new) (sym (told_kind item bytes kind is)) plays
 
--- a fault before the record was played
-pub not_played : {E T : Type 0} (Tells : T → Line → Bool → T → Type 0) (p : PolicyView) (r : Told) (number : ℕ) (result : Result ℕ E) (told : T) (old new : Switch) → IsErr result → PlaysRecord Tells p r number result told told old new
-not_played Tells p r number result told old new err before stands = none_played Tells p r before number result told (SwitchStands p r.switch (r ∷ before)) new err
-
 -- a record of a switch's bytes, whose slot is 0
 pub by_bytes : {E T : Type 0} (Tells : T → Line → Bool → T → Type 0) (p : PolicyView) (item : Item) (bytes : List ℕ) (number : ℕ) (result : Result ℕ E) (before after : T) (old new : Switch) → item.kind ≡ switch_bytes → item.slot ≡ 0
     → PlaysRecord Tells p (record { kind = switch_bytes; switch = item.switch; slot = 0; moment = item.moment; bytes = bytes }) number result before after old new → PlaysRecord Tells p (told_by item bytes) number result before after old new
@@ -221,9 +219,19 @@ completed_by r before = ap (λ (fed : List ℕ). drop (length (frames_of fed)) (
 -- frames of a connection that were heard are what a record of its bytes makes happen
 pub heard_from : {E T : Type 0} (Tells : T → Line → Bool → T → Type 0) (p : PolicyView) (from : Dest) (item : Item) (bytes : List ℕ) (before : List Told) (place : Place) (result : Result Place E) (told wrote : T) (desk : Desk)
     → (let fed = stream_before (connection item.switch (kind_from from) (slot_from from)) before in Plays Tells p item.moment (history_of p item.switch before) (map (event_from from) (drop (length (frames_of fed)) (frames_of (fed ++ bytes)))) place result told wrote desk)
-    → Plays Tells p item.moment (history_at p (told_from from item bytes) before) (happenings (told_from from item bytes) before) place result told wrote desk
-heard_from Tells p ToSwitch item bytes before place result told wrote desk plays = subst (λ (frames : List (List ℕ)). Plays Tells p item.moment (history_of p item.switch before) (map (event_from ToSwitch) frames) place result told wrote desk) (completed_by (told_from ToSwitch item bytes) before) plays
-heard_from Tells p (Slice slot) item bytes before place result told wrote desk plays = subst (λ (frames : List (List ℕ)). Plays Tells p item.moment (history_of p item.switch before) (map (event_from (Slice slot)) frames) place result told wrote desk) (completed_by (told_from (Slice slot) item bytes) before) plays
+    → PlaysEvents Tells p (history_at p (told_from from item bytes) before) (events_in p (told_from from item bytes) before) place result told wrote desk
+heard_from Tells p ToSwitch item bytes before place result told wrote desk plays =
+    let r = told_from ToSwitch item bytes in
+    subst (λ (own : List Timed). PlaysEvents Tells p (history_at p r before) own place result told wrote desk) (happening_is p r before)
+    (subst (λ (frames : List (List ℕ)). Plays Tells p item.moment (history_of p item.switch before) (map (event_from ToSwitch) frames) place result told wrote desk) (completed_by r before) plays)
+heard_from Tells p (Slice slot) item bytes before place result told wrote desk plays =
+    let r = told_from (Slice slot) item bytes in
+    subst (λ (own : List Timed). PlaysEvents Tells p (history_at p r before) own place result told wrote desk) (happening_is p r before)
+    (subst (λ (frames : List (List ℕ)). Plays Tells p item.moment (history_of p item.switch before) (map (event_from (Slice slot)) frames) place result told wrote desk) (completed_by r before) plays)
+
+-- the one thing that a record can make happen is its one event
+pub one_made : (p : PolicyView) (r : Told) (before : List Told) (event : Event) → happenings r before ≡ event ∷ [] → happening p r.moment (history_at p r before) (event ∷ []) ≡ events_in p r before
+one_made p r before event one = ap (happening p r.moment (history_at p r before)) (sym one) ∙ happening_is p r before
 
 pub spoken : (p : PolicyView) (r : Told) (before : List Told) (place later : Place) (desk : Desk) (framer : Stream) → Played p (history_at p r before) (events_in p r before) place later desk
     → (let fed = stream_before (connection r.switch r.kind r.slot) before in Stands framer (fed ++ r.bytes) (frames_of (fed ++ r.bytes))) → Spoken p r before desk framer
@@ -258,11 +266,11 @@ streams_stay slices switch r before streams of_switch of_slices stands = record 
 }
 
 -- the switch connected
-pub ready_up : (p : PolicyView) (item : Item) (old new : Switch) → item.kind ≡ switch_up → IsFreshSwitch p new → Readies p (told_by item []) old new
-ready_up p item old new is fresh = subst (λ (r : Told). Readies p r old new) (sym (told_kind item [] switch_up is)) (λ before stands. record {
+pub ready_up : (p : PolicyView) (item : Item) (switch : Switch) → item.kind ≡ switch_up → Readies p (told_by item []) switch switch
+ready_up p item switch is = subst (λ (r : Told). Readies p r switch switch) (sym (told_kind item [] switch_up is)) (λ before fresh. record {
   quiet = fresh.quiet;
   framed = All-nil (λ (t : Timed). IsFramed t.event);
-  streams = streams_up (length p.slices) item.switch item.slot item.moment [] before new.streams fresh.streams;
+  streams = streams_up (length p.slices) item.switch item.slot item.moment [] before switch.streams fresh.streams;
 })
 
 -- a slice's controller connected
@@ -275,10 +283,11 @@ ready_slice_up p item old new is desk same restarts = subst (λ (r : Told). Read
 
 -- a connection ended
 pub ready_down : (p : PolicyView) (item : Item) (switch : Switch) → IsTurn item.kind → (item.kind ≡ switch_up → ⊥) → (item.kind ≡ slice_up → ⊥) → Readies p (told_by item []) switch switch
-ready_down p item switch turn no_up no_slice_up before stands =
+ready_down p item switch turn no_up no_slice_up before found =
     let r = told_by item [] in
     let same = same_number item.switch in
     let up = ne_eqb item.kind switch_up no_up in
+    let stands = subst (λ (comes : Bool). IsFoundWhere comes p r before switch) up found in
     let slice = ne_eqb item.kind slice_up no_slice_up in
     let of_switch = ne_eqb item.kind switch_bytes turn.0 in
     let of_slice = ne_eqb item.kind slice_bytes turn.1 in
@@ -287,3 +296,10 @@ ready_down p item switch turn no_up no_slice_up before stands =
       framed = rw up stands.framed;
       streams = streams_stay (length p.slices) item.switch r before switch.streams (rw (same, up, of_switch) refl) (λ slot. rw (same, up, slice, of_slice) refl) stands.streams;
     }
+
+-- a connection turns that isn't a slice's that comes
+pub ready_other : (p : PolicyView) (item : Item) (switch : Switch) → IsTurn item.kind → (item.kind ≡ slice_up → ⊥) → Readies p (told_by item []) switch switch
+ready_other p item switch turn no_slice_up = elim (cases_eq item.kind switch_up) [
+  | inl is ↦ ready_up p item switch is
+  | inr no_up ↦ ready_down p item switch turn no_up no_slice_up
+]

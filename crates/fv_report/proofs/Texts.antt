@@ -1,6 +1,6 @@
 -- The text of what is told, and what a writer writes of it.
-use Rattle.std.proofs.Common.{◌≡◌, inl, inr, ◌+◌, ℕ, Bool, true, false, if◌then◌else◌, List, [], ◌∷◌, ◌++◌, length, refl, sym, ap, ap₂, ◌∙◌, append_assoc, subst, Option, Some, None, codes, arith}
-use Rattle.std.specs.List.{flat_map}
+use Rattle.std.proofs.Common.{◌≡◌, inl, inr, ◌+◌, ℕ, Bool, true, false, if◌then◌else◌, List, [], ◌∷◌, ◌++◌, refl, sym, ap, ap₂, ◌∙◌, subst, Option, Some, None, codes}
+use Rattle.std.specs.List.{flat_map, enumerate_from}
 use Rattle.std.proofs.lemmas.List.{append-nil}
 use Rattle.std.proofs.lemmas.Grind.{flat_map-append}
 use Rattle.hex.specs.Hex.{encode_lower}
@@ -14,12 +14,11 @@ use Rattle.desk_words.specs.Histories.{is_slice_up}
 use Rattle.desk_words.specs.Sent.{sent_by, lane_by}
 use Rattle.desk_words.specs.Verdicts.{is_over}
 use Rattle.desk_words.specs.Operations.{ends}
-use Rattle.desk_words.specs.Recorded.{next_of, history_at, events_in}
-use Rattle.desk_words.specs.Reports as report
-use Rattle.desk_words.specs.Reports.{Place, line, name_at, speaker, lane_lines, slice_lines, lines_by_slot, closing_lines, close_lines, down_lines, event_lines, lines_of, last_line, report_from}
+use Rattle.desk_words.specs.Recorded.{next_of, Happened, all_happened}
+use Rattle.desk_words.specs.Reports.{Place, line, name_at, speaker, lane_lines, slice_lines, lines_by_slot, closing_lines, down_lines, event_lines, lines_at, last_line, report}
 use Rattle.fv_report.specs.Writing.{WrotePart, WroteLine}
-use Rattle.fv_report.specs.Telling.{Line, Close, line_text, lane_told, slice_told, told_by_slot, closing_told, close_told, down_line, down_told, event_told, told_of, told_from, Heard, HeardPart}
-use Rattle.summary_words.specs.Summaries.{event_count_from}
+use Rattle.fv_report.specs.Telling.{Line, Close, line_text, lane_told, slice_told, told_by_slot, closing_told, close_told, down_line, down_told, event_told, lines_from, all_lines, Heard, HeardPart}
+use Rattle.summary_words.specs.Summaries.{event_count}
 use Rattle.fv_report.proofs.Writing.{both, none_of, part_of_first, part_of_second}
 
 lane_text : (place : Place) (messages : List (List ℕ)) → flat_map line_text (lane_told place messages) ≡ lane_lines place messages
@@ -30,7 +29,9 @@ slice_text : (place : Place) (slot : ℕ) (name : List ℕ) (messages : List (Li
 slice_text place slot name [] = refl
 slice_text place slot name (m ∷ messages) = ap (λ (text : List ℕ). line place (codes "to " ++ name ++ codes " " ++ encode_lower m) ++ text) (slice_text place slot name messages)
 
-by_slot_text : (place : Place) (messages : ℕ → List (List ℕ)) (slot : ℕ) (slices : List Slice) → flat_map line_text (told_by_slot place messages slot slices) ≡ lines_by_slot place messages slot slices
+-- for the slices from a slot on
+by_slot_text : (place : Place) (messages : ℕ → List (List ℕ)) (slot : ℕ) (slices : List Slice)
+    → flat_map line_text (told_by_slot place messages slot slices) ≡ flat_map (λ one. slice_lines place one.1.name (messages one.0)) (enumerate_from slot slices)
 by_slot_text place messages slot [] = refl
 by_slot_text place messages slot (s ∷ others) =
     flat_map-append line_text (slice_told place slot s.name (messages slot)) (told_by_slot place messages (slot + 1) others)
@@ -55,46 +56,43 @@ down_text : (place : Place) (h : List Timed) (timed : Timed) → flat_map line_t
 down_text place h timed = where_so (ends h timed) (down_line place ∷ []) (line_text (down_line place)) (append-nil (line_text (down_line place)))
 
 messages_text : (p : PolicyView) (place : Place) (h : List Timed) (timed : Timed)
-    → flat_map line_text (lane_told place (lane_by p h timed) ++ told_by_slot place (λ slot. sent_by p slot h timed) 0 p.slices) ≡ lane_lines place (lane_by p h timed) ++ lines_by_slot place (λ slot. sent_by p slot h timed) 0 p.slices
+    → flat_map line_text (lane_told place (lane_by p h timed) ++ told_by_slot place (λ slot. sent_by p slot h timed) 0 p.slices) ≡ lane_lines place (lane_by p h timed) ++ lines_by_slot place (λ slot. sent_by p slot h timed) p.slices
 messages_text p place h timed =
     flat_map-append line_text (lane_told place (lane_by p h timed)) (told_by_slot place (λ slot. sent_by p slot h timed) 0 p.slices)
     ∙ ap₂ (λ (a b : List ℕ). a ++ b) (lane_text place (lane_by p h timed)) (by_slot_text place (λ slot. sent_by p slot h timed) 0 p.slices)
 
+no_slice_lines : (place : Place) (slot : ℕ) (slices : List Slice) → flat_map (λ one. slice_lines place one.1.name []) (enumerate_from slot slices) ≡ []
+no_slice_lines place slot [] = refl
+no_slice_lines place slot (s ∷ others) = no_slice_lines place (slot + 1) others
+
+-- the messages of an event, unless the history is over
+unless_over : (p : PolicyView) (place : Place) (h : List Timed) (timed : Timed) (over : Bool)
+    → flat_map line_text (if over then [] else lane_told place (lane_by p h timed) ++ told_by_slot place (λ slot. sent_by p slot h timed) 0 p.slices)
+    ≡ lane_lines place (if over then [] else lane_by p h timed) ++ lines_by_slot place (λ slot. if over then [] else sent_by p slot h timed) p.slices
+unless_over p place h timed true = sym (no_slice_lines place 0 p.slices)
+unless_over p place h timed false = messages_text p place h timed
+
 event_text : (p : PolicyView) (place : Place) (h : List Timed) (timed : Timed) → flat_map line_text (event_told p place h timed) ≡ event_lines p place h timed
 event_text p place h timed =
-    let told = lane_told place (lane_by p h timed) ++ told_by_slot place (λ slot. sent_by p slot h timed) 0 p.slices in
-    let first : List Line = if is_over h then [] else told in
+    let first : List Line = if is_over h then [] else lane_told place (lane_by p h timed) ++ told_by_slot place (λ slot. sent_by p slot h timed) 0 p.slices in
     let second = close_told p place (next_of h timed) timed.event in
     let third : List Line = if is_over h then [] else down_told place h timed in
     flat_map-append line_text (first ++ second) third
-    ∙ ap₂ (λ (a b : List ℕ). a ++ b) (flat_map-append line_text first second ∙ ap₂ (λ (a b : List ℕ). a ++ b) (unless (is_over h) told _ (messages_text p place h timed)) (closing_text p place (next_of h timed) (speaker timed.event)))
+    ∙ ap₂ (λ (a b : List ℕ). a ++ b) (flat_map-append line_text first second ∙ ap₂ (λ (a b : List ℕ). a ++ b) (unless_over p place h timed (is_over h)) (closing_text p place (next_of h timed) (speaker timed.event)))
     (unless (is_over h) (down_told place h timed) (down_lines place h timed) (down_text place h timed))
 
-of_text : (p : PolicyView) (place : Place) (h events : List Timed) → flat_map line_text (told_of p place h events) ≡ lines_of p place h events
-of_text p place h [] = refl
-of_text p place h (timed ∷ later) =
-    let next : Place = record { number = place.number + 1; switch = place.switch } in
-    flat_map-append line_text (event_told p place h timed) (told_of p next (next_of h timed) later) ∙ ap₂ (λ (a b : List ℕ). a ++ b) (event_text p place h timed) (of_text p next (next_of h timed) later)
+-- the lines of events are those of a report
+all_text : (p : PolicyView) (number : ℕ) (events : List Happened) → flat_map line_text (lines_from p number events) ≡ flat_map (lines_at p) (enumerate_from number events)
+unfolding lines_from
+all_text p number [] = refl
+all_text p number (one ∷ later) =
+    let place : Place = record { number = number; switch = one.switch } in
+    flat_map-append line_text (event_told p place one.history one.timed) (lines_from p (number + 1) later)
+    ∙ ap₂ (λ (a b : List ℕ). a ++ b) (event_text p place one.history one.timed) (all_text p (number + 1) later)
 
-from_text : (p : PolicyView) (events : ℕ) (before later : List Told) → flat_map line_text (told_from p events before later) ++ last_line (events + event_count_from p before later) ≡ report_from p events before later
-unfolding told_from event_count_from report_from
-from_text p events before [] = let none : events + 0 ≡ events = omega arith in ap last_line none
-from_text p events before (r ∷ later) =
-    let own = events_in p r before in
-    let place : Place = record { number = events; switch = r.switch } in
-    let h = history_at p r before in
-    let first = told_of p place h own in
-    let others = told_from p (events + length own) (r ∷ before) later in
-    let rest = event_count_from p (r ∷ before) later in
-    let counted : events + (length own + rest) ≡ events + length own + rest = omega arith in
-    ap (λ (text : List ℕ). text ++ last_line (events + (length own + rest))) (flat_map-append line_text first others)
-    ∙ append_assoc (flat_map line_text first) (flat_map line_text others) (last_line (events + (length own + rest)))
-    ∙ ap₂ (λ (a b : List ℕ). a ++ b) (of_text p place h own) (ap (λ (n : ℕ). flat_map line_text others ++ last_line n) counted ∙ from_text p (events + length own) (r ∷ before) later)
-
-pub whole_text : (p : PolicyView) (records : List Told) → flat_map line_text (told_from p 0 [] records) ++ last_line (event_count_from p [] records) ≡ report.report p records
-whole_text p records =
-    let counted : event_count_from p [] records ≡ 0 + event_count_from p [] records = omega arith in
-    ap (λ (n : ℕ). flat_map line_text (told_from p 0 [] records) ++ last_line n) counted ∙ from_text p 0 [] records
+pub whole_text : (p : PolicyView) (records : List Told) → flat_map line_text (all_lines p records) ++ last_line (event_count p records) ≡ report p records
+unfolding report
+whole_text p records = ap (λ (text : List ℕ). text ++ last_line (event_count p records)) (all_text p 0 (all_happened p records))
 
 -- ---- what is written
 

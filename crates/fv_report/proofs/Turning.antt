@@ -1,29 +1,49 @@
 -- The lines of one event.
-use Rattle.std.proofs.Common.{◌≡◌, ◌^◌, ◌||◌, ◌&&◌, not, leb, Bool, true, false, if◌then◌else◌, List, [], ◌∷◌, ◌++◌, length, refl, sym, ap, ◌∙◌, append_assoc}
+use Rattle.std.proofs.Common.{◌≡◌, ◌^◌, ◌||◌, ◌&&◌, not, leb, ℕ, Bool, true, false, if◌then◌else◌, List, [], ◌∷◌, ◌++◌, length, refl, sym, ap, ◌∙◌, append_assoc, subst, Option, Some, None, Result, Ok}
 use Rattle.std.proofs.lemmas.List.{append-nil}
 use Rattle.flowspace.specs.Policies.{PolicyView}
 use Rattle.desk_words.specs.declared.event.Timed.{Timed}
 use Rattle.desk_words.specs.Openings.{phase_of}
-use Rattle.desk_words.specs.Verdicts.{is_ended, is_over}
+use Rattle.desk_words.specs.Histories.{is_slice_up}
+use Rattle.desk_words.specs.declared.answer.Verdict.{Verdict}
+use Rattle.desk_words.specs.declared.answer.Verdict.TheVariants.{Go, Close as ToClose, Ended}
+use Rattle.desk_words.specs.Verdicts.{is_ended, is_over, closes, verdict}
 use Rattle.desk_words.specs.Sent.{sent_by, lane_by}
 use Rattle.desk_words.specs.Recorded.{next_of}
-use Rattle.desk_words.specs.Reports.{Place, speaker}
-use Rattle.fv_report.specs.Telling.{Line, lane_told, told_by_slot, closing_told, close_told, down_line, down_told, event_told, end_told, told_parts}
+use Rattle.desk_words.specs.Reports.{Place, name_at, speaker}
+use Rattle.desk_words.specs.Operations.{takes_in}
+use Rattle.proxy_core.specs.declared.parts.Desk.{Desk}
+use Rattle.fv_report.specs.Holding.{Holds, IsQuiet, After}
+use Rattle.desk_words.proofs.Closing.{closed_by_verdict, none_ends}
+use Rattle.fv_report.specs.Telling.{Line, Close, lane_told, told_by_slot, closing_told, close_told, down_line, down_told, event_told, end_told, closed_told, state_told, told_parts, Tell}
 
 ends_by : (a b c : Bool) (lines : List Line) → (a || b) ≡ false → (if c then lines else []) ≡ (if not a && c then lines else [])
 ends_by true b c lines is = absurd cc
 ends_by false b c lines is = refl
 
+-- the slice that spoke isn't up exactly where its connection is closed
+closed_as : (p : PolicyView) (place : Place) (h : List Timed) (timed : Timed) (slot : ℕ) (closed up : Bool) → up ≡ not closed → closed_told p place slot closed ≡ (if up then [] else record { place = place; saying = Close (name_at p.slices slot) } ∷ []) ++ []
+closed_as p place h timed slot true up is = rw is refl
+closed_as p place h timed slot false up is = rw is refl
+
+-- beside its messages an event that was taken in tells of the slice that spoke, or of the switch's end
+told_state : (p : PolicyView) (place : Place) (h : List Timed) (timed : Timed) (speaking : Option ℕ) → speaker timed.event ≡ speaking → is_over h ≡ false
+    → state_told p place (timed ∷ h) speaking (closes p h timed) ≡ closing_told p place (timed ∷ h) speaking ++ down_told place h timed
+told_state p place h timed None of is = ends_by (is_ended (phase_of h)) (leb (2 ^ 60) (length h)) (is_ended (phase_of (timed ∷ h))) (down_line place ∷ []) is
+told_state p place h timed (Some slot) of is =
+    closed_as p place h timed slot (closes p h timed) (is_slice_up p slot (timed ∷ h)) (closed_by_verdict p slot h timed of)
+    ∙ ap (λ (b : Bool). closing_told p place (timed ∷ h) (Some slot) ++ (if b then down_line place ∷ [] else [])) (sym (none_ends h timed slot of))
+
 -- an event that was taken in
-pub told_event : (p : PolicyView) (place : Place) (h : List Timed) (timed : Timed) → is_over h ≡ false
-    → told_parts p place (timed ∷ h) (λ slot. sent_by p slot h timed) (lane_by p h timed) (speaker timed.event) ≡ event_told p place h timed
-told_event p place h timed is =
+pub told_event : (p : PolicyView) (place : Place) (h : List Timed) (timed : Timed) (closed : Bool) → is_over h ≡ false → closed ≡ closes p h timed
+    → told_parts p place (timed ∷ h) (λ slot. sent_by p slot h timed) (lane_by p h timed) (speaker timed.event) closed ≡ event_told p place h timed
+told_event p place h timed closed is same =
     let lane = lane_told place (lane_by p h timed) in
     let slices = told_by_slot place (λ slot. sent_by p slot h timed) 0 p.slices in
     let close = close_told p place (timed ∷ h) timed.event in
     let down = down_told place h timed in
-    let ended : end_told place (timed ∷ h) ≡ down = ends_by (is_ended (phase_of h)) (leb (2 ^ 60) (length h)) (is_ended (phase_of (timed ∷ h))) (down_line place ∷ []) is in
-    ap (λ (lines : List Line). lane ++ (slices ++ (close ++ lines))) ended
+    ap (λ (b : Bool). lane ++ (slices ++ state_told p place (timed ∷ h) (speaker timed.event) b)) same
+    ∙ ap (λ (lines : List Line). lane ++ (slices ++ lines)) (told_state p place h timed (speaker timed.event) refl is)
     ∙ sym (append_assoc lane slices (close ++ down))
     ∙ sym (append_assoc (lane ++ slices) close down)
     ∙ rw is refl
@@ -37,3 +57,47 @@ next_on h timed is = rw is refl
 
 pub next_over : (h : List Timed) (timed : Timed) → is_over h ≡ true → next_of h timed ≡ h
 next_over h timed is = rw is refl
+
+-- ---- verdicts
+
+go_by : (over closing : Bool) → Go ≡ (if over then Ended else if closing then ToClose else Go) → false ≡ closing
+go_by true closing is = absurd cc
+go_by false true is = absurd cc
+go_by false false is = refl
+
+close_by : (over closing : Bool) → ToClose ≡ (if over then Ended else if closing then ToClose else Go) → true ≡ closing
+close_by true closing is = absurd cc
+close_by false true is = refl
+close_by false false is = absurd cc
+
+-- an event with a verdict was answered, and the desk is as it is after that
+abbrev pub Answered : PolicyView → List Timed → Timed → Verdict → Desk → Type 0
+Answered p h timed answered desk = (answered ≡ verdict p h timed) × After p h timed (takes_in (Ok answered)) desk
+
+-- an event was taken in, its connection is closed or not, and what it makes waits
+pub record IsTaken (p : PolicyView) (h : List Timed) (timed : Timed) (closed : Bool) (desk : Desk) : Type 0 where
+  pub going : is_over h ≡ false
+  pub closed_as : closed ≡ closes p h timed
+  pub holds : Holds p (timed ∷ h) (λ slot. sent_by p slot h timed) (lane_by p h timed) desk
+
+pub taken_going : (p : PolicyView) (h : List Timed) (timed : Timed) (answered : Verdict) (desk : Desk) → answered ≡ Go → Answered p h timed answered desk → IsTaken p h timed false desk
+taken_going p h timed answered desk is reply =
+    let after = subst (λ (v : Verdict). Answered p h timed v desk) is reply in
+    record { going = after.1.0; closed_as = go_by (is_over h) (closes p h timed) after.0; holds = after.1.1 }
+
+pub taken_closing : (p : PolicyView) (h : List Timed) (timed : Timed) (answered : Verdict) (desk : Desk) → answered ≡ ToClose → Answered p h timed answered desk → IsTaken p h timed true desk
+taken_closing p h timed answered desk is reply =
+    let after = subst (λ (v : Verdict). Answered p h timed v desk) is reply in
+    record { going = after.1.0; closed_as = close_by (is_over h) (closes p h timed) after.0; holds = after.1.1 }
+
+-- an event wasn't taken in
+pub refused : (p : PolicyView) (h : List Timed) (timed : Timed) (answered : Verdict) (desk : Desk) → answered ≡ Ended → Answered p h timed answered desk → (is_over h ≡ true) × IsQuiet p h desk
+refused p h timed answered desk is reply = (subst (λ (v : Verdict). Answered p h timed v desk) is reply).1
+
+-- what is told of an event that was taken in
+pub told_taken : {E T : Type 0} (Tells : T → Line → Bool → T → Type 0) (p : PolicyView) (place : Place) (h : List Timed) (timed : Timed) (closed : Bool) (desk : Desk) (speaking : Option ℕ) (result : Result (Unit {0}) E) (before now : T)
+    → IsTaken p h timed closed desk → speaking ≡ speaker timed.event
+    → Tell Tells result (told_parts p place (timed ∷ h) (λ slot. sent_by p slot h timed) (lane_by p h timed) speaking closed) before now → Tell Tells result (event_told p place h timed) before now
+told_taken Tells p place h timed closed desk speaking result before now taken of told =
+    subst (λ (lines : List Line). Tell Tells result lines before now)
+    (ap (λ (o : Option ℕ). told_parts p place (timed ∷ h) (λ slot. sent_by p slot h timed) (lane_by p h timed) o closed) of ∙ told_event p place h timed closed taken.going taken.closed_as) told

@@ -11,9 +11,9 @@ use Rattle.recording.proofs.Forms.{formed_item}
 use Rattle.recording.proofs.Walk.{same_count}
 use Rattle.flowspace.specs.Policies.{PolicyView}
 use Rattle.desk_words.specs.Recorded.{told_by, carried, told_in}
-use Rattle.summary_words.specs.Summaries.{event_count_from}
+use Rattle.summary_words.specs.Summaries.{event_count}
 use Rattle.fv_report.specs.declared.switch.Switch.{Switch}
-use Rattle.fv_report.specs.Telling.{Line, Heard, HeardPart, told_from}
+use Rattle.fv_report.specs.Telling.{Line, Heard, HeardPart, all_lines}
 use Rattle.fv_report.specs.Switches.{AreUnknown, PlaysAmong}
 use Rattle.fv_report.proofs.Running.{Running, running_first, running_more, running_part, running_last, counted_last}
 
@@ -131,7 +131,7 @@ walking_more Tells p file all at item events later before now after old new more
 
 -- a piece of the next record's lines was told
 pub walking_part : {E T : Type 0} (Tells : T → Line → Bool → T → Type 0) (p : PolicyView) (file : List ℕ) (all : List Item) (at : ℕ) (item : Item) (events : ℕ) (fault : E) (before now after : T) (old new : List (Option Switch)) → at < length file → item ≡ item_at file at
-    → Walking Tells p file all at events before now old → PlaysAmong {E = E} Tells p (told_by item (carried file item)) events (Err fault) now after old new → HeardPart Tells before (told_from p 0 [] (told_in file all)) after
+    → Walking Tells p file all at events before now old → PlaysAmong {E = E} Tells p (told_by item (carried file item)) events (Err fault) now after old new → HeardPart Tells before (all_lines p (told_in file all)) after
 walking_part Tells p file all at item events fault before now after old new more is s plays =
     let next = next_of (length p.slices) file at s.left more s.rest in
     let own : s.left ≡ item ∷ next.others = next.is ∙ ap (λ (r : Item). r ∷ next.others) (sym is) in
@@ -144,9 +144,9 @@ ended Tells p file all at events before now switches end s =
     subst (λ (left : List Item). Running Tells p file all left events before now switches) (none_left (length p.slices) file at s.left end s.rest) s.running
 
 pub walking_last : {T : Type 0} (Tells : T → Line → Bool → T → Type 0) (p : PolicyView) (file : List ℕ) (all : List Item) (at events : ℕ) (before now : T) (switches : List (Option Switch)) → length file ≤ at → Walking Tells p file all at events before now switches
-    → Heard Tells before (told_from p 0 [] (told_in file all)) now
+    → Heard Tells before (all_lines p (told_in file all)) now
 walking_last Tells p file all at events before now switches end s = running_last Tells p file all events before now switches (ended Tells p file all at events before now switches end s)
 
 pub counted_all : {T : Type 0} (Tells : T → Line → Bool → T → Type 0) (p : PolicyView) (file : List ℕ) (all : List Item) (at events : ℕ) (before now : T) (switches : List (Option Switch)) → length file ≤ at → Walking Tells p file all at events before now switches
-    → events ≡ event_count_from p [] (told_in file all)
+    → events ≡ event_count p (told_in file all)
 counted_all Tells p file all at events before now switches end s = counted_last Tells p file all events before now switches (ended Tells p file all at events before now switches end s)

@@ -54,4 +54,4 @@ CountsLine saying true old new =
 
 -- the summary of so many events with these messages
 abbrev pub summary_text : ℕ → List (List ℕ) → (ℕ → List (List ℕ)) → List Slice → List ℕ
-summary_text events lane messages slices = codes "events " ++ decimal events ++ codes "\n" ++ count_line (codes "lane") lane ++ count_lines messages 0 slices
+summary_text events lane messages slices = codes "events " ++ decimal events ++ codes "\n" ++ count_line (codes "lane") lane ++ count_lines messages slices

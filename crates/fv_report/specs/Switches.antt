@@ -1,9 +1,9 @@
 -- Switches of a recording after some of its records (this proxy's own rule). Records have the newest first.
-use Rattle.std.specs.Prelude.{ℕ, ◌≡◌, ◌≤◌, ◌<◌, ◌+◌, ◌==◌, Bool, false, List, [], ◌∷◌, ◌++◌, length, slice_get, Option, Some, None, Result, IfOk}
+use Rattle.std.specs.Prelude.{ℕ, ◌≡◌, ◌≤◌, ◌<◌, ◌+◌, ◌==◌, Bool, true, false, List, [], ◌∷◌, ◌++◌, length, slice_get, Option, Some, None, Result, IfOk}
 use Rattle.std.specs.List.{list_any}
 use Rattle.flowspace.specs.Policies.{PolicyView}
 use Rattle.recording.specs.declared.item.Item.{Item}
-use Rattle.recording.specs.Recordings.{Told, switch_bytes, slice_up, slice_bytes}
+use Rattle.recording.specs.Recordings.{Told, switch_up, switch_bytes, slice_up, slice_bytes}
 use Rattle.of10_ctl.specs.Streams.{Stream, Stands, frames_of}
 use Rattle.answer_bounds.specs.Bounds.{AreFramed}
 use Rattle.desk_words.specs.declared.answer.Dest.{Dest}
@@ -32,10 +32,18 @@ pub record RecordPlayed {E S T : Type 0} (Tells : T → Line → Bool → T → 
   pub count : IfOk result (λ later. later ≡ number + length (events_in policy r before))
   pub stands : IfOk result (λ _. AfterIt state)
 
+-- the switch that a record finds: a fresh one where it is the switch's up, else the one after the records before
+abbrev pub IsFoundWhere : Bool → PolicyView → Told → List Told → Switch → Type 0
+IsFoundWhere true policy r before switch = IsFreshSwitch policy switch
+IsFoundWhere false policy r before switch = SwitchStands policy r.switch before switch
+
+abbrev pub IsFound : PolicyView → Told → List Told → Switch → Type 0
+IsFound policy r before switch = IsFoundWhere (r.kind == switch_up) policy r before switch
+
 -- a record is played at its switch
 abbrev pub PlaysRecord : {E T : Type 0} → (T → Line → Bool → T → Type 0) → PolicyView → Told → ℕ → Result ℕ E → T → T → Switch → Switch → Type 0
 PlaysRecord Tells policy r number result written_before written old new =
-    (before : List Told) → SwitchStands policy r.switch before old
+    (before : List Told) → IsFound policy r before old
     → RecordPlayed Tells policy r before number result written_before written (SwitchStands policy r.switch (r ∷ before)) new
 
 -- what a record of a connection's bytes tells
@@ -73,7 +81,7 @@ pub record IsReady (policy : PolicyView) (r : Told) (before : List Told) (switch
   pub streams : StreamsStand (length policy.slices) r.switch (r ∷ before) switch.streams
 
 abbrev pub Readies : PolicyView → Told → Switch → Switch → Type 0
-Readies policy r old new = (before : List Told) → SwitchStands policy r.switch before old → IsReady policy r before new
+Readies policy r old new = (before : List Told) → IsFound policy r before old → IsReady policy r before new
 
 -- no record is of the switch
 abbrev pub IsUntouched : ℕ → List Told → Type 0

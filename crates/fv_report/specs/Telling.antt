@@ -1,5 +1,6 @@
 -- What is told of a recording, line by line, and who hears it (this proxy's own rule).
-use Rattle.std.specs.Prelude.{ℕ, ◌≡◌, ◌+◌, ◌⊎◌, Bool, true, false, if◌then◌else◌, List, [], ◌∷◌, ◌++◌, length, map, Option, Some, None, Result, Ok, Err, codes}
+use Rattle.std.specs.Prelude.{ℕ, ◌≡◌, ◌+◌, ◌⊎◌, Bool, true, false, if◌then◌else◌, List, [], ◌∷◌, ◌++◌, map, Option, Some, None, Result, Ok, Err, codes}
+use Rattle.std.specs.List.{flat_map, enumerate_from}
 use Rattle.hex.specs.Hex.{encode_lower}
 use Rattle.flowspace.specs.declared.slices.Slice.{Slice}
 use Rattle.flowspace.specs.Policies.{PolicyView}
@@ -11,7 +12,7 @@ use Rattle.desk_words.specs.Sent.{sent_by, lane_by}
 use Rattle.desk_words.specs.Verdicts.{is_over, is_ended}
 use Rattle.desk_words.specs.Openings.{phase_of}
 use Rattle.desk_words.specs.Operations.{ends}
-use Rattle.desk_words.specs.Recorded.{next_of, history_at, events_in}
+use Rattle.desk_words.specs.Recorded.{next_of, Happened, all_happened}
 use Rattle.desk_words.specs.Reports.{Place, name_at, speaker}
 use Rattle.desk_words.specs.Reports as report
 
@@ -87,13 +88,13 @@ abbrev pub told_of : PolicyView → Place → List Timed → List Timed → List
 told_of policy place h [] = []
 told_of policy place h (timed ∷ later) = event_told policy place h timed ++ told_of policy (record place { number = place.number + 1 }) (next_of h timed) later
 
--- the lines of records, after so many events and these records, newest first
-unfoldable pub told_from : PolicyView → ℕ → List Told → List Told → List Line
-told_from policy events before [] = []
-told_from policy events before (r ∷ later) =
-    let own = events_in policy r before in
-    told_of policy (record { number = events; switch = r.switch }) (history_at policy r before) own
-    ++ told_from policy (events + length own) (r ∷ before) later
+-- the lines of events, each at its number, from a number on
+unfoldable pub lines_from : PolicyView → ℕ → List Happened → List Line
+lines_from policy number events = flat_map (λ one. event_told policy (record { number = one.0; switch = one.1.switch }) one.1.history one.1.timed) (enumerate_from number events)
+
+-- the lines of all that happened in a recording
+abbrev pub all_lines : PolicyView → List Told → List Line
+all_lines policy records = lines_from policy 0 (all_happened policy records)
 
 -- ---- in parts
 
@@ -101,10 +102,19 @@ told_from policy events before (r ∷ later) =
 abbrev pub end_told : Place → List Timed → List Line
 end_told place h = if is_ended (phase_of h) then down_line place ∷ [] else []
 
--- messages that wait, the connection that is closed, and the end
-abbrev pub told_parts : PolicyView → Place → List Timed → (ℕ → List (List ℕ)) → List (List ℕ) → Option ℕ → List Line
-told_parts policy place h slices lane speaking =
-    lane_told place lane ++ (told_by_slot place slices 0 policy.slices ++ (closing_told policy place h speaking ++ end_told place h))
+-- the connection of the slice at a slot is closed, or not
+abbrev pub closed_told : PolicyView → Place → ℕ → Bool → List Line
+closed_told policy place slot closed = if closed then record { place = place; saying = Close (name_at policy.slices slot) } ∷ [] else []
+
+-- the connection of the slice that spoke, which is closed or not; where none did, the switch's end
+abbrev pub state_told : PolicyView → Place → List Timed → Option ℕ → Bool → List Line
+state_told policy place h None closed = end_told place h
+state_told policy place h (Some slot) closed = closed_told policy place slot closed
+
+-- messages that wait, and then the connection of the slice that spoke, or the switch's end
+abbrev pub told_parts : PolicyView → Place → List Timed → (ℕ → List (List ℕ)) → List (List ℕ) → Option ℕ → Bool → List Line
+told_parts policy place h slices lane speaking closed =
+    lane_told place lane ++ (told_by_slot place slices 0 policy.slices ++ state_told policy place h speaking closed)
 
 -- ---- who hears
 

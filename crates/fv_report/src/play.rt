@@ -6,10 +6,9 @@ ghost use Rattle.of10_ctl.specs.Frames.{IsFrame};
 ghost use Rattle.of10_ctl.specs.Streams.{Stands, frames_of};
 ghost use Rattle.answer_bounds.specs.Bounds.{IsFramed, AreFramed};
 ghost use Rattle.desk_words.specs.declared.event.Timed.{Timed};
-ghost use Rattle.desk_words.specs.Recorded.{happens};
 ghost use Rattle.fv_report.specs.Writing.{Counted};
 ghost use Rattle.fv_report.specs.Holding.{IsQuiet};
-ghost use Rattle.fv_report.specs.Plays.{event_from, Plays, Hears};
+ghost use Rattle.fv_report.specs.Plays.{event_from, happens, Plays, Hears};
 
 use crate::fault::ReportFault;
 use crate::streams::next_frame;

@@ -6,14 +6,14 @@ ghost use Rattle.recording.specs.declared.item.Item.{Item};
 ghost use Rattle.recording.specs.Recordings.{IsItem, read_items};
 ghost use Rattle.desk_words.specs.Recorded.{told_by, carried, told_in};
 ghost use Rattle.desk_words.specs.Reports.{report};
-ghost use Rattle.summary_words.specs.Summaries.{event_count_from};
+ghost use Rattle.summary_words.specs.Summaries.{event_count};
 ghost use Rattle.fv_report.specs.Writing.{Wrote, Counted};
-ghost use Rattle.fv_report.specs.Telling.{Tell, told_from};
+ghost use Rattle.fv_report.specs.Telling.{Tell, all_lines};
 ghost use Rattle.fv_report.specs.Switches.{IsRecord, PlaysAt, PlaysAmong, AreUnknown};
 
 use crate::fault::ReportFault;
 use crate::line::{LineBuffer, Writer};
-use crate::switch::{Switch, play_record};
+use crate::switch::{Switch, play_again, play_record};
 use crate::teller::Teller;
 use flowspace::Policy;
 use fv_base::Sink;
@@ -54,7 +54,7 @@ fn play_at<T: Teller>(
     ensures counted { Counted result (T.faults teller.old) (T.faults teller.new) }
 {
     match known {
-        Some(switch) => play_record(alloc, teller, policy, events, switch, item, bytes),
+        Some(switch) => play_again(alloc, teller, policy, events, switch, item, bytes),
         None => {
             let mut switch = Switch::new(alloc, policy)?;
             let later = play_record(alloc, teller, policy, events, &mut switch, item, bytes)?;
@@ -113,8 +113,8 @@ pub(crate) fn tell_items<T: Teller>(
     items: &[Item],
 ) -> Result<u64, ReportFault>
     requires { All (IsItem (length policy.now.slices) bytes.now) items.now }
-    ensures tells { Tell T.Tells result (told_from policy.now 0 [] (told_in bytes.now items.now)) teller.old teller.new }
-    ensures count { IfOk result (λ events. events ≡ event_count_from policy.now [] (told_in bytes.now items.now)) }
+    ensures tells { Tell T.Tells result (all_lines policy.now (told_in bytes.now items.now)) teller.old teller.new }
+    ensures count { IfOk result (λ events. events ≡ event_count policy.now (told_in bytes.now items.now)) }
     ensures counted { Counted result (T.faults teller.old) (T.faults teller.new) }
 {
     let mut switches = no_switches(alloc)?;

@@ -38,7 +38,7 @@ fn put_count(text: &mut Vec<u8>, name: &str, count: Count) -> Result<(), AllocEr
 /// Appends a line of each slice, by slot.
 fn put_counts(text: &mut Vec<u8>, policy: &Policy, counts: &[Count]) -> Result<(), AllocError>
     requires { length counts.now ≡ length policy.now.slices }
-    ensures { OnOk result ((messages : ℕ → List (List ℕ)) → AreCounts messages counts.now → text.new.items ≡ text.old.items ++ count_lines messages 0 policy.now.slices) }
+    ensures { OnOk result ((messages : ℕ → List (List ℕ)) → AreCounts messages counts.now → text.new.items ≡ text.old.items ++ count_lines messages policy.now.slices) }
 {
     for (slot, slice) in policy.slices().iter().enumerate() {
         put_count(text, slice.name.as_str(), counts[slot])?;

@@ -1,13 +1,14 @@
 //! One switch of a recording: its desk, and what came on its connections.
 
-ghost use Rattle.std.specs.Prelude.{◌≡◌, ◌<◌, true, List, [], ◌∷◌, length, IfOk, OnOk};
+ghost use Rattle.std.specs.Prelude.{◌≡◌, ◌<◌, true, List, [], ◌∷◌, length, Some, IfOk};
 ghost use Rattle.flowspace.specs.Policies.{PolicyView};
 ghost use Rattle.recording.specs.Recordings.{Told, switch_bytes, slice_bytes};
 ghost use Rattle.answer_bounds.specs.Bounds.{IsFramed};
 ghost use Rattle.desk_words.specs.declared.event.Timed.{Timed};
-ghost use Rattle.desk_words.specs.Recorded.{told_by, happens, happenings};
+ghost use Rattle.desk_words.specs.Recorded.{told_by, happenings};
+ghost use Rattle.fv_report.specs.Plays.{happens};
 ghost use Rattle.fv_report.specs.Writing.{Counted};
-ghost use Rattle.fv_report.specs.Switches.{IsFreshSwitch, IsRecord, IsTurn, Readies, PlaysRecord, Speaks};
+ghost use Rattle.fv_report.specs.Switches.{IsFreshSwitch, IsRecord, IsTurn, Readies, PlaysRecord, PlaysAt, Speaks};
 
 use crate::fault::ReportFault;
 use crate::play::{Came, hear_bytes, play};
@@ -37,22 +38,14 @@ impl Switch {
         })
     }
 
-    /// Before the event of a record that carries no bytes: where the switch connects, all begins anew, and
-    /// where a slice's controller does, its stream.
-    fn renew(&mut self, alloc: Global, policy: &Policy, item: &Item) -> Result<(), AllocError>
+    /// Before the event of a record that carries no bytes: where a slice's controller connects, its stream
+    /// begins anew.
+    fn ready(&mut self, alloc: Global, item: &Item)
         requires { IsTurn item.now.kind }
-        ensures { OnOk result (Readies policy.now (told_by item.now []) self.old self.new) }
+        ensures { (policy : PolicyView) → Readies policy (told_by item.now []) self.old self.new }
     {
-        match item.kind {
-            SWITCH_UP => {
-                *self = Switch::new(alloc, policy)?;
-                Ok(())
-            }
-            SLICE_UP => {
-                restart(alloc, &mut self.streams.slices, item.slot);
-                Ok(())
-            }
-            _ => Ok(()),
+        if item.kind == SLICE_UP {
+            restart(alloc, &mut self.streams.slices, item.slot);
         }
     }
 }
@@ -83,7 +76,7 @@ fn event_of(item: &Item) -> Event
     }
 }
 
-/// A connection begins or ends.
+/// A connection begins or ends. A switch that comes up is fresh.
 fn connection_turns<T: Teller>(
     alloc: Global,
     teller: &mut T,
@@ -96,7 +89,7 @@ fn connection_turns<T: Teller>(
     ensures plays { PlaysRecord T.Tells policy.now (told_by item.now []) events result teller.old teller.new switch.old switch.new }
     ensures counted { Counted result (T.faults teller.old) (T.faults teller.new) }
 {
-    switch.renew(alloc, policy, item)?;
+    switch.ready(alloc, item);
     let timed = Timed {
         event: event_of(item),
         moment: item.moment,
@@ -186,7 +179,7 @@ fn slice_speaks<T: Teller>(
     )
 }
 
-/// Plays a record.
+/// Plays a record at its switch, which is a fresh one where the record is the switch's up.
 pub(crate) fn play_record<T: Teller>(
     alloc: Global,
     teller: &mut T,
@@ -205,4 +198,24 @@ pub(crate) fn play_record<T: Teller>(
         SLICE_BYTES => slice_speaks(alloc, teller, policy, events, switch, item, bytes),
         _ => connection_turns(alloc, teller, policy, events, switch, item),
     }
+}
+
+/// Plays a record at a switch of which there were records before: where it comes up, all begins anew.
+pub(crate) fn play_again<T: Teller>(
+    alloc: Global,
+    teller: &mut T,
+    policy: &Policy,
+    events: u64,
+    switch: &mut Switch,
+    item: &Item,
+    bytes: &[u8],
+) -> Result<u64, ReportFault>
+    requires item { IsRecord (length policy.now.slices) item.now bytes.now }
+    ensures plays { PlaysAt T.Tells policy.now (told_by item.now bytes.now) events result teller.old teller.new (Some switch.old) (Some switch.new) }
+    ensures counted { Counted result (T.faults teller.old) (T.faults teller.new) }
+{
+    if item.kind == SWITCH_UP {
+        *switch = Switch::new(alloc, policy)?;
+    }
+    play_record(alloc, teller, policy, events, switch, item, bytes)
 }

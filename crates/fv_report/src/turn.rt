@@ -6,11 +6,11 @@ ghost use Rattle.desk_words.specs.declared.event.Timed.{Timed};
 ghost use Rattle.answer_bounds.specs.Bounds.{IsFramed, AreFramed};
 ghost use Rattle.desk_words.specs.Openings.{phase_of};
 ghost use Rattle.desk_words.specs.Histories.{is_slice_up};
-ghost use Rattle.desk_words.specs.Verdicts.{is_ended};
+ghost use Rattle.desk_words.specs.Verdicts.{is_ended, verdict};
 ghost use Rattle.desk_words.specs.Operations.{takes_in};
 ghost use Rattle.desk_words.specs.Recorded.{next_of};
 ghost use Rattle.desk_words.specs.Reports.{name_at, speaker};
-ghost use Rattle.fv_report.specs.Telling.{Tell, closing_told, event_told, end_told, told_parts};
+ghost use Rattle.fv_report.specs.Telling.{Tell, closing_told, closed_told, state_told, event_told, end_told, told_parts};
 ghost use Rattle.fv_report.specs.Lines.{place_of};
 ghost use Rattle.fv_report.specs.Writing.{Counted};
 ghost use Rattle.fv_report.specs.Holding.{Holds, IsQuiet, After};
@@ -48,23 +48,14 @@ fn speaker(event: &Event) -> Option<u8>
     }
 }
 
-/// Whether an event with this verdict is taken in.
-fn is_taken_in(verdict: Verdict) -> bool
-    ensures { result ≡ takes_in (Ok verdict) }
-{
-    match verdict {
-        Verdict::Ended => false,
-        Verdict::Go | Verdict::Close => true,
-    }
-}
-
-/// One event. Whether it is taken in, so that what it makes waits; else nothing more comes of the desk.
-fn step(alloc: Global, desk: &mut Desk, timed: Timed) -> Result<bool, ReportFault>
-    ensures after { IfOk result (λ taken_in. (policy : PolicyView) (h : List Timed) → IsQuiet policy h desk.old → AreFramed h → IsFramed timed.event → After policy h timed taken_in desk.new) }
+/// One event. The verdict on it, by which it is taken in, so that what it makes waits, or nothing more comes
+/// of the desk.
+fn step(alloc: Global, desk: &mut Desk, timed: Timed) -> Result<Verdict, ReportFault>
+    ensures after { IfOk result (λ answered. (policy : PolicyView) (h : List Timed) → IsQuiet policy h desk.old → AreFramed h → IsFramed timed.event → (answered ≡ verdict policy h timed) × After policy h timed (takes_in (Ok answered)) desk.new) }
     ensures memory { IfErr result (λ f. f ≡ ReportFault.Memory) }
 {
     match desk.step(alloc, timed) {
-        Ok(verdict) => Ok(is_taken_in(verdict)),
+        Ok(verdict) => Ok(verdict),
         Err(_) => Err(ReportFault::Memory),
     }
 }
@@ -79,22 +70,18 @@ fn name_of(policy: &Policy, slot: u8) -> &str
     }
 }
 
-/// The line of a connection that is closed, where the slice that spoke isn't up.
+/// The line of a connection that is closed, if it is.
 fn put_close<T: Teller>(
     teller: &mut T,
-    desk: &mut Desk,
     policy: &Policy,
     place: Place,
-    speaker: Option<u8>,
+    slot: u8,
+    closed: bool,
 ) -> Result<(), ReportFault>
-    ensures writes { (h : List Timed) → IsQuiet policy.now h desk.old → Tell T.Tells result (closing_told policy.now (place_of place) h speaker) teller.old teller.new }
-    ensures same { (h : List Timed) → IsQuiet policy.now h desk.old → IsQuiet policy.now h desk.new }
+    ensures writes { Tell T.Tells result (closed_told policy.now (place_of place) slot closed) teller.old teller.new }
     ensures counted { Counted result (T.faults teller.old) (T.faults teller.new) }
 {
-    let Some(slot) = speaker else {
-        return Ok(());
-    };
-    if is_up(desk, slot) {
+    if !closed {
         return Ok(());
     }
     teller.tell(place, Said::Close(name_of(policy, slot)))
@@ -112,7 +99,26 @@ fn put_end<T: Teller>(teller: &mut T, desk: &mut Desk, place: Place) -> Result<(
     teller.tell(place, Said::Down)
 }
 
-/// The lines of an event that was taken in: of its messages, of the connection that is closed, and of the
+/// Where a slice spoke, the line of its connection if that is closed; else the line of the switch's end.
+fn put_state<T: Teller>(
+    teller: &mut T,
+    desk: &mut Desk,
+    policy: &Policy,
+    place: Place,
+    speaker: Option<u8>,
+    closed: bool,
+) -> Result<(), ReportFault>
+    ensures writes { (h : List Timed) → IsQuiet policy.now h desk.old → Tell T.Tells result (state_told policy.now (place_of place) h speaker closed) teller.old teller.new }
+    ensures same { (h : List Timed) → IsQuiet policy.now h desk.old → IsQuiet policy.now h desk.new }
+    ensures counted { Counted result (T.faults teller.old) (T.faults teller.new) }
+{
+    match speaker {
+        Some(slot) => put_close(teller, policy, place, slot, closed),
+        None => put_end(teller, desk, place),
+    }
+}
+
+/// The lines of an event that was taken in: of its messages, and of a connection that is closed or of the
 /// switch's end.
 fn tell<T: Teller>(
     teller: &mut T,
@@ -120,15 +126,34 @@ fn tell<T: Teller>(
     policy: &Policy,
     place: Place,
     speaker: Option<u8>,
+    closed: bool,
 ) -> Result<(), ReportFault>
-    ensures writes { (h : List Timed) (slices : ℕ → List (List ℕ)) (lane : List (List ℕ)) → Holds policy.now h slices lane desk.old → Tell T.Tells result (told_parts policy.now (place_of place) h slices lane speaker) teller.old teller.new }
+    ensures writes { (h : List Timed) (slices : ℕ → List (List ℕ)) (lane : List (List ℕ)) → Holds policy.now h slices lane desk.old → Tell T.Tells result (told_parts policy.now (place_of place) h slices lane speaker closed) teller.old teller.new }
     ensures quiet { OnOk result ((h : List Timed) (slices : ℕ → List (List ℕ)) (lane : List (List ℕ)) → Holds policy.now h slices lane desk.old → IsQuiet policy.now h desk.new) }
     ensures counted { Counted result (T.faults teller.old) (T.faults teller.new) }
 {
     drain_lane(teller, desk, place)?;
     drain_slices(teller, desk, place, policy)?;
-    put_close(teller, desk, policy, place, speaker)?;
-    put_end(teller, desk, place)
+    put_state(teller, desk, policy, place, speaker, closed)
+}
+
+/// The line of an event that wasn't taken in: nothing comes of it but that the slice that spoke isn't up.
+fn tell_over<T: Teller>(
+    teller: &mut T,
+    desk: &mut Desk,
+    policy: &Policy,
+    place: Place,
+    speaker: Option<u8>,
+) -> Result<(), ReportFault>
+    ensures writes { (h : List Timed) → IsQuiet policy.now h desk.old → Tell T.Tells result (closing_told policy.now (place_of place) h speaker) teller.old teller.new }
+    ensures same { (h : List Timed) → IsQuiet policy.now h desk.old → IsQuiet policy.now h desk.new }
+    ensures counted { Counted result (T.faults teller.old) (T.faults teller.new) }
+{
+    let Some(slot) = speaker else {
+        return Ok(());
+    };
+    let closed = !is_up(desk, slot);
+    put_close(teller, policy, place, slot, closed)
 }
 
 /// One event at a desk at which nothing waits, and all its lines.
@@ -145,9 +170,9 @@ pub(crate) fn turn<T: Teller>(
     ensures counted { Counted result (T.faults teller.old) (T.faults teller.new) }
 {
     let speaker = speaker(&timed.event);
-    if step(alloc, desk, timed)? {
-        tell(teller, desk, policy, place, speaker)
-    } else {
-        put_close(teller, desk, policy, place, speaker)
+    match step(alloc, desk, timed)? {
+        Verdict::Go => tell(teller, desk, policy, place, speaker, false),
+        Verdict::Close => tell(teller, desk, policy, place, speaker, true),
+        Verdict::Ended => tell_over(teller, desk, policy, place, speaker),
     }
 }

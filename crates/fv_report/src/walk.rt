@@ -4,9 +4,9 @@ ghost use Rattle.std.specs.Prelude.{◌≡◌, ◌+◌, ◌≤◌, List, [], len
 ghost use Rattle.recording.specs.declared.item.Item.{Item};
 ghost use Rattle.recording.specs.Recordings.{item_at, read_items};
 ghost use Rattle.desk_words.specs.Recorded.{told_in};
-ghost use Rattle.summary_words.specs.Summaries.{event_count_from};
+ghost use Rattle.summary_words.specs.Summaries.{event_count};
 ghost use Rattle.fv_report.specs.Writing.{Counted};
-ghost use Rattle.fv_report.specs.Telling.{Tell, told_from};
+ghost use Rattle.fv_report.specs.Telling.{Tell, all_lines};
 
 use crate::fault::ReportFault;
 use crate::run::{no_switches, play_item};
@@ -41,8 +41,8 @@ pub(crate) fn tell_file<T: Teller>(
     bytes: &[u8],
 ) -> Result<u64, ReportFault>
     requires { (items : List Item) × (read_items (length policy.now.slices) bytes.now ≡ Ok items) }
-    ensures tells { (items : List Item) → read_items (length policy.now.slices) bytes.now ≡ Ok items → Tell T.Tells result (told_from policy.now 0 [] (told_in bytes.now items)) teller.old teller.new }
-    ensures count { (items : List Item) → read_items (length policy.now.slices) bytes.now ≡ Ok items → IfOk result (λ events. events ≡ event_count_from policy.now [] (told_in bytes.now items)) }
+    ensures tells { (items : List Item) → read_items (length policy.now.slices) bytes.now ≡ Ok items → Tell T.Tells result (all_lines policy.now (told_in bytes.now items)) teller.old teller.new }
+    ensures count { (items : List Item) → read_items (length policy.now.slices) bytes.now ≡ Ok items → IfOk result (λ events. events ≡ event_count policy.now (told_in bytes.now items)) }
     ensures counted { Counted result (T.faults teller.old) (T.faults teller.new) }
 {
     let mut switches = no_switches(alloc)?;

@@ -5,8 +5,9 @@ use Rattle.recording.specs.Recordings.{Told}
 use Rattle.slice_words.specs.Alone.{alone}
 use Rattle.desk_words.specs.Openings.{opening_of}
 use Rattle.desk_words.specs.Histories.{settings_at, view_of}
-use Rattle.desk_words.specs.Recorded.{history_of}
-use Rattle.desk_words.specs.Laws.{Happened, all_happened, since_up, told_over}
+use Rattle.desk_words.specs.Recorded.{history_of, Happened, all_happened}
+use Rattle.desk_words.specs.Reports.{told_over}
+use Rattle.desk_words.specs.Laws.{since_up}
 
 -- the events of a recording that its first records make
 abbrev pub first_events : PolicyView → List Told → List Told → List Happened

@@ -1,5 +1,7 @@
 use Rattle.std.proofs.Common.{List, ap, ◌∙◌}
-use Rattle.desk_words.specs.Laws.{Happened, since_up, told_over}
+use Rattle.desk_words.specs.Recorded.{Happened}
+use Rattle.desk_words.specs.Reports.{told_over}
+use Rattle.desk_words.specs.Laws.{since_up}
 use Rattle.desk_words.proofs.Reporting.{come_before_later}
 use Rattle.desk_words.proofs.Sessions.{told_as_alone}
 use Rattle.promise.proofs.slice_is_told_as_alone_at_each_up.Goals as goal

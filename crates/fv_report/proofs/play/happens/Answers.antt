@@ -1,7 +1,6 @@
 use Rattle.std.proofs.Common.{not, ap, ◌∙◌, sym}
 use Rattle.desk_words.specs.declared.answer.Dest.{Dest}
-use Rattle.desk_words.specs.Recorded.{happens}
-use Rattle.fv_report.specs.Plays.{event_from}
+use Rattle.fv_report.specs.Plays.{event_from, happens}
 use Rattle.fv_report.proofs.play.happens.Goals as goal
 
 pub returns-in-Switch-clause-answer : goal.returns-in-Switch-clause-answer

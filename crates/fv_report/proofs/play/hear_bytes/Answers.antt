@@ -1,8 +1,7 @@
 use Rattle.std.proofs.Common.{◌++◌, map, drop, length}
 use Rattle.of10_ctl.specs.Streams.{frames_of}
-use Rattle.desk_words.specs.Recorded.{happening}
 use Rattle.fv_report.specs.Lines.{place_of}
-use Rattle.fv_report.specs.Plays.{event_from}
+use Rattle.fv_report.specs.Plays.{event_from, happening}
 use Rattle.fv_report.proofs.Writing.{heard_none}
 use Rattle.fv_report.proofs.Playing.{hearing_failed}
 use Rattle.fv_report.proofs.Recorded.{frames_fed}

@@ -1,8 +1,7 @@
 use Rattle.std.proofs.Common.{◌∷◌, [], sym, ◌∙◌, ap, subst}
 use Rattle.answer_bounds.specs.Bounds.{IsFramed}
 use Rattle.desk_words.specs.declared.event.Event.{Event}
-use Rattle.desk_words.specs.Recorded.{happens}
-use Rattle.fv_report.specs.Plays.{Plays}
+use Rattle.fv_report.specs.Plays.{happens, Plays}
 use Rattle.fv_report.proofs.Playing.{framed_from}
 use Rattle.fv_report.proofs.play.hear_one.Goals as goal
 

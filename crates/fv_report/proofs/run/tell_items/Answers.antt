@@ -3,7 +3,7 @@ use Rattle.std.proofs.lemmas.List.{drop_more, drop_all}
 use Rattle.std.proofs.lemmas.Result.{err_from_is_err_and}
 use Rattle.recording.specs.declared.item.Item.{Item}
 use Rattle.desk_words.specs.Recorded.{told_in}
-use Rattle.fv_report.specs.Telling.{told_from}
+use Rattle.fv_report.specs.Telling.{all_lines}
 use Rattle.fv_report.proofs.Writing.{tell_fault, heard_none, fault_after}
 use Rattle.fv_report.proofs.Running.{Running, running_first, running_more, running_part, running_last, counted_last}
 use Rattle.fv_report.proofs.run.tell_items.Goals as goal
@@ -25,7 +25,7 @@ returns-in_err-events-clause-tells g c =
     let now = c.loop-item.teller in
     let after = c.play_item.new.teller in
     let s = c.loop-item.invariant.running in
-    tell_fault g.T.Teller.Tells c.from_residual-in_err-events.result (told_from p 0 [] (told_in file all)) before after c.from_residual-in_err-events.ensures.0
+    tell_fault g.T.Teller.Tells c.from_residual-in_err-events.result (all_lines p (told_in file all)) before after c.from_residual-in_err-events.ensures.0
     (running_part g.T.Teller.Tells p file all (drop i all) (drop (i + 1) all) _ c.loop-item.events _ before now after c.loop-item.switches.items c.play_item.new.switches.items (drop_more all i _ c.loop-item-test.true) s (c.in_err-events.ensures.plays s.past s.stands))
 
 pub loop-item-preserved : goal.loop-item-preserved
@@ -70,5 +70,5 @@ returns-clause-count g c =
 
 pub returns-in_err-switches-clause-tells : goal.returns-in_err-switches-clause-tells
 returns-in_err-switches-clause-tells g c =
-    let lines = told_from c.args.policy.now 0 [] (told_in c.args.bytes.now c.args.items.now) in
+    let lines = all_lines c.args.policy.now (told_in c.args.bytes.now c.args.items.now) in
     tell_fault g.T.Teller.Tells c.from_residual.result lines c.args.teller.now c.args.teller.now c.from_residual.ensures.0 (heard_none g.T.Teller.Tells lines c.args.teller.now)

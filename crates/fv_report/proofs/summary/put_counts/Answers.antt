@@ -14,5 +14,5 @@ loop-slot-preserved c = λ messages counted.
     let within = c.loop-slot-test.true in
     let slice : slice_get all at ≡ Some c.slice-item.result =
     subst (λ (xs : List Slice). slice_get xs at ≡ Some c.slice-item.result) c.slices-slice-items.ensures.value (slice_get_read c.slices-slice-items.result.now (length c.slices-slice-items.result.now) at c.slice-item.result refl within c.slice-item.is) in
-    line_put messages all at c.slice-item.result c.as_str.result.now c.loop-slot.text.items c.put_count.new.text.items (c.args.text.now.items ++ count_lines messages 0 all) slice c.as_str.ensures (c.loop-slot.invariant messages counted)
+    line_put messages all at c.slice-item.result c.as_str.result.now c.loop-slot.text.items c.put_count.new.text.items (c.args.text.now.items ++ count_lines messages all) slice c.as_str.ensures (c.loop-slot.invariant messages counted)
     (c.in_ok-put_count.ensures (messages at) (counted at _ (slice_get-get_or c.args.counts.now at _ (omega (arith, known, same, within)))))

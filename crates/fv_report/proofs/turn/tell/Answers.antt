@@ -2,14 +2,14 @@ use Rattle.std.proofs.Common.{◌++◌, [], ◌∙◌}
 use Rattle.std.proofs.lemmas.Result.{err_from_is_err_and}
 use Rattle.fv_report.specs.Lines.{place_of}
 use Rattle.fv_report.proofs.Writing.{tell_fault, heard_part_of_first, heard_part_of_second, tell_second, counted_after, fault_after}
-use Rattle.fv_report.specs.Telling.{closing_told, end_told, lane_told, told_by_slot}
+use Rattle.fv_report.specs.Telling.{lane_told, told_by_slot, state_told}
 use Rattle.fv_report.proofs.turn.tell.Goals as goal
 
 pub returns-in_err-drain_lane-clause-writes : goal.returns-in_err-drain_lane-clause-writes
 returns-in_err-drain_lane-clause-writes g c = λ h slices lane holds.
     let p = c.args.policy.now in
     let place = place_of c.args.place in
-    let rest = told_by_slot place slices 0 p.slices ++ (closing_told p place h c.args.speaker ++ end_told place h) in
+    let rest = told_by_slot place slices 0 p.slices ++ state_told p place h c.args.speaker c.args.closed in
     let before = c.args.teller.now in
     let now = c.drain_lane.new.teller in
     tell_fault g.T.Teller.Tells c.from_residual.result (lane_told place lane ++ rest) before now c.from_residual.ensures.0
@@ -21,7 +21,7 @@ returns-in_err-drain_slices-clause-writes g c = λ h slices lane holds.
     let place = place_of c.args.place in
     let first = lane_told place lane in
     let second = told_by_slot place slices 0 p.slices in
-    let rest = closing_told p place h c.args.speaker ++ end_told place h in
+    let rest = state_told p place h c.args.speaker c.args.closed in
     let before = c.args.teller.now in
     let now = c.drain_lane.new.teller in
     let later = c.drain_slices.new.teller in
@@ -29,53 +29,27 @@ returns-in_err-drain_slices-clause-writes g c = λ h slices lane holds.
     tell_fault g.T.Teller.Tells c.from_residual-in_err-drain_slices.result (first ++ (second ++ rest)) before later c.from_residual-in_err-drain_slices.ensures.0
     (heard_part_of_second g.T.Teller.Tells first (second ++ rest) before now later (c.in_ok-drain_lane.ensures.writes p h slices lane holds) (heard_part_of_first g.T.Teller.Tells second rest now later (c.in_err-drain_slices.ensures.writes h slices [] drained)))
 
-pub returns-in_err-put_close-clause-writes : goal.returns-in_err-put_close-clause-writes
-returns-in_err-put_close-clause-writes g c = λ h slices lane holds.
-    let p = c.args.policy.now in
-    let place = place_of c.args.place in
-    let first = lane_told place lane in
-    let second = told_by_slot place slices 0 p.slices in
-    let third = closing_told p place h c.args.speaker in
-    let rest = end_told place h in
-    let before = c.args.teller.now in
-    let now = c.drain_lane.new.teller in
-    let later = c.drain_slices.new.teller in
-    let last = c.put_close.new.teller in
-    let drained = c.in_ok-drain_lane.ensures.empties p h slices lane holds in
-    let quiet = c.in_ok-drain_slices.ensures.empties h slices [] drained in
-    tell_fault g.T.Teller.Tells c.from_residual-in_err-put_close.result (first ++ (second ++ (third ++ rest))) before last c.from_residual-in_err-put_close.ensures.0
-    (heard_part_of_second g.T.Teller.Tells first (second ++ (third ++ rest)) before now last (c.in_ok-drain_lane.ensures.writes p h slices lane holds)
-    (heard_part_of_second g.T.Teller.Tells second (third ++ rest) now later last (c.in_ok-drain_slices.ensures.writes h slices [] drained) (heard_part_of_first g.T.Teller.Tells third rest later last (c.in_err-put_close.ensures.writes h quiet))))
-
 pub returns-clause-writes : goal.returns-clause-writes
 returns-clause-writes g c = λ h slices lane holds.
     let p = c.args.policy.now in
     let place = place_of c.args.place in
     let first = lane_told place lane in
     let second = told_by_slot place slices 0 p.slices in
-    let third = closing_told p place h c.args.speaker in
-    let rest = end_told place h in
+    let rest = state_told p place h c.args.speaker c.args.closed in
     let before = c.args.teller.now in
     let now = c.drain_lane.new.teller in
     let later = c.drain_slices.new.teller in
-    let closed = c.put_close.new.teller in
-    let last = c.put_end.new.teller in
+    let last = c.put_state.new.teller in
     let drained = c.in_ok-drain_lane.ensures.empties p h slices lane holds in
     let quiet = c.in_ok-drain_slices.ensures.empties h slices [] drained in
-    tell_second g.T.Teller.Tells c.put_end.result first (second ++ (third ++ rest)) before now last (c.in_ok-drain_lane.ensures.writes p h slices lane holds)
-    (tell_second g.T.Teller.Tells c.put_end.result second (third ++ rest) now later last (c.in_ok-drain_slices.ensures.writes h slices [] drained)
-    (tell_second g.T.Teller.Tells c.put_end.result third rest later closed last (c.in_ok-put_close.ensures.writes h quiet) (c.put_end.ensures.writes p h (c.in_ok-put_close.ensures.same h quiet))))
+    tell_second g.T.Teller.Tells c.put_state.result first (second ++ rest) before now last (c.in_ok-drain_lane.ensures.writes p h slices lane holds)
+    (tell_second g.T.Teller.Tells c.put_state.result second rest now later last (c.in_ok-drain_slices.ensures.writes h slices [] drained) (c.put_state.ensures.writes h quiet))
 
 pub returns-in_err-drain_slices-clause-counted : goal.returns-in_err-drain_slices-clause-counted
 returns-in_err-drain_slices-clause-counted g c =
     let p = err_from_is_err_and c.from_residual-in_err-drain_slices.result c.from_residual-in_err-drain_slices.ensures.1 in
     rw (p.1, p.2) (fault_after _ (g.T.Teller.faults c.args.teller.now) (g.T.Teller.faults c.drain_lane.new.teller) (g.T.Teller.faults c.drain_slices.new.teller) (c.in_ok-drain_lane.ensures.counted) c.in_err-drain_slices.ensures.counted)
 
-pub returns-in_err-put_close-clause-counted : goal.returns-in_err-put_close-clause-counted
-returns-in_err-put_close-clause-counted g c =
-    let p = err_from_is_err_and c.from_residual-in_err-put_close.result c.from_residual-in_err-put_close.ensures.1 in
-    rw (p.1, p.2) (fault_after _ (g.T.Teller.faults c.args.teller.now) (g.T.Teller.faults c.drain_slices.new.teller) (g.T.Teller.faults c.put_close.new.teller) (c.in_ok-drain_slices.ensures.counted ∙ c.in_ok-drain_lane.ensures.counted) c.in_err-put_close.ensures.counted)
-
 pub returns-clause-counted : goal.returns-clause-counted
 returns-clause-counted g c =
-    counted_after c.put_end.result (g.T.Teller.faults c.args.teller.now) (g.T.Teller.faults c.put_close.new.teller) (g.T.Teller.faults c.put_end.new.teller) (c.in_ok-put_close.ensures.counted ∙ c.in_ok-drain_slices.ensures.counted ∙ c.in_ok-drain_lane.ensures.counted) c.put_end.ensures.counted
+    counted_after c.put_state.result (g.T.Teller.faults c.args.teller.now) (g.T.Teller.faults c.drain_slices.new.teller) (g.T.Teller.faults c.put_state.new.teller) (c.in_ok-drain_slices.ensures.counted ∙ c.in_ok-drain_lane.ensures.counted) c.put_state.ensures.counted

@@ -1,14 +1,14 @@
 use Rattle.std.proofs.Common.{◌+◌, ◌≤◌, ◌∙◌, [], length, refl, arith}
 use Rattle.std.proofs.lemmas.Result.{err_from_is_err_and}
 use Rattle.desk_words.specs.Recorded.{told_in}
-use Rattle.fv_report.specs.Telling.{told_from}
+use Rattle.fv_report.specs.Telling.{all_lines}
 use Rattle.fv_report.proofs.Writing.{tell_fault, heard_none, fault_after}
 use Rattle.fv_report.proofs.Walking.{from_is, walking_first, walking_next, walking_more, walking_part, walking_last, counted_all}
 use Rattle.fv_report.proofs.walk.tell_file.Goals as goal
 
 pub returns-in_err-switches-clause-tells : goal.returns-in_err-switches-clause-tells
 returns-in_err-switches-clause-tells g c = λ items read.
-    let lines = told_from c.args.policy.now 0 [] (told_in c.args.bytes.now items) in
+    let lines = all_lines c.args.policy.now (told_in c.args.bytes.now items) in
     tell_fault g.T.Teller.Tells c.from_residual.result lines c.args.teller.now c.args.teller.now c.from_residual.ensures.0 (heard_none g.T.Teller.Tells lines c.args.teller.now)
 
 pub loop-at-init : goal.loop-at-init
@@ -33,7 +33,7 @@ returns-in_err-events-clause-tells g c = λ items read.
     let file = c.args.bytes.now in
     let before = c.args.teller.now in
     let after = c.play_item.new.teller in
-    tell_fault g.T.Teller.Tells c.from_residual-in_err-events.result (told_from p 0 [] (told_in file items)) before after c.from_residual-in_err-events.ensures.0
+    tell_fault g.T.Teller.Tells c.from_residual-in_err-events.result (all_lines p (told_in file items)) before after c.from_residual-in_err-events.ensures.0
     (walking_part g.T.Teller.Tells p file items c.loop-at.at c.record_at-item.result c.loop-at.events _ before c.loop-at.teller after c.loop-at.switches.items c.play_item.new.switches.items c.loop-at-test.true c.record_at-item.ensures (c.loop-at.invariant.walking items read) c.in_err-events.ensures.plays)
 
 pub overflow_add-at : goal.overflow_add-at
