@@ -17,8 +17,8 @@ use Rattle.desk_words.specs.Sent.{sent_by, lane_by}
 use Rattle.desk_words.specs.Verdicts.{is_over}
 use Rattle.desk_words.specs.Operations.{ends}
 use Rattle.desk_words.specs.Recorded.{next_of, Happened, all_happened}
-use Rattle.desk_words.specs.Reports.{Place, name_at, speaker, lane_over, told_over}
-use Rattle.summary_words.specs.Summaries.{lane_messages, slice_messages, event_count, count_line, count_lines, summary}
+use Rattle.desk_words.specs.Reports.{Place, name_at, speaker}
+use Rattle.summary_words.specs.Summaries.{lane_messages, slice_messages, event_count, count_line, summary}
 use Rattle.fv_report.specs.declared.counter.Count.{Count}
 use Rattle.fv_report.specs.declared.counter.Counter.{Counter}
 use Rattle.fv_report.specs.Telling.{Line, Saying, Lane, To, Close, Down, lane_told, slice_told, told_by_slot, closing_told, close_told, down_line, down_told, event_told, lines_from, all_lines, Heard}

@@ -8,7 +8,7 @@ use Rattle.desk_words.specs.declared.event.Timed.{Timed}
 use Rattle.desk_words.specs.Openings.{phase_of}
 use Rattle.desk_words.specs.Histories.{is_slice_up}
 use Rattle.desk_words.specs.Verdicts.{is_ended}
-use Rattle.desk_words.specs.Recorded.{completed, timed_at, happenings, is_there, next_of, Happened, timed_of, history_at, events_in}
+use Rattle.desk_words.specs.Recorded.{completed, timed_at, happenings, is_there, next_of, timed_of, history_at, events_in}
 use Rattle.desk_words.proofs.Making.{made_where, made_next}
 use Rattle.fv_report.specs.Plays.{happens, happening}
 

@@ -11,7 +11,7 @@ use Rattle.recording.specs.declared.item.Item.{Item}
 use Rattle.recording.specs.Recordings.{Told, switch_up, switch_bytes, slice_bytes}
 use Rattle.answer_bounds.specs.Bounds.{IsFramed, AreFramed}
 use Rattle.desk_words.specs.declared.event.Timed.{Timed}
-use Rattle.desk_words.specs.Recorded.{told_by, stream_before, next_of, history_of, history_at, events_in, carried, told_in, Happened, each_after, happened_in, all_happened}
+use Rattle.desk_words.specs.Recorded.{told_by, stream_before, next_of, history_of, history_at, events_in, carried, told_in, Happened, each_after, happened_in}
 use Rattle.fv_report.specs.Telling.{Line, Heard, HeardPart, event_told, told_of, lines_from, all_lines}
 use Rattle.summary_words.specs.Summaries.{event_count}
 use Rattle.desk_words.proofs.Making.{happened_each}

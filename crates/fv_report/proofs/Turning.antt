@@ -15,7 +15,7 @@ use Rattle.desk_words.specs.Operations.{takes_in}
 use Rattle.proxy_core.specs.declared.parts.Desk.{Desk}
 use Rattle.fv_report.specs.Holding.{Holds, IsQuiet, After}
 use Rattle.desk_words.proofs.Closing.{closed_by_verdict, none_ends}
-use Rattle.fv_report.specs.Telling.{Line, Close, lane_told, told_by_slot, closing_told, close_told, down_line, down_told, event_told, end_told, closed_told, state_told, told_parts, Tell}
+use Rattle.fv_report.specs.Telling.{Line, Close, lane_told, told_by_slot, closing_told, close_told, down_line, down_told, event_told, closed_told, state_told, told_parts, Tell}
 
 ends_by : (a b c : Bool) (lines : List Line) → (a || b) ≡ false → (if c then lines else []) ≡ (if not a && c then lines else [])
 ends_by true b c lines is = absurd cc

@@ -1,4 +1,4 @@
-use Rattle.std.proofs.Common.{List, [], drop, ◌+◌, subst, arith, ◌∙◌, refl}
+use Rattle.std.proofs.Common.{List, drop, ◌+◌, subst, arith, ◌∙◌, refl}
 use Rattle.std.proofs.lemmas.List.{drop_more, drop_all}
 use Rattle.std.proofs.lemmas.Result.{err_from_is_err_and}
 use Rattle.recording.specs.declared.item.Item.{Item}

@@ -1,4 +1,4 @@
-use Rattle.std.proofs.Common.{◌+◌, ◌≤◌, ◌∙◌, [], length, refl, arith}
+use Rattle.std.proofs.Common.{◌+◌, ◌≤◌, ◌∙◌, length, refl, arith}
 use Rattle.std.proofs.lemmas.Result.{err_from_is_err_and}
 use Rattle.desk_words.specs.Recorded.{told_in}
 use Rattle.fv_report.specs.Telling.{all_lines}
