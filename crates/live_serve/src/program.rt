@@ -126,9 +126,9 @@ fn decide<
 }
 
 /// Does `serve POLICY LISTEN COUNT`: listens at LISTEN, accepts COUNT connections of switches, and runs a session
-/// under the policy for each, at most 16 at once: a connection that is accepted while 16 run is closed. Each
-/// session's works run on threads that `spawner` starts, with clones of the clock and of the gate. It waits until
-/// all of them have ended, and then answers the exit status. Each status but 0 has a line, which goes to `err`.
+/// under the policy for each, at most 16 at once: a connection that is accepted while 16 run is closed, and so is one
+/// that is accepted while works of 48 connections run. Each session's works run on threads that `spawner` starts,
+/// with clones of the clock and of the gate. It waits until all of them have ended, and then answers the exit status. Each status but 0 has a line, which goes to `err`.
 ///
 /// | status | means |
 /// |---|---|

@@ -1,7 +1,7 @@
 -- The up of a connection, what was read on it, and its down.
 use Rattle.std.proofs.Common.{◌≡◌, ◌⊎◌, inl, inr, ℕ, List, [], ◌∷◌, ◌++◌, refl, sym, ap, subst, ◌∙◌}
 use Rattle.std.specs.Prelude.{Option, Some, None}
-use Rattle.of10_ctl.specs.Streams.{frames_of}
+use Rattle.of10_ctl.specs.Streams.{frames_at, frames_of}
 use Rattle.live_desk.specs.declared.object.DeskOp.{DeskOp}
 use Rattle.live_desk.specs.declared.object.DeskReply.{DeskReply}
 use Rattle.live_session.specs.declared.side.Side.{Side}
@@ -21,6 +21,22 @@ reads_nothing side a before = record {
   moved = moved_none before;
   first = (frames_of [], refl);
   to = inl tt;
+}
+
+no_frames : [] ≡ frames_of []
+unfolding frames_of frames_at
+no_frames = refl
+
+-- a source that gives nothing was read to its end
+pub reads_no_bytes : (side : Side) (a : Spot) → Reading side a (Some []) Closed (Some []) a
+reads_no_bytes side a = record {
+  bytes = [];
+  given = [];
+  calls = [];
+  went = went_none a;
+  moved = moved_none (Some []);
+  first = (frames_of [], refl);
+  to = (no_frames, tt);
 }
 
 -- not even an up

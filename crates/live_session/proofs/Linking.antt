@@ -1,5 +1,5 @@
 -- Links, one after another.
-use Rattle.std.proofs.Common.{◌≡◌, ◌≢◌, inl, inr, ◌≤◌, ℕ, ◌+◌, Bool, true, false, if◌then◌else◌, List, [], ◌∷◌, ◌++◌, length, refl, ap, subst, ◌∙◌, arith}
+use Rattle.std.proofs.Common.{◌≡◌, ◌≢◌, inl, inr, ◌≤◌, ℕ, ◌+◌, Bool, true, false, if◌then◌else◌, List, [], ◌∷◌, ◌++◌, refl, ap, subst, ◌∙◌, arith}
 use Rattle.std.specs.Prelude.{Option, Some, None}
 use Rattle.fv_live.specs.Live.{counted}
 use Rattle.live_session.specs.Links.{RoseBy}
@@ -13,7 +13,7 @@ use Rattle.live_session.specs.declared.ends.SliceEnd.{SliceEnd}
 use Rattle.live_session.specs.declared.ends.SliceEnd.TheVariants as slice
 use Rattle.live_session.specs.Stretches.{DeskCall}
 use Rattle.live_session.specs.Takings.{View, Taking, TookOne}
-use Rattle.live_session.specs.Links.{AreEarly, AreLinks, Opening, LinksEnd, OverFor}
+use Rattle.live_session.specs.Links.{AreEarly, AreLinks, Opening, Way, OfLink, Without, end_of, links_in, withouts_in, LinksEnd, OverFor}
 use Rattle.live_session.proofs.Wanting.{taking_more}
 
 early_more : (calls : List DeskCall) (c : DeskCall) → AreEarly calls → c.reply ≡ Took NotOpen → AreEarly (calls ++ c ∷ [])
@@ -52,35 +52,33 @@ counted_none (Some k) = let e : k ≡ k + 0 = omega arith in ap Some e
 abbrev extra : Bool → ℕ
 extra asked = if asked then 1 else 0
 
-abbrev pub SoFar : Option ℕ → Bool → List ReaderEnd → Option ℕ → Type 0
-SoFar before asked ends now = (links : ℕ) × (now ≡ counted before links) × (length ends ≡ links + extra asked)
+abbrev pub SoFar : Option ℕ → Bool → List Way → Option ℕ → Type 0
+SoFar before asked ways now = (now ≡ counted before (links_in ways)) × (withouts_in ways ≡ extra asked)
 
 pub none_yet : (told : Option ℕ) → SoFar told false [] told
-none_yet told = (0, counted_none told, refl)
+none_yet told = (counted_none told, refl)
 
-pub link_more : (before mid after : Option ℕ) (asked : Bool) (end : ReaderEnd) (ends : List ReaderEnd) → SoFar before asked ends mid → after ≡ counted mid 1 → SoFar before asked (end ∷ ends) after
-link_more before mid after asked end ends h k =
-    let longer : length (end ∷ ends) ≡ (h.0 + 1) + extra asked = omega (arith, h.2) in
-    (h.0 + 1, k ∙ (ap (λ t. counted t 1) h.1 ∙ twice before h.0), longer)
+pub link_more : (before mid after : Option ℕ) (asked : Bool) (end : ReaderEnd) (ways : List Way) → SoFar before asked ways mid → after ≡ counted mid 1 → SoFar before asked (OfLink end ∷ ways) after
+link_more before mid after asked end ways h k = (k ∙ (ap (λ t. counted t 1) h.0 ∙ twice before (links_in ways)), h.1)
 
-pub ask_more : (before mid : Option ℕ) (asked : Bool) (end : ReaderEnd) (ends : List ReaderEnd) → asked ≡ false → SoFar before asked ends mid → SoFar before true (end ∷ ends) mid
-ask_more before mid asked end ends is h =
-    let was : length ends ≡ h.0 + extra false = subst (λ (b : Bool). length ends ≡ h.0 + extra b) is h.2 in
-    let longer : length (end ∷ ends) ≡ h.0 + extra true = omega (arith, was) in
-    (h.0, h.1, longer)
+pub ask_more : (before mid : Option ℕ) (asked : Bool) (end : ReaderEnd) (ways : List Way) → asked ≡ false → SoFar before asked ways mid → SoFar before true (Without end ∷ ways) mid
+ask_more before mid asked end ways is h =
+    let was : withouts_in ways ≡ extra false = subst (λ (b : Bool). withouts_in ways ≡ extra b) is h.1 in
+    let more : withouts_in (Without end ∷ ways) ≡ extra true = omega (arith, was) in
+    (h.0, more)
 
-pub are_links : (before now : Option ℕ) (asked : Bool) (ends : List ReaderEnd) → SoFar before asked ends now → AreLinks before ends now
-are_links before now true ends h = (h.0, h.1, inr h.2)
-are_links before now false ends h = let same : length ends ≡ h.0 = omega (arith, h.2) in (h.0, h.1, inl same)
+pub are_links : (before now : Option ℕ) (asked : Bool) (ways : List Way) → SoFar before asked ways now → AreLinks before ways now
+are_links before now true ways h = let few : withouts_in ways ≤ 1 = omega (arith, h.1) in (h.0, few)
+are_links before now false ways h = let few : withouts_in ways ≤ 1 = omega (arith, h.1) in (h.0, few)
 
 pub rose_none : (k old mid new : ℕ) → RoseBy k old mid → mid ≤ new → RoseBy 0 old new
 rose_none k old mid new (inl h) le = inl (omega (arith, h, le))
 rose_none k old mid new (inr h) le = inr (omega (arith, h, le))
 
-pub ends_by : (over : SliceEnd) (end : ReaderEnd) (ends : List ReaderEnd) → OverFor (Some over) end → LinksEnd over (end ∷ ends)
-ends_by slice.GaveUp end ends h = absurd h
-ends_by slice.DeskEnded end ends h = h
-ends_by slice.Spent end ends h = h
+pub ends_by : (over : SliceEnd) (way : Way) (ways : List Way) → OverFor (Some over) (end_of way) → LinksEnd over (way ∷ ways)
+ends_by slice.GaveUp way ways h = absurd h
+ends_by slice.DeskEnded way ways h = h
+ends_by slice.Spent way ways h = h
 
 pub not_given_up : (over : SliceEnd) (end : ReaderEnd) → OverFor (Some over) end → over ≡ slice.GaveUp → ⊥
 not_given_up over end h e = subst (λ o. OverFor (Some o) end) e h

@@ -1,5 +1,5 @@
 -- What a slice's reader asks of a desk: takes until the desk is opened, and then a stretch for each link. This proxy's own rules.
-use Rattle.std.specs.Prelude.{◌≡◌, ◌≢◌, ◌+◌, ◌≤◌, ◌⊎◌, ◌^◌, ◌-◌, ℕ, List, [], ◌∷◌, ◌++◌, length, Option, Some, None}
+use Rattle.std.specs.Prelude.{◌≡◌, ◌≢◌, ◌+◌, ◌≤◌, ◌⊎◌, ◌^◌, ◌-◌, ℕ, List, [], ◌∷◌, ◌++◌, Option, Some, None}
 use Rattle.fv_live.specs.Live.{counted}
 use Rattle.desk_words.specs.declared.answer.Dest.TheVariants.{Slice}
 use Rattle.desk_words.specs.declared.answer.Taken.{Taken}
@@ -40,26 +40,57 @@ pub record OpeningSpent (slot : ℕ) (v : View) (left : ℕ) (w : View) (left' :
   pub are_early : AreEarly early
   pub none : left' ≡ 0
 
+-- how a stretch came, and how it ended: by a link, or without one
+pub data Way : Type 0 where
+  OfLink : ReaderEnd → Way
+  Without : ReaderEnd → Way
+
+-- how it ended
+abbrev pub end_of : Way → ReaderEnd
+end_of (OfLink end) = end
+end_of (Without end) = end
+
+-- how many came by links
+abbrev pub links_in : List Way → ℕ
+links_in [] = 0
+links_in (OfLink end ∷ ways) = links_in ways + 1
+links_in (Without end ∷ ways) = links_in ways
+
+-- how many came without one
+abbrev pub withouts_in : List Way → ℕ
+withouts_in [] = 0
+withouts_in (OfLink end ∷ ways) = withouts_in ways
+withouts_in (Without end ∷ ways) = withouts_in ways + 1
+
 -- the stretch of one link, whatever its source
 abbrev pub Link : Side → Spot → ReaderEnd → Spot → Type 0
 Link side a end b = (before after : Option (List ℕ)) × Stretch side a before end after b
 
--- the stretches of links that ended so, one after another; the last one is the first of the list
-abbrev pub Linked : Side → List ReaderEnd → Spot → Spot → Type 0
+-- a stretch without a link: that of a source that gives nothing, so that there are no messages in it
+abbrev pub Unlinked : Side → Spot → ReaderEnd → Spot → Type 0
+Unlinked side a end b = Stretch side a (Some []) end (Some []) b
+
+-- the stretch that came and ended so
+abbrev pub Came : Side → Way → Spot → Spot → Type 0
+Came side (OfLink end) a b = Link side a end b
+Came side (Without end) a b = Unlinked side a end b
+
+-- the stretches that came and ended so, one after another; the last one is the first of the list
+abbrev pub Linked : Side → List Way → Spot → Spot → Type 0
 Linked side [] a b = b ≡ a
-Linked side (end ∷ ends) a b = (mid : Spot) × Linked side ends a mid × Link side mid end b
+Linked side (way ∷ ways) a b = (mid : Spot) × Linked side ways a mid × Came side way mid b
 
--- the stretches are those of the links that the dialler gave, and at most one without a link
-abbrev pub AreLinks : Option ℕ → List ReaderEnd → Option ℕ → Type 0
-AreLinks before ends after = (links : ℕ) × (after ≡ counted before links) × ((length ends ≡ links) ⊎ (length ends ≡ links + 1))
+-- the stretches by links are those of the links that the dialler gave, and at most one came without a link
+abbrev pub AreLinks : Option ℕ → List Way → Option ℕ → Type 0
+AreLinks before ways after = (after ≡ counted before (links_in ways)) × (withouts_in ways ≤ 1)
 
--- how the links ended, by the answer
-abbrev pub LinksEnd : SliceEnd → List ReaderEnd → Type 0
-LinksEnd GaveUp ends = Unit {0}
+-- how the stretches ended, by the answer
+abbrev pub LinksEnd : SliceEnd → List Way → Type 0
+LinksEnd GaveUp ways = Unit {0}
 LinksEnd DeskEnded [] = ⊥
-LinksEnd DeskEnded (end ∷ ends) = end ≡ reader.DeskEnded
+LinksEnd DeskEnded (way ∷ ways) = end_of way ≡ reader.DeskEnded
 LinksEnd Spent [] = ⊥
-LinksEnd Spent (end ∷ ends) = end ≡ reader.Spent
+LinksEnd Spent (way ∷ ways) = end_of way ≡ reader.Spent
 
 -- how a slice's reader ends by the end of a link
 abbrev pub OverFor : Option SliceEnd → ReaderEnd → Type 0
@@ -73,10 +104,10 @@ pub record SlicedOpen (slot : ℕ) (a : Spot) (before : Option ℕ) (end : Slice
   pub mid : Spot
   pub opening : Opening slot a.view a.left mid.view mid.left
   pub clock : mid.coming ≡ a.coming
-  pub ends : List ReaderEnd
-  pub linked : Linked (sides.Slice slot) ends mid b
-  pub ended : LinksEnd end ends
-  pub told : AreLinks before ends after
+  pub ways : List Way
+  pub linked : Linked (sides.Slice slot) ways mid b
+  pub ended : LinksEnd end ways
+  pub told : AreLinks before ways after
 
 -- the same, or no calls were left before the desk was open
 abbrev pub Sliced : ℕ → Spot → Option ℕ → SliceEnd → Option ℕ → Spot → Type 0

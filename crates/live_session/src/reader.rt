@@ -93,7 +93,7 @@ fn ask<R: Wait, C: Clock>(
 }
 
 /// One event while nobody else asks. Then everyone is woken: it may be the first that they wait for, or their end.
-fn ask_alone<R: Wait, C: Clock>(
+pub(crate) fn ask_alone<R: Wait, C: Clock>(
     rt: &R,
     desk: &TurnDesk<DeskObject>,
     seat: &mut TurnSeat<DeskObject>,
@@ -151,7 +151,7 @@ fn ask_in_turn<R: Wait, C: Clock>(
 }
 
 /// How a connection ends by the answer to a step, if it does.
-fn end_by(stepped: Result<Verdict, AllocError>) -> Option<ReaderEnd>
+pub(crate) fn end_by(stepped: Result<Verdict, AllocError>) -> Option<ReaderEnd>
     ensures { Tells result (Stepped stepped) }
 {
     match stepped {
@@ -343,7 +343,7 @@ fn closes(end: ReaderEnd) -> bool
 }
 
 /// The down of a connection that ended so, where there is to be one.
-fn finish<R: Wait, C: Clock>(
+pub(crate) fn finish<R: Wait, C: Clock>(
     rt: &R,
     desk: &TurnDesk<DeskObject>,
     seat: &mut TurnSeat<DeskObject>,

@@ -1,23 +1,22 @@
-ghost use Rattle.std.specs.Prelude.{◌≡◌, ◌≤◌, ◌<◌, ◌+◌, ℕ, List, [], ◌∷◌, Option, length, IfOk, OnOk, OnErr, IfSome, IfNone, MatchBool, ◌≢◌};
+ghost use Rattle.std.specs.Prelude.{◌≡◌, ◌≤◌, ◌<◌, ◌+◌, ℕ, List, [], Option, Some, IfOk, OnOk, OnErr, IfSome, IfNone, MatchBool, ◌≢◌};
 ghost use Rattle.fv_base.specs.Told.{Rose};
 ghost use Rattle.fv_live.specs.Live.{counted};
 ghost use Rattle.turn_desk.specs.Seats.{IsSeatOf, SameDesk, view};
 ghost use Rattle.live_session.specs.declared.ends.SliceEnd.TheVariants.{GaveUp};
-ghost use Rattle.live_session.specs.declared.ends.ReaderEnd.{ReaderEnd};
 ghost use Rattle.desk_words.specs.declared.answer.Taken.TheVariants as takens;
 ghost use Rattle.live_session.specs.declared.side.Side.TheVariants as sides;
-ghost use Rattle.live_session.specs.Stretches.{spot};
+ghost use Rattle.live_session.specs.Stretches.{spot, Begun};
 ghost use Rattle.live_session.specs.Takings.{TookOne};
-ghost use Rattle.live_session.specs.Links.{AreLinks, RoseBy, Opening, OpeningSpent, Link, Linked, LinksEnd, OverFor, Sliced};
+ghost use Rattle.live_session.specs.Links.{AreLinks, RoseBy, Opening, OpeningSpent, Link, Unlinked, Way, Linked, LinksEnd, OverFor, Sliced};
 
 use crate::bells::Bells;
 use crate::ends::{ReaderEnd, SliceEnd};
 use crate::gate::Gate;
 use crate::half::Half;
-use crate::reader::run_reader;
-use crate::side::Side;
+use crate::reader::{ask_alone, end_by, finish, run_reader};
+use crate::side::{Side, up};
 use crate::writer::take;
-use fv_live::{Clock, Dialer, Host, NeverSource};
+use fv_live::{Clock, Dialer, Host};
 use live_desk::{DeskObject, place_of};
 use proxy_core::{Dest, Taken};
 use std::alloc::Global;
@@ -128,33 +127,44 @@ fn dial_once<
     Some(end)
 }
 
-/// The stretch of a link on which nothing comes, by which the desk says whether it has ended.
-fn ask_without_link<R: Host + Net<Listener = TcpListener, Stream = TcpStream>, C: Clock, G: Gate>(
+/// The up of a connection that isn't there, whose source gives nothing. No writer begins by it.
+fn begin_without_link<R: Wait, C: Clock>(
     rt: &R,
-    alloc: Global,
     desk: &TurnDesk<DeskObject>,
     seat: &mut TurnSeat<DeskObject>,
-    slot: u8,
+    side: Side,
     clock: &mut C,
-    gate: &G,
     bells: &Bells,
 ) -> ReaderEnd
     requires desk { IsSeatOf desk.now seat.old }
     ensures desk { SameDesk seat.new seat.old }
-    ensures link { Link (sides.Slice slot) (spot seat.old (C.coming clock.old)) result (spot seat.new (C.coming clock.new)) }
+    ensures begun { Begun side (spot seat.old (C.coming clock.old)) (Some []) result (Some []) (spot seat.new (C.coming clock.new)) }
+{
+    let Ok(stepped) = ask_alone(rt, desk, seat, clock, bells, up(side)) else {
+        return ReaderEnd::Spent;
+    };
+    if let Some(end) = end_by(stepped) {
+        return end;
+    }
+    ReaderEnd::Closed
+}
+
+/// The stretch without a link, by which the desk says whether it has ended.
+fn ask_without_link<R: Wait, C: Clock>(
+    rt: &R,
+    desk: &TurnDesk<DeskObject>,
+    seat: &mut TurnSeat<DeskObject>,
+    slot: u8,
+    clock: &mut C,
+    bells: &Bells,
+) -> ReaderEnd
+    requires desk { IsSeatOf desk.now seat.old }
+    ensures desk { SameDesk seat.new seat.old }
+    ensures unlinked { Unlinked (sides.Slice slot) (spot seat.old (C.coming clock.old)) result (spot seat.new (C.coming clock.new)) }
 {
     let side = Side::Slice(slot);
-    run_reader(
-        rt,
-        alloc,
-        desk,
-        seat,
-        &mut NeverSource,
-        side,
-        clock,
-        gate,
-        bells,
-    )
+    let end = begin_without_link(rt, desk, seat, side, clock, bells);
+    finish(rt, desk, seat, side, clock, bells, end)
 }
 
 /// How a slice's reader ends by the end of a link, if it does.
@@ -184,14 +194,14 @@ fn dial_on<R: Host + Net<Listener = TcpListener, Stream = TcpStream>, D: Dialer,
 ) -> SliceEnd
     requires desk { IsSeatOf desk.now seat.old }
     ensures desk { SameDesk seat.new seat.old }
-    ensures links { (ends : List ReaderEnd) × Linked (sides.Slice slot) ends (spot seat.old (C.coming clock.old)) (spot seat.new (C.coming clock.new)) × LinksEnd result ends × AreLinks (D.links dialer.old) ends (D.links dialer.new) }
+    ensures links { (ways : List Way) × Linked (sides.Slice slot) ways (spot seat.old (C.coming clock.old)) (spot seat.new (C.coming clock.new)) × LinksEnd result ways × AreLinks (D.links dialer.old) ways (D.links dialer.new) }
     ensures gave_up { result ≡ GaveUp → RoseBy 1000 (D.faults dialer.old to.now) (D.faults dialer.new to.now) }
 {
     let mut failed = 0;
     let mut asked = false;
     for _ in rt.forever() {
         if !asked && bells.has_ended() {
-            let end = ask_without_link(rt, alloc, desk, seat, slot, clock, gate, bells);
+            let end = ask_without_link(rt, desk, seat, slot, clock, bells);
             if let Some(over) = over_by(end) {
                 return over;
             }
@@ -218,8 +228,8 @@ fn dial_on<R: Host + Net<Listener = TcpListener, Stream = TcpStream>, D: Dialer,
 
 /// The body of a slice's reader: waits until the desk is open, and then reads one link after another as
 /// `run_reader` does. Each link's writing half goes to `half`; the next dial waits until its writer has ended.
-/// Gives up after 1,000 failed dials in a row. Where the switch's connection has ended between two links it doesn't
-/// dial again, but asks the desk by an up without a link.
+/// Gives up after 1,000 failed dials in a row. Where the switch's connection has ended between two links it asks the desk
+/// once by an up without a link, and dials again only where the desk hasn't ended, with the down behind that up.
 pub fn run_slice<
     R: Host + Net<Listener = TcpListener, Stream = TcpStream>,
     D: Dialer,

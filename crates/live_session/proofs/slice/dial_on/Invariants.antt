@@ -1,9 +1,8 @@
 use Rattle.std.proofs.Common.{◌≡◌, ◌<◌, List}
 use Rattle.live_session.specs.Links.{RoseBy}
-use Rattle.live_session.specs.declared.ends.ReaderEnd.{ReaderEnd}
 use Rattle.live_session.specs.declared.side.Side.TheVariants.{Slice}
 use Rattle.live_session.specs.Stretches.{spot}
-use Rattle.live_session.specs.Links.{Linked}
+use Rattle.live_session.specs.Links.{Linked, Way}
 use Rattle.live_session.proofs.Linking.{SoFar}
 use Rattle.live_session.proofs.slice.dial_on.Given as goal
 
@@ -14,5 +13,5 @@ invariant-loop g l = record {
   desk : l.seat.seat.table_id ≡ l.fn.seat.seat.table_id;
   few : l.failed < 1000;
   rose : RoseBy l.failed (g.D.Dialer.faults l.fn.dialer l.to) (g.D.Dialer.faults l.dialer l.to);
-  links : (ends : List ReaderEnd) × Linked (Slice l.slot) ends (spot l.fn.seat (g.C.Clock.coming l.fn.clock)) (spot l.seat (g.C.Clock.coming l.clock)) × SoFar (g.D.Dialer.links l.fn.dialer) l.asked ends (g.D.Dialer.links l.dialer);
+  links : (ways : List Way) × Linked (Slice l.slot) ways (spot l.fn.seat (g.C.Clock.coming l.fn.clock)) (spot l.seat (g.C.Clock.coming l.clock)) × SoFar (g.D.Dialer.links l.fn.dialer) l.asked ways (g.D.Dialer.links l.dialer);
 }
