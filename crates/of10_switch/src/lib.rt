@@ -1,0 +1,11 @@
+//! What a switch sends, read once: one value for each type of message, or the first thing that is wrong with its
+//! bytes.
+#![tactic(auto)]
+
+mod features;
+mod message;
+mod reading;
+
+pub use features::FeaturesView;
+pub use message::FromSwitch;
+pub use reading::read_switch;

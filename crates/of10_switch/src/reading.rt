@@ -1,0 +1,185 @@
+//! A switch's message, by its type.
+
+ghost use Rattle.std.specs.Prelude.{◌≡◌, false, IfOk};
+ghost use Rattle.of10_ctl.specs.declared.kind.TheConstants.{ERROR, FEATURES_REPLY, PACKET_IN, FLOW_REMOVED, PORT_STATUS, STATS_REPLY, QUEUE_GET_CONFIG_REPLY};
+ghost use Rattle.of10_ctl.specs.Kinds.{IsOf};
+ghost use Rattle.of10_ctl.specs.Frames.{is_bad};
+ghost use Rattle.of10_flow.specs.PacketIns.{read_packet_in};
+ghost use Rattle.of10_flow.specs.FlowRemoveds.{read_flow_removed};
+ghost use Rattle.of10_port.specs.Features.{read_features};
+ghost use Rattle.of10_port.specs.PortStatus.{read_port_status};
+ghost use Rattle.of10_stats.specs.Replies.{part_of};
+ghost use Rattle.of10_message.specs.Heads.{version_of};
+ghost use Rattle.of10_message.specs.Controller.{config_in};
+ghost use Rattle.of10_message.specs.Errors.{read_error};
+ghost use Rattle.of10_message.specs.Replies.{read_queues};
+ghost use Rattle.of10_switch.specs.Messages as said;
+ghost use Rattle.of10_switch.specs.Views.{said_by, Reads};
+ghost use Rattle.of10_switch.specs.Ranges.{IsSaid};
+
+use crate::features::FeaturesView;
+use crate::message::FromSwitch;
+use of10_action::{DecodeFault, WireFault};
+use of10_ctl::Frame;
+use of10_ctl::kind::{
+    BARRIER_REPLY, ECHO_REPLY, ECHO_REQUEST, ERROR, FEATURES_REPLY, FLOW_REMOVED, GET_CONFIG_REPLY,
+    HELLO, PACKET_IN, PORT_STATUS, QUEUE_GET_CONFIG_REPLY, STATS_REPLY, VENDOR,
+};
+use of10_flow::{FlowRemoved, PacketInView};
+use of10_message::{ErrorView, QueuesView, SwitchConfig, Unread, is_bare};
+use of10_model::wire::u16_at;
+use of10_port::PortStatus;
+use of10_stats::part;
+
+fn error(frame: &Frame) -> Result<FromSwitch<'_>, Unread>
+    requires { IsOf ERROR frame.now }
+    ensures exact { Reads result (said.formed said.Error (read_error frame.now)) }
+    ensures range { IfOk result (λ m. IsSaid (said_by m)) }
+{
+    match ErrorView::decode(frame) {
+        Ok(error) => Ok(FromSwitch::Error(error)),
+        Err(fault) => Err(Unread::BadForm(fault)),
+    }
+}
+
+fn features(frame: &Frame) -> Result<FromSwitch<'_>, Unread>
+    requires { IsOf FEATURES_REPLY frame.now }
+    ensures exact { Reads result (said.formed said.FeaturesReply (read_features frame.now)) }
+    ensures range { IfOk result (λ m. IsSaid (said_by m)) }
+{
+    match FeaturesView::decode(frame) {
+        Ok(features) => Ok(FromSwitch::FeaturesReply(features)),
+        Err(fault) => Err(Unread::BadForm(fault)),
+    }
+}
+
+fn config(frame: &Frame) -> Result<FromSwitch<'_>, Unread>
+    ensures exact { Reads result (said.sized 12 (said.GetConfigReply (config_in frame.now)) frame.now) }
+    ensures range { IfOk result (λ m. IsSaid (said_by m)) }
+{
+    let bytes = frame.as_slice();
+    if bytes.len() != 12 {
+        return Err(Unread::BadForm(WireFault::Length(bytes.len() as u16)));
+    }
+    Ok(FromSwitch::GetConfigReply(SwitchConfig {
+        flags: u16_at(bytes, 8),
+        miss_send_len: u16_at(bytes, 10),
+    }))
+}
+
+fn packet_in(frame: &Frame) -> Result<FromSwitch<'_>, Unread>
+    requires { IsOf PACKET_IN frame.now }
+    ensures exact { Reads result (said.formed said.PacketIn (read_packet_in frame.now)) }
+    ensures range { IfOk result (λ m. IsSaid (said_by m)) }
+{
+    match PacketInView::decode(frame) {
+        Ok(packet) => Ok(FromSwitch::PacketIn(packet)),
+        Err(fault) => Err(Unread::BadForm(fault)),
+    }
+}
+
+fn flow_removed(frame: &Frame) -> Result<FromSwitch<'_>, Unread>
+    requires { IsOf FLOW_REMOVED frame.now }
+    ensures exact { Reads result (said.formed said.FlowRemoved (read_flow_removed frame.now)) }
+    ensures range { IfOk result (λ m. IsSaid (said_by m)) }
+{
+    match FlowRemoved::decode(frame) {
+        Ok(entry) => Ok(FromSwitch::FlowRemoved(entry)),
+        Err(DecodeFault::Wire(fault)) => Err(Unread::BadForm(fault)),
+        // No memory is taken for it.
+        Err(DecodeFault::Memory) => Err(Unread::BadType),
+    }
+}
+
+fn port_status(frame: &Frame) -> Result<FromSwitch<'_>, Unread>
+    requires { IsOf PORT_STATUS frame.now }
+    ensures exact { Reads result (said.formed said.PortStatus (read_port_status frame.now)) }
+    ensures range { IfOk result (λ m. IsSaid (said_by m)) }
+{
+    match PortStatus::decode(frame) {
+        Ok(status) => Ok(FromSwitch::PortStatus(status)),
+        Err(fault) => Err(Unread::BadForm(fault)),
+    }
+}
+
+fn statistics(frame: &Frame) -> Result<FromSwitch<'_>, Unread>
+    requires { IsOf STATS_REPLY frame.now }
+    ensures exact { Reads result (said.formed (said.part_with frame.now) (part_of frame.now)) }
+    ensures range { IfOk result (λ m. IsSaid (said_by m)) }
+{
+    match part(frame) {
+        Ok(part) => Ok(FromSwitch::StatsReply(part, &frame.as_slice()[part.from..])),
+        Err(fault) => Err(Unread::BadForm(fault)),
+    }
+}
+
+fn barrier(frame: &Frame) -> Result<FromSwitch<'_>, Unread>
+    ensures exact { Reads result (said.sized 8 said.BarrierReply frame.now) }
+    ensures range { IfOk result (λ m. IsSaid (said_by m)) }
+{
+    if is_bare(frame) {
+        Ok(FromSwitch::BarrierReply)
+    } else {
+        Err(Unread::BadForm(WireFault::Length(frame.as_slice().len() as u16)))
+    }
+}
+
+fn queues(frame: &Frame) -> Result<FromSwitch<'_>, Unread>
+    requires { IsOf QUEUE_GET_CONFIG_REPLY frame.now }
+    ensures exact { Reads result (said.formed said.QueueGetConfigReply (read_queues frame.now)) }
+    ensures range { IfOk result (λ m. IsSaid (said_by m)) }
+{
+    match QueuesView::decode(frame) {
+        Ok(queues) => Ok(FromSwitch::QueueGetConfigReply(queues)),
+        Err(fault) => Err(Unread::BadForm(fault)),
+    }
+}
+
+/// A message of version 1 that is no HELLO, by its type.
+#[tactic(auto, unfolding(crate::specs::Messages::read_sent))]
+fn sent(frame: &Frame) -> Result<FromSwitch<'_>, Unread>
+    requires version { version_of frame.now ≡ 1 }
+    requires length { is_bad frame.now ≡ false }
+    ensures exact { Reads result (said.read_sent frame.now) }
+    ensures range { IfOk result (λ m. IsSaid (said_by m)) }
+{
+    let _bytes = frame.as_slice();
+    match frame.head().kind {
+        ERROR => error(frame),
+        ECHO_REQUEST => Ok(FromSwitch::EchoRequest(frame.body())),
+        ECHO_REPLY => Ok(FromSwitch::EchoReply),
+        VENDOR => Ok(FromSwitch::Vendor),
+        FEATURES_REPLY => features(frame),
+        GET_CONFIG_REPLY => config(frame),
+        PACKET_IN => packet_in(frame),
+        FLOW_REMOVED => flow_removed(frame),
+        PORT_STATUS => port_status(frame),
+        STATS_REPLY => statistics(frame),
+        BARRIER_REPLY => barrier(frame),
+        QUEUE_GET_CONFIG_REPLY => queues(frame),
+        _ => Err(Unread::BadType),
+    }
+}
+
+/// What a switch's message says, or the first thing that is wrong with it. Takes no memory: what it says stays
+/// where it lies.
+#[tactic(auto, unfolding(crate::specs::Messages::read_switch))]
+pub fn read_switch(frame: &Frame) -> Result<FromSwitch<'_>, Unread>
+    ensures exact { Reads result (said.read_switch frame.now) }
+    ensures range { IfOk result (λ m. IsSaid (said_by m)) }
+{
+    let head = frame.head();
+    if frame.bad_length() {
+        return Err(Unread::BadLength);
+    }
+    if head.kind == HELLO {
+        if head.version == 0 {
+            return Err(Unread::NoCommonVersion);
+        }
+        return Ok(FromSwitch::Hello);
+    }
+    if head.version != 1 {
+        return Err(Unread::BadVersion);
+    }
+    sent(frame)
+}
