@@ -35,7 +35,7 @@ collections_given s view item = collected_by s (requests_after s view) (collecti
 
 -- ---- each item makes one call at most
 
-abbrev AtMostOne : List CollectionCall → Type 0
+abbrev pub AtMostOne : List CollectionCall → Type 0
 AtMostOne these = (these ≡ []) ⊎ ((c : CollectionCall) × (these ≡ c ∷ []))
 
 one_if : (b : Bool) (these : List CollectionCall) → AtMostOne these → AtMostOne (if b then these else [])

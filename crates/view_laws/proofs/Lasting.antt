@@ -286,9 +286,13 @@ item_goes_on s number item view not_ended own = elim (collection_one s view item
       (call_goes_on number c (collections_after s view) (λ ends_. not_ended (called_ends s number item view c is own ends_)) own)
 ]
 
-started_call : (s : Settings) (earlier : List Item) (message : List ℕ) (moment : ℕ) → IsStatistics s message moment earlier → collections_after s (Msg message moment ∷ earlier) ≡ Start (next_number s earlier) ∷ collections_after s earlier
+pub started_call : (s : Settings) (earlier : List Item) (message : List ℕ) (moment : ℕ) → IsStatistics s message moment earlier → collections_after s (Msg message moment ∷ earlier) ≡ Start (next_number s earlier) ∷ collections_after s earlier
 started_call s earlier message moment asks =
     all-one CollectionCall (collections_given s) (collections_after s) (collections_made s) (Msg message moment) earlier (Start (next_number s earlier)) (start_of s earlier message moment asks)
+
+-- a request doesn't collect before it is made
+pub not_begun : (s : Settings) (view : List Item) → is_among (next_number s view) (collecting (collections_after s view)) ≡ false
+not_begun s view = not_among (next_number s view) (next_number s view) (collecting (collections_after s view)) (omega arith) (made_after s view).below
 
 begins_there : (s : Settings) (earlier : List Item) (message : List ℕ) (moment : ℕ) → IsStatistics s message moment earlier → Collects s (next_number s earlier) (Msg message moment ∷ earlier)
 begins_there s earlier message moment asks =
@@ -298,7 +302,7 @@ begins_there s earlier message moment asks =
       later = [];
       earlier = collections_after s earlier;
       split = refl;
-      began = not_among number number (collecting (collections_after s earlier)) (omega arith) (made_after s earlier).below;
+      began = not_begun s earlier;
       not_ended = tt;
     }))
 

@@ -7,3 +7,5 @@ pub mod Counting
 pub mod Collected
 pub mod Lasting
 pub mod Holding
+pub mod Gathering
+pub mod Telling

@@ -234,7 +234,7 @@ forget_from s view End is = absurd (true≢false (sym is))
 -- ---- where a request stands among them
 
 -- those of later items stand before those of earlier ones
-requests-later : (s : Settings) (later base : List Item) → (more : List Item) × (requests_in s (later ++ base) ≡ more ++ requests_in s base)
+pub requests-later : (s : Settings) (later base : List Item) → (more : List Item) × (requests_in s (later ++ base) ≡ more ++ requests_in s base)
 requests-later s [] base = ([], refl)
 requests-later s (item ∷ later) base =
     let rest = requests-later s later base in

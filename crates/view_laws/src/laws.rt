@@ -1,23 +1,26 @@
 //! Laws of what the parts of a slice's state stand for, for all settings and every view. Each function's
 //! contract is the law; its body does nothing.
 
-ghost use Rattle.std.specs.Prelude.{ℕ, ◌≡◌, ◌+◌, ◌*◌, ◌%◌, ◌^◌, ◌↔◌, IsTrue, true, List, ◌∷◌, ◌++◌, Bool, All, take, reverse, slice_get, Some, Contains};
+ghost use Rattle.std.specs.Prelude.{ℕ, ◌≡◌, ◌≤◌, ◌+◌, ◌*◌, ◌%◌, ◌^◌, ◌↔◌, IsTrue, true, List, [], ◌∷◌, ◌++◌, Bool, All, take, reverse, slice_get, Some, Contains};
 ghost use Rattle.of10_model.specs.declared.pattern.Pattern.{Pattern};
 ghost use Rattle.of10_model.specs.Normal.{IsNormal};
 ghost use Rattle.of10_message.specs.Heads.{xid_of};
+ghost use Rattle.of10_message.specs.Controller.{read_controller};
 ghost use Rattle.rate_bucket.specs.Rates.{Conforms, accepted};
+ghost use Rattle.xid_map.specs.declared.asked.AskKind.{AskKind};
 ghost use Rattle.xid_map.specs.declared.asked.Issued.{Issued};
 ghost use Rattle.xid_map.specs.Requests.{issued};
 ghost use Rattle.flow_book.specs.declared.booked.Booked.{Booked};
-ghost use Rattle.slice_words.specs.Messages.{Reading, asked_of, quoted};
-ghost use Rattle.slice_words.specs.Items.{Settings, Item, Msg, latest};
+ghost use Rattle.slice_words.specs.Messages.{Reading, kind_asked, asked_of, quoted};
+ghost use Rattle.slice_words.specs.Items.{Settings, Item, Msg, Last, latest};
 ghost use Rattle.slice_words.specs.Buffers.{HeldPacket};
 ghost use Rattle.slice_words.specs.Alone.{answer_to};
 ghost use Rattle.slice_words.specs.Calls.{request_calls, questions};
 ghost use Rattle.slice_words.specs.Answers.{keeps_rate};
 ghost use Rattle.slice_words.specs.Standing.{past_of};
 ghost use Rattle.view_laws.specs.Requests.{is_request, requests_in, next_number, IsUnder, remembered_for, IsRemembered};
-ghost use Rattle.view_laws.specs.Collecting.{Collects, IsCollecting};
+ghost use Rattle.view_laws.specs.Collecting.{Collects, IsFor, IsCollecting};
+ghost use Rattle.view_laws.specs.Gathering.{gathered_after, is_for, entries_for, IsGatheredOf, CollectsFor, AreRepliesOver};
 ghost use Rattle.view_laws.specs.Bookings.{booking_after, IsBooked, IsLastBooked, IsFirstBooked};
 ghost use Rattle.view_laws.specs.Packets.{held_in, held_at, IsHeld};
 ghost use Rattle.view_laws.specs.Rates.{counted};
@@ -46,6 +49,24 @@ pub fn request_is_remembered_among_the_last()
 /// which it was the first.
 pub fn request_collects_until_an_item_ends_it()
     ensures { (s : Settings) (view : List Item) (number : ℕ) → Collects s number view ↔ IsCollecting s number view }
+{}
+
+/// What a request that collects has gathered is of the entries that came for it, of the type of statistics that
+/// was sent for what it asked: for a sum of flows the sums over all of them, and else the longest prefix of them
+/// within 524,288 bytes. An entry comes for the request that is remembered for its transaction id, and so none
+/// comes for a request before that is made.
+pub fn request_gathers_what_comes_for_it()
+    ensures gathered { (s : Settings) (view : List Item) (number : ℕ) (made : IsCollecting s number view) → let asked = kind_asked (read_controller made.message) in IsGatheredOf asked (entries_for s number asked view) (gathered_after s number view) }
+    ensures comes { (s : Settings) (x number : ℕ) (view : List Item) → IsTrue (is_for s x number view) ↔ IsFor s x number view }
+    ensures since { (s : Settings) (view : List Item) (number : ℕ) (asked : AskKind) → next_number s view ≤ number → entries_for s number asked view ≡ [] }
+{}
+
+/// With the last part of statistics of a type the slice is told exactly the replies over the entries that came
+/// for the request, where the one that is remembered for the transaction id collects and was sent for that type;
+/// they are under the slice's own transaction id. Else it is told nothing.
+pub fn slice_is_told_what_was_gathered()
+    ensures told { (s : Settings) (view : List Item) (x kind : ℕ) (request : Issued) → CollectsFor s x kind request view → AreRepliesOver request.asked.kind (entries_for s request.number request.asked.kind view) request.asked.xid (answer_to s view (Last x kind)).to_slice }
+    ensures nothing { (s : Settings) (view : List Item) (x kind : ℕ) → ((request : Issued) → CollectsFor s x kind request view → ⊥) → (answer_to s view (Last x kind)).to_slice ≡ [] }
 {}
 
 /// A pair is booked exactly where the last item that books or releases it books it.
