@@ -14,7 +14,7 @@ use Rattle.of10_model.proofs.Including.{Has-includes}
 use Rattle.of10_action.specs.declared.action.Action.{Action}
 use Rattle.of10_action.specs.declared.action.Action.TheVariants.{Output, SetVlanVid, SetVlanPcp, StripVlan, SetDlSrc, SetDlDst, SetNwSrc, SetNwDst, SetNwTos, SetTpSrc, SetTpDst, Enqueue}
 use Rattle.of10_action.specs.Actions.{IsAction}
-use Rattle.match_meet.specs.Rewriting.{rewritten, Rewrite}
+use Rattle.match_meet.specs.Rewriting.{rewritten}
 use Rattle.match_meet.proofs.CoverHas.{Has-cover_of}
 use Rattle.match_meet.proofs.CoverNormal.{applied-cover_of}
 use Rattle.match_meet.proofs.Ranges.{IsHeader-rewritten}
@@ -32,7 +32,7 @@ use Rattle.action_check.specs.declared.origin.Origin.TheVariants.{Piece, Packet,
 use Rattle.action_check.specs.Origins.{after}
 use Rattle.action_check.specs.ActionRules.{port_of, sees_in_port, counted, may_go, code_of}
 use Rattle.action_check.specs.Permitted.{first_code, outputs, ports_for, spread, expanded}
-use Rattle.action_check.specs.Soundness.{IsFrom, MaySend}
+use Rattle.action_check.specs.Soundness.{IsFrom, Rewrite, MaySend}
 use Rattle.action_check.proofs.Aside.{entry_for, Has-entry}
 use Rattle.action_check.proofs.Allowing.{allowed}
 use Rattle.action_check.proofs.Sizes.{All-ports_for}

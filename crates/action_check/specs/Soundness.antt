@@ -1,5 +1,5 @@
 -- What a list that a slice may send does with single packets. This is the proxy's own rule.
-use Rattle.std.specs.Prelude.{ℕ, ◌≡◌, ◌<◌, ◌^◌, ◌⊎◌, List, ◌∷◌, ◌++◌, Some}
+use Rattle.std.specs.Prelude.{ℕ, ◌≡◌, ◌<◌, ◌^◌, ◌⊎◌, List, [], ◌∷◌, ◌++◌, Some}
 use Rattle.std.specs.List.{All}
 use Rattle.of10_model.specs.Header.{Header, IsHeader}
 use Rattle.of10_model.specs.Pattern.{Has}
@@ -7,7 +7,7 @@ use Rattle.of10_model.specs.Normal.{IsNormal}
 use Rattle.of10_action.specs.declared.action.Action.{Action}
 use Rattle.of10_action.specs.declared.action.Action.TheVariants.{Output, Enqueue}
 use Rattle.of10_port.specs.declared.protocol.TheConstants.{IN_PORT, TABLE, CONTROLLER}
-use Rattle.match_meet.specs.Rewriting.{Rewrite}
+use Rattle.match_meet.specs.Rewriting.{rewritten}
 use Rattle.flowspace.specs.declared.rules.Rule.{Rule}
 use Rattle.flowspace.specs.Owners.{Writes, HasPort}
 use Rattle.action_check.specs.declared.origin.Origin.{Origin}
@@ -51,6 +51,11 @@ HasWay rules slot origin (Enqueue port queue) = IsOwnWay rules slot origin port
 HasWay rules slot origin _ = Unit {0}
 
 -- ---- which packets go there
+
+-- the header after each of a list of actions in turn
+abbrev pub Rewrite : Header → List Action → Header
+Rewrite h [] = h
+Rewrite h (action ∷ others) = Rewrite (rewritten h action) others
 
 -- a packet may be sent to a port: with some in_port its header is one that the slice writes, and for CONTROLLER and TABLE it is so with its own
 pub record MaySend (rules : List Rule) (slot port : ℕ) (h : Header) : Type 0 where

@@ -1,5 +1,5 @@
 -- What actions make of a header, and of a match (OpenFlow 1.0.0, sections 3.3 and 5.2.4).
-use Rattle.std.specs.Prelude.{ℕ, ◌==◌, ◌&&◌, ◌||◌, ◌*◌, ◌/◌, ◌%◌, if◌then◌else◌, Bool, List, [], ◌∷◌, Option, Some}
+use Rattle.std.specs.Prelude.{ℕ, ◌==◌, ◌&&◌, ◌||◌, ◌*◌, ◌/◌, ◌%◌, if◌then◌else◌, Bool, Option, Some}
 use Rattle.of10_model.specs.declared.pattern.Prefix.{Prefix}
 use Rattle.of10_model.specs.declared.pattern.Pattern.{Pattern}
 use Rattle.of10_model.specs.Header.{Header}
@@ -36,11 +36,6 @@ rewritten h (SetNwTos service) = if is_ipv4 h then record h { nw_tos = service /
 rewritten h (SetTpSrc port) = if is_tcp_or_udp h then record h { tp_src = port } else h
 rewritten h (SetTpDst port) = if is_tcp_or_udp h then record h { tp_dst = port } else h
 rewritten h (Enqueue port queue) = h
-
--- the header after each of a list of actions in turn
-abbrev pub Rewrite : Header → List Action → Header
-Rewrite h [] = h
-Rewrite h (action ∷ others) = Rewrite (rewritten h action) others
 
 -- ---- matches
 

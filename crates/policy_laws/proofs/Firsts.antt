@@ -6,7 +6,7 @@ use Rattle.flowspace.specs.declared.rules.Rule.{Rule}
 use Rattle.flowspace.specs.declared.slices.Slice.{Slice}
 use Rattle.policy_text.specs.declared.fault.Part.TheVariants as part
 use Rattle.policy_text.specs.declared.fault.ReadFault.{ReadFault}
-use Rattle.policy_text.specs.Firsts.{AreReadAs, IsFirstRefused, StandsIn}
+use Rattle.policy_laws.specs.Firsts.{AreReadAs, IsFirstRefused, StandsIn}
 use Rattle.of10_model.specs.Results.{◌>>=◌}
 use Rattle.of10_model.proofs.Results.{bind_err, others_wrong}
 use Rattle.policy_text.specs.Reading.{reads}

@@ -12,7 +12,7 @@ use Rattle.policy_text.specs.declared.values.Numbers.TheVariants.{UpTo, Between,
 use Rattle.policy_text.specs.declared.values.Numerals.TheVariants.{Datapath, Hardware}
 use Rattle.policy_text.specs.declared.values.Texts.TheVariants.{Name, Controller, Any}
 use Rattle.of10_model.specs.Results.{◌>>=◌}
-use Rattle.policy_text.specs.Firsts.{IsKey, IsLeastUnknown, is_needed, has_form}
+use Rattle.policy_text.specs.Keys.{IsKey, IsLeastUnknown, is_needed, has_form}
 use Rattle.policy_text.specs.Places.{field_key}
 use Rattle.policy_text.specs.Reading.{SectionView, place_of, is_known, least, unknown_keys, no_unknown, known_keys, formed, demanded, allowed, required, optional, number, numeral, addresses, text, text_list}
 use Rattle.policy_text.specs.Slices.{slice_section, slice_in}

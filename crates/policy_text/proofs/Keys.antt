@@ -15,7 +15,7 @@ use Rattle.flowspace.specs.declared.slices.Slice.{Slice}
 use Rattle.flowspace.specs.Rules.{first_improper}
 use Rattle.policy_text.specs.declared.values.Numbers.TheVariants.{UpTo, Service}
 use Rattle.policy_text.specs.declared.values.Texts.TheVariants.{Any}
-use Rattle.policy_text.specs.Firsts.{IsKey}
+use Rattle.policy_text.specs.Keys.{IsKey}
 use Rattle.policy_text.specs.Places.{field_key}
 use Rattle.policy_text.specs.Reading.{SectionView, place_of, allowed, optional, number, addresses, text, text_list}
 use Rattle.policy_text.specs.Rules.{slots_of, are_different, RuleText, names_under, rule_text_in}

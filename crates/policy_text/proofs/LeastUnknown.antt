@@ -13,7 +13,7 @@ use Rattle.policy_text.specs.declared.fault.Part.{Part}
 use Rattle.policy_text.specs.declared.fault.Place.{Place}
 use Rattle.policy_text.specs.declared.fault.ReadFault.{ReadFault}
 use Rattle.policy_text.specs.declared.fault.ReadFault.TheVariants.{UnknownKey}
-use Rattle.policy_text.specs.Firsts.{IsKey, AreKnown, IsLeastUnknown}
+use Rattle.policy_text.specs.Keys.{IsKey, AreKnown, IsLeastUnknown}
 use Rattle.policy_text.specs.Reading.{SectionView, place_of, is_known, unknown_keys, lesser, least, no_unknown, known_keys}
 
 abbrev below : List ℕ → List ℕ → Bool

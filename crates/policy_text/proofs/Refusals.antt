@@ -7,7 +7,7 @@ use Rattle.flowspace.specs.Policies.{PolicyView}
 use Rattle.policy_text.specs.declared.fault.ReadFault.{ReadFault}
 use Rattle.policy_text.specs.declared.fault.ReadFault.TheVariants.{NotToml, Missing, BadValue, UnknownKey, Improper, Refused, Memory}
 use Rattle.policy_text.specs.declared.values.Numbers.TheVariants.{Between}
-use Rattle.policy_text.specs.Firsts.{has_form}
+use Rattle.policy_text.specs.Keys.{has_form}
 use Rattle.policy_text.specs.Reading.{Gives, SectionView, known_keys, required, optional, number, tables, some_tables}
 use Rattle.policy_text.specs.Slices.{slice_section, slice_of, slices_from}
 use Rattle.policy_text.specs.Rules.{rule_section, rule_of, rules_from}

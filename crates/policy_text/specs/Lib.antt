@@ -5,4 +5,4 @@ pub mod Rules
 pub mod Documents
 pub mod Views
 pub mod Printing
-pub mod Firsts
+pub mod Keys

@@ -19,8 +19,8 @@ use Rattle.slice_words.proofs.Forwarding.{rendered_sent, same_large}
 use Rattle.flow_book.specs.declared.state.SliceState.{SliceState}
 use Rattle.slice_words.specs.Buffers.{HeldPacket}
 use Rattle.slice_side.specs.Reactions.{kept}
-use Rattle.slice_side.proofs.Packets.{kept_for, carrier_come}
-use Rattle.slice_side.specs.Checking.{not_held_in, HaveCome, flow_mods_from, PassesEarly, HasLists, IsListing, IsListed}
+use Rattle.slice_side.proofs.Packets.{HaveCome, kept_for, carrier_come}
+use Rattle.slice_side.specs.Checking.{not_held_in, flow_mods_from, PassesEarly, HasLists, IsListing, IsListed}
 use Rattle.slice_side.specs.declared.pieces.Listing.{Listing}
 use Rattle.slice_side.specs.declared.pieces.Listing.TheVariants.{Given, TooMany, Forbidden}
 

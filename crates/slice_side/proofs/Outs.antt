@@ -29,9 +29,9 @@ use Rattle.slice_words.specs.Alone.{rendered}
 use Rattle.slice_words.specs.Standing.{held_as}
 use Rattle.slice_words.proofs.LoneRules.{same_port, any_alone}
 use Rattle.slice_side.specs.Reactions.{kept, ground_at}
-use Rattle.slice_side.specs.Checking.{packet_in, HaveCome, number_in, packet_out_from, early, MayBeSent}
+use Rattle.slice_side.specs.Checking.{packet_in, number_in, packet_out_from, early, MayBeSent}
 use Rattle.slice_side.proofs.Lines.{before, behind}
-use Rattle.slice_side.proofs.Packets.{kept_packet, come_packet}
+use Rattle.slice_side.proofs.Packets.{HaveCome, kept_packet, come_packet}
 
 fits : (size : ℕ) → size ≤ 65535 → nat_lt 65535 size ≡ false
 fits size small = elim (leb_tells 65536 size) [

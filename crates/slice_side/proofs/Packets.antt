@@ -26,9 +26,13 @@ use Rattle.slice_words.specs.Standing.{SliceStands, past_of, held_as}
 use Rattle.slice_words.proofs.Holding.{find_of_map, recent, number_tells, none_named, one_named}
 use Rattle.slice_words.proofs.Forwarding.{numbered}
 use Rattle.slice_side.specs.Reactions.{kept, Uses}
-use Rattle.slice_side.specs.Checking.{packet_in, packet_for, HaveCome, carrier_in}
+use Rattle.slice_side.specs.Checking.{packet_in, packet_for, carrier_in}
 
 -- ---- the state and the view
+
+-- the switch's numbers of these packets are those with which they came
+abbrev pub HaveCome : List ℕ → List Held → Type 0
+HaveCome came held = held ≡ map (held_as came) (map kept held)
 
 kept_as : (came : List ℕ) (packets : List HeldPacket) → map kept (map (held_as came) packets) ≡ packets
 kept_as came [] = refl

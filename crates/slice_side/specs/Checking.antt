@@ -22,7 +22,6 @@ use Rattle.buffer_map.specs.Buffers.{held_under}
 use Rattle.flow_book.specs.declared.state.SliceState.{SliceState}
 use Rattle.slice_words.specs.Messages.{Reading}
 use Rattle.slice_words.specs.Questions.{is_port_on, may_ask}
-use Rattle.slice_words.specs.Standing.{held_as}
 use Rattle.slice_words.specs.PacketOuts.{permitted_out, packet_out_on, names_no_packet, comes_by_another, carries_another, packet_out_fault}
 use Rattle.slice_side.specs.Reactions.{kept, ground_at}
 use Rattle.slice_side.specs.declared.packet_outs.PacketOutcome.{PacketOutcome}
@@ -48,10 +47,6 @@ packet_for state m = if is_delete m then None else packet_in state m.buffer
 -- a flow-mod names a packet that the state doesn't hold, or whose header isn't in its match; a delete's number is disregarded
 abbrev pub not_held_in : SliceState → FlowMod → Bool
 not_held_in state m = not (is_delete m) && not (m.buffer == NO_BUFFER) && not (is_packet_in m.pattern (option_map kept (packet_for state m)))
-
--- the switch's numbers of these packets are those with which they came
-abbrev pub HaveCome : List ℕ → List Held → Type 0
-HaveCome came held = held ≡ map (held_as came) (map kept held)
 
 -- the place of the first piece that has a packet's header, and the switch's number of the packet
 abbrev pub carrier_in : Option Held → List Pattern → Option (ℕ × ℕ)

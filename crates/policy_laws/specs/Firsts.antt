@@ -1,0 +1,48 @@
+-- Which fault of a policy text is its first, of items in order, and where a fault stands. All of it is this proxy's own rule.
+use Rattle.std.specs.Prelude.{◌≡◌, ◌⊎◌, ℕ, ◌<◌, true, false, List, slice_get, Option, Some, None, Result, Ok, Err, ⊤, codes}
+use Rattle.toml.specs.Data.{Data, Items, get_item, Members, get_member}
+use Rattle.flowspace.specs.declared.fault.PolicyFault.TheVariants.{UnknownSlice}
+use Rattle.policy_text.specs.declared.fault.Part.{Part}
+use Rattle.policy_text.specs.declared.fault.Part.TheVariants.{Rule}
+use Rattle.policy_text.specs.declared.fault.ReadFault.{ReadFault}
+use Rattle.policy_text.specs.declared.fault.ReadFault.TheVariants.{NotToml, Missing, BadValue, UnknownKey, Improper, Refused, Memory}
+use Rattle.policy_text.specs.Places.{field_key}
+use Rattle.policy_text.specs.Reading.{is_known}
+use Rattle.policy_text.specs.Keys.{IsKey, IsLeastUnknown, is_needed, has_form}
+
+-- ---- items in order
+
+-- there is neither an item nor a value, or the value is what the item at this index is read as
+abbrev pub IsReadAs : {A : Type 0} → Option Data → Option A → (Data → Result A ReadFault) → Type 0
+IsReadAs None None read = ⊤
+IsReadAs None (Some x) read = ⊥
+IsReadAs (Some d) None read = ⊥
+IsReadAs (Some d) (Some x) read = read d ≡ Ok x
+
+-- the values are what the items are read as, each at its index
+abbrev pub AreReadAs : {A : Type 0} → (ℕ → Data → Result A ReadFault) → Items → List A → Type 0
+AreReadAs read items xs = (i : ℕ) → IsReadAs (get_item i items) (slice_get xs i) (read i)
+
+-- some item, read at its index, has this fault, and each item before it is read
+pub record IsFirstRefused {A : Type 0} (read : ℕ → Data → Result A ReadFault) (items : Items) (fault : ReadFault) : Type 0 where
+  pub index : ℕ
+  pub refused : Data
+  pub there : get_item index items ≡ Some refused
+  pub fault_is : read index refused ≡ Err fault
+  pub earlier : (i : ℕ) (d : Data) → i < index → get_item i items ≡ Some d → (x : A) × (read i d ≡ Ok x)
+
+-- ---- where a fault stands
+
+-- the value under a key is of another form than such a table has there
+abbrev pub HasBadValue : Part → Members → List ℕ → Type 0
+HasBadValue part members key = (d : Data) × (get_member key members ≡ Some d) × (has_form part key d ≡ false)
+
+-- a fault of this table: at a key that it needs and lacks, a known one whose value is bad, or the least unknown one; or, of a rule, by its number, with a field or names that are there
+abbrev pub StandsIn : Part → ℕ → Members → ReadFault → Type 0
+StandsIn part index _ NotToml = ⊥
+StandsIn part index members (Missing at) = (at.part ≡ part) × (at.index ≡ index) × (is_needed part at.key ≡ true) × (IsKey members at.key → ⊥)
+StandsIn part index members (BadValue at) = (at.part ≡ part) × (at.index ≡ index) × (is_known part at.key ≡ true) × HasBadValue part members at.key
+StandsIn part index members (UnknownKey at) = (at.part ≡ part) × (at.index ≡ index) × IsLeastUnknown part members at.key
+StandsIn part index members (Improper rule field) = (part ≡ Rule) × (rule ≡ index) × IsKey members (field_key field)
+StandsIn part index members (Refused fault) = (part ≡ Rule) × (fault ≡ UnknownSlice index) × (IsKey members (codes "write") ⊎ IsKey members (codes "read"))
+StandsIn part index _ Memory = ⊥
