@@ -1,7 +1,11 @@
 -- The messages that are told are those of the summary, and how they are counted.
 use Rattle.std.proofs.Common.{◌≡◌, inl, inr, ◌+◌, ◌<◌, ◌≤◌, ◌==◌, ℕ, Bool, true, false, if◌then◌else◌, List, [], ◌∷◌, ◌++◌, drop, length, refl, sym, ap, ap₂, ◌∙◌, append_assoc, subst, Option, Some, None, Result, Ok, Err, OnOk, slice_get, codes, decimal, arith}
 use Rattle.std.specs.List.{flat_map, enumerate_from}
-use Rattle.std.specs.Prelude.{is_ok}
+use Rattle.std.specs.Prelude.{IfErr}
+use Rattle.std.specs.Result.{IsErrAnd}
+use Rattle.fv_report.specs.Writing.{CountedFault, Counted}
+use Rattle.fv_report.specs.declared.fault.ReportFault.{ReportFault}
+use Rattle.fv_report.specs.declared.fault.ReportFault.TheVariants.{Memory}
 use Rattle.std.specs.Vec.{with_item}
 use Rattle.std.proofs.lemmas.List.{append-nil, drop_more, length-append, length-set}
 use Rattle.std.proofs.lemmas.List.Sums.{sum_by-append}
@@ -21,7 +25,7 @@ use Rattle.desk_words.specs.Reports.{Place, name_at, speaker}
 use Rattle.summary_words.specs.Summaries.{lane_messages, slice_messages, event_count, count_line, summary}
 use Rattle.fv_report.specs.declared.counter.Count.{Count}
 use Rattle.fv_report.specs.declared.counter.Counter.{Counter}
-use Rattle.fv_report.specs.Telling.{Line, Saying, Lane, To, Close, Down, lane_told, slice_told, told_by_slot, closing_told, close_told, down_line, down_told, event_told, lines_from, all_lines, Heard}
+use Rattle.fv_report.specs.Telling.{Line, Outcome, Saying, Lane, To, Close, Down, lane_told, slice_told, told_by_slot, closing_told, close_told, down_line, down_told, event_told, lines_from, all_lines, Heard, HeardPart}
 use Rattle.fv_report.proofs.Recorded.{same_number, set_get}
 use Rattle.fv_report.specs.Counting.{Added, lane_said, slice_in, lane_told_in, slice_told_in, IsCount, Counts, CountsLine, summary_text}
 
@@ -200,7 +204,7 @@ count_same : (all : List (List ℕ)) (count : Count) → IsCount all count → I
 count_same all count is = subst (λ (messages : List (List ℕ)). IsCount messages count) (sym (append-nil all)) is
 
 -- a message for the switch is counted
-pub lane_counted : (message : List ℕ) (old : Counter) (new : Count) → Added message old.lane new → CountsLine (Lane message) true old (record { lane = new; slices = old.slices })
+pub lane_counted : (message : List ℕ) (old : Counter) (new : Count) → Added message old.lane new → CountsLine (Lane message) (Ok tt) old (record { lane = new; slices = old.slices })
 lane_counted message old new added slots lane slices counts = record {
   known = counts.known;
   for_lane = count_more lane message old.lane new counts.for_lane added;
@@ -209,7 +213,7 @@ lane_counted message old new added slots lane slices counts = record {
 
 -- a message for the slice at a slot is counted
 pub slice_counted : (at : ℕ) (name message : List ℕ) (old : Counter) (was new : Count) → slice_get old.slices.items at ≡ Some was → Added message was new
-    → CountsLine (To at name message) true old (record { lane = old.lane; slices = with_item old.slices at new })
+    → CountsLine (To at name message) (Ok tt) old (record { lane = old.lane; slices = with_item old.slices at new })
 slice_counted at name message old was new is added slots lane slices counts = record {
   known = length-set old.slices.items at new ∙ counts.known;
   for_lane = count_same lane old.lane counts.for_lane;
@@ -220,7 +224,7 @@ slice_counted at name message old was new is added slots lane slices counts = re
 }
 
 -- there is no such slice
-pub none_counted : (at : ℕ) (name message : List ℕ) (old : Counter) → length old.slices.items ≤ at → CountsLine (To at name message) true old old
+pub none_counted : (at : ℕ) (name message : List ℕ) (old : Counter) → length old.slices.items ≤ at → CountsLine (To at name message) (Ok tt) old old
 none_counted at name message old past slots lane slices counts = record {
   known = counts.known;
   for_lane = count_same lane old.lane counts.for_lane;
@@ -234,9 +238,20 @@ ok_so (Ok value) holds so = so holds
 ok_so (Err fault) holds so = tt
 
 -- a line is counted where it was told whole
-pub told_as : {E : Type 0} (result : Result (Unit {0}) E) (saying : Saying) (old new : Counter) → OnOk result (CountsLine saying true old new) → CountsLine saying (is_ok result) old new
-told_as (Ok value) saying old new holds = holds
-told_as (Err fault) saying old new holds = tt
+pub told_as : (outcome : Outcome) (saying : Saying) (old new : Counter) → OnOk outcome (CountsLine saying (Ok tt) old new) → IfErr outcome (λ f. f ≡ Memory) → CountsLine saying outcome old new
+told_as (Ok value) saying old new holds memory = holds
+told_as (Err fault) saying old new holds memory = memory
+
+-- nothing but want of memory ends what is counted
+pub only_memory : (fault : ReportFault) (lines : List Line) (old new : Counter) → HeardPart (λ was line outcome is. CountsLine line.saying outcome was is) fault old lines new → fault ≡ Memory
+only_memory fault [] old new (same, memory) = memory
+only_memory fault (line ∷ lines) old new (inl (same, memory)) = memory
+only_memory fault (line ∷ lines) old new (inr (inl memory)) = memory
+only_memory fault (line ∷ lines) old new (inr (inr (next, told, others))) = only_memory fault lines next new others
+
+pub nothing_counted : {A : Type 0} (fault : ReportFault) (result : Result A ReportFault) (n : ℕ) → IsErrAnd result (λ e. e ≡ fault) → fault ≡ Memory → Counted result n n
+nothing_counted fault (Err e) n same memory = subst (λ (f : ReportFault). CountedFault f n n) (sym (same ∙ memory)) refl
+nothing_counted fault (Ok value) n same memory = absurd same
 
 -- the same messages in other words
 counts_as : (slots : ℕ) (lane other_lane : List (List ℕ)) (slices other_slices : ℕ → List (List ℕ)) (counter : Counter) → lane ≡ other_lane → ((slot : ℕ) → slices slot ≡ other_slices slot) → Counts slots lane slices counter → Counts slots other_lane other_slices counter
@@ -247,7 +262,7 @@ counts_as slots lane other_lane slices other_slices counter same same_slices cou
 }
 
 -- after lines that were told the messages that they tell of are counted
-pub counted_lines : (lines : List Line) (old new : Counter) (slots : ℕ) (lane : List (List ℕ)) (slices : ℕ → List (List ℕ)) → Counts slots lane slices old → Heard (λ was line whole is. CountsLine line.saying whole was is) old lines new
+pub counted_lines : (lines : List Line) (old new : Counter) (slots : ℕ) (lane : List (List ℕ)) (slices : ℕ → List (List ℕ)) → Counts slots lane slices old → Heard (λ was line outcome is. CountsLine line.saying outcome was is) old lines new
     → Counts slots (lane ++ lane_told_in lines) (λ slot. slices slot ++ slice_told_in slot lines) new
 counted_lines [] old new slots lane slices counts same =
     subst (Counts slots (lane ++ []) (λ slot. slices slot ++ [])) (sym same)

@@ -1,4 +1,5 @@
 pub mod Writing
+pub mod Players
 pub mod Holding
 pub mod Draining
 pub mod Slices

@@ -1,7 +1,6 @@
 -- Events that are played one after another.
-use Rattle.std.proofs.Common.{◌≡◌, ◌+◌, ℕ, suc, Bool, true, false, if◌then◌else◌, List, [], ◌∷◌, ◌++◌, map, length, refl, sym, ap, ap₂, ◌∙◌, append_assoc, subst, Some, None, Result, Ok, Err, IfOk, arith}
-use Rattle.std.specs.Result.{IsErr}
-use Rattle.std.proofs.lemmas.Result.{IfOk-from_err}
+use Rattle.std.proofs.Common.{◌≡◌, ◌+◌, ℕ, suc, Bool, true, false, if◌then◌else◌, List, [], ◌∷◌, ◌++◌, map, length, refl, sym, ap, ◌∙◌, append_assoc, subst, Some, None, Result, Ok, Err, arith}
+use Rattle.std.specs.Result.{IsErrAnd}
 use Rattle.std.proofs.lemmas.List.{append-nil, length-append}
 use Rattle.std.proofs.lemmas.List.Elements.{All-cons}
 use Rattle.flowspace.specs.Policies.{PolicyView}
@@ -15,16 +14,18 @@ use Rattle.desk_words.specs.declared.answer.Dest.TheVariants.{Switch, Slice}
 use Rattle.desk_words.specs.Verdicts.{is_over}
 use Rattle.desk_words.specs.Recorded.{timed_at, next_of, next_after}
 use Rattle.desk_words.specs.Reports as report
-use Rattle.fv_report.specs.Telling.{Line, Heard, HeardPart, event_told, told_of}
 use Rattle.proxy_core.specs.declared.parts.Desk.{Desk}
 use Rattle.desk_words.proofs.Reporting.{at_once, one_further}
-use Rattle.fv_report.specs.declared.teller.Place.{Place}
-use Rattle.fv_report.specs.Lines.{place_of}
+use Rattle.fv_report.specs.declared.fault.ReportFault.{ReportFault}
+use Rattle.fv_report.specs.declared.fault.ReportFault.TheVariants.{Memory}
+use Rattle.fv_report.specs.declared.player.Player.{Player}
+use Rattle.fv_report.specs.Telling.{Line, Outcome, event_told, told_of}
 use Rattle.fv_report.specs.Holding.{IsQuiet}
+use Rattle.fv_report.specs.Players.{Scene, IsPlaying, later, HasTold}
 use Rattle.fv_report.specs.Streams.{TookFrame}
-use Rattle.fv_report.specs.Plays.{event_from, happens, happening, Played, Plays, Hears}
+use Rattle.fv_report.specs.Plays.{event_from, happens, happening, Rests, PlaysEvents, Plays, Hears}
 use Rattle.fv_report.proofs.Streaming.{next_left, nothing_left}
-use Rattle.fv_report.proofs.Writing.{heard_both, heard_part_of_first, heard_part_of_second, heard_part_of_all, tell_fault}
+use Rattle.fv_report.proofs.Players.{later_none, later_both, told_nothing, told_none, told_second, told_first, told_as, told_so}
 
 -- ---- one event
 
@@ -39,42 +40,36 @@ framed_next h timed false framed one = All-cons (λ (t : Timed). IsFramed t.even
 one_event : (p : PolicyView) (moment : ℕ) (h : List Timed) (event : Event) → happens p h event ≡ true → happening p moment h (event ∷ []) ≡ timed_at moment event ∷ []
 one_event p moment h event is = rw is refl
 
-pub no_event : (p : PolicyView) (moment : ℕ) (h : List Timed) (event : Event) → happens p h event ≡ false → happening p moment h (event ∷ []) ≡ []
+no_event : (p : PolicyView) (moment : ℕ) (h : List Timed) (event : Event) → happens p h event ≡ false → happening p moment h (event ∷ []) ≡ []
 no_event p moment h event is = rw is refl
 
--- a fault ends what is played
-plays_part : {E T : Type 0} (Tells : T → Line → Bool → T → Type 0) (p : PolicyView) (moment : ℕ) (h : List Timed) (events : List Event) (place : Place) (result : Result Place E) (before after : T) (desk : Desk)
-    → IsErr result → HeardPart Tells before (told_of p (place_of place) h (happening p moment h events)) after → Plays Tells p moment h events place result before after desk
-plays_part Tells p moment h events place result before after desk err part = record {
-  writes = tell_fault Tells result (told_of p (place_of place) h (happening p moment h events)) before after err part;
-  played = IfOk-from_err result (λ later. Played p h (happening p moment h events) place later desk) err;
-}
+-- what holds of a list of events holds of what happens of one event that does
+played_as : {T : Type 0} (Tells : T → Line → Outcome → T → Type 0) (scene : Scene) (h : List Timed) (event : Event) (outcome : Outcome) (old new : Player T) (desk : Desk) → happens scene.policy h event ≡ true
+    → PlaysEvents Tells scene h (timed_at scene.moment event ∷ []) (Rests scene.policy h (timed_at scene.moment event ∷ []) desk) outcome old new → Plays Tells scene h (event ∷ []) outcome old new desk
+played_as Tells scene h event outcome old new desk is played =
+    subst (λ (own : List Timed). PlaysEvents Tells scene h own (Rests scene.policy h own desk) outcome old new) (sym (one_event scene.policy scene.moment h event is)) played
 
--- a piece of its lines was written
-pub failed_one : {E T : Type 0} (Tells : T → Line → Bool → T → Type 0) (p : PolicyView) (timed : Timed) (h : List Timed) (place : Place) (result : Result Place E) (before after : T) (desk : Desk)
-    → happens p h timed.event ≡ true → IsErr result → HeardPart Tells before (event_told p (place_of place) h timed) after → Plays Tells p timed.moment h (timed.event ∷ []) place result before after desk
-failed_one Tells p timed h place result before after desk is err part =
-    let own = one_event p timed.moment h timed.event is in
-    plays_part Tells p timed.moment h (timed.event ∷ []) place result before after desk err
-    (subst (λ (events : List Timed). HeardPart Tells before (told_of p (place_of place) h events) after) (sym own) (heard_part_of_first Tells (event_told p (place_of place) h timed) [] before after part))
+-- the event was played, and counted if there is a number for it
+pub played_one : {T : Type 0} (Tells : T → Line → Outcome → T → Type 0) (scene : Scene) (h : List Timed) (event : Event) (value : Unit {0}) (outcome : Outcome) (old now new : Player T) (desk : Desk) → happens scene.policy h event ≡ true → AreFramed h → IsFramed event
+    → HasTold {A = Unit {0}} Tells scene (IsQuiet scene.policy (next_of h (timed_at scene.moment event)) desk) (Ok value) (event_told scene.policy scene.place h (timed_at scene.moment event)) old now
+    → HasTold Tells (later 1 scene) (Unit {0}) outcome [] now new → Plays Tells scene h (event ∷ []) outcome old new desk
+played_one Tells scene h event value outcome old now new desk is framed one turned counted =
+    let timed = timed_at scene.moment event in
+    played_as Tells scene h event outcome old new desk is
+    (told_second Tells scene (later 1 scene) value outcome (event_told scene.policy scene.place h timed) [] old now new turned
+    (told_so Tells (later 1 scene) outcome [] now new (λ _. record { quiet = turned.more; framed = framed_next h timed (is_over h) framed one }) counted))
 
--- the event was played
-pub played_one : {E T : Type 0} (Tells : T → Line → Bool → T → Type 0) (p : PolicyView) (timed : Timed) (h : List Timed) (place : Place) (result : Result Place E) (before after : T) (desk : Desk)
-    → happens p h timed.event ≡ true → Heard Tells before (event_told p (place_of place) h timed) after → IsQuiet p (next_of h timed) desk → AreFramed h → IsFramed timed.event
-    → IfOk result (λ later. later.number ≡ place.number + 1) → IfOk result (λ later. later.switch ≡ place.switch) → Plays Tells p timed.moment h (timed.event ∷ []) place result before after desk
-played_one Tells p timed h place (Ok later) before after desk is written quiet framed one number switch =
-    let own = one_event p timed.moment h timed.event is in
-    record {
-      writes = subst (λ (lines : List Line). Heard Tells before lines after) (sym (append-nil (event_told p (place_of place) h timed)) ∙ ap (told_of p (place_of place) h) (sym own)) written;
-      played = record {
-        number = number ∙ ap (λ (events : List Timed). place.number + length events) (sym own);
-        switch = switch;
-        quiet = subst (λ (events : List Timed). IsQuiet p (next_after h events) desk) (sym own) quiet;
-        framed = subst (λ (events : List Timed). AreFramed (next_after h events)) (sym own) (framed_next h timed (is_over h) framed one);
-      };
-    }
-played_one Tells p timed h place (Err fault) before after desk is written quiet framed one number switch =
-    failed_one Tells p timed h place (Err fault) before after desk is refl (heard_part_of_all Tells (event_told p (place_of place) h timed) before after written)
+-- a fault came in its lines
+pub failed_one : {T : Type 0} (Tells : T → Line → Outcome → T → Type 0) (scene : Scene) (h : List Timed) (event : Event) (fault : ReportFault) (outcome : Outcome) (old new : Player T) (desk : Desk) → happens scene.policy h event ≡ true → IsErrAnd outcome (λ e. e ≡ fault)
+    → HasTold {A = Unit {0}} Tells scene (IsQuiet scene.policy (next_of h (timed_at scene.moment event)) desk) (Err fault) (event_told scene.policy scene.place h (timed_at scene.moment event)) old new → Plays Tells scene h (event ∷ []) outcome old new desk
+failed_one Tells scene h event fault outcome old new desk is same turned =
+    played_as Tells scene h event outcome old new desk is (told_first Tells scene (later 1 scene) fault outcome (event_told scene.policy scene.place h (timed_at scene.moment event)) [] old new same turned)
+
+-- nothing happened
+pub played_none : {T : Type 0} (Tells : T → Line → Outcome → T → Type 0) (scene : Scene) (h : List Timed) (event : Event) (player : Player T) (desk : Desk) → happens scene.policy h event ≡ false → IsPlaying scene player → IsQuiet scene.policy h desk → AreFramed h → Plays Tells scene h (event ∷ []) (Ok tt) player player desk
+played_none Tells scene h event player desk isnt is quiet framed =
+    subst (λ (own : List Timed). PlaysEvents Tells scene h own (Rests scene.policy h own desk) (Ok tt) player player) (sym (no_event scene.policy scene.moment h event isnt))
+    (told_nothing Tells (later 0 scene) tt player (subst (λ (s : Scene). IsPlaying s player) (sym (later_none scene)) is) (record { quiet = quiet; framed = framed }))
 
 -- ---- events one after another
 
@@ -99,21 +94,39 @@ lines_both p number switch h (timed ∷ first) second =
 
 -- ---- the frames of a connection
 
--- so far: these frames are left of a connection, and the lines of the others are written
-pub record Hearing {T : Type 0} (Tells : T → Line → Bool → T → Type 0) (p : PolicyView) (moment : ℕ) (from : Dest) (first_place place : Place) (first : List Timed) (all : List (List ℕ)) (fed : List ℕ) (before now : T) (desk : Desk) (framer : Stream) : Type 0 where
+-- so far: these frames are left of a connection, and the lines of the others are told
+pub record Hearing {T : Type 0} (Tells : T → Line → Outcome → T → Type 0) (scene : Scene) (from : Dest) (first : List Timed) (all : List (List ℕ)) (fed : List ℕ) (before now : Player T) (desk : Desk) (framer : Stream) : Type 0 where
   pub h : List Timed
   pub given : List (List ℕ)
   pub rest : List (List ℕ)
-  pub quiet : IsQuiet p h desk
+  pub quiet : IsQuiet scene.policy h desk
   pub framed : AreFramed h
   pub stands : Stands framer fed given
   pub cut : given ++ rest ≡ frames_of fed
+  pub events : ℕ
   pub done : List Line
-  pub written : Heard Tells before done now
-  pub lines : done ++ told_of p (place_of place) h (happening p moment h (map (event_from from) rest)) ≡ told_of p (place_of first_place) first (happening p moment first (map (event_from from) all))
-  pub number : place.number + length (happening p moment h (map (event_from from) rest)) ≡ first_place.number + length (happening p moment first (map (event_from from) all))
-  pub switch : place.switch ≡ first_place.switch
-  pub next : next_after h (happening p moment h (map (event_from from) rest)) ≡ next_after first (happening p moment first (map (event_from from) all))
+  pub told : HasTold {A = Unit {0}} Tells (later events scene) (Unit {0}) (Ok tt) done before now
+  pub lines : done ++ told_of scene.policy (later events scene).place h (happening scene.policy scene.moment h (map (event_from from) rest)) ≡ told_of scene.policy scene.place first (happening scene.policy scene.moment first (map (event_from from) all))
+  pub count : events + length (happening scene.policy scene.moment h (map (event_from from) rest)) ≡ length (happening scene.policy scene.moment first (map (event_from from) all))
+  pub next : next_after h (happening scene.policy scene.moment h (map (event_from from) rest)) ≡ next_after first (happening scene.policy scene.moment first (map (event_from from) all))
+
+pub hearing_first : {T : Type 0} (Tells : T → Line → Outcome → T → Type 0) (scene : Scene) (from : Dest) (h : List Timed) (fed : List ℕ) (given rest : List (List ℕ)) (player : Player T) (desk : Desk) (framer : Stream)
+    → IsPlaying scene player → IsQuiet scene.policy h desk → AreFramed h → Stands framer fed given → given ++ rest ≡ frames_of fed → Hearing Tells scene from h rest fed player player desk framer
+hearing_first Tells scene from h fed given rest player desk framer is quiet framed stands cut = record {
+  h = h;
+  given = given;
+  rest = rest;
+  quiet = quiet;
+  framed = framed;
+  stands = stands;
+  cut = cut;
+  events = 0;
+  done = [];
+  told = told_nothing Tells (later 0 scene) tt player (subst (λ (s : Scene). IsPlaying s player) (sym (later_none scene)) is) tt;
+  lines = ap (λ (s : Scene). told_of scene.policy s.place h (happening scene.policy scene.moment h (map (event_from from) rest))) (later_none scene);
+  count = omega arith;
+  next = refl;
+}
 
 -- what the next frame of a connection makes happen, and then the others
 next_happening : (p : PolicyView) (moment : ℕ) (from : Dest) (h : List Timed) (rest others : List (List ℕ)) (frame : List ℕ) → rest ≡ frame ∷ others
@@ -122,100 +135,98 @@ next_happening p moment from h rest others frame left =
     ap (λ (r : List (List ℕ)). happening p moment h (map (event_from from) r)) left ∙ happening_first p moment h (event_from from frame) (map (event_from from) others) (happens p h (event_from from frame)) refl
 
 -- the lines of the next frame, and then those of the others
-next_lines : (p : PolicyView) (moment : ℕ) (from : Dest) (place : Place) (h : List Timed) (rest others : List (List ℕ)) (frame : List ℕ) → rest ≡ frame ∷ others
-    → (let own = happening p moment h (event_from from frame ∷ []) in
-    told_of p (place_of place) h own ++ told_of p (record { number = place.number + length own; switch = place.switch }) (next_after h own) (happening p moment (next_after h own) (map (event_from from) others)))
-    ≡ told_of p (place_of place) h (happening p moment h (map (event_from from) rest))
-next_lines p moment from place h rest others frame left =
-    let own = happening p moment h (event_from from frame ∷ []) in
-    sym (lines_both p place.number place.switch h own (happening p moment (next_after h own) (map (event_from from) others))) ∙ ap (told_of p (place_of place) h) (sym (next_happening p moment from h rest others frame left))
-
-place_after : (place later : Place) (n : ℕ) → later.number ≡ n → later.switch ≡ place.switch → place_of later ≡ (let k : report.Place = record { number = n; switch = place.switch } in k)
-place_after place later n number switch = ap₂ (λ (a b : ℕ). let k : report.Place = record { number = a; switch = b } in k) number switch
+next_lines : (scene : Scene) (from : Dest) (h : List Timed) (rest others : List (List ℕ)) (frame : List ℕ) → rest ≡ frame ∷ others
+    → (let own = happening scene.policy scene.moment h (event_from from frame ∷ []) in
+    told_of scene.policy scene.place h own ++ told_of scene.policy (later (length own) scene).place (next_after h own) (happening scene.policy scene.moment (next_after h own) (map (event_from from) others)))
+    ≡ told_of scene.policy scene.place h (happening scene.policy scene.moment h (map (event_from from) rest))
+next_lines scene from h rest others frame left =
+    let own = happening scene.policy scene.moment h (event_from from frame ∷ []) in
+    sym (lines_both scene.policy scene.place.number scene.place.switch h own (happening scene.policy scene.moment (next_after h own) (map (event_from from) others)))
+    ∙ ap (told_of scene.policy scene.place h) (sym (next_happening scene.policy scene.moment from h rest others frame left))
 
 -- one message more was heard
-pub hearing_more : {T : Type 0} (Tells : T → Line → Bool → T → Type 0) (p : PolicyView) (moment : ℕ) (from : Dest) (first_place place later : Place) (first : List Timed) (all : List (List ℕ)) (fed : List ℕ) (before now later_told : T) (old desk : Desk) (framer new : Stream) (frame : List ℕ)
-    (s : Hearing Tells p moment from first_place place first all fed before now old framer) → TookFrame (Some frame) fed s.given new
-    → Heard Tells now (told_of p (place_of place) s.h (happening p moment s.h (event_from from frame ∷ []))) later_told → Played p s.h (happening p moment s.h (event_from from frame ∷ [])) place later desk
-    → Hearing Tells p moment from first_place later first all fed before later_told desk new
-hearing_more Tells p moment from first_place place later first all fed before now later_told old desk framer new frame s took written played =
-    let own = happening p moment s.h (event_from from frame ∷ []) in
+pub hearing_more : {T : Type 0} (Tells : T → Line → Outcome → T → Type 0) (scene : Scene) (from : Dest) (first : List Timed) (all : List (List ℕ)) (fed : List ℕ) (before now new : Player T) (old desk : Desk) (framer framer_after : Stream) (frame : List ℕ) (value : Unit {0})
+    (s : Hearing Tells scene from first all fed before now old framer) → TookFrame (Some frame) fed s.given framer_after
+    → Plays Tells (later s.events scene) s.h (event_from from frame ∷ []) (Ok value) now new desk → Hearing Tells scene from first all fed before new desk framer_after
+hearing_more Tells scene from first all fed before now new old desk framer framer_after frame value s took played =
+    let p = scene.policy in
+    let here = later s.events scene in
+    let own = happening p scene.moment s.h (event_from from frame ∷ []) in
     let others = took.0.0 in
     let left : s.rest ≡ frame ∷ others = next_left s.given s.rest others frame (frames_of fed) s.cut took.0.1 in
     let events = map (event_from from) others in
     let h = next_after s.h own in
-    let split = next_happening p moment from s.h s.rest others frame left in
-    let text = told_of p (place_of place) s.h own in
-    let placed : place_of later ≡ (let k : report.Place = record { number = place.number + length own; switch = place.switch } in k) = place_after place later (place.number + length own) played.number played.switch in
-    let counted = ap length split ∙ length-append own (happening p moment h events) in
-    let was = s.number in
-    let number = played.number in
+    let split = next_happening p scene.moment from s.h s.rest others frame left in
+    let text = told_of p here.place s.h own in
+    let counted = ap length split ∙ length-append own (happening p scene.moment h events) in
+    let was = s.count in
     record {
       h = h;
       given = s.given ++ frame ∷ [];
       rest = others;
-      quiet = played.quiet;
-      framed = played.framed;
+      quiet = played.more.quiet;
+      framed = played.more.framed;
       stands = took.1;
       cut = took.0.1;
+      events = s.events + length own;
       done = s.done ++ text;
-      written = heard_both Tells before now later_told s.done text s.written written;
+      told = subst (λ (at : Scene). HasTold {A = Unit {0}} Tells at (Unit {0}) (Ok tt) (s.done ++ text) before new) (later_both s.events (length own) scene)
+          (told_second Tells here (later (length own) here) tt (Ok tt) s.done text before now new s.told (told_so Tells (later (length own) here) (Ok tt) text now new (λ _. tt) played));
       lines =
-          append_assoc s.done text (told_of p (place_of later) h (happening p moment h events))
-          ∙ ap (λ (k : report.Place). s.done ++ (text ++ told_of p k h (happening p moment h events))) placed
-          ∙ ap (λ (t : List Line). s.done ++ t) (next_lines p moment from place s.h s.rest others frame left)
+          append_assoc s.done text (told_of p (later (s.events + length own) scene).place h (happening p scene.moment h events))
+          ∙ ap (λ (at : Scene). s.done ++ (text ++ told_of p at.place h (happening p scene.moment h events))) (sym (later_both s.events (length own) scene))
+          ∙ ap (λ (t : List Line). s.done ++ t) (next_lines here from s.h s.rest others frame left)
           ∙ s.lines;
-      number = omega (arith, counted, was, number);
-      switch = played.switch ∙ s.switch;
-      next = sym (next_after_both s.h own (happening p moment h events)) ∙ ap (next_after s.h) (sym split) ∙ s.next;
+      count = omega (arith, counted, was);
+      next = sym (next_after_both s.h own (happening p scene.moment h events)) ∙ ap (next_after s.h) (sym split) ∙ s.next;
     }
 
--- a piece of the next message's lines was written
-pub hearing_part : {T : Type 0} (Tells : T → Line → Bool → T → Type 0) (p : PolicyView) (moment : ℕ) (from : Dest) (first_place place : Place) (first : List Timed) (all : List (List ℕ)) (fed : List ℕ) (before now later_told : T) (old : Desk) (framer new : Stream) (frame : List ℕ)
-    (s : Hearing Tells p moment from first_place place first all fed before now old framer) → TookFrame (Some frame) fed s.given new
-    → HeardPart Tells now (told_of p (place_of place) s.h (happening p moment s.h (event_from from frame ∷ []))) later_told
-    → HeardPart Tells before (told_of p (place_of first_place) first (happening p moment first (map (event_from from) all))) later_told
-hearing_part Tells p moment from first_place place first all fed before now later_told old framer new frame s took part =
-    let own = happening p moment s.h (event_from from frame ∷ []) in
+-- a piece of the next message's lines was told
+pub hearing_part : {A T More : Type 0} (Tells : T → Line → Outcome → T → Type 0) (scene at : Scene) (from : Dest) (first : List Timed) (all : List (List ℕ)) (fed : List ℕ) (before now new : Player T) (old desk : Desk) (framer framer_after : Stream) (frame : List ℕ) (fault : ReportFault) (result : Result A ReportFault)
+    (s : Hearing Tells scene from first all fed before now old framer) → TookFrame (Some frame) fed s.given framer_after → IsErrAnd result (λ e. e ≡ fault)
+    → Plays Tells (later s.events scene) s.h (event_from from frame ∷ []) (Err fault) now new desk
+    → HasTold {A = A} Tells at More result (told_of scene.policy scene.place first (happening scene.policy scene.moment first (map (event_from from) all))) before new
+hearing_part {A} {T} {More} Tells scene at from first all fed before now new old desk framer framer_after frame fault result s took same part =
+    let p = scene.policy in
+    let here = later s.events scene in
+    let own = happening p scene.moment s.h (event_from from frame ∷ []) in
     let others = took.0.0 in
     let left : s.rest ≡ frame ∷ others = next_left s.given s.rest others frame (frames_of fed) s.cut took.0.1 in
-    let events = map (event_from from) others in
     let h = next_after s.h own in
-    let text = told_of p (place_of place) s.h own in
-    let behind = told_of p (record { number = place.number + length own; switch = place.switch }) h (happening p moment h events) in
-    subst (λ (t : List Line). HeardPart Tells before t later_told) (ap (λ (t : List Line). s.done ++ t) (next_lines p moment from place s.h s.rest others frame left) ∙ s.lines)
-    (heard_part_of_second Tells s.done (text ++ behind) before now later_told s.written (heard_part_of_first Tells text behind now later_told part))
+    let text = told_of p here.place s.h own in
+    let behind = told_of p (later (length own) here).place h (happening p scene.moment h (map (event_from from) others)) in
+    told_as Tells at result (s.done ++ (text ++ behind)) (told_of p scene.place first (happening p scene.moment first (map (event_from from) all))) before new
+    (ap (λ (t : List Line). s.done ++ t) (next_lines here from s.h s.rest others frame left) ∙ s.lines)
+    (told_second Tells here at tt result s.done (text ++ behind) before now new s.told (told_first {More = More} Tells (later (length own) here) at fault result text behind now new same part))
 
--- what was written before a fault that wrote nothing
-pub hearing_stopped : {T : Type 0} (Tells : T → Line → Bool → T → Type 0) (p : PolicyView) (moment : ℕ) (from : Dest) (first_place place : Place) (first : List Timed) (all : List (List ℕ)) (fed : List ℕ) (before now : T) (old : Desk) (framer : Stream)
-    (s : Hearing Tells p moment from first_place place first all fed before now old framer) → HeardPart Tells before (told_of p (place_of first_place) first (happening p moment first (map (event_from from) all))) now
-hearing_stopped Tells p moment from first_place place first all fed before now old framer s =
-    subst (λ (t : List Line). HeardPart Tells before t now) s.lines (heard_part_of_first Tells s.done (told_of p (place_of place) s.h (happening p moment s.h (map (event_from from) s.rest))) before now (heard_part_of_all Tells s.done before now s.written))
-
--- a fault ends the hearing
-pub hearing_failed : {E T : Type 0} (Tells : T → Line → Bool → T → Type 0) (p : PolicyView) (moment : ℕ) (from : Dest) (place : Place) (h : List Timed) (rest : List (List ℕ)) (fed : List ℕ) (result : Result Place E) (before after : T) (desk : Desk) (framer : Stream)
-    → IsErr result → HeardPart Tells before (told_of p (place_of place) h (happening p moment h (map (event_from from) rest))) after → Hears Tells p moment from h fed rest place result before after desk framer
-hearing_failed Tells p moment from place h rest fed result before after desk framer err part = record {
-  plays = plays_part Tells p moment h (map (event_from from) rest) place result before after desk err part;
-  given = IfOk-from_err result (λ _. Stands framer fed (frames_of fed)) err;
-}
+-- memory ran out between two messages
+pub hearing_stopped : {A T More : Type 0} (Tells : T → Line → Outcome → T → Type 0) (scene at : Scene) (from : Dest) (first : List Timed) (all : List (List ℕ)) (fed : List ℕ) (before now : Player T) (desk : Desk) (framer : Stream) (result : Result A ReportFault)
+    (s : Hearing Tells scene from first all fed before now desk framer) → IsErrAnd result (λ e. e ≡ Memory)
+    → HasTold {A = A} Tells at More result (told_of scene.policy scene.place first (happening scene.policy scene.moment first (map (event_from from) all))) before now
+hearing_stopped {A} {T} {More} Tells scene at from first all fed before now desk framer result s same =
+    let p = scene.policy in
+    let here = later s.events scene in
+    let left = told_of p here.place s.h (happening p scene.moment s.h (map (event_from from) s.rest)) in
+    told_as Tells at result (s.done ++ left) (told_of p scene.place first (happening p scene.moment first (map (event_from from) all))) before now s.lines
+    (told_second Tells here at tt result s.done left before now now s.told (told_none {More = More} Tells at result left now same))
 
 -- all frames were heard
-pub hearing_all : {E T : Type 0} (Tells : T → Line → Bool → T → Type 0) (p : PolicyView) (moment : ℕ) (from : Dest) (first_place place : Place) (first : List Timed) (all : List (List ℕ)) (fed : List ℕ) (before now : T) (desk : Desk) (framer new : Stream)
-    (s : Hearing Tells p moment from first_place place first all fed before now desk framer) → TookFrame None fed s.given new
-    → Hears {E = E} Tells p moment from first fed all first_place (Ok place) before now desk new
-hearing_all Tells p moment from first_place place first all fed before now desk framer new s took =
+pub hearing_all : {T : Type 0} (Tells : T → Line → Outcome → T → Type 0) (scene : Scene) (from : Dest) (first : List Timed) (all : List (List ℕ)) (fed : List ℕ) (before now : Player T) (desk : Desk) (framer framer_after : Stream)
+    (s : Hearing Tells scene from first all fed before now desk framer) → TookFrame None fed s.given framer_after → Hears Tells scene from first fed all (Ok tt) before now desk framer_after
+hearing_all Tells scene from first all fed before now desk framer framer_after s took =
+    let p = scene.policy in
+    let m = scene.moment in
+    let whole = happening p m first (map (event_from from) all) in
     let none : s.rest ≡ [] = nothing_left s.given s.rest (frames_of fed) s.cut took.0 in
-    let empty : happening p moment s.h (map (event_from from) s.rest) ≡ [] = ap (λ (r : List (List ℕ)). happening p moment s.h (map (event_from from) r)) none in
-    record {
-      plays = record {
-        writes = subst (λ (lines : List Line). Heard Tells before lines now) (sym (append-nil s.done) ∙ ap (λ (e : List Timed). s.done ++ told_of p (place_of place) s.h e) (sym empty) ∙ s.lines) s.written;
-        played = record {
-          number = at_once place.number ∙ ap (λ (e : List Timed). place.number + length e) (sym empty) ∙ s.number;
-          switch = s.switch;
-          quiet = subst (λ (e : List Timed). IsQuiet p e desk) (ap (next_after s.h) (sym empty) ∙ s.next) s.quiet;
-          framed = subst AreFramed (ap (next_after s.h) (sym empty) ∙ s.next) s.framed;
-        };
-      };
-      given = subst (Stands new fed) took.0 took.1;
-    }
+    let empty : happening p m s.h (map (event_from from) s.rest) ≡ [] = ap (λ (r : List (List ℕ)). happening p m s.h (map (event_from from) r)) none in
+    let number : s.events ≡ length whole = at_once s.events ∙ ap (λ (e : List Timed). s.events + length e) (sym empty) ∙ s.count in
+    subst (λ (n : ℕ). HasTold {A = Unit {0}} Tells (later n scene) (Rests p first whole desk × Stands framer_after fed (frames_of fed)) (Ok tt) (told_of p scene.place first whole) before now) number
+    (told_as Tells (later s.events scene) (Ok tt) s.done (told_of p scene.place first whole) before now
+    (sym (append-nil s.done) ∙ ap (λ (e : List Timed). s.done ++ told_of p (later s.events scene).place s.h e) (sym empty) ∙ s.lines)
+    (told_so Tells (later s.events scene) (Ok tt) s.done before now (λ _. (
+      record {
+        quiet = subst (λ (e : List Timed). IsQuiet p e desk) (ap (next_after s.h) (sym empty) ∙ s.next) s.quiet;
+        framed = subst AreFramed (ap (next_after s.h) (sym empty) ∙ s.next) s.framed;
+      },
+      subst (Stands framer_after fed) took.0 took.1,
+    )) s.told))

@@ -3,8 +3,6 @@ use Rattle.std.proofs.Common.{◌≡◌, ◌+◌, ◌<◌, ◌≤◌, ◌==◌, 
 use Rattle.std.proofs.lemmas.Option.{slice_get_read, none-some, same_Some}
 use Rattle.std.proofs.lemmas.List.{length-set, set_past}
 use Rattle.std.proofs.Math.Dec.{eqb-zero-suc, eqb-suc-zero, eqb-suc-suc}
-use Rattle.std.specs.Result.{IsErr}
-use Rattle.std.proofs.lemmas.Result.{IfOk-from_err}
 use Rattle.std.proofs.Common.{inl, inr}
 use Rattle.std.proofs.lemmas.Bool.{cases_Bool, cases_eq, ltb-true, ltb-false, ne_eqb}
 use Rattle.std.proofs.lemmas.List.Elements.{All-nil}
@@ -20,18 +18,20 @@ use Rattle.desk_words.specs.declared.answer.Dest.TheVariants.{Switch as ToSwitch
 use Rattle.desk_words.specs.Recorded.{told_by, begins_stream, is_same_stream, stream_before, completed, happenings, history_of, history_at, events_in, next_after}
 use Rattle.desk_words.proofs.Completed.{frames_first, others_behind}
 use Rattle.answer_bounds.specs.Bounds.{IsFramed, AreFramed}
-use Rattle.desk_words.specs.Reports as report
-use Rattle.fv_report.specs.Telling.{Line, Heard, HeardPart, told_of}
+use Rattle.std.specs.Result.{IsErrAnd}
+use Rattle.fv_report.specs.declared.fault.ReportFault.{ReportFault}
+use Rattle.fv_report.specs.declared.fault.ReportFault.TheVariants.{Memory}
+use Rattle.fv_report.specs.declared.player.Player.{Player}
+use Rattle.fv_report.specs.Telling.{Line, Outcome, told_of}
+use Rattle.fv_report.specs.Players.{later, scene_of}
 use Rattle.proxy_core.specs.declared.parts.Desk.{Desk}
-use Rattle.fv_report.specs.declared.teller.Place.{Place}
 use Rattle.fv_report.specs.declared.switch.Switch.{Switch}
 use Rattle.fv_report.specs.declared.streams.Streams.{Streams}
-use Rattle.fv_report.specs.Lines.{place_of}
 use Rattle.fv_report.specs.Holding.{IsQuiet}
-use Rattle.fv_report.specs.Plays.{event_from, happening, Played, PlaysEvents, Plays}
+use Rattle.fv_report.specs.Plays.{event_from, happening, Rests, PlaysEvents, Plays, Hears}
 use Rattle.fv_report.proofs.Happening.{happening_is}
-use Rattle.fv_report.specs.Switches.{SwitchStands, IsFoundWhere, RecordPlayed, PlaysRecord, IsTurn, Readies, kind_from, slot_from, told_from, Spoken}
-use Rattle.fv_report.proofs.Writing.{tell_fault, heard_none}
+use Rattle.fv_report.specs.Switches.{SwitchStands, IsFoundWhere, RecordPlayed, PlaysRecord, IsTurn, Readies, kind_from, slot_from, told_from}
+use Rattle.fv_report.proofs.Players.{told_none, told_on, told_so}
 use Rattle.fv_report.specs.Streams.{Restarts, AreFresh, connection, StreamStands, StreamsStand}
 
 pub same_number : (n : ℕ) → (n == n) ≡ true
@@ -149,47 +149,11 @@ streams_slice_heard slices switch slot moment bytes before old new framer stands
 
 -- ---- one record played
 
-placed : (p : PolicyView) (place : Place) (number switch : ℕ) (h own : List Timed) → place.number ≡ number → place.switch ≡ switch → told_of p (place_of place) h own ≡ (let k : report.Place = record { number = number; switch = switch } in told_of p k h own)
-placed p place number switch h own a b = ap₂ (λ (n m : ℕ). let k : report.Place = record { number = n; switch = m } in told_of p k h own) a b
-
--- all its events were played
-pub record_played : {E S T : Type 0} (Tells : T → Line → Bool → T → Type 0) (p : PolicyView) (r : Told) (before : List Told) (number : ℕ) (place later : Place) (written_before written : T) (desk : Desk) (AfterIt : S → Type 0) (state : S)
-    → place.number ≡ number → place.switch ≡ r.switch → Heard Tells written_before (told_of p (place_of place) (history_at p r before) (events_in p r before)) written → Played p (history_at p r before) (events_in p r before) place later desk
-    → AfterIt state → RecordPlayed {E = E} Tells p r before number (Ok later.number) written_before written AfterIt state
-record_played Tells p r before number place later written_before written desk AfterIt state numbered same writes played after = record {
-  writes = subst (λ (lines : List Line). Heard Tells written_before lines written) (placed p place number r.switch (history_at p r before) (events_in p r before) numbered same) writes;
-  count = played.number ∙ ap (λ (n : ℕ). n + length (events_in p r before)) numbered;
-  stands = after;
-}
-
--- a piece of its lines was written before a fault
-pub part_played : {E S T : Type 0} (Tells : T → Line → Bool → T → Type 0) (p : PolicyView) (r : Told) (before : List Told) (number : ℕ) (result : Result ℕ E) (told wrote : T) (AfterIt : S → Type 0) (state : S) → IsErr result
-    → HeardPart Tells told (told_of p (record { number = number; switch = r.switch }) (history_at p r before) (events_in p r before)) wrote → RecordPlayed Tells p r before number result told wrote AfterIt state
-part_played Tells p r before number result told wrote AfterIt state err part = record {
-  writes = tell_fault Tells result (told_of p (record { number = number; switch = r.switch }) (history_at p r before) (events_in p r before)) told wrote err part;
-  count = IfOk-from_err result (λ later. later ≡ number + length (events_in p r before)) err;
-  stands = IfOk-from_err result (λ _. AfterIt state) err;
-}
-
--- nothing was played before a fault
-pub none_played : {E S T : Type 0} (Tells : T → Line → Bool → T → Type 0) (p : PolicyView) (r : Told) (before : List Told) (number : ℕ) (result : Result ℕ E) (told : T) (AfterIt : S → Type 0) (state : S) → IsErr result → RecordPlayed Tells p r before number result told told AfterIt state
-none_played Tells p r before number result told AfterIt state err =
-    part_played Tells p r before number result told told AfterIt state err (heard_none Tells (told_of p (record { number = number; switch = r.switch }) (history_at p r before) (events_in p r before)) told)
-
--- a fault came between, after lines at its place
-pub record_failed : {E S T : Type 0} (Tells : T → Line → Bool → T → Type 0) (p : PolicyView) (r : Told) (before : List Told) (number : ℕ) (place : Place) (result : Result ℕ E) (written_before written : T) (AfterIt : S → Type 0) (state : S)
-    → place.number ≡ number → place.switch ≡ r.switch → IsErr result → HeardPart Tells written_before (told_of p (place_of place) (history_at p r before) (events_in p r before)) written
-    → RecordPlayed Tells p r before number result written_before written AfterIt state
-record_failed Tells p r before number place result written_before written AfterIt state numbered same err part =
-    part_played Tells p r before number result written_before written AfterIt state err
-    (subst (λ (t : List Line). HeardPart Tells written_before t written) (placed p place number r.switch (history_at p r before) (events_in p r before) numbered same) part)
-
--- the switch after it
-pub switch_after : (p : PolicyView) (r : Told) (before : List Told) (place later : Place) (new : Switch) → Played p (history_at p r before) (events_in p r before) place later new.desk → StreamsStand (length p.slices) r.switch (r ∷ before) new.streams
-    → SwitchStands p r.switch (r ∷ before) new
-switch_after p r before place later new played streams = record {
-  quiet = subst (λ (h : List Timed). IsQuiet p h new.desk) (sym (history_more p r before)) played.quiet;
-  framed = subst AreFramed (sym (history_more p r before)) played.framed;
+-- a switch that rests after a record's events, and whose streams are those with the record
+pub switch_after : (p : PolicyView) (r : Told) (before : List Told) (new : Switch) → Rests p (history_at p r before) (events_in p r before) new.desk → StreamsStand (length p.slices) r.switch (r ∷ before) new.streams → SwitchStands p r.switch (r ∷ before) new
+switch_after p r before new rests streams = record {
+  quiet = subst (λ (h : List Timed). IsQuiet p h new.desk) (sym (history_more p r before)) rests.quiet;
+  framed = subst AreFramed (sym (history_more p r before)) rests.framed;
   streams = streams;
 }
 
@@ -201,54 +165,66 @@ nothing_restarts xs at past = (record { left = []; ended = false }, sym (set_pas
 told_kind : (item : Item) (bytes : List ℕ) (kind : ℕ) → item.kind ≡ kind → told_by item bytes ≡ (let r : Told = record { kind = kind; switch = item.switch; slot = item.slot; moment = item.moment; bytes = bytes } in r)
 told_kind item bytes kind is = ap (λ (k : ℕ). let r : Told = record { kind = k; switch = item.switch; slot = item.slot; moment = item.moment; bytes = bytes } in r) is
 
-pub by_kind : {E T : Type 0} (Tells : T → Line → Bool → T → Type 0) (p : PolicyView) (item : Item) (bytes : List ℕ) (kind number : ℕ) (result : Result ℕ E) (before after : T) (old new : Switch) → item.kind ≡ kind
-    → PlaysRecord Tells p (record { kind = kind; switch = item.switch; slot = item.slot; moment = item.moment; bytes = bytes }) number result before after old new → PlaysRecord Tells p (told_by item bytes) number result before after old new
-by_kind Tells p item bytes kind number result before after old new is plays = subst (λ (r : Told). PlaysRecord Tells p r number result before after old new) (sym (told_kind item bytes kind is)) plays
+pub by_kind : {T : Type 0} (Tells : T → Line → Outcome → T → Type 0) (item : Item) (bytes : List ℕ) (kind : ℕ) (outcome : Outcome) (before after : Player T) (old new : Switch) → item.kind ≡ kind
+    → PlaysRecord Tells (record { kind = kind; switch = item.switch; slot = item.slot; moment = item.moment; bytes = bytes }) outcome before after old new → PlaysRecord Tells (told_by item bytes) outcome before after old new
+by_kind Tells item bytes kind outcome before after old new is plays = subst (λ (r : Told). PlaysRecord Tells r outcome before after old new) (sym (told_kind item bytes kind is)) plays
 
 -- a record of a switch's bytes, whose slot is 0
-pub by_bytes : {E T : Type 0} (Tells : T → Line → Bool → T → Type 0) (p : PolicyView) (item : Item) (bytes : List ℕ) (number : ℕ) (result : Result ℕ E) (before after : T) (old new : Switch) → item.kind ≡ switch_bytes → item.slot ≡ 0
-    → PlaysRecord Tells p (record { kind = switch_bytes; switch = item.switch; slot = 0; moment = item.moment; bytes = bytes }) number result before after old new → PlaysRecord Tells p (told_by item bytes) number result before after old new
-by_bytes Tells p item bytes number result before after old new is none plays =
-    by_kind Tells p item bytes switch_bytes number result before after old new is
-    (subst (λ (s : ℕ). PlaysRecord Tells p (record { kind = switch_bytes; switch = item.switch; slot = s; moment = item.moment; bytes = bytes }) number result before after old new) (sym none) plays)
+pub by_bytes : {T : Type 0} (Tells : T → Line → Outcome → T → Type 0) (item : Item) (bytes : List ℕ) (outcome : Outcome) (before after : Player T) (old new : Switch) → item.kind ≡ switch_bytes → item.slot ≡ 0
+    → PlaysRecord Tells (told_from ToSwitch item.switch item.moment bytes) outcome before after old new → PlaysRecord Tells (told_by item bytes) outcome before after old new
+by_bytes Tells item bytes outcome before after old new is none plays =
+    by_kind Tells item bytes switch_bytes outcome before after old new is
+    (subst (λ (s : ℕ). PlaysRecord Tells (record { kind = switch_bytes; switch = item.switch; slot = s; moment = item.moment; bytes = bytes }) outcome before after old new) (sym none) plays)
 
 -- the frames that a record completes, by its connection
 completed_by : (r : Told) (before : List Told) → (let fed = stream_before (connection r.switch r.kind r.slot) before in drop (length (frames_of fed)) (frames_of (fed ++ r.bytes))) ≡ completed r before
 completed_by r before = ap (λ (fed : List ℕ). drop (length (frames_of fed)) (frames_of (fed ++ r.bytes))) (sym (stream_by r before))
 
+-- what holds where the events of a record were played, and the framer of its connection has given all frames of these bytes
+abbrev pub Spoken : PolicyView → Told → List Told → List ℕ → Desk → Stream → Type 0
+Spoken p r before fed desk framer = Rests p (history_at p r before) (events_in p r before) desk × Stands framer fed (frames_of fed)
+
 -- frames of a connection that were heard are what a record of its bytes makes happen
-pub heard_from : {E T : Type 0} (Tells : T → Line → Bool → T → Type 0) (p : PolicyView) (from : Dest) (item : Item) (bytes : List ℕ) (before : List Told) (place : Place) (result : Result Place E) (told wrote : T) (desk : Desk)
-    → (let fed = stream_before (connection item.switch (kind_from from) (slot_from from)) before in Plays Tells p item.moment (history_of p item.switch before) (map (event_from from) (drop (length (frames_of fed)) (frames_of (fed ++ bytes)))) place result told wrote desk)
-    → PlaysEvents Tells p (history_at p (told_from from item bytes) before) (events_in p (told_from from item bytes) before) place result told wrote desk
-heard_from Tells p ToSwitch item bytes before place result told wrote desk plays =
-    let r = told_from ToSwitch item bytes in
-    subst (λ (own : List Timed). PlaysEvents Tells p (history_at p r before) own place result told wrote desk) (happening_is p r before)
-    (subst (λ (frames : List (List ℕ)). Plays Tells p item.moment (history_of p item.switch before) (map (event_from ToSwitch) frames) place result told wrote desk) (completed_by r before) plays)
-heard_from Tells p (Slice slot) item bytes before place result told wrote desk plays =
-    let r = told_from (Slice slot) item bytes in
-    subst (λ (own : List Timed). PlaysEvents Tells p (history_at p r before) own place result told wrote desk) (happening_is p r before)
-    (subst (λ (frames : List (List ℕ)). Plays Tells p item.moment (history_of p item.switch before) (map (event_from (Slice slot)) frames) place result told wrote desk) (completed_by r before) plays)
+pub heard_from : {T : Type 0} (Tells : T → Line → Outcome → T → Type 0) (p : PolicyView) (events : ℕ) (from : Dest) (number moment : ℕ) (bytes : List ℕ) (before : List Told) (outcome : Outcome) (old new : Player T) (desk : Desk) (framer : Stream)
+    → (let r = told_from from number moment bytes in let fed = stream_before (connection number (kind_from from) (slot_from from)) before in Hears Tells (scene_of p events r) from (history_of p number before) (fed ++ bytes) (drop (length (frames_of fed)) (frames_of (fed ++ bytes))) outcome old new desk framer)
+    → (let r = told_from from number moment bytes in RecordPlayed Tells p events r before (Spoken p r before (stream_before (connection number (kind_from from) (slot_from from)) before ++ bytes) desk framer) outcome old new)
+heard_from Tells p events ToSwitch number moment bytes before outcome old new desk framer hears =
+    let r = told_from ToSwitch number moment bytes in
+    let given = Stands framer (stream_before (connection number switch_bytes 0) before ++ bytes) (frames_of (stream_before (connection number switch_bytes 0) before ++ bytes)) in
+    let h = history_at p r before in
+    subst (λ (own : List Timed). PlaysEvents Tells (scene_of p events r) h own (Rests p h own desk × given) outcome old new) (happening_is p r before)
+    (subst (λ (frames : List (List ℕ)). let own = happening p moment h (map (event_from ToSwitch) frames) in PlaysEvents Tells (scene_of p events r) h own (Rests p h own desk × given) outcome old new) (completed_by r before) hears)
+heard_from Tells p events (Slice slot) number moment bytes before outcome old new desk framer hears =
+    let r = told_from (Slice slot) number moment bytes in
+    let given = Stands framer (stream_before (connection number slice_bytes slot) before ++ bytes) (frames_of (stream_before (connection number slice_bytes slot) before ++ bytes)) in
+    let h = history_at p r before in
+    subst (λ (own : List Timed). PlaysEvents Tells (scene_of p events r) h own (Rests p h own desk × given) outcome old new) (happening_is p r before)
+    (subst (λ (frames : List (List ℕ)). let own = happening p moment h (map (event_from (Slice slot)) frames) in PlaysEvents Tells (scene_of p events r) h own (Rests p h own desk × given) outcome old new) (completed_by r before) hears)
 
 -- the one thing that a record can make happen is its one event
-pub one_made : (p : PolicyView) (r : Told) (before : List Told) (event : Event) → happenings r before ≡ event ∷ [] → happening p r.moment (history_at p r before) (event ∷ []) ≡ events_in p r before
-one_made p r before event one = ap (happening p r.moment (history_at p r before)) (sym one) ∙ happening_is p r before
+pub one_played : {T : Type 0} (Tells : T → Line → Outcome → T → Type 0) (p : PolicyView) (number : ℕ) (r : Told) (before : List Told) (event : Event) (outcome : Outcome) (old new : Player T) (desk : Desk) → happenings r before ≡ event ∷ []
+    → Plays Tells (scene_of p number r) (history_at p r before) (event ∷ []) outcome old new desk → RecordPlayed Tells p number r before (Rests p (history_at p r before) (events_in p r before) desk) outcome old new
+one_played Tells p number r before event outcome old new desk one plays =
+    let h = history_at p r before in
+    subst (λ (own : List Timed). PlaysEvents Tells (scene_of p number r) h own (Rests p h own desk) outcome old new) (ap (happening p r.moment h) (sym one) ∙ happening_is p r before) plays
 
-pub spoken : (p : PolicyView) (r : Told) (before : List Told) (place later : Place) (desk : Desk) (framer : Stream) → Played p (history_at p r before) (events_in p r before) place later desk
-    → (let fed = stream_before (connection r.switch r.kind r.slot) before in Stands framer (fed ++ r.bytes) (frames_of (fed ++ r.bytes))) → Spoken p r before desk framer
-spoken p r before place later desk framer played given = record {
-  quiet = subst (λ (h : List Timed). IsQuiet p h desk) (sym (history_more p r before)) played.quiet;
-  framed = subst AreFramed (sym (history_more p r before)) played.framed;
-  given = given;
-}
+-- a fault is handed on
+pub played_on : {T First More : Type 0} (Tells : T → Line → Outcome → T → Type 0) (p : PolicyView) (number : ℕ) (r : Told) (before : List Told) (fault : ReportFault) (outcome : Outcome) (old new : Player T) → IsErrAnd outcome (λ e. e ≡ fault)
+    → RecordPlayed Tells p number r before First (Err fault) old new → RecordPlayed Tells p number r before More outcome old new
+played_on Tells p number r before fault outcome old new same played =
+    let scene = later (length (events_in p r before)) (scene_of p number r) in
+    told_on Tells scene scene fault outcome (told_of p (record { number = number; switch = r.switch }) (history_at p r before) (events_in p r before)) old new same played
 
--- a switch whose connection's bytes were played
-pub spoke_at : {E T : Type 0} (Tells : T → Line → Bool → T → Type 0) (p : PolicyView) (r : Told) (before : List Told) (number : ℕ) (result : Result ℕ E) (told wrote : T) (framer : Stream) (new : Switch)
-    → (Spoken p r before new.desk framer → StreamsStand (length p.slices) r.switch (r ∷ before) new.streams)
-    → RecordPlayed Tells p r before number result told wrote (Spoken p r before new.desk) framer → RecordPlayed Tells p r before number result told wrote (SwitchStands p r.switch (r ∷ before)) new
-spoke_at Tells p r before number (Ok later) told wrote framer new streams played =
-    let spoken = played.stands in
-    record { writes = played.writes; count = played.count; stands = record { quiet = spoken.quiet; framed = spoken.framed; streams = streams spoken } }
-spoke_at Tells p r before number (Err fault) told wrote framer new streams played = record { writes = played.writes; count = tt; stands = tt }
+-- memory ran out before anything was played
+pub played_none : {T More : Type 0} (Tells : T → Line → Outcome → T → Type 0) (p : PolicyView) (number : ℕ) (r : Told) (before : List Told) (outcome : Outcome) (player : Player T) → IsErrAnd outcome (λ e. e ≡ Memory) → RecordPlayed Tells p number r before More outcome player player
+played_none Tells p number r before outcome player same =
+    told_none Tells (later (length (events_in p r before)) (scene_of p number r)) outcome (told_of p (record { number = number; switch = r.switch }) (history_at p r before) (events_in p r before)) player same
+
+-- what follows otherwise from a record that was played
+pub played_so : {T First More : Type 0} (Tells : T → Line → Outcome → T → Type 0) (p : PolicyView) (number : ℕ) (r : Told) (before : List Told) (outcome : Outcome) (old new : Player T) → (First → More)
+    → RecordPlayed Tells p number r before First outcome old new → RecordPlayed Tells p number r before More outcome old new
+played_so Tells p number r before outcome old new so played =
+    told_so Tells (later (length (events_in p r before)) (scene_of p number r)) outcome (told_of p (record { number = number; switch = r.switch }) (history_at p r before) (events_in p r before)) old new so played
 
 pub less_or_more : (n m : ℕ) → (n < m → ⊥) → m ≤ n
 less_or_more n m unlike = elim (cases_Bool (ltb n m)) [ inl is ↦ absurd (unlike (ltb-true n m is)) | inr isnt ↦ ltb-false n m isnt ]

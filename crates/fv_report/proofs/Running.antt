@@ -1,18 +1,24 @@
 -- All switches of a recording, and all its records.
-use Rattle.std.proofs.Common.{◌≡◌, ◌+◌, ◌==◌, ℕ, true, false, List, [], ◌∷◌, ◌++◌, set, length, refl, sym, ap, ap₂, ◌∙◌, append_assoc, subst, Option, Some, None, Result, Ok, Err, slice_get, Bool, arith}
+use Rattle.std.proofs.Common.{◌≡◌, ◌≤◌, ◌+◌, ◌==◌, ◌||◌, ℕ, true, false, if◌then◌else◌, true≢false, eq-eqb, take, drop, List, [], ◌∷◌, ◌++◌, set, length, refl, sym, ap, ap₂, ◌∙◌, append_assoc, subst, Option, Some, None, Result, Ok, Err, slice_get, Bool, arith}
 use Rattle.std.specs.List.{enumerate_from, flat_map}
 use Rattle.std.proofs.lemmas.List.{length-append, length-map, length-set}
 use Rattle.std.proofs.lemmas.List.Concat.{flat_map-append}
 use Rattle.std.proofs.lemmas.List.Elements.{All-nil}
-use Rattle.std.proofs.lemmas.Bool.{or_parts}
+use Rattle.std.proofs.lemmas.Bool.{or_parts, ne_eqb}
 use Rattle.flowspace.specs.Policies.{PolicyView}
 use Rattle.std.proofs.lemmas.List.{append-nil}
 use Rattle.recording.specs.declared.item.Item.{Item}
-use Rattle.recording.specs.Recordings.{Told, switch_up, switch_bytes, slice_bytes}
+use Rattle.recording.specs.Recordings.{Told, IsItem, switch_up, switch_bytes, slice_bytes}
 use Rattle.answer_bounds.specs.Bounds.{IsFramed, AreFramed}
 use Rattle.desk_words.specs.declared.event.Timed.{Timed}
 use Rattle.desk_words.specs.Recorded.{told_by, stream_before, next_of, history_of, history_at, events_in, carried, told_in, Happened, each_after, happened_in}
-use Rattle.fv_report.specs.Telling.{Line, Heard, HeardPart, event_told, told_of, lines_from, all_lines}
+use Rattle.std.specs.Result.{IsErrAnd}
+use Rattle.desk_words.specs.Reports.{Place}
+use Rattle.fv_report.specs.declared.fault.ReportFault.{ReportFault}
+use Rattle.fv_report.specs.declared.fault.ReportFault.TheVariants.{Memory}
+use Rattle.fv_report.specs.declared.player.Player.{Player}
+use Rattle.fv_report.specs.Telling.{Line, Outcome, Heard, HeardPart, Tell, event_told, told_of, lines_from, all_lines}
+use Rattle.fv_report.specs.Players.{scene_of, IsPlaying, TellsAll}
 use Rattle.summary_words.specs.Summaries.{event_count}
 use Rattle.desk_words.proofs.Making.{happened_each}
 use Rattle.desk_words.proofs.Reporting.{enumerate_both, each_next, count_of_each, happened_after, next_happened, from_none}
@@ -20,9 +26,9 @@ use Rattle.fv_report.specs.declared.switch.Switch.{Switch}
 use Rattle.fv_report.specs.declared.streams.Streams.{Streams}
 use Rattle.fv_report.specs.Holding.{IsQuiet}
 use Rattle.fv_report.specs.Streams.{connection, StreamsStand}
-use Rattle.fv_report.specs.Switches.{IsFreshSwitch, SwitchStands, IsFoundWhere, RecordPlayed, PlaysRecord, IsUntouched, IsAt, PlaysAt, AreUnknown, AllStand, PlaysAmong}
-use Rattle.fv_report.proofs.Writing.{heard_both, heard_part_of_first, heard_part_of_second}
-use Rattle.fv_report.proofs.Recorded.{history_other, stream_other, set_get, streams_fresh, streams_stay}
+use Rattle.fv_report.specs.Switches.{IsFreshSwitch, SwitchStands, IsFoundWhere, IsFound, IsRecord, RecordPlayed, IsUntouched, IsAt, PlaysAt, AreUnknown, AllStand, PlaysAmong}
+use Rattle.fv_report.proofs.Writing.{heard_none, heard_both, heard_part_of_first, heard_part_of_second, tell_on}
+use Rattle.fv_report.proofs.Recorded.{history_other, stream_other, set_get, streams_fresh, streams_stay, played_so}
 
 -- ---- a switch of which nothing came
 
@@ -44,20 +50,35 @@ fresh_stands p switch before new none fresh = record {
 
 -- ---- one record among all switches
 
--- what follows for another state
-pub played_otherwise : {E S U T : Type 0} (Tells : T → Line → Bool → T → Type 0) (p : PolicyView) (r : Told) (before : List Told) (number : ℕ) (result : Result ℕ E) (a b : T) (First : S → Type 0) (Second : U → Type 0) (s : S) (t : U)
-    → RecordPlayed Tells p r before number result a b First s → (First s → Second t) → RecordPlayed Tells p r before number result a b Second t
-played_otherwise Tells p r before number (Ok later) a b First Second s t played so = record { writes = played.writes; count = played.count; stands = so played.stands }
-played_otherwise Tells p r before number (Err fault) a b First Second s t played so = record { writes = played.writes; count = tt; stands = tt }
-
 -- a record of a switch of which nothing came finds a fresh one
 pub found_fresh : (p : PolicyView) (r : Told) (before : List Told) (fresh : Switch) (comes : Bool) → IsUntouched r.switch before → IsFreshSwitch p fresh → IsFoundWhere comes p r before fresh
 found_fresh p r before fresh true none is_fresh = is_fresh
 found_fresh p r before fresh false none is_fresh = fresh_stands p r.switch before fresh none is_fresh
 
-pub at_none : {E T : Type 0} (Tells : T → Line → Bool → T → Type 0) (p : PolicyView) (r : Told) (number : ℕ) (result : Result ℕ E) (a b : T) (fresh new : Switch) → IsFreshSwitch p fresh → PlaysRecord Tells p r number result a b fresh new → PlaysAt Tells p r number result a b None (Some new)
-at_none Tells p r number result a b fresh new is_fresh plays before none =
-    played_otherwise Tells p r before number result a b (SwitchStands p r.switch (r ∷ before)) (IsAt p r.switch (r ∷ before)) new (Some new) (plays before (found_fresh p r before fresh (r.kind == switch_up) none is_fresh)) (λ stands. stands)
+-- a record finds the switch that comes up fresh, and one that doesn't as it was
+pub up_found : (p : PolicyView) (r : Told) (before : List Told) (fresh : Switch) → r.kind ≡ switch_up → IsFreshSwitch p fresh → IsFound p r before fresh
+up_found p r before fresh is stands = subst (λ (comes : Bool). IsFoundWhere comes p r before fresh) (sym (eq-eqb r.kind switch_up is)) stands
+
+pub other_found : (p : PolicyView) (r : Told) (before : List Told) (switch : Switch) → (r.kind ≡ switch_up → ⊥) → SwitchStands p r.switch before switch → IsFound p r before switch
+other_found p r before switch other stands = subst (λ (comes : Bool). IsFoundWhere comes p r before switch) (sym (ne_eqb r.kind switch_up other)) stands
+
+-- a record of a kind that carries no bytes has none
+no_bytes : (size : ℕ) (of_switch of_slice : Bool) → of_switch ≡ false → of_slice ≡ false → size ≤ (if of_switch || of_slice then 16777216 else 0) → size ≡ 0
+no_bytes size true of_slice a b few = absurd (true≢false a)
+no_bytes size false true a b few = absurd (true≢false b)
+no_bytes size false false a b few = omega (arith, few)
+
+-- what is read of a recording is a record of it
+pub is_record : (slices : ℕ) (file : List ℕ) (item : Item) → IsItem slices file item → IsRecord slices item (carried file item)
+is_record slices file item is =
+    let size = is.size in
+    record {
+      known = is.known;
+      switch = is.switch;
+      of_switch = is.of_switch;
+      of_slice = is.of_slice;
+      silent = λ a b. ap (λ (n : ℕ). take n (drop item.from file)) (no_bytes item.size (item.kind == switch_bytes) (item.kind == slice_bytes) (ne_eqb item.kind switch_bytes a) (ne_eqb item.kind slice_bytes b) size);
+    }
 
 streams_other : (slices switch : ℕ) (r : Told) (before : List Told) (streams : Streams) → (r.switch == switch) ≡ false → StreamsStand slices switch before streams → StreamsStand slices switch (r ∷ before) streams
 streams_other slices switch r before streams other stands = streams_stay slices switch r before streams (stream_other switch switch_bytes 0 r before other) (λ slot. stream_other switch slice_bytes slot r before other) stands
@@ -72,13 +93,22 @@ at_other p number r before (Some switch) other stands = record {
 }
 
 -- one switch was played, and the others stay
-pub among : {E T : Type 0} (Tells : T → Line → Bool → T → Type 0) (p : PolicyView) (r : Told) (number : ℕ) (result : Result ℕ E) (a b : T) (switches : List (Option Switch)) (old new : Option Switch) → slice_get switches r.switch ≡ Some old → PlaysAt Tells p r number result a b old new
-    → PlaysAmong Tells p r number result a b switches (set switches r.switch new)
-among Tells p r number result a b switches old new is plays before stands =
-    played_otherwise Tells p r before number result a b (IsAt p r.switch (r ∷ before)) (AllStand p (r ∷ before)) new (set switches r.switch new) (plays before (stands.each r.switch old is)) (λ own. record {
-      count = length-set switches r.switch new ∙ stands.count;
-      each = λ at known g. set_get (λ n s. IsAt p n (r ∷ before) s) switches r.switch new (λ n s unlike gs. at_other p n r before s unlike (stands.each n s gs)) own at known g;
-    })
+among : (p : PolicyView) (r : Told) (before : List Told) (switches : List (Option Switch)) (new : Option Switch) → AllStand p before switches → IsAt p r.switch (r ∷ before) new → AllStand p (r ∷ before) (set switches r.switch new)
+among p r before switches new stands own = record {
+  count = length-set switches r.switch new ∙ stands.count;
+  each = λ at known g. set_get (λ n s. IsAt p n (r ∷ before) s) switches r.switch new (λ n s unlike gs. at_other p n r before s unlike (stands.each n s gs)) own at known g;
+}
+
+-- a record that began was played at its switch
+pub played_among : {T : Type 0} (Tells : T → Line → Outcome → T → Type 0) (p : PolicyView) (number : ℕ) (r : Told) (before : List Told) (outcome : Outcome) (old begun new : Player T) (switches : List (Option Switch)) (known known_after : Option Switch) → begun.teller ≡ old.teller
+    → IsPlaying (scene_of p number r) begun → slice_get switches r.switch ≡ Some known → AllStand p before switches → PlaysAt Tells r outcome begun new known known_after → RecordPlayed Tells p number r before (AllStand p (r ∷ before) (set switches r.switch known_after)) outcome old new
+played_among {T} Tells p number r before outcome old begun new switches known known_after same is there stands plays =
+    let played = played_so Tells p number r before outcome begun new (λ own. among p r before switches known_after stands own) (plays p number before is (stands.each r.switch known there)) in
+    record {
+      told = subst (λ (t : T). Tell Tells outcome (told_of p (record { number = number; switch = r.switch }) (history_at p r before) (events_in p r before)) t new.teller) same played.told;
+      at = played.at;
+      more = played.more;
+    }
 
 -- ---- the events of all records
 
@@ -121,69 +151,86 @@ no_lines p number before = refl
 
 -- ---- all records
 
--- the records that are left of a file, and what is told and counted so far
-pub record Running {T : Type 0} (Tells : T → Line → Bool → T → Type 0) (p : PolicyView) (file : List ℕ) (all left : List Item) (events : ℕ) (before now : T) (switches : List (Option Switch)) : Type 0 where
+-- the records that are left of a file, and what a player told and counted so far
+pub record Running {T : Type 0} (Tells : T → Line → Outcome → T → Type 0) (p : PolicyView) (file : List ℕ) (all left : List Item) (before now : Player T) (switches : List (Option Switch)) : Type 0 where
+  pub policy : now.policy.now ≡ p
   pub past : List Told
   pub stands : AllStand p past switches
   pub done : List Line
-  pub written : Heard Tells before done now
-  pub whole : done ++ lines_from p events (happened_after p past (told_in file left)) ≡ all_lines p (told_in file all)
-  pub count : events + length (happened_after p past (told_in file left)) ≡ event_count p (told_in file all)
+  pub told : Heard Tells before.teller done now.teller
+  pub whole : done ++ lines_from p now.place.number (happened_after p past (told_in file left)) ≡ all_lines p (told_in file all)
+  pub count : now.place.number + length (happened_after p past (told_in file left)) ≡ event_count p (told_in file all)
 
-pub running_first : {T : Type 0} (Tells : T → Line → Bool → T → Type 0) (p : PolicyView) (file : List ℕ) (all : List Item) (before : T) (switches : List (Option Switch)) → AreUnknown switches → Running Tells p file all all 0 before before switches
-running_first Tells p file all before switches unknown =
+pub running_first : {T : Type 0} (Tells : T → Line → Outcome → T → Type 0) (file : List ℕ) (all : List Item) (player : Player T) (switches : List (Option Switch)) → player.place.number ≡ 0 → AreUnknown switches → Running Tells player.policy.now file all all player player switches
+running_first Tells file all player switches none unknown =
+    let p = player.policy.now in
     let happened = from_none p (told_in file all) in
     let same = ap length happened in
     record {
+      policy = refl;
       past = [];
       stands = record { count = unknown.0; each = λ number switch is. subst (IsAt p number []) (sym (unknown.1 number switch is)) refl };
       done = [];
-      written = refl;
-      whole = ap (lines_from p 0) happened;
-      count = omega (arith, same);
+      told = refl;
+      whole = ap (λ (n : ℕ). lines_from p n (happened_after p [] (told_in file all))) none ∙ ap (lines_from p 0) happened;
+      count = omega (arith, same, none);
     }
 
 -- one record more was played
-pub running_more : {E T : Type 0} (Tells : T → Line → Bool → T → Type 0) (p : PolicyView) (file : List ℕ) (all from left : List Item) (item : Item) (events later : ℕ) (before now after : T) (old new : List (Option Switch)) → from ≡ item ∷ left → (s : Running Tells p file all from events before now old)
-    → RecordPlayed {E = E} Tells p (told_by item (carried file item)) s.past events (Ok later) now after (AllStand p (told_by item (carried file item) ∷ s.past)) new → Running Tells p file all left later before after new
-running_more Tells p file all from left item events later before now after old new is s played =
+pub running_more : {T : Type 0} (Tells : T → Line → Outcome → T → Type 0) (p : PolicyView) (file : List ℕ) (all from left : List Item) (item : Item) (value : Unit {0}) (before now after : Player T) (old new : List (Option Switch)) → from ≡ item ∷ left → Running Tells p file all from before now old
+    → PlaysAmong Tells (told_by item (carried file item)) (Ok value) now after old new → Running Tells p file all left before after new
+running_more Tells p file all from left item value before now after old new is s plays =
     let r = told_by item (carried file item) in
+    let events = now.place.number in
     let own = events_in p r s.past in
     let lines = told_of p (record { number = events; switch = r.switch }) (history_at p r s.past) own in
     let others = happened_after p (r ∷ s.past) (told_in file left) in
+    let played = plays p events s.past (record { policy = s.policy; events = refl }) s.stands in
+    let number : after.place.number ≡ events + length own = ap (λ (place : Place). place.number) played.at.place in
     let whole_count : events + length (happened_after p s.past (r ∷ told_in file left)) ≡ event_count p (told_in file all) = ap (λ (items : List Item). events + length (happened_after p s.past (told_in file items))) (sym is) ∙ s.count in
     let next_count = count_next p s.past r (told_in file left) in
-    let now_count = played.count in
     record {
+      policy = played.at.policy;
       past = r ∷ s.past;
-      stands = played.stands;
+      stands = played.more;
       done = s.done ++ lines;
-      written = heard_both Tells before now after s.done lines s.written played.writes;
+      told = heard_both Tells before.teller now.teller after.teller s.done lines s.told played.told;
       whole =
-          append_assoc s.done lines (lines_from p later others) ∙ ap (λ (n : ℕ). s.done ++ (lines ++ lines_from p n others)) played.count
+          append_assoc s.done lines (lines_from p after.place.number others) ∙ ap (λ (n : ℕ). s.done ++ (lines ++ lines_from p n others)) number
           ∙ ap (λ (text : List Line). s.done ++ text) (sym (lines_next p events s.past r (told_in file left)))
           ∙ ap (λ (items : List Item). s.done ++ lines_from p events (happened_after p s.past (told_in file items))) (sym is) ∙ s.whole;
-      count = omega (arith, whole_count, next_count, now_count);
+      count = omega (arith, whole_count, next_count, number);
     }
 
--- a piece of the next record's lines was told
-pub running_part : {E T : Type 0} (Tells : T → Line → Bool → T → Type 0) (p : PolicyView) (file : List ℕ) (all from left : List Item) (item : Item) (events : ℕ) (fault : E) (before now after : T) (old new : List (Option Switch)) → from ≡ item ∷ left → (s : Running Tells p file all from events before now old)
-    → RecordPlayed {E = E} Tells p (told_by item (carried file item)) s.past events (Err fault) now after (AllStand p (told_by item (carried file item) ∷ s.past)) new → HeardPart Tells before (all_lines p (told_in file all)) after
-running_part Tells p file all from left item events fault before now after old new is s played =
+-- a fault came in the lines of the next record
+pub running_part : {A T : Type 0} (Tells : T → Line → Outcome → T → Type 0) (p : PolicyView) (file : List ℕ) (all from left : List Item) (item : Item) (fault : ReportFault) (result : Result A ReportFault) (before now after : Player T) (old new : List (Option Switch)) → from ≡ item ∷ left → Running Tells p file all from before now old
+    → IsErrAnd result (λ e. e ≡ fault) → PlaysAmong Tells (told_by item (carried file item)) (Err fault) now after old new → TellsAll Tells p (told_in file all) result before after
+running_part {A} Tells p file all from left item fault (Err e) before now after old new is s same plays =
     let r = told_by item (carried file item) in
+    let events = now.place.number in
     let lines = told_of p (record { number = events; switch = r.switch }) (history_at p r s.past) (events_in p r s.past) in
     let rest = lines_from p (events + length (events_in p r s.past)) (happened_after p (r ∷ s.past) (told_in file left)) in
-    subst (λ (t : List Line). HeardPart Tells before t after)
-    (ap (λ (text : List Line). s.done ++ text) (sym (lines_next p events s.past r (told_in file left)))
-    ∙ ap (λ (items : List Item). s.done ++ lines_from p events (happened_after p s.past (told_in file items))) (sym is) ∙ s.whole)
-    (heard_part_of_second Tells s.done (lines ++ rest) before now after s.written (heard_part_of_first Tells lines rest now after played.writes))
+    let played = plays p events s.past (record { policy = s.policy; events = refl }) s.stands in
+    record {
+      told = tell_on {A = A} Tells fault (Err e) (all_lines p (told_in file all)) before.teller after.teller same
+          (subst (λ (t : List Line). HeardPart Tells fault before.teller t after.teller)
+          (ap (λ (text : List Line). s.done ++ text) (sym (lines_next p events s.past r (told_in file left)))
+          ∙ ap (λ (items : List Item). s.done ++ lines_from p events (happened_after p s.past (told_in file items))) (sym is) ∙ s.whole)
+          (heard_part_of_second Tells fault s.done (lines ++ rest) before.teller now.teller after.teller s.told (heard_part_of_first Tells fault lines rest now.teller after.teller played.told)));
+      count = tt;
+    }
+running_part Tells p file all from left item fault (Ok value) before now after old new is s same plays = absurd same
+
+-- memory ran out before anything was told
+pub running_none : {A T : Type 0} (Tells : T → Line → Outcome → T → Type 0) (p : PolicyView) (records : List Told) (result : Result A ReportFault) (player : Player T) → IsErrAnd result (λ e. e ≡ Memory) → TellsAll Tells p records result player player
+running_none {A} Tells p records (Err e) player same = record { told = tell_on {A = A} Tells Memory (Err e) (all_lines p records) player.teller player.teller same (heard_none Tells (all_lines p records) player.teller); count = tt }
+running_none Tells p records (Ok value) player same = absurd same
 
 -- all records were played
-pub running_last : {T : Type 0} (Tells : T → Line → Bool → T → Type 0) (p : PolicyView) (file : List ℕ) (all : List Item) (events : ℕ) (before now : T) (old : List (Option Switch)) (s : Running Tells p file all [] events before now old)
-    → Heard Tells before (all_lines p (told_in file all)) now
-running_last Tells p file all events before now old s =
-    subst (λ (t : List Line). Heard Tells before t now) (sym (append-nil s.done) ∙ ap (λ (lines : List Line). s.done ++ lines) (sym (no_lines p events s.past)) ∙ s.whole) s.written
-
-pub counted_last : {T : Type 0} (Tells : T → Line → Bool → T → Type 0) (p : PolicyView) (file : List ℕ) (all : List Item) (events : ℕ) (before now : T) (old : List (Option Switch)) (s : Running Tells p file all [] events before now old)
-    → events ≡ event_count p (told_in file all)
-counted_last Tells p file all events before now old s = let all_counted = s.count in omega (arith, all_counted)
+pub running_last : {A T : Type 0} (Tells : T → Line → Outcome → T → Type 0) (p : PolicyView) (file : List ℕ) (all : List Item) (value : A) (before now : Player T) (old : List (Option Switch)) → Running Tells p file all [] before now old → TellsAll Tells p (told_in file all) (Ok value) before now
+running_last Tells p file all value before now old s =
+    let all_counted = s.count in
+    record {
+      told = subst (λ (t : List Line). Heard Tells before.teller t now.teller) (sym (append-nil s.done) ∙ ap (λ (lines : List Line). s.done ++ lines) (sym (no_lines p now.place.number s.past)) ∙ s.whole) s.told;
+      count = omega (arith, all_counted);
+    }

@@ -16,10 +16,12 @@ use Rattle.desk_words.specs.Verdicts.{is_over}
 use Rattle.desk_words.specs.Operations.{ends}
 use Rattle.desk_words.specs.Recorded.{next_of, Happened, all_happened}
 use Rattle.desk_words.specs.Reports.{Place, line, name_at, speaker, lane_lines, slice_lines, lines_by_slot, closing_lines, down_lines, event_lines, lines_at, last_line, report}
-use Rattle.fv_report.specs.Writing.{WrotePart, WroteLine}
-use Rattle.fv_report.specs.Telling.{Line, Close, line_text, lane_told, slice_told, told_by_slot, closing_told, close_told, down_line, down_told, event_told, lines_from, all_lines, Heard, HeardPart}
+use Rattle.fv_report.specs.declared.fault.ReportFault.{ReportFault}
+use Rattle.fv_report.specs.declared.fault.ReportFault.TheVariants.{Memory}
+use Rattle.fv_report.specs.Writing.{WrotePart, Wrote, CountedFault, Counted}
+use Rattle.fv_report.specs.Telling.{Line, Outcome, Close, line_text, lane_told, slice_told, told_by_slot, closing_told, close_told, down_line, down_told, event_told, lines_from, all_lines, Heard, HeardPart}
 use Rattle.summary_words.specs.Summaries.{event_count}
-use Rattle.fv_report.proofs.Writing.{both, none_of, part_of_first, part_of_second}
+use Rattle.fv_report.proofs.Writing.{both, none_of, part_of_first, part_of_second, fault_after}
 
 lane_text : (place : Place) (messages : List (List ℕ)) → flat_map line_text (lane_told place messages) ≡ lane_lines place messages
 lane_text place [] = refl
@@ -96,46 +98,52 @@ whole_text p records = ap (λ (text : List ℕ). text ++ last_line (event_count 
 
 -- ---- what is written
 
+-- by each line something is kept, the line's text is written, and a write fault is counted
+abbrev pub Writes : {T X : Type 0} → (T → X) → (T → Option (List ℕ)) → (T → ℕ) → T → Line → Outcome → T → Type 0
+Writes seen contents faults old l outcome new = (seen new ≡ seen old) × Wrote outcome (line_text l) (contents old) (contents new) × Counted outcome (faults old) (faults new)
+
+-- what a sink has after lines
+pub record Written {T X : Type 0} (seen : T → X) (contents : T → Option (List ℕ)) (faults : T → ℕ) (lines : List Line) (old new : T) : Type 0 where
+  pub same : seen new ≡ seen old
+  pub text : contents new ≡ appended (contents old) (flat_map line_text lines)
+  pub counted : faults new ≡ faults old
+
+pub record WrittenPart {T X : Type 0} (seen : T → X) (contents : T → Option (List ℕ)) (faults : T → ℕ) (fault : ReportFault) (lines : List Line) (old new : T) : Type 0 where
+  pub same : seen new ≡ seen old
+  pub text : WrotePart (flat_map line_text lines) (contents old) (contents new)
+  pub counted : CountedFault fault (faults old) (faults new)
+
 -- lines that are written one by one are written together
-pub wrote_told : {T : Type 0} (Tells : T → Line → Bool → T → Type 0) (contents : T → Option (List ℕ)) → ((old : T) (l : Line) (whole : Bool) (new : T) → Tells old l whole new → WroteLine whole (line_text l) (contents old) (contents new))
-    → (lines : List Line) (old new : T) → Heard Tells old lines new → contents new ≡ appended (contents old) (flat_map line_text lines)
-wrote_told Tells contents each [] old new same = ap contents same ∙ appended_none (contents old)
-wrote_told Tells contents each (l ∷ lines) old new (next, told, others) =
-    both (contents old) (contents next) (contents new) (line_text l) (flat_map line_text lines) (each old l true next told) (wrote_told Tells contents each lines next new others)
+pub wrote_told : {T X : Type 0} (seen : T → X) (contents : T → Option (List ℕ)) (faults : T → ℕ) (lines : List Line) (old new : T) → Heard (Writes seen contents faults) old lines new → Written seen contents faults lines old new
+wrote_told seen contents faults [] old new same = record { same = ap seen same; text = ap contents same ∙ appended_none (contents old); counted = ap faults same }
+wrote_told seen contents faults (l ∷ lines) old new (next, told, others) =
+    let rest = wrote_told seen contents faults lines next new others in
+    record {
+      same = rest.same ∙ told.0;
+      text = both (contents old) (contents next) (contents new) (line_text l) (flat_map line_text lines) told.1 rest.text;
+      counted = rest.counted ∙ told.2;
+    }
 
-pub wrote_told_part : {T : Type 0} (Tells : T → Line → Bool → T → Type 0) (contents : T → Option (List ℕ)) → ((old : T) (l : Line) (whole : Bool) (new : T) → Tells old l whole new → WroteLine whole (line_text l) (contents old) (contents new))
-    → (lines : List Line) (old new : T) → HeardPart Tells old lines new → WrotePart (flat_map line_text lines) (contents old) (contents new)
-wrote_told_part {T} Tells contents each [] old new same = subst (λ (state : T). WrotePart [] (contents old) (contents state)) (sym same) (none_of [] (contents old))
-wrote_told_part {T} Tells contents each (l ∷ lines) old new (inl same) = subst (λ (state : T). WrotePart (line_text l ++ flat_map line_text lines) (contents old) (contents state)) (sym same) (none_of (line_text l ++ flat_map line_text lines) (contents old))
-wrote_told_part Tells contents each (l ∷ lines) old new (inr (inl broken)) = part_of_first (line_text l) (flat_map line_text lines) (contents old) (contents new) (each old l false new broken)
-wrote_told_part Tells contents each (l ∷ lines) old new (inr (inr (next, told, others))) =
-    part_of_second (line_text l) (flat_map line_text lines) (contents old) (contents next) (contents new) (each old l true next told) (wrote_told_part Tells contents each lines next new others)
+-- nothing was written before memory ran out
+wrote_none : {T X : Type 0} (seen : T → X) (contents : T → Option (List ℕ)) (faults : T → ℕ) (fault : ReportFault) (lines : List Line) (old new : T) → new ≡ old → fault ≡ Memory → WrittenPart seen contents faults fault lines old new
+wrote_none {T} seen contents faults fault lines old new same memory = record {
+  same = ap seen same;
+  text = subst (λ (state : T). WrotePart (flat_map line_text lines) (contents old) (contents state)) (sym same) (none_of (flat_map line_text lines) (contents old));
+  counted = subst (λ (f : ReportFault). CountedFault f (faults old) (faults new)) (sym memory) (ap faults same);
+}
 
--- what each line keeps all keep
-pub kept_told : {T X : Type 0} (Tells : T → Line → Bool → T → Type 0) (seen : T → X) → ((old : T) (l : Line) (whole : Bool) (new : T) → Tells old l whole new → seen new ≡ seen old) → (lines : List Line) (old new : T) → Heard Tells old lines new → seen new ≡ seen old
-kept_told Tells seen each [] old new same = ap seen same
-kept_told Tells seen each (l ∷ lines) old new (next, told, others) = kept_told Tells seen each lines next new others ∙ each old l true next told
-
-pub kept_told_part : {T X : Type 0} (Tells : T → Line → Bool → T → Type 0) (seen : T → X) → ((old : T) (l : Line) (whole : Bool) (new : T) → Tells old l whole new → seen new ≡ seen old) → (lines : List Line) (old new : T) → HeardPart Tells old lines new → seen new ≡ seen old
-kept_told_part Tells seen each [] old new same = ap seen same
-kept_told_part Tells seen each (l ∷ lines) old new (inl same) = ap seen same
-kept_told_part Tells seen each (l ∷ lines) old new (inr (inl broken)) = each old l false new broken
-kept_told_part Tells seen each (l ∷ lines) old new (inr (inr (next, told, others))) = kept_told_part Tells seen each lines next new others ∙ each old l true next told
-
--- ---- a writer, that keeps something and writes each line
-
--- by each line something is kept, and the line's text is written
-abbrev pub Writes : {T X : Type 0} → (T → X) → (T → Option (List ℕ)) → T → Line → Bool → T → Type 0
-Writes seen contents old l whole new = (seen new ≡ seen old) × WroteLine whole (line_text l) (contents old) (contents new)
-
-pub kept_after : {T X : Type 0} (lines : List Line) (old new : T) (seen : T → X) (contents : T → Option (List ℕ)) → Heard (Writes seen contents) old lines new → seen new ≡ seen old
-kept_after lines old new seen contents heard = kept_told (Writes seen contents) seen (λ a l whole b told. told.0) lines old new heard
-
-pub kept_part : {T X : Type 0} (lines : List Line) (old new : T) (seen : T → X) (contents : T → Option (List ℕ)) → HeardPart (Writes seen contents) old lines new → seen new ≡ seen old
-kept_part lines old new seen contents heard = kept_told_part (Writes seen contents) seen (λ a l whole b told. told.0) lines old new heard
-
-pub wrote_after : {T X : Type 0} (lines : List Line) (old new : T) (seen : T → X) (contents : T → Option (List ℕ)) → Heard (Writes seen contents) old lines new → contents new ≡ appended (contents old) (flat_map line_text lines)
-wrote_after lines old new seen contents heard = wrote_told (Writes seen contents) contents (λ a l whole b told. told.1) lines old new heard
-
-pub wrote_part : {T X : Type 0} (lines : List Line) (old new : T) (seen : T → X) (contents : T → Option (List ℕ)) → HeardPart (Writes seen contents) old lines new → WrotePart (flat_map line_text lines) (contents old) (contents new)
-wrote_part lines old new seen contents heard = wrote_told_part (Writes seen contents) contents (λ a l whole b told. told.1) lines old new heard
+pub wrote_told_part : {T X : Type 0} (seen : T → X) (contents : T → Option (List ℕ)) (faults : T → ℕ) (fault : ReportFault) (lines : List Line) (old new : T) → HeardPart (Writes seen contents faults) fault old lines new → WrittenPart seen contents faults fault lines old new
+wrote_told_part seen contents faults fault [] old new (same, memory) = wrote_none seen contents faults fault [] old new same memory
+wrote_told_part seen contents faults fault (l ∷ lines) old new (inl (same, memory)) = wrote_none seen contents faults fault (l ∷ lines) old new same memory
+wrote_told_part seen contents faults fault (l ∷ lines) old new (inr (inl broken)) = record {
+  same = broken.0;
+  text = part_of_first (line_text l) (flat_map line_text lines) (contents old) (contents new) broken.1;
+  counted = broken.2;
+}
+wrote_told_part seen contents faults fault (l ∷ lines) old new (inr (inr (next, told, others))) =
+    let rest = wrote_told_part seen contents faults fault lines next new others in
+    record {
+      same = rest.same ∙ told.0;
+      text = part_of_second (line_text l) (flat_map line_text lines) (contents old) (contents next) (contents new) told.1 rest.text;
+      counted = fault_after fault (faults old) (faults next) (faults new) told.2 rest.counted;
+    }

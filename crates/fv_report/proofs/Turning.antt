@@ -1,5 +1,5 @@
 -- The lines of one event.
-use Rattle.std.proofs.Common.{◌≡◌, ◌^◌, ◌||◌, ◌&&◌, not, leb, ℕ, Bool, true, false, if◌then◌else◌, List, [], ◌∷◌, ◌++◌, length, refl, sym, ap, ◌∙◌, append_assoc, subst, Option, Some, None, Result, Ok}
+use Rattle.std.proofs.Common.{◌≡◌, ◌^◌, ◌||◌, ◌&&◌, not, leb, ℕ, Bool, true, false, if◌then◌else◌, List, [], ◌∷◌, ◌++◌, length, refl, sym, ap, ◌∙◌, append_assoc, subst, Option, Some, None, Ok}
 use Rattle.std.proofs.lemmas.List.{append-nil}
 use Rattle.flowspace.specs.Policies.{PolicyView}
 use Rattle.desk_words.specs.declared.event.Timed.{Timed}
@@ -15,7 +15,10 @@ use Rattle.desk_words.specs.Operations.{takes_in}
 use Rattle.proxy_core.specs.declared.parts.Desk.{Desk}
 use Rattle.fv_report.specs.Holding.{Holds, IsQuiet, After}
 use Rattle.desk_words.proofs.Closing.{closed_by_verdict, none_ends}
-use Rattle.fv_report.specs.Telling.{Line, Close, lane_told, told_by_slot, closing_told, close_told, down_line, down_told, event_told, closed_told, state_told, told_parts, Tell}
+use Rattle.fv_report.specs.declared.player.Player.{Player}
+use Rattle.fv_report.specs.Telling.{Line, Outcome, Close, lane_told, told_by_slot, closing_told, close_told, down_line, down_told, event_told, closed_told, state_told, told_parts}
+use Rattle.fv_report.specs.Players.{Scene, HasTold}
+use Rattle.fv_report.proofs.Players.{told_as, told_so}
 
 ends_by : (a b c : Bool) (lines : List Line) → (a || b) ≡ false → (if c then lines else []) ≡ (if not a && c then lines else [])
 ends_by true b c lines is = absurd cc
@@ -35,7 +38,7 @@ told_state p place h timed (Some slot) of is =
     ∙ ap (λ (b : Bool). closing_told p place (timed ∷ h) (Some slot) ++ (if b then down_line place ∷ [] else [])) (sym (none_ends h timed slot of))
 
 -- an event that was taken in
-pub told_event : (p : PolicyView) (place : Place) (h : List Timed) (timed : Timed) (closed : Bool) → is_over h ≡ false → closed ≡ closes p h timed
+told_event : (p : PolicyView) (place : Place) (h : List Timed) (timed : Timed) (closed : Bool) → is_over h ≡ false → closed ≡ closes p h timed
     → told_parts p place (timed ∷ h) (λ slot. sent_by p slot h timed) (lane_by p h timed) (speaker timed.event) closed ≡ event_told p place h timed
 told_event p place h timed closed is same =
     let lane = lane_told place (lane_by p h timed) in
@@ -49,13 +52,13 @@ told_event p place h timed closed is same =
     ∙ rw is refl
 
 -- an event that comes when all is over
-pub over_event : (p : PolicyView) (place : Place) (h : List Timed) (timed : Timed) → is_over h ≡ true → closing_told p place h (speaker timed.event) ≡ event_told p place h timed
+over_event : (p : PolicyView) (place : Place) (h : List Timed) (timed : Timed) → is_over h ≡ true → closing_told p place h (speaker timed.event) ≡ event_told p place h timed
 over_event p place h timed is = sym (append-nil (close_told p place h timed.event)) ∙ rw is refl
 
-pub next_on : (h : List Timed) (timed : Timed) → is_over h ≡ false → next_of h timed ≡ timed ∷ h
+next_on : (h : List Timed) (timed : Timed) → is_over h ≡ false → next_of h timed ≡ timed ∷ h
 next_on h timed is = rw is refl
 
-pub next_over : (h : List Timed) (timed : Timed) → is_over h ≡ true → next_of h timed ≡ h
+next_over : (h : List Timed) (timed : Timed) → is_over h ≡ true → next_of h timed ≡ h
 next_over h timed is = rw is refl
 
 -- ---- verdicts
@@ -94,10 +97,33 @@ taken_closing p h timed answered desk is reply =
 pub refused : (p : PolicyView) (h : List Timed) (timed : Timed) (answered : Verdict) (desk : Desk) → answered ≡ Ended → Answered p h timed answered desk → (is_over h ≡ true) × IsQuiet p h desk
 refused p h timed answered desk is reply = (subst (λ (v : Verdict). Answered p h timed v desk) is reply).1
 
+-- the line of a connection that is closed, and none of one that isn't
+pub no_close : (p : PolicyView) (place : Place) (slot : ℕ) (closed : Bool) → closed ≡ false → [] ≡ closed_told p place slot closed
+no_close p place slot true is = absurd cc
+no_close p place slot false is = refl
+
+pub close_line : (p : PolicyView) (place : Place) (slot : ℕ) (name : List ℕ) (closed : Bool) → closed ≡ true → name ≡ name_at p.slices slot → (let l : Line = record { place = place; saying = Close name } in l ∷ []) ≡ closed_told p place slot closed
+close_line p place slot name true is named = ap (λ (n : List ℕ). let l : Line = record { place = place; saying = Close n } in l ∷ []) named
+close_line p place slot name false is named = absurd cc
+
 -- what is told of an event that was taken in
-pub told_taken : {E T : Type 0} (Tells : T → Line → Bool → T → Type 0) (p : PolicyView) (place : Place) (h : List Timed) (timed : Timed) (closed : Bool) (desk : Desk) (speaking : Option ℕ) (result : Result (Unit {0}) E) (before now : T)
-    → IsTaken p h timed closed desk → speaking ≡ speaker timed.event
-    → Tell Tells result (told_parts p place (timed ∷ h) (λ slot. sent_by p slot h timed) (lane_by p h timed) speaking closed) before now → Tell Tells result (event_told p place h timed) before now
-told_taken Tells p place h timed closed desk speaking result before now taken of told =
-    subst (λ (lines : List Line). Tell Tells result lines before now)
-    (ap (λ (o : Option ℕ). told_parts p place (timed ∷ h) (λ slot. sent_by p slot h timed) (lane_by p h timed) o closed) of ∙ told_event p place h timed closed taken.going taken.closed_as) told
+pub told_taken : {T : Type 0} (Tells : T → Line → Outcome → T → Type 0) (scene : Scene) (h : List Timed) (timed : Timed) (closed : Bool) (desk new_desk : Desk) (speaking : Option ℕ) (outcome : Outcome) (old new : Player T)
+    → IsTaken scene.policy h timed closed desk → speaking ≡ speaker timed.event
+    → HasTold Tells scene (IsQuiet scene.policy (timed ∷ h) new_desk) outcome (told_parts scene.policy scene.place (timed ∷ h) (λ slot. sent_by scene.policy slot h timed) (lane_by scene.policy h timed) speaking closed) old new
+    → HasTold Tells scene (IsQuiet scene.policy (next_of h timed) new_desk) outcome (event_told scene.policy scene.place h timed) old new
+told_taken Tells scene h timed closed desk new_desk speaking outcome old new taken of told =
+    let p = scene.policy in
+    let place = scene.place in
+    told_as Tells scene outcome (told_parts p place (timed ∷ h) (λ slot. sent_by p slot h timed) (lane_by p h timed) speaking closed) (event_told p place h timed) old new
+    (ap (λ (o : Option ℕ). told_parts p place (timed ∷ h) (λ slot. sent_by p slot h timed) (lane_by p h timed) o closed) of ∙ told_event p place h timed closed taken.going taken.closed_as)
+    (told_so Tells scene outcome (told_parts p place (timed ∷ h) (λ slot. sent_by p slot h timed) (lane_by p h timed) speaking closed) old new (λ quiet. subst (λ (events : List Timed). IsQuiet p events new_desk) (sym (next_on h timed taken.going)) quiet) told)
+
+-- what is told of one that wasn't
+pub told_over : {T : Type 0} (Tells : T → Line → Outcome → T → Type 0) (scene : Scene) (h : List Timed) (timed : Timed) (desk : Desk) (speaking : Option ℕ) (outcome : Outcome) (old new : Player T)
+    → (is_over h ≡ true) × IsQuiet scene.policy h desk → speaking ≡ speaker timed.event → HasTold Tells scene (Unit {0}) outcome (closing_told scene.policy scene.place h speaking) old new
+    → HasTold Tells scene (IsQuiet scene.policy (next_of h timed) desk) outcome (event_told scene.policy scene.place h timed) old new
+told_over Tells scene h timed desk speaking outcome old new over of told =
+    let p = scene.policy in
+    let place = scene.place in
+    told_as Tells scene outcome (closing_told p place h speaking) (event_told p place h timed) old new (ap (closing_told p place h) of ∙ over_event p place h timed over.0)
+    (told_so Tells scene outcome (closing_told p place h speaking) old new (λ _. subst (λ (events : List Timed). IsQuiet p events desk) (sym (next_over h timed over.0)) over.1) told)

@@ -1,5 +1,5 @@
 -- Records that are read one after the other, each as it is played.
-use Rattle.std.proofs.Common.{◌≡◌, ◌+◌, ◌-◌, ◌<◌, ◌≤◌, ℕ, zero, suc, Bool, not, ltb, List, [], ◌∷◌, take, length, bytes_eq, Option, Ok, Err, refl, sym, ap, ◌∙◌, subst, arith}
+use Rattle.std.proofs.Common.{◌≡◌, ◌+◌, ◌-◌, ◌<◌, ◌≤◌, ℕ, zero, suc, Bool, not, ltb, List, [], ◌∷◌, take, length, bytes_eq, Option, Result, Ok, Err, refl, sym, ap, ◌∙◌, subst, arith}
 use Rattle.std.proofs.lemmas.Bool.{ltb-false, lt-leb, not-false}
 use Rattle.of10_model.specs.Normal.{number_at}
 use Rattle.of10_model.specs.Results.{◌>>=◌}
@@ -11,11 +11,14 @@ use Rattle.recording.proofs.Forms.{formed_item}
 use Rattle.recording.proofs.Walk.{same_count}
 use Rattle.flowspace.specs.Policies.{PolicyView}
 use Rattle.desk_words.specs.Recorded.{told_by, carried, told_in}
-use Rattle.summary_words.specs.Summaries.{event_count}
 use Rattle.fv_report.specs.declared.switch.Switch.{Switch}
-use Rattle.fv_report.specs.Telling.{Line, Heard, HeardPart, all_lines}
+use Rattle.std.specs.Result.{IsErrAnd}
+use Rattle.fv_report.specs.declared.fault.ReportFault.{ReportFault}
+use Rattle.fv_report.specs.declared.player.Player.{Player}
+use Rattle.fv_report.specs.Telling.{Line, Outcome}
+use Rattle.fv_report.specs.Players.{TellsAll}
 use Rattle.fv_report.specs.Switches.{AreUnknown, PlaysAmong}
-use Rattle.fv_report.proofs.Running.{Running, running_first, running_more, running_part, running_last, counted_last}
+use Rattle.fv_report.proofs.Running.{Running, running_first, running_more, running_part, running_last}
 
 -- these records are left of a file from a place on
 pub record AreLeft (slices : ℕ) (file : List ℕ) (at : ℕ) (left : List Item) : Type 0 where
@@ -97,56 +100,49 @@ none_left slices file at left end so_far =
 
 -- ---- all records
 
--- the records that are left from a place on, and what is told and counted so far
-pub record Walking {T : Type 0} (Tells : T → Line → Bool → T → Type 0) (p : PolicyView) (file : List ℕ) (all : List Item) (at events : ℕ) (before now : T) (switches : List (Option Switch)) : Type 0 where
+-- the records that are left from a place on, and what a player told and counted so far
+pub record Walking {T : Type 0} (Tells : T → Line → Outcome → T → Type 0) (p : PolicyView) (file : List ℕ) (all : List Item) (at : ℕ) (before now : Player T) (switches : List (Option Switch)) : Type 0 where
   pub left : List Item
   pub rest : AreLeft (length p.slices) file at left
-  pub running : Running Tells p file all left events before now switches
+  pub running : Running Tells p file all left before now switches
 
-pub walking_first : {T : Type 0} (Tells : T → Line → Bool → T → Type 0) (p : PolicyView) (file : List ℕ) (all : List Item) (before : T) (switches : List (Option Switch)) → AreUnknown switches → read_items (length p.slices) file ≡ Ok all → Walking Tells p file all 8 0 before before switches
-walking_first Tells p file all before switches unknown read = record {
+pub walking_first : {T : Type 0} (Tells : T → Line → Outcome → T → Type 0) (file : List ℕ) (all : List Item) (player : Player T) (switches : List (Option Switch)) → player.place.number ≡ 0 → AreUnknown switches → read_items (length player.policy.now.slices) file ≡ Ok all
+    → Walking Tells player.policy.now file all 8 player player switches
+walking_first Tells file all player switches none unknown read = record {
   left = all;
-  rest = left_first (length p.slices) file all read;
-  running = running_first Tells p file all before switches unknown;
+  rest = left_first (length player.policy.now.slices) file all read;
+  running = running_first Tells file all player switches none unknown;
 }
 
 -- the record that comes next
-pub walking_next : {T : Type 0} (Tells : T → Line → Bool → T → Type 0) (p : PolicyView) (file : List ℕ) (all : List Item) (at events : ℕ) (before now : T) (switches : List (Option Switch)) → at < length file → Walking Tells p file all at events before now switches
-    → (at + 16 ≤ length file) × ((item : Item) → item ≡ item_at file at → IsItem (length p.slices) file item)
-walking_next Tells p file all at events before now switches more s =
+pub walking_next : {T : Type 0} (Tells : T → Line → Outcome → T → Type 0) (p : PolicyView) (file : List ℕ) (all : List Item) (at : ℕ) (before now : Player T) (switches : List (Option Switch)) → at < length file → Walking Tells p file all at before now switches
+    → (at + 16 ≤ length file) × ((item : Item) → item ≡ item_at file at → IsItem (length now.policy.now.slices) file item)
+walking_next Tells p file all at before now switches more s =
     let next = next_of (length p.slices) file at s.left more s.rest in
-    (next.long, λ item is. subst (IsItem (length p.slices) file) (sym is) next.item)
+    (next.long, λ item is. subst (λ (q : PolicyView). IsItem (length q.slices) file item) (sym s.running.policy) (subst (IsItem (length p.slices) file) (sym is) next.item))
 
 -- one record more was played
-pub walking_more : {E T : Type 0} (Tells : T → Line → Bool → T → Type 0) (p : PolicyView) (file : List ℕ) (all : List Item) (at : ℕ) (item : Item) (events later : ℕ) (before now after : T) (old new : List (Option Switch)) → at < length file → item ≡ item_at file at
-    → Walking Tells p file all at events before now old → PlaysAmong {E = E} Tells p (told_by item (carried file item)) events (Ok later) now after old new → Walking Tells p file all (item.from + item.size) later before after new
-walking_more Tells p file all at item events later before now after old new more is s plays =
+pub walking_more : {T : Type 0} (Tells : T → Line → Outcome → T → Type 0) (p : PolicyView) (file : List ℕ) (all : List Item) (at : ℕ) (item : Item) (value : Unit {0}) (before now after : Player T) (old new : List (Option Switch)) → at < length file → item ≡ item_at file at
+    → Walking Tells p file all at before now old → PlaysAmong Tells (told_by item (carried file item)) (Ok value) now after old new → Walking Tells p file all (item.from + item.size) before after new
+walking_more Tells p file all at item value before now after old new more is s plays =
     let next = next_of (length p.slices) file at s.left more s.rest in
     let own : s.left ≡ item ∷ next.others = next.is ∙ ap (λ (r : Item). r ∷ next.others) (sym is) in
     record {
       left = next.others;
       rest = subst (λ (r : Item). AreLeft (length p.slices) file (r.from + r.size) next.others) (sym is) next.later;
-      running = running_more Tells p file all s.left next.others item events later before now after old new own s.running (plays s.running.past s.running.stands);
+      running = running_more Tells p file all s.left next.others item value before now after old new own s.running plays;
     }
 
--- a piece of the next record's lines was told
-pub walking_part : {E T : Type 0} (Tells : T → Line → Bool → T → Type 0) (p : PolicyView) (file : List ℕ) (all : List Item) (at : ℕ) (item : Item) (events : ℕ) (fault : E) (before now after : T) (old new : List (Option Switch)) → at < length file → item ≡ item_at file at
-    → Walking Tells p file all at events before now old → PlaysAmong {E = E} Tells p (told_by item (carried file item)) events (Err fault) now after old new → HeardPart Tells before (all_lines p (told_in file all)) after
-walking_part Tells p file all at item events fault before now after old new more is s plays =
+-- a fault came in the lines of the next record
+pub walking_part : {A T : Type 0} (Tells : T → Line → Outcome → T → Type 0) (p : PolicyView) (file : List ℕ) (all : List Item) (at : ℕ) (item : Item) (fault : ReportFault) (result : Result A ReportFault) (before now after : Player T) (old new : List (Option Switch)) → at < length file → item ≡ item_at file at
+    → Walking Tells p file all at before now old → IsErrAnd result (λ e. e ≡ fault) → PlaysAmong Tells (told_by item (carried file item)) (Err fault) now after old new → TellsAll Tells p (told_in file all) result before after
+walking_part Tells p file all at item fault result before now after old new more is s same plays =
     let next = next_of (length p.slices) file at s.left more s.rest in
     let own : s.left ≡ item ∷ next.others = next.is ∙ ap (λ (r : Item). r ∷ next.others) (sym is) in
-    running_part Tells p file all s.left next.others item events fault before now after old new own s.running (plays s.running.past s.running.stands)
+    running_part Tells p file all s.left next.others item fault result before now after old new own s.running same plays
 
 -- all records were played
-ended : {T : Type 0} (Tells : T → Line → Bool → T → Type 0) (p : PolicyView) (file : List ℕ) (all : List Item) (at events : ℕ) (before now : T) (switches : List (Option Switch)) → length file ≤ at → (s : Walking Tells p file all at events before now switches)
-    → Running Tells p file all [] events before now switches
-ended Tells p file all at events before now switches end s =
-    subst (λ (left : List Item). Running Tells p file all left events before now switches) (none_left (length p.slices) file at s.left end s.rest) s.running
-
-pub walking_last : {T : Type 0} (Tells : T → Line → Bool → T → Type 0) (p : PolicyView) (file : List ℕ) (all : List Item) (at events : ℕ) (before now : T) (switches : List (Option Switch)) → length file ≤ at → Walking Tells p file all at events before now switches
-    → Heard Tells before (all_lines p (told_in file all)) now
-walking_last Tells p file all at events before now switches end s = running_last Tells p file all events before now switches (ended Tells p file all at events before now switches end s)
-
-pub counted_all : {T : Type 0} (Tells : T → Line → Bool → T → Type 0) (p : PolicyView) (file : List ℕ) (all : List Item) (at events : ℕ) (before now : T) (switches : List (Option Switch)) → length file ≤ at → Walking Tells p file all at events before now switches
-    → events ≡ event_count p (told_in file all)
-counted_all Tells p file all at events before now switches end s = counted_last Tells p file all events before now switches (ended Tells p file all at events before now switches end s)
+pub walking_last : {A T : Type 0} (Tells : T → Line → Outcome → T → Type 0) (p : PolicyView) (file : List ℕ) (all : List Item) (at : ℕ) (value : A) (before now : Player T) (switches : List (Option Switch)) → length file ≤ at → Walking Tells p file all at before now switches
+    → TellsAll Tells p (told_in file all) (Ok value) before now
+walking_last Tells p file all at value before now switches end s =
+    running_last Tells p file all value before now switches (subst (λ (left : List Item). Running Tells p file all left before now switches) (none_left (length p.slices) file at s.left end s.rest) s.running)

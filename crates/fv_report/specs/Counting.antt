@@ -1,11 +1,12 @@
 -- What is told is counted (this proxy's own rule).
-use Rattle.std.specs.Prelude.{ℕ, ◌≡◌, ◌+◌, ◌==◌, Bool, true, false, if◌then◌else◌, List, [], ◌∷◌, ◌++◌, length, slice_get, Some, codes, decimal}
+use Rattle.std.specs.Prelude.{ℕ, ◌≡◌, ◌+◌, ◌==◌, if◌then◌else◌, List, [], ◌∷◌, ◌++◌, length, slice_get, Some, Ok, Err, codes, decimal}
 use Rattle.std.specs.List.{flat_map, sum_by}
 use Rattle.fv_report.specs.declared.counter.Count.{Count}
 use Rattle.fv_report.specs.declared.counter.Counter.{Counter}
 use Rattle.flowspace.specs.declared.slices.Slice.{Slice}
 use Rattle.summary_words.specs.Summaries.{count_line, count_lines}
-use Rattle.fv_report.specs.Telling.{Line, Saying, Lane, To}
+use Rattle.fv_report.specs.declared.fault.ReportFault.TheVariants.{Memory}
+use Rattle.fv_report.specs.Telling.{Line, Outcome, Saying, Lane, To}
 
 -- a message more was counted
 pub record Added (message : List ℕ) (old new : Count) : Type 0 where
@@ -45,10 +46,10 @@ pub record Counts (slots : ℕ) (lane : List (List ℕ)) (slices : ℕ → List 
   pub for_lane : IsCount lane counter.lane
   pub for_slices : AreCounts slices counter.slices.items
 
--- what a line says is counted, where it was told whole
-abbrev pub CountsLine : Saying → Bool → Counter → Counter → Type 0
-CountsLine saying false old new = Unit {0}
-CountsLine saying true old new =
+-- what a line says is counted; where it isn't, memory ran out
+abbrev pub CountsLine : Saying → Outcome → Counter → Counter → Type 0
+CountsLine saying (Err fault) old new = fault ≡ Memory
+CountsLine saying (Ok value) old new =
     (slots : ℕ) (lane : List (List ℕ)) (slices : ℕ → List (List ℕ)) → Counts slots lane slices old
     → Counts slots (lane ++ lane_said saying) (λ slot. slices slot ++ slice_in slot saying) new
 

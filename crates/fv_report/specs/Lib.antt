@@ -1,6 +1,7 @@
 pub mod Writing
 pub mod Telling
 pub mod Lines
+pub mod Players
 pub mod Counting
 pub mod Holding
 pub mod Taking

@@ -1,5 +1,5 @@
 -- What becomes of things that can happen one after another at a desk (this proxy's own rule).
-use Rattle.std.specs.Prelude.{ℕ, ◌≡◌, ◌+◌, not, Bool, true, if◌then◌else◌, List, [], ◌∷◌, map, length, Result, IfOk, OnOk}
+use Rattle.std.specs.Prelude.{ℕ, not, Bool, true, if◌then◌else◌, List, [], ◌∷◌, map, length}
 use Rattle.flowspace.specs.Policies.{PolicyView}
 use Rattle.of10_ctl.specs.Streams.{Stream, Stands, frames_of}
 use Rattle.answer_bounds.specs.Bounds.{AreFramed}
@@ -12,10 +12,10 @@ use Rattle.desk_words.specs.Openings.{phase_of}
 use Rattle.desk_words.specs.Histories.{is_slice_up}
 use Rattle.desk_words.specs.Verdicts.{is_ended}
 use Rattle.desk_words.specs.Recorded.{timed_at, next_of, next_after}
-use Rattle.fv_report.specs.Telling.{Line, Tell, told_of}
+use Rattle.fv_report.specs.Telling.{Line, Outcome, told_of}
 use Rattle.proxy_core.specs.declared.parts.Desk.{Desk}
-use Rattle.fv_report.specs.declared.teller.Place.{Place}
-use Rattle.fv_report.specs.Lines.{place_of}
+use Rattle.fv_report.specs.declared.player.Player.{Player}
+use Rattle.fv_report.specs.Players.{Scene, later, HasTold}
 use Rattle.fv_report.specs.Holding.{IsQuiet}
 
 -- a message that came on a connection
@@ -36,23 +36,22 @@ happening policy moment h (event ∷ later) =
     if happens policy h event then timed_at moment event ∷ happening policy moment (next_of h (timed_at moment event)) later
     else happening policy moment h later
 
--- these events were taken, the next line's place is behind them, and the desk is at rest after them
-pub record Played (policy : PolicyView) (h own : List Timed) (place later : Place) (desk : Desk) : Type 0 where
-  pub number : later.number ≡ place.number + length own
-  pub switch : later.switch ≡ place.switch
+-- a desk is at rest after these events
+pub record Rests (policy : PolicyView) (h own : List Timed) (desk : Desk) : Type 0 where
   pub quiet : IsQuiet policy (next_after h own) desk
   pub framed : AreFramed (next_after h own)
 
--- these events were played: their lines were told, and what follows is told of the desk
-pub record PlaysEvents {E T : Type 0} (Tells : T → Line → Bool → T → Type 0) (policy : PolicyView) (h own : List Timed) (place : Place) (result : Result Place E) (before after : T) (desk : Desk) : Type 0 where
-  pub writes : Tell Tells result (told_of policy (place_of place) h own) before after
-  pub played : IfOk result (λ later. Played policy h own place later desk)
+-- these events were played: their lines were told, they were counted, and more holds
+abbrev pub PlaysEvents : {T : Type 0} → (T → Line → Outcome → T → Type 0) → Scene → List Timed → List Timed → Type 0 → Outcome → Player T → Player T → Type 0
+PlaysEvents Tells scene h own More result old new = HasTold Tells (later (length own) scene) More result (told_of scene.policy scene.place h own) old new
 
--- of what can happen what does was played
-abbrev pub Plays : {E T : Type 0} → (T → Line → Bool → T → Type 0) → PolicyView → ℕ → List Timed → List Event → Place → Result Place E → T → T → Desk → Type 0
-Plays Tells policy moment h events place result before after desk = PlaysEvents Tells policy h (happening policy moment h events) place result before after desk
+-- of what can happen what does was played, and the desk is at rest after it
+abbrev pub Plays : {T : Type 0} → (T → Line → Outcome → T → Type 0) → Scene → List Timed → List Event → Outcome → Player T → Player T → Desk → Type 0
+Plays Tells scene h events result old new desk =
+    let own = happening scene.policy scene.moment h events in PlaysEvents Tells scene h own (Rests scene.policy h own desk) result old new
 
 -- the frames of a connection that its framer hadn't given were played, and the framer has given all
-pub record Hears {E T : Type 0} (Tells : T → Line → Bool → T → Type 0) (policy : PolicyView) (moment : ℕ) (from : Dest) (h : List Timed) (fed : List ℕ) (rest : List (List ℕ)) (place : Place) (result : Result Place E) (before after : T) (desk : Desk) (framer : Stream) : Type 0 where
-  pub plays : Plays Tells policy moment h (map (event_from from) rest) place result before after desk
-  pub given : OnOk result (Stands framer fed (frames_of fed))
+abbrev pub Hears : {T : Type 0} → (T → Line → Outcome → T → Type 0) → Scene → Dest → List Timed → List ℕ → List (List ℕ) → Outcome → Player T → Player T → Desk → Stream → Type 0
+Hears Tells scene from h fed rest result old new desk framer =
+    let own = happening scene.policy scene.moment h (map (event_from from) rest) in
+    PlaysEvents Tells scene h own (Rests scene.policy h own desk × Stands framer fed (frames_of fed)) result old new

@@ -15,6 +15,8 @@ use Rattle.desk_words.specs.Operations.{ends}
 use Rattle.desk_words.specs.Recorded.{next_of, Happened, all_happened}
 use Rattle.desk_words.specs.Reports.{Place, name_at, speaker}
 use Rattle.desk_words.specs.Reports as report
+use Rattle.fv_report.specs.declared.fault.ReportFault.{ReportFault}
+use Rattle.fv_report.specs.declared.fault.ReportFault.TheVariants.{Memory}
 
 -- ---- lines
 
@@ -118,17 +120,22 @@ told_parts policy place h slices lane speaking closed =
 
 -- ---- who hears
 
--- from one state to another by these lines, each told whole
-abbrev pub Heard : {T : Type 0} → (T → Line → Bool → T → Type 0) → T → List Line → T → Type 0
-Heard Tells old [] new = new ≡ old
-Heard {T} Tells old (first ∷ others) new = (next : T) × Tells old first true next × Heard Tells next others new
+-- how it went with a line: it was told whole, or a fault broke it off
+abbrev pub Outcome : Type 0
+Outcome = Result (Unit {0}) ReportFault
 
--- by the first of these lines, and perhaps one that wasn't told whole
-abbrev pub HeardPart : {T : Type 0} → (T → Line → Bool → T → Type 0) → T → List Line → T → Type 0
-HeardPart Tells old [] new = new ≡ old
-HeardPart {T} Tells old (first ∷ others) new = (new ≡ old) ⊎ (Tells old first false new ⊎ ((next : T) × Tells old first true next × HeardPart Tells next others new))
+-- from one state to another by these lines, each told whole
+abbrev pub Heard : {T : Type 0} → (T → Line → Outcome → T → Type 0) → T → List Line → T → Type 0
+Heard Tells old [] new = new ≡ old
+Heard {T} Tells old (first ∷ others) new = (next : T) × Tells old first (Ok tt) next × Heard Tells next others new
+
+-- by the first of these lines, until a fault: one broke a line off, or memory ran out where none was told
+abbrev pub HeardPart : {T : Type 0} → (T → Line → Outcome → T → Type 0) → ReportFault → T → List Line → T → Type 0
+HeardPart Tells fault old [] new = (new ≡ old) × (fault ≡ Memory)
+HeardPart {T} Tells fault old (first ∷ others) new =
+    ((new ≡ old) × (fault ≡ Memory)) ⊎ (Tells old first (Err fault) new ⊎ ((next : T) × Tells old first (Ok tt) next × HeardPart Tells fault next others new))
 
 -- all of these lines were told; at a fault the first of them
-abbrev pub Tell : {A E T : Type 0} → (T → Line → Bool → T → Type 0) → Result A E → List Line → T → T → Type 0
+abbrev pub Tell : {A T : Type 0} → (T → Line → Outcome → T → Type 0) → Result A ReportFault → List Line → T → T → Type 0
 Tell Tells (Ok value) lines old new = Heard Tells old lines new
-Tell Tells (Err fault) lines old new = HeardPart Tells old lines new
+Tell Tells (Err fault) lines old new = HeardPart Tells fault old lines new

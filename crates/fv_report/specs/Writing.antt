@@ -1,5 +1,5 @@
 -- What a call that writes a text leaves on its sink (this proxy's own rule).
-use Rattle.std.specs.Prelude.{◌≡◌, ◌≤◌, ℕ, Bool, true, false, List, Option, Result, Ok, Err}
+use Rattle.std.specs.Prelude.{◌≡◌, ◌≤◌, ℕ, List, Option, Result, Ok, Err}
 use Rattle.fv_base.specs.Told.{appended, IsPrefix, Rose}
 use Rattle.fv_report.specs.declared.fault.ReportFault.{ReportFault}
 use Rattle.fv_report.specs.declared.fault.ReportFault.TheVariants.{WriteFault, Memory}
@@ -7,11 +7,6 @@ use Rattle.fv_report.specs.declared.fault.ReportFault.TheVariants.{WriteFault, M
 -- the first bytes of a text were written, perhaps none
 abbrev pub WrotePart : List ℕ → Option (List ℕ) → Option (List ℕ) → Type 0
 WrotePart text before after = (piece : List ℕ) × IsPrefix piece text × (after ≡ appended before piece)
-
--- a line was written, whole or its first bytes
-abbrev pub WroteLine : Bool → List ℕ → Option (List ℕ) → Option (List ℕ) → Type 0
-WroteLine true text before after = after ≡ appended before text
-WroteLine false text before after = WrotePart text before after
 
 -- a text was written; at a fault its first bytes
 abbrev pub Wrote : {A E : Type 0} → Result A E → List ℕ → Option (List ℕ) → Option (List ℕ) → Type 0

@@ -1,6 +1,6 @@
 //! The messages that are told are counted.
 
-ghost use Rattle.std.specs.Prelude.{ℕ, ◌≡◌, List, [], true, OnOk, IfOk, IfErr};
+ghost use Rattle.std.specs.Prelude.{ℕ, ◌≡◌, List, [], Ok, OnOk, IfOk, IfErr};
 ghost use Rattle.fv_report.specs.Telling.{To};
 ghost use Rattle.fv_report.specs.Counting.{Added, Counts, CountsLine};
 
@@ -58,7 +58,7 @@ impl Counter {
 
     /// Counts a message for the slice at a slot.
     fn add_at(&mut self, slot: u8, message: &[u8]) -> Result<(), ReportFault>
-        ensures added { OnOk result ((name : List ℕ) → CountsLine (To slot name message.now) true self.old self.new) }
+        ensures added { OnOk result ((name : List ℕ) → CountsLine (To slot name message.now) (Ok tt) self.old self.new) }
         ensures memory { IfErr result (λ f. f ≡ ReportFault.Memory) }
     {
         match self.slices.get_mut(usize::from(slot)) {
@@ -71,9 +71,7 @@ impl Counter {
 impl Teller for Counter {
     ghost use Rattle.fv_report.specs.Counting.{CountsLine};
 
-    ghost Tells = { λ old line whole new. CountsLine line.saying whole old new };
-
-    ghost faults = { λ counter. 0 };
+    ghost Tells = { λ old line outcome new. CountsLine line.saying outcome old new };
 
     fn tell(&mut self, _: Place, said: Said<'_>) -> Result<(), ReportFault> {
         match said {

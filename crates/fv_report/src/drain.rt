@@ -1,19 +1,17 @@
 //! Messages that wait at a desk are taken and written.
 
-ghost use Rattle.std.specs.Prelude.{ℕ, ◌≡◌, ◌<◌, List, [], OnOk, IfSome};
+ghost use Rattle.std.specs.Prelude.{ℕ, ◌≡◌, ◌<◌, List, [], IfSome};
 ghost use Rattle.desk_words.specs.declared.event.Timed.{Timed};
 ghost use Rattle.desk_words.specs.declared.answer.Dest.TheVariants.{Switch, Slice};
-ghost use Rattle.fv_report.specs.Telling.{Tell, lane_told, slice_told, told_by_slot};
+ghost use Rattle.fv_report.specs.Telling.{lane_told, slice_told, told_by_slot};
+ghost use Rattle.fv_report.specs.Players.{Scene, IsPlaying, HasTold};
 ghost use Rattle.proxy_core.specs.Desks.{left};
-ghost use Rattle.fv_report.specs.Lines.{place_of};
-ghost use Rattle.fv_report.specs.Writing.{Counted};
 ghost use Rattle.fv_report.specs.Holding.{Holds, nothing, with_waiting};
-ghost use Rattle.flowspace.specs.Policies.{PolicyView};
 ghost use Rattle.fv_report.specs.Taking.{message_taken, TakesFromLane, TakesFromSlice};
 
 use crate::fault::ReportFault;
-use crate::teller::{Place, Said, Teller};
-use flowspace::Policy;
+use crate::player::Player;
+use crate::teller::{Said, Teller};
 use of10_ctl::Frame;
 use proxy_core::{Desk, Dest, Taken};
 
@@ -48,53 +46,38 @@ fn next_of_slice(desk: &mut Desk, slot: u8) -> Option<Frame>
     message_in(desk.take(Dest::Slice(slot)))
 }
 
-/// A line for each message that waits for the switch.
-pub(crate) fn drain_lane<T: Teller>(
-    teller: &mut T,
-    desk: &mut Desk,
-    place: Place,
-) -> Result<(), ReportFault>
-    ensures writes { (policy : PolicyView) (h : List Timed) (slices : ℕ → List (List ℕ)) (lane : List (List ℕ)) → Holds policy h slices lane desk.old → Tell T.Tells result (lane_told (place_of place) lane) teller.old teller.new }
-    ensures empties { OnOk result ((policy : PolicyView) (h : List Timed) (slices : ℕ → List (List ℕ)) (lane : List (List ℕ)) → Holds policy h slices lane desk.old → Holds policy h slices [] desk.new) }
-    ensures counted { Counted result (T.faults teller.old) (T.faults teller.new) }
-{
-    while let Some(message) = next_of_lane(desk) {
-        teller.tell(place, Said::Lane(message.as_slice()))?;
+impl<T: Teller> Player<'_, T> {
+    /// A line for each message that waits for the switch.
+    pub(crate) fn drain_lane(&mut self, desk: &mut Desk) -> Result<(), ReportFault>
+        ensures { (scene : Scene) (h : List Timed) (slices : ℕ → List (List ℕ)) (lane : List (List ℕ)) → IsPlaying scene self.old → Holds scene.policy h slices lane desk.old
+            → HasTold T.Tells scene (Holds scene.policy h slices [] desk.new) result (lane_told scene.place lane) self.old self.new }
+    {
+        while let Some(message) = next_of_lane(desk) {
+            self.say(Said::Lane(message.as_slice()))?;
+        }
+        Ok(())
     }
-    Ok(())
-}
 
-/// A line for each message that waits for the slice at a slot, which has this name.
-fn drain_slice<T: Teller>(
-    teller: &mut T,
-    desk: &mut Desk,
-    place: Place,
-    slot: u8,
-    name: &str,
-) -> Result<(), ReportFault>
-    ensures writes { (policy : PolicyView) (h : List Timed) (slices : ℕ → List (List ℕ)) (lane : List (List ℕ)) → Holds policy h slices lane desk.old → Tell T.Tells result (slice_told (place_of place) slot name.now (slices slot)) teller.old teller.new }
-    ensures empties { OnOk result ((policy : PolicyView) (h : List Timed) (slices : ℕ → List (List ℕ)) (lane : List (List ℕ)) → Holds policy h slices lane desk.old → Holds policy h (with_waiting slot [] slices) lane desk.new) }
-    ensures counted { Counted result (T.faults teller.old) (T.faults teller.new) }
-{
-    while let Some(message) = next_of_slice(desk, slot) {
-        teller.tell(place, Said::To(slot, name, message.as_slice()))?;
+    /// A line for each message that waits for the slice at a slot, which has this name.
+    fn drain_slice(&mut self, desk: &mut Desk, slot: u8, name: &str) -> Result<(), ReportFault>
+        ensures { (scene : Scene) (h : List Timed) (slices : ℕ → List (List ℕ)) (lane : List (List ℕ)) → IsPlaying scene self.old → Holds scene.policy h slices lane desk.old
+            → HasTold T.Tells scene (Holds scene.policy h (with_waiting slot [] slices) lane desk.new) result (slice_told scene.place slot name.now (slices slot)) self.old self.new }
+    {
+        while let Some(message) = next_of_slice(desk, slot) {
+            self.say(Said::To(slot, name, message.as_slice()))?;
+        }
+        Ok(())
     }
-    Ok(())
-}
 
-/// A line for each message that waits for a slice, by slot.
-pub(crate) fn drain_slices<T: Teller>(
-    teller: &mut T,
-    desk: &mut Desk,
-    place: Place,
-    policy: &Policy,
-) -> Result<(), ReportFault>
-    ensures writes { (h : List Timed) (slices : ℕ → List (List ℕ)) (lane : List (List ℕ)) → Holds policy.now h slices lane desk.old → Tell T.Tells result (told_by_slot (place_of place) slices 0 policy.now.slices) teller.old teller.new }
-    ensures empties { OnOk result ((h : List Timed) (slices : ℕ → List (List ℕ)) (lane : List (List ℕ)) → Holds policy.now h slices lane desk.old → Holds policy.now h nothing lane desk.new) }
-    ensures counted { Counted result (T.faults teller.old) (T.faults teller.new) }
-{
-    for (slot, slice) in policy.slices().iter().enumerate() {
-        drain_slice(teller, desk, place, slot as u8, slice.name.as_str())?;
+    /// A line for each message that waits for a slice, by slot.
+    pub(crate) fn drain_slices(&mut self, desk: &mut Desk) -> Result<(), ReportFault>
+        ensures { (scene : Scene) (h : List Timed) (slices : ℕ → List (List ℕ)) (lane : List (List ℕ)) → IsPlaying scene self.old → Holds scene.policy h slices lane desk.old
+            → HasTold T.Tells scene (Holds scene.policy h nothing lane desk.new) result (told_by_slot scene.place slices 0 scene.policy.slices) self.old self.new }
+    {
+        let policy = self.policy;
+        for (slot, slice) in policy.slices().iter().enumerate() {
+            self.drain_slice(desk, slot as u8, slice.name.as_str())?;
+        }
+        Ok(())
     }
-    Ok(())
 }

@@ -7,6 +7,7 @@ mod drain;
 mod fault;
 mod line;
 mod play;
+mod player;
 mod run;
 mod streams;
 mod summary;

@@ -125,11 +125,9 @@ pub(crate) struct Writer<'a, K: Sink> {
 impl<'a, K: Sink> Teller for Writer<'a, K> {
     ghost use Rattle.std.specs.Prelude.{◌≡◌};
     ghost use Rattle.fv_report.specs.Telling.{line_text};
-    ghost use Rattle.fv_report.specs.Writing.{WroteLine};
+    ghost use Rattle.fv_report.specs.Writing.{Wrote, Counted};
 
-    ghost Tells = { λ old line whole new. (new.out.ghost_name ≡ old.out.ghost_name) × WroteLine whole (line_text line) (K.contents old.out.now) (K.contents new.out.now) };
-
-    ghost faults = { λ writer. K.faults writer.out.now };
+    ghost Tells = { λ old line outcome new. (new.out.ghost_name ≡ old.out.ghost_name) × Wrote outcome (line_text line) (K.contents old.out.now) (K.contents new.out.now) × Counted outcome (K.faults old.out.now) (K.faults new.out.now) };
 
     fn tell(&mut self, place: Place, said: Said<'_>) -> Result<(), ReportFault> {
         if self.line.make(place, said).is_err() {

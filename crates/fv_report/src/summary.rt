@@ -11,7 +11,7 @@ ghost use Rattle.fv_report.specs.Writing.{Wrote, Counted};
 use crate::counter::{Count, Counter};
 use crate::fault::ReportFault;
 use crate::line::put;
-use crate::walk::tell_file;
+use crate::player::Player;
 use flowspace::Policy;
 use fv_base::Sink;
 use itoa::Buffer;
@@ -78,8 +78,9 @@ pub fn summarise<K: Sink>(
     ensures writes { (items : List Item) → read_items (length policy.now.slices) bytes.now ≡ Ok items → Wrote result (summary policy.now (told_in bytes.now items)) (K.contents out.old) (K.contents out.new) }
     ensures counted { Counted result (K.faults out.old) (K.faults out.new) }
 {
-    let mut counter = Counter::new(alloc, policy.slice_count())?;
-    let events = tell_file(alloc, &mut counter, policy, bytes)?;
-    let text = made(alloc, policy, events, &counter)?;
+    let counter = Counter::new(alloc, policy.slice_count())?;
+    let mut player = Player::new(alloc, policy, counter);
+    player.play_file(bytes)?;
+    let text = made(alloc, policy, player.place.number, &player.teller)?;
     put(out, &text)
 }

@@ -1,22 +1,20 @@
 //! One switch of a recording: its desk, and what came on its connections.
 
-ghost use Rattle.std.specs.Prelude.{◌≡◌, ◌<◌, true, List, [], ◌∷◌, length, Some, IfOk};
+ghost use Rattle.std.specs.Prelude.{ℕ, ◌≡◌, ◌<◌, true, List, [], ◌∷◌, length, Some, IfOk, OnOk};
 ghost use Rattle.flowspace.specs.Policies.{PolicyView};
-ghost use Rattle.recording.specs.Recordings.{Told, switch_bytes, slice_bytes};
+ghost use Rattle.recording.specs.Recordings.{Told};
 ghost use Rattle.answer_bounds.specs.Bounds.{IsFramed};
 ghost use Rattle.desk_words.specs.declared.event.Timed.{Timed};
 ghost use Rattle.desk_words.specs.Recorded.{told_by, happenings};
 ghost use Rattle.fv_report.specs.Plays.{happens};
-ghost use Rattle.fv_report.specs.Writing.{Counted};
-ghost use Rattle.fv_report.specs.Switches.{IsFreshSwitch, IsRecord, IsTurn, Readies, PlaysRecord, PlaysAt, Speaks};
+ghost use Rattle.fv_report.specs.Switches.{IsFreshSwitch, SwitchStands, IsFound, IsRecord, IsTurn, Readies, told_from, PlaysRecord, PlaysAt};
 
 use crate::fault::ReportFault;
-use crate::play::{Came, hear_bytes, play};
+use crate::player::Player;
 use crate::streams::{Streams, restart};
-use crate::teller::{Place, Teller};
+use crate::teller::Teller;
 use flowspace::Policy;
-use of10_ctl::Framer;
-use proxy_core::{Desk, Dest, Event, Timed};
+use proxy_core::{Desk, Dest, Event};
 use recording::{Item, SLICE_BYTES, SLICE_UP, SWITCH_BYTES, SWITCH_DOWN, SWITCH_UP};
 use std::alloc::{AllocError, Global};
 
@@ -38,6 +36,17 @@ impl Switch {
         })
     }
 
+    /// Before a record, where there were records before it: where it comes up, all begins anew.
+    fn renew(&mut self, alloc: Global, policy: &Policy, item: &Item) -> Result<(), AllocError>
+        ensures { OnOk result ((bytes : List ℕ) (before : List Told) → SwitchStands policy.now item.now.switch before self.old → IsFound policy.now (told_by item.now bytes) before self.new) }
+    {
+        if item.kind != SWITCH_UP {
+            return Ok(());
+        }
+        *self = Switch::new(alloc, policy)?;
+        Ok(())
+    }
+
     /// Before the event of a record that carries no bytes: where a slice's controller connects, its stream
     /// begins anew.
     fn ready(&mut self, alloc: Global, item: &Item)
@@ -47,17 +56,6 @@ impl Switch {
         if item.kind == SLICE_UP {
             restart(alloc, &mut self.streams.slices, item.slot);
         }
-    }
-}
-
-/// Where the lines of an event of a record belong.
-fn place_of(events: u64, item: &Item) -> Place
-    ensures number { result.number ≡ events }
-    ensures switch { result.switch ≡ item.now.switch }
-{
-    Place {
-        number: events,
-        switch: item.switch,
     }
 }
 
@@ -76,146 +74,70 @@ fn event_of(item: &Item) -> Event
     }
 }
 
-/// A connection begins or ends. A switch that comes up is fresh.
-fn connection_turns<T: Teller>(
-    alloc: Global,
-    teller: &mut T,
-    policy: &Policy,
-    events: u64,
-    switch: &mut Switch,
-    item: &Item,
-) -> Result<u64, ReportFault>
-    requires kind { IsTurn item.now.kind }
-    ensures plays { PlaysRecord T.Tells policy.now (told_by item.now []) events result teller.old teller.new switch.old switch.new }
-    ensures counted { Counted result (T.faults teller.old) (T.faults teller.new) }
-{
-    switch.ready(alloc, item);
-    let timed = Timed {
-        event: event_of(item),
-        moment: item.moment,
-    };
-    let place = place_of(events, item);
-    let later = play(alloc, teller, &mut switch.desk, policy, place, timed)?;
-    Ok(later.number)
-}
-
-/// Bytes of a connection.
-fn connection_speaks<T: Teller>(
-    alloc: Global,
-    teller: &mut T,
-    policy: &Policy,
-    events: u64,
-    desk: &mut Desk,
-    from: Dest,
-    framer: &mut Framer,
-    item: &Item,
-    bytes: &[u8],
-) -> Result<u64, ReportFault>
-    ensures speaks { Speaks T.Tells policy.now from item.now bytes.now events result teller.old teller.new desk.old desk.new framer.old framer.new }
-    ensures counted { Counted result (T.faults teller.old) (T.faults teller.new) }
-{
-    let place = place_of(events, item);
-    let came = Came {
-        from,
-        moment: item.moment,
-    };
-    let later = hear_bytes(alloc, teller, desk, policy, place, came, framer, bytes)?;
-    Ok(later.number)
-}
-
-/// Bytes of the switch.
-fn switch_speaks<T: Teller>(
-    alloc: Global,
-    teller: &mut T,
-    policy: &Policy,
-    events: u64,
-    switch: &mut Switch,
-    item: &Item,
-    bytes: &[u8],
-) -> Result<u64, ReportFault>
-    requires kind { item.now.kind ≡ switch_bytes }
-    requires slot { item.now.slot ≡ 0 }
-    ensures plays { PlaysRecord T.Tells policy.now (told_by item.now bytes.now) events result teller.old teller.new switch.old switch.new }
-    ensures counted { Counted result (T.faults teller.old) (T.faults teller.new) }
-{
-    let Switch { desk, streams } = switch;
-    let framer = &mut streams.switch;
-    connection_speaks(
-        alloc,
-        teller,
-        policy,
-        events,
-        desk,
-        Dest::Switch,
-        framer,
-        item,
-        bytes,
-    )
-}
-
-/// Bytes of a slice's controller.
-fn slice_speaks<T: Teller>(
-    alloc: Global,
-    teller: &mut T,
-    policy: &Policy,
-    events: u64,
-    switch: &mut Switch,
-    item: &Item,
-    bytes: &[u8],
-) -> Result<u64, ReportFault>
-    requires kind { item.now.kind ≡ slice_bytes }
-    requires slot { item.now.slot < length policy.now.slices }
-    ensures plays { PlaysRecord T.Tells policy.now (told_by item.now bytes.now) events result teller.old teller.new switch.old switch.new }
-    ensures counted { Counted result (T.faults teller.old) (T.faults teller.new) }
-{
-    let from = Dest::Slice(item.slot);
-    let Switch { desk, streams } = switch;
-    // Each slot of the policy has a stream.
-    let Some(framer) = streams.slices.get_mut(usize::from(item.slot)) else {
-        return Ok(events);
-    };
-    connection_speaks(
-        alloc, teller, policy, events, desk, from, framer, item, bytes,
-    )
-}
-
-/// Plays a record at its switch, which is a fresh one where the record is the switch's up.
-pub(crate) fn play_record<T: Teller>(
-    alloc: Global,
-    teller: &mut T,
-    policy: &Policy,
-    events: u64,
-    switch: &mut Switch,
-    item: &Item,
-    bytes: &[u8],
-) -> Result<u64, ReportFault>
-    requires item { IsRecord (length policy.now.slices) item.now bytes.now }
-    ensures plays { PlaysRecord T.Tells policy.now (told_by item.now bytes.now) events result teller.old teller.new switch.old switch.new }
-    ensures counted { Counted result (T.faults teller.old) (T.faults teller.new) }
-{
-    match item.kind {
-        SWITCH_BYTES => switch_speaks(alloc, teller, policy, events, switch, item, bytes),
-        SLICE_BYTES => slice_speaks(alloc, teller, policy, events, switch, item, bytes),
-        _ => connection_turns(alloc, teller, policy, events, switch, item),
+impl<T: Teller> Player<'_, T> {
+    /// A connection begins or ends. A switch that comes up is fresh.
+    fn connection_turns(&mut self, switch: &mut Switch, item: &Item) -> Result<(), ReportFault>
+        requires { IsTurn item.now.kind }
+        ensures { PlaysRecord T.Tells (told_by item.now []) result self.old self.new switch.old switch.new }
+    {
+        switch.ready(self.alloc, item);
+        self.play(&mut switch.desk, event_of(item))
     }
-}
 
-/// Plays a record at a switch of which there were records before: where it comes up, all begins anew.
-pub(crate) fn play_again<T: Teller>(
-    alloc: Global,
-    teller: &mut T,
-    policy: &Policy,
-    events: u64,
-    switch: &mut Switch,
-    item: &Item,
-    bytes: &[u8],
-) -> Result<u64, ReportFault>
-    requires item { IsRecord (length policy.now.slices) item.now bytes.now }
-    ensures plays { PlaysAt T.Tells policy.now (told_by item.now bytes.now) events result teller.old teller.new (Some switch.old) (Some switch.new) }
-    ensures counted { Counted result (T.faults teller.old) (T.faults teller.new) }
-{
-    if item.kind == SWITCH_UP {
-        *switch = Switch::new(alloc, policy)?;
+    /// Bytes of the switch.
+    fn switch_speaks(&mut self, switch: &mut Switch, bytes: &[u8]) -> Result<(), ReportFault>
+        ensures { (number moment : ℕ) → PlaysRecord T.Tells (told_from Dest.Switch number moment bytes.now) result self.old self.new switch.old switch.new }
+    {
+        let Switch { desk, streams } = switch;
+        self.hear_bytes(desk, Dest::Switch, &mut streams.switch, bytes)
     }
-    play_record(alloc, teller, policy, events, switch, item, bytes)
+
+    /// Bytes of the controller of the slice at a slot.
+    fn slice_speaks(
+        &mut self,
+        switch: &mut Switch,
+        slot: u8,
+        bytes: &[u8],
+    ) -> Result<(), ReportFault>
+        requires { slot < length self.old.policy.now.slices }
+        ensures { (number moment : ℕ) → PlaysRecord T.Tells (told_from (Dest.Slice slot) number moment bytes.now) result self.old self.new switch.old switch.new }
+    {
+        let Switch { desk, streams } = switch;
+        // Each slot of the policy has a stream.
+        let Some(framer) = streams.slices.get_mut(usize::from(slot)) else {
+            return Ok(());
+        };
+        self.hear_bytes(desk, Dest::Slice(slot), framer, bytes)
+    }
+
+    /// Plays a record at its switch, which is a fresh one where the record is the switch's up.
+    pub(crate) fn play_record(
+        &mut self,
+        switch: &mut Switch,
+        item: &Item,
+        bytes: &[u8],
+    ) -> Result<(), ReportFault>
+        requires { IsRecord (length self.old.policy.now.slices) item.now bytes.now }
+        ensures { PlaysRecord T.Tells (told_by item.now bytes.now) result self.old self.new switch.old switch.new }
+    {
+        match item.kind {
+            SWITCH_BYTES => self.switch_speaks(switch, bytes),
+            SLICE_BYTES => self.slice_speaks(switch, item.slot, bytes),
+            _ => self.connection_turns(switch, item),
+        }
+    }
+
+    /// Plays a record at a switch of which there were records before: where it comes up, all begins anew.
+    pub(crate) fn play_again(
+        &mut self,
+        switch: &mut Switch,
+        item: &Item,
+        bytes: &[u8],
+    ) -> Result<(), ReportFault>
+        requires { IsRecord (length self.old.policy.now.slices) item.now bytes.now }
+        ensures { PlaysAt T.Tells (told_by item.now bytes.now) result self.old self.new (Some switch.old) (Some switch.new) }
+    {
+        switch.renew(self.alloc, self.policy, item)?;
+        self.play_record(switch, item, bytes)
+    }
 }

@@ -1,8 +1,5 @@
 //! What is told of a recording, and who hears it.
 
-ghost use Rattle.std.specs.Prelude.{ℕ, ◌≡◌, Bool, is_ok};
-ghost use Rattle.fv_report.specs.Writing.{Counted};
-
 use crate::fault::ReportFault;
 
 /// Where a line belongs: the number of its event, from 0 over the whole recording, and the event's switch.
@@ -27,19 +24,13 @@ pub(crate) enum Said<'a> {
 
 /// Whoever hears what is told.
 pub(crate) trait Teller: Drop {
-    ghost use Rattle.std.specs.Prelude.{ℕ, Bool, is_ok};
-    ghost use Rattle.fv_report.specs.Telling.{Line};
+    ghost use Rattle.fv_report.specs.Telling.{Line, Outcome};
     ghost use Rattle.fv_report.specs.Lines.{line_of};
-    ghost use Rattle.fv_report.specs.Writing.{Counted};
 
-    /// From one state to another by a line that was told whole, or that wasn't.
-    ghost Tells: { Self → Line → Bool → Self → Type 0 };
-
-    /// How often the outside has failed.
-    ghost faults: { Self → ℕ };
+    /// From one state to another by a line that was told whole, or that a fault broke off.
+    ghost Tells: { Self → Line → Outcome → Self → Type 0 };
 
     /// Tells one line.
     fn tell(&mut self, place: Place, said: Said<'_>) -> Result<(), ReportFault>
-        ensures tells { Tells self.old (line_of place said.entry) (is_ok result) self.new }
-        ensures counted { Counted result (faults self.old) (faults self.new) };
+        ensures { Tells self.old (line_of place said.entry) result self.new };
 }

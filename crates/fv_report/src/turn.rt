@@ -1,6 +1,6 @@
 //! One event at a desk, and its lines.
 
-ghost use Rattle.std.specs.Prelude.{ℕ, ◌≡◌, List, Ok, OnOk, IfOk, IfErr};
+ghost use Rattle.std.specs.Prelude.{ℕ, ◌≡◌, List, Ok, IfOk, IfErr};
 ghost use Rattle.flowspace.specs.Policies.{PolicyView};
 ghost use Rattle.desk_words.specs.declared.event.Timed.{Timed};
 ghost use Rattle.answer_bounds.specs.Bounds.{IsFramed, AreFramed};
@@ -8,32 +8,29 @@ ghost use Rattle.desk_words.specs.Openings.{phase_of};
 ghost use Rattle.desk_words.specs.Histories.{is_slice_up};
 ghost use Rattle.desk_words.specs.Verdicts.{is_ended, verdict};
 ghost use Rattle.desk_words.specs.Operations.{takes_in};
-ghost use Rattle.desk_words.specs.Recorded.{next_of};
+ghost use Rattle.desk_words.specs.Recorded.{timed_at, next_of};
 ghost use Rattle.desk_words.specs.Reports.{name_at, speaker};
-ghost use Rattle.fv_report.specs.Telling.{Tell, closing_told, closed_told, state_told, event_told, end_told, told_parts};
-ghost use Rattle.fv_report.specs.Lines.{place_of};
-ghost use Rattle.fv_report.specs.Writing.{Counted};
+ghost use Rattle.fv_report.specs.Telling.{closing_told, closed_told, state_told, event_told, end_told, told_parts};
 ghost use Rattle.fv_report.specs.Holding.{Holds, IsQuiet, After};
+ghost use Rattle.fv_report.specs.Players.{Scene, IsPlaying, HasTold};
 
-use crate::drain::{drain_lane, drain_slices};
 use crate::fault::ReportFault;
-use crate::teller::{Place, Said, Teller};
+use crate::player::Player;
+use crate::teller::{Said, Teller};
 use flowspace::Policy;
 use proxy_core::{Desk, Event, Timed, Verdict};
 use std::alloc::Global;
 
 /// Whether the slice at a slot is up, at a desk at which nothing waits.
-pub(crate) fn is_up(desk: &mut Desk, slot: u8) -> bool
-    ensures answer { (policy : PolicyView) (h : List Timed) → IsQuiet policy h desk.old → result ≡ is_slice_up policy slot h }
-    ensures same { (policy : PolicyView) (h : List Timed) → IsQuiet policy h desk.old → IsQuiet policy h desk.new }
+pub(crate) fn is_up(desk: &Desk, slot: u8) -> bool
+    ensures { (policy : PolicyView) (h : List Timed) → IsQuiet policy h desk.now → result ≡ is_slice_up policy slot h }
 {
     desk.is_up(slot)
 }
 
 /// Whether the switch's connection has ended, at a desk at which nothing waits.
-pub(crate) fn has_ended(desk: &mut Desk) -> bool
-    ensures answer { (policy : PolicyView) (h : List Timed) → IsQuiet policy h desk.old → result ≡ is_ended (phase_of h) }
-    ensures same { (policy : PolicyView) (h : List Timed) → IsQuiet policy h desk.old → IsQuiet policy h desk.new }
+pub(crate) fn has_ended(desk: &Desk) -> bool
+    ensures { (policy : PolicyView) (h : List Timed) → IsQuiet policy h desk.now → result ≡ is_ended (phase_of h) }
 {
     desk.has_ended()
 }
@@ -70,109 +67,86 @@ fn name_of(policy: &Policy, slot: u8) -> &str
     }
 }
 
-/// The line of a connection that is closed, if it is.
-fn put_close<T: Teller>(
-    teller: &mut T,
-    policy: &Policy,
-    place: Place,
-    slot: u8,
-    closed: bool,
-) -> Result<(), ReportFault>
-    ensures writes { Tell T.Tells result (closed_told policy.now (place_of place) slot closed) teller.old teller.new }
-    ensures counted { Counted result (T.faults teller.old) (T.faults teller.new) }
-{
-    if !closed {
-        return Ok(());
+impl<T: Teller> Player<'_, T> {
+    /// The line of a connection that is closed, if it is.
+    fn put_close(&mut self, slot: u8, closed: bool) -> Result<(), ReportFault>
+        ensures { (scene : Scene) → IsPlaying scene self.old → HasTold T.Tells scene (Unit {0}) result (closed_told scene.policy scene.place slot closed) self.old self.new }
+    {
+        if !closed {
+            return Ok(());
+        }
+        let name = name_of(self.policy, slot);
+        self.say(Said::Close(name))
     }
-    teller.tell(place, Said::Close(name_of(policy, slot)))
-}
 
-/// The line of the end of the switch's connection, where it has ended.
-fn put_end<T: Teller>(teller: &mut T, desk: &mut Desk, place: Place) -> Result<(), ReportFault>
-    ensures writes { (policy : PolicyView) (h : List Timed) → IsQuiet policy h desk.old → Tell T.Tells result (end_told (place_of place) h) teller.old teller.new }
-    ensures same { (policy : PolicyView) (h : List Timed) → IsQuiet policy h desk.old → IsQuiet policy h desk.new }
-    ensures counted { Counted result (T.faults teller.old) (T.faults teller.new) }
-{
-    if !has_ended(desk) {
-        return Ok(());
+    /// The line of the end of the switch's connection, where it has ended.
+    fn put_end(&mut self, desk: &Desk) -> Result<(), ReportFault>
+        ensures { (scene : Scene) (h : List Timed) → IsPlaying scene self.old → IsQuiet scene.policy h desk.now → HasTold T.Tells scene (Unit {0}) result (end_told scene.place h) self.old self.new }
+    {
+        if !has_ended(desk) {
+            return Ok(());
+        }
+        self.say(Said::Down)
     }
-    teller.tell(place, Said::Down)
-}
 
-/// Where a slice spoke, the line of its connection if that is closed; else the line of the switch's end.
-fn put_state<T: Teller>(
-    teller: &mut T,
-    desk: &mut Desk,
-    policy: &Policy,
-    place: Place,
-    speaker: Option<u8>,
-    closed: bool,
-) -> Result<(), ReportFault>
-    ensures writes { (h : List Timed) → IsQuiet policy.now h desk.old → Tell T.Tells result (state_told policy.now (place_of place) h speaker closed) teller.old teller.new }
-    ensures same { (h : List Timed) → IsQuiet policy.now h desk.old → IsQuiet policy.now h desk.new }
-    ensures counted { Counted result (T.faults teller.old) (T.faults teller.new) }
-{
-    match speaker {
-        Some(slot) => put_close(teller, policy, place, slot, closed),
-        None => put_end(teller, desk, place),
+    /// Where a slice spoke, the line of its connection if that is closed; else the line of the switch's end.
+    fn put_state(
+        &mut self,
+        desk: &Desk,
+        speaker: Option<u8>,
+        closed: bool,
+    ) -> Result<(), ReportFault>
+        ensures { (scene : Scene) (h : List Timed) → IsPlaying scene self.old → IsQuiet scene.policy h desk.now
+            → HasTold T.Tells scene (Unit {0}) result (state_told scene.policy scene.place h speaker closed) self.old self.new }
+    {
+        match speaker {
+            Some(slot) => self.put_close(slot, closed),
+            None => self.put_end(desk),
+        }
     }
-}
 
-/// The lines of an event that was taken in: of its messages, and of a connection that is closed or of the
-/// switch's end.
-fn tell<T: Teller>(
-    teller: &mut T,
-    desk: &mut Desk,
-    policy: &Policy,
-    place: Place,
-    speaker: Option<u8>,
-    closed: bool,
-) -> Result<(), ReportFault>
-    ensures writes { (h : List Timed) (slices : ℕ → List (List ℕ)) (lane : List (List ℕ)) → Holds policy.now h slices lane desk.old → Tell T.Tells result (told_parts policy.now (place_of place) h slices lane speaker closed) teller.old teller.new }
-    ensures quiet { OnOk result ((h : List Timed) (slices : ℕ → List (List ℕ)) (lane : List (List ℕ)) → Holds policy.now h slices lane desk.old → IsQuiet policy.now h desk.new) }
-    ensures counted { Counted result (T.faults teller.old) (T.faults teller.new) }
-{
-    drain_lane(teller, desk, place)?;
-    drain_slices(teller, desk, place, policy)?;
-    put_state(teller, desk, policy, place, speaker, closed)
-}
+    /// The lines of an event that was taken in: of its messages, and of a connection that is closed or of the
+    /// switch's end.
+    fn put_taken(
+        &mut self,
+        desk: &mut Desk,
+        speaker: Option<u8>,
+        closed: bool,
+    ) -> Result<(), ReportFault>
+        ensures { (scene : Scene) (h : List Timed) (slices : ℕ → List (List ℕ)) (lane : List (List ℕ)) → IsPlaying scene self.old → Holds scene.policy h slices lane desk.old
+            → HasTold T.Tells scene (IsQuiet scene.policy h desk.new) result (told_parts scene.policy scene.place h slices lane speaker closed) self.old self.new }
+    {
+        self.drain_lane(desk)?;
+        self.drain_slices(desk)?;
+        self.put_state(desk, speaker, closed)
+    }
 
-/// The line of an event that wasn't taken in: nothing comes of it but that the slice that spoke isn't up.
-fn tell_over<T: Teller>(
-    teller: &mut T,
-    desk: &mut Desk,
-    policy: &Policy,
-    place: Place,
-    speaker: Option<u8>,
-) -> Result<(), ReportFault>
-    ensures writes { (h : List Timed) → IsQuiet policy.now h desk.old → Tell T.Tells result (closing_told policy.now (place_of place) h speaker) teller.old teller.new }
-    ensures same { (h : List Timed) → IsQuiet policy.now h desk.old → IsQuiet policy.now h desk.new }
-    ensures counted { Counted result (T.faults teller.old) (T.faults teller.new) }
-{
-    let Some(slot) = speaker else {
-        return Ok(());
-    };
-    let closed = !is_up(desk, slot);
-    put_close(teller, policy, place, slot, closed)
-}
+    /// The line of an event that wasn't taken in: nothing comes of it but that the slice that spoke isn't up.
+    fn put_over(&mut self, desk: &Desk, speaker: Option<u8>) -> Result<(), ReportFault>
+        ensures { (scene : Scene) (h : List Timed) → IsPlaying scene self.old → IsQuiet scene.policy h desk.now
+            → HasTold T.Tells scene (Unit {0}) result (closing_told scene.policy scene.place h speaker) self.old self.new }
+    {
+        let Some(slot) = speaker else {
+            return Ok(());
+        };
+        let closed = !is_up(desk, slot);
+        self.put_close(slot, closed)
+    }
 
-/// One event at a desk at which nothing waits, and all its lines.
-pub(crate) fn turn<T: Teller>(
-    alloc: Global,
-    teller: &mut T,
-    desk: &mut Desk,
-    policy: &Policy,
-    place: Place,
-    timed: Timed,
-) -> Result<(), ReportFault>
-    ensures writes { (h : List Timed) → IsQuiet policy.now h desk.old → AreFramed h → IsFramed timed.event → Tell T.Tells result (event_told policy.now (place_of place) h timed) teller.old teller.new }
-    ensures quiet { OnOk result ((h : List Timed) → IsQuiet policy.now h desk.old → AreFramed h → IsFramed timed.event → IsQuiet policy.now (next_of h timed) desk.new) }
-    ensures counted { Counted result (T.faults teller.old) (T.faults teller.new) }
-{
-    let speaker = speaker(&timed.event);
-    match step(alloc, desk, timed)? {
-        Verdict::Go => tell(teller, desk, policy, place, speaker, false),
-        Verdict::Close => tell(teller, desk, policy, place, speaker, true),
-        Verdict::Ended => tell_over(teller, desk, policy, place, speaker),
+    /// One event at a desk at which nothing waits, and all its lines.
+    pub(crate) fn turn(&mut self, desk: &mut Desk, event: Event) -> Result<(), ReportFault>
+        ensures { (scene : Scene) (h : List Timed) → IsPlaying scene self.old → IsQuiet scene.policy h desk.old → AreFramed h → IsFramed event
+            → HasTold T.Tells scene (IsQuiet scene.policy (next_of h (timed_at scene.moment event)) desk.new) result (event_told scene.policy scene.place h (timed_at scene.moment event)) self.old self.new }
+    {
+        let speaker = speaker(&event);
+        let timed = Timed {
+            event,
+            moment: self.moment,
+        };
+        match step(self.alloc, desk, timed)? {
+            Verdict::Go => self.put_taken(desk, speaker, false),
+            Verdict::Close => self.put_taken(desk, speaker, true),
+            Verdict::Ended => self.put_over(desk, speaker),
+        }
     }
 }

@@ -1,20 +1,17 @@
 //! A recording that is accepted, played record by record as its file is read.
 
-ghost use Rattle.std.specs.Prelude.{◌≡◌, ◌+◌, ◌≤◌, List, [], length, Ok, IfOk};
+ghost use Rattle.std.specs.Prelude.{◌≡◌, ◌+◌, ◌≤◌, List, length, Ok};
 ghost use Rattle.recording.specs.declared.item.Item.{Item};
 ghost use Rattle.recording.specs.Recordings.{item_at, read_items};
 ghost use Rattle.desk_words.specs.Recorded.{told_in};
-ghost use Rattle.summary_words.specs.Summaries.{event_count};
-ghost use Rattle.fv_report.specs.Writing.{Counted};
-ghost use Rattle.fv_report.specs.Telling.{Tell, all_lines};
+ghost use Rattle.fv_report.specs.Players.{TellsAll};
 
 use crate::fault::ReportFault;
-use crate::run::{no_switches, play_item};
+use crate::player::Player;
+use crate::run::no_switches;
 use crate::teller::Teller;
-use flowspace::Policy;
 use of10_model::wire::{u8_at, u32_at, u64_at};
 use recording::{Item, MAGIC, RECORD_HEAD};
-use std::alloc::Global;
 
 /// The record whose head stands at a place of the file.
 #[tactic(auto, unfolding(recording::specs::Recordings::item_at))]
@@ -32,26 +29,20 @@ fn record_at(bytes: &[u8], at: usize) -> Item
     }
 }
 
-/// Tells all that the records of an accepted file make happen, and answers how many events there were. It
-/// makes no list of the records.
-pub(crate) fn tell_file<T: Teller>(
-    alloc: Global,
-    teller: &mut T,
-    policy: &Policy,
-    bytes: &[u8],
-) -> Result<u64, ReportFault>
-    requires { (items : List Item) × (read_items (length policy.now.slices) bytes.now ≡ Ok items) }
-    ensures tells { (items : List Item) → read_items (length policy.now.slices) bytes.now ≡ Ok items → Tell T.Tells result (all_lines policy.now (told_in bytes.now items)) teller.old teller.new }
-    ensures count { (items : List Item) → read_items (length policy.now.slices) bytes.now ≡ Ok items → IfOk result (λ events. events ≡ event_count policy.now (told_in bytes.now items)) }
-    ensures counted { Counted result (T.faults teller.old) (T.faults teller.new) }
-{
-    let mut switches = no_switches(alloc)?;
-    let mut events = 0;
-    let mut at = MAGIC.len();
-    while at < bytes.len() {
-        let item = record_at(bytes, at);
-        events = play_item(alloc, teller, policy, events, &mut switches, bytes, &item)?;
-        at = item.from + item.size;
+impl<T: Teller> Player<'_, T> {
+    /// Plays all records of an accepted file. It makes no list of the records.
+    pub(crate) fn play_file(&mut self, file: &[u8]) -> Result<(), ReportFault>
+        requires items { (items : List Item) × (read_items (length self.old.policy.now.slices) file.now ≡ Ok items) }
+        requires first { self.old.place.number ≡ 0 }
+        ensures { (items : List Item) → read_items (length self.old.policy.now.slices) file.now ≡ Ok items → TellsAll T.Tells self.old.policy.now (told_in file.now items) result self.old self.new }
+    {
+        let mut switches = no_switches(self.alloc)?;
+        let mut at = MAGIC.len();
+        while at < file.len() {
+            let item = record_at(file, at);
+            self.play_item(&mut switches, file, &item)?;
+            at = item.from + item.size;
+        }
+        Ok(())
     }
-    Ok(events)
 }

@@ -3,5 +3,5 @@ use Rattle.desk_words.specs.declared.answer.Dest.{Dest}
 use Rattle.fv_report.specs.Plays.{event_from, happens}
 use Rattle.fv_report.proofs.play.happens.Goals as goal
 
-pub returns-in-Switch-clause-answer : goal.returns-in-Switch-clause-answer
-returns-in-Switch-clause-answer c = λ p h message quiet. ap not (c.has_ended.ensures.answer p h quiet) ∙ ap (λ (from : Dest). happens p h (event_from from message)) (sym c.in-Switch.is)
+pub returns-in-Switch : goal.returns-in-Switch
+returns-in-Switch c = λ p h message quiet. ap not (c.has_ended.ensures p h quiet) ∙ ap (λ (from : Dest). happens p h (event_from from message)) (sym c.in-Switch.is)

@@ -1,5 +1,4 @@
 use Rattle.std.proofs.Common.{sym, subst}
-use Rattle.std.specs.Prelude.{is_ok}
 use Rattle.fv_report.specs.declared.counter.Counter.{Counter}
 use Rattle.fv_report.specs.declared.teller.Said.{Said}
 use Rattle.fv_report.specs.Telling.{Lane, To}
@@ -8,18 +7,18 @@ use Rattle.fv_report.specs.Counting.{CountsLine}
 use Rattle.fv_report.proofs.Counting.{lane_counted, ok_so, told_as}
 use Rattle.fv_report.proofs.counter.CounterTeller.tell.Goals as goal
 
-pub returns-in-Lane-clause-tells : goal.returns-in-Lane-clause-tells
-returns-in-Lane-clause-tells c =
+pub returns-in-Lane : goal.returns-in-Lane
+returns-in-Lane c =
     let old = c.args.self.now in
     let message = c.in-Lane.message.now in
     let new : Counter = record { lane = c.add.new.self; slices = old.slices } in
-    subst (λ (said : Said). CountsLine (saying_of said) (is_ok c.add.result) old new) (sym c.in-Lane.is)
-    (told_as c.add.result (Lane message) old new (ok_so c.add.result c.add.ensures.added (λ added. lane_counted message old c.add.new.self added)))
+    subst (λ (said : Said). CountsLine (saying_of said) c.add.result old new) (sym c.in-Lane.is)
+    (told_as c.add.result (Lane message) old new (ok_so c.add.result c.add.ensures.added (λ added. lane_counted message old c.add.new.self added)) c.add.ensures.memory)
 
-pub returns-in-To-clause-tells : goal.returns-in-To-clause-tells
-returns-in-To-clause-tells c =
+pub returns-in-To : goal.returns-in-To
+returns-in-To c =
     let old = c.args.self.now in
     let new = c.add_at.new.self in
     let name = c.in-To.field-1.now in
-    subst (λ (said : Said). CountsLine (saying_of said) (is_ok c.add_at.result) old new) (sym c.in-To.is)
-    (told_as c.add_at.result (To c.in-To.slot name c.in-To.message.now) old new (ok_so c.add_at.result c.add_at.ensures.added (λ added. added name)))
+    subst (λ (said : Said). CountsLine (saying_of said) c.add_at.result old new) (sym c.in-To.is)
+    (told_as c.add_at.result (To c.in-To.slot name c.in-To.message.now) old new (ok_so c.add_at.result c.add_at.ensures.added (λ added. added name)) c.add_at.ensures.memory)

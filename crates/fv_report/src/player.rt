@@ -1,0 +1,81 @@
+//! Who plays a recording.
+
+ghost use Rattle.std.specs.Prelude.{ℕ, ◌≡◌, ◌≤◌, ◌+◌, ◌^◌, List, [], ◌∷◌, IfErr, OnErr};
+ghost use Rattle.desk_words.specs.Recorded.{told_by};
+ghost use Rattle.fv_report.specs.Lines.{saying_of};
+ghost use Rattle.fv_report.specs.Players.{Scene, IsPlaying, later, scene_of, HasTold};
+
+use crate::fault::ReportFault;
+use crate::teller::{Place, Said, Teller};
+use flowspace::Policy;
+use recording::Item;
+use std::alloc::Global;
+
+/// Plays records at the desks of their switches, by a policy, and tells what comes of them.
+#[derive(Drop)]
+pub(crate) struct Player<'a, T: Teller> {
+    /// Who hears it.
+    pub(crate) teller: T,
+    pub(crate) policy: &'a Policy,
+    /// Where the lines of the next event belong. Its number is that of the events so far.
+    pub(crate) place: Place,
+    /// When what is played came.
+    pub(crate) moment: u64,
+    pub(crate) alloc: Global,
+}
+
+impl<'a, T: Teller> Player<'a, T> {
+    /// Nothing was played yet.
+    pub(crate) fn new(alloc: Global, policy: &'a Policy, teller: T) -> Player<'a, T>
+        ensures teller { result.teller ≡ teller }
+        ensures policy { result.policy.now ≡ policy.now }
+        ensures number { result.place.number ≡ 0 }
+    {
+        Player {
+            teller,
+            policy,
+            place: Place {
+                number: 0,
+                switch: 0,
+            },
+            moment: 0,
+            alloc,
+        }
+    }
+
+    /// A record begins: what is played from now on is of its switch and came at its moment.
+    pub(crate) fn begin(&mut self, item: &Item)
+        ensures scene { (bytes : List ℕ) → IsPlaying (scene_of self.old.policy.now self.old.place.number (told_by item.now bytes)) self.new }
+        ensures teller { self.new.teller ≡ self.old.teller }
+    {
+        self.place = Place {
+            number: self.place.number,
+            switch: item.switch,
+        };
+        self.moment = item.moment;
+    }
+
+    /// Tells a line of the event that is played.
+    pub(crate) fn say(&mut self, said: Said<'_>) -> Result<(), ReportFault>
+        ensures { (scene : Scene) → IsPlaying scene self.old → HasTold T.Tells scene (Unit {0}) result (record { place = scene.place; saying = saying_of said.entry } ∷ []) self.old self.new }
+    {
+        self.teller.tell(self.place, said)
+    }
+
+    /// An event was played. A recording has far fewer than 2^64 events.
+    pub(crate) fn count(&mut self) -> Result<(), ReportFault>
+        ensures told { (scene : Scene) → IsPlaying scene self.old → HasTold T.Tells (later 1 scene) (Unit {0}) result [] self.old self.new }
+        ensures full { OnErr result (2 ^ 64 ≤ self.old.place.number + 1) }
+    {
+        match self.place.number.checked_add(1) {
+            Some(number) => {
+                self.place = Place {
+                    number,
+                    switch: self.place.switch,
+                };
+                Ok(())
+            }
+            None => Err(ReportFault::Memory),
+        }
+    }
+}
