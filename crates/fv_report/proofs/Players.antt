@@ -1,5 +1,5 @@
 -- What players told, one stretch of lines after another.
-use Rattle.std.proofs.Common.{◌≡◌, ◌+◌, ℕ, List, [], ◌∷◌, ◌++◌, refl, sym, ap, ◌∙◌, subst, Result, Ok, Err, OnOk, arith}
+use Rattle.std.proofs.Common.{◌≡◌, ◌+◌, ℕ, List, [], ◌∷◌, ◌++◌, refl, ap, ◌∙◌, subst, Result, Ok, Err, arith}
 use Rattle.std.specs.Result.{IsErrAnd}
 use Rattle.flowspace.specs.Policies.{PolicyView}
 use Rattle.recording.specs.Recordings.{Told}
@@ -7,8 +7,6 @@ use Rattle.desk_words.specs.Reports.{Place}
 use Rattle.fv_report.specs.declared.fault.ReportFault.{ReportFault}
 use Rattle.fv_report.specs.declared.fault.ReportFault.TheVariants.{Memory}
 use Rattle.fv_report.specs.declared.player.Player.{Player}
-use Rattle.fv_report.specs.declared.teller.Place as code
-use Rattle.fv_report.specs.Lines.{place_of}
 use Rattle.fv_report.specs.Telling.{Line, Saying, Outcome, Tell}
 use Rattle.fv_report.specs.Players.{Scene, IsPlaying, later, HasTold, TellsAll}
 use Rattle.fv_report.proofs.Writing.{heard_none, heard_part_of_first, tell_line, tell_second, tell_on}

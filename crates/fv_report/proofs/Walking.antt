@@ -1,5 +1,5 @@
 -- Records that are read one after the other, each as it is played.
-use Rattle.std.proofs.Common.{◌≡◌, ◌+◌, ◌-◌, ◌<◌, ◌≤◌, ℕ, zero, suc, Bool, not, ltb, List, [], ◌∷◌, take, length, bytes_eq, Option, Result, Ok, Err, refl, sym, ap, ◌∙◌, subst, arith}
+use Rattle.std.proofs.Common.{◌≡◌, ◌+◌, ◌-◌, ◌<◌, ◌≤◌, ℕ, zero, suc, not, ltb, List, [], ◌∷◌, take, length, bytes_eq, Option, Result, Ok, Err, refl, sym, ap, ◌∙◌, subst, arith}
 use Rattle.std.proofs.lemmas.Bool.{ltb-false, lt-leb, not-false}
 use Rattle.of10_model.specs.Normal.{number_at}
 use Rattle.of10_model.specs.Results.{◌>>=◌}

@@ -1,5 +1,5 @@
 -- Players: what they play, and what they told of it (this proxy's own rule).
-use Rattle.std.specs.Prelude.{ℕ, ◌≡◌, ◌+◌, List, length, Result, OnOk}
+use Rattle.std.specs.Prelude.{ℕ, ◌≡◌, ◌+◌, List, Result, OnOk}
 use Rattle.flowspace.specs.Policies.{PolicyView}
 use Rattle.recording.specs.Recordings.{Told}
 use Rattle.desk_words.specs.Reports.{Place}

@@ -1,4 +1,4 @@
-use Rattle.std.proofs.Common.{[], ◌∷◌}
+use Rattle.std.proofs.Common.{[]}
 use Rattle.desk_words.specs.Recorded.{told_by, history_at}
 use Rattle.fv_report.specs.Players.{scene_of}
 use Rattle.fv_report.proofs.Recorded.{one_played, played_so, switch_after}

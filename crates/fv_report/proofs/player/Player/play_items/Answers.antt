@@ -1,4 +1,4 @@
-use Rattle.std.proofs.Common.{List, drop, ◌+◌, subst, sym, length, arith}
+use Rattle.std.proofs.Common.{List, drop, ◌+◌, subst, arith}
 use Rattle.std.proofs.lemmas.List.{drop_more, drop_all}
 use Rattle.recording.specs.declared.item.Item.{Item}
 use Rattle.desk_words.specs.Recorded.{told_in}

@@ -1,4 +1,4 @@
-use Rattle.std.proofs.Common.{sym, ◌∙◌, Bool, if◌then◌else◌, [], ◌∷◌, subst, refl, Ok}
+use Rattle.std.proofs.Common.{sym, ◌∙◌, Bool, if◌then◌else◌, [], ◌∷◌, subst, Ok}
 use Rattle.fv_report.specs.Telling.{down_line}
 use Rattle.fv_report.specs.Players.{HasTold}
 use Rattle.fv_report.proofs.Players.{told_nothing}

@@ -1,5 +1,5 @@
 use Rattle.std.proofs.Common.{◌++◌, []}
-use Rattle.fv_report.specs.Telling.{lane_told, told_by_slot, state_told, told_parts}
+use Rattle.fv_report.specs.Telling.{lane_told, told_by_slot, state_told}
 use Rattle.fv_report.proofs.Players.{told_second, told_first, told_so}
 use Rattle.fv_report.proofs.player.Player.put_taken.Goals as goal
 

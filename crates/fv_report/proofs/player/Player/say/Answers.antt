@@ -1,4 +1,3 @@
-use Rattle.std.proofs.Common.{refl}
 use Rattle.fv_report.specs.Lines.{place_of, saying_of}
 use Rattle.fv_report.proofs.Players.{told_line}
 use Rattle.fv_report.proofs.player.Player.say.Goals as goal
