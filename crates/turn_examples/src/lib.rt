@@ -4,4 +4,6 @@
 #[cfg(test)]
 mod counter;
 #[cfg(test)]
+mod expectations;
+#[cfg(test)]
 mod tests;

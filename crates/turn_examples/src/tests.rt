@@ -2,6 +2,7 @@ ghost use Rattle.std.specs.Prelude.{IfOk};
 ghost use Rattle.turn_desk.specs.Seats.{IsSeatOf, SameDesk};
 
 use crate::counter::Counter;
+use crate::expectations::{expect, expect_eq};
 use std::alloc::{AllocError, Global};
 use std::sync::Wait;
 use std::test::Fail;
@@ -58,12 +59,12 @@ fn replies_to_two_threads_are_all_numbers_once(rt: HostRuntime) -> Result<(), Fa
     let mut all = replies;
     all.extend_from_slice(&theirs.replies)?;
     all.sort_unstable();
-    assert!(rt; all.iter().copied().eq(1..=2_000u64));
-    assert_eq!(rt; theirs.seat.left(), 0);
+    expect!(rt; all.iter().copied().eq(1..=2_000u64));
+    expect_eq!(rt; theirs.seat.left(), 0);
     desk.join(&mut seat, theirs.seat);
-    assert!(rt; desk.submit(&rt, &mut seat, ()) == Ok(2_001));
+    expect!(rt; desk.submit(&rt, &mut seat, ()) == Ok(2_001));
     let counter = desk.close(seat);
-    assert!(rt; counter.is_some_and(|counter| counter.asked == 2_001));
+    expect!(rt; counter.is_some_and(|counter| counter.asked == 2_001));
     Ok(())
 }
 
@@ -71,9 +72,9 @@ fn replies_to_two_threads_are_all_numbers_once(rt: HostRuntime) -> Result<(), Fa
 fn desk_with_a_seat_that_has_calls_is_not_given_back(rt: HostRuntime) -> Result<(), Fail> {
     let (desk, mut seat) = TurnDesk::new(rt.alloc(), Counter { asked: 0 })?;
     let other = desk.split(&mut seat, 5);
-    assert_eq!(rt; other.left(), 5);
-    assert_eq!(rt; seat.left(), (1 << 63) - 5);
-    assert!(rt; desk.close(seat).is_none());
+    expect_eq!(rt; other.left(), 5);
+    expect_eq!(rt; seat.left(), (1 << 63) - 5);
+    expect!(rt; desk.close(seat).is_none());
     Ok(())
 }
 
@@ -81,10 +82,10 @@ fn desk_with_a_seat_that_has_calls_is_not_given_back(rt: HostRuntime) -> Result<
 fn seat_without_calls_is_spent(rt: HostRuntime) -> Result<(), Fail> {
     let (desk, mut seat) = TurnDesk::new(rt.alloc(), Counter { asked: 0 })?;
     let mut other = desk.split(&mut seat, 0);
-    assert!(rt; desk.submit(&rt, &mut other, ()) == Err(Spent));
-    assert!(rt; desk.submit(&rt, &mut seat, ()) == Ok(1));
+    expect!(rt; desk.submit(&rt, &mut other, ()) == Err(Spent));
+    expect!(rt; desk.submit(&rt, &mut seat, ()) == Ok(1));
     desk.meet(&mut seat, &mut other);
-    assert!(rt; desk.close(other).is_none());
+    expect!(rt; desk.close(other).is_none());
     Ok(())
 }
 
@@ -94,9 +95,9 @@ fn object_is_given_back_once_all_calls_are_made(rt: HostRuntime) -> Result<(), F
     let (desk, mut seat) = TurnDesk::new(alloc, Counter { asked: 0 })?;
     let other = desk.split(&mut seat, 5);
     let mut theirs = ask_all(&rt, alloc, &desk, other, 6)?;
-    assert_eq!(rt; theirs.replies.as_slice(), &[1, 2, 3, 4, 5][..]);
+    expect_eq!(rt; theirs.replies.as_slice(), &[1, 2, 3, 4, 5][..]);
     desk.meet(&mut seat, &mut theirs.seat);
     let counter = desk.close(seat);
-    assert!(rt; counter.is_some_and(|counter| counter.asked == 5));
+    expect!(rt; counter.is_some_and(|counter| counter.asked == 5));
     Ok(())
 }
