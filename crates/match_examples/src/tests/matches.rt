@@ -2,6 +2,7 @@
 
 ghost use Rattle.std.specs.Prelude.{◌≡◌};
 
+use crate::expectations::{expect, expect_eq};
 use of10_match::{Header12, Match};
 use of10_model::wire::{set_u16, set_u32};
 use of10_model::{Pattern, Prefix};
@@ -68,19 +69,19 @@ fn web() -> [u8; 40] {
 
 #[test]
 fn free_matches_have_many_spellings(rt: HostRuntime) {
-    assert_eq!(rt;
+    expect_eq!(rt;
         *Match::decode(&with_word(0x003fffff, 0xab)).pattern(),
         Pattern::ANY,
         "fields under wildcard bits"
     );
-    assert_eq!(rt;
+    expect_eq!(rt;
         *Match::decode(&with_word(0xffffffff, 0)).pattern(),
         Pattern::ANY,
         "bits past the last"
     );
     let mut port_alone = with_word(0x0038207f, 0);
     port_alone[39] = 80;
-    assert_eq!(rt;
+    expect_eq!(rt;
         *Match::decode(&port_alone).pattern(),
         Pattern::ANY,
         "a port without a protocol"
@@ -104,12 +105,8 @@ fn counts_of_ignored_bits_make_prefixes(rt: HostRuntime) {
             ..Pattern::ANY
         };
         let found = Match::decode(&from_source(word, address));
-        assert_eq!(rt; *found.pattern(), expected, "at {word:x}");
-        assert_eq!(rt;
-            found.encode(),
-            from_source(kept_word, value),
-            "at {word:x}"
-        );
+        expect_eq!(rt; *found.pattern(), expected, word);
+        expect_eq!(rt; found.encode(), from_source(kept_word, value), word);
     }
 }
 
@@ -121,19 +118,19 @@ fn fields_with_their_prerequisites_are_kept(rt: HostRuntime) {
         tp_dst: Some(80),
         ..Pattern::ANY
     };
-    assert_eq!(rt; *Match::decode(&web()).pattern(), expected);
+    expect_eq!(rt; *Match::decode(&web()).pattern(), expected);
 
     let tagged = Pattern {
         dl_vlan: Some(0x0505),
         dl_vlan_pcp: Some(5),
         ..Pattern::ANY
     };
-    assert_eq!(rt;
+    expect_eq!(rt;
         *Match::decode(&with_word(0x002ffffd, 0x05)).pattern(),
         tagged,
         "a tag"
     );
-    assert_eq!(rt;
+    expect_eq!(rt;
         *Match::decode(&with_word(0x002ffffd, 0xff)).pattern(),
         Pattern {
             dl_vlan: Some(0xffff),
@@ -141,7 +138,7 @@ fn fields_with_their_prerequisites_are_kept(rt: HostRuntime) {
         },
         "untagged"
     );
-    assert_eq!(rt;
+    expect_eq!(rt;
         *Match::decode(&of_type(0x001fffef, 0x0800, 0xff)).pattern(),
         Pattern {
             dl_type: Some(0x0800),
@@ -168,7 +165,7 @@ fn all_exact_matches_stay_all_exact(rt: HostRuntime) {
         tp_src: Some(0),
         tp_dst: Some(0),
     };
-    assert_eq!(rt;
+    expect_eq!(rt;
         *Match::decode(&of_type(0, 0x88cc, 0x4f)).pattern(),
         expected
     );
@@ -192,7 +189,7 @@ fn headers_are_matched_by_each_constraint(rt: HostRuntime) {
         (upper_half, of_host(0x7fffffff), false),
     ];
     for (m, h, expected) in &cases {
-        assert_eq!(rt; m.matches(h), *expected, "{m:?} at {h:?}");
+        expect_eq!(rt; m.matches(h), *expected, (m, h));
     }
 }
 
@@ -200,28 +197,28 @@ fn headers_are_matched_by_each_constraint(rt: HostRuntime) {
 fn matches_are_written_in_their_one_spelling(rt: HostRuntime) {
     let mut all = [0; 40];
     all[0..4].copy_from_slice(&[0x00, 0x38, 0x20, 0xff]);
-    assert_eq!(rt; Match::all().encode(), all);
+    expect_eq!(rt; Match::all().encode(), all);
     let mut freed = [0x5a; 40];
     freed[0..4].copy_from_slice(&[0x00, 0x3f, 0xff, 0xff]);
-    assert_eq!(rt; Match::decode(&freed).encode(), all);
+    expect_eq!(rt; Match::decode(&freed).encode(), all);
     let mut port_alone = all;
     port_alone[0..4].copy_from_slice(&[0x00, 0x38, 0x20, 0x7f]);
     port_alone[39] = 80;
-    assert_eq!(rt; Match::decode(&port_alone).encode(), all);
-    assert!(rt; !Match::all().is_exact());
+    expect_eq!(rt; Match::decode(&port_alone).encode(), all);
+    expect!(rt; !Match::all().is_exact());
 }
 
 #[test]
 fn an_exact_match_has_its_header_alone(rt: HostRuntime) {
     let header = to_port(80);
     let exact = Match::exact(&header);
-    assert!(rt; exact.is_exact());
-    assert!(rt; exact.matches(&header));
-    assert!(rt;
+    expect!(rt; exact.is_exact());
+    expect!(rt; exact.matches(&header));
+    expect!(rt;
         !exact.matches(&Header12 {
             tp_dst: 81,
             ..header
         })
     );
-    assert_eq!(rt; Match::decode(&exact.encode()), exact);
+    expect_eq!(rt; Match::decode(&exact.encode()), exact);
 }

@@ -1,5 +1,6 @@
 //! The headers of packets, spelled out as bytes, and the marks of probes.
 
+use crate::expectations::expect_eq;
 use frame_header::{header_of, probe_slot, probe_trailer};
 use of10_match::Header12;
 use std::test::*;
@@ -102,11 +103,7 @@ fn short_packets(rt: HostRuntime) {
         (54, ipv4(6, 0x0400, 80)),
     ];
     for (length, want) in table {
-        assert_eq!(rt;
-            header_of(1, front(&IPV4_TCP, length)),
-            want,
-            "of {length} bytes"
-        );
+        expect_eq!(rt; header_of(1, front(&IPV4_TCP, length)), want, length);
     }
 }
 
@@ -117,13 +114,13 @@ fn vlan_tags(rt: HostRuntime) {
         dl_vlan_pcp: 3,
         ..ipv4(6, 0x0400, 80)
     };
-    assert_eq!(rt; header_of(1, &TAGGED), want);
+    expect_eq!(rt; header_of(1, &TAGGED), want);
     // A tag that is cut off is none.
-    assert_eq!(rt; header_of(1, front(&TAGGED, 17)), bare(0));
+    expect_eq!(rt; header_of(1, front(&TAGGED, 17)), bare(0));
     let mut twice = TAGGED;
     twice[16] = 0x81;
     twice[17] = 0x00;
-    assert_eq!(rt;
+    expect_eq!(rt;
         header_of(1, &twice),
         Header12 {
             dl_vlan: 5,
@@ -134,7 +131,7 @@ fn vlan_tags(rt: HostRuntime) {
     let mut length = TAGGED;
     length[16] = 0x00;
     length[17] = 0x28;
-    assert_eq!(rt;
+    expect_eq!(rt;
         header_of(1, &length),
         Header12 {
             dl_vlan: 5,
@@ -146,19 +143,19 @@ fn vlan_tags(rt: HostRuntime) {
 
 #[test]
 fn ieee_802_3(rt: HostRuntime) {
-    assert_eq!(rt; header_of(1, &SNAP), arp());
-    assert_eq!(rt; header_of(1, front(&SNAP, 21)), bare(0x05ff));
+    expect_eq!(rt; header_of(1, &SNAP), arp());
+    expect_eq!(rt; header_of(1, front(&SNAP, 21)), bare(0x05ff));
     let mut other = SNAP;
     other[19] = 1;
-    assert_eq!(rt; header_of(1, &other), bare(0x05ff));
+    expect_eq!(rt; header_of(1, &other), bare(0x05ff));
     // The least type is 0x0600, whatever follows it.
     let mut least = SNAP;
     least[12] = 0x06;
     least[13] = 0x00;
-    assert_eq!(rt; header_of(1, &least), bare(0x0600));
+    expect_eq!(rt; header_of(1, &least), bare(0x0600));
     least[12] = 0x05;
     least[13] = 0xff;
-    assert_eq!(rt; header_of(1, &least), arp());
+    expect_eq!(rt; header_of(1, &least), arp());
 }
 
 #[test]
@@ -169,15 +166,15 @@ fn ipv4_headers(rt: HostRuntime) {
     options[39] = 0x34;
     options[40] = 0x56;
     options[41] = 0x78;
-    assert_eq!(rt; header_of(1, &options), ipv4(6, 0x1234, 0x5678));
+    expect_eq!(rt; header_of(1, &options), ipv4(6, 0x1234, 0x5678));
     // The options are cut off, and with them the ports.
-    assert_eq!(rt; header_of(1, front(&options, 34)), ipv4(6, 0, 0));
+    expect_eq!(rt; header_of(1, front(&options, 34)), ipv4(6, 0, 0));
     let mut too_short = IPV4_TCP;
     too_short[14] = 0x44;
-    assert_eq!(rt; header_of(1, &too_short), bare(0x0800));
+    expect_eq!(rt; header_of(1, &too_short), bare(0x0800));
     let mut service = IPV4_TCP;
     service[15] = 0xff;
-    assert_eq!(rt;
+    expect_eq!(rt;
         header_of(1, &service),
         Header12 {
             nw_tos: 0xfc,
@@ -197,7 +194,7 @@ fn fragments(rt: HostRuntime) {
         let mut packet = IPV4_TCP;
         packet[20] = high;
         packet[21] = low;
-        assert_eq!(rt; header_of(1, &packet), want, "with {high} and {low}");
+        expect_eq!(rt; header_of(1, &packet), want, (high, low));
     }
 }
 
@@ -209,22 +206,18 @@ fn transports(rt: HostRuntime) {
     for (proto, tp_src, tp_dst) in [(17, 0x030a, 80), (1, 3, 10), (47, 0, 0)] {
         let mut packet = ports;
         packet[23] = proto;
-        assert_eq!(rt;
-            header_of(1, &packet),
-            ipv4(proto, tp_src, tp_dst),
-            "of protocol {proto}"
-        );
+        expect_eq!(rt; header_of(1, &packet), ipv4(proto, tp_src, tp_dst), proto);
     }
     let mut icmp = ports;
     icmp[23] = 1;
-    assert_eq!(rt; header_of(1, front(&icmp, 36)), ipv4(1, 3, 10));
-    assert_eq!(rt; header_of(1, front(&icmp, 35)), ipv4(1, 0, 0));
+    expect_eq!(rt; header_of(1, front(&icmp, 36)), ipv4(1, 3, 10));
+    expect_eq!(rt; header_of(1, front(&icmp, 35)), ipv4(1, 0, 0));
 }
 
 #[test]
 fn arp_packets(rt: HostRuntime) {
-    assert_eq!(rt; header_of(1, &ARP), arp());
-    assert_eq!(rt; header_of(1, front(&ARP, 41)), bare(0x0806));
+    expect_eq!(rt; header_of(1, &ARP), arp());
+    expect_eq!(rt; header_of(1, front(&ARP, 41)), bare(0x0806));
 }
 
 // An LLDP packet of 16 bytes, filled to 52, and the trailer of a slot.
@@ -247,9 +240,9 @@ fn probe(slot: u8) -> [u8; 60] {
 
 #[test]
 fn probes(rt: HostRuntime) {
-    assert_eq!(rt; probe_slot(&probe(0)), Some(0));
-    assert_eq!(rt; probe_slot(&probe(1)), Some(1));
-    assert_eq!(rt; probe_trailer(1), [0x46, 0x56, 0x53, 0x4c, 1, 0, 0, 0]);
+    expect_eq!(rt; probe_slot(&probe(0)), Some(0));
+    expect_eq!(rt; probe_slot(&probe(1)), Some(1));
+    expect_eq!(rt; probe_trailer(1), [0x46, 0x56, 0x53, 0x4c, 1, 0, 0, 0]);
     // Another type, another mark, and a last byte that isn't zero.
     for (place, value) in [
         (13, 0xcd),
@@ -261,10 +254,10 @@ fn probes(rt: HostRuntime) {
     ] {
         let mut packet = probe(1);
         packet[place % 60] = value;
-        assert_eq!(rt; probe_slot(&packet), None, "with {value} at {place}");
+        expect_eq!(rt; probe_slot(&packet), None, (value, place));
     }
     // The mark has to end the packet, and eight bytes alone have no type.
-    assert_eq!(rt; probe_slot(front(&probe(1), 59)), None);
-    assert_eq!(rt; probe_slot(front(&probe(1), 7)), None);
-    assert_eq!(rt; probe_slot(&probe_trailer(1)), None);
+    expect_eq!(rt; probe_slot(front(&probe(1), 59)), None);
+    expect_eq!(rt; probe_slot(front(&probe(1), 7)), None);
+    expect_eq!(rt; probe_slot(&probe_trailer(1)), None);
 }

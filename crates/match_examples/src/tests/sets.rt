@@ -7,6 +7,7 @@ mod spelling;
 
 ghost use Rattle.of10_action.specs.Actions.{HasAddress};
 
+use crate::expectations::{expect, expect_eq};
 use covers::{expected, with_vlan};
 use drawn::{Draws, FIRST_HEADER};
 use match_meet::{disjoint, includes, includes_aside, meet, rewrite, rewrite_header};
@@ -35,13 +36,13 @@ fn the_longer_prefix_is_the_meet(rt: HostRuntime) {
     let net = Match::decode(&net_bytes);
     let wide = Match::decode(&spelled(0x003818ef, 0x0a000000));
     let other = Match::decode(&spelled(0x003810ef, 0x0a020000));
-    assert_eq!(rt; meet(&net, &wide), Some(net));
-    assert_eq!(rt; meet(&net, &wide).map(|m| m.encode()), Some(net_bytes));
-    assert_eq!(rt; meet(&wide, &net), Some(net));
-    assert_eq!(rt; meet(&net, &other), None);
-    assert!(rt; disjoint(&net, &other));
-    assert!(rt; includes(&wide, &net));
-    assert!(rt; !includes(&net, &wide));
+    expect_eq!(rt; meet(&net, &wide), Some(net));
+    expect_eq!(rt; meet(&net, &wide).map(|m| m.encode()), Some(net_bytes));
+    expect_eq!(rt; meet(&wide, &net), Some(net));
+    expect_eq!(rt; meet(&net, &other), None);
+    expect!(rt; disjoint(&net, &other));
+    expect!(rt; includes(&wide, &net));
+    expect!(rt; !includes(&net, &wide));
 }
 
 #[test]
@@ -55,9 +56,9 @@ fn in_port_can_be_disregarded(rt: HostRuntime) {
         dl_type: Some(0x0800),
         ..Pattern::ANY
     });
-    assert!(rt; !includes(&at_one, &at_two));
-    assert!(rt; includes_aside(&at_one, &at_two));
-    assert!(rt; !includes_aside(&at_two, &at_one));
+    expect!(rt; !includes(&at_one, &at_two));
+    expect!(rt; includes_aside(&at_one, &at_two));
+    expect!(rt; !includes_aside(&at_two, &at_one));
 }
 
 /// A match of tagged packets of this type and protocol.
@@ -102,28 +103,28 @@ fn cover(before: &Pattern, action: Action) -> Pattern
 #[test]
 fn vlan_actions_change_the_cover(rt: HostRuntime) {
     let vid = Action::SetVlanVid(0x1005);
-    assert_eq!(rt;
+    expect_eq!(rt;
         cover(&untagged(), vid),
         with_vlan(&Pattern::ANY, 5, Some(0))
     );
-    assert_eq!(rt; cover(&one(), vid), with_vlan(&one(), 5, Some(3)));
-    assert_eq!(rt;
+    expect_eq!(rt; cover(&one(), vid), with_vlan(&one(), 5, Some(3)));
+    expect_eq!(rt;
         cover(&Pattern::ANY, vid),
         with_vlan(&Pattern::ANY, 5, None)
     );
 
     let pcp = Action::SetVlanPcp(0x0d);
-    assert_eq!(rt; cover(&Pattern::ANY, pcp), Pattern::ANY);
-    assert_eq!(rt;
+    expect_eq!(rt; cover(&Pattern::ANY, pcp), Pattern::ANY);
+    expect_eq!(rt;
         cover(&untagged(), pcp),
         with_vlan(&Pattern::ANY, 0, Some(5))
     );
-    assert_eq!(rt; cover(&one(), pcp), with_vlan(&one(), 7, Some(5)));
+    expect_eq!(rt; cover(&one(), pcp), with_vlan(&one(), 7, Some(5)));
 
     let strip = Action::StripVlan;
-    assert_eq!(rt; cover(&one(), strip), with_vlan(&one(), 0xffff, Some(0)));
+    expect_eq!(rt; cover(&one(), strip), with_vlan(&one(), 0xffff, Some(0)));
     let tcp = tagged(0x0800, 6);
-    assert_eq!(rt; cover(&tcp, strip), with_vlan(&tcp, 0xffff, None));
+    expect_eq!(rt; cover(&tcp, strip), with_vlan(&tcp, 0xffff, None));
 }
 
 #[test]
@@ -136,8 +137,8 @@ fn address_actions_change_the_cover(rt: HostRuntime) {
         dl_dst: Some(9),
         ..Pattern::ANY
     };
-    assert_eq!(rt; cover(&Pattern::ANY, Action::SetDlSrc(9)), from);
-    assert_eq!(rt; cover(&Pattern::ANY, Action::SetDlDst(9)), to);
+    expect_eq!(rt; cover(&Pattern::ANY, Action::SetDlSrc(9)), from);
+    expect_eq!(rt; cover(&Pattern::ANY, Action::SetDlDst(9)), to);
 
     let address = 0x0a000009;
     let icmp = tagged(0x0800, 1);
@@ -150,10 +151,10 @@ fn address_actions_change_the_cover(rt: HostRuntime) {
         nw_dst: prefix(address, 32),
         ..icmp
     };
-    assert_eq!(rt; cover(&icmp, Action::SetNwSrc(address)), from);
-    assert_eq!(rt; cover(&icmp, Action::SetNwDst(address)), to);
-    assert_eq!(rt; cover(&arp, Action::SetNwSrc(address)), arp);
-    assert_eq!(rt; cover(&arp, Action::SetNwDst(address)), arp);
+    expect_eq!(rt; cover(&icmp, Action::SetNwSrc(address)), from);
+    expect_eq!(rt; cover(&icmp, Action::SetNwDst(address)), to);
+    expect_eq!(rt; cover(&arp, Action::SetNwSrc(address)), arp);
+    expect_eq!(rt; cover(&arp, Action::SetNwDst(address)), arp);
 }
 
 #[test]
@@ -173,13 +174,13 @@ fn service_and_port_actions_change_the_cover(rt: HostRuntime) {
         tp_dst: Some(53),
         ..udp
     };
-    assert_eq!(rt; cover(&udp, Action::SetNwTos(0x17)), service);
-    assert_eq!(rt; cover(&arp, Action::SetNwTos(0x17)), arp);
-    assert_eq!(rt; cover(&udp, Action::SetTpSrc(53)), from);
-    assert_eq!(rt; cover(&udp, Action::SetTpDst(53)), to);
-    assert_eq!(rt; cover(&icmp, Action::SetTpSrc(53)), icmp);
-    assert_eq!(rt; cover(&icmp, Action::SetTpDst(53)), icmp);
-    assert_eq!(rt; cover(&udp, Action::Enqueue { port: 1, queue: 2 }), udp);
+    expect_eq!(rt; cover(&udp, Action::SetNwTos(0x17)), service);
+    expect_eq!(rt; cover(&arp, Action::SetNwTos(0x17)), arp);
+    expect_eq!(rt; cover(&udp, Action::SetTpSrc(53)), from);
+    expect_eq!(rt; cover(&udp, Action::SetTpDst(53)), to);
+    expect_eq!(rt; cover(&icmp, Action::SetTpSrc(53)), icmp);
+    expect_eq!(rt; cover(&icmp, Action::SetTpDst(53)), icmp);
+    expect_eq!(rt; cover(&udp, Action::Enqueue { port: 1, queue: 2 }), udp);
 }
 
 #[test]
@@ -192,16 +193,16 @@ fn headers_are_rewritten(rt: HostRuntime) {
     };
     let vid = Action::SetVlanVid(0x1005);
     let pcp = Action::SetVlanPcp(0x0d);
-    assert_eq!(rt; rewrite_header(&h, &Action::StripVlan), untagged);
-    assert_eq!(rt; rewrite_header(&h, &vid), Header12 { dl_vlan: 5, ..h });
-    assert_eq!(rt;
+    expect_eq!(rt; rewrite_header(&h, &Action::StripVlan), untagged);
+    expect_eq!(rt; rewrite_header(&h, &vid), Header12 { dl_vlan: 5, ..h });
+    expect_eq!(rt;
         rewrite_header(&untagged, &vid),
         Header12 {
             dl_vlan: 5,
             ..untagged
         }
     );
-    assert_eq!(rt;
+    expect_eq!(rt;
         rewrite_header(&untagged, &pcp),
         Header12 {
             dl_vlan: 0,
@@ -220,10 +221,10 @@ fn network_fields_and_ports_are_rewritten_where_they_are(rt: HostRuntime) {
     };
     let from = Header12 { nw_src: 9, ..h };
     let to = Header12 { tp_dst: 9, ..h };
-    assert_eq!(rt; rewrite_header(&h, &Action::SetNwSrc(9)), from);
-    assert_eq!(rt; rewrite_header(&arp, &Action::SetNwSrc(9)), arp);
-    assert_eq!(rt; rewrite_header(&h, &Action::SetTpDst(9)), to);
-    assert_eq!(rt; rewrite_header(&arp, &Action::SetTpDst(9)), arp);
+    expect_eq!(rt; rewrite_header(&h, &Action::SetNwSrc(9)), from);
+    expect_eq!(rt; rewrite_header(&arp, &Action::SetNwSrc(9)), arp);
+    expect_eq!(rt; rewrite_header(&h, &Action::SetTpDst(9)), to);
+    expect_eq!(rt; rewrite_header(&arp, &Action::SetTpDst(9)), arp);
 }
 
 /// Whether what two matches share agrees with plain membership of this header, and of one that is in
@@ -278,10 +279,7 @@ fn sets_and_covers_agree_with_membership(rt: HostRuntime) {
         let b = match_of(&draws.pattern_near(&h));
         h = draws.changed(&h);
         let action = draws.action();
-        assert!(rt; agree(&a, &b, &h), "{a:?} and {b:?} at {h:?}");
-        assert!(rt;
-            is_covered(&a, &action, &h),
-            "{a:?} after {action:?} at {h:?}"
-        );
+        expect!(rt; agree(&a, &b, &h), (a, b, h));
+        expect!(rt; is_covered(&a, &action, &h), (a, action, h));
     }
 }
