@@ -1,5 +1,6 @@
 //! Lists of actions and their bytes.
 
+use crate::expectations::{expect, expect_eq};
 use of10_action::{
     Action, Actions, Bytes, DecodeFault, WireFault, code, decode_list, encode_list, list_size,
 };
@@ -27,8 +28,8 @@ fn is_spelled(alloc: Global, action: Action, bytes: &[u8]) -> Result<bool, Fail>
 
 #[test]
 fn no_bytes_are_no_actions(rt: HostRuntime) -> Result<(), Fail> {
-    assert!(rt; decode_list(rt.alloc(), &[])?.as_slice().is_empty());
-    assert_eq!(rt; list_size(&[]), 0);
+    expect!(rt; decode_list(rt.alloc(), &[])?.as_slice().is_empty());
+    expect_eq!(rt; list_size(&[]), 0);
     Ok(())
 }
 
@@ -39,34 +40,34 @@ fn an_action_is_read(rt: HostRuntime) -> Result<(), Fail> {
         port: 2,
         max_len: 0,
     }];
-    assert_eq!(rt; read.as_slice(), wanted.as_slice());
+    expect_eq!(rt; read.as_slice(), wanted.as_slice());
     Ok(())
 }
 
 #[test]
 fn faults_carry_what_was_found(rt: HostRuntime) {
     let alloc = rt.alloc();
-    assert_eq!(rt;
+    expect_eq!(rt;
         wire_fault(alloc, &[0, 0, 0, 4]),
         Some(WireFault::ActionLength(4))
     );
-    assert_eq!(rt;
+    expect_eq!(rt;
         wire_fault(alloc, &[0, 0]),
         Some(WireFault::ActionLength(0))
     );
-    assert_eq!(rt;
+    expect_eq!(rt;
         wire_fault(alloc, &[0xff, 0xff, 0, 7, 0, 0, 0, 0]),
         Some(WireFault::ActionLength(7))
     );
-    assert_eq!(rt;
+    expect_eq!(rt;
         wire_fault(alloc, &[0xff, 0xff, 0, 8, 0, 0, 0, 0]),
         Some(WireFault::ActionVendor)
     );
-    assert_eq!(rt;
+    expect_eq!(rt;
         wire_fault(alloc, &[0, 12, 0, 8, 0, 0, 0, 0]),
         Some(WireFault::ActionKind(12))
     );
-    assert_eq!(rt;
+    expect_eq!(rt;
         wire_fault(alloc, &[0, 4, 0, 8, 0, 0, 0, 0]),
         Some(WireFault::ActionLength(8))
     );
@@ -76,7 +77,7 @@ fn faults_carry_what_was_found(rt: HostRuntime) {
 fn the_first_fault_is_answered(rt: HostRuntime) {
     // An output to port 1, an action of kind 13, and four bytes.
     let bytes = [0, 0, 0, 8, 0, 1, 0, 0, 0, 13, 0, 8, 0, 0, 0, 0, 0, 0, 0, 8];
-    assert_eq!(rt;
+    expect_eq!(rt;
         wire_fault(rt.alloc(), &bytes),
         Some(WireFault::ActionKind(13))
     );
@@ -84,12 +85,12 @@ fn the_first_fault_is_answered(rt: HostRuntime) {
 
 #[test]
 fn each_fault_has_its_code(rt: HostRuntime) {
-    assert_eq!(rt; code(WireFault::Length(7)), (1, 6));
-    assert_eq!(rt; code(WireFault::StatKind(6)), (1, 2));
-    assert_eq!(rt; code(WireFault::StatVendor), (1, 3));
-    assert_eq!(rt; code(WireFault::ActionKind(12)), (2, 0));
-    assert_eq!(rt; code(WireFault::ActionLength(4)), (2, 1));
-    assert_eq!(rt; code(WireFault::ActionVendor), (2, 2));
+    expect_eq!(rt; code(WireFault::Length(7)), (1, 6));
+    expect_eq!(rt; code(WireFault::StatKind(6)), (1, 2));
+    expect_eq!(rt; code(WireFault::StatVendor), (1, 3));
+    expect_eq!(rt; code(WireFault::ActionKind(12)), (2, 0));
+    expect_eq!(rt; code(WireFault::ActionLength(4)), (2, 1));
+    expect_eq!(rt; code(WireFault::ActionVendor), (2, 2));
 }
 
 /// An action of each kind, and the bytes that spell it.
@@ -133,7 +134,7 @@ const KINDS: [(Action, &[u8]); 12] = [
 #[test]
 fn each_kind_has_its_bytes(rt: HostRuntime) -> Result<(), Fail> {
     for (action, bytes) in KINDS {
-        assert!(rt; is_spelled(rt.alloc(), action, bytes)?, "{action:?}");
+        expect!(rt; is_spelled(rt.alloc(), action, bytes)?, action);
     }
     Ok(())
 }
@@ -151,8 +152,8 @@ fn padding_is_disregarded(rt: HostRuntime) -> Result<(), Fail> {
         },
         Action::SetVlanPcp(7),
     ];
-    assert_eq!(rt; read.as_slice(), wanted.as_slice());
-    assert_eq!(rt; list_size(&wanted), 24);
+    expect_eq!(rt; read.as_slice(), wanted.as_slice());
+    expect_eq!(rt; list_size(&wanted), 24);
     Ok(())
 }
 
@@ -161,20 +162,20 @@ fn encoding_appends(rt: HostRuntime) -> Result<(), Fail> {
     let mut out = Vec::from_slice(rt.alloc(), &[1, 2])?;
     encode_list(&[Action::StripVlan, Action::SetTpSrc(80)], &mut out)?;
     let wanted = [1, 2, 0, 3, 0, 8, 0, 0, 0, 0, 0, 9, 0, 8, 0, 80, 0, 0];
-    assert_eq!(rt; out.as_slice(), wanted.as_slice());
+    expect_eq!(rt; out.as_slice(), wanted.as_slice());
     Ok(())
 }
 
 #[test]
 fn lists_are_kept(rt: HostRuntime) -> Result<(), Fail> {
     let bytes = Bytes::of(rt.alloc(), &[1, 2, 3])?;
-    assert_eq!(rt; bytes.as_slice(), [1, 2, 3].as_slice());
+    expect_eq!(rt; bytes.as_slice(), [1, 2, 3].as_slice());
     let bytes = Bytes::from_vec(bytes.into_vec());
-    assert_eq!(rt; bytes.as_slice(), [1, 2, 3].as_slice());
+    expect_eq!(rt; bytes.as_slice(), [1, 2, 3].as_slice());
     let items = [Action::SetDlSrc(0xffff_ffff_ffff), Action::StripVlan];
     let actions = Actions::of(rt.alloc(), &items)?;
-    assert_eq!(rt; actions.as_slice(), items.as_slice());
+    expect_eq!(rt; actions.as_slice(), items.as_slice());
     let actions = Actions::from_vec(actions.into_vec());
-    assert_eq!(rt; actions.as_slice(), items.as_slice());
+    expect_eq!(rt; actions.as_slice(), items.as_slice());
     Ok(())
 }

@@ -5,6 +5,7 @@ ghost use Rattle.of10_flow.specs.FlowMods.{IsFlowMod};
 ghost use Rattle.of10_flow.specs.PacketIns.{IsPacketIn};
 ghost use Rattle.of10_flow.specs.PacketOuts.{IsPacketOut};
 
+use crate::expectations::{expect, expect_eq};
 use of10_action::{Action, Actions, Bytes, DecodeFault, WireFault};
 use of10_ctl::kind::{FLOW_MOD, FLOW_REMOVED, PACKET_IN, PACKET_OUT};
 use of10_ctl::message;
@@ -194,12 +195,8 @@ fn flow_mods_are_read_and_written(rt: HostRuntime) -> Result<(), Fail> {
     let alloc = rt.alloc();
     for (spelled, wanted) in &[addition(alloc)?, deletion(alloc)?, distinct_fields(alloc)?] {
         let read = flow_mod(alloc, spelled)?;
-        assert!(rt; same_flow_mod(&read, wanted), "{read:?}");
-        assert_eq!(rt;
-            read.encode(alloc)?.as_slice(),
-            spelled.as_slice(),
-            "of {read:?}"
-        );
+        expect!(rt; same_flow_mod(&read, wanted), read);
+        expect_eq!(rt; read.encode(alloc)?.as_slice(), spelled.as_slice(), read);
     }
     Ok(())
 }
@@ -245,8 +242,8 @@ fn packet_outs_are_read_and_written(rt: HostRuntime) -> Result<(), Fail> {
     let alloc = rt.alloc();
     for (spelled, wanted) in &packet_outs(alloc)? {
         let read = packet_out(alloc, spelled)?;
-        assert!(rt; same_packet_out(&read, wanted));
-        assert_eq!(rt; read.encode(alloc)?.as_slice(), spelled.as_slice());
+        expect!(rt; same_packet_out(&read, wanted));
+        expect_eq!(rt; read.encode(alloc)?.as_slice(), spelled.as_slice());
     }
     Ok(())
 }
@@ -284,8 +281,8 @@ fn packet_ins_are_read_and_written(rt: HostRuntime) -> Result<(), Fail> {
     let alloc = rt.alloc();
     for (spelled, wanted) in &packet_ins(alloc)? {
         let read = packet_in(alloc, spelled)?;
-        assert!(rt; same_packet_in(&read, wanted));
-        assert_eq!(rt; read.encode(alloc)?.as_slice(), spelled.as_slice());
+        expect!(rt; same_packet_in(&read, wanted));
+        expect_eq!(rt; read.encode(alloc)?.as_slice(), spelled.as_slice());
     }
     Ok(())
 }
@@ -314,8 +311,8 @@ fn flow_removeds_are_read_and_written(rt: HostRuntime) -> Result<(), Fail> {
         packets: 0x5152535455565758,
         bytes: 0x6162636465666768,
     };
-    assert_eq!(rt; &read, &wanted);
-    assert_eq!(rt; read.encode(alloc)?.as_slice(), spelled.as_slice());
+    expect_eq!(rt; &read, &wanted);
+    expect_eq!(rt; read.encode(alloc)?.as_slice(), spelled.as_slice());
     Ok(())
 }
 
@@ -325,7 +322,7 @@ fn padding_is_disregarded(rt: HostRuntime) -> Result<(), Fail> {
     let filled = bytes(alloc, &["010a0013 00000000 00000007 0001 0001 01 ff 09"])?;
     let zero = bytes(alloc, &["010a0013 00000000 00000007 0001 0001 01 00 09"])?;
     let written = packet_in(alloc, &filled)?.encode(alloc)?;
-    assert_eq!(rt; written.as_slice(), zero.as_slice());
+    expect_eq!(rt; written.as_slice(), zero.as_slice());
     let filled = bytes(
         alloc,
         &[
@@ -343,7 +340,7 @@ fn padding_is_disregarded(rt: HostRuntime) -> Result<(), Fail> {
         ],
     )?;
     let written = flow_removed(alloc, &filled)?.encode(alloc)?;
-    assert_eq!(rt; written.as_slice(), zero.as_slice());
+    expect_eq!(rt; written.as_slice(), zero.as_slice());
     Ok(())
 }
 
@@ -384,7 +381,7 @@ fn other_lengths_are_refused(rt: HostRuntime) -> Result<(), Fail> {
         (FLOW_REMOVED, 81, Some(WireFault::Length(89))),
     ];
     for (kind, body, wanted) in rows {
-        assert_eq!(rt; fault_of(alloc, kind, body)?, wanted);
+        expect_eq!(rt; fault_of(alloc, kind, body)?, wanted);
     }
     Ok(())
 }
@@ -398,13 +395,13 @@ fn packet_outs_hold_their_actions(rt: HostRuntime) -> Result<(), Fail> {
         &["010d0018 0000002b 00000000 0001 0009 0000000800020000"],
     )?;
     let found = packet_out(alloc, &long).err();
-    assert_eq!(rt; found, Some(DecodeFault::Wire(WireFault::Length(24))));
+    expect_eq!(rt; found, Some(DecodeFault::Wire(WireFault::Length(24))));
     // The length is tested first, then the actions.
     let vendor = bytes(
         alloc,
         &["010d0018 0000002b 00000000 0001 0008 ffff000800000000"],
     )?;
     let found = packet_out(alloc, &vendor).err();
-    assert_eq!(rt; found, Some(DecodeFault::Wire(WireFault::ActionVendor)));
+    expect_eq!(rt; found, Some(DecodeFault::Wire(WireFault::ActionVendor)));
     Ok(())
 }

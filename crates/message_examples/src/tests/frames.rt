@@ -2,6 +2,7 @@
 
 ghost use Rattle.std.specs.Prelude.{◌<◌};
 
+use crate::expectations::{expect, expect_eq};
 use of10_ctl::{Frame, Framer, Head, Next, begin, error_frame, is_frame, message};
 use std::alloc::Global;
 use std::test::Fail;
@@ -63,10 +64,10 @@ fn is_bad_frame(alloc: Global, bytes: &[u8]) -> Result<bool, Fail> {
 fn a_copy_has_the_same_bytes(rt: HostRuntime) -> Result<(), Fail> {
     let bytes = [1, 2, 0, 12, 0, 0, 0, 5, 0xaa, 0xbb, 0xcc, 0xdd];
     let Some(copy) = frame_of(rt.alloc(), &bytes)? else {
-        assert!(rt; false, "these bytes are a frame");
+        expect!(rt; false, "these bytes are a frame");
         return Ok(());
     };
-    assert_eq!(rt; copy.as_slice(), bytes.as_slice());
+    expect_eq!(rt; copy.as_slice(), bytes.as_slice());
     Ok(())
 }
 
@@ -74,8 +75,8 @@ fn a_copy_has_the_same_bytes(rt: HostRuntime) -> Result<(), Fail> {
 fn a_hello_and_a_byte(rt: HostRuntime) -> Result<(), Fail> {
     let mut framer = Framer::new(rt.alloc());
     framer.feed(&[1, 0, 0, 8, 0, 0, 0, 0, 1])?;
-    assert!(rt; gives(&mut framer, &[1, 0, 0, 8, 0, 0, 0, 0])?);
-    assert!(rt; needs_more(&mut framer)?);
+    expect!(rt; gives(&mut framer, &[1, 0, 0, 8, 0, 0, 0, 0])?);
+    expect!(rt; needs_more(&mut framer)?);
     Ok(())
 }
 
@@ -83,10 +84,10 @@ fn a_hello_and_a_byte(rt: HostRuntime) -> Result<(), Fail> {
 fn a_bad_length_ends_the_stream(rt: HostRuntime) -> Result<(), Fail> {
     let mut framer = Framer::new(rt.alloc());
     framer.feed(&[1, 2, 0, 7, 0, 0, 0, 5])?;
-    assert!(rt; gives(&mut framer, &[1, 2, 0, 7, 0, 0, 0, 5])?);
-    assert!(rt; has_ended(&mut framer)?);
+    expect!(rt; gives(&mut framer, &[1, 2, 0, 7, 0, 0, 0, 5])?);
+    expect!(rt; has_ended(&mut framer)?);
     framer.feed(&STREAM)?;
-    assert!(rt; has_ended(&mut framer)?);
+    expect!(rt; has_ended(&mut framer)?);
     Ok(())
 }
 
@@ -94,7 +95,7 @@ fn a_bad_length_ends_the_stream(rt: HostRuntime) -> Result<(), Fail> {
 fn pieces_of_any_size_give_the_same_frames(rt: HostRuntime) -> Result<(), Fail> {
     for size in 1..=20 {
         let bytes = frames_in_pieces(rt.alloc(), &STREAM, size)?;
-        assert_eq!(rt; bytes.as_slice(), STREAM.as_slice());
+        expect_eq!(rt; bytes.as_slice(), STREAM.as_slice());
     }
     Ok(())
 }
@@ -103,14 +104,14 @@ fn pieces_of_any_size_give_the_same_frames(rt: HostRuntime) -> Result<(), Fail> 
 fn a_frame_is_given_with_its_last_byte(rt: HostRuntime) -> Result<(), Fail> {
     let mut framer = Framer::new(rt.alloc());
     framer.feed(&STREAM[..7])?;
-    assert!(rt; needs_more(&mut framer)?);
+    expect!(rt; needs_more(&mut framer)?);
     framer.feed(&STREAM[7..8])?;
-    assert!(rt; gives(&mut framer, &STREAM[..8])?);
+    expect!(rt; gives(&mut framer, &STREAM[..8])?);
     framer.feed(&STREAM[8..18])?;
-    assert!(rt; needs_more(&mut framer)?);
+    expect!(rt; needs_more(&mut framer)?);
     framer.feed(&STREAM[18..])?;
-    assert!(rt; gives(&mut framer, &STREAM[8..])?);
-    assert!(rt; needs_more(&mut framer)?);
+    expect!(rt; gives(&mut framer, &STREAM[8..])?);
+    expect!(rt; needs_more(&mut framer)?);
     Ok(())
 }
 
@@ -119,8 +120,8 @@ fn the_largest_frame_is_made_and_given(rt: HostRuntime) -> Result<(), Fail> {
     let alloc = rt.alloc();
     let body = vec![in alloc; 0x5a; 65527]?;
     let largest = message(alloc, 4, 9, &body)?;
-    assert_eq!(rt; largest.as_slice().len(), 65535);
-    assert_eq!(rt;
+    expect_eq!(rt; largest.as_slice().len(), 65535);
+    expect_eq!(rt;
         largest.head(),
         Head {
             version: 1,
@@ -130,7 +131,7 @@ fn the_largest_frame_is_made_and_given(rt: HostRuntime) -> Result<(), Fail> {
         }
     );
     let given = frames_in_pieces(alloc, largest.as_slice(), 40000)?;
-    assert_eq!(rt; given.as_slice(), largest.as_slice());
+    expect_eq!(rt; given.as_slice(), largest.as_slice());
     Ok(())
 }
 
@@ -142,13 +143,13 @@ fn an_error_carries_64_bytes(rt: HostRuntime) -> Result<(), Fail> {
     }
     let error = error_frame(rt.alloc(), 0x2a, 3, 2, &cause)?;
     let bytes = error.as_slice();
-    assert_eq!(rt; bytes.len(), 76);
+    expect_eq!(rt; bytes.len(), 76);
     let head = [1, 1, 0, 0x4c, 0, 0, 0, 0x2a, 0, 3, 0, 2];
-    assert_eq!(rt; &bytes[..12], head.as_slice());
-    assert_eq!(rt; &bytes[12..], &cause[..64]);
+    expect_eq!(rt; bytes.get(..12), Some(head.as_slice()));
+    expect_eq!(rt; bytes.get(12..), cause.get(..64));
     let short = error_frame(rt.alloc(), 0x2a, 3, 2, &[5, 6])?;
     let wanted = [1, 1, 0, 14, 0, 0, 0, 0x2a, 0, 3, 0, 2, 5, 6];
-    assert_eq!(rt; short.as_slice(), wanted.as_slice());
+    expect_eq!(rt; short.as_slice(), wanted.as_slice());
     Ok(())
 }
 
@@ -156,27 +157,27 @@ fn an_error_carries_64_bytes(rt: HostRuntime) -> Result<(), Fail> {
 fn a_message_begins_with_its_header(rt: HostRuntime) -> Result<(), Fail> {
     let head = [1, 12, 0, 10, 0x01, 0x02, 0x03, 0x04];
     let begun = begin(rt.alloc(), 12, 0x01020304, 2)?;
-    assert_eq!(rt; begun.as_slice(), head.as_slice());
+    expect_eq!(rt; begun.as_slice(), head.as_slice());
     let whole = message(rt.alloc(), 12, 0x01020304, &[8, 9])?;
-    assert_eq!(rt; &whole.as_slice()[..8], head.as_slice());
-    assert_eq!(rt; whole.body(), [8, 9].as_slice());
-    assert_eq!(rt; whole.into_vec().len(), 10);
+    expect_eq!(rt; &whole.as_slice()[..8], head.as_slice());
+    expect_eq!(rt; whole.body(), [8, 9].as_slice());
+    expect_eq!(rt; whole.into_vec().len(), 10);
     Ok(())
 }
 
 #[test]
 fn frames_are_told_by_their_bytes(rt: HostRuntime) -> Result<(), Fail> {
     let alloc = rt.alloc();
-    assert!(rt; is_frame_of(alloc, 0, &[1, 0, 0, 8, 0, 0, 0, 0])?);
-    assert!(rt; !is_frame_of(alloc, 2, &[1, 0, 0, 8, 0, 0, 0, 0])?);
-    assert!(rt; !is_frame_of(alloc, 0, &[4, 0, 0, 8, 0, 0, 0, 0])?);
-    assert!(rt; !is_frame_of(alloc, 0, &[1, 0, 0, 7, 0, 0, 0, 0])?);
-    assert!(rt; is_bad_frame(alloc, &[1, 0, 0, 7, 0, 0, 0, 0])?);
-    assert!(rt; is_bad_frame(alloc, &[1, 0, 0, 0, 0, 0, 0, 0])?);
-    assert!(rt; !is_bad_frame(alloc, &[1, 0, 0, 8, 0, 0, 0, 0])?);
-    assert!(rt; !is_frame(&[1, 0, 0, 7, 0, 0, 0]));
-    assert!(rt; !is_frame(&[1, 0, 0, 9, 0, 0, 0, 0]));
-    assert!(rt; !is_frame(&[1, 0, 0, 8, 0, 0, 0, 0, 0]));
-    assert!(rt; is_frame(&[1, 0, 0, 9, 0, 0, 0, 0, 0]));
+    expect!(rt; is_frame_of(alloc, 0, &[1, 0, 0, 8, 0, 0, 0, 0])?);
+    expect!(rt; !is_frame_of(alloc, 2, &[1, 0, 0, 8, 0, 0, 0, 0])?);
+    expect!(rt; !is_frame_of(alloc, 0, &[4, 0, 0, 8, 0, 0, 0, 0])?);
+    expect!(rt; !is_frame_of(alloc, 0, &[1, 0, 0, 7, 0, 0, 0, 0])?);
+    expect!(rt; is_bad_frame(alloc, &[1, 0, 0, 7, 0, 0, 0, 0])?);
+    expect!(rt; is_bad_frame(alloc, &[1, 0, 0, 0, 0, 0, 0, 0])?);
+    expect!(rt; !is_bad_frame(alloc, &[1, 0, 0, 8, 0, 0, 0, 0])?);
+    expect!(rt; !is_frame(&[1, 0, 0, 7, 0, 0, 0]));
+    expect!(rt; !is_frame(&[1, 0, 0, 9, 0, 0, 0, 0]));
+    expect!(rt; !is_frame(&[1, 0, 0, 8, 0, 0, 0, 0, 0]));
+    expect!(rt; is_frame(&[1, 0, 0, 9, 0, 0, 0, 0, 0]));
     Ok(())
 }

@@ -4,6 +4,7 @@
 ghost use Rattle.of10_ctl.specs.declared.kind.TheConstants.{FEATURES_REPLY, PACKET_IN, FLOW_REMOVED, PORT_STATUS, PACKET_OUT, FLOW_MOD, STATS_REQUEST, STATS_REPLY};
 ghost use Rattle.of10_ctl.specs.Kinds.{IsOf};
 
+use crate::expectations::{expect, expect_eq};
 use of10_ctl::kind::{
     ERROR, FEATURES_REPLY, FLOW_MOD, FLOW_REMOVED, PACKET_IN, PACKET_OUT, PORT_STATUS, STATS_REPLY,
     STATS_REQUEST,
@@ -385,24 +386,20 @@ fn a_message_of_each_type_is_read_and_written(rt: HostRuntime) -> Result<(), Fai
     let alloc = rt.alloc();
     for (kind, (spelled, wanted)) in MESSAGES.iter().enumerate() {
         let Some(frame) = frame_of(alloc, &bytes(alloc, spelled)?)? else {
-            assert!(rt; false, "{kind} is a frame");
+            expect!(rt; false, kind);
             return Ok(());
         };
-        assert_eq!(rt; usize::from(frame.head().kind), kind);
+        expect_eq!(rt; usize::from(frame.head().kind), kind);
         let Some(said) = read(alloc, &frame)? else {
-            assert!(rt; false, "{kind} is well formed");
+            expect!(rt; false, kind);
             return Ok(());
         };
         let mut words = String::new(alloc);
         for piece in *wanted {
             words.push_str(piece)?;
         }
-        assert_eq!(rt; said.words.as_str(), words.as_str());
-        assert_eq!(rt;
-            said.again.as_slice(),
-            frame.as_slice(),
-            "{kind} is written again"
-        );
+        expect_eq!(rt; said.words.as_str(), words.as_str());
+        expect_eq!(rt; said.again.as_slice(), frame.as_slice(), kind);
     }
     Ok(())
 }

@@ -1,5 +1,6 @@
 //! Numbers as they stand in messages.
 
+use crate::expectations::expect_eq;
 use of10_model::wire::{put_u8, put_u16, put_u32, put_u48, put_u64};
 use std::test::Fail;
 
@@ -14,6 +15,6 @@ fn numbers_are_written_high_byte_first(rt: HostRuntime) -> Result<(), Fail> {
     let expected = [
         1, 2, 3, 4, 5, 6, 7, 8, 9, 10, 11, 12, 13, 14, 15, 16, 17, 18, 19, 20, 21,
     ];
-    assert_eq!(rt; out.as_slice(), expected.as_slice());
+    expect_eq!(rt; out.as_slice(), expected.as_slice());
     Ok(())
 }

@@ -1,5 +1,6 @@
 //! Ports, and the two messages that tell of them.
 
+use crate::expectations::{expect, expect_eq};
 use of10_action::{DecodeFault, WireFault};
 use of10_ctl::kind::{FEATURES_REPLY, PORT_STATUS};
 use of10_port::protocol::NO_FLOOD;
@@ -69,21 +70,21 @@ fn features_are_read_and_written(rt: HostRuntime) -> Result<(), Fail> {
         message.extend_from_slice(&port_of(number))?;
     }
     let Some(Ok(features)) = features_of(alloc, &message)? else {
-        assert!(rt; false, "no features");
+        expect!(rt; false, "no features");
         return Ok(());
     };
-    assert_eq!(rt; features.datapath, 0xa1);
-    assert_eq!(rt; features.buffers, 256);
-    assert_eq!(rt; features.tables, 1);
-    assert_eq!(rt; features.capabilities, 0);
-    assert_eq!(rt; features.actions, 0xfff);
+    expect_eq!(rt; features.datapath, 0xa1);
+    expect_eq!(rt; features.buffers, 256);
+    expect_eq!(rt; features.tables, 1);
+    expect_eq!(rt; features.capabilities, 0);
+    expect_eq!(rt; features.actions, 0xfff);
     let wanted = [
         Port::of(port_of(1)),
         Port::of(port_of(2)),
         Port::of(port_of(3)),
         Port::of(port_of(0xfffe)),
     ];
-    assert_eq!(rt; features.ports.as_slice(), wanted.as_slice());
+    expect_eq!(rt; features.ports.as_slice(), wanted.as_slice());
     let made = Features {
         datapath: 0xa1,
         buffers: 256,
@@ -93,7 +94,7 @@ fn features_are_read_and_written(rt: HostRuntime) -> Result<(), Fail> {
         ports: Ports::of(alloc, &wanted)?,
     };
     let written = made.encode(alloc, 0xff000001)?;
-    assert_eq!(rt; written.as_slice(), message.as_slice());
+    expect_eq!(rt; written.as_slice(), message.as_slice());
     Ok(())
 }
 
@@ -116,7 +117,7 @@ fn features_have_whole_ports(rt: HostRuntime) -> Result<(), Fail> {
             (Some(Err(fault)), None) => fault == DecodeFault::Wire(WireFault::Length(length)),
             _ => false,
         };
-        assert!(rt; right, "{} bytes", length);
+        expect!(rt; right, length);
     }
     Ok(())
 }
@@ -126,10 +127,10 @@ fn a_port_has_a_number_and_a_configuration(rt: HostRuntime) {
     let mut raw = port_of(7);
     raw[27] = 0x51;
     let port = Port::of(raw);
-    assert_eq!(rt; port.number(), 7);
-    assert_eq!(rt; port.config(), 0x51);
-    assert_eq!(rt; port.config() & NO_FLOOD, 16);
-    assert_eq!(rt; Port::of(port_of(0xfffe)).config() & NO_FLOOD, 0);
+    expect_eq!(rt; port.number(), 7);
+    expect_eq!(rt; port.config(), 0x51);
+    expect_eq!(rt; port.config() & NO_FLOOD, 16);
+    expect_eq!(rt; Port::of(port_of(0xfffe)).config() & NO_FLOOD, 0);
 }
 
 #[test]
@@ -141,14 +142,14 @@ fn a_change_is_read_and_written(rt: HostRuntime) -> Result<(), Fail> {
     };
     let mut message = Vec::from_slice(alloc, CHANGE)?;
     message.extend_from_slice(&port_of(2))?;
-    assert_eq!(rt; status_of(alloc, &message)?, Some(Ok(status)));
+    expect_eq!(rt; status_of(alloc, &message)?, Some(Ok(status)));
     let written = status.encode(alloc, 0x2a)?;
-    assert_eq!(rt; written.as_slice(), message.as_slice());
+    expect_eq!(rt; written.as_slice(), message.as_slice());
     // what stands in the padding doesn't count
     if let Some(pad) = message.get_mut(9) {
         *pad = 1;
     }
-    assert_eq!(rt; status_of(alloc, &message)?, Some(Ok(status)));
+    expect_eq!(rt; status_of(alloc, &message)?, Some(Ok(status)));
     Ok(())
 }
 
@@ -157,7 +158,7 @@ fn a_change_has_one_length(rt: HostRuntime) -> Result<(), Fail> {
     let alloc = rt.alloc();
     for length in [8, 16, 63, 65, 112] {
         let message = blank_message(alloc, PORT_STATUS, length)?;
-        assert_eq!(rt;
+        expect_eq!(rt;
             status_of(alloc, &message)?,
             Some(Err(WireFault::Length(length)))
         );

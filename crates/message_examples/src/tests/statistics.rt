@@ -1,5 +1,6 @@
 //! Requests for statistics, the parts of replies, and their entries.
 
+use crate::expectations::expect_eq;
 use of10_action::WireFault;
 use of10_ctl::kind::{STATS_REPLY, STATS_REQUEST};
 use of10_match::Match;
@@ -114,9 +115,9 @@ fn plain_requests_are_read_and_written(rt: HostRuntime) -> Result<(), Fail> {
         ),
     ];
     for (bytes, request) in &rows {
-        assert_eq!(rt; request_in(alloc, bytes)?, Some(Ok(*request)));
+        expect_eq!(rt; request_in(alloc, bytes)?, Some(Ok(*request)));
         let written = request.encode(alloc, 0x2a)?;
-        assert_eq!(rt; written.as_slice(), *bytes);
+        expect_eq!(rt; written.as_slice(), *bytes);
     }
     Ok(())
 }
@@ -125,7 +126,7 @@ fn plain_requests_are_read_and_written(rt: HostRuntime) -> Result<(), Fail> {
 fn requests_for_flows_are_read_and_written(rt: HostRuntime) -> Result<(), Fail> {
     let alloc = rt.alloc();
     let pattern = Match::decode(&WEB_BYTES);
-    assert_eq!(rt; *pattern.pattern(), WEB);
+    expect_eq!(rt; *pattern.pattern(), WEB);
     let flow = StatsRequest::Flow {
         pattern,
         table: 0xff,
@@ -141,9 +142,9 @@ fn requests_for_flows_are_read_and_written(rt: HostRuntime) -> Result<(), Fail> 
         message.truncate(12);
         message.extend_from_slice(&WEB_BYTES)?;
         message.extend_from_slice(&[0xff, 0, 0, 3])?;
-        assert_eq!(rt; request_in(alloc, &message)?, Some(Ok(*request)));
+        expect_eq!(rt; request_in(alloc, &message)?, Some(Ok(*request)));
         let written = request.encode(alloc, 0x2a)?;
-        assert_eq!(rt; written.as_slice(), message.as_slice());
+        expect_eq!(rt; written.as_slice(), message.as_slice());
     }
     Ok(())
 }
@@ -168,12 +169,10 @@ fn faults_of_requests_come_in_order(rt: HostRuntime) -> Result<(), Fail> {
     ];
     for (length, kind, fault) in rows {
         let message = stats_message(alloc, STATS_REQUEST, length, kind, 0)?;
-        assert_eq!(rt;
+        expect_eq!(rt;
             request_in(alloc, &message)?,
             Some(Err(fault)),
-            "{} bytes of type {}",
-            length,
-            kind
+            (length, kind)
         );
     }
     Ok(())
@@ -185,7 +184,7 @@ fn padding_and_flags_of_requests_are_disregarded(rt: HostRuntime) -> Result<(), 
     let message =
         b"\x01\x10\x00\x14\x00\x00\x00\x2a\x00\x05\xff\xff\x00\x07\xff\xff\x00\x00\x00\x09";
     let wanted = StatsRequest::Queue { port: 7, queue: 9 };
-    assert_eq!(rt; request_in(alloc, message)?, Some(Ok(wanted)));
+    expect_eq!(rt; request_in(alloc, message)?, Some(Ok(wanted)));
     Ok(())
 }
 
@@ -205,10 +204,10 @@ fn parts_say_whether_more_follow(rt: HostRuntime) -> Result<(), Fail> {
             more,
             from: 12,
         };
-        assert_eq!(rt; part_in(alloc, &message)?, Some(Ok(wanted)));
+        expect_eq!(rt; part_in(alloc, &message)?, Some(Ok(wanted)));
     }
     let short = b"\x01\x11\x00\x08\x00\x00\x00\x2a";
-    assert_eq!(rt; part_in(alloc, short)?, Some(Err(WireFault::Length(8))));
+    expect_eq!(rt; part_in(alloc, short)?, Some(Err(WireFault::Length(8))));
     Ok(())
 }
 
@@ -239,13 +238,7 @@ fn entries_have_their_sizes(rt: HostRuntime) -> Result<(), Fail> {
     ];
     for (kind, front, length, size) in rows {
         let rest = entries_of(alloc, front, length)?;
-        assert_eq!(rt;
-            entry_size(kind, &rest),
-            size,
-            "{} bytes of type {}",
-            length,
-            kind
-        );
+        expect_eq!(rt; entry_size(kind, &rest), size, (length, kind));
     }
     Ok(())
 }
@@ -259,22 +252,22 @@ fn entries_are_read(rt: HostRuntime) -> Result<(), Fail> {
     flow.extend_from_slice(&[0, 0, 0, 0, 0, 0, 0x01, 0x02])?;
     flow.extend_from_slice(&[0x03, 0, 0, 0, 0, 0, 0, 0x04])?;
     flow.extend_from_slice(&[0, 0, 0, 8, 0, 1, 0, 0])?;
-    assert_eq!(rt; entry_size(FLOW, &flow), Some(96));
+    expect_eq!(rt; entry_size(FLOW, &flow), Some(96));
     if let Some(size) = entry_size(FLOW, &flow) {
         let (pattern, packets, bytes) = flow_entry(&flow[..size]);
-        assert_eq!(rt; *pattern.pattern(), WEB);
-        assert_eq!(rt; packets, 0x0102);
-        assert_eq!(rt; bytes, 0x0300_0000_0000_0004);
+        expect_eq!(rt; *pattern.pattern(), WEB);
+        expect_eq!(rt; packets, 0x0102);
+        expect_eq!(rt; bytes, 0x0300_0000_0000_0004);
     }
     let port = entries_of(alloc, [0xff, 0xfe], 104)?;
-    assert_eq!(rt; entry_size(PORT, &port), Some(104));
+    expect_eq!(rt; entry_size(PORT, &port), Some(104));
     if let Some(size) = entry_size(PORT, &port) {
-        assert_eq!(rt; entry_port(&port[..size]), 0xfffe);
+        expect_eq!(rt; entry_port(&port[..size]), 0xfffe);
     }
     let queue = entries_of(alloc, [0x00, 0x03], 32)?;
-    assert_eq!(rt; entry_size(QUEUE, &queue), Some(32));
+    expect_eq!(rt; entry_size(QUEUE, &queue), Some(32));
     if let Some(size) = entry_size(QUEUE, &queue) {
-        assert_eq!(rt; entry_port(&queue[..size]), 3);
+        expect_eq!(rt; entry_port(&queue[..size]), 3);
     }
     Ok(())
 }
