@@ -5,6 +5,7 @@ mod given;
 mod plain;
 mod soundness;
 
+use crate::expectations::{expect, expect_eq};
 use action_check::CheckFault::{Refused, TooMany};
 use action_check::Origin;
 use flowspace::SwitchPolicy;
@@ -100,7 +101,7 @@ fn flood_and_all_become_ports(rt: HostRuntime) -> Result<(), Fail> {
             })?;
         }
         expected.push(Action::StripVlan)?;
-        assert_eq!(rt; list.as_slice(), &expected[..]);
+        expect_eq!(rt; list.as_slice(), &expected[..]);
     }
     Ok(())
 }
@@ -119,10 +120,10 @@ fn a_network_is_left_by_no_rewriting(rt: HostRuntime) -> Result<(), Fail> {
     ];
     for (index, (actions, expected)) in table.iter().enumerate() {
         let answer = code(rt.alloc(), &policy, ALICE, &own, actions)?;
-        assert_eq!(rt; answer, *expected, "case {index}");
+        expect_eq!(rt; answer, *expected, index);
     }
     let list = answer(rt.alloc(), &policy, ALICE, &own, &[within, output(2)])??;
-    assert_eq!(rt; list.as_slice(), &[within, output(2)][..]);
+    expect_eq!(rt; list.as_slice(), &[within, output(2)][..]);
     Ok(())
 }
 
@@ -148,7 +149,7 @@ fn packets_are_sent_as_their_slice_may(rt: HostRuntime) -> Result<(), Fail> {
     ];
     for (index, (slot, origin, actions, expected)) in table.iter().enumerate() {
         let answer = code(rt.alloc(), &policy, *slot, origin, actions)?;
-        assert_eq!(rt; answer, *expected, "case {index}");
+        expect_eq!(rt; answer, *expected, index);
     }
     Ok(())
 }
@@ -172,7 +173,7 @@ fn probes_are_only_sent(rt: HostRuntime) -> Result<(), Fail> {
         let probe = Origin::Probe { in_port: *in_port };
         for slot in [ALICE, BOB] {
             let answer = code(rt.alloc(), &policy, slot, &probe, actions)?;
-            assert_eq!(rt; answer, *expected, "case {index}");
+            expect_eq!(rt; answer, *expected, index);
         }
     }
     Ok(())
@@ -203,7 +204,7 @@ fn arguments_and_ports_have_their_codes(rt: HostRuntime) -> Result<(), Fail> {
     ];
     for (index, (actions, expected)) in table.iter().enumerate() {
         let answer = code(rt.alloc(), &policy, ALICE, &own, actions)?;
-        assert_eq!(rt; answer, *expected, "case {index}");
+        expect_eq!(rt; answer, *expected, index);
     }
     Ok(())
 }
@@ -231,7 +232,7 @@ fn only_the_controller_and_the_table_see_in_port(rt: HostRuntime) -> Result<(), 
     ];
     for (index, (origin, action, expected)) in table.iter().enumerate() {
         let answer = code(rt.alloc(), &policy, ALICE, origin, &[*action])?;
-        assert_eq!(rt; answer, *expected, "case {index}");
+        expect_eq!(rt; answer, *expected, index);
     }
     Ok(())
 }
@@ -244,7 +245,7 @@ fn a_slice_of_one_port_sends_to_it_alone(rt: HostRuntime) -> Result<(), Fail> {
     for (port, expected) in [(1, None), (2, Some(Refused(4))), (LOCAL, Some(Refused(4)))] {
         let sent = [output(port)];
         let answer = answer_with(rt.alloc(), &policy, ALICE, &own, &sent, (&[], &[1]))?;
-        assert_eq!(rt; answer.err(), expected);
+        expect_eq!(rt; answer.err(), expected);
     }
     let list = answer_with(
         rt.alloc(),
@@ -254,7 +255,7 @@ fn a_slice_of_one_port_sends_to_it_alone(rt: HostRuntime) -> Result<(), Fail> {
         &[output(FLOOD)],
         (&[], &[1]),
     )??;
-    assert!(rt; list.as_slice().is_empty());
+    expect!(rt; list.as_slice().is_empty());
     Ok(())
 }
 
@@ -284,7 +285,7 @@ fn lists_have_65463_bytes_at_most(rt: HostRuntime) -> Result<(), Fail> {
     for (index, (action, count, expected)) in table.iter().enumerate() {
         let actions = repeated(rt.alloc(), *action, *count)?;
         let answer = answer(rt.alloc(), &policy, ALICE, &own, &actions)?;
-        assert_eq!(rt; answer.err(), *expected, "case {index}");
+        expect_eq!(rt; answer.err(), *expected, index);
     }
     Ok(())
 }

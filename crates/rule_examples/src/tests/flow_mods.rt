@@ -3,6 +3,7 @@
 mod drawn;
 mod given;
 
+use crate::expectations::{expect, expect_eq};
 use drawn::Draws;
 use flowmod_expand::{BuildFault, pieces};
 use flowspace::SwitchPolicy;
@@ -61,11 +62,11 @@ fn the_third_meet_is_the_first(rt: HostRuntime) -> Result<(), Fail> {
     let asked = spelled(0x0034_20cf, 6, 0, 0x0a01_0000, 0);
     let found = pieces(alloc, &policy, 0, &Match::decode(&asked))?;
     let expected = [asked, spelled(0x0034_18cf, 6, net, 0x0a01_0000, 0)];
-    assert_eq!(rt; found.len(), expected.len());
+    expect_eq!(rt; found.len(), expected.len());
     for (piece, bytes) in found.iter().zip(expected) {
-        assert_eq!(rt; piece.encode(), bytes);
+        expect_eq!(rt; piece.encode(), bytes);
     }
-    assert!(rt; pieces(alloc, &policy, 1, &Match::all())?.is_empty());
+    expect!(rt; pieces(alloc, &policy, 1, &Match::all())?.is_empty());
     Ok(())
 }
 
@@ -160,19 +161,19 @@ fn pieces_stand_in_rule_order_and_agree_with_membership(rt: HostRuntime) -> Resu
             let found = pieces(rt.alloc(), &policy, slot, &m)?;
             let met = meets(rt.alloc(), &policy, slot, &m)?;
             let expected = each_once(rt.alloc(), &met)?;
-            assert_eq!(rt; found.as_slice(), expected.as_slice(), "case {number}");
+            expect_eq!(rt; found.as_slice(), expected.as_slice(), number);
             tally.count_list(met.len(), found.len());
             for _ in 0..16 {
                 let h = draws.header();
                 tally.count_header(&found, &h);
-                assert!(rt;
+                expect!(rt;
                     has_what_is_written(&policy, slot, &m, &found, &h),
-                    "case {number}: {m:?} has {found:?} at {h:?}"
+                    (number, &m, &found, &h)
                 );
             }
         }
     }
-    assert!(rt; tally.is_rich(), "{tally:?}");
+    expect!(rt; tally.is_rich(), tally);
     Ok(())
 }
 
@@ -204,7 +205,7 @@ fn a_flow_mod_is_sent_for_what_the_slice_writes(rt: HostRuntime) -> Result<(), F
             "0000000000000000 0000 003c 0000 000a ffffffff ffff 0001 0000000800020000",
         ],
     )?;
-    assert!(rt; is_alone(&frames, &expected));
+    expect!(rt; is_alone(&frames, &expected));
     let delete = for_all(alloc, DELETE)?;
     let frames = built(alloc, &delete, 1, &found, &[strips(alloc, 0)?], None)?;
     let expected = bytes(
@@ -215,7 +216,7 @@ fn a_flow_mod_is_sent_for_what_the_slice_writes(rt: HostRuntime) -> Result<(), F
             "0000000000000000 0003 0000 0000 0000 ffffffff ffff 0000",
         ],
     )?;
-    assert!(rt; is_alone(&frames, &expected));
+    expect!(rt; is_alone(&frames, &expected));
     Ok(())
 }
 
@@ -285,9 +286,9 @@ fn each_piece_has_its_actions_and_one_the_buffer(rt: HostRuntime) -> Result<(), 
         ];
         let found = [tcp(None, 80), tcp(None, 22)];
         let frames = built(alloc, &asked, 0x0100_0007, &found, &lists, buffer)?;
-        assert_eq!(rt; frames.len(), 2);
+        expect_eq!(rt; frames.len(), 2);
         for (frame, bytes) in frames.iter().zip(&expected) {
-            assert_eq!(rt; frame.as_slice(), &bytes[..], "command {command}");
+            expect_eq!(rt; frame.as_slice(), &bytes[..], command);
         }
     }
     Ok(())
@@ -325,7 +326,7 @@ fn messages_keep_to_their_sizes(rt: HostRuntime) -> Result<(), Fail> {
     ];
     for (index, (command, counts, expected)) in table.iter().enumerate() {
         let answer = made(rt.alloc(), *command, counts)?;
-        assert_eq!(rt; answer, *expected, "case {index}");
+        expect_eq!(rt; answer, *expected, index);
     }
     Ok(())
 }

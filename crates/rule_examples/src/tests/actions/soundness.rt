@@ -4,6 +4,7 @@ use super::drawn::Draws;
 use super::given::answer_with;
 use super::plain::{Grant, Kind, is_own_port, may_have, names_its_ports, rewrites};
 use super::{enqueue, output};
+use crate::expectations::{expect, expect_eq};
 use action_check::CheckFault::Refused;
 use action_check::{CheckFault, Origin};
 use flowspace::{PolicyFault, Rule, SwitchPolicy};
@@ -224,11 +225,8 @@ fn lists_for_pieces_are_sound(rt: HostRuntime) -> Result<(), Fail> {
     let mut draws = Draws::new(11);
     for (last, [is_given, _, _]) in outputs() {
         let tally = tallied(rt.alloc(), &mut draws, Kind::Piece, last)?;
-        assert_eq!(rt; tally.wrong, 0, "{last:?}: {tally:?}");
-        assert!(rt;
-            tells_enough(Kind::Piece, &tally, is_given),
-            "{last:?}: {tally:?}"
-        );
+        expect_eq!(rt; tally.wrong, 0, (last, tally));
+        expect!(rt; tells_enough(Kind::Piece, &tally, is_given), (last, tally));
     }
     Ok(())
 }
@@ -238,11 +236,8 @@ fn lists_are_given_exactly_for_packets_that_may_be_sent(rt: HostRuntime) -> Resu
     let mut draws = Draws::new(12);
     for (last, [_, is_given, _]) in outputs() {
         let tally = tallied(rt.alloc(), &mut draws, Kind::Packet, last)?;
-        assert_eq!(rt; tally.wrong, 0, "{last:?}: {tally:?}");
-        assert!(rt;
-            tells_enough(Kind::Packet, &tally, is_given),
-            "{last:?}: {tally:?}"
-        );
+        expect_eq!(rt; tally.wrong, 0, (last, tally));
+        expect!(rt; tells_enough(Kind::Packet, &tally, is_given), (last, tally));
     }
     Ok(())
 }
@@ -252,11 +247,8 @@ fn lists_are_given_exactly_for_probes_that_may_be_sent(rt: HostRuntime) -> Resul
     let mut draws = Draws::new(13);
     for (last, [_, _, is_given]) in outputs() {
         let tally = tallied(rt.alloc(), &mut draws, Kind::Probe, last)?;
-        assert_eq!(rt; tally.wrong, 0, "{last:?}: {tally:?}");
-        assert!(rt;
-            tells_enough(Kind::Probe, &tally, is_given),
-            "{last:?}: {tally:?}"
-        );
+        expect_eq!(rt; tally.wrong, 0, (last, tally));
+        expect!(rt; tells_enough(Kind::Probe, &tally, is_given), (last, tally));
     }
     Ok(())
 }
