@@ -1,4 +1,3 @@
-use Rattle.std.proofs.Common.{◌≡◌}
 use Rattle.turn_desk.specs.Seats.{IsSeatOf}
 use Rattle.turn_examples.proofs.tests.ask_all.Given as goal
 
