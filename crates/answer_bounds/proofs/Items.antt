@@ -1,26 +1,31 @@
 -- What one event shows a slice: at most two items, each with a small answer, or statistics.
-use Rattle.std.proofs.Common.{ℕ, ◌+◌, ◌==◌, ◌&&◌, ◌≤◌, ◌%◌, ◌^◌, ltb, Bool, true, false, if◌then◌else◌, inl, inr, List, [], ◌∷◌, ◌++◌, map, filter, length, refl, ap, ◌≡◌, Option, Some, None, is_some, IfSome, sym, ◌∙◌, true≢false, arith}
+use Rattle.std.proofs.Common.{ℕ, ◌+◌, ◌==◌, ◌&&◌, ◌≤◌, ◌%◌, ◌^◌, ltb, Bool, true, false, if◌then◌else◌, inl, inr, List, [], ◌∷◌, ◌++◌, map, filter, length, refl, ap, ◌≡◌, Option, Some, None, is_some, sym, ◌∙◌, true≢false, arith, drop, Result, Ok, Err, IfOk}
 use Rattle.std.specs.Prelude.{option_and_then}
 use Rattle.std.specs.List.{All, list_any}
 use Rattle.std.proofs.lemmas.Bool.{cases_Bool, ltb-false}
 use Rattle.std.proofs.lemmas.List.{length-map, length-drop}
 use Rattle.std.proofs.lemmas.List.Elements.{All-nil, All-cons, All-head, All-tail}
 use Rattle.of10_model.specs.Normal.{is_value, bit}
-use Rattle.of10_ctl.specs.declared.kind.TheConstants.{ERROR, PACKET_IN, FLOW_REMOVED, STATS_REPLY, BARRIER_REPLY, QUEUE_GET_CONFIG_REPLY}
-use Rattle.of10_ctl.specs.Frames.{is_bad}
 use Rattle.of10_flow.specs.declared.packet_in.PacketIn.{PacketIn}
 use Rattle.of10_flow.specs.PacketIns.{read_packet_in}
 use Rattle.of10_flow.specs.declared.flow_removed.FlowRemoved.{FlowRemoved}
-use Rattle.of10_flow.specs.FlowRemoveds.{read_flow_removed}
 use Rattle.of10_message.specs.Heads.{xid_of}
-use Rattle.of10_message.specs.Errors.{ErrorMessage, read_error, pair_in}
-use Rattle.of10_message.specs.Replies.{is_bare, QueuesMessage, read_queues}
+use Rattle.of10_message.specs.declared.fault.Unread.{Unread}
+use Rattle.of10_message.specs.declared.fault.Unread.TheVariants.{BadLength}
+use Rattle.of10_message.specs.Errors.{ErrorMessage, pair_in}
+use Rattle.of10_message.specs.Replies.{QueuesMessage, read_queues}
+use Rattle.of10_switch.specs.Messages as says
+use Rattle.of10_switch.specs.Messages.{SwitchMessage, read_switch}
+use Rattle.of10_switch.proofs.Cases.{of_switch}
+use Rattle.of10_stats.specs.declared.reply.StatsPart.{StatsPart}
+use Rattle.of10_port.specs.PortStatus.{read_port_status}
 use Rattle.of10_stats.specs.Replies.{part_of}
 use Rattle.of10_model.specs.Inclusion.{includes_of}
 use Rattle.of10_port.specs.declared.features.Features.{Features}
 use Rattle.of10_port.specs.declared.status.PortStatus.{PortStatus}
 use Rattle.of10_port.specs.Ports.{port_number}
 use Rattle.flowspace.specs.declared.rules.Rule.{Rule}
+use Rattle.stats_filter.specs.Replies.{page_size}
 use Rattle.flowspace.specs.Order.{writer_of, readers_of}
 use Rattle.flowspace.specs.Policies.{PolicyView}
 use Rattle.slice_words.specs.Items.{Settings, is_own_port, Share, Writer, Reader, Probe, Item, Up, Down, Msg, Lost, Removed, Status, Fault, Barrier, Queues, End, is_up}
@@ -33,16 +38,14 @@ use Rattle.desk_words.specs.declared.event.Event.TheVariants.{SwitchUp, SwitchMs
 use Rattle.desk_words.specs.declared.event.Timed.{Timed}
 use Rattle.desk_words.specs.declared.phase.Phase.{Phase}
 use Rattle.desk_words.specs.declared.phase.Phase.TheVariants.{Fresh, Begun, Opened, Gone}
-use Rattle.of10_ctl.specs.Kinds.{is_of}
-use Rattle.desk_words.specs.Openings.{well_formed, status_told, opening_with, rules_of, Switch, switch_of, phase_of, opening_of}
-use Rattle.desk_words.specs.Histories.{is_slot, settings_at, own_features, handed, header_in, number_given, marked_slot, shares_of, holder, packet_items, packet_in_items, Side, status_items, removed_items, is_reply_to, error_items, barrier_items, queues_items, message_items, opening_items, event_items, phase_items, items_of, side_of, view_of}
+use Rattle.desk_words.specs.Openings.{opening_with, rules_of, Switch, switch_of, phase_of, opening_of}
+use Rattle.desk_words.specs.Histories.{is_slot, settings_at, own_features, handed, header_in, number_given, marked_slot, shares_of, holder, packet_items, packet_in_items, Side, status_items, removed_items, is_reply_to, error_items, barrier_items, queues_items, said_items, message_items, opening_items, event_items, phase_items, items_of, side_of, view_of}
 use Rattle.port_view.specs.KnownPorts.{is_kept}
-use Rattle.desk_words.proofs.Seen.{by_test}
-use Rattle.answer_bounds.specs.Bounds.{IsFramed, AreFramed, AreFew, AreSmall, tells_statistics}
+use Rattle.answer_bounds.specs.Bounds.{IsFramed, AreFramed, AreFew, AreSmall, is_statistics, tells_statistics}
 use Rattle.answer_bounds.proofs.Messages.{IsShort, few-more, small-few}
 use Rattle.answer_bounds.proofs.AnswerSizes.{HasFewPorts, IsBounded, AreBounded, speaks, speaking, sent_size}
 use Rattle.answer_bounds.proofs.Statistics.{AreReplied, part_body, statistics_replied}
-use Rattle.answer_bounds.proofs.Ports.{IsWhole, told_status, few_ports}
+use Rattle.answer_bounds.proofs.Ports.{IsWhole, read_status, if_read, few_ports}
 
 -- ---- few items
 
@@ -70,7 +73,7 @@ items_if view b shown h = either (AreFewItems view) b shown [] h (no_items view)
 abbrev IsShortPacket : PacketIn → Type 0
 IsShortPacket packet = 18 + length packet.payload ≤ 65535
 
-packet_short : (message : List ℕ) → IsShort message → IfSome (well_formed (read_packet_in message)) IsShortPacket
+packet_short : (message : List ℕ) → IsShort message → IfOk (read_packet_in message) IsShortPacket
 unfolding read_packet_in
 packet_short message short = elim (cases_Bool (ltb (length message) 18)) [
   | inl is ↦ rw is tt
@@ -114,49 +117,42 @@ lost_few view shown (Some k) few =
     let rest = few (Lost k ∷ view) in
     record { few = rest.few; bounded = (tt, rest.bounded); whole = All-cons IsWholeEntry (Lost k) shown tt rest.whole }
 
-packet_few : (policy : PolicyView) (rules : List Rule) (slot : ℕ) (side : Side) (told : Option PacketIn) → IfSome told IsShortPacket
-    → AreFewItems side.sight.view (elim told [ None ↦ [] | Some packet ↦ packet_in_items policy rules slot side packet ])
-packet_few policy rules slot side None short = no_items side.sight.view
-packet_few policy rules slot side (Some packet) short =
+packet_few : (policy : PolicyView) (rules : List Rule) (slot : ℕ) (side : Side) (packet : PacketIn) → IsShortPacket packet → AreFewItems side.sight.view (packet_in_items policy rules slot side packet)
+packet_few policy rules slot side packet short =
     lost_few side.sight.view (packet_items policy rules slot side.sight.view packet) (option_and_then (λ number. holder number side.numbered) (number_given packet))
     (λ others. items_if others (is_up side.sight.view) (map (λ share. handed share packet) (shares_of policy rules slot packet)) (handed_few policy rules slot others packet short))
 
 -- ---- ports
 
-status_few : (s : Settings) (view : List Item) (known : List (List ℕ)) (told : Option PortStatus) → IfSome told IsWhole
-    → AreFewItems view (elim told [ None ↦ [] | Some status ↦ status_items s known status ])
-status_few s view known None whole = no_items view
-status_few s view known (Some status) whole =
+status_few : (s : Settings) (view : List Item) (known : List (List ℕ)) (status : PortStatus) → IsWhole status → AreFewItems view (status_items s known status)
+status_few s view known status whole =
     items_if view (is_kept status known && is_own_port s (port_number status.port)) (Status status ∷ []) (one_item view (Status status) whole tt)
 
 -- ---- entries and errors
 
-removed_few : (s : Settings) (view : List Item) (told : Option FlowRemoved) → AreFewItems view (removed_items s told)
-removed_few s view None = no_items view
-removed_few s view (Some entry) =
+removed_few : (s : Settings) (view : List Item) (entry : FlowRemoved) → AreFewItems view (removed_items s entry)
+removed_few s view entry =
     let item = Removed (record entry { xid = 0 }) in
     items_if view (list_any (λ pattern. includes_of pattern entry.pattern) s.patterns) (item ∷ []) (one_item view item tt tt)
 
-error_few : (s : Settings) (view : List Item) (xid : ℕ) (told : Option ErrorMessage) → AreFewItems view (error_items s xid told)
-error_few s view xid None = no_items view
-error_few s view xid (Some error) =
+error_few : (s : Settings) (view : List Item) (xid : ℕ) (error : ErrorMessage) → AreFewItems view (error_items s xid error)
+error_few s view xid error =
     let item = Fault (xid % 2 ^ 24) error.class error.code (pair_in xid error.cause) in
     items_if view (is_reply_to s xid) (item ∷ []) (one_item view item tt tt)
 
 -- ---- replies
 
-barrier_few : (s : Settings) (view : List Item) (message : List ℕ) → AreFewItems view (barrier_items s message)
-barrier_few s view message =
-    let item = Barrier (xid_of message % 2 ^ 24) in
-    items_if view (is_reply_to s (xid_of message) && is_bare message) (item ∷ []) (one_item view item tt tt)
+barrier_few : (s : Settings) (view : List Item) (xid : ℕ) → AreFewItems view (barrier_items s xid)
+barrier_few s view xid =
+    let item = Barrier (xid % 2 ^ 24) in
+    items_if view (is_reply_to s xid) (item ∷ []) (one_item view item tt tt)
 
-queues_few : (s : Settings) (view : List Item) (xid : ℕ) (told : Option QueuesMessage) → IfSome told (λ queues. length queues.body ≤ 65527) → AreFewItems view (queues_items s xid told)
-queues_few s view xid None short = no_items view
-queues_few s view xid (Some queues) short =
+queues_few : (s : Settings) (view : List Item) (xid : ℕ) (queues : QueuesMessage) → length queues.body ≤ 65527 → AreFewItems view (queues_items s xid queues)
+queues_few s view xid queues short =
     let item = Queues (xid % 2 ^ 24) queues.body in
     items_if view (is_reply_to s xid && is_own_port s queues.port) (item ∷ []) (one_item view item short tt)
 
-queues_short : (message : List ℕ) → IsShort message → IfSome (well_formed (read_queues message)) (λ queues. length queues.body ≤ 65527)
+queues_short : (message : List ℕ) → IsShort message → IfOk (read_queues message) (λ queues. length queues.body ≤ 65527)
 unfolding read_queues
 queues_short message short = elim (cases_Bool (ltb (length message) 16)) [
   | inl is ↦ rw is tt
@@ -187,22 +183,61 @@ answered_statistics statistics s view shown is are = record { small = are.small;
 
 -- ---- events
 
-message_answered : (policy : PolicyView) (slot : ℕ) (switch : Switch) (side : Side) (message : List ℕ) → IsShort message → All IsWholeEntry side.sight.view
-    → AreAnswered (is_of STATS_REPLY message) (settings_at policy slot switch.features) side.sight.view (message_items policy slot switch side message)
-unfolding message_items
-message_answered policy slot switch side message short whole =
+-- what a message says fits one, and its ports have 48 bytes each
+abbrev IsShortSaid : SwitchMessage → Type 0
+IsShortSaid (says.PacketIn packet) = IsShortPacket packet
+IsShortSaid (says.PortStatus status) = IsWhole status
+IsShortSaid (says.StatsReply part body) = length body ≤ page_size
+IsShortSaid (says.QueueGetConfigReply queues) = length queues.body ≤ 65527
+IsShortSaid said = Unit {0}
+
+said_short : (message : List ℕ) → IsShort message → IfOk (read_switch message) IsShortSaid
+said_short message short = of_switch (λ said. IfOk said IsShortSaid) message (record {
+  unread = λ fault is. tt;
+  hello = tt;
+  error = λ error is. tt;
+  echo_request = tt;
+  echo_reply = tt;
+  vendor = tt;
+  features = λ features is. tt;
+  config = tt;
+  packet = λ packet is. if_read IsShortPacket (read_packet_in message) packet is (packet_short message short);
+  removal = λ entry is. tt;
+  status = λ status is. if_read IsWhole (read_port_status message) status is (read_status message);
+  part = λ part is. if_read (λ (found : StatsPart). length (drop found.from message) ≤ page_size) (part_of message) part is (part_body message short);
+  barrier = tt;
+  queues = λ queues is. if_read (λ (found : QueuesMessage). length found.body ≤ 65527) (read_queues message) queues is (queues_short message short);
+}) tt
+
+said_answered : (policy : PolicyView) (slot : ℕ) (switch : Switch) (side : Side) (xid : ℕ) (said : Result SwitchMessage Unread) → IfOk said IsShortSaid → All IsWholeEntry side.sight.view
+    → AreAnswered (is_statistics said) (settings_at policy slot switch.features) side.sight.view (said_items policy slot switch side xid said)
+said_answered policy slot switch side xid (Err BadLength) short whole = answered_few false (settings_at policy slot switch.features) side.sight.view (End ∷ []) (one_item side.sight.view End tt tt)
+said_answered policy slot switch side xid (Ok (says.PacketIn packet)) short whole =
+    answered_few false (settings_at policy slot switch.features) side.sight.view _ (packet_few policy (rules_of policy switch.features) slot side packet short)
+said_answered policy slot switch side xid (Ok (says.FlowRemoved entry)) short whole =
     let s = settings_at policy slot switch.features in
-    let view = side.sight.view in
-    let P : List Item → Type 0 = AreAnswered (is_of STATS_REPLY message) s view in
-    let few : (shown : List Item) → AreFewItems view shown → P shown = answered_few (is_of STATS_REPLY message) s view in
-    either P (is_bad message) _ _ (few _ (one_item view End tt tt))
-    (either P (is_of PACKET_IN message) _ _ (few _ (packet_few policy (rules_of policy switch.features) slot side (well_formed (read_packet_in message)) (packet_short message short)))
-    (either P (is_of FLOW_REMOVED message) _ _ (few _ (removed_few s view (well_formed (read_flow_removed message))))
-    (either P (is_of ERROR message) _ _ (few _ (error_few s view (xid_of message) (well_formed (read_error message))))
-    (either P (is_of BARRIER_REPLY message) _ _ (few _ (barrier_few s view message))
-    (either P (is_of QUEUE_GET_CONFIG_REPLY message) _ _ (few _ (queues_few s view (xid_of message) (well_formed (read_queues message)) (queues_short message short)))
-    (by_test P (is_of STATS_REPLY message) _ _ (λ is. answered_statistics (is_of STATS_REPLY message) s view _ is (statistics_replied s view (xid_of message) (well_formed (part_of message)) message (part_body message short) whole))
-    (few _ (status_few s view switch.known (status_told message) (told_status message)))))))))
+    answered_few false s side.sight.view _ (removed_few s side.sight.view entry)
+said_answered policy slot switch side xid (Ok (says.PortStatus status)) short whole =
+    let s = settings_at policy slot switch.features in
+    answered_few false s side.sight.view _ (status_few s side.sight.view switch.known status short)
+said_answered policy slot switch side xid (Ok (says.Error error)) short whole =
+    let s = settings_at policy slot switch.features in
+    answered_few false s side.sight.view _ (error_few s side.sight.view xid error)
+said_answered policy slot switch side xid (Ok says.BarrierReply) short whole =
+    let s = settings_at policy slot switch.features in
+    answered_few false s side.sight.view _ (barrier_few s side.sight.view xid)
+said_answered policy slot switch side xid (Ok (says.QueueGetConfigReply queues)) short whole =
+    let s = settings_at policy slot switch.features in
+    answered_few false s side.sight.view _ (queues_few s side.sight.view xid queues short)
+said_answered policy slot switch side xid (Ok (says.StatsReply part body)) short whole =
+    let s = settings_at policy slot switch.features in
+    answered_statistics true s side.sight.view _ refl (statistics_replied s side.sight.view xid part body short whole)
+said_answered policy slot switch side xid said short whole = answered_few false (settings_at policy slot switch.features) side.sight.view [] (no_items side.sight.view)
+
+message_answered : (policy : PolicyView) (slot : ℕ) (switch : Switch) (side : Side) (message : List ℕ) → IsShort message → All IsWholeEntry side.sight.view
+    → AreAnswered (is_statistics (read_switch message)) (settings_at policy slot switch.features) side.sight.view (message_items policy slot switch side message)
+unfolding message_items
+message_answered policy slot switch side message short whole = said_answered policy slot switch side (xid_of message) (read_switch message) (said_short message short) whole
 
 event_answered : (policy : PolicyView) (slot moment : ℕ) (switch : Switch) (side : Side) (event : Event) → HasFewPorts side.sight.view → All IsWholeEntry side.sight.view → IsFramed event
     → AreAnswered (tells_statistics event) (settings_at policy slot switch.features) side.sight.view (event_items policy slot switch side moment event)

@@ -1,5 +1,5 @@
 -- The ports that a slice knows are no more than fit a FEATURES_REPLY, each of 48 bytes.
-use Rattle.std.proofs.Common.{◌≡◌, ℕ, zero, suc, ◌/◌, ◌==◌, ◌≤◌, nat_lt, not, Bool, true, false, if◌then◌else◌, inl, inr, List, [], ◌∷◌, length, drop, refl, ap, sym, subst, eqb-true, Option, Some, None, IfSome, arith}
+use Rattle.std.proofs.Common.{◌≡◌, ℕ, zero, suc, ◌/◌, ◌==◌, ◌≤◌, nat_lt, not, true, inl, inr, List, [], ◌∷◌, length, drop, refl, ap, sym, subst, eqb-true, Option, Some, None, IfSome, Result, Ok, IfOk, arith}
 use Rattle.std.specs.Prelude.{fold}
 use Rattle.std.specs.List.{All}
 use Rattle.std.specs.Simd.{first_chunks}
@@ -8,13 +8,16 @@ use Rattle.std.proofs.lemmas.List.{length-drop}
 use Rattle.std.proofs.lemmas.Option.{IfSome_then}
 use Rattle.std.proofs.lemmas.List.Elements.{All-nil, All-cons, All-head, All-tail, All-append, All-filter}
 use Rattle.std.proofs.lemmas.List.Filters.{length-filter_both}
-use Rattle.of10_ctl.specs.declared.kind.TheConstants.{FEATURES_REPLY, PORT_STATUS}
 use Rattle.of10_port.specs.declared.features.Features.{Features}
 use Rattle.of10_port.specs.declared.status.PortStatus.{PortStatus}
 use Rattle.of10_port.specs.Ports.{IsPort, port_number, ports_in}
 use Rattle.of10_port.specs.Features.{has_whole_ports, read_features}
 use Rattle.of10_port.specs.PortStatus.{read_port_status}
 use Rattle.of10_port.proofs.Pieces.{IsPort-ports_in}
+use Rattle.of10_message.specs.declared.fault.Unread.{Unread}
+use Rattle.of10_switch.specs.Messages as says
+use Rattle.of10_switch.specs.Messages.{SwitchMessage, read_switch}
+use Rattle.of10_switch.proofs.Cases.{of_switch}
 use Rattle.flowspace.specs.declared.rules.Rule.{Rule}
 use Rattle.flowspace.specs.Owners.{is_in_port, has_port}
 use Rattle.flowspace.specs.Policies.{PolicyView}
@@ -28,8 +31,7 @@ use Rattle.desk_words.specs.declared.event.Event.TheVariants.{SwitchUp, SwitchMs
 use Rattle.desk_words.specs.declared.event.Timed.{Timed}
 use Rattle.desk_words.specs.declared.phase.Phase.{Phase}
 use Rattle.desk_words.specs.declared.phase.Phase.TheVariants.{Fresh, Begun, Opened, Gone}
-use Rattle.of10_ctl.specs.Kinds.{is_of}
-use Rattle.desk_words.specs.Openings.{well_formed, features_told, status_told, phase_of, opening_after, opening_of, ports_after}
+use Rattle.desk_words.specs.Openings.{features_said, status_said, features_told, status_told, phase_of, opening_after, opening_of, ports_after}
 use Rattle.desk_words.specs.Histories.{is_slot, settings_at, Side, view_of}
 use Rattle.desk_words.specs.Laws.{HasSeen}
 use Rattle.desk_words.proofs.Alone.{blind}
@@ -51,19 +53,12 @@ HasFew features = length features.ports ≤ 1364
 abbrev pub IsWhole : PortStatus → Type 0
 IsWhole status = IsPort status.port
 
-if_told : {A : Type 0} (P : A → Type 0) (b : Bool) (told : Option A) → IfSome told P → IfSome (if b then told else None) P
-if_told P true told h = h
-if_told P false told h = tt
-
-read_whole : (message : List ℕ) → IfSome (well_formed (read_features message)) HasWhole
+read_whole : (message : List ℕ) → IfOk (read_features message) HasWhole
 unfolding read_features
 read_whole message = elim (cases_Bool (has_whole_ports message)) [
   | inl is ↦ rw is (IsPort-ports_in (drop 32 message))
   | inr isnt ↦ rw isnt tt
 ]
-
-told_whole : (message : List ℕ) → IfSome (features_told message) HasWhole
-told_whole message = if_told HasWhole (is_of FEATURES_REPLY message) (well_formed (read_features message)) (read_whole message)
 
 length-chunks : (k : ℕ) (bytes : List ℕ) → length (first_chunks 48 k bytes) ≡ k
 length-chunks zero bytes = refl
@@ -79,25 +74,77 @@ few_in message short =
     let count = length-ports_in (drop 32 message) in
     omega arith
 
-read_few : (message : List ℕ) → length message ≤ 65535 → IfSome (well_formed (read_features message)) HasFew
+read_few : (message : List ℕ) → length message ≤ 65535 → IfOk (read_features message) HasFew
 unfolding read_features
 read_few message short = elim (cases_Bool (has_whole_ports message)) [
   | inl is ↦ rw is (few_in message short)
   | inr isnt ↦ rw isnt tt
 ]
 
-told_few : (message : List ℕ) → length message ≤ 65535 → IfSome (features_told message) HasFew
-told_few message short = if_told HasFew (is_of FEATURES_REPLY message) (well_formed (read_features message)) (read_few message short)
-
-read_status : (message : List ℕ) → IfSome (well_formed (read_port_status message)) IsWhole
+pub read_status : (message : List ℕ) → IfOk (read_port_status message) IsWhole
 unfolding read_port_status
 read_status message = elim (cases_Bool (length message == 64)) [
   | inl is ↦ (let long = eqb-true (length message) 64 is in let rest = length-drop 16 message in rw is (omega arith))
   | inr isnt ↦ rw isnt tt
 ]
 
-pub told_status : (message : List ℕ) → IfSome (status_told message) IsWhole
-told_status message = if_told IsWhole (is_of PORT_STATUS message) (well_formed (read_port_status message)) (read_status message)
+-- a fact of a reading is one of what it gives
+pub if_read : {A E : Type 0} (P : A → Type 0) (r : Result A E) (x : A) → r ≡ Ok x → IfOk r P → P x
+if_read P r x is h = subst (λ found. IfOk found P) is h
+
+-- the ports that a message tells of have 48 bytes each
+abbrev pub HasWholePorts : SwitchMessage → Type 0
+HasWholePorts (says.FeaturesReply features) = HasWhole features
+HasWholePorts (says.PortStatus status) = IsWhole status
+HasWholePorts said = Unit {0}
+
+pub said_whole : (message : List ℕ) → IfOk (read_switch message) HasWholePorts
+said_whole message = of_switch (λ said. IfOk said HasWholePorts) message (record {
+  unread = λ fault is. tt;
+  hello = tt;
+  error = λ error is. tt;
+  echo_request = tt;
+  echo_reply = tt;
+  vendor = tt;
+  features = λ features is. if_read HasWhole (read_features message) features is (read_whole message);
+  config = tt;
+  packet = λ packet is. tt;
+  removal = λ entry is. tt;
+  status = λ status is. if_read IsWhole (read_port_status message) status is (read_status message);
+  part = λ part is. tt;
+  barrier = tt;
+  queues = λ queues is. tt;
+}) tt
+
+told_whole : (said : Result SwitchMessage Unread) → IfOk said HasWholePorts → IfSome (features_said said) HasWhole
+told_whole (Ok (says.FeaturesReply features)) whole = whole
+told_whole said whole = tt
+
+told_status : (said : Result SwitchMessage Unread) → IfOk said HasWholePorts → IfSome (status_said said) IsWhole
+told_status (Ok (says.PortStatus status)) whole = whole
+told_status said whole = tt
+
+-- the ports of features fit a FEATURES_REPLY
+abbrev HasFewPortsSaid : Result SwitchMessage Unread → Type 0
+HasFewPortsSaid said = IfSome (features_said said) HasFew
+
+told_few : (message : List ℕ) → length message ≤ 65535 → IfSome (features_told message) HasFew
+told_few message short = of_switch HasFewPortsSaid message (record {
+  unread = λ fault is. tt;
+  hello = tt;
+  error = λ error is. tt;
+  echo_request = tt;
+  echo_reply = tt;
+  vendor = tt;
+  features = λ features is. if_read HasFew (read_features message) features is (read_few message short);
+  config = tt;
+  packet = λ packet is. tt;
+  removal = λ entry is. tt;
+  status = λ status is. tt;
+  part = λ part is. tt;
+  barrier = tt;
+  queues = λ queues is. tt;
+}) tt
 
 -- ---- each known port has 48 bytes
 
@@ -136,8 +183,8 @@ whole_changed status known one all = by_kept (All IsPort) status known (λ is. w
 whole_known : (h : List Timed) → All IsPort (ports_after h)
 whole_known h = known_holds (All IsPort) (record {
   none = All-nil IsPort;
-  first = λ message. IfSome_then (features_told message) (told_whole message) (λ features has. whole_first features.ports has);
-  still = λ message. IfSome_then (status_told message) (told_status message) (λ status one known all. whole_changed status known one all);
+  first = λ message. IfSome_then (features_told message) (told_whole (read_switch message) (said_whole message)) (λ features has. whole_first features.ports has);
+  still = λ message. IfSome_then (status_told message) (told_status (read_switch message) (said_whole message)) (λ status one known all. whole_changed status known one all);
 }) h
 
 -- ---- there are no more than fit a FEATURES_REPLY

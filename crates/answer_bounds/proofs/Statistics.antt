@@ -1,5 +1,5 @@
 -- What statistics show a slice, and that the replies to it are at most 1,048,588 bytes.
-use Rattle.std.proofs.Common.{◌≡◌, ℕ, ◌%◌, ◌^◌, ◌&&◌, ◌≤◌, Bool, true, false, if◌then◌else◌, List, [], ◌∷◌, ◌++◌, length, map, drop, append-nil, ltb, refl, Option, Some, None, IfSome, inl, inr, arith}
+use Rattle.std.proofs.Common.{◌≡◌, ℕ, ◌%◌, ◌^◌, ◌&&◌, ◌≤◌, Bool, true, false, if◌then◌else◌, List, [], ◌∷◌, ◌++◌, length, map, drop, append-nil, ltb, refl, Option, Some, None, IfOk, inl, inr, arith}
 use Rattle.std.specs.List.{All}
 use Rattle.std.proofs.lemmas.Bool.{cases_Bool}
 use Rattle.std.proofs.lemmas.List.{length-drop}
@@ -26,7 +26,6 @@ use Rattle.slice_words.specs.Calls.{request_for, request_calls, collection_calls
 use Rattle.slice_words.specs.Alone.{answer_to, sent_for}
 use Rattle.slice_words.specs.Standing.{past_of}
 use Rattle.slice_words.proofs.Collecting.{IsWholeEntry, fit-gathered}
-use Rattle.desk_words.specs.Openings.{well_formed}
 use Rattle.desk_words.specs.Histories.{is_reply_to, own_entries, is_part, part_items, statistics_items}
 use Rattle.answer_bounds.specs.Bounds.{AreSmall}
 use Rattle.answer_bounds.proofs.Messages.{IsShort, few-one, small-none, small-few, short-sums}
@@ -109,19 +108,17 @@ own_whole s x kind body fits =
     All-filter (is_own_entry (own_rules s) s.slot kind) (λ (entry : List ℕ). IsWholeEntry (Entry x kind entry)) (entries_in kind body) (λ k d lt. (formed k d lt, small k d lt))
 
 -- a part's body begins behind the first 12 bytes
-pub part_body : (message : List ℕ) → IsShort message → IfSome (well_formed (part_of message)) (λ part. length (drop part.from message) ≤ page_size)
+pub part_body : (message : List ℕ) → IsShort message → IfOk (part_of message) (λ part. length (drop part.from message) ≤ page_size)
 unfolding part_of
 part_body message short = elim (cases_Bool (ltb (length message) 12)) [
   | inl is ↦ rw is tt
   | inr isnt ↦ (let rest = length-drop 12 message in rw isnt (omega arith))
 ]
 
-pub statistics_replied : (s : Settings) (view : List Item) (xid : ℕ) (told : Option StatsPart) (message : List ℕ) → IfSome told (λ part. length (drop part.from message) ≤ page_size) → All IsWholeEntry view
-    → AreReplied s view (statistics_items s xid told message)
-statistics_replied s view xid None message fits whole = no_items s view
-statistics_replied s view xid (Some part) message fits whole =
+pub statistics_replied : (s : Settings) (view : List Item) (xid : ℕ) (part : StatsPart) (body : List ℕ) → length body ≤ page_size → All IsWholeEntry view
+    → AreReplied s view (statistics_items s xid part body)
+statistics_replied s view xid part body fits whole =
     let x = xid % 2 ^ 24 in
-    let body = drop part.from message in
     either (AreReplied s view) (is_reply_to s xid && is_part part.kind body) (part_items s x part body) []
     (entries_replied s view x part.kind (own_entries s part.kind body) (if part.more then [] else Last x part.kind ∷ []) (own_whole s x part.kind body fits) whole (λ later all. end_replied s later part.more x part.kind all))
     (no_items s view)

@@ -1,9 +1,10 @@
 -- What follows from one event is little, and fits the limits of the queues.
-use Rattle.std.specs.Prelude.{ℕ, ◌≡◌, ◌≤◌, Bool, false, List, length}
+use Rattle.std.specs.Prelude.{ℕ, ◌≡◌, ◌≤◌, Bool, true, false, List, length, Result, Ok}
 use Rattle.std.specs.List.{All}
-use Rattle.of10_ctl.specs.declared.kind.TheConstants.{STATS_REPLY}
 use Rattle.of10_ctl.specs.Frames.{IsFrame}
-use Rattle.of10_ctl.specs.Kinds.{is_of}
+use Rattle.of10_message.specs.declared.fault.Unread.{Unread}
+use Rattle.of10_switch.specs.Messages as says
+use Rattle.of10_switch.specs.Messages.{SwitchMessage, read_switch}
 use Rattle.flowspace.specs.Policies.{PolicyView}
 use Rattle.outbox.specs.Queues.{size}
 use Rattle.desk_words.specs.declared.event.Event.{Event}
@@ -41,9 +42,14 @@ pub record AreSmall (most : ℕ) (messages : List (List ℕ)) : Type 0 where
   pub small : size messages ≤ most
   pub short : AreShort messages
 
--- an event tells statistics (OpenFlow 1.0.0, section 5.3.5)
+-- what was read is a part of statistics (OpenFlow 1.0.0, section 5.3.5)
+abbrev pub is_statistics : Result SwitchMessage Unread → Bool
+is_statistics (Ok (says.StatsReply part body)) = true
+is_statistics said = false
+
+-- an event tells statistics
 abbrev pub tells_statistics : Event → Bool
-tells_statistics (SwitchMsg message) = is_of STATS_REPLY message
+tells_statistics (SwitchMsg message) = is_statistics (read_switch message)
 tells_statistics event = false
 
 -- what follows from an event after a history is at most 262,144 bytes for the switch and 1,048,588 for each slice; and where it tells no statistics, at most two messages for each slice

@@ -1,5 +1,5 @@
 -- Under the number with which a packet came that a slice holds no packet came since, over every history.
-use Rattle.std.proofs.Common.{◌≡◌, ◌≢◌, ℕ, ◌+◌, ◌-◌, ◌<◌, ◌==◌, ◌||◌, ◌&&◌, ◌⊎◌, not, Bool, true, false, true≢false, if◌then◌else◌, List, [], ◌∷◌, ◌++◌, length, get_or, filter, map, refl, sym, ap, ◌∙◌, subst, Option, Some, None, is_some, unwrap_or, suc, inl, inr, arith}
+use Rattle.std.proofs.Common.{◌≡◌, ◌≢◌, ℕ, ◌+◌, ◌-◌, ◌<◌, ◌==◌, ◌||◌, ◌&&◌, ◌⊎◌, not, Bool, true, false, true≢false, if◌then◌else◌, List, [], ◌∷◌, ◌++◌, length, get_or, filter, map, refl, sym, ap, ◌∙◌, subst, Option, Some, None, is_some, unwrap_or, suc, inl, inr, arith, Result, Ok}
 use Rattle.std.specs.Prelude.{option_and_then}
 use Rattle.std.specs.List.{All}
 use Rattle.std.proofs.lemmas.Bool.{cases_Bool, eq-eqb, ne_eqb, or_parts}
@@ -8,12 +8,8 @@ use Rattle.std.proofs.lemmas.List.{get_or-reverse}
 use Rattle.std.proofs.lemmas.List.Elements.{All-nil, All-cons, All-filter, All-weaker, filter_passes}
 use Rattle.std.proofs.lemmas.Option.{none-some}
 use Rattle.of10_model.specs.Normal.{is_value, bit}
-use Rattle.of10_ctl.specs.declared.kind.TheConstants.{ERROR, PACKET_IN, FLOW_REMOVED}
-use Rattle.of10_ctl.specs.Frames.{is_bad}
-use Rattle.of10_ctl.specs.Kinds.{is_of}
 use Rattle.of10_flow.specs.declared.protocol.TheConstants.{NO_BUFFER}
 use Rattle.of10_flow.specs.declared.packet_in.PacketIn.{PacketIn}
-use Rattle.of10_flow.specs.PacketIns.{read_packet_in}
 use Rattle.flowspace.specs.declared.rules.Rule.{Rule}
 use Rattle.flowspace.specs.Order.{writer_of, readers_of}
 use Rattle.flowspace.specs.Policies.{PolicyView}
@@ -25,12 +21,12 @@ use Rattle.slice_words.specs.Answers.{answer}
 use Rattle.slice_words.specs.Alone.{number_of, with_items, answer_to}
 use Rattle.slice_words.specs.Standing.{past_of}
 use Rattle.slice_words.proofs.Holding.{recent, view_in-played}
-use Rattle.desk_words.specs.Histories.{is_slot, settings_at, header_in, handed, packet_in_read, number_given, marked_slot, packet_items, packet_in_items, lost_items, message_items, event_items, opening_items, phase_items, status_items, number_told, with_shown, side_start, side_of, Numbered, Side, holder, is_given, is_any_given, came_with, numbered_with}
+use Rattle.desk_words.specs.Histories.{is_slot, settings_at, header_in, handed, packet_said, packet_in_read, number_given, marked_slot, packet_items, packet_in_items, said_items, message_items, event_items, opening_items, phase_items, number_told, with_shown, side_start, side_of, Numbered, Side, holder, is_given, is_any_given, came_with, numbered_with}
 use Rattle.desk_words.specs.Numbers.{AreNumbered}
-use Rattle.of10_model.proofs.Results.{either}
-use Rattle.of10_flow.specs.FlowRemoveds.{read_flow_removed}
-use Rattle.of10_message.specs.Heads.{version_of, is_kind, xid_of}
-use Rattle.of10_message.specs.Errors.{read_error}
+use Rattle.of10_message.specs.declared.fault.Unread.{Unread}
+use Rattle.of10_message.specs.Heads.{xid_of}
+use Rattle.of10_switch.specs.Messages as says
+use Rattle.of10_switch.specs.Messages.{SwitchMessage, read_switch}
 use Rattle.of10_port.specs.Ports.{port_number}
 use Rattle.of10_port.specs.declared.features.Features.{Features}
 use Rattle.of10_port.specs.declared.status.PortStatus.{PortStatus}
@@ -40,9 +36,8 @@ use Rattle.desk_words.specs.declared.event.Event.TheVariants.{SwitchUp, SwitchMs
 use Rattle.desk_words.specs.declared.event.Timed.{Timed}
 use Rattle.desk_words.specs.declared.phase.Phase.{Phase}
 use Rattle.desk_words.specs.declared.phase.Phase.TheVariants.{Fresh, Begun, Opened, Gone}
-use Rattle.desk_words.specs.Openings.{well_formed, status_told, opening_with, rules_of, Switch, switch_of, phase_of}
-use Rattle.desk_words.proofs.Silence.{none_or, none_of_removed, none_of_error, none_of_replies}
-use Rattle.desk_words.proofs.Seen.{no_kind}
+use Rattle.desk_words.specs.Openings.{opening_with, rules_of, Switch, switch_of, phase_of}
+use Rattle.desk_words.proofs.Silence.{none_or, none_of_others}
 
 -- ---- numbers
 
@@ -361,56 +356,37 @@ one_packet s policy rules slot side packet (Some q) is n =
     lost_first s side q (packet_items policy rules slot side.sight.view packet) (holder q side.numbered)
     (numbered_packet s policy rules slot side packet q (holder q side.numbered) refl (ap is_some is) n)
 
-by_packet : (s : Settings) (policy : PolicyView) (rules : List Rule) (slot : ℕ) (side : Side) (told : Option PacketIn) → AreNumbered s side
-    → AreNumbered s (after_items (option_and_then number_given told) (elim told [ None ↦ [] | Some packet ↦ packet_in_items policy rules slot side packet ]) side)
-by_packet s policy rules slot side None n = n
-by_packet s policy rules slot side (Some packet) n =
-    subst (λ number. AreNumbered s (after_items number (lost_items side.numbered packet ++ packet_items policy rules slot side.sight.view packet) side)) refl
-    (one_packet s policy rules slot side packet (number_given packet) refl n)
-
--- a packet-in's length isn't bad
-pub not_bad : (message : List ℕ) → is_of PACKET_IN message ≡ true → is_bad message ≡ false
-not_bad message is = elim (cases_Bool (is_bad message)) [
-  | inl bad ↦ absurd (true≢false (sym is ∙ no_kind (version_of message == 1) (is_kind PACKET_IN message) (is_bad message) bad))
-  | inr good ↦ good
-]
+by_packet : (s : Settings) (policy : PolicyView) (rules : List Rule) (slot : ℕ) (side : Side) (packet : PacketIn) → AreNumbered s side
+    → AreNumbered s (after_items (number_given packet) (packet_in_items policy rules slot side packet) side)
+by_packet s policy rules slot side packet n = one_packet s policy rules slot side packet (number_given packet) refl n
 
 -- other messages give no packet
-pub none_of_others : (policy : PolicyView) (slot : ℕ) (switch : Switch) (side : Side) (message : List ℕ) → is_of PACKET_IN message ≡ false → is_any_given (message_items policy slot switch side message) ≡ false
-unfolding message_items
-none_of_others policy slot switch side message other =
-    either (λ (items : List Item). is_any_given items ≡ false) (is_bad message) (End ∷ []) _ refl
-    (rw other
-    (either (λ (items : List Item). is_any_given items ≡ false) (is_of FLOW_REMOVED message) _ _
-    (none_of_removed is_given (settings_at policy slot switch.features) (well_formed (read_flow_removed message)) (λ entry. refl))
-    (either (λ (items : List Item). is_any_given items ≡ false) (is_of ERROR message) _ _
-    (none_of_error is_given (settings_at policy slot switch.features) (xid_of message) (well_formed (read_error message)) (λ x class code pair. refl))
-    (none_of_replies is_given (settings_at policy slot switch.features) message _
-    (record { barrier = λ x. refl; queues = λ x body. refl; entry = λ x kind bytes. refl; last = λ x kind. refl })
-    (none_of_status (settings_at policy slot switch.features) switch.known (status_told message))))))
-  where
-    none_of_status : (t : Settings) (known : List (List ℕ)) (status : Option PortStatus) → is_any_given (elim status [ None ↦ [] | Some said ↦ status_items t known said ]) ≡ false
-    none_of_status t known None = refl
-    none_of_status t known (Some status) = none_or is_given (is_kept status known && is_own_port t (port_number status.port)) (Status status ∷ []) refl
+pub none_given : (policy : PolicyView) (slot : ℕ) (switch : Switch) (side : Side) (xid : ℕ) (said : Result SwitchMessage Unread) → packet_said said ≡ None → is_any_given (said_items policy slot switch side xid said) ≡ false
+none_given policy slot switch side xid (Ok (says.PortStatus status)) none =
+    let s = settings_at policy slot switch.features in
+    none_or is_given (is_kept status switch.known && is_own_port s (port_number status.port)) (Status status ∷ []) refl
+none_given policy slot switch side xid said none =
+    none_of_others is_given policy slot switch side xid said (record {
+      end = refl;
+      removed = λ entry. refl;
+      fault = λ x class code pair. refl;
+      reply = record { barrier = λ x. refl; queues = λ x body. refl; entry = λ x kind bytes. refl; last = λ x kind. refl };
+    }) none refl
 
-other_message : (s : Settings) (policy : PolicyView) (slot : ℕ) (switch : Switch) (side : Side) (message : List ℕ) → is_of PACKET_IN message ≡ false → AreNumbered s side
-    → AreNumbered s (after_items (option_and_then number_given (packet_in_read message)) (message_items policy slot switch side message) side)
-other_message s policy slot switch side message is n =
-    let none : option_and_then number_given (packet_in_read message) ≡ None = rw is refl in
-    subst (λ number. AreNumbered s (after_items number (message_items policy slot switch side message) side)) (sym none)
-    (still_numbered s side (message_items policy slot switch side message) (none_of_others policy slot switch side message is) n)
+by_said : (s : Settings) (policy : PolicyView) (slot : ℕ) (switch : Switch) (side : Side) (xid : ℕ) (said : Result SwitchMessage Unread) → AreNumbered s side
+    → AreNumbered s (after_items (option_and_then number_given (packet_said said)) (said_items policy slot switch side xid said) side)
+by_said s policy slot switch side xid (Ok (says.PacketIn packet)) n = by_packet s policy (rules_of policy switch.features) slot side packet n
+by_said s policy slot switch side xid said n = still_numbered s side (said_items policy slot switch side xid said) (none_given policy slot switch side xid said refl) n
 
-by_message : (s : Settings) (policy : PolicyView) (slot : ℕ) (switch : Switch) (side : Side) (message : List ℕ) (of_packet : Bool) → is_of PACKET_IN message ≡ of_packet → AreNumbered s side
+by_message : (s : Settings) (policy : PolicyView) (slot : ℕ) (switch : Switch) (side : Side) (message : List ℕ) → AreNumbered s side
     → AreNumbered s (after_items (option_and_then number_given (packet_in_read message)) (message_items policy slot switch side message) side)
 unfolding message_items
-by_message s policy slot switch side message true is n =
-    rw (is, not_bad message is) (by_packet s policy (rules_of policy switch.features) slot side (well_formed (read_packet_in message)) n)
-by_message s policy slot switch side message false is n = other_message s policy slot switch side message is n
+by_message s policy slot switch side message n = by_said s policy slot switch side (xid_of message) (read_switch message) n
 
 by_event : (s : Settings) (policy : PolicyView) (slot moment : ℕ) (switch : Switch) (side : Side) (event : Event) → AreNumbered s side
     → AreNumbered s (after_items (number_told Opened event) (event_items policy slot switch side moment event) side)
 by_event s policy slot moment switch side SwitchUp n = n
-by_event s policy slot moment switch side (SwitchMsg message) n = by_message s policy slot switch side message (is_of PACKET_IN message) refl n
+by_event s policy slot moment switch side (SwitchMsg message) n = by_message s policy slot switch side message n
 by_event s policy slot moment switch side SwitchDown n = still_numbered s side (End ∷ []) refl n
 by_event s policy slot moment switch side (SliceUp other) n = still_numbered s side (if other == slot then Up ∷ [] else []) (none_or is_given (other == slot) (Up ∷ []) refl) n
 by_event s policy slot moment switch side (SliceMsg other message) n =

@@ -1,15 +1,11 @@
 -- What a slice has seen of its switch: its features, and the slice's own of the known ports.
-use Rattle.std.proofs.Common.{◌≡◌, ℕ, ◌==◌, ◌&&◌, ◌≤◌, not, Bool, true, false, if◌then◌else◌, List, [], ◌∷◌, length, refl, ap, sym, ◌∙◌, true≢false, eqb-true, Option, Some, None, IfSome, subst, arith}
+use Rattle.std.proofs.Common.{◌≡◌, ℕ, ◌==◌, ◌&&◌, ◌≤◌, Bool, true, false, if◌then◌else◌, List, [], ◌∷◌, length, refl, ap, sym, ◌∙◌, true≢false, Option, Some, None, IfSome, subst, arith, Result, Ok}
 use Rattle.std.specs.List.{list_any}
 use Rattle.std.proofs.lemmas.Bool.{false_from_ne_true, or_parts}
 use Rattle.std.proofs.lemmas.Option.{none-some}
-use Rattle.of10_ctl.specs.declared.kind.TheConstants.{ERROR, PACKET_IN, FLOW_REMOVED, PORT_STATUS, STATS_REPLY, BARRIER_REPLY, QUEUE_GET_CONFIG_REPLY}
-use Rattle.of10_ctl.specs.Frames.{is_bad}
-use Rattle.of10_flow.specs.FlowRemoveds.{read_flow_removed}
-use Rattle.of10_flow.specs.PacketIns.{read_packet_in}
-use Rattle.of10_message.specs.Errors.{read_error}
-use Rattle.of10_message.specs.Replies.{read_queues}
-use Rattle.of10_stats.specs.Replies.{part_of}
+use Rattle.of10_message.specs.declared.fault.Unread.{Unread}
+use Rattle.of10_switch.specs.Messages as says
+use Rattle.of10_switch.specs.Messages.{SwitchMessage, read_switch}
 use Rattle.of10_port.specs.declared.features.Features.{Features}
 use Rattle.of10_port.specs.declared.status.PortStatus.{PortStatus}
 use Rattle.of10_port.specs.Ports.{port_number}
@@ -22,7 +18,7 @@ use Rattle.port_view.specs.KnownPorts.{is_kept, IsAscending, first_known, change
 use Rattle.port_view.specs.SlicePorts.{ports_of_slice}
 use Rattle.port_view.proofs.Knowing.{changed-not_kept, IsAscending-changed, IsAscending-none, IsAscending-known_of, few-changed, few-known_of}
 use Rattle.port_view.proofs.Following.{own-changed, own-changed_other}
-use Rattle.of10_message.specs.Heads.{is_kind, version_of, kind_of, xid_of}
+use Rattle.of10_message.specs.Heads.{xid_of}
 use Rattle.slice_words.specs.Items.{Settings, Item, Opened as Told, Up, Down, Msg, Lost, Handed, Removed, Status, Fault, Barrier, Queues, Entry, Last, End, is_up, features_in, known_ports, own_rules, is_own_port}
 use Rattle.slice_words.specs.Alone.{with_items}
 use Rattle.desk_words.specs.declared.event.Event.{Event}
@@ -30,13 +26,12 @@ use Rattle.desk_words.specs.declared.event.Event.TheVariants.{SwitchUp, SwitchMs
 use Rattle.desk_words.specs.declared.event.Timed.{Timed}
 use Rattle.desk_words.specs.declared.phase.Phase.{Phase}
 use Rattle.desk_words.specs.declared.phase.Phase.TheVariants.{Fresh, Begun, Opened, Gone}
-use Rattle.of10_ctl.specs.Kinds.{is_of}
-use Rattle.desk_words.specs.Openings.{well_formed, features_told, status_told, phase_of, opening_after, opening_of, rules_of, known_after, ports_after, Switch, switch_of}
+use Rattle.desk_words.specs.Openings.{status_said, features_told, status_told, phase_of, opening_after, opening_of, rules_of, known_after, ports_after, Switch, switch_of}
 use Rattle.desk_words.specs.Verdicts.{is_before}
-use Rattle.desk_words.specs.Histories.{is_slot, settings_at, own_ports, own_features, packet_in_items, status_items, removed_items, error_items, barrier_items, queues_items, statistics_items, message_items, event_items, phase_items, Side, side_start, side_of, view_of}
+use Rattle.desk_words.specs.Histories.{is_slot, settings_at, own_ports, own_features, packet_in_items, status_items, said_items, message_items, event_items, phase_items, Side, side_start, side_of, view_of}
 use Rattle.desk_words.specs.Laws.{HasSeen, SeesItsSwitch, AreKnownInOrder}
 use Rattle.desk_words.proofs.Alone.{blind}
-use Rattle.desk_words.proofs.Silence.{none_or, none_of_packet, none_of_removed, none_of_error, NoReply, none_of_barrier, none_of_queues, none_of_statistics, untold}
+use Rattle.desk_words.proofs.Silence.{none_or, none_of_packet, NoReply, NoOther, none_of_others, untold}
 
 -- ---- items that tell nothing of the switch
 
@@ -110,11 +105,6 @@ by_status s view known status order same = record {
   ports_follow = own_after (own_rules s) s.slot view status known (kept_of status known) (has_port (own_rules s) s.slot (port_number status.port)) refl refl order same;
 }
 
-by_told : (s : Settings) (view : List Item) (known : List (List ℕ)) (told : Option PortStatus) → IsAscending known → known_ports view ≡ own_ports s known
-    → Follows s view (with_items (elim told [ None ↦ [] | Some status ↦ status_items s known status ]) view) (elim told [ None ↦ known | Some status ↦ changed status known ])
-by_told s view known None order same = record { features_stay = refl; ports_follow = same }
-by_told s view known (Some status) order same = by_status s view known status order same
-
 -- items that tell nothing of the switch, where the ports stay
 by_untelling : (s : Settings) (view items : List Item) (known now : List (List ℕ)) → list_any tells_switch items ≡ false → now ≡ known → known_ports view ≡ own_ports s known
     → Follows s view (with_items items view) now
@@ -122,74 +112,27 @@ by_untelling s view items known now none stay same =
     let both = untelling_all items view none in
     record { features_stay = both.0; ports_follow = both.1 ∙ same ∙ ap (own_ports s) (sym stay) }
 
-pub no_kind : (right kind bad : Bool) → bad ≡ true → (right && kind && not bad) ≡ false
-no_kind true true true is = refl
-no_kind true false true is = refl
-no_kind false true true is = refl
-no_kind false false true is = refl
-no_kind right kind false is = absurd (true≢false (sym is))
-
--- what is of one type is of no other
-twelve_not : (kind other : ℕ) → (other == 12) ≡ false → (kind == other) ≡ true → (kind == 12) ≡ false
-twelve_not kind other apart is = rw (eqb-true kind other is) apart
-
-and_first : (a b c : Bool) → (a && b && c) ≡ true → b ≡ true
-and_first true true c is = refl
-and_first true false c is = absurd (true≢false (sym is))
-and_first false b c is = absurd (true≢false (sym is))
-
-no_second : (a b c : Bool) → b ≡ false → (a && b && c) ≡ false
-no_second true b c is = rw is refl
-no_second false b c is = refl
-
-other_kind : (right : Bool) (kind other : ℕ) (bad : Bool) → (other == 12) ≡ false → (right && (kind == other) && not bad) ≡ true → (right && (kind == 12) && not bad) ≡ false
-other_kind right kind other bad apart is = no_second right (kind == 12) (not bad) (twelve_not kind other apart (and_first right (kind == other) (not bad) is))
-
--- a message of a bad length, or of another type, tells no status
-pub bad_untold : (message : List ℕ) → is_bad message ≡ true → status_told message ≡ None
-bad_untold message bad = rw (no_kind (version_of message == 1) (is_kind PORT_STATUS message) (is_bad message) bad) refl
-
-other_untold : (other : ℕ) (message : List ℕ) → (other == 12) ≡ false → is_of other message ≡ true → status_told message ≡ None
-other_untold other message apart is = rw (other_kind (version_of message == 1) (kind_of message) other (is_bad message) apart is) refl
-
 abbrev known_with : List (List ℕ) → Option PortStatus → List (List ℕ)
 known_with known told = elim told [ None ↦ known | Some status ↦ changed status known ]
 
-known_told : (message : List ℕ) (known : List (List ℕ)) → status_told message ≡ None → known_after Opened known (SwitchMsg message) ≡ known
-known_told message known none = ap (known_with known) none
+other_untelling : NoOther tells_switch
+other_untelling = record { end = refl; removed = λ entry. refl; fault = λ x class code pair. refl; reply = untelling_reply }
 
--- what a message of another type than PORT_STATUS shows, where it tells nothing of the switch
-by_other : (policy : PolicyView) (slot : ℕ) (switch : Switch) (view items : List Item) (message : List ℕ) → list_any tells_switch items ≡ false → status_told message ≡ None
-    → known_ports view ≡ own_ports (settings_at policy slot switch.features) switch.known
-    → Follows (settings_at policy slot switch.features) view (with_items items view) (known_after Opened switch.known (SwitchMsg message))
-by_other policy slot switch view items message none untold same =
-    by_untelling (settings_at policy slot switch.features) view items switch.known (known_after Opened switch.known (SwitchMsg message)) none (known_told message switch.known untold) same
-
--- one of two, by a test that is looked at
-pub by_test : (P : List Item → Type 0) (test : Bool) (one other : List Item) → (test ≡ true → P one) → P other → P (if test then one else other)
-by_test P true one other is isnt = is refl
-by_test P false one other is isnt = isnt
+by_said : (policy : PolicyView) (slot : ℕ) (switch : Switch) (side : Side) (xid : ℕ) (said : Result SwitchMessage Unread)
+    → IsAscending switch.known → known_ports side.sight.view ≡ own_ports (settings_at policy slot switch.features) switch.known
+    → Follows (settings_at policy slot switch.features) side.sight.view (with_items (said_items policy slot switch side xid said) side.sight.view) (known_with switch.known (status_said said))
+by_said policy slot switch side xid (Ok (says.PortStatus status)) order same = by_status (settings_at policy slot switch.features) side.sight.view switch.known status order same
+by_said policy slot switch side xid (Ok (says.PacketIn packet)) order same =
+    by_untelling (settings_at policy slot switch.features) side.sight.view (packet_in_items policy (rules_of policy switch.features) slot side packet) switch.known switch.known
+    (none_of_packet tells_switch policy (rules_of policy switch.features) slot side packet (λ share. refl) (λ k. refl)) refl same
+by_said policy slot switch side xid said order same =
+    by_untelling (settings_at policy slot switch.features) side.sight.view (said_items policy slot switch side xid said) switch.known switch.known (none_of_others tells_switch policy slot switch side xid said other_untelling refl refl) refl same
 
 by_message : (policy : PolicyView) (slot : ℕ) (switch : Switch) (side : Side) (message : List ℕ)
     → IsAscending switch.known → known_ports side.sight.view ≡ own_ports (settings_at policy slot switch.features) switch.known
     → Follows (settings_at policy slot switch.features) side.sight.view (with_items (message_items policy slot switch side message) side.sight.view) (known_after Opened switch.known (SwitchMsg message))
 unfolding message_items
-by_message policy slot switch side message order same =
-    let P : List Item → Type 0 = λ items. Follows (settings_at policy slot switch.features) side.sight.view (with_items items side.sight.view) (known_after Opened switch.known (SwitchMsg message)) in
-    by_test P (is_bad message) _ _ (λ is. by_other policy slot switch side.sight.view (End ∷ []) message refl (bad_untold message is) same)
-    (by_test P (is_of PACKET_IN message) _ _
-    (λ is. by_other policy slot switch side.sight.view (elim (well_formed (read_packet_in message)) as (λ x. List Item) [ None ↦ [] | Some p ↦ packet_in_items policy (rules_of policy switch.features) slot side p ]) message (none_of_packet tells_switch policy (rules_of policy switch.features) slot side (well_formed (read_packet_in message)) (λ p share. refl) (λ k. refl)) (other_untold PACKET_IN message refl is) same)
-    (by_test P (is_of FLOW_REMOVED message) _ _
-    (λ is. by_other policy slot switch side.sight.view (removed_items (settings_at policy slot switch.features) (well_formed (read_flow_removed message))) message (none_of_removed tells_switch (settings_at policy slot switch.features) (well_formed (read_flow_removed message)) (λ entry. refl)) (other_untold FLOW_REMOVED message refl is) same)
-    (by_test P (is_of ERROR message) _ _
-    (λ is. by_other policy slot switch side.sight.view (error_items (settings_at policy slot switch.features) (xid_of message) (well_formed (read_error message))) message (none_of_error tells_switch (settings_at policy slot switch.features) (xid_of message) (well_formed (read_error message)) (λ x class code pair. refl)) (other_untold ERROR message refl is) same)
-    (by_test P (is_of BARRIER_REPLY message) _ _
-    (λ is. by_other policy slot switch side.sight.view (barrier_items (settings_at policy slot switch.features) message) message (none_of_barrier tells_switch (settings_at policy slot switch.features) message untelling_reply) (other_untold BARRIER_REPLY message refl is) same)
-    (by_test P (is_of QUEUE_GET_CONFIG_REPLY message) _ _
-    (λ is. by_other policy slot switch side.sight.view (queues_items (settings_at policy slot switch.features) (xid_of message) (well_formed (read_queues message))) message (none_of_queues tells_switch (settings_at policy slot switch.features) (xid_of message) (well_formed (read_queues message)) untelling_reply) (other_untold QUEUE_GET_CONFIG_REPLY message refl is) same)
-    (by_test P (is_of STATS_REPLY message) _ _
-    (λ is. by_other policy slot switch side.sight.view (statistics_items (settings_at policy slot switch.features) (xid_of message) (well_formed (part_of message)) message) message (none_of_statistics tells_switch (settings_at policy slot switch.features) (xid_of message) (well_formed (part_of message)) message untelling_reply) (other_untold STATS_REPLY message refl is) same)
-    (by_told (settings_at policy slot switch.features) side.sight.view switch.known (status_told message) order same)))))))
+by_message policy slot switch side message order same = by_said policy slot switch side (xid_of message) (read_switch message) order same
 
 by_event : (policy : PolicyView) (slot moment : ℕ) (switch : Switch) (side : Side) (event : Event)
     → IsAscending switch.known → known_ports side.sight.view ≡ own_ports (settings_at policy slot switch.features) switch.known

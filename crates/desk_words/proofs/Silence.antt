@@ -1,19 +1,20 @@
 -- A slice that is down is sent nothing until it comes up.
-use Rattle.std.proofs.Common.{◌≡◌, ℕ, ◌%◌, ◌^◌, ◌==◌, ◌&&◌, ◌||◌, Bool, true, false, cond, if◌then◌else◌, List, [], ◌∷◌, ◌++◌, drop, map, refl, ap, ap₂, sym, ◌∙◌, append-nil, true≢false, Option, Some, None, option_and_then, inl, inr, ◌⊎◌}
+use Rattle.std.proofs.Common.{◌≡◌, ℕ, ◌%◌, ◌^◌, ◌==◌, ◌&&◌, ◌||◌, Bool, true, false, cond, if◌then◌else◌, List, [], ◌∷◌, ◌++◌, map, refl, ap, ap₂, sym, ◌∙◌, append-nil, true≢false, Option, Some, None, option_and_then, inl, inr, ◌⊎◌, Result, Ok, Err}
 use Rattle.std.proofs.lemmas.Bool.{and_right, eq-eqb, or_parts}
+use Rattle.std.proofs.lemmas.Option.{none-some}
 use Rattle.std.specs.List.{filter, list_any}
 use Rattle.of10_model.proofs.Results.{either, either_none}
-use Rattle.of10_ctl.specs.declared.kind.TheConstants.{ERROR, PACKET_IN, FLOW_REMOVED, STATS_REPLY, BARRIER_REPLY, QUEUE_GET_CONFIG_REPLY}
 use Rattle.of10_ctl.specs.Frames.{is_bad}
 use Rattle.of10_flow.specs.declared.packet_in.PacketIn.{PacketIn}
 use Rattle.of10_flow.specs.declared.flow_removed.FlowRemoved.{FlowRemoved}
-use Rattle.of10_flow.specs.FlowRemoveds.{read_flow_removed}
-use Rattle.of10_flow.specs.PacketIns.{read_packet_in}
 use Rattle.of10_message.specs.Heads.{xid_of}
-use Rattle.of10_message.specs.Errors.{ErrorMessage, read_error, pair_in}
-use Rattle.of10_message.specs.Replies.{is_bare, QueuesMessage, read_queues}
+use Rattle.of10_message.specs.declared.fault.Unread.{Unread}
+use Rattle.of10_message.specs.declared.fault.Unread.TheVariants.{BadLength}
+use Rattle.of10_message.specs.Errors.{ErrorMessage, pair_in}
+use Rattle.of10_message.specs.Replies.{QueuesMessage}
+use Rattle.of10_switch.specs.Messages as says
+use Rattle.of10_switch.specs.Messages.{SwitchMessage, read_switch}
 use Rattle.of10_stats.specs.declared.reply.StatsPart.{StatsPart}
-use Rattle.of10_stats.specs.Replies.{part_of}
 use Rattle.of10_model.specs.declared.pattern.Pattern.{Pattern}
 use Rattle.of10_model.specs.Inclusion.{includes_of}
 use Rattle.of10_port.specs.declared.features.Features.{Features}
@@ -30,10 +31,9 @@ use Rattle.desk_words.specs.declared.event.Event.TheVariants.{SwitchUp, SwitchMs
 use Rattle.desk_words.specs.declared.event.Timed.{Timed}
 use Rattle.desk_words.specs.declared.phase.Phase.{Phase}
 use Rattle.desk_words.specs.declared.phase.Phase.TheVariants.{Fresh, Begun, Opened, Gone}
-use Rattle.of10_ctl.specs.Kinds.{is_of}
-use Rattle.desk_words.specs.Openings.{well_formed, status_told, features_told, phase_after, phase_of, opening_with, opening_after, opening_of, rules_of, Switch, switch_of}
+use Rattle.desk_words.specs.Openings.{status_said, features_told, phase_after, phase_of, opening_with, opening_after, opening_of, rules_of, Switch, switch_of}
 use Rattle.desk_words.specs.Verdicts.{is_before}
-use Rattle.desk_words.specs.Histories.{is_slot, settings_at, Side, side_start, side_of, view_of, handed, shares_of, packet_items, packet_in_items, lost_items, holder, number_given, number_told, came_with, status_items, removed_items, is_reply_to, error_items, barrier_items, queues_items, own_entries, is_part, part_items, statistics_items, message_items, opening_items, event_items, phase_items, items_of, is_open, is_slice_up}
+use Rattle.desk_words.specs.Histories.{is_slot, settings_at, Side, side_start, side_of, view_of, handed, shares_of, packet_items, packet_in_items, lost_items, holder, number_given, number_told, came_with, status_items, removed_items, is_reply_to, error_items, barrier_items, queues_items, own_entries, is_part, part_items, statistics_items, packet_said, said_items, message_items, opening_items, event_items, phase_items, items_of, is_open, is_slice_up}
 use Rattle.port_view.specs.KnownPorts.{is_kept}
 use Rattle.desk_words.specs.Sent.{sent, sent_by}
 use Rattle.desk_words.specs.Laws.{is_up_of, IsSilentUntilUp, IsDownAfterDown}
@@ -60,14 +60,13 @@ none_lost test None none = refl
 none_lost test (Some k) none = ap (λ (one : Bool). one || false) (none k)
 
 -- a packet shows a slice nothing but what is lost and the packet
-pub none_of_packet : (test : Item → Bool) (policy : PolicyView) (rules : List Rule) (slot : ℕ) (side : Side) (told : Option PacketIn) → ((packet : PacketIn) (share : Share) → test (handed share packet) ≡ false) → ((k : ℕ) → test (Lost k) ≡ false)
-    → list_any test (elim told [ None ↦ [] | Some packet ↦ packet_in_items policy rules slot side packet ]) ≡ false
-none_of_packet test policy rules slot side None none lost = refl
-none_of_packet test policy rules slot side (Some packet) none lost =
+pub none_of_packet : (test : Item → Bool) (policy : PolicyView) (rules : List Rule) (slot : ℕ) (side : Side) (packet : PacketIn) → ((share : Share) → test (handed share packet) ≡ false) → ((k : ℕ) → test (Lost k) ≡ false)
+    → list_any test (packet_in_items policy rules slot side packet) ≡ false
+none_of_packet test policy rules slot side packet none lost =
     none_both test (lost_items side.numbered packet) (packet_items policy rules slot side.sight.view packet)
     (none_lost test (option_and_then (λ number. holder number side.numbered) (number_given packet)) lost)
     (none_or test (is_up side.sight.view) (map (λ share. handed share packet) (shares_of policy rules slot packet))
-    (none_each test (λ share. handed share packet) (shares_of policy rules slot packet) (none packet)))
+    (none_each test (λ share. handed share packet) (shares_of policy rules slot packet) none))
 
 -- ---- items that say nothing of the connection
 
@@ -75,21 +74,17 @@ none_of_packet test policy rules slot side (Some packet) none lost =
 abbrev pub are_plain : List Item → Bool
 are_plain items = list_any is_forgetting items
 
-plain_status : (s : Settings) (known : List (List ℕ)) (status : Option PortStatus)
-    → are_plain (elim status [ None ↦ [] | Some said ↦ status_items s known said ]) ≡ false
-plain_status s known None = refl
-plain_status s known (Some status) = none_or is_forgetting (is_kept status known && is_own_port s (port_number status.port)) (Status status ∷ []) refl
+plain_status : (s : Settings) (known : List (List ℕ)) (status : PortStatus) → are_plain (status_items s known status) ≡ false
+plain_status s known status = none_or is_forgetting (is_kept status known && is_own_port s (port_number status.port)) (Status status ∷ []) refl
 
 -- an entry that is gone, and an error, show a slice nothing but itself
-pub none_of_removed : (test : Item → Bool) (s : Settings) (told : Option FlowRemoved) → ((entry : FlowRemoved) → test (Removed entry) ≡ false) → list_any test (removed_items s told) ≡ false
-none_of_removed test s None none = refl
-none_of_removed test s (Some entry) none =
+pub none_of_removed : (test : Item → Bool) (s : Settings) (entry : FlowRemoved) → ((other : FlowRemoved) → test (Removed other) ≡ false) → list_any test (removed_items s entry) ≡ false
+none_of_removed test s entry none =
     none_or test (list_any (λ pattern. includes_of pattern entry.pattern) s.patterns) (Removed (record entry { xid = 0 }) ∷ [])
     (ap (λ (one : Bool). one || false) (none (record entry { xid = 0 })))
 
-pub none_of_error : (test : Item → Bool) (s : Settings) (xid : ℕ) (told : Option ErrorMessage) → ((x class code : ℕ) (pair : Option (Pattern × ℕ)) → test (Fault x class code pair) ≡ false) → list_any test (error_items s xid told) ≡ false
-none_of_error test s xid None none = refl
-none_of_error test s xid (Some error) none =
+pub none_of_error : (test : Item → Bool) (s : Settings) (xid : ℕ) (error : ErrorMessage) → ((x class code : ℕ) (pair : Option (Pattern × ℕ)) → test (Fault x class code pair) ≡ false) → list_any test (error_items s xid error) ≡ false
+none_of_error test s xid error none =
     none_or test (is_reply_to s xid) (Fault (xid % 2 ^ 24) error.class error.code (pair_in xid error.cause) ∷ [])
     (ap (λ (one : Bool). one || false) (none (xid % 2 ^ 24) error.class error.code (pair_in xid error.cause)))
 
@@ -100,14 +95,11 @@ pub record NoReply (test : Item → Bool) : Type 0 where
   pub entry : (x kind : ℕ) (bytes : List ℕ) → test (Entry x kind bytes) ≡ false
   pub last : (x kind : ℕ) → test (Last x kind) ≡ false
 
-pub none_of_barrier : (test : Item → Bool) (s : Settings) (message : List ℕ) → NoReply test → list_any test (barrier_items s message) ≡ false
-none_of_barrier test s message none =
-    none_or test (is_reply_to s (xid_of message) && is_bare message) (Barrier (xid_of message % 2 ^ 24) ∷ [])
-    (ap (λ (one : Bool). one || false) (none.barrier (xid_of message % 2 ^ 24)))
+pub none_of_barrier : (test : Item → Bool) (s : Settings) (xid : ℕ) → NoReply test → list_any test (barrier_items s xid) ≡ false
+none_of_barrier test s xid none = none_or test (is_reply_to s xid) (Barrier (xid % 2 ^ 24) ∷ []) (ap (λ (one : Bool). one || false) (none.barrier (xid % 2 ^ 24)))
 
-pub none_of_queues : (test : Item → Bool) (s : Settings) (xid : ℕ) (told : Option QueuesMessage) → NoReply test → list_any test (queues_items s xid told) ≡ false
-none_of_queues test s xid None none = refl
-none_of_queues test s xid (Some queues) none =
+pub none_of_queues : (test : Item → Bool) (s : Settings) (xid : ℕ) (queues : QueuesMessage) → NoReply test → list_any test (queues_items s xid queues) ≡ false
+none_of_queues test s xid queues none =
     none_or test (is_reply_to s xid && is_own_port s queues.port) (Queues (xid % 2 ^ 24) queues.body ∷ [])
     (ap (λ (one : Bool). one || false) (none.queues (xid % 2 ^ 24) queues.body))
 
@@ -117,40 +109,48 @@ none_of_part test s x part body none =
     (none_each test (Entry x part.kind) (own_entries s part.kind body) (none.entry x part.kind))
     (either (λ (items : List Item). list_any test items ≡ false) part.more [] (Last x part.kind ∷ []) refl (ap (λ (one : Bool). one || false) (none.last x part.kind)))
 
-pub none_of_statistics : (test : Item → Bool) (s : Settings) (xid : ℕ) (told : Option StatsPart) (message : List ℕ) → NoReply test → list_any test (statistics_items s xid told message) ≡ false
-none_of_statistics test s xid None message none = refl
-none_of_statistics test s xid (Some part) message none =
-    none_or test (is_reply_to s xid && is_part part.kind (drop part.from message)) (part_items s (xid % 2 ^ 24) part (drop part.from message))
-    (none_of_part test s (xid % 2 ^ 24) part (drop part.from message) none)
+pub none_of_statistics : (test : Item → Bool) (s : Settings) (xid : ℕ) (part : StatsPart) (body : List ℕ) → NoReply test → list_any test (statistics_items s xid part body) ≡ false
+none_of_statistics test s xid part body none =
+    none_or test (is_reply_to s xid && is_part part.kind body) (part_items s (xid % 2 ^ 24) part body)
+    (none_of_part test s (xid % 2 ^ 24) part body none)
 
--- a message is such a reply, or something else
-pub none_of_replies : (test : Item → Bool) (s : Settings) (message : List ℕ) (others : List Item) → NoReply test → list_any test others ≡ false
-    → list_any test (
-    if is_of BARRIER_REPLY message then barrier_items s message
-    else if is_of QUEUE_GET_CONFIG_REPLY message then queues_items s (xid_of message) (well_formed (read_queues message))
-    else if is_of STATS_REPLY message then statistics_items s (xid_of message) (well_formed (part_of message)) message
-    else others
-    ) ≡ false
-none_of_replies test s message others none none_of_others =
-    let P : List Item → Type 0 = λ items. list_any test items ≡ false in
-    either P (is_of BARRIER_REPLY message) _ _ (none_of_barrier test s message none)
-    (either P (is_of QUEUE_GET_CONFIG_REPLY message) _ _ (none_of_queues test s (xid_of message) (well_formed (read_queues message)) none)
-    (either P (is_of STATS_REPLY message) _ _ (none_of_statistics test s (xid_of message) (well_formed (part_of message)) message none) none_of_others))
+-- nor does the end, an entry that is gone, or an error
+pub record NoOther (test : Item → Bool) : Type 0 where
+  pub end : test End ≡ false
+  pub removed : (entry : FlowRemoved) → test (Removed entry) ≡ false
+  pub fault : (x class code : ℕ) (pair : Option (Pattern × ℕ)) → test (Fault x class code pair) ≡ false
+  pub reply : NoReply test
+
+-- a message that hands up no packet and tells of no port shows nothing else
+pub none_of_others : (test : Item → Bool) (policy : PolicyView) (slot : ℕ) (switch : Switch) (side : Side) (xid : ℕ) (said : Result SwitchMessage Unread) → NoOther test → packet_said said ≡ None → status_said said ≡ None
+    → list_any test (said_items policy slot switch side xid said) ≡ false
+none_of_others test policy slot switch side xid (Err BadLength) none no_packet no_status = ap (λ (one : Bool). one || false) none.end
+none_of_others test policy slot switch side xid (Ok (says.PacketIn packet)) none no_packet no_status = absurd (none-some packet (sym no_packet))
+none_of_others test policy slot switch side xid (Ok (says.FlowRemoved entry)) none no_packet no_status = none_of_removed test (settings_at policy slot switch.features) entry none.removed
+none_of_others test policy slot switch side xid (Ok (says.PortStatus status)) none no_packet no_status = absurd (none-some status (sym no_status))
+none_of_others test policy slot switch side xid (Ok (says.Error error)) none no_packet no_status = none_of_error test (settings_at policy slot switch.features) xid error none.fault
+none_of_others test policy slot switch side xid (Ok says.BarrierReply) none no_packet no_status = none_of_barrier test (settings_at policy slot switch.features) xid none.reply
+none_of_others test policy slot switch side xid (Ok (says.QueueGetConfigReply queues)) none no_packet no_status = none_of_queues test (settings_at policy slot switch.features) xid queues none.reply
+none_of_others test policy slot switch side xid (Ok (says.StatsReply part body)) none no_packet no_status = none_of_statistics test (settings_at policy slot switch.features) xid part body none.reply
+none_of_others test policy slot switch side xid said none no_packet no_status = refl
+
+plain_other : NoOther is_forgetting
+plain_other = record {
+  end = refl;
+  removed = λ entry. refl;
+  fault = λ x class code pair. refl;
+  reply = record { barrier = λ x. refl; queues = λ x body. refl; entry = λ x kind bytes. refl; last = λ x kind. refl };
+}
+
+plain_said : (policy : PolicyView) (slot : ℕ) (switch : Switch) (side : Side) (xid : ℕ) (said : Result SwitchMessage Unread) → are_plain (said_items policy slot switch side xid said) ≡ false
+plain_said policy slot switch side xid (Ok (says.PacketIn packet)) = none_of_packet is_forgetting policy (rules_of policy switch.features) slot side packet (λ share. refl) (λ k. refl)
+plain_said policy slot switch side xid (Ok (says.PortStatus status)) = plain_status (settings_at policy slot switch.features) switch.known status
+plain_said policy slot switch side xid said = none_of_others is_forgetting policy slot switch side xid said plain_other refl refl
 
 -- what a message of the switch shows says nothing of the slice's connection
 pub plain_message : (policy : PolicyView) (slot : ℕ) (switch : Switch) (side : Side) (message : List ℕ) → are_plain (message_items policy slot switch side message) ≡ false
 unfolding message_items
-plain_message policy slot switch side message =
-    either (λ (items : List Item). are_plain items ≡ false) (is_bad message) (End ∷ []) _ refl
-    (either (λ (items : List Item). are_plain items ≡ false) (is_of PACKET_IN message) _ _
-    (none_of_packet is_forgetting policy (rules_of policy switch.features) slot side (well_formed (read_packet_in message)) (λ packet share. refl) (λ k. refl))
-    (either (λ (items : List Item). are_plain items ≡ false) (is_of FLOW_REMOVED message) _ _
-    (none_of_removed is_forgetting (settings_at policy slot switch.features) (well_formed (read_flow_removed message)) (λ entry. refl))
-    (either (λ (items : List Item). are_plain items ≡ false) (is_of ERROR message) _ _
-    (none_of_error is_forgetting (settings_at policy slot switch.features) (xid_of message) (well_formed (read_error message)) (λ x class code pair. refl))
-    (none_of_replies is_forgetting (settings_at policy slot switch.features) message _
-    (record { barrier = λ x. refl; queues = λ x body. refl; entry = λ x kind bytes. refl; last = λ x kind. refl })
-    (plain_status (settings_at policy slot switch.features) switch.known (status_told message))))))
+plain_message policy slot switch side message = plain_said policy slot switch side (xid_of message) (read_switch message)
 
 pub plain_opening : (policy : PolicyView) (slot : ℕ) (told : Option Features) → are_plain (opening_items policy slot told) ≡ false
 plain_opening policy slot None = refl

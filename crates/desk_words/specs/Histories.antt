@@ -1,22 +1,21 @@
 -- What a slice sees of a history: its view, which is a filter of the history (this proxy's own rule). An event of another slice shows it nothing.
-use Rattle.std.specs.Prelude.{ℕ, ◌/◌, ◌%◌, ◌^◌, ◌==◌, ◌&&◌, ◌||◌, not, ltb, Bool, true, false, if◌then◌else◌, List, [], ◌∷◌, ◌++◌, length, drop, map, filter, find, slice_get, Option, Some, None, is_some, option_and_then}
+use Rattle.std.specs.Prelude.{ℕ, ◌/◌, ◌%◌, ◌^◌, ◌==◌, ◌&&◌, ◌||◌, not, ltb, Bool, true, false, if◌then◌else◌, List, [], ◌∷◌, ◌++◌, length, map, filter, find, slice_get, Option, Some, None, is_some, option_and_then, Result, Ok, Err}
 use Rattle.of10_model.specs.Header.{Header}
 use Rattle.std.specs.List.{list_any}
 use Rattle.of10_model.specs.Normal.{is_value, bit}
 use Rattle.of10_model.specs.Inclusion.{includes_of}
-use Rattle.of10_ctl.specs.declared.kind.TheConstants.{ERROR, PACKET_IN, FLOW_REMOVED, STATS_REPLY, BARRIER_REPLY, QUEUE_GET_CONFIG_REPLY}
-use Rattle.of10_ctl.specs.Frames.{is_bad}
 use Rattle.of10_flow.specs.declared.protocol.TheConstants.{NO_BUFFER}
 use Rattle.of10_flow.specs.declared.packet_in.PacketIn.{PacketIn}
 use Rattle.of10_flow.specs.declared.flow_removed.FlowRemoved.{FlowRemoved}
-use Rattle.of10_flow.specs.FlowRemoveds.{read_flow_removed}
-use Rattle.of10_flow.specs.PacketIns.{read_packet_in}
 use Rattle.of10_message.specs.Heads.{xid_of}
-use Rattle.of10_message.specs.Errors.{ErrorMessage, read_error, pair_in}
-use Rattle.of10_message.specs.Replies.{is_bare, QueuesMessage, read_queues}
+use Rattle.of10_message.specs.declared.fault.Unread.{Unread}
+use Rattle.of10_message.specs.declared.fault.Unread.TheVariants.{BadLength}
+use Rattle.of10_message.specs.Errors.{ErrorMessage, pair_in}
+use Rattle.of10_message.specs.Replies.{QueuesMessage}
+use Rattle.of10_switch.specs.Messages as says
+use Rattle.of10_switch.specs.Messages.{SwitchMessage, read_switch}
 use Rattle.of10_stats.specs.declared.protocol.TheConstants as statistics
 use Rattle.of10_stats.specs.declared.reply.StatsPart.{StatsPart}
-use Rattle.of10_stats.specs.Replies.{part_of}
 use Rattle.of10_port.specs.declared.features.Features.{Features}
 use Rattle.of10_port.specs.declared.status.PortStatus.{PortStatus}
 use Rattle.of10_port.specs.Ports.{port_number}
@@ -36,8 +35,7 @@ use Rattle.desk_words.specs.declared.event.Event.TheVariants.{SwitchUp, SwitchMs
 use Rattle.desk_words.specs.declared.event.Timed.{Timed}
 use Rattle.desk_words.specs.declared.phase.Phase.{Phase}
 use Rattle.desk_words.specs.declared.phase.Phase.TheVariants.{Fresh, Begun, Opened, Gone}
-use Rattle.of10_ctl.specs.Kinds.{is_of}
-use Rattle.desk_words.specs.Openings.{well_formed, status_told, opening_with, rules_of, Switch, switch_of, phase_of}
+use Rattle.desk_words.specs.Openings.{opening_with, rules_of, Switch, switch_of, phase_of}
 
 -- ---- slices of a policy
 
@@ -88,9 +86,14 @@ handed share packet =
 abbrev pub header_in : PacketIn → Header
 header_in packet = header_of_packet packet.in_port packet.payload
 
--- what a message says of a packet, where it hands one up (section 5.4.1)
+-- what a message that was read says of a packet, where it hands one up (section 5.4.1)
+abbrev pub packet_said : Result SwitchMessage Unread → Option PacketIn
+packet_said (Ok (says.PacketIn packet)) = Some packet
+packet_said said = None
+
+-- what a message says of a packet
 abbrev pub packet_in_read : List ℕ → Option PacketIn
-packet_in_read message = if is_of PACKET_IN message then well_formed (read_packet_in message) else None
+packet_in_read message = packet_said (read_switch message)
 
 -- the number by which the switch keeps a packet that it hands up, if it keeps it (section 5.4.1)
 abbrev pub number_given : PacketIn → Option ℕ
@@ -131,27 +134,24 @@ abbrev pub status_items : Settings → List (List ℕ) → PortStatus → List I
 status_items s known status = if is_kept status known && is_own_port s (port_number status.port) then Status status ∷ [] else []
 
 -- an entry that is gone is shown to a slice of which one write rule has all of its match
-abbrev pub removed_items : Settings → Option FlowRemoved → List Item
-removed_items s None = []
-removed_items s (Some entry) = if list_any (λ pattern. includes_of pattern entry.pattern) s.patterns then Removed (record entry { xid = 0 }) ∷ [] else []
+abbrev pub removed_items : Settings → FlowRemoved → List Item
+removed_items s entry = if list_any (λ pattern. includes_of pattern entry.pattern) s.patterns then Removed (record entry { xid = 0 }) ∷ [] else []
 
 -- what the switch replies under a transaction id is for the slice whose slot is the id's top byte
 abbrev pub is_reply_to : Settings → ℕ → Bool
 is_reply_to s xid = xid / 2 ^ 24 == s.slot
 
 -- an error is shown to that slice, with the match and priority of the flow-mod that it carries, if it carries one under that id
-abbrev pub error_items : Settings → ℕ → Option ErrorMessage → List Item
-error_items s xid None = []
-error_items s xid (Some error) = if is_reply_to s xid then Fault (xid % 2 ^ 24) error.class error.code (pair_in xid error.cause) ∷ [] else []
+abbrev pub error_items : Settings → ℕ → ErrorMessage → List Item
+error_items s xid error = if is_reply_to s xid then Fault (xid % 2 ^ 24) error.class error.code (pair_in xid error.cause) ∷ [] else []
 
 -- a reply to a barrier
-abbrev pub barrier_items : Settings → List ℕ → List Item
-barrier_items s message = if is_reply_to s (xid_of message) && is_bare message then Barrier (xid_of message % 2 ^ 24) ∷ [] else []
+abbrev pub barrier_items : Settings → ℕ → List Item
+barrier_items s xid = if is_reply_to s xid then Barrier (xid % 2 ^ 24) ∷ [] else []
 
 -- what the switch says of the queues of a port of the slice
-abbrev pub queues_items : Settings → ℕ → Option QueuesMessage → List Item
-queues_items s xid None = []
-queues_items s xid (Some queues) = if is_reply_to s xid && is_own_port s queues.port then Queues (xid % 2 ^ 24) queues.body ∷ [] else []
+abbrev pub queues_items : Settings → ℕ → QueuesMessage → List Item
+queues_items s xid queues = if is_reply_to s xid && is_own_port s queues.port then Queues (xid % 2 ^ 24) queues.body ∷ [] else []
 
 -- the types of statistics that the switch is asked for: what it is, flows, ports and queues
 abbrev pub is_type_asked : ℕ → Bool
@@ -170,22 +170,24 @@ abbrev pub part_items : Settings → ℕ → StatsPart → List ℕ → List Ite
 part_items s x part body = map (Entry x part.kind) (own_entries s part.kind body) ++ (if part.more then [] else Last x part.kind ∷ [])
 
 -- a part of statistics
-abbrev pub statistics_items : Settings → ℕ → Option StatsPart → List ℕ → List Item
-statistics_items s xid None message = []
-statistics_items s xid (Some part) message =
-    if is_reply_to s xid && is_part part.kind (drop part.from message) then part_items s (xid % 2 ^ 24) part (drop part.from message) else []
+abbrev pub statistics_items : Settings → ℕ → StatsPart → List ℕ → List Item
+statistics_items s xid part body = if is_reply_to s xid && is_part part.kind body then part_items s (xid % 2 ^ 24) part body else []
+
+-- a message under a transaction id, by what was read of it: one of a bad length ends the switch's connection (this proxy's own rule), and what can't be read otherwise, or says nothing to a slice, shows nothing
+abbrev pub said_items : PolicyView → ℕ → Switch → Side → ℕ → Result SwitchMessage Unread → List Item
+said_items policy slot switch side xid (Err BadLength) = End ∷ []
+said_items policy slot switch side xid (Ok (says.PacketIn packet)) = packet_in_items policy (rules_of policy switch.features) slot side packet
+said_items policy slot switch side xid (Ok (says.FlowRemoved entry)) = removed_items (settings_at policy slot switch.features) entry
+said_items policy slot switch side xid (Ok (says.PortStatus status)) = status_items (settings_at policy slot switch.features) switch.known status
+said_items policy slot switch side xid (Ok (says.Error error)) = error_items (settings_at policy slot switch.features) xid error
+said_items policy slot switch side xid (Ok says.BarrierReply) = barrier_items (settings_at policy slot switch.features) xid
+said_items policy slot switch side xid (Ok (says.QueueGetConfigReply queues)) = queues_items (settings_at policy slot switch.features) xid queues
+said_items policy slot switch side xid (Ok (says.StatsReply part body)) = statistics_items (settings_at policy slot switch.features) xid part body
+said_items policy slot switch side xid said = []
 
 -- a message of the switch that came after it told what it is
 unfoldable pub message_items : PolicyView → ℕ → Switch → Side → List ℕ → List Item
-message_items policy slot switch side message =
-    if is_bad message then End ∷ []
-    else if is_of PACKET_IN message then elim (well_formed (read_packet_in message)) [ None ↦ [] | Some packet ↦ packet_in_items policy (rules_of policy switch.features) slot side packet ]
-    else if is_of FLOW_REMOVED message then removed_items (settings_at policy slot switch.features) (well_formed (read_flow_removed message))
-    else if is_of ERROR message then error_items (settings_at policy slot switch.features) (xid_of message) (well_formed (read_error message))
-    else if is_of BARRIER_REPLY message then barrier_items (settings_at policy slot switch.features) message
-    else if is_of QUEUE_GET_CONFIG_REPLY message then queues_items (settings_at policy slot switch.features) (xid_of message) (well_formed (read_queues message))
-    else if is_of STATS_REPLY message then statistics_items (settings_at policy slot switch.features) (xid_of message) (well_formed (part_of message)) message
-    else elim (status_told message) [ None ↦ [] | Some status ↦ status_items (settings_at policy slot switch.features) switch.known status ]
+message_items policy slot switch side message = said_items policy slot switch side (xid_of message) (read_switch message)
 
 -- the opening shows the slice the features of the switch
 abbrev pub opening_items : PolicyView → ℕ → Option Features → List Item

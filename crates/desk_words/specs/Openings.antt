@@ -1,13 +1,11 @@
 -- How far a switch's connection is, and what the switch told, by a history: the events of a desk, newest first. Sections are those of OpenFlow 1.0.0.
-use Rattle.std.specs.Prelude.{ℕ, if◌then◌else◌, List, [], ◌∷◌, Option, Some, None, Result, Ok, Err}
-use Rattle.of10_action.specs.declared.fault.WireFault.{WireFault}
-use Rattle.of10_ctl.specs.declared.kind.TheConstants.{FEATURES_REPLY, PORT_STATUS}
+use Rattle.std.specs.Prelude.{ℕ, if◌then◌else◌, List, [], ◌∷◌, Option, Some, None, Result, Ok}
 use Rattle.of10_ctl.specs.Frames.{is_bad}
-use Rattle.of10_ctl.specs.Kinds.{is_of}
 use Rattle.of10_port.specs.declared.features.Features.{Features}
 use Rattle.of10_port.specs.declared.status.PortStatus.{PortStatus}
-use Rattle.of10_port.specs.Features.{read_features}
-use Rattle.of10_port.specs.PortStatus.{read_port_status}
+use Rattle.of10_message.specs.declared.fault.Unread.{Unread}
+use Rattle.of10_switch.specs.Messages as says
+use Rattle.of10_switch.specs.Messages.{SwitchMessage, read_switch}
 use Rattle.flowspace.specs.declared.rules.Rule.{Rule}
 use Rattle.flowspace.specs.Order.{rules_on}
 use Rattle.flowspace.specs.Policies.{PolicyView}
@@ -20,18 +18,23 @@ use Rattle.desk_words.specs.declared.phase.Phase.TheVariants.{Fresh, Begun, Open
 
 -- ---- messages of the switch
 
--- what a reading gives, if there is no fault
-abbrev pub well_formed : {A : Type 0} → Result A WireFault → Option A
-well_formed (Ok said) = Some said
-well_formed (Err fault) = None
+-- what a message that was read tells of the switch, where it is a FEATURES_REPLY (section 5.3.1)
+abbrev pub features_said : Result SwitchMessage Unread → Option Features
+features_said (Ok (says.FeaturesReply features)) = Some features
+features_said said = None
 
--- what a message tells of the switch, where it is a FEATURES_REPLY (section 5.3.1)
+-- and of a port, where it is a PORT_STATUS (section 5.4.3)
+abbrev pub status_said : Result SwitchMessage Unread → Option PortStatus
+status_said (Ok (says.PortStatus status)) = Some status
+status_said said = None
+
+-- what a message tells of the switch
 abbrev pub features_told : List ℕ → Option Features
-features_told message = if is_of FEATURES_REPLY message then well_formed (read_features message) else None
+features_told message = features_said (read_switch message)
 
--- what a message tells of a port, where it is a PORT_STATUS (section 5.4.3)
+-- what a message tells of a port
 abbrev pub status_told : List ℕ → Option PortStatus
-status_told message = if is_of PORT_STATUS message then well_formed (read_port_status message) else None
+status_told message = status_said (read_switch message)
 
 -- ---- phases
 

@@ -1,12 +1,16 @@
 -- What a desk sends at an event: to the slices the answers to what they see, and to the switch, in its lane, messages of the proxy's own or of a slice (this proxy's own rule).
-use Rattle.std.specs.Prelude.{ℕ, if◌then◌else◌, List, [], ◌∷◌, ◌++◌, map, Some, None}
-use Rattle.byteorder.specs.Endian.{big_bytes}
+use Rattle.std.specs.Prelude.{ℕ, List, [], ◌∷◌, ◌++◌, map, Some, None, Result, Ok}
 use Rattle.of10_model.specs.Exact.{all_free}
-use Rattle.of10_ctl.specs.declared.kind.TheConstants.{HELLO, ECHO_REQUEST, FEATURES_REQUEST, SET_CONFIG, BARRIER_REQUEST}
-use Rattle.of10_ctl.specs.Frames.{message_of, echo_reply_to}
+use Rattle.of10_ctl.specs.declared.kind.TheConstants.{HELLO, ECHO_REPLY, FEATURES_REQUEST, BARRIER_REQUEST}
+use Rattle.of10_ctl.specs.Frames.{message_of}
 use Rattle.of10_flow.specs.declared.protocol.TheConstants.{NO_BUFFER, DELETE}
 use Rattle.of10_flow.specs.FlowMods.{spell_flow_mod}
 use Rattle.of10_port.specs.declared.protocol.TheConstants.{NONE}
+use Rattle.of10_message.specs.declared.fault.Unread.{Unread}
+use Rattle.of10_message.specs.Heads.{xid_of}
+use Rattle.of10_switch.specs.Messages as says
+use Rattle.of10_switch.specs.Messages.{SwitchMessage, read_switch}
+use Rattle.of10_config.specs.Configs.{spell_set_config}
 use Rattle.flowspace.specs.Policies.{PolicyView}
 use Rattle.slice_words.specs.Alone.{rendered, sent_for, put_for}
 use Rattle.desk_words.specs.declared.event.Event.{Event}
@@ -14,7 +18,6 @@ use Rattle.desk_words.specs.declared.event.Event.TheVariants.{SwitchUp, SwitchMs
 use Rattle.desk_words.specs.declared.event.Timed.{Timed}
 use Rattle.desk_words.specs.declared.phase.Phase.{Phase}
 use Rattle.desk_words.specs.declared.phase.Phase.TheVariants.{Begun, Opened, Gone}
-use Rattle.of10_ctl.specs.Kinds.{is_of}
 use Rattle.desk_words.specs.Openings.{features_told, Switch, switch_of, phase_of}
 use Rattle.desk_words.specs.Histories.{settings_at, items_of, Side, side_of}
 
@@ -41,7 +44,7 @@ greeting = message_of HELLO 0xff000000 [] ∷ message_of FEATURES_REQUEST 0xff00
 
 -- packets are to be handed up whole (section 5.3.2)
 abbrev pub whole_packets : List ℕ
-whole_packets = message_of SET_CONFIG 0xff000002 (big_bytes 2 0 ++ big_bytes 2 0xffff)
+whole_packets = spell_set_config 0xff000002 (record { flags = 0; miss_send_len = 0xffff })
 
 -- every entry is to be deleted (section 5.3.3: OFPFC_DELETE of all headers, for no port and no buffer)
 abbrev pub clearing : List ℕ
@@ -63,9 +66,14 @@ clearing = spell_flow_mod (record {
 abbrev pub preparation : List (List ℕ)
 preparation = whole_packets ∷ clearing ∷ message_of BARRIER_REQUEST 0xff000004 [] ∷ []
 
--- a switch that asks whether this proxy is there is answered (section 5.5)
+-- a switch that asks under a transaction id whether this proxy is there is answered with the body that it sent (section 5.5)
+abbrev pub echo_said : ℕ → Result SwitchMessage Unread → List (List ℕ)
+echo_said xid (Ok (says.EchoRequest body)) = message_of ECHO_REPLY xid body ∷ []
+echo_said xid said = []
+
+-- what answers a message
 abbrev pub echo_for : List ℕ → List (List ℕ)
-echo_for message = if is_of ECHO_REQUEST message then echo_reply_to message ∷ [] else []
+echo_for message = echo_said (xid_of message) (read_switch message)
 
 -- what a switch is sent for a message that came before it told what it is
 abbrev pub begun_lane : List ℕ → List (List ℕ)

@@ -1,16 +1,17 @@
 -- Each packet that a slice holds is the last that came under its number, was given to the slice as its writer, and has a header that the slice writes.
-use Rattle.std.proofs.Common.{◌≡◌, refl, sym, ap, ◌∙◌, subst, ℕ, ◌+◌, ◌==◌, ◌&&◌, ◌⊎◌, inl, inr, Bool, true, false, true≢false, if◌then◌else◌, List, [], ◌∷◌, ◌++◌, get_or, map, filter, Any, All, Option, Some, None, is_some, arith}
+use Rattle.std.proofs.Common.{◌≡◌, refl, sym, ap, ◌∙◌, subst, ℕ, ◌+◌, ◌==◌, ◌&&◌, ◌⊎◌, inl, inr, Bool, true, false, true≢false, if◌then◌else◌, List, [], ◌∷◌, ◌++◌, get_or, map, filter, Any, All, Option, Some, None, is_some, arith, Result, Ok}
 use Rattle.std.specs.Prelude.{find, option_and_then}
 use Rattle.std.proofs.lemmas.Bool.{cases_Bool, or_right, cond-true, cond-false}
 use Rattle.std.proofs.lemmas.Bool.Decides.{eqb_tells}
 use Rattle.std.proofs.lemmas.Option.{none-some, same_Some}
 use Rattle.std.proofs.lemmas.List.Elements.{All-nil, All-cons, All-filter, All-weaker}
 use Rattle.of10_model.specs.Normal.{is_value, bit}
-use Rattle.of10_ctl.specs.declared.kind.TheConstants.{PACKET_IN}
-use Rattle.of10_ctl.specs.Kinds.{is_of}
 use Rattle.of10_port.specs.declared.features.Features.{Features}
 use Rattle.of10_flow.specs.declared.packet_in.PacketIn.{PacketIn}
-use Rattle.of10_flow.specs.PacketIns.{read_packet_in}
+use Rattle.of10_message.specs.declared.fault.Unread.{Unread}
+use Rattle.of10_message.specs.Heads.{xid_of}
+use Rattle.of10_switch.specs.Messages as says
+use Rattle.of10_switch.specs.Messages.{SwitchMessage, read_switch}
 use Rattle.flowspace.specs.declared.rules.Rule.{Rule}
 use Rattle.flowspace.specs.Order.{rules_on, writer_of, readers_of}
 use Rattle.flowspace.specs.Owners.{Writes}
@@ -29,12 +30,12 @@ use Rattle.desk_words.specs.declared.event.Event.TheVariants.{SwitchUp, SwitchMs
 use Rattle.desk_words.specs.declared.event.Timed.{Timed}
 use Rattle.desk_words.specs.declared.phase.Phase.{Phase}
 use Rattle.desk_words.specs.declared.phase.Phase.TheVariants.{Fresh, Begun, Opened, Gone}
-use Rattle.desk_words.specs.Openings.{well_formed, opening_with, rules_of, Switch, switch_of, phase_of, opening_of}
-use Rattle.desk_words.specs.Histories.{is_slot, Side, side_of, header_in, handed, number_given, marked_slot, lost_items, packet_items, packet_in_items, message_items, event_items, opening_items, phase_items, items_of, number_told, Numbered, holder, is_given, is_any_given, numbered_with, is_open}
+use Rattle.desk_words.specs.Openings.{opening_with, rules_of, Switch, switch_of, phase_of, opening_of}
+use Rattle.desk_words.specs.Histories.{is_slot, Side, side_of, header_in, handed, number_given, marked_slot, lost_items, packet_items, packet_in_items, packet_said, said_items, message_items, event_items, opening_items, phase_items, items_of, number_told, Numbered, holder, is_given, is_any_given, numbered_with, is_open}
 use Rattle.desk_words.specs.Numbers.{AreNumbered}
 use Rattle.desk_words.proofs.Alone.{has_told, opened_told, blind}
 use Rattle.desk_words.proofs.Silence.{none_or, none_both}
-use Rattle.desk_words.proofs.Numbering.{held_in, kept_all, same_count_all, not_bad, none_of_others, numbered}
+use Rattle.desk_words.proofs.Numbering.{held_in, kept_all, same_count_all, none_given, numbered}
 use Rattle.lane_laws.specs.Lane.{Arrival, packet_handed, arrivals, arrival_under, switch_number}
 
 -- ---- what an event shows a slice
@@ -73,10 +74,8 @@ lost_plain None = refl
 lost_plain (Some k) = refl
 
 module _ (policy : PolicyView) (slot : ℕ) where
-  shows_packet : (rules : List Rule) (side : Side) (told : Option PacketIn)
-      → Shows rules slot (elim told [ None ↦ [] | Some packet ↦ packet_in_items policy rules slot side packet ]) told
-  shows_packet rules side None = NoneShown refl
-  shows_packet rules side (Some packet) =
+  shows_packet : (rules : List Rule) (side : Side) (packet : PacketIn) → Shows rules slot (packet_in_items policy rules slot side packet) (Some packet)
+  shows_packet rules side packet =
       let lost = lost_items side.numbered packet in
       let shown = packet_items policy rules slot side.sight.view packet in
       let none = lost_plain (option_and_then (λ number. holder number side.numbered) (number_given packet)) in
@@ -87,16 +86,17 @@ module _ (policy : PolicyView) (slot : ℕ) where
             OneShown packet number.0 lost one.0 refl number.1 (ap (λ (items : List Item). lost ++ items) one.1) none one.2 (is_value-Some slot (writer_of rules (header_in packet)) one.3)
       ]
 
-  shows_message : (switch : Switch) (side : Side) (message : List ℕ) (of_packet : Bool) → is_of PACKET_IN message ≡ of_packet
-      → Shows (rules_of policy switch.features) slot (message_items policy slot switch side message) (packet_handed Opened (SwitchMsg message))
+  shows_said : (switch : Switch) (side : Side) (xid : ℕ) (said : Result SwitchMessage Unread) → Shows (rules_of policy switch.features) slot (said_items policy slot switch side xid said) (packet_said said)
+  shows_said switch side xid (Ok (says.PacketIn packet)) = shows_packet (rules_of policy switch.features) side packet
+  shows_said switch side xid said = NoneShown (none_given policy slot switch side xid said refl)
+
+  shows_message : (switch : Switch) (side : Side) (message : List ℕ) → Shows (rules_of policy switch.features) slot (message_items policy slot switch side message) (packet_handed Opened (SwitchMsg message))
   unfolding message_items
-  shows_message switch side message true is =
-      rw (is, not_bad message is) (shows_packet (rules_of policy switch.features) side (well_formed (read_packet_in message)))
-  shows_message switch side message false is = NoneShown (none_of_others policy slot switch side message is)
+  shows_message switch side message = shows_said switch side (xid_of message) (read_switch message)
 
   shows_event : (switch : Switch) (side : Side) (moment : ℕ) (event : Event) → Shows (rules_of policy switch.features) slot (event_items policy slot switch side moment event) (packet_handed Opened event)
   shows_event switch side moment SwitchUp = NoneShown refl
-  shows_event switch side moment (SwitchMsg message) = shows_message switch side message (is_of PACKET_IN message) refl
+  shows_event switch side moment (SwitchMsg message) = shows_message switch side message
   shows_event switch side moment SwitchDown = NoneShown refl
   shows_event switch side moment (SliceUp other) = NoneShown (none_or is_given (other == slot) (Up ∷ []) refl)
   shows_event switch side moment (SliceMsg other message) = NoneShown (none_or is_given (other == slot && is_up side.sight.view) (Msg message moment ∷ []) refl)

@@ -1,5 +1,5 @@
 -- Each field of what is sent for a slice lies in its range; and what holds of all that is sent holds of each message.
-use Rattle.std.proofs.Common.{◌≡◌, ◌⊎◌, refl, sym, ◌∙◌, ap, subst, ℕ, ◌==◌, ◌<◌, ◌^◌, inl, inr, Bool, true, false, true≢false, if◌then◌else◌, ◌≢◌, List, [], ◌∷◌, get_or, All, Option, Some, None, Result, Ok, Err, arith}
+use Rattle.std.proofs.Common.{◌≡◌, ◌⊎◌, refl, sym, ◌∙◌, ap, subst, ℕ, ◌==◌, ◌<◌, ◌^◌, inl, inr, Bool, true, false, true≢false, if◌then◌else◌, ◌≢◌, List, [], ◌∷◌, get_or, All, Option, Some, None, IfSome, arith}
 use Rattle.std.proofs.lemmas.Bool.{eq-eqb}
 use Rattle.std.proofs.lemmas.Option.{none-some, same_Some}
 use Rattle.std.proofs.lemmas.List.Elements.{All-nil, All-cons, All-head, All-tail, All-filter, All-weaker}
@@ -11,17 +11,15 @@ use Rattle.of10_model.specs.Normal.{IsNormal, is_value}
 use Rattle.of10_model.proofs.Results.{either}
 use Rattle.of10_action.specs.declared.action.Action.{Action}
 use Rattle.of10_action.specs.Actions.{IsAction}
-use Rattle.of10_ctl.specs.declared.kind.TheConstants.{PACKET_IN}
-use Rattle.of10_ctl.specs.Kinds.{is_of}
 use Rattle.of10_port.specs.declared.features.Features.{Features}
 use Rattle.of10_flow.specs.declared.flow_mod.FlowMod.{FlowMod}
 use Rattle.of10_flow.specs.declared.protocol.TheConstants.{NO_BUFFER, SEND_FLOW_REM}
 use Rattle.of10_flow.specs.declared.packet_in.PacketIn.{PacketIn}
 use Rattle.of10_flow.specs.declared.packet_out.PacketOut.{PacketOut}
-use Rattle.of10_flow.specs.PacketIns.{read_packet_in}
 use Rattle.of10_flow.specs.Tables.{is_delete}
 use Rattle.frame_header.specs.Headers.{header_of_packet}
-use Rattle.of10_action.specs.declared.fault.WireFault.{WireFault}
+use Rattle.of10_switch.specs.Messages.{read_switch}
+use Rattle.of10_switch.proofs.Cases.{of_switch}
 use Rattle.flowspace.specs.declared.rules.Rule.{Rule}
 use Rattle.flowspace.specs.Rules.{holds}
 use Rattle.flowspace.specs.Order.{in_order, rules_on}
@@ -45,8 +43,8 @@ use Rattle.desk_words.specs.declared.event.Event.TheVariants.{SwitchUp, SwitchMs
 use Rattle.desk_words.specs.declared.phase.Phase.{Phase}
 use Rattle.desk_words.specs.declared.phase.Phase.TheVariants.{Fresh, Begun, Opened, Gone}
 use Rattle.desk_words.specs.declared.event.Timed.{Timed}
-use Rattle.desk_words.specs.Openings.{well_formed, phase_of, opening_of}
-use Rattle.desk_words.specs.Histories.{is_slot, header_in, number_given, side_of}
+use Rattle.desk_words.specs.Openings.{phase_of, opening_of}
+use Rattle.desk_words.specs.Histories.{is_slot, header_in, packet_said, number_given, side_of}
 use Rattle.desk_words.specs.Sent.{lane_by}
 use Rattle.lane_laws.specs.Lane.{IsRanged, IsRangedOut, IsEitherThat, AsksForReply, IsSentThat, LiesInFlowspace, OutputsToOwnPorts, LeavesOtherHeaders, SendsOwnPacket, SendsToOwnPorts, ChangesNoTable, IsOfBytes, Arrival, packet_handed, arrivals, arrival_under, IsBufferHeader, CarriesOwnBuffer, SendsOwnBuffer, switch_number, rules_in}
 use Rattle.lane_laws.proofs.Reading.{IsRead, IsReadOut, IsReadIn, read_in, read_of, read_out_of}
@@ -89,20 +87,30 @@ given_ranged rules slot origin actions each = record {
 
 -- ---- packets of the switch
 
-told_by : (bytes : List ℕ) (packet : PacketIn) (read : Result PacketIn WireFault) → well_formed read ≡ Some packet → read ≡ Ok packet
-told_by bytes packet (Ok found) is = ap (λ (p : PacketIn). Ok p) (same_Some found packet is)
-told_by bytes packet (Err fault) is = absurd (none-some packet is)
-
-packet_read : (message : List ℕ) (packet : PacketIn) (of_packet : Bool) → All (λ byte. byte < 256) message → (if of_packet then well_formed (read_packet_in message) else None) ≡ Some packet → IsReadIn packet
-packet_read message packet false bytes is = absurd (none-some packet is)
-packet_read message packet true bytes is = read_in message packet (bytes_of message bytes) (told_by message packet (read_packet_in message) is)
+packet_read : (message : List ℕ) → All (λ byte. byte < 256) message → IfSome (packet_said (read_switch message)) IsReadIn
+packet_read message bytes = of_switch (λ said. IfSome (packet_said said) IsReadIn) message (record {
+  unread = λ fault is. tt;
+  hello = tt;
+  error = λ error is. tt;
+  echo_request = tt;
+  echo_reply = tt;
+  vendor = tt;
+  features = λ features is. tt;
+  config = tt;
+  packet = λ packet is. read_in message packet (bytes_of message bytes) is;
+  removal = λ entry is. tt;
+  status = λ status is. tt;
+  part = λ part is. tt;
+  barrier = tt;
+  queues = λ queues is. tt;
+}) tt
 
 handed_read : (phase : Phase) (event : Event) (packet : PacketIn) → IsOfBytes event → packet_handed phase event ≡ Some packet → IsReadIn packet
 handed_read Fresh event packet bytes is = absurd (none-some packet is)
 handed_read Begun event packet bytes is = absurd (none-some packet is)
 handed_read Gone event packet bytes is = absurd (none-some packet is)
 handed_read Opened SwitchUp packet bytes is = absurd (none-some packet is)
-handed_read Opened (SwitchMsg message) packet bytes is = packet_read message packet (is_of PACKET_IN message) bytes is
+handed_read Opened (SwitchMsg message) packet bytes is = subst (λ found. IfSome found IsReadIn) is (packet_read message bytes)
 handed_read Opened SwitchDown packet bytes is = absurd (none-some packet is)
 handed_read Opened (SliceUp slot) packet bytes is = absurd (none-some packet is)
 handed_read Opened (SliceMsg slot message) packet bytes is = absurd (none-some packet is)

@@ -19,7 +19,7 @@ use Rattle.of10_flow.specs.FlowMods.{spell_flow_mod}
 use Rattle.of10_flow.specs.PacketOuts.{spell_packet_out}
 use Rattle.of10_flow.specs.Tables.{is_delete}
 use Rattle.of10_flow.proofs.Keeping.{Treatment-Apply}
-use Rattle.of10_ctl.specs.declared.kind.TheConstants.{BARRIER_REQUEST, QUEUE_GET_CONFIG_REQUEST}
+use Rattle.of10_ctl.specs.declared.kind.TheConstants.{BARRIER_REQUEST}
 use Rattle.of10_ctl.specs.Frames.{message_of}
 use Rattle.of10_stats.specs.declared.request.StatsRequest.{StatsRequest}
 use Rattle.of10_stats.specs.Requests.{spell_request}
@@ -28,6 +28,7 @@ use Rattle.slice_words.specs.Questions.{may_ask}
 use Rattle.of10_message.specs.declared.controller.FromController.{FromController}
 use Rattle.of10_message.specs.declared.controller.FromController.TheVariants as said
 use Rattle.of10_message.specs.Controller.{read_controller}
+use Rattle.of10_config.specs.Configs.{spell_queues_request}
 use Rattle.flowspace.specs.declared.slices.Slice.{Slice}
 use Rattle.flowspace.specs.declared.rules.Rule.{Rule}
 use Rattle.flowspace.specs.Policies.{PolicyView, IsPolicy}
@@ -299,9 +300,9 @@ module _ (policy : PolicyView) (h : List Timed) (timed : Timed) (slot : ℕ) (me
     pub barrier_sent : IsPermittedQuestion policy slot h timed.moment message said.BarrierRequest → lane_by policy h timed ≡ message_of BARRIER_REQUEST next_xid [] ∷ []
     barrier_sent p = question_lane_whole policy h timed slot message (message_of BARRIER_REQUEST next_xid []) said.BarrierRequest is up p.read p.rate refl
 
-    pub queues_sent : (port : ℕ) → IsPermittedQuestion policy slot h timed.moment message (said.QueueGetConfigRequest port) → lane_by policy h timed ≡ message_of QUEUE_GET_CONFIG_REQUEST next_xid (drop 8 message) ∷ []
+    pub queues_sent : (port : ℕ) → IsPermittedQuestion policy slot h timed.moment message (said.QueueGetConfigRequest port) → lane_by policy h timed ≡ spell_queues_request next_xid (drop 8 message) ∷ []
     queues_sent port p =
-        question_lane_whole policy h timed slot message (message_of QUEUE_GET_CONFIG_REQUEST next_xid (drop 8 message)) (said.QueueGetConfigRequest port) is up p.read p.rate
+        question_lane_whole policy h timed slot message (spell_queues_request next_xid (drop 8 message)) (said.QueueGetConfigRequest port) is up p.read p.rate
         (owns (ground_in policy slot h) (rules_in policy h) slot (slot_is policy slot (opening_of h) _ refl) (patterns_are policy slot (opening_of h) (up_here policy slot h (phase_of h) refl up)) port p.may, refl)
 
 -- ---- one flow-mod for each piece

@@ -7,7 +7,8 @@ ghost use Rattle.of10_flow.specs.declared.flow_mod.FlowMod.{FlowMod};
 ghost use Rattle.of10_flow.specs.declared.packet_out.PacketOut.{PacketOut};
 ghost use Rattle.of10_flow.specs.FlowMods.{spell_flow_mod, read_flow_mod};
 ghost use Rattle.of10_flow.specs.PacketOuts.{spell_packet_out, read_packet_out};
-ghost use Rattle.of10_ctl.specs.declared.kind.TheConstants.{BARRIER_REQUEST, QUEUE_GET_CONFIG_REQUEST};
+ghost use Rattle.of10_ctl.specs.declared.kind.TheConstants.{BARRIER_REQUEST};
+ghost use Rattle.of10_config.specs.Configs.{spell_queues_request};
 ghost use Rattle.of10_ctl.specs.Frames.{message_of};
 ghost use Rattle.of10_stats.specs.declared.request.StatsRequest.{StatsRequest};
 ghost use Rattle.of10_stats.specs.Requests.{spell_request};
@@ -115,7 +116,7 @@ pub fn permitted_questions_are_sent()
     ensures barriers { (policy : PolicyView) (h : List Timed) (timed : Timed) (slot : ℕ) (message : List ℕ) → timed.event ≡ SliceMsg slot message → is_slice_up policy slot h ≡ true
         → IsPermittedQuestion policy slot h timed.moment message said.BarrierRequest → lane_by policy h timed ≡ message_of BARRIER_REQUEST (ground_in policy slot h).xid [] ∷ [] }
     ensures queues { (policy : PolicyView) (h : List Timed) (timed : Timed) (slot : ℕ) (message : List ℕ) (port : ℕ) → timed.event ≡ SliceMsg slot message → is_slice_up policy slot h ≡ true
-        → IsPermittedQuestion policy slot h timed.moment message (said.QueueGetConfigRequest port) → lane_by policy h timed ≡ message_of QUEUE_GET_CONFIG_REQUEST (ground_in policy slot h).xid (drop 8 message) ∷ [] }
+        → IsPermittedQuestion policy slot h timed.moment message (said.QueueGetConfigRequest port) → lane_by policy h timed ≡ spell_queues_request (ground_in policy slot h).xid (drop 8 message) ∷ [] }
 {}
 
 /// The first three hold of what `slice_side::react` has sent on by its clause `sent`, for the policy, the ports

@@ -1,12 +1,18 @@
 -- The opening: a session as the switch's features begin it.
-use Rattle.std.proofs.Common.{◌≡◌, ℕ, Bool, true, false, if◌then◌else◌, List, [], ◌∷◌, slice_get, refl, ap, ap₂, subst, sym, ◌∙◌, Option, Some, None}
-use Rattle.std.specs.Prelude.{ltb, is_some}
+use Rattle.std.proofs.Common.{◌≡◌, ℕ, Bool, true, false, if◌then◌else◌, List, [], ◌∷◌, slice_get, refl, ap, ap₂, subst, sym, ◌∙◌, Option, Some, None, Result, Ok, Err}
+use Rattle.std.specs.Prelude.{ltb}
 use Rattle.std.proofs.lemmas.Option.{none-some}
-use Rattle.of10_ctl.specs.declared.kind.TheConstants.{FEATURES_REPLY, ECHO_REQUEST}
 use Rattle.of10_ctl.specs.Frames.{is_bad}
-use Rattle.of10_ctl.specs.Kinds.{is_of}
-use Rattle.of10_port.specs.Features.{has_whole_ports, read_features}
 use Rattle.of10_port.specs.declared.features.Features.{Features}
+use Rattle.of10_message.specs.declared.fault.Unread.{Unread}
+use Rattle.of10_message.specs.declared.fault.Unread.TheVariants.{BadLength}
+use Rattle.of10_message.specs.Heads.{xid_of}
+use Rattle.of10_switch.specs.Messages.{SwitchMessage, read_switch, has_bad_length}
+use Rattle.of10_switch.specs.declared.features.FeaturesView.{FeaturesView}
+use Rattle.of10_switch.specs.declared.message.FromSwitch.{FromSwitch}
+use Rattle.of10_switch.specs.declared.message.FromSwitch.TheVariants as views
+use Rattle.of10_switch.specs.Views.{said_by}
+use Rattle.of10_switch.proofs.Cases.{bad_read, bad_length-read}
 use Rattle.flowspace.specs.declared.slices.Slice.{Slice}
 use Rattle.flowspace.specs.Policies.{PolicyView}
 use Rattle.port_view.specs.KnownPorts.{first_known, known_of}
@@ -20,9 +26,9 @@ use Rattle.slice_words.specs.Standing.{SliceStands}
 use Rattle.desk_words.specs.declared.event.Event.TheVariants.{SwitchMsg}
 use Rattle.desk_words.specs.declared.phase.Phase.{Phase}
 use Rattle.desk_words.specs.declared.phase.Phase.TheVariants.{Begun}
-use Rattle.desk_words.specs.Openings.{features_told, opening_after, known_after, rules_of, Switch, switch_after}
+use Rattle.desk_words.specs.Openings.{features_said, features_told, opening_after, known_after, rules_of, Switch, switch_after}
 use Rattle.desk_words.specs.Histories.{is_slot, settings_at, own_features, Side, side_start, items_of, phase_items, opening_items, with_shown}
-use Rattle.desk_words.specs.Sent.{echo_for}
+use Rattle.desk_words.specs.Sent.{echo_said, echo_for}
 use Rattle.desk_words.specs.Operations.{slice_limit}
 use Rattle.switch_side.specs.Dispatches.{told_at}
 use Rattle.proxy_core.specs.declared.parts.Session.{Session}
@@ -30,20 +36,30 @@ use Rattle.proxy_core.specs.Desks.{SlotStands, SessionStands, Opens, Coherent, s
 use Rattle.proxy_core.specs.Opening.{Begins}
 use Rattle.proxy_core.proofs.Lists.{there, within}
 use Rattle.proxy_core.proofs.Fitting.{settings_known}
-use Rattle.switch_side.proofs.MessageTypes.{bad_is_none}
 
 -- ---- messages of a bad length
 
 pub bad_features : (message : List ℕ) → is_bad message ≡ true → features_told message ≡ None
-bad_features message bad = rw (bad_is_none FEATURES_REPLY message bad) refl
+bad_features message bad = ap features_said (bad_read message bad)
 
 pub bad_echo : (message : List ℕ) → is_bad message ≡ true → echo_for message ≡ []
-bad_echo message bad = rw (bad_is_none ECHO_REQUEST message bad) refl
+bad_echo message bad = ap (echo_said (xid_of message)) (bad_read message bad)
 
--- a FEATURES_REPLY with whole ports tells what the switch is
-pub told_whole : (message : List ℕ) → is_of FEATURES_REPLY message ≡ true → has_whole_ports message ≡ true → is_some (features_told message) ≡ true
-unfolding read_features
-told_whole message own whole = rw (own, whole) refl
+-- one that says something else, and one that doesn't
+pub good_said : (message : List ℕ) (said : Result SwitchMessage Unread) → read_switch message ≡ said → has_bad_length said ≡ false → is_bad message ≡ false
+good_said message said is good = sym (bad_length-read message) ∙ ap has_bad_length is ∙ good
+
+pub bad_said : (message : List ℕ) → read_switch message ≡ Err BadLength → is_bad message ≡ true
+bad_said message is = sym (bad_length-read message) ∙ ap has_bad_length is
+
+pub other_fault : (fault : Unread) → (fault ≡ BadLength → ⊥) → has_bad_length (Err fault) ≡ false
+other_fault BadLength other = absurd (other refl)
+other_fault fault other = refl
+
+-- only a FEATURES_REPLY tells of the switch
+pub other_said : (said : FromSwitch) → ((told : FeaturesView) → said ≡ views.FeaturesReply told → ⊥) → features_said (Ok (said_by said)) ≡ None
+other_said (views.FeaturesReply told) other = absurd (other told refl)
+other_said said other = refl
 
 good_by : (bad : Bool) (message : List ℕ) (features : Features) → is_bad message ≡ bad → features_told message ≡ Some features → bad ≡ false
 good_by true message features is told = absurd (none-some features (sym (bad_features message is) ∙ told))

@@ -6,6 +6,10 @@ use Rattle.std.proofs.lemmas.Option.{none-some}
 use Rattle.of10_ctl.specs.Frames.{is_bad}
 use Rattle.of10_port.specs.declared.features.Features.{Features}
 use Rattle.of10_port.specs.declared.status.PortStatus.{PortStatus}
+use Rattle.of10_message.specs.declared.fault.Unread.{Unread}
+use Rattle.of10_message.specs.Heads.{xid_of}
+use Rattle.of10_switch.specs.Messages.{SwitchMessage, read_switch, has_bad_length}
+use Rattle.of10_switch.proofs.Cases.{bad_read}
 use Rattle.flowspace.specs.Policies.{PolicyView}
 use Rattle.port_view.specs.declared.answer.Kept.{Kept as Answer}
 use Rattle.port_view.specs.declared.answer.Kept.TheVariants.{Kept as IsKept, Ignored, TooManyPorts}
@@ -19,9 +23,9 @@ use Rattle.desk_words.specs.declared.event.Event.TheVariants.{SwitchMsg}
 use Rattle.desk_words.specs.declared.event.Timed.{Timed}
 use Rattle.desk_words.specs.declared.phase.Phase.{Phase}
 use Rattle.desk_words.specs.declared.phase.Phase.TheVariants.{Fresh, Begun, Opened, Gone}
-use Rattle.desk_words.specs.Openings.{features_told, status_told, kept_beside, status_kept, phase_after, opening_after, known_after, Switch, switch_after}
-use Rattle.desk_words.specs.Histories.{settings_at, Side, message_items}
-use Rattle.desk_words.specs.Sent.{preparation, echo_for, lane_in, put_with}
+use Rattle.desk_words.specs.Openings.{features_said, status_said, features_told, status_told, kept_beside, status_kept, phase_after, opening_after, known_after, Switch, switch_after}
+use Rattle.desk_words.specs.Histories.{settings_at, Side, said_items, message_items}
+use Rattle.desk_words.specs.Sent.{preparation, echo_said, echo_for, lane_in, put_with}
 use Rattle.desk_words.specs.Verdicts.{is_fresh, is_ended, is_before, is_closing}
 use Rattle.desk_words.specs.Operations.{slice_limit, lane_limit}
 use Rattle.switch_side.specs.declared.dispatch.Dispatch.{Dispatch}
@@ -37,8 +41,7 @@ use Rattle.proxy_core.proofs.Lists.{there, within, written_back}
 use Rattle.proxy_core.proofs.Standing.{items_opened, session_becomes, session_goes, queue_there, slot_there}
 use Rattle.proxy_core.proofs.Handed.{slot_sent}
 use Rattle.proxy_core.proofs.Acting.{body_after, still_none, session_ends, lane_is}
-use Rattle.proxy_core.proofs.Beginning.{bad_features, bad_echo, told_good, session_begins}
-use Rattle.desk_words.proofs.Seen.{bad_untold}
+use Rattle.proxy_core.proofs.Beginning.{bad_features, bad_echo, good_said, told_good, session_begins}
 
 -- ---- a message of a switch that hasn't told what it is
 
@@ -113,13 +116,20 @@ begun_ends old new moment message ends bad p switch sides qs ql fit body begun =
     (subst (λ (o : Option Session). Opens p (switch_after switch (SwitchMsg message)) (sides_after p switch sides (told_at moment message)) (queues_after p switch sides qs (told_at moment message)) o) (sym ends.session)
     (begun_still p switch sides qs moment message old.session fit begun none body.opens))
 
-pub begun_answers : (old new : Desk) (moment : ℕ) (message : List ℕ) → new.policy ≡ old.policy → new.phase ≡ old.phase → HasMore (echo_for message) old.lane new.lane → new.session ≡ old.session
+begun_still_answers : (old new : Desk) (moment : ℕ) (message : List ℕ) → new.policy ≡ old.policy → new.phase ≡ old.phase → HasMore (echo_for message) old.lane new.lane → new.session ≡ old.session
     → is_bad message ≡ false → features_told message ≡ None → ActsIn Begun old (told_at moment message) true new
-begun_answers old new moment message policy phase more session good none p switch sides qs ql fit body begun =
+begun_still_answers old new moment message policy phase more session good none p switch sides qs ql fit body begun =
     told p switch sides qs ql moment message Begun Begun false (echo_for message) old new body begun refl (begun_echo message good none) refl
     (lane_begun (λ i. put_with p i switch (sides i) (told_at moment message)) message None none) policy (phase ∙ body.phase ∙ begun) (more lane_limit ql body.lane)
     (subst (λ (o : Option Session). Opens p (switch_after switch (SwitchMsg message)) (sides_after p switch sides (told_at moment message)) (queues_after p switch sides qs (told_at moment message)) o) (sym session)
     (begun_still p switch sides qs moment message old.session fit begun none body.opens))
+
+-- by what was read of it
+pub begun_answers : (old new : Desk) (messages : List (List ℕ)) (moment : ℕ) (message : List ℕ) (said : Result SwitchMessage Unread) → new.policy ≡ old.policy → new.phase ≡ old.phase → HasMore messages old.lane new.lane → new.session ≡ old.session
+    → read_switch message ≡ said → has_bad_length said ≡ false → features_said said ≡ None → echo_said (xid_of message) said ≡ messages → ActsIn Begun old (told_at moment message) true new
+begun_answers old new messages moment message said policy phase more session is good none answers =
+    begun_still_answers old new moment message policy phase (subst (λ (m : List (List ℕ)). HasMore m old.lane new.lane) (sym (ap (echo_said (xid_of message)) is ∙ answers)) more) session
+    (good_said message said is good) (ap features_said is ∙ none)
 
 pub opened : (old new : Desk) (moment : ℕ) (message : List ℕ) (features : Features) (session : Session) → new.policy ≡ old.policy → new.phase ≡ Opened → HasMore preparation old.lane new.lane → new.session ≡ Some session
     → features_told message ≡ Some features → Begins old.policy features session → ActsIn Begun old (told_at moment message) true new
@@ -142,14 +152,14 @@ opened_good message good = ap (λ (b : Bool). if b then Gone else Opened) good
 
 bad_shown : (p : PolicyView) (slot : ℕ) (switch : Switch) (side : Side) (message : List ℕ) → is_bad message ≡ true → message_items p slot switch side message ≡ End ∷ []
 unfolding message_items
-bad_shown p slot switch side message bad = rw bad refl
+bad_shown p slot switch side message bad = ap (said_items p slot switch side (xid_of message)) (bad_read message bad)
 
 -- the session of a switch that ends
 pub bad_ends : (p : PolicyView) (switch : Switch) (sides : ℕ → Side) (qs : ℕ → Queue) (moment : ℕ) (message : List ℕ) (session : Session) → SessionStands p switch sides qs session → switch.phase ≡ Opened → is_bad message ≡ true
     → SessionStands p (switch_after switch (SwitchMsg message)) (sides_after p switch sides (told_at moment message)) (queues_after p switch sides qs (told_at moment message)) session
 bad_ends p switch sides qs moment message session stands open_ bad =
     session_ends p switch sides qs (told_at moment message) session stands
-    (ap (λ (k : Phase). known_after k switch.known (SwitchMsg message)) open_ ∙ ap (λ (t : Option PortStatus). elim t [ None ↦ switch.known | Some status ↦ changed status switch.known ]) (bad_untold message bad))
+    (ap (λ (k : Phase). known_after k switch.known (SwitchMsg message)) open_ ∙ ap (λ (t : Option PortStatus). elim t [ None ↦ switch.known | Some status ↦ changed status switch.known ]) (ap status_said (bad_read message bad)))
     (λ slot here. items_opened p slot switch (sides slot) (told_at moment message) open_
     ∙ ap₂ (λ (b : Bool) (items : List Item). if b then items else []) here (bad_shown p slot switch (sides slot) message bad))
     (λ slot. refl)

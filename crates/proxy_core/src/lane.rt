@@ -1,19 +1,22 @@
 //! The proxy's own messages to a switch, and how messages are put into what waits.
 
-ghost use Rattle.std.specs.Prelude.{ℕ, ◌≡◌, ◌≤◌, ◌<◌, length, IfOk, OnOk, OnErr, IsTrue};
-ghost use Rattle.of10_ctl.specs.declared.kind.TheConstants.{ECHO_REQUEST};
-ghost use Rattle.of10_ctl.specs.Kinds.{IsOf, is_of};
+ghost use Rattle.std.specs.Prelude.{ℕ, ◌≡◌, ◌≤◌, ◌<◌, length, Ok, IfOk, OnOk, OnErr};
+ghost use Rattle.of10_switch.specs.Views.{said_by};
+ghost use Rattle.of10_switch.specs.Ranges.{IsSaid};
 ghost use Rattle.outbox.specs.Queues.{Queue, QueueStands};
-ghost use Rattle.desk_words.specs.Sent.{greeting, whole_packets, clearing, preparation, echo_for};
+ghost use Rattle.desk_words.specs.Sent.{greeting, whole_packets, clearing, preparation, echo_said};
 ghost use Rattle.proxy_core.specs.Slots.{HasMore};
 
 use of10_action::Actions;
-use of10_ctl::kind::{BARRIER_REQUEST, ECHO_REQUEST, FEATURES_REQUEST, HELLO, SET_CONFIG};
-use of10_ctl::{Frame, echo_reply, message};
+use of10_config::set_config;
+use of10_ctl::kind::{BARRIER_REQUEST, ECHO_REPLY, FEATURES_REQUEST, HELLO};
+use of10_ctl::{Frame, message};
 use of10_flow::FlowMod;
 use of10_flow::protocol::{DELETE, NO_BUFFER};
 use of10_match::Match;
+use of10_message::SwitchConfig;
 use of10_port::protocol::NONE;
+use of10_switch::FromSwitch;
 use outbox::Outbox;
 use std::alloc::{AllocError, Global};
 
@@ -28,8 +31,11 @@ const DELETE_XID: u32 = 0xff00_0003;
 
 const BARRIER_XID: u32 = 0xff00_0004;
 
-/// SET_CONFIG: no flags, and packets are handed up whole (OpenFlow 1.0.0, section 5.3.2).
-const WHOLE_PACKETS: [u8; 4] = [0, 0, 0xff, 0xff];
+/// No flags, and packets are handed up whole (OpenFlow 1.0.0, section 5.3.2).
+const WHOLE_PACKETS: SwitchConfig = SwitchConfig {
+    flags: 0,
+    miss_send_len: 0xffff,
+};
 
 /// What a switch that connects is sent: a greeting, and the question what it is.
 pub(crate) fn greeting(alloc: Global) -> Result<Vec<Frame>, AllocError>
@@ -44,7 +50,7 @@ pub(crate) fn greeting(alloc: Global) -> Result<Vec<Frame>, AllocError>
 fn whole_packets(alloc: Global) -> Result<Frame, AllocError>
     ensures { IfOk result (λ f. f ≡ whole_packets) }
 {
-    message(alloc, SET_CONFIG, CONFIG_XID, &WHOLE_PACKETS)
+    set_config(alloc, CONFIG_XID, &WHOLE_PACKETS)
 }
 
 /// Every entry is to be deleted (OpenFlow 1.0.0, section 5.3.3).
@@ -79,24 +85,17 @@ pub(crate) fn preparation(alloc: Global) -> Result<Vec<Frame>, AllocError>
     Ok(messages)
 }
 
-fn reply(alloc: Global, frame: &Frame) -> Result<Vec<Frame>, AllocError>
-    requires { IsOf ECHO_REQUEST frame.now }
-    ensures { IfOk result (λ v. v.items ≡ echo_for frame.now) }
+/// What answers a message under a transaction id: an ECHO_REQUEST its reply (OpenFlow 1.0.0, section 5.5), any
+/// other nothing.
+pub(crate) fn echo(alloc: Global, xid: u32, said: &FromSwitch<'_>) -> Result<Vec<Frame>, AllocError>
+    requires { IsSaid (said_by said.now) }
+    ensures { IfOk result (λ v. v.items ≡ echo_said xid (Ok (said_by said.now))) }
 {
     let mut messages = Vec::new(alloc);
-    messages.push(echo_reply(alloc, frame)?)?;
-    Ok(messages)
-}
-
-/// The reply to an ECHO_REQUEST (OpenFlow 1.0.0, section 5.5); to any other message none.
-pub(crate) fn echo(alloc: Global, frame: &Frame) -> Result<Vec<Frame>, AllocError>
-    ensures value { IfOk result (λ v. v.items ≡ echo_for frame.now) }
-    ensures memory { OnErr result (IsTrue (is_of ECHO_REQUEST frame.now)) }
-{
-    if !frame.is_of(ECHO_REQUEST) {
-        return Ok(Vec::new(alloc));
+    if let FromSwitch::EchoRequest(body) = said {
+        messages.push(message(alloc, ECHO_REPLY, xid, body)?)?;
     }
-    reply(alloc, frame)
+    Ok(messages)
 }
 
 /// Takes memory for so many more messages.

@@ -1,10 +1,15 @@
 //! What a desk makes of an event.
 
-ghost use Rattle.std.specs.Prelude.{ℕ, ◌≡◌, ◌≤◌, ◌^◌, ◌||◌, leb, if◌then◌else◌, false, None, Some, length, IfOk, OnErr, IfSome, List, []};
-ghost use Rattle.of10_ctl.specs.Frames.{is_bad};
+ghost use Rattle.std.specs.Prelude.{ℕ, ◌≡◌, ◌^◌, ◌||◌, leb, if◌then◌else◌, false, None, IfOk, OnErr, List, [], Result, Ok, Err};
+ghost use Rattle.of10_message.specs.declared.fault.Unread.{Unread};
+ghost use Rattle.of10_message.specs.Heads.{xid_of};
+ghost use Rattle.of10_switch.specs.Messages.{SwitchMessage, FeaturesReply, read_switch, has_bad_length};
+ghost use Rattle.of10_switch.specs.Views.{features_of, said_by};
+ghost use Rattle.of10_switch.specs.Ranges.{IsSaid};
 ghost use Rattle.desk_words.specs.declared.event.Event.TheVariants.{SwitchUp, SwitchMsg, SwitchDown, SliceUp, SliceMsg, SliceDown};
 ghost use Rattle.desk_words.specs.declared.phase.Phase.TheVariants.{Begun, Opened};
-ghost use Rattle.desk_words.specs.Openings.{features_told, phase_after};
+ghost use Rattle.desk_words.specs.Openings.{features_said, phase_after};
+ghost use Rattle.desk_words.specs.Sent.{echo_said};
 ghost use Rattle.desk_words.specs.Verdicts.{is_ended, is_down};
 ghost use Rattle.desk_words.specs.declared.answer.Verdict.TheVariants.{Go, Close};
 ghost use Rattle.proxy_core.specs.Desks.{Acts, ActsIn, Stays, Ends, PassesOn, is_begun_with, DeskStands, Steps};
@@ -13,10 +18,9 @@ use crate::lane::{echo, greeting, make_room, preparation, push_all};
 use crate::parts::{Desk, Session};
 use desk_words::{Event, Phase, Timed, Verdict};
 use flowspace::Policy;
-use of10_action::DecodeFault;
 use of10_ctl::Frame;
-use of10_ctl::kind::FEATURES_REPLY;
-use of10_port::Features;
+use of10_message::Unread;
+use of10_switch::{FeaturesView, FromSwitch, read_switch};
 use outbox::Outbox;
 use std::alloc::{AllocError, Global};
 
@@ -33,21 +37,6 @@ fn connected(phase: Phase) -> Phase
     match phase {
         Phase::Fresh => Phase::Begun,
         Phase::Begun | Phase::Opened | Phase::Gone => phase,
-    }
-}
-
-/// What a message tells of the switch, where it is a FEATURES_REPLY (OpenFlow 1.0.0, section 5.3.1).
-fn features_told(alloc: Global, frame: &Frame) -> Result<Option<Features>, AllocError>
-    ensures value { IfOk result (λ told. told ≡ features_told frame.now) }
-    ensures few { IfOk result (λ told. IfSome told (λ f. length f.ports ≤ 1364)) }
-{
-    if !frame.is_of(FEATURES_REPLY) {
-        return Ok(None);
-    }
-    match Features::decode(alloc, frame) {
-        Ok(features) => Ok(Some(features)),
-        Err(DecodeFault::Wire(_)) => Ok(None),
-        Err(DecodeFault::Memory) => Err(AllocError),
     }
 }
 
@@ -89,12 +78,13 @@ impl Desk {
     }
 
     /// The switch has told what it is: it is prepared.
-    fn open(&mut self, alloc: Global, features: Features) -> Result<bool, AllocError>
-        requires { length features.ports ≤ 1364 }
-        ensures ok { IfOk result (λ go. (moment : ℕ) (message : List ℕ) → features_told message ≡ Some features → ActsIn Begun self.old (record { event = SwitchMsg message; moment = moment }) go self.new) }
+    fn open(&mut self, alloc: Global, told: &FeaturesView<'_>) -> Result<bool, AllocError>
+        requires { IsSaid (FeaturesReply (features_of told.now)) }
+        ensures ok { IfOk result (λ go. (moment : ℕ) (message : List ℕ) → read_switch message ≡ Ok (FeaturesReply (features_of told.now)) → ActsIn Begun self.old (record { event = SwitchMsg message; moment = moment }) go self.new) }
         ensures err { OnErr result (Stays self.old self.new) }
         ensures events { self.new.events ≡ self.old.events }
     {
+        let features = told.copied(alloc)?;
         let session = Session::new(alloc, &self.policy, features)?;
         let messages = preparation(alloc)?;
         make_room(&mut self.lane, messages.len())?;
@@ -104,32 +94,63 @@ impl Desk {
         Ok(true)
     }
 
-    /// A message that doesn't tell what the switch is.
-    fn answer_echo(&mut self, alloc: Global, frame: &Frame) -> Result<bool, AllocError>
-        requires { (is_bad frame.now ≡ false) × (features_told frame.now ≡ None) }
-        ensures ok { IfOk result (λ go. (moment : ℕ) → ActsIn Begun self.old (record { event = SwitchMsg frame.now; moment = moment }) go self.new) }
+    /// A message that doesn't tell what the switch is, with what answers it.
+    fn answer(&mut self, messages: Vec<Frame>) -> Result<bool, AllocError>
+        ensures ok { IfOk result (λ go. (moment : ℕ) (message : List ℕ) (said : Result SwitchMessage Unread) → read_switch message ≡ said → has_bad_length said ≡ false → features_said said ≡ None → echo_said (xid_of message) said ≡ messages.items → ActsIn Begun self.old (record { event = SwitchMsg message; moment = moment }) go self.new) }
         ensures err { OnErr result (Stays self.old self.new) }
         ensures events { self.new.events ≡ self.old.events }
     {
-        let messages = echo(alloc, frame)?;
         make_room(&mut self.lane, messages.len())?;
         push_all(&mut self.lane, messages);
         Ok(true)
     }
 
-    /// A message of a switch that hasn't told what it is.
+    /// A message under a transaction id of a switch that hasn't told what it is.
+    fn hear_said(
+        &mut self,
+        alloc: Global,
+        xid: u32,
+        said: &FromSwitch<'_>,
+    ) -> Result<bool, AllocError>
+        requires { IsSaid (said_by said.now) }
+        ensures ok { IfOk result (λ go. (moment : ℕ) (message : List ℕ) → read_switch message ≡ Ok (said_by said.now) → xid_of message ≡ xid → ActsIn Begun self.old (record { event = SwitchMsg message; moment = moment }) go self.new) }
+        ensures err { OnErr result (Stays self.old self.new) }
+        ensures events { self.new.events ≡ self.old.events }
+    {
+        match said {
+            FromSwitch::FeaturesReply(told) => self.open(alloc, told),
+            _ => {
+                let messages = echo(alloc, xid, said)?;
+                self.answer(messages)
+            }
+        }
+    }
+
+    /// A message that can't be read, of a switch that hasn't told what it is: one whose length doesn't count its
+    /// header ends the connection.
+    fn hear_unread(&mut self, alloc: Global, fault: Unread) -> Result<bool, AllocError>
+        ensures ok { IfOk result (λ go. (moment : ℕ) (message : List ℕ) → read_switch message ≡ Err fault → ActsIn Begun self.old (record { event = SwitchMsg message; moment = moment }) go self.new) }
+        ensures err { OnErr result (Stays self.old self.new) }
+        ensures events { self.new.events ≡ self.old.events }
+    {
+        match fault {
+            Unread::BadLength => {
+                self.end();
+                Ok(false)
+            }
+            _ => self.answer(Vec::new(alloc)),
+        }
+    }
+
+    /// A message of a switch that hasn't told what it is, which is read once.
     fn hear_first(&mut self, alloc: Global, frame: &Frame) -> Result<bool, AllocError>
         ensures ok { IfOk result (λ go. (moment : ℕ) → ActsIn Begun self.old (record { event = SwitchMsg frame.now; moment = moment }) go self.new) }
         ensures err { OnErr result (Stays self.old self.new) }
         ensures events { self.new.events ≡ self.old.events }
     {
-        if frame.bad_length() {
-            self.end();
-            return Ok(false);
-        }
-        match features_told(alloc, frame)? {
-            Some(features) => self.open(alloc, features),
-            None => self.answer_echo(alloc, frame),
+        match read_switch(frame) {
+            Ok(said) => self.hear_said(alloc, frame.head().xid, &said),
+            Err(fault) => self.hear_unread(alloc, fault),
         }
     }
 

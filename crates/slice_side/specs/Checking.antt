@@ -10,10 +10,11 @@ use Rattle.of10_flow.specs.declared.protocol.TheConstants.{NO_BUFFER}
 use Rattle.of10_flow.specs.FlowMods.{spell_flow_mod}
 use Rattle.of10_flow.specs.PacketOuts.{spell_packet_out}
 use Rattle.of10_flow.specs.Tables.{is_delete}
-use Rattle.of10_ctl.specs.declared.kind.TheConstants.{BARRIER_REQUEST, QUEUE_GET_CONFIG_REQUEST}
+use Rattle.of10_ctl.specs.declared.kind.TheConstants.{BARRIER_REQUEST}
 use Rattle.of10_ctl.specs.Frames.{message_of}
 use Rattle.of10_message.specs.declared.controller.FromController.{FromController}
 use Rattle.of10_message.specs.declared.controller.FromController.TheVariants as said
+use Rattle.of10_config.specs.Configs.{spell_queues_request}
 use Rattle.flowspace.specs.declared.rules.Rule.{Rule}
 use Rattle.flowmod_expand.specs.Messages.{piece_messages}
 use Rattle.stats_filter.specs.Asking.{question_for}
@@ -72,7 +73,7 @@ packet_out_from state g m = record (packet_out_on g m) { buffer = number_in (pac
 abbrev pub IsQuestion : Ground → List ℕ → FromController → List ℕ → Type 0
 IsQuestion g message (said.StatsRequest request) question = (may_ask g request ≡ true) × (question_for request g.xid ≡ Some question)
 IsQuestion g message said.BarrierRequest question = question ≡ message_of BARRIER_REQUEST g.xid []
-IsQuestion g message (said.QueueGetConfigRequest port) question = (is_port_on g port ≡ true) × (question ≡ message_of QUEUE_GET_CONFIG_REQUEST g.xid (drop 8 message))
+IsQuestion g message (said.QueueGetConfigRequest port) question = (is_port_on g port ≡ true) × (question ≡ spell_queues_request g.xid (drop 8 message))
 IsQuestion g message asked question = ⊥
 
 -- this is sent on for a message of which this was read: nothing; the flow-mods for it where it is one that no line refuses; the packet-out for it where it is one that no line refuses; or one question that the slice may ask with it

@@ -17,7 +17,8 @@ use crate::change::Change;
 use crate::remembering::asked;
 use crate::replying::{Around, refused};
 use of10_action::error::{BAD_REQUEST, REQUEST_NOT_PERMITTED};
-use of10_ctl::kind::{BARRIER_REQUEST, QUEUE_GET_CONFIG_REQUEST};
+use of10_config::queues_request;
+use of10_ctl::kind::BARRIER_REQUEST;
 use of10_ctl::{Frame, message};
 use of10_port::protocol::{ALL, NONE};
 use of10_stats::StatsRequest;
@@ -130,6 +131,6 @@ pub(crate) fn queues(
     }
     let asked = asked(frame, AskKind::QueueConfig, port);
     let (_, xid) = around.state.xids.next();
-    let question = message(alloc, QUEUE_GET_CONFIG_REQUEST, xid, frame.body())?;
+    let question = queues_request(alloc, xid, frame.body())?;
     Reaction::sending(alloc, question, Change::Inquired { moment, asked })
 }

@@ -21,10 +21,9 @@ use of10_action::error::{
     BAD_LENGTH, BAD_REQUEST, BAD_TYPE, BAD_VENDOR, BAD_VERSION, HELLO_FAILED, INCOMPATIBLE,
     REQUEST_NOT_PERMITTED,
 };
-use of10_ctl::kind::GET_CONFIG_REPLY;
-use of10_ctl::{Frame, begin, echo_reply, error_frame};
+use of10_config::config_reply;
+use of10_ctl::{Frame, echo_reply, error_frame};
 use of10_message::{FromController, SwitchConfig, Unread};
-use of10_model::wire::put_u16;
 use of10_port::Features;
 use port_view::PortView;
 use std::alloc::{AllocError, Global};
@@ -139,10 +138,11 @@ pub(crate) fn unread(
 fn config(alloc: Global, wanted: u16, frame: &Frame) -> Result<Frame, AllocError>
     ensures { IfOk result (λ reply. reply ≡ config_reply wanted frame.now) }
 {
-    let mut out = begin(alloc, GET_CONFIG_REPLY, frame.head().xid, 4)?;
-    put_u16(&mut out, 0)?;
-    put_u16(&mut out, wanted)?;
-    Ok(Frame::of(out))
+    let config = SwitchConfig {
+        flags: 0,
+        miss_send_len: wanted,
+    };
+    config_reply(alloc, frame.head().xid, &config)
 }
 
 /// SET_CONFIG is taken where it asks for fragments to be handled as usual (OpenFlow 1.0.0, section 5.3.2).

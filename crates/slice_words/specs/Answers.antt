@@ -1,8 +1,7 @@
 -- What follows for a slice from each item of its view. A later item is answered by look-ups in the view before it and in the answers given there; nothing is kept. Sections are those of OpenFlow 1.0.0; the order of refusals is this proxy's own rule.
-use Rattle.std.specs.Prelude.{ℕ, ◌-◌, ◌%◌, ◌^◌, ◌==◌, max, Bool, if◌then◌else◌, List, [], ◌∷◌, ◌++◌, length, take, Option, Some, None, Ok, Err}
-use Rattle.byteorder.specs.Endian.{big_bytes}
+use Rattle.std.specs.Prelude.{ℕ, ◌-◌, ◌%◌, ◌^◌, ◌==◌, max, Bool, if◌then◌else◌, List, [], ◌∷◌, length, take, Option, Some, None, Ok, Err}
 use Rattle.of10_action.specs.Faults.{class_and_code}
-use Rattle.of10_ctl.specs.declared.kind.TheConstants.{HELLO, GET_CONFIG_REPLY}
+use Rattle.of10_ctl.specs.declared.kind.TheConstants.{HELLO}
 use Rattle.of10_ctl.specs.Frames.{message_of, error_of, echo_reply_to}
 use Rattle.of10_flow.specs.declared.protocol.TheConstants.{NO_BUFFER}
 use Rattle.of10_flow.specs.declared.flow_mod.FlowMod.{FlowMod}
@@ -20,6 +19,7 @@ use Rattle.of10_message.specs.declared.fault.Unread.{Unread}
 use Rattle.of10_message.specs.declared.fault.Unread.TheVariants.{BadLength, NoCommonVersion, BadVersion, BadType, BadForm}
 use Rattle.of10_message.specs.Heads.{xid_of}
 use Rattle.of10_message.specs.Controller.{read_controller}
+use Rattle.of10_config.specs.Configs.{spell_config_reply}
 use Rattle.port_view.specs.SlicePorts.{features_with}
 use Rattle.rate_bucket.specs.Rates.{is_accepted}
 use Rattle.xid_map.specs.declared.asked.Issued.{Issued}
@@ -90,7 +90,7 @@ features_answer view message = elim (features_in view) [ None ↦ silence | Some
 
 -- the reply to GET_CONFIG_REQUEST: no flags, and what the controller set (section 5.3.2)
 abbrev pub config_reply : ℕ → List ℕ → List ℕ
-config_reply length_set message = message_of GET_CONFIG_REPLY (xid_of message) (big_bytes 2 0 ++ big_bytes 2 length_set)
+config_reply length_set message = spell_config_reply (xid_of message) (record { flags = 0; miss_send_len = length_set })
 
 -- SET_CONFIG is taken where it asks for fragments to be handled as usual (section 5.3.2)
 abbrev pub setting_answer : SwitchConfig → List ℕ → Answer

@@ -1,9 +1,10 @@
 -- What a slice is told of what the switch replies to its requests: to barriers (OpenFlow 1.0.0, section 5.3.7), to questions for queues (5.3.4) and to requests for statistics (5.3.5), which are collected until the last part has come. What is collected, and how it is replied, is this proxy's own rule.
 use Rattle.std.specs.Prelude.{ℕ, ◌==◌, ◌&&◌, not, Bool, true, false, if◌then◌else◌, List, [], ◌∷◌, Option, Some, None, is_some}
 use Rattle.of10_model.specs.Normal.{is_value}
-use Rattle.of10_ctl.specs.declared.kind.TheConstants.{BARRIER_REPLY, QUEUE_GET_CONFIG_REPLY}
+use Rattle.of10_ctl.specs.declared.kind.TheConstants.{BARRIER_REPLY}
 use Rattle.of10_ctl.specs.Frames.{message_of}
 use Rattle.of10_message.specs.Replies.{port_of_queues}
+use Rattle.of10_config.specs.Configs.{spell_queues_reply}
 use Rattle.of10_stats.specs.Replies.{flow_of}
 use Rattle.xid_map.specs.declared.asked.Issued.{Issued}
 use Rattle.xid_map.specs.declared.asked.AskKind.{AskKind}
@@ -65,7 +66,7 @@ abbrev pub queues_told : Option Issued → List ℕ → List (List ℕ)
 queues_told None body = []
 queues_told (Some request) body =
     if asks_queues request.asked.kind && request.asked.port == port_of_queues body && not request.done
-    then message_of QUEUE_GET_CONFIG_REPLY request.asked.xid body ∷ []
+    then spell_queues_reply request.asked.xid body ∷ []
     else []
 
 -- the replies with what was collected for a request of a kind: for a sum of flows the sums

@@ -1,14 +1,13 @@
 -- What a packet that the switch hands up changes for each slice.
-use Rattle.std.proofs.Common.{◌≡◌, ℕ, zero, suc, ◌+◌, ◌<◌, ◌≤◌, ◌==◌, Bool, true, false, if◌then◌else◌, List, [], ◌∷◌, ◌++◌, map, length, slice_get, get_or, refl, ap, ap₂, subst, sym, ◌∙◌, true≢false, inl, inr, arith, Option, Some, None, is_some, unwrap_or, option_map, option_and_then}
+use Rattle.std.proofs.Common.{◌≡◌, ℕ, zero, suc, ◌+◌, ◌<◌, ◌≤◌, ◌==◌, Bool, true, false, if◌then◌else◌, List, [], ◌∷◌, ◌++◌, map, length, slice_get, get_or, refl, ap, ap₂, subst, sym, ◌∙◌, true≢false, inl, inr, arith, Option, Some, None, is_some, unwrap_or, option_map, option_and_then, Ok}
 use Rattle.std.specs.List.{list_any}
 use Rattle.std.proofs.lemmas.Bool.{eq-eqb, ne_eqb, ltb-true, ltb-false}
 use Rattle.std.proofs.lemmas.Bool.Decides.{eqb_tells}
 use Rattle.of10_model.specs.Normal.{is_value, bit}
-use Rattle.of10_ctl.specs.declared.kind.TheConstants.{PACKET_IN}
-use Rattle.of10_ctl.specs.Kinds.{is_of}
 use Rattle.of10_flow.specs.declared.protocol.TheConstants.{NO_BUFFER}
 use Rattle.of10_flow.specs.declared.packet_in.PacketIn.{PacketIn}
-use Rattle.of10_flow.specs.PacketIns.{read_packet_in}
+use Rattle.of10_switch.specs.Messages as says
+use Rattle.of10_switch.specs.Messages.{read_switch}
 use Rattle.flowspace.specs.declared.rules.Rule.{Rule}
 use Rattle.flowspace.specs.Order.{first_rule}
 use Rattle.flowspace.specs.Policies.{PolicyView}
@@ -19,8 +18,8 @@ use Rattle.slice_words.specs.Alone.{number_of}
 use Rattle.slice_words.specs.Standing.{past_of}
 use Rattle.desk_words.specs.declared.phase.Phase.TheVariants.{Opened}
 use Rattle.desk_words.specs.declared.event.Event.TheVariants.{SwitchMsg}
-use Rattle.desk_words.specs.Openings.{well_formed, rules_of, Switch}
-use Rattle.desk_words.specs.Histories.{is_slot, settings_at, items_of, Side, holder, handed, header_in, number_given, number_told, marked_slot, shares_of, packet_items, packet_in_items, message_items}
+use Rattle.desk_words.specs.Openings.{rules_of, Switch}
+use Rattle.desk_words.specs.Histories.{is_slot, settings_at, items_of, Side, holder, handed, header_in, number_given, number_told, marked_slot, shares_of, packet_items, packet_in_items}
 use Rattle.desk_words.specs.Numbers.{AreNumbered}
 use Rattle.desk_words.proofs.Numbering.{lost_of}
 use Rattle.switch_side.specs.declared.change.Change.{Change}
@@ -29,9 +28,9 @@ use Rattle.switch_side.specs.declared.audience.Audience.TheVariants.{Prober}
 use Rattle.switch_side.specs.Audiences.{named_by, audience_of, writes}
 use Rattle.switch_side.specs.Changes.{is_lost, IsLost, IsChange, changes_for, SlotChanges}
 use Rattle.switch_side.specs.Dispatches.{AllStand, AllNumbered, AreChanges, told_at}
-use Rattle.switch_side.specs.Carrying.{change_for, changes_from, packet_in_changes}
+use Rattle.switch_side.specs.Carrying.{change_for, changes_from, packet_changes}
 use Rattle.switch_side.proofs.Making.{first_for}
-use Rattle.switch_side.proofs.MessageTypes.{of_good, items_at, items_none}
+use Rattle.switch_side.proofs.MessageTypes.{number_of_said, items_of_said, items_none}
 use Rattle.switch_side.proofs.Standing.{shares_stand}
 use Rattle.switch_side.proofs.Told.{has_item}
 
@@ -178,9 +177,6 @@ nothing_seen s (Some number) sight = λ state stands. stands
 abbrev changed_among : ℕ → List Rule → List SliceState → PacketIn → List (ℕ × Change)
 changed_among count rules states packet = if packet.buffer == NO_BUFFER then [] else changes_from (change_for (audience_of count rules packet) packet.buffer (header_in packet)) 0 states
 
-abbrev changed_found : ℕ → List Rule → List SliceState → Option PacketIn → List (ℕ × Change)
-changed_found count rules states found = elim found [ None ↦ [] | Some packet ↦ changed_among count rules states packet ]
-
 module _ (policy : PolicyView) (rules : List Rule) (states : List SliceState) (slot : ℕ) where
   by_kept : (s : Settings) (side : Side) (packet : PacketIn) (state : SliceState) (free : Bool) → (packet.buffer == NO_BUFFER) ≡ free → slice_get states slot ≡ Some state → AreNumbered s side → state.up ≡ is_up side.sight.view
       → SlotChanges s (if free then None else Some packet.buffer) side.sight (packet_in_items policy rules slot side packet)
@@ -191,56 +187,35 @@ module _ (policy : PolicyView) (rules : List Rule) (states : List SliceState) (s
       (sym (own_change (change_for (audience_of (length policy.slices) rules packet) packet.buffer (header_in packet)) states 0 slot slot state (omega arith) there))
       (packet_change s policy rules slot side packet packet.buffer state.up (ap (λ (free : Bool). if free then None else Some packet.buffer) is) n up)
 
-  by_found : (s : Settings) (side : Side) (state : SliceState) (found : Option PacketIn) → slice_get states slot ≡ Some state → AreNumbered s side → state.up ≡ is_up side.sight.view
-      → SlotChanges s (option_and_then number_given found) side.sight (elim found [ None ↦ [] | Some packet ↦ packet_in_items policy rules slot side packet ])
-      (changes_for slot (changed_found (length policy.slices) rules states found))
-  by_found s side state None there n up = λ kept stands. stands
-  by_found s side state (Some packet) there n up = by_kept s side packet state (packet.buffer == NO_BUFFER) refl there n up
-
   none_kept_past : (packet : PacketIn) (free : Bool) → length states ≤ slot
       → changes_for slot (if free then [] else changes_from (change_for (audience_of (length policy.slices) rules packet) packet.buffer (header_in packet)) 0 states) ≡ []
   none_kept_past packet true past = refl
   none_kept_past packet false past = none_past (change_for (audience_of (length policy.slices) rules packet) packet.buffer (header_in packet)) states 0 slot (omega (arith, past))
 
-  none_found_past : (found : Option PacketIn) → length states ≤ slot → changes_for slot (changed_found (length policy.slices) rules states found) ≡ []
-  none_found_past None past = refl
-  none_found_past (Some packet) past = none_kept_past packet (packet.buffer == NO_BUFFER) past
-
--- a packet-in shows its packet
-shown : (p : PolicyView) (slot : ℕ) (switch : Switch) (side : Side) (message : List ℕ) → is_of PACKET_IN message ≡ true
-    → message_items p slot switch side message ≡ elim (well_formed (read_packet_in message)) [ None ↦ [] | Some packet ↦ packet_in_items p (rules_of p switch.features) slot side packet ]
-unfolding message_items
-shown p slot switch side message is = rw (is, of_good PACKET_IN message is) refl
-
-number_is : (switch : Switch) (message : List ℕ) → switch.phase ≡ Opened → is_of PACKET_IN message ≡ true
-    → number_told switch.phase (SwitchMsg message) ≡ option_and_then number_given (well_formed (read_packet_in message))
-number_is switch message opened is =
-    ap (λ phase. number_told phase (SwitchMsg message)) opened
-    ∙ ap (λ (packet_in : Bool). option_and_then number_given (if packet_in then well_formed (read_packet_in message) else None)) is
-
 module _ (p : PolicyView) (switch : Switch) (sides : ℕ → Side) (moment : ℕ) (message : List ℕ) (states : List SliceState)
-    (opened : switch.phase ≡ Opened) (same : length states ≡ length p.slices) (stand : AllStand p switch sides states) (numbered : AllNumbered p switch sides) (is : is_of PACKET_IN message ≡ true) where
+    (opened : switch.phase ≡ Opened) (same : length states ≡ length p.slices) (stand : AllStand p switch sides states) (numbered : AllNumbered p switch sides)
+    (packet : PacketIn) (is : read_switch message ≡ Ok (says.PacketIn packet)) where
   abbrev changed : ℕ → Option ℕ → List Item → List Change → Type 0
   changed slot number shown listed = SlotChanges (settings_at p slot switch.features) number (sides slot).sight shown listed
 
   abbrev listed : ℕ → List Change
-  listed slot = changes_for slot (changed_found (length p.slices) (rules_of p switch.features) states (well_formed (read_packet_in message)))
+  listed slot = changes_for slot (changed_among (length p.slices) (rules_of p switch.features) states packet)
 
   by_slot : (slot : ℕ) (here : Bool) → is_slot p slot ≡ here → changed slot (number_told switch.phase (SwitchMsg message)) (items_of p slot switch (sides slot) (told_at moment message)) (listed slot)
   by_slot slot true here =
       let state = has_item states slot (let lt = ltb-true slot (length p.slices) here in omega (arith, lt, same)) in
-      subst (λ (number : Option ℕ). changed slot number (items_of p slot switch (sides slot) (told_at moment message)) (listed slot)) (sym (number_is switch message opened is))
-      (subst (λ (items : List Item). changed slot (option_and_then number_given (well_formed (read_packet_in message))) items (listed slot))
-      (sym (items_at p slot moment switch (sides slot) message opened here ∙ shown p slot switch (sides slot) message is))
-      (by_found p (rules_of p switch.features) states slot (settings_at p slot switch.features) (sides slot) state.0 (well_formed (read_packet_in message)) state.1 (numbered slot here) (stand slot state.0 state.1).up))
+      subst (λ (number : Option ℕ). changed slot number (items_of p slot switch (sides slot) (told_at moment message)) (listed slot)) (sym (number_of_said switch message (Ok (says.PacketIn packet)) opened is))
+      (subst (λ (items : List Item). changed slot (number_given packet) items (listed slot))
+      (sym (items_of_said p slot moment switch (sides slot) message (Ok (says.PacketIn packet)) opened here is))
+      (by_kept p (rules_of p switch.features) states slot (settings_at p slot switch.features) (sides slot) packet state.0 (packet.buffer == NO_BUFFER) refl state.1 (numbered slot here) (stand slot state.0 state.1).up))
   by_slot slot false none =
       subst (λ (items : List Item). changed slot (number_told switch.phase (SwitchMsg message)) items (listed slot)) (sym (items_none p slot moment switch (sides slot) message none))
       (subst (changed slot (number_told switch.phase (SwitchMsg message)) [])
-      (sym (none_found_past p (rules_of p switch.features) states slot (well_formed (read_packet_in message)) (let past = ltb-false slot (length p.slices) none in omega (arith, past, same))))
+      (sym (none_kept_past p (rules_of p switch.features) states slot packet (packet.buffer == NO_BUFFER) (let past = ltb-false slot (length p.slices) none in omega (arith, past, same))))
       (nothing_seen (settings_at p slot switch.features) (number_told switch.phase (SwitchMsg message)) (sides slot).sight))
 
-  pub packet_changed : AreChanges p switch sides moment message (packet_in_changes (rules_of p switch.features) states message)
+  pub packet_changed : AreChanges p switch sides moment message (packet_changes (rules_of p switch.features) states packet)
   packet_changed slot =
       subst (λ (count : ℕ). changed slot (number_told switch.phase (SwitchMsg message)) (items_of p slot switch (sides slot) (told_at moment message))
-      (changes_for slot (changed_found count (rules_of p switch.features) states (well_formed (read_packet_in message)))))
+      (changes_for slot (changed_among count (rules_of p switch.features) states packet)))
       (sym same) (by_slot slot (is_slot p slot) refl)

@@ -1,13 +1,7 @@
 -- What follows from replies of the switch, as the code finds it.
-use Rattle.std.proofs.Common.{◌≡◌, ℕ, ◌-◌, ◌≤◌, ◌/◌, ◌^◌, Bool, true, false, if◌then◌else◌, List, [], length, drop, slice_get, true≢false, subst, arith, refl, ap, ◌∙◌, Option, Some, None, option_and_then, Result, Ok, Err, IfOk}
-use Rattle.std.specs.Prelude.{nat_lt, is_err}
-use Rattle.std.proofs.lemmas.List.{length-drop}
-use Rattle.of10_action.specs.declared.fault.WireFault.TheVariants.{Length}
-use Rattle.of10_message.specs.Replies.{QueuesMessage, read_queues, port_of_queues}
-use Rattle.std.specs.declared.alloc.AllocError.{AllocError}
+use Rattle.std.proofs.Common.{◌≡◌, ℕ, ◌/◌, ◌^◌, true, false, List, [], slice_get, refl, ap, ◌∙◌, Option, Some, None}
 use Rattle.std.specs.List.{concat}
 use Rattle.of10_stats.specs.declared.reply.StatsPart.{StatsPart}
-use Rattle.of10_stats.specs.Replies.{part_of}
 use Rattle.flowspace.specs.declared.rules.Rule.{Rule}
 use Rattle.xid_map.specs.declared.asked.Issued.{Issued}
 use Rattle.xid_map.specs.Requests.{found}
@@ -15,12 +9,9 @@ use Rattle.xid_map.specs.Collections.{CollectionCall, gathered}
 use Rattle.flow_book.specs.declared.state.SliceState.{SliceState}
 use Rattle.stats_filter.specs.Asking.{type_sent}
 use Rattle.slice_words.specs.Statistics.{collects, collected_replies}
-use Rattle.desk_words.specs.Openings.{well_formed}
-use Rattle.desk_words.specs.Histories.{is_part}
 use Rattle.switch_side.specs.declared.change.Change.TheVariants.{Collected, Finished}
-use Rattle.switch_side.specs.declared.dispatch.Dispatch.{Dispatch}
 use Rattle.switch_side.specs.Collecting.{entry_calls, calls_with}
-use Rattle.switch_side.specs.Carrying.{carried, Called, Turn, turning, kept_entries, collecting_turn, statistics_turn, request_seen}
+use Rattle.switch_side.specs.Carrying.{Called, Turn, kept_entries, collecting_turn, request_seen}
 use Rattle.switch_side.proofs.Walking.{kept_found}
 
 -- of a slice whose request collects the part, where more parts come
@@ -49,20 +40,6 @@ last_turn rules called slot part body request last open_ more sent kept =
 pub no_turn : (rules : List Rule) (called : Called) (slot : ℕ) (part : StatsPart) (body : List ℕ) (request : Issued) → collects request part.kind called.collections ≡ false → None ≡ collecting_turn rules called slot part body request
 no_turn rules called slot part body request closed = rw closed refl
 
--- ---- queues
-
--- what was read begins with its port, and has place in a message
-pub queues_read : (bytes : List ℕ) (queues : QueuesMessage) → read_queues bytes ≡ Ok queues → (queues.port ≡ port_of_queues queues.body) × (length queues.body ≤ length bytes - 8)
-unfolding read_queues
-queues_read bytes queues is = by_length (nat_lt (length bytes) 16) is
-  where
-    by_length : (short : Bool) → (if short then Err (Length (length bytes)) else Ok (record { port = port_of_queues (drop 8 bytes); body = drop 8 bytes })) ≡ Ok queues
-        → (queues.port ≡ port_of_queues queues.body) × (length queues.body ≤ length bytes - 8)
-    by_length true read = absurd (true≢false (ap is_err read))
-    by_length false read =
-        let same : (let told : QueuesMessage = record { port = port_of_queues (drop 8 bytes); body = drop 8 bytes } in told) ≡ queues = cc in
-        subst (λ (q : QueuesMessage). (q.port ≡ port_of_queues q.body) × (length q.body ≤ length bytes - 8)) same (refl, omega (arith, length-drop 8 bytes))
-
 -- ---- the request that is seen under a transaction id
 
 pub seen_at : (called : ℕ → Called) (states : List SliceState) (xid slot : ℕ) (state : SliceState) (request : Option Issued) → slot ≡ xid / 2 ^ 24 → slice_get states slot ≡ Some state
@@ -71,11 +48,3 @@ seen_at called states xid slot state request top there is = rw (← top, there) 
 
 pub none_at : (called : ℕ → Called) (states : List SliceState) (xid slot : ℕ) → slot ≡ xid / 2 ^ 24 → slice_get states slot ≡ None → None ≡ request_seen called states xid
 none_at called states xid slot top none = rw (← top, none) refl
-
--- ---- as the code finds it
-
-pub statistics_found : (called : ℕ → Called) (rules : List Rule) (states : List SliceState) (xid : ℕ) (part : StatsPart) (message body : List ℕ) (r : Result Dispatch AllocError) → part_of message ≡ Ok part → body ≡ drop part.from message
-    → is_part part.kind body ≡ true
-    → IfOk r (λ d. carried d ≡ turning (option_and_then (collecting_turn rules (called (xid / 2 ^ 24)) (xid / 2 ^ 24) part body) (request_seen called states xid)))
-    → IfOk r (λ d. carried d ≡ turning (statistics_turn called rules states xid (well_formed (part_of message)) message))
-statistics_found called rules states xid part message body r read same is ok = rw (read, ← same, is) ok

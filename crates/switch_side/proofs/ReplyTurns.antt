@@ -1,15 +1,14 @@
 -- What follows for each slice from what the switch replies under a transaction id.
-use Rattle.std.proofs.Common.{◌≡◌, ℕ, ◌/◌, ◌%◌, ◌^◌, ◌<◌, ◌==◌, ◌&&◌, Bool, true, false, if◌then◌else◌, List, [], ◌∷◌, ◌++◌, map, length, drop, slice_get, refl, ap, ap₂, subst, sym, ◌∙◌, append-nil, arith, eqb-true, Option, Some, None, option_and_then}
+use Rattle.std.proofs.Common.{◌≡◌, ℕ, ◌/◌, ◌%◌, ◌^◌, ◌<◌, ◌==◌, ◌&&◌, Bool, true, false, if◌then◌else◌, List, [], ◌∷◌, ◌++◌, map, length, slice_get, refl, ap, ap₂, subst, sym, ◌∙◌, append-nil, arith, eqb-true, Option, Some, None, option_and_then, Ok}
 use Rattle.std.specs.List.{concat}
 use Rattle.std.proofs.lemmas.Bool.{eq-eqb, ltb-true}
 use Rattle.std.proofs.lemmas.Option.{slice_get_within}
 use Rattle.std.proofs.lemmas.List.Elements.{filter_agree}
-use Rattle.of10_ctl.specs.declared.kind.TheConstants.{STATS_REPLY, BARRIER_REPLY, QUEUE_GET_CONFIG_REPLY}
-use Rattle.of10_ctl.specs.Kinds.{is_of}
 use Rattle.of10_message.specs.Heads.{xid_of}
-use Rattle.of10_message.specs.Replies.{is_bare, QueuesMessage, read_queues}
+use Rattle.of10_message.specs.Replies.{QueuesMessage}
+use Rattle.of10_switch.specs.Messages as says
+use Rattle.of10_switch.specs.Messages.{read_switch}
 use Rattle.of10_stats.specs.declared.reply.StatsPart.{StatsPart}
-use Rattle.of10_stats.specs.Replies.{part_of}
 use Rattle.flowspace.specs.declared.slices.Slice.{Slice}
 use Rattle.flowspace.specs.declared.rules.Rule.{Rule}
 use Rattle.flowspace.specs.Owners.{has_port}
@@ -29,14 +28,14 @@ use Rattle.slice_words.specs.Standing.{SliceStands, past_of}
 use Rattle.slice_words.proofs.Forgetting.{found_up}
 use Rattle.slice_words.proofs.LoneRules.{same_port, same_entry}
 use Rattle.desk_words.specs.declared.phase.Phase.TheVariants.{Opened}
-use Rattle.desk_words.specs.Openings.{well_formed, rules_of, Switch}
+use Rattle.desk_words.specs.Openings.{rules_of, Switch}
 use Rattle.desk_words.specs.Histories.{is_slot, settings_at, Side, barrier_items, queues_items, own_entries, is_part, part_items, statistics_items}
 use Rattle.switch_side.specs.declared.change.Change.TheVariants.{Collected, Finished}
 use Rattle.switch_side.specs.Changes.{seen_with, is_reply_under}
 use Rattle.switch_side.specs.Collecting.{entry_calls}
 use Rattle.switch_side.specs.Dispatches.{AllStand}
 use Rattle.switch_side.specs.Carrying.{Called, Turn, while_up, request_seen, answer_turn, barrier_turn, queues_turn, kept_entries, part_turn, collecting_turn, statistics_turn}
-use Rattle.switch_side.proofs.MessageTypes.{items_at, barrier_shown, queues_shown, statistics_shown}
+use Rattle.switch_side.proofs.MessageTypes.{items_of_said}
 use Rattle.switch_side.proofs.Replying.{with_entries, entries_rest, entries_requests, entries_book, entries_sent, entries_then, is_open, entries_closed, end_sent, ended, ended_rest, closed_sent, closed_requests, closed_collections, reply_rest, reply_collections, reply_book, reply_unmarked, some_more}
 use Rattle.switch_side.proofs.Standing.{Differs, stands_on}
 use Rattle.switch_side.proofs.Told.{has_item}
@@ -257,35 +256,29 @@ module _ (p : PolicyView) (switch : Switch) (sides : ℕ → Side) (states : Lis
   barrier_says slot x true is = rw is refl
   barrier_says slot x false is = rw is refl
 
-  barrier_own : (slot xid : ℕ) (bare : Bool) (state : SliceState) → slice_get states slot ≡ Some state → ((xid / 2 ^ 24) == slot) ≡ true
-      → FollowsFrom (settings slot) (sight slot) (if bare then Barrier (xid % 2 ^ 24) ∷ [] else []) (barrier_turn called states xid bare)
-  barrier_own slot xid false state there is = nothing_follows (settings slot) (sight slot)
-  barrier_own slot xid true state there is =
+  barrier_own : (slot xid : ℕ) (state : SliceState) → slice_get states slot ≡ Some state → ((xid / 2 ^ 24) == slot) ≡ true
+      → FollowsFrom (settings slot) (sight slot) (Barrier (xid % 2 ^ 24) ∷ []) (barrier_turn called states xid)
+  barrier_own slot xid state there is =
       reply_follows (settings slot) (sight slot) (xid % 2 ^ 24) (Barrier (xid % 2 ^ 24)) (xid / 2 ^ 24) barrier_told (request_seen called states xid) (eq-eqb (xid % 2 ^ 24) (xid % 2 ^ 24) refl)
       (barrier_says slot (xid % 2 ^ 24) (is_up (sight slot).view) refl) refl (seen_own slot xid state there is)
 
-  barrier_at : (xid : ℕ) (bare : Bool) → IsAt (xid / 2 ^ 24) (barrier_turn called states xid bare)
-  barrier_at xid false = tt
-  barrier_at xid true = then_at (xid / 2 ^ 24) _ (request_seen called states xid) (λ request. answer_at (xid / 2 ^ 24) (barrier_told (Some request)) request.number)
+  barrier_at : (xid : ℕ) → IsAt (xid / 2 ^ 24) (barrier_turn called states xid)
+  barrier_at xid = then_at (xid / 2 ^ 24) _ (request_seen called states xid) (λ request. answer_at (xid / 2 ^ 24) (barrier_told (Some request)) request.number)
 
-  pub barrier_within : (xid : ℕ) (bare : Bool) → IsWithin p (barrier_turn called states xid bare)
-  barrier_within xid false = tt
-  barrier_within xid true = seen_within xid _ (λ request. answer_at (xid / 2 ^ 24) (barrier_told (Some request)) request.number)
+  pub barrier_within : (xid : ℕ) → IsWithin p (barrier_turn called states xid)
+  barrier_within xid = seen_within xid _ (λ request. answer_at (xid / 2 ^ 24) (barrier_told (Some request)) request.number)
 
-  barrier_shows : (slot : ℕ) (message : List ℕ) → barrier_items (settings slot) message ≡ (if (xid_of message / 2 ^ 24) == slot then (if is_bare message then Barrier (xid_of message % 2 ^ 24) ∷ [] else []) else [])
-  barrier_shows slot message =
-      if_both ((xid_of message / 2 ^ 24) == (settings slot).slot) (is_bare message) (Barrier (xid_of message % 2 ^ 24) ∷ [])
-      ∙ ap (λ (n : ℕ). if (xid_of message / 2 ^ 24) == n then (if is_bare message then Barrier (xid_of message % 2 ^ 24) ∷ [] else []) else []) (settings_slot p slot switch.features)
+  barrier_shows : (slot xid : ℕ) → barrier_items (settings slot) xid ≡ (if (xid / 2 ^ 24) == slot then Barrier (xid % 2 ^ 24) ∷ [] else [])
+  barrier_shows slot xid = ap (λ (n : ℕ). if (xid / 2 ^ 24) == n then Barrier (xid % 2 ^ 24) ∷ [] else []) (settings_slot p slot switch.features)
 
-  pub barriers_follow : (moment : ℕ) (message : List ℕ) → switch.phase ≡ Opened → is_of BARRIER_REPLY message ≡ true → EachFollows p switch sides moment message (barrier_turn called states (xid_of message) (is_bare message))
+  pub barriers_follow : (moment : ℕ) (message : List ℕ) → switch.phase ≡ Opened → read_switch message ≡ Ok says.BarrierReply → EachFollows p switch sides moment message (barrier_turn called states (xid_of message))
   barriers_follow moment message opened is = λ slot here.
       let xid = xid_of message in
-      let bare = is_bare message in
-      let turn = barrier_turn called states xid bare in
+      let turn = barrier_turn called states xid in
       let state = state_at slot here in
       subst (λ (items : List Item). FollowsFrom (settings slot) (sight slot) items (turn_at slot turn))
-      (sym (items_at p slot moment switch (sides slot) message opened here ∙ barrier_shown p slot switch (sides slot) message is ∙ barrier_shows slot message))
-      (by_top slot xid (if bare then Barrier (xid % 2 ^ 24) ∷ [] else []) turn ((xid / 2 ^ 24) == slot) (barrier_at xid bare) refl (λ own. barrier_own slot xid bare state.0 state.1 own))
+      (sym (items_of_said p slot moment switch (sides slot) message (Ok says.BarrierReply) opened here is ∙ barrier_shows slot xid))
+      (by_top slot xid (Barrier (xid % 2 ^ 24) ∷ []) turn ((xid / 2 ^ 24) == slot) (barrier_at xid) refl (λ own. barrier_own slot xid state.0 state.1 own))
 
   -- ---- queues
 
@@ -304,14 +297,13 @@ module _ (p : PolicyView) (switch : Switch) (sides : ℕ → Side) (states : Lis
       reply_follows (settings slot) (sight slot) (xid % 2 ^ 24) (Queues (xid % 2 ^ 24) queues.body) (xid / 2 ^ 24) (λ request. queues_told request queues.body) (request_seen called states xid)
       (eq-eqb (xid % 2 ^ 24) (xid % 2 ^ 24) refl) (queues_says slot (xid % 2 ^ 24) queues.body (is_up (sight slot).view) refl) refl (seen_own slot xid state there is)
 
-  queues_at : (xid : ℕ) (queues : QueuesMessage) → IsAt (xid / 2 ^ 24) (queues_turn called rules states xid (Some queues))
+  queues_at : (xid : ℕ) (queues : QueuesMessage) → IsAt (xid / 2 ^ 24) (queues_turn called rules states xid queues)
   queues_at xid queues =
       if_at (xid / 2 ^ 24) (has_port rules (xid / 2 ^ 24) queues.port) (queues_made xid queues)
       (then_at (xid / 2 ^ 24) _ (request_seen called states xid) (λ request. answer_at (xid / 2 ^ 24) (queues_told (Some request) queues.body) request.number))
 
-  pub queues_within : (xid : ℕ) (queues : Option QueuesMessage) → IsWithin p (queues_turn called rules states xid queues)
-  queues_within xid None = tt
-  queues_within xid (Some queues) =
+  pub queues_within : (xid : ℕ) (queues : QueuesMessage) → IsWithin p (queues_turn called rules states xid queues)
+  queues_within xid queues =
       if_within p (has_port rules (xid / 2 ^ 24) queues.port) (queues_made xid queues) (seen_within xid _ (λ request. answer_at (xid / 2 ^ 24) (queues_told (Some request) queues.body) request.number))
 
   -- by its settings the slice has the ports that it has by the policy's rules
@@ -319,33 +311,32 @@ module _ (p : PolicyView) (switch : Switch) (sides : ℕ → Side) (states : Lis
   port_own slot port slice there = rw (there, settings_at) (same_port slot rules port)
 
   queues_shows : (slot xid : ℕ) (queues : QueuesMessage) (slice : Slice) → slice_get p.slices slot ≡ Some slice
-      → queues_items (settings slot) xid (Some queues) ≡ (if (xid / 2 ^ 24) == slot then (if has_port rules slot queues.port then Queues (xid % 2 ^ 24) queues.body ∷ [] else []) else [])
+      → queues_items (settings slot) xid queues ≡ (if (xid / 2 ^ 24) == slot then (if has_port rules slot queues.port then Queues (xid % 2 ^ 24) queues.body ∷ [] else []) else [])
   queues_shows slot xid queues slice there =
       if_both ((xid / 2 ^ 24) == (settings slot).slot) (is_own_port (settings slot) queues.port) (Queues (xid % 2 ^ 24) queues.body ∷ [])
       ∙ ap₂ (λ (n : ℕ) (own : Bool). if (xid / 2 ^ 24) == n then (if own then Queues (xid % 2 ^ 24) queues.body ∷ [] else []) else []) (settings_slot p slot switch.features) (port_own slot queues.port slice there)
 
   -- the slice's own turn by its own slot
   queues_there : (slot xid : ℕ) (queues : QueuesMessage) (state : SliceState) → slice_get states slot ≡ Some state → ((xid / 2 ^ 24) == slot) ≡ true
-      → FollowsFrom (settings slot) (sight slot) (if has_port rules slot queues.port then Queues (xid % 2 ^ 24) queues.body ∷ [] else []) (queues_turn called rules states xid (Some queues))
+      → FollowsFrom (settings slot) (sight slot) (if has_port rules slot queues.port then Queues (xid % 2 ^ 24) queues.body ∷ [] else []) (queues_turn called rules states xid queues)
   queues_there slot xid queues state there is =
       subst (λ (has : Bool). FollowsFrom (settings slot) (sight slot) (if has_port rules slot queues.port then Queues (xid % 2 ^ 24) queues.body ∷ [] else []) (if has then queues_made xid queues else None))
       (ap (λ (n : ℕ). has_port rules n queues.port) (sym (eqb-true (xid / 2 ^ 24) slot is))) (queues_own slot xid queues (has_port rules slot queues.port) state there is)
 
-  queues_follow_one : (slot xid : ℕ) (queues : Option QueuesMessage) → is_slot p slot ≡ true → FollowsFrom (settings slot) (sight slot) (queues_items (settings slot) xid queues) (turn_at slot (queues_turn called rules states xid queues))
-  queues_follow_one slot xid None here = nothing_follows (settings slot) (sight slot)
-  queues_follow_one slot xid (Some queues) here =
+  queues_follow_one : (slot xid : ℕ) (queues : QueuesMessage) → is_slot p slot ≡ true → FollowsFrom (settings slot) (sight slot) (queues_items (settings slot) xid queues) (turn_at slot (queues_turn called rules states xid queues))
+  queues_follow_one slot xid queues here =
       let state = state_at slot here in
       let slice = slice_at slot here in
-      subst (λ (items : List Item). FollowsFrom (settings slot) (sight slot) items (turn_at slot (queues_turn called rules states xid (Some queues)))) (sym (queues_shows slot xid queues slice.0 slice.1))
-      (by_top slot xid (if has_port rules slot queues.port then Queues (xid % 2 ^ 24) queues.body ∷ [] else []) (queues_turn called rules states xid (Some queues)) ((xid / 2 ^ 24) == slot) (queues_at xid queues) refl
+      subst (λ (items : List Item). FollowsFrom (settings slot) (sight slot) items (turn_at slot (queues_turn called rules states xid queues))) (sym (queues_shows slot xid queues slice.0 slice.1))
+      (by_top slot xid (if has_port rules slot queues.port then Queues (xid % 2 ^ 24) queues.body ∷ [] else []) (queues_turn called rules states xid queues) ((xid / 2 ^ 24) == slot) (queues_at xid queues) refl
       (λ own. queues_there slot xid queues state.0 state.1 own))
 
-  pub queues_follow : (moment : ℕ) (message : List ℕ) → switch.phase ≡ Opened → is_of QUEUE_GET_CONFIG_REPLY message ≡ true
-      → EachFollows p switch sides moment message (queues_turn called rules states (xid_of message) (well_formed (read_queues message)))
-  queues_follow moment message opened is = λ slot here.
-      subst (λ (items : List Item). FollowsFrom (settings slot) (sight slot) items (turn_at slot (queues_turn called rules states (xid_of message) (well_formed (read_queues message)))))
-      (sym (items_at p slot moment switch (sides slot) message opened here ∙ queues_shown p slot switch (sides slot) message is))
-      (queues_follow_one slot (xid_of message) (well_formed (read_queues message)) here)
+  pub queues_follow : (moment : ℕ) (message : List ℕ) (queues : QueuesMessage) → switch.phase ≡ Opened → read_switch message ≡ Ok (says.QueueGetConfigReply queues)
+      → EachFollows p switch sides moment message (queues_turn called rules states (xid_of message) queues)
+  queues_follow moment message queues opened is = λ slot here.
+      subst (λ (items : List Item). FollowsFrom (settings slot) (sight slot) items (turn_at slot (queues_turn called rules states (xid_of message) queues)))
+      (sym (items_of_said p slot moment switch (sides slot) message (Ok (says.QueueGetConfigReply queues)) opened here is))
+      (queues_follow_one slot (xid_of message) queues here)
 
   -- ---- statistics
 
@@ -396,11 +387,10 @@ module _ (p : PolicyView) (switch : Switch) (sides : ℕ → Side) (states : Lis
   part_at : (xid : ℕ) (part : StatsPart) (body : List ℕ) → IsAt (xid / 2 ^ 24) (part_made xid part body)
   part_at xid part body = then_at (xid / 2 ^ 24) (collecting_turn rules (called (xid / 2 ^ 24)) (xid / 2 ^ 24) part body) (request_seen called states xid) (collecting_at rules (called (xid / 2 ^ 24)) (xid / 2 ^ 24) part body)
 
-  pub statistics_within : (xid : ℕ) (part : Option StatsPart) (message : List ℕ) → IsWithin p (statistics_turn called rules states xid part message)
-  statistics_within xid None message = tt
-  statistics_within xid (Some part) message =
-      if_within p (is_part part.kind (drop part.from message)) (part_made xid part (drop part.from message))
-      (seen_within xid (collecting_turn rules (called (xid / 2 ^ 24)) (xid / 2 ^ 24) part (drop part.from message)) (collecting_at rules (called (xid / 2 ^ 24)) (xid / 2 ^ 24) part (drop part.from message)))
+  pub statistics_within : (xid : ℕ) (part : StatsPart) (body : List ℕ) → IsWithin p (statistics_turn called rules states xid part body)
+  statistics_within xid part body =
+      if_within p (is_part part.kind body) (part_made xid part body)
+      (seen_within xid (collecting_turn rules (called (xid / 2 ^ 24)) (xid / 2 ^ 24) part body) (collecting_at rules (called (xid / 2 ^ 24)) (xid / 2 ^ 24) part body))
 
   by_form : (slot xid : ℕ) (part : StatsPart) (body : List ℕ) (form : Bool) (state : SliceState) → slice_get states slot ≡ Some state → ((xid / 2 ^ 24) == slot) ≡ true
       → FollowsFrom (settings slot) (sight slot) (if form then part_shown slot xid part body else []) (if form then part_made xid part body else None)
@@ -414,22 +404,20 @@ module _ (p : PolicyView) (switch : Switch) (sides : ℕ → Side) (states : Lis
       ∙ ap₂ (λ (n : ℕ) (entries : List (List ℕ)). if (xid / 2 ^ 24) == n then (if form then map (Entry (xid % 2 ^ 24) part.kind) entries ++ (if part.more then [] else Last (xid % 2 ^ 24) part.kind ∷ []) else []) else [])
       (settings_slot p slot switch.features) (entries_own slot part.kind body slice there)
 
-  statistics_follow_one : (slot xid : ℕ) (part : Option StatsPart) (message : List ℕ) → is_slot p slot ≡ true
-      → FollowsFrom (settings slot) (sight slot) (statistics_items (settings slot) xid part message) (turn_at slot (statistics_turn called rules states xid part message))
-  statistics_follow_one slot xid None message here = nothing_follows (settings slot) (sight slot)
-  statistics_follow_one slot xid (Some part) message here =
-      let body = drop part.from message in
+  statistics_follow_one : (slot xid : ℕ) (part : StatsPart) (body : List ℕ) → is_slot p slot ≡ true
+      → FollowsFrom (settings slot) (sight slot) (statistics_items (settings slot) xid part body) (turn_at slot (statistics_turn called rules states xid part body))
+  statistics_follow_one slot xid part body here =
       let form = is_part part.kind body in
-      let turn = statistics_turn called rules states xid (Some part) message in
+      let turn = statistics_turn called rules states xid part body in
       let state = state_at slot here in
       let slice = slice_at slot here in
       subst (λ (items : List Item). FollowsFrom (settings slot) (sight slot) items (turn_at slot turn)) (sym (part_shows slot xid part body form slice.0 slice.1))
       (by_top slot xid (if form then part_shown slot xid part body else []) turn ((xid / 2 ^ 24) == slot) (if_at (xid / 2 ^ 24) form (part_made xid part body) (part_at xid part body)) refl
       (λ own. by_form slot xid part body form state.0 state.1 own))
 
-  pub statistics_follow : (moment : ℕ) (message : List ℕ) → switch.phase ≡ Opened → is_of STATS_REPLY message ≡ true
-      → EachFollows p switch sides moment message (statistics_turn called rules states (xid_of message) (well_formed (part_of message)) message)
-  statistics_follow moment message opened is = λ slot here.
-      subst (λ (items : List Item). FollowsFrom (settings slot) (sight slot) items (turn_at slot (statistics_turn called rules states (xid_of message) (well_formed (part_of message)) message)))
-      (sym (items_at p slot moment switch (sides slot) message opened here ∙ statistics_shown p slot switch (sides slot) message is))
-      (statistics_follow_one slot (xid_of message) (well_formed (part_of message)) message here)
+  pub statistics_follow : (moment : ℕ) (message : List ℕ) (part : StatsPart) (body : List ℕ) → switch.phase ≡ Opened → read_switch message ≡ Ok (says.StatsReply part body)
+      → EachFollows p switch sides moment message (statistics_turn called rules states (xid_of message) part body)
+  statistics_follow moment message part body opened is = λ slot here.
+      subst (λ (items : List Item). FollowsFrom (settings slot) (sight slot) items (turn_at slot (statistics_turn called rules states (xid_of message) part body)))
+      (sym (items_of_said p slot moment switch (sides slot) message (Ok (says.StatsReply part body)) opened here is))
+      (statistics_follow_one slot (xid_of message) part body here)

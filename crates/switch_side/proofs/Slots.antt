@@ -1,35 +1,37 @@
 -- What one slice is sent for a message of the switch, by whether the slice is up.
-use Rattle.std.proofs.Common.{◌≡◌, ℕ, ◌==◌, ◌&&◌, Bool, true, false, if◌then◌else◌, List, [], ◌∷◌, ◌++◌, map, length, refl, ap, ap₂, sym, ◌∙◌, Option, Some, None, is_some, unwrap_or, option_map, option_and_then}
+use Rattle.std.proofs.Common.{◌≡◌, ℕ, ◌==◌, ◌&&◌, Bool, true, false, if◌then◌else◌, List, [], ◌∷◌, ◌++◌, map, length, refl, ap, ap₂, sym, ◌∙◌, Option, Some, None, is_some, unwrap_or, option_map, option_and_then, true≢false, Result, Ok, Err}
 use Rattle.of10_model.specs.Normal.{is_value, bit}
-use Rattle.of10_ctl.specs.declared.kind.TheConstants.{PACKET_IN, PORT_STATUS}
-use Rattle.of10_ctl.specs.Frames.{is_bad}
-use Rattle.of10_ctl.specs.Kinds.{is_of}
 use Rattle.of10_flow.specs.declared.protocol.TheConstants.{NO_BUFFER}
 use Rattle.of10_flow.specs.declared.packet_in.PacketIn.{PacketIn}
-use Rattle.of10_flow.specs.PacketIns.{read_packet_in, spell_packet_in}
+use Rattle.of10_flow.specs.PacketIns.{spell_packet_in}
 use Rattle.of10_port.specs.declared.status.PortStatus.{PortStatus}
 use Rattle.of10_port.specs.Ports.{port_number}
-use Rattle.of10_port.specs.PortStatus.{read_port_status, spell_port_status}
+use Rattle.of10_port.specs.PortStatus.{spell_port_status}
+use Rattle.of10_message.specs.declared.fault.Unread.{Unread}
+use Rattle.of10_message.specs.declared.fault.Unread.TheVariants.{BadLength}
+use Rattle.of10_message.specs.Heads.{xid_of}
+use Rattle.of10_switch.specs.Messages as says
+use Rattle.of10_switch.specs.Messages.{SwitchMessage, read_switch}
 use Rattle.flowspace.specs.declared.rules.Rule.{Rule}
 use Rattle.flowspace.specs.Order.{first_rule}
 use Rattle.flowspace.specs.Owners.{has_port}
 use Rattle.flowspace.specs.Policies.{PolicyView}
 use Rattle.port_view.specs.KnownPorts.{is_kept}
 use Rattle.flow_book.specs.declared.state.SliceState.{SliceState}
-use Rattle.slice_words.specs.Items.{Settings, is_own_port, Writer, Reader, Probe, Item, Lost, Status, End, is_up, miss_send_len, buffered_count}
+use Rattle.slice_words.specs.Items.{Settings, is_own_port, Writer, Reader, Probe, Item, Lost, Status, is_up, miss_send_len, buffered_count}
 use Rattle.slice_words.specs.Answers.{packet_told}
 use Rattle.slice_words.specs.Alone.{answer_to, sent_for}
 use Rattle.slice_words.specs.Standing.{SliceStands}
 use Rattle.desk_words.specs.declared.phase.Phase.TheVariants.{Opened}
-use Rattle.desk_words.specs.Openings.{well_formed, status_told, kept_beside, status_kept, rules_of, Switch}
-use Rattle.desk_words.specs.Histories.{is_slot, settings_at, Side, handed, header_in, number_given, marked_slot, shares_of, packet_items, packet_in_items, holder, status_items, message_items}
+use Rattle.desk_words.specs.Openings.{status_said, kept_beside, rules_of, Switch}
+use Rattle.desk_words.specs.Histories.{is_slot, settings_at, Side, handed, header_in, number_given, marked_slot, shares_of, packet_items, packet_in_items, holder, said_items}
 use Rattle.desk_words.specs.Sent.{sent_with}
 use Rattle.desk_words.proofs.Ends.{end_sent}
 use Rattle.switch_side.specs.declared.audience.Audience.TheVariants.{Prober}
 use Rattle.switch_side.specs.Audiences.{named_by, audience_of}
 use Rattle.switch_side.specs.Dispatches.{told_at}
 use Rattle.switch_side.specs.Carrying.{unnumbered, unmarked, written_as, once, named_told, told_up, packet_for, status_for}
-use Rattle.switch_side.proofs.MessageTypes.{bad_is_none, IsForAll, items_at}
+use Rattle.switch_side.proofs.MessageTypes.{is_for_one, items_of_said}
 
 -- ---- packets
 
@@ -119,58 +121,31 @@ by_kept s rules slot view status state false up own = refl
 
 -- ---- messages
 
--- what is said of a packet, if there is one, to the slice at a slot
-abbrev pub say_found : ℕ → List Rule → Option PacketIn → ℕ → SliceState → List (List ℕ)
-say_found count rules None slot state = []
-say_found count rules (Some packet) slot state = packet_for (audience_of count rules packet) packet slot state
+-- what is said of a message to the slice at a slot, unless it is for one slice at most
+abbrev pub say : ℕ → List Rule → List (List ℕ) → Result SwitchMessage Unread → ℕ → SliceState → List (List ℕ)
+say count rules known (Ok (says.PacketIn packet)) slot state = packet_for (audience_of count rules packet) packet slot state
+say count rules known said slot state = say_status rules (kept_beside known (status_said said)) slot state
 
--- what is said of a message to the slice at a slot
-abbrev pub say : ℕ → List Rule → List (List ℕ) → List ℕ → ℕ → SliceState → List (List ℕ)
-say count rules known message slot state =
-    if is_of PACKET_IN message then say_found count rules (well_formed (read_packet_in message)) slot state else say_status rules (status_kept known message) slot state
-
-by_kind : (s : Settings) (policy : PolicyView) (rules : List Rule) (known : List (List ℕ)) (slot : ℕ) (side : Side) (state : SliceState) (packet_in : Bool) (found : Option PacketIn) (told : Option PortStatus)
-    → SliceStands s side.sight state → ((port : ℕ) → is_own_port s port ≡ has_port rules slot port)
-    → sent_for s side.sight.view (if packet_in then elim found [ None ↦ [] | Some packet ↦ packet_in_items policy rules slot side packet ] else elim told [ None ↦ [] | Some status ↦ status_items s known status ])
-    ≡ (if packet_in then say_found (length policy.slices) rules found slot state else say_status rules (kept_beside known told) slot state)
-by_kind s policy rules known slot side state true None told stands own = refl
-by_kind s policy rules known slot side state true (Some packet) told stands own = packet_sent s policy rules slot side packet state stands
-by_kind s policy rules known slot side state false found None stands own = refl
-by_kind s policy rules known slot side state false found (Some status) stands own =
-    by_kept s rules slot side.sight.view status state (is_kept status known) stands.up (own (port_number status.port))
-
-kept_if : (known : List (List ℕ)) (is_status : Bool) (told : Option PortStatus) → is_status ≡ false → kept_beside known (if is_status then told else None) ≡ None
-kept_if known is_status told none = rw none refl
-
--- only a PORT_STATUS tells of a port
-pub status_kept-none : (known : List (List ℕ)) (message : List ℕ) → is_of PORT_STATUS message ≡ false → status_kept known message ≡ None
-status_kept-none known message none = kept_if known (is_of PORT_STATUS message) (well_formed (read_port_status message)) none
-
-say_of_none : (count : ℕ) (rules : List Rule) (known : List (List ℕ)) (message : List ℕ) (slot : ℕ) (state : SliceState) → is_of PACKET_IN message ≡ false → is_of PORT_STATUS message ≡ false → say count rules known message slot state ≡ []
-say_of_none count rules known message slot state no_packet no_status = rw (no_packet, status_kept-none known message no_status) refl
-
-by_length : (s : Settings) (count : ℕ) (rules : List Rule) (known : List (List ℕ)) (message : List ℕ) (slot : ℕ) (view items : List Item) (state : SliceState) (bad : Bool) → is_bad message ≡ bad
-    → sent_for s view items ≡ say count rules known message slot state
-    → sent_for s view (if bad then End ∷ [] else items) ≡ say count rules known message slot state
-by_length s count rules known message slot view items state true is sent =
-    end_sent s view (is_up view) refl ∙ sym (say_of_none count rules known message slot state (bad_is_none PACKET_IN message is) (bad_is_none PORT_STATUS message is))
-by_length s count rules known message slot view items state false is sent = sent
-
-message_sent : (p : PolicyView) (slot : ℕ) (switch : Switch) (side : Side) (message : List ℕ) (state : SliceState) → IsForAll message
+said_sent : (p : PolicyView) (slot : ℕ) (switch : Switch) (side : Side) (xid : ℕ) (said : Result SwitchMessage Unread) (state : SliceState) → is_for_one said ≡ false
     → SliceStands (settings_at p slot switch.features) side.sight state
     → ((port : ℕ) → is_own_port (settings_at p slot switch.features) port ≡ has_port (rules_of p switch.features) slot port)
-    → sent_for (settings_at p slot switch.features) side.sight.view (message_items p slot switch side message) ≡ say (length p.slices) (rules_of p switch.features) switch.known message slot state
-unfolding message_items
-message_sent p slot switch side message state all stands own =
-    by_length (settings_at p slot switch.features) (length p.slices) (rules_of p switch.features) switch.known message slot side.sight.view _ state (is_bad message) refl
-    (rw (all.no_removal, all.no_error, all.no_barrier, all.no_queues, all.no_statistics)
-    (by_kind (settings_at p slot switch.features) p (rules_of p switch.features) switch.known slot side state (is_of PACKET_IN message) (well_formed (read_packet_in message)) (status_told message) stands own))
+    → sent_for (settings_at p slot switch.features) side.sight.view (said_items p slot switch side xid said) ≡ say (length p.slices) (rules_of p switch.features) switch.known said slot state
+said_sent p slot switch side xid (Err BadLength) state all stands own = end_sent (settings_at p slot switch.features) side.sight.view (is_up side.sight.view) refl
+said_sent p slot switch side xid (Ok (says.PacketIn packet)) state all stands own = packet_sent (settings_at p slot switch.features) p (rules_of p switch.features) slot side packet state stands
+said_sent p slot switch side xid (Ok (says.PortStatus status)) state all stands own =
+    by_kept (settings_at p slot switch.features) (rules_of p switch.features) slot side.sight.view status state (is_kept status switch.known) stands.up (own (port_number status.port))
+said_sent p slot switch side xid (Ok (says.FlowRemoved entry)) state all stands own = absurd (true≢false all)
+said_sent p slot switch side xid (Ok (says.Error error)) state all stands own = absurd (true≢false all)
+said_sent p slot switch side xid (Ok says.BarrierReply) state all stands own = absurd (true≢false all)
+said_sent p slot switch side xid (Ok (says.QueueGetConfigReply queues)) state all stands own = absurd (true≢false all)
+said_sent p slot switch side xid (Ok (says.StatsReply part body)) state all stands own = absurd (true≢false all)
+said_sent p slot switch side xid said state all stands own = refl
 
 -- a slice of the policy is sent what is said to it
-pub slot_sent : (p : PolicyView) (slot moment : ℕ) (switch : Switch) (side : Side) (message : List ℕ) (state : SliceState)
-    → switch.phase ≡ Opened → is_slot p slot ≡ true → IsForAll message → SliceStands (settings_at p slot switch.features) side.sight state
+pub slot_sent : (p : PolicyView) (slot moment : ℕ) (switch : Switch) (side : Side) (message : List ℕ) (said : Result SwitchMessage Unread) (state : SliceState)
+    → switch.phase ≡ Opened → is_slot p slot ≡ true → read_switch message ≡ said → is_for_one said ≡ false → SliceStands (settings_at p slot switch.features) side.sight state
     → ((port : ℕ) → is_own_port (settings_at p slot switch.features) port ≡ has_port (rules_of p switch.features) slot port)
-    → sent_with p slot switch side (told_at moment message) ≡ say (length p.slices) (rules_of p switch.features) switch.known message slot state
-slot_sent p slot moment switch side message state opened here all stands own =
-    ap (sent_for (settings_at p slot switch.features) side.sight.view) (items_at p slot moment switch side message opened here)
-    ∙ message_sent p slot switch side message state all stands own
+    → sent_with p slot switch side (told_at moment message) ≡ say (length p.slices) (rules_of p switch.features) switch.known said slot state
+slot_sent p slot moment switch side message said state opened here is all stands own =
+    ap (sent_for (settings_at p slot switch.features) side.sight.view) (items_of_said p slot moment switch side message said opened here is)
+    ∙ said_sent p slot switch side (xid_of message) said state all stands own

@@ -1,14 +1,16 @@
 -- What most items of the switch show changes nothing that a slice's state keeps.
-use Rattle.std.proofs.Common.{◌≡◌, ℕ, ◌&&◌, Bool, false, if◌then◌else◌, List, [], ◌∷◌, ◌++◌, map, refl, ap, sym, ◌∙◌, Option, Some, None}
+use Rattle.std.proofs.Common.{◌≡◌, ℕ, ◌&&◌, Bool, false, if◌then◌else◌, List, [], ◌∷◌, ◌++◌, map, refl, ap, sym, ◌∙◌, true≢false, Option, None, Result, Ok, Err}
 use Rattle.std.specs.List.{list_any}
 use Rattle.std.proofs.lemmas.Bool.{cond_both, or_parts}
+use Rattle.std.proofs.lemmas.Option.{none-some}
 use Rattle.of10_model.specs.declared.pattern.Pattern.{Pattern}
-use Rattle.of10_ctl.specs.declared.kind.TheConstants.{PACKET_IN}
-use Rattle.of10_ctl.specs.Frames.{is_bad}
-use Rattle.of10_ctl.specs.Kinds.{is_of}
 use Rattle.of10_flow.specs.declared.packet_in.PacketIn.{PacketIn}
 use Rattle.of10_port.specs.declared.status.PortStatus.{PortStatus}
 use Rattle.of10_port.specs.Ports.{port_number}
+use Rattle.of10_message.specs.declared.fault.Unread.{Unread}
+use Rattle.of10_message.specs.declared.fault.Unread.TheVariants.{BadLength}
+use Rattle.of10_switch.specs.Messages as says
+use Rattle.of10_switch.specs.Messages.{SwitchMessage}
 use Rattle.flowspace.specs.Policies.{PolicyView}
 use Rattle.port_view.specs.KnownPorts.{is_kept}
 use Rattle.xid_map.specs.declared.asked.Issued.{Issued}
@@ -23,10 +25,10 @@ use Rattle.slice_words.specs.Buffers.{held_packets}
 use Rattle.slice_words.specs.Statistics.{finished}
 use Rattle.slice_words.specs.Calls.{request_for, error_marks, failure, request_calls, collection_calls, questions, book_calls}
 use Rattle.slice_words.specs.Standing.{SliceStands, past_of, held_as}
-use Rattle.desk_words.specs.Openings.{status_told, Switch}
-use Rattle.desk_words.specs.Histories.{settings_at, handed, status_items, message_items, Side}
+use Rattle.desk_words.specs.Openings.{Switch}
+use Rattle.desk_words.specs.Histories.{settings_at, handed, packet_said, said_items, Side}
 use Rattle.switch_side.specs.Changes.{seen_with}
-use Rattle.switch_side.proofs.MessageTypes.{IsForAll}
+use Rattle.switch_side.proofs.MessageTypes.{is_for_one}
 
 -- ---- what a state keeps
 
@@ -172,18 +174,18 @@ either : (s : Settings) (sight : Sight) (state : SliceState) (b : Bool) (some ot
     → SliceStands s (seen_with None (if b then some else others) sight) state
 either s sight state b some others one other = cond_both b some others (λ items. SliceStands s (seen_with None items sight) state) (λ is. one) (λ isnt. other)
 
-port_stands : (s : Settings) (sight : Sight) (state : SliceState) (known : List (List ℕ)) (told : Option PortStatus) → SliceStands s sight state
-    → SliceStands s (seen_with None (elim told [ None ↦ [] | Some status ↦ status_items s known status ]) sight) state
-port_stands s sight state known None stands = stands
-port_stands s sight state known (Some status) stands =
-    either s sight state (is_kept status known && is_own_port s (port_number status.port)) (Status status ∷ []) [] (status_stands s sight state status stands) stands
-
--- a message that tells of no packet, and is of no type that is for one slice
-pub message_stands : (p : PolicyView) (slot : ℕ) (switch : Switch) (side : Side) (message : List ℕ) (state : SliceState) → is_of PACKET_IN message ≡ false → IsForAll message
+-- a message that tells of no packet, and is not for one slice at most
+pub said_stands : (p : PolicyView) (slot : ℕ) (switch : Switch) (side : Side) (xid : ℕ) (said : Result SwitchMessage Unread) (state : SliceState) → packet_said said ≡ None → is_for_one said ≡ false
     → SliceStands (settings_at p slot switch.features) side.sight state
-    → SliceStands (settings_at p slot switch.features) (seen_with None (message_items p slot switch side message) side.sight) state
-unfolding message_items
-message_stands p slot switch side message state no_packet all stands =
+    → SliceStands (settings_at p slot switch.features) (seen_with None (said_items p slot switch side xid said) side.sight) state
+said_stands p slot switch side xid (Err BadLength) state none all stands = end_stands (settings_at p slot switch.features) side.sight state stands
+said_stands p slot switch side xid (Ok (says.PacketIn packet)) state none all stands = absurd (none-some packet (sym none))
+said_stands p slot switch side xid (Ok (says.PortStatus status)) state none all stands =
     let s = settings_at p slot switch.features in
-    either s side.sight state (is_bad message) (End ∷ []) _ (end_stands s side.sight state stands)
-    (rw (no_packet, all.no_removal, all.no_error, all.no_barrier, all.no_queues, all.no_statistics) (port_stands s side.sight state switch.known (status_told message) stands))
+    either s side.sight state (is_kept status switch.known && is_own_port s (port_number status.port)) (Status status ∷ []) [] (status_stands s side.sight state status stands) stands
+said_stands p slot switch side xid (Ok (says.FlowRemoved entry)) state none all stands = absurd (true≢false all)
+said_stands p slot switch side xid (Ok (says.Error error)) state none all stands = absurd (true≢false all)
+said_stands p slot switch side xid (Ok says.BarrierReply) state none all stands = absurd (true≢false all)
+said_stands p slot switch side xid (Ok (says.QueueGetConfigReply queues)) state none all stands = absurd (true≢false all)
+said_stands p slot switch side xid (Ok (says.StatsReply part body)) state none all stands = absurd (true≢false all)
+said_stands p slot switch side xid said state none all stands = stands

@@ -1,11 +1,11 @@
 -- What all slices are sent for a message of the switch.
-use Rattle.std.proofs.Common.{◌≡◌, ℕ, zero, suc, ◌+◌, ◌<◌, Bool, true, false, if◌then◌else◌, List, [], ◌∷◌, ◌++◌, length, slice_get, refl, ap, ap₂, subst, sym, ◌∙◌, arith, Option, Some, None}
+use Rattle.std.proofs.Common.{◌≡◌, ℕ, zero, suc, ◌+◌, ◌<◌, false, List, [], ◌∷◌, ◌++◌, length, slice_get, refl, ap, ap₂, subst, sym, ◌∙◌, arith, Option, Some, None, Result, Ok}
 use Rattle.std.proofs.lemmas.Option.{slice_get_within}
 use Rattle.std.proofs.lemmas.Bool.{lt-ltb}
-use Rattle.of10_ctl.specs.declared.kind.TheConstants.{PACKET_IN}
-use Rattle.of10_flow.specs.declared.packet_in.PacketIn.{PacketIn}
-use Rattle.of10_flow.specs.PacketIns.{read_packet_in}
 use Rattle.of10_port.specs.declared.status.PortStatus.{PortStatus}
+use Rattle.of10_message.specs.declared.fault.Unread.{Unread}
+use Rattle.of10_switch.specs.Messages as says
+use Rattle.of10_switch.specs.Messages.{SwitchMessage, read_switch}
 use Rattle.flowspace.specs.declared.rules.Rule.{Rule}
 use Rattle.flowspace.specs.declared.slices.Slice.{Slice}
 use Rattle.flowspace.specs.Owners.{has_port}
@@ -15,15 +15,14 @@ use Rattle.slice_words.specs.Items.{is_own_port}
 use Rattle.slice_words.proofs.LoneRules.{same_port}
 use Rattle.desk_words.specs.declared.event.Timed.{Timed}
 use Rattle.desk_words.specs.declared.phase.Phase.TheVariants.{Opened}
-use Rattle.of10_ctl.specs.Kinds.{is_of}
-use Rattle.desk_words.specs.Openings.{well_formed, status_kept, rules_of, Switch}
+use Rattle.desk_words.specs.Openings.{status_said, kept_beside, rules_of, Switch}
 use Rattle.desk_words.specs.Histories.{settings_at, Side}
 use Rattle.desk_words.specs.Sent.{sent_with}
 use Rattle.switch_side.specs.Dispatches.{addressed, sent_to_all, told_at, AllStand}
 use Rattle.switch_side.specs.Audiences.{audience_of}
-use Rattle.switch_side.specs.Carrying.{packet_for, said_from, packet_in_told, port_told}
-use Rattle.switch_side.proofs.MessageTypes.{IsForAll}
-use Rattle.switch_side.proofs.Slots.{say_status, say_found, say, slot_sent}
+use Rattle.switch_side.specs.Carrying.{packet_for, said_from, port_told}
+use Rattle.switch_side.proofs.MessageTypes.{is_for_one}
+use Rattle.switch_side.proofs.Slots.{say_status, say, slot_sent}
 
 -- ---- what is said to all is what is told
 
@@ -37,27 +36,19 @@ said_none : (slot : ℕ) (states : List SliceState) → said_from nothing slot s
 said_none slot [] = refl
 said_none slot (state ∷ others) = said_none (slot + 1) others
 
--- a packet that is told among so many slices
-abbrev told_among : ℕ → List Rule → List SliceState → Option PacketIn → List (ℕ × List ℕ)
-told_among count rules states found = elim found [ None ↦ [] | Some packet ↦ said_from (packet_for (audience_of count rules packet) packet) 0 states ]
-
-said_found : (count : ℕ) (rules : List Rule) (states : List SliceState) (found : Option PacketIn) → said_from (say_found count rules found) 0 states ≡ told_among count rules states found
-said_found count rules states None = said_none 0 states
-said_found count rules states (Some packet) = refl
-
 said_status : (rules : List Rule) (states : List SliceState) (status : Option PortStatus) → said_from (say_status rules status) 0 states ≡ port_told rules states status
 said_status rules states None = said_none 0 states
 said_status rules states (Some status) = refl
 
-said_kind : (count : ℕ) (rules : List Rule) (states : List SliceState) (packet_in : Bool) (found : Option PacketIn) (status : Option PortStatus)
-    → said_from (λ slot state. if packet_in then say_found count rules found slot state else say_status rules status slot state) 0 states
-    ≡ (if packet_in then told_among count rules states found else port_told rules states status)
-said_kind count rules states true found status = said_found count rules states found
-said_kind count rules states false found status = said_status rules states status
+-- a message that is told among so many slices, unless it is for one at most
+abbrev told_among : ℕ → List Rule → List (List ℕ) → List SliceState → Result SwitchMessage Unread → List (ℕ × List ℕ)
+told_among count rules known states (Ok (says.PacketIn packet)) = said_from (packet_for (audience_of count rules packet) packet) 0 states
+told_among count rules known states said = port_told rules states (kept_beside known (status_said said))
 
-said_told : (count : ℕ) (rules : List Rule) (known : List (List ℕ)) (states : List SliceState) (message : List ℕ)
-    → said_from (say count rules known message) 0 states ≡ (if is_of PACKET_IN message then told_among count rules states (well_formed (read_packet_in message)) else port_told rules states (status_kept known message))
-said_told count rules known states message = said_kind count rules states (is_of PACKET_IN message) (well_formed (read_packet_in message)) (status_kept known message)
+said_told : (count : ℕ) (rules : List Rule) (known : List (List ℕ)) (states : List SliceState) (said : Result SwitchMessage Unread)
+    → said_from (say count rules known said) 0 states ≡ told_among count rules known states said
+said_told count rules known states (Ok (says.PacketIn packet)) = refl
+said_told count rules known states said = said_status rules states (kept_beside known (status_said said))
 
 -- ---- what is said to each is what it is sent
 
@@ -84,24 +75,23 @@ has_item [] i lt = absurd (omega (arith, lt))
 has_item (x ∷ xs) zero lt = (x, refl)
 has_item (x ∷ xs) (suc i) lt = has_item xs i (omega (arith, lt))
 
-one_sent : (p : PolicyView) (switch : Switch) (sides : ℕ → Side) (moment : ℕ) (message : List ℕ) (states : List SliceState)
-    → switch.phase ≡ Opened → length states ≡ length p.slices → AllStand p switch sides states → IsForAll message
+one_sent : (p : PolicyView) (switch : Switch) (sides : ℕ → Side) (moment : ℕ) (message : List ℕ) (said : Result SwitchMessage Unread) (states : List SliceState)
+    → switch.phase ≡ Opened → length states ≡ length p.slices → AllStand p switch sides states → read_switch message ≡ said → is_for_one said ≡ false
     → (slot k : ℕ) (state : SliceState) → 0 + slot ≡ k → slice_get states slot ≡ Some state
-    → say (length p.slices) (rules_of p switch.features) switch.known message k state ≡ sent_with p k switch (sides k) (told_at moment message)
-one_sent p switch sides moment message states opened same stand all slot k state at found =
+    → say (length p.slices) (rules_of p switch.features) switch.known said k state ≡ sent_with p k switch (sides k) (told_at moment message)
+one_sent p switch sides moment message said states opened same stand is all slot k state at found =
     let lt : k < length p.slices = omega (arith, slice_get_within states slot state found, same, at) in
     let slice = has_item p.slices k lt in
     let same_slot : slot ≡ k = omega (arith, at) in
     let here : slice_get states k ≡ Some state = subst (λ x. slice_get states x ≡ Some state) same_slot found in
-    sym (slot_sent p k moment switch (sides k) message state opened (lt-ltb k (length p.slices) lt) all (stand k state here) (λ port. own_ports p switch k port slice.0 slice.1))
+    sym (slot_sent p k moment switch (sides k) message said state opened (lt-ltb k (length p.slices) lt) is all (stand k state here) (λ port. own_ports p switch k port slice.0 slice.1))
 
 -- what the states are told is what the slices are sent, for a message that is for all
-pub told_sent : (p : PolicyView) (switch : Switch) (sides : ℕ → Side) (moment : ℕ) (message : List ℕ) (states : List SliceState)
-    → switch.phase ≡ Opened → length states ≡ length p.slices → AllStand p switch sides states → IsForAll message
-    → (if is_of PACKET_IN message then packet_in_told (rules_of p switch.features) states message else port_told (rules_of p switch.features) states (status_kept switch.known message))
-    ≡ sent_to_all p switch sides (told_at moment message) 0 p.slices
-told_sent p switch sides moment message states opened same stand all =
-    ap (λ (count : ℕ). if is_of PACKET_IN message then told_among count (rules_of p switch.features) states (well_formed (read_packet_in message)) else port_told (rules_of p switch.features) states (status_kept switch.known message)) same
-    ∙ sym (said_told (length p.slices) (rules_of p switch.features) switch.known states message)
-    ∙ all_sent p switch sides (told_at moment message) (say (length p.slices) (rules_of p switch.features) switch.known message) 0 p.slices states same
-    (one_sent p switch sides moment message states opened same stand all)
+pub told_sent : (p : PolicyView) (switch : Switch) (sides : ℕ → Side) (moment : ℕ) (message : List ℕ) (said : Result SwitchMessage Unread) (states : List SliceState)
+    → switch.phase ≡ Opened → length states ≡ length p.slices → AllStand p switch sides states → read_switch message ≡ said → is_for_one said ≡ false
+    → told_among (length states) (rules_of p switch.features) switch.known states said ≡ sent_to_all p switch sides (told_at moment message) 0 p.slices
+told_sent p switch sides moment message said states opened same stand is all =
+    ap (λ (count : ℕ). told_among count (rules_of p switch.features) switch.known states said) same
+    ∙ sym (said_told (length p.slices) (rules_of p switch.features) switch.known states said)
+    ∙ all_sent p switch sides (told_at moment message) (say (length p.slices) (rules_of p switch.features) switch.known said) 0 p.slices states same
+    (one_sent p switch sides moment message said states opened same stand is all)

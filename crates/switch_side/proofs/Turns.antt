@@ -1,5 +1,5 @@
 -- What follows for each slice from an entry that is gone, and from an error.
-use Rattle.std.proofs.Common.{◌≡◌, ℕ, ◌/◌, ◌%◌, ◌^◌, ◌<◌, ◌==◌, Bool, true, false, if◌then◌else◌, List, [], ◌∷◌, ◌++◌, length, slice_get, refl, ap, ap₂, subst, sym, ◌∙◌, append-nil, arith, true≢false, eqb-true, Option, Some, None, IfSome, option_map, option_and_then, Result, IfOk}
+use Rattle.std.proofs.Common.{◌≡◌, ℕ, ◌/◌, ◌%◌, ◌^◌, ◌<◌, ◌==◌, Bool, true, false, if◌then◌else◌, List, [], ◌∷◌, ◌++◌, length, slice_get, refl, ap, ap₂, subst, sym, ◌∙◌, append-nil, arith, true≢false, eqb-true, Option, Some, None, option_map, option_and_then, Result, Ok, IfOk}
 use Rattle.std.specs.declared.alloc.AllocError.{AllocError}
 use Rattle.std.specs.List.{list_any}
 use Rattle.std.proofs.lemmas.Bool.{eq-eqb, ltb-true}
@@ -7,12 +7,12 @@ use Rattle.std.proofs.lemmas.Option.{slice_get_within}
 use Rattle.of10_model.specs.declared.pattern.Pattern.{Pattern}
 use Rattle.of10_model.specs.Normal.{is_value, IsNormal}
 use Rattle.of10_model.specs.Inclusion.{includes_of}
-use Rattle.of10_ctl.specs.declared.kind.TheConstants.{ERROR, FLOW_REMOVED}
-use Rattle.of10_ctl.specs.Kinds.{is_of}
 use Rattle.of10_flow.specs.declared.flow_removed.FlowRemoved.{FlowRemoved}
-use Rattle.of10_flow.specs.FlowRemoveds.{spell_flow_removed, read_flow_removed}
+use Rattle.of10_flow.specs.FlowRemoveds.{spell_flow_removed}
 use Rattle.of10_message.specs.Heads.{xid_of}
-use Rattle.of10_message.specs.Errors.{ErrorMessage, read_error, pair_in}
+use Rattle.of10_message.specs.Errors.{ErrorMessage, pair_in}
+use Rattle.of10_switch.specs.Messages as says
+use Rattle.of10_switch.specs.Messages.{read_switch}
 use Rattle.of10_port.specs.declared.features.Features.{Features}
 use Rattle.flowspace.specs.declared.slices.Slice.{Slice}
 use Rattle.flowspace.specs.declared.rules.Rule.{Rule}
@@ -30,13 +30,13 @@ use Rattle.slice_words.specs.Answers.{removal_told, error_told}
 use Rattle.slice_words.specs.Calls.{request_for, request_calls, collection_calls, book_calls}
 use Rattle.slice_words.specs.Standing.{past_of}
 use Rattle.desk_words.specs.declared.phase.Phase.TheVariants.{Opened}
-use Rattle.desk_words.specs.Openings.{well_formed, rules_of, Switch}
+use Rattle.desk_words.specs.Openings.{rules_of, Switch}
 use Rattle.desk_words.specs.Histories.{is_slot, settings_at, Side, removed_items, error_items}
 use Rattle.switch_side.specs.declared.change.Change.TheVariants.{Released}
 use Rattle.switch_side.specs.declared.dispatch.Dispatch.{Dispatch}
 use Rattle.switch_side.specs.Dispatches.{AllStand}
 use Rattle.switch_side.specs.Carrying.{carried, Called, AllCalled, Turn, turning, while_up, removal_turn, owner_turn, removed_turn, failure_turn, request_turn, error_turn}
-use Rattle.switch_side.proofs.MessageTypes.{items_at, removal_items, fault_items}
+use Rattle.switch_side.proofs.MessageTypes.{items_of_said}
 use Rattle.switch_side.proofs.Owning.{is_owner}
 use Rattle.switch_side.proofs.Standing.{fault_stands}
 use Rattle.switch_side.proofs.Told.{has_item}
@@ -155,16 +155,15 @@ module _ (p : PolicyView) (switch : Switch) (sides : ℕ → Side) (states : Lis
       subst (FollowsFrom (settings slot) (sight slot) []) (sym (mapped_elsewhere slot (removal_turn (called one) entry one) (slice_get states one) (λ other. is))) (nothing_follows (settings slot) (sight slot))
 
   shown_removal : (slices : List Slice) (slot : ℕ) (entry : FlowRemoved) → IsSwitchPolicy slices (rules_of p switch.features) → IsNormal entry.pattern → is_slot p slot ≡ true
-      → removed_items (settings slot) (Some entry) ≡ (if is_value slot (owner_of_match (rules_of p switch.features) entry.pattern) then Removed (record entry { xid = 0 }) ∷ [] else [])
+      → removed_items (settings slot) entry ≡ (if is_value slot (owner_of_match (rules_of p switch.features) entry.pattern) then Removed (record entry { xid = 0 }) ∷ [] else [])
   shown_removal slices slot entry policy normal here =
       let slice = has_item p.slices slot (ltb-true slot (length p.slices) here) in
       ap (λ (patterns : List Pattern). if list_any (λ pattern. includes_of pattern entry.pattern) patterns then Removed (record entry { xid = 0 }) ∷ [] else []) (settings_patterns p slot switch.features slice.0 slice.1)
       ∙ ap (λ (mine : Bool). if mine then Removed (record entry { xid = 0 }) ∷ [] else []) (is_owner slot entry.pattern slices (rules_of p switch.features) policy normal)
 
-  removed_follows : (slices : List Slice) (slot : ℕ) (told : Option FlowRemoved) → IsSwitchPolicy slices (rules_of p switch.features) → IfSome told (λ entry. IsNormal entry.pattern) → is_slot p slot ≡ true
-      → FollowsFrom (settings slot) (sight slot) (removed_items (settings slot) told) (turn_at slot (removed_turn called (rules_of p switch.features) states told))
-  removed_follows slices slot None policy normal here = nothing_follows (settings slot) (sight slot)
-  removed_follows slices slot (Some entry) policy normal here =
+  removed_follows : (slices : List Slice) (slot : ℕ) (entry : FlowRemoved) → IsSwitchPolicy slices (rules_of p switch.features) → IsNormal entry.pattern → is_slot p slot ≡ true
+      → FollowsFrom (settings slot) (sight slot) (removed_items (settings slot) entry) (turn_at slot (removed_turn called (rules_of p switch.features) states entry))
+  removed_follows slices slot entry policy normal here =
       let owner = owner_of_match (rules_of p switch.features) entry.pattern in
       let state = has_item states slot (omega (arith, ltb-true slot (length p.slices) here, same)) in
       subst (λ items. FollowsFrom (settings slot) (sight slot) items (turn_at slot (owner_turn called states entry owner))) (sym (shown_removal slices slot entry policy normal here))
@@ -174,18 +173,16 @@ module _ (p : PolicyView) (switch : Switch) (sides : ℕ → Side) (states : Lis
   owner_within entry None = tt
   owner_within entry (Some one) = mapped_within p (removal_turn (called one) entry one) (slice_get states one) (λ state there. omega (arith, slice_get_within states one state there, same))
 
-  pub removed_within : (told : Option FlowRemoved) → IsWithin p (removed_turn called (rules_of p switch.features) states told)
-  removed_within None = tt
-  removed_within (Some entry) = owner_within entry (owner_of_match (rules_of p switch.features) entry.pattern)
+  pub removed_within : (entry : FlowRemoved) → IsWithin p (removed_turn called (rules_of p switch.features) states entry)
+  removed_within entry = owner_within entry (owner_of_match (rules_of p switch.features) entry.pattern)
 
-  pub removals_follow : (slices : List Slice) (moment : ℕ) (message : List ℕ) → switch.phase ≡ Opened → is_of FLOW_REMOVED message ≡ true
-      → IsSwitchPolicy slices (rules_of p switch.features) → IfSome (well_formed (read_flow_removed message)) (λ entry. IsNormal entry.pattern)
-      → EachFollows p switch sides moment message (removed_turn called (rules_of p switch.features) states (well_formed (read_flow_removed message)))
-  removals_follow slices moment message opened is policy normal = λ slot here.
-      let told = well_formed (read_flow_removed message) in
-      subst (λ items. FollowsFrom (settings slot) (sight slot) items (turn_at slot (removed_turn called (rules_of p switch.features) states told)))
-      (sym (items_at p slot moment switch (sides slot) message opened here ∙ removal_items p slot switch (sides slot) message is))
-      (removed_follows slices slot told policy normal here)
+  pub removals_follow : (slices : List Slice) (moment : ℕ) (message : List ℕ) (entry : FlowRemoved) → switch.phase ≡ Opened → read_switch message ≡ Ok (says.FlowRemoved entry)
+      → IsSwitchPolicy slices (rules_of p switch.features) → IsNormal entry.pattern
+      → EachFollows p switch sides moment message (removed_turn called (rules_of p switch.features) states entry)
+  removals_follow slices moment message entry opened is policy normal = λ slot here.
+      subst (λ items. FollowsFrom (settings slot) (sight slot) items (turn_at slot (removed_turn called (rules_of p switch.features) states entry)))
+      (sym (items_of_said p slot moment switch (sides slot) message (Ok (says.FlowRemoved entry)) opened here is))
+      (removed_follows slices slot entry policy normal here)
 
   -- ---- an error
 
@@ -215,34 +212,31 @@ module _ (p : PolicyView) (switch : Switch) (sides : ℕ → Side) (states : Lis
   own_sought slot top xid state error there is = rw (eqb-true top slot is, there) refl
 
   by_top : (slot xid : ℕ) (state : SliceState) (error : ErrorMessage) (mine : Bool) → slice_get states slot ≡ Some state → ((xid / 2 ^ 24) == slot) ≡ mine
-      → FollowsFrom (settings slot) (sight slot) (if mine then Fault (xid % 2 ^ 24) error.class error.code (pair_in xid error.cause) ∷ [] else []) (turn_at slot (error_turn called states xid (Some error)))
+      → FollowsFrom (settings slot) (sight slot) (if mine then Fault (xid % 2 ^ 24) error.class error.code (pair_in xid error.cause) ∷ [] else []) (turn_at slot (error_turn called states xid error))
   by_top slot xid state error true there is =
       subst (FollowsFrom (settings slot) (sight slot) (Fault (xid % 2 ^ 24) error.class error.code (pair_in xid error.cause) ∷ [])) (sym (own_sought slot (xid / 2 ^ 24) xid state error there is))
       (by_request slot xid state error (found slot xid (called slot).requests) there (same_request slot xid (eqb-true (xid / 2 ^ 24) slot is) (called slot).requests))
   by_top slot xid state error false there is =
       subst (FollowsFrom (settings slot) (sight slot) []) (sym (sought_elsewhere slot (called (xid / 2 ^ 24)) xid error (xid / 2 ^ 24) (slice_get states (xid / 2 ^ 24)) is)) (nothing_follows (settings slot) (sight slot))
 
-  error_follows : (slot xid : ℕ) (told : Option ErrorMessage) → is_slot p slot ≡ true
-      → FollowsFrom (settings slot) (sight slot) (error_items (settings slot) xid told) (turn_at slot (error_turn called states xid told))
-  error_follows slot xid None here = nothing_follows (settings slot) (sight slot)
-  error_follows slot xid (Some error) here =
+  error_follows : (slot xid : ℕ) (error : ErrorMessage) → is_slot p slot ≡ true
+      → FollowsFrom (settings slot) (sight slot) (error_items (settings slot) xid error) (turn_at slot (error_turn called states xid error))
+  error_follows slot xid error here =
       let state = has_item states slot (omega (arith, ltb-true slot (length p.slices) here, same)) in
-      subst (λ (n : ℕ). FollowsFrom (settings slot) (sight slot) (if (xid / 2 ^ 24) == n then Fault (xid % 2 ^ 24) error.class error.code (pair_in xid error.cause) ∷ [] else []) (turn_at slot (error_turn called states xid (Some error))))
+      subst (λ (n : ℕ). FollowsFrom (settings slot) (sight slot) (if (xid / 2 ^ 24) == n then Fault (xid % 2 ^ 24) error.class error.code (pair_in xid error.cause) ∷ [] else []) (turn_at slot (error_turn called states xid error)))
       (sym (settings_slot p slot switch.features))
       (by_top slot xid state.0 error ((xid / 2 ^ 24) == slot) state.1 refl)
 
-  pub error_within : (xid : ℕ) (told : Option ErrorMessage) → IsWithin p (error_turn called states xid told)
-  error_within xid None = tt
-  error_within xid (Some error) =
+  pub error_within : (xid : ℕ) (error : ErrorMessage) → IsWithin p (error_turn called states xid error)
+  error_within xid error =
       sought_within p (called (xid / 2 ^ 24)) xid error (xid / 2 ^ 24) (slice_get states (xid / 2 ^ 24)) (λ state there. omega (arith, slice_get_within states (xid / 2 ^ 24) state there, same))
 
-  pub errors_follow : (moment : ℕ) (message : List ℕ) → switch.phase ≡ Opened → is_of ERROR message ≡ true
-      → EachFollows p switch sides moment message (error_turn called states (xid_of message) (well_formed (read_error message)))
-  errors_follow moment message opened is = λ slot here.
-      let told = well_formed (read_error message) in
-      subst (λ items. FollowsFrom (settings slot) (sight slot) items (turn_at slot (error_turn called states (xid_of message) told)))
-      (sym (items_at p slot moment switch (sides slot) message opened here ∙ fault_items p slot switch (sides slot) message is))
-      (error_follows slot (xid_of message) told here)
+  pub errors_follow : (moment : ℕ) (message : List ℕ) (error : ErrorMessage) → switch.phase ≡ Opened → read_switch message ≡ Ok (says.Error error)
+      → EachFollows p switch sides moment message (error_turn called states (xid_of message) error)
+  errors_follow moment message error opened is = λ slot here.
+      subst (λ items. FollowsFrom (settings slot) (sight slot) items (turn_at slot (error_turn called states (xid_of message) error)))
+      (sym (items_of_said p slot moment switch (sides slot) message (Ok (says.Error error)) opened here is))
+      (error_follows slot (xid_of message) error here)
 
 -- ---- the same of what the code finds
 
@@ -255,18 +249,17 @@ owner_found called states slot state entry b r there is ok = rw (there, sym is) 
 pub request_found : (called : ℕ → Called) (states : List SliceState) (xid slot : ℕ) (state : SliceState) (error : ErrorMessage) (request : Issued) (r : Result Dispatch AllocError)
     → slot ≡ xid / 2 ^ 24 → slice_get states slot ≡ Some state → Some request ≡ found slot xid (called slot).requests
     → IfOk r (λ d. carried d ≡ turning (Some (failure_turn xid error slot state request)))
-    → IfOk r (λ d. carried d ≡ turning (error_turn called states xid (Some error)))
+    → IfOk r (λ d. carried d ≡ turning (error_turn called states xid error))
 request_found called states xid slot state error request r top there is ok =
     subst (λ (n : ℕ). IfOk r (λ d. carried d ≡ turning (option_and_then (λ state. request_turn (called n) xid error n state) (slice_get states n)))) top
     (rw (there, sym is) ok)
 
 -- no request is found
 pub request_none : (called : ℕ → Called) (states : List SliceState) (xid slot : ℕ) (state : SliceState) (error : ErrorMessage) → slot ≡ xid / 2 ^ 24 → slice_get states slot ≡ Some state → None ≡ found slot xid (called slot).requests
-    → None ≡ error_turn called states xid (Some error)
+    → None ≡ error_turn called states xid error
 request_none called states xid slot state error top there is =
     subst (λ (n : ℕ). None ≡ option_and_then (λ state. request_turn (called n) xid error n state) (slice_get states n)) top (rw (there, sym is) refl)
 
-pub removed_found : (called : ℕ → Called) (rules : List Rule) (states : List SliceState) (slot : ℕ) (entry : FlowRemoved) (told : Option FlowRemoved) (r : Result Dispatch AllocError)
-    → Some entry ≡ told → Some slot ≡ owner_of_match rules entry.pattern
-    → IfOk r (λ d. carried d ≡ turning (owner_turn called states entry (Some slot))) → IfOk r (λ d. carried d ≡ turning (removed_turn called rules states told))
-removed_found called rules states slot entry told r told_is owner_is ok = rw (sym told_is, sym owner_is) ok
+pub removed_found : (called : ℕ → Called) (rules : List Rule) (states : List SliceState) (slot : ℕ) (entry : FlowRemoved) (r : Result Dispatch AllocError) → Some slot ≡ owner_of_match rules entry.pattern
+    → IfOk r (λ d. carried d ≡ turning (owner_turn called states entry (Some slot))) → IfOk r (λ d. carried d ≡ turning (removed_turn called rules states entry))
+removed_found called rules states slot entry r owner_is ok = rw (sym owner_is) ok

@@ -1,21 +1,19 @@
 -- The same by the slices' states, in place of what each slice sees. The parts of the code are proved by this.
-use Rattle.std.specs.Prelude.{ℕ, ◌≡◌, ◌&&◌, ◌||◌, ◌+◌, ◌-◌, ◌/◌, ◌%◌, ◌^◌, ◌==◌, Bool, true, false, if◌then◌else◌, List, [], ◌∷◌, ◌++◌, length, take, drop, filter, slice_get, Option, Some, None, option_map, option_and_then}
+use Rattle.std.specs.Prelude.{ℕ, ◌≡◌, ◌&&◌, ◌+◌, ◌-◌, ◌/◌, ◌%◌, ◌^◌, ◌==◌, Bool, false, if◌then◌else◌, List, [], ◌∷◌, ◌++◌, length, take, filter, slice_get, Option, Some, None, option_map, option_and_then, Result, Ok}
 use Rattle.std.specs.List.{concat}
 use Rattle.of10_model.specs.Header.{Header}
 use Rattle.of10_model.specs.Normal.{is_value, bit}
-use Rattle.of10_ctl.specs.declared.kind.TheConstants.{ERROR, PACKET_IN, FLOW_REMOVED, STATS_REPLY, BARRIER_REPLY, QUEUE_GET_CONFIG_REPLY}
-use Rattle.of10_ctl.specs.Frames.{is_bad}
-use Rattle.of10_ctl.specs.Kinds.{is_of}
 use Rattle.of10_flow.specs.declared.protocol.TheConstants.{NO_BUFFER}
 use Rattle.of10_flow.specs.declared.packet_in.PacketIn.{PacketIn}
 use Rattle.of10_flow.specs.declared.flow_removed.FlowRemoved.{FlowRemoved}
-use Rattle.of10_flow.specs.FlowRemoveds.{read_flow_removed}
-use Rattle.of10_flow.specs.PacketIns.{read_packet_in, spell_packet_in}
+use Rattle.of10_flow.specs.PacketIns.{spell_packet_in}
 use Rattle.of10_message.specs.Heads.{xid_of}
-use Rattle.of10_message.specs.Errors.{ErrorMessage, read_error, pair_in}
-use Rattle.of10_message.specs.Replies.{is_bare, QueuesMessage, read_queues}
+use Rattle.of10_message.specs.declared.fault.Unread.{Unread}
+use Rattle.of10_message.specs.Errors.{ErrorMessage, pair_in}
+use Rattle.of10_message.specs.Replies.{QueuesMessage}
+use Rattle.of10_switch.specs.Messages as says
+use Rattle.of10_switch.specs.Messages.{SwitchMessage, read_switch, has_bad_length}
 use Rattle.of10_stats.specs.declared.reply.StatsPart.{StatsPart}
-use Rattle.of10_stats.specs.Replies.{part_of}
 use Rattle.of10_port.specs.declared.status.PortStatus.{PortStatus}
 use Rattle.of10_port.specs.Ports.{port_number}
 use Rattle.of10_port.specs.PortStatus.{spell_port_status}
@@ -29,9 +27,9 @@ use Rattle.flow_book.specs.declared.state.SliceState.{SliceState}
 use Rattle.flow_book.specs.Books.{BookCall, BookStands, booking}
 use Rattle.slice_words.specs.Statistics.{collects, barrier_told, queues_told, collected_replies}
 use Rattle.slice_words.specs.Answers.{removal_told, error_told}
-use Rattle.desk_words.specs.Openings.{well_formed, status_kept}
+use Rattle.desk_words.specs.Openings.{status_said, kept_beside}
 use Rattle.desk_words.specs.Histories.{header_in, is_part}
-use Rattle.desk_words.specs.Sent.{echo_for}
+use Rattle.desk_words.specs.Sent.{echo_said}
 use Rattle.switch_side.specs.declared.audience.Audience.{Audience}
 use Rattle.switch_side.specs.declared.audience.Audience.TheVariants.{Prober, Named}
 use Rattle.switch_side.specs.declared.change.Change.{Change}
@@ -137,15 +135,9 @@ changes_with audience packet states = if packet.buffer == NO_BUFFER then [] else
 abbrev pub packets_for_all : List Rule → List SliceState → PacketIn → List (ℕ × List ℕ)
 packets_for_all rules states packet = said_from (packet_for (audience_of (length states) rules packet) packet) 0 states
 
-abbrev pub packet_in_told : List Rule → List SliceState → List ℕ → List (ℕ × List ℕ)
-packet_in_told rules states message = elim (well_formed (read_packet_in message)) [ None ↦ [] | Some packet ↦ packets_for_all rules states packet ]
-
 -- and what changes
 abbrev pub packet_changes : List Rule → List SliceState → PacketIn → List (ℕ × Change)
 packet_changes rules states packet = changes_with (audience_of (length states) rules packet) packet states
-
-abbrev pub packet_in_changes : List Rule → List SliceState → List ℕ → List (ℕ × Change)
-packet_in_changes rules states message = elim (well_formed (read_packet_in message)) [ None ↦ [] | Some packet ↦ packet_changes rules states packet ]
 
 -- messages for slices, and what changes in their states
 abbrev pub handing : List (ℕ × List ℕ) → List (ℕ × Change) → Carried
@@ -195,9 +187,8 @@ abbrev pub owner_turn : (ℕ → Called) → List SliceState → FlowRemoved →
 owner_turn called states entry None = None
 owner_turn called states entry (Some slot) = option_map (removal_turn (called slot) entry slot) (slice_get states slot)
 
-abbrev pub removed_turn : (ℕ → Called) → List Rule → List SliceState → Option FlowRemoved → Option Turn
-removed_turn called rules states None = None
-removed_turn called rules states (Some entry) = owner_turn called states entry (owner_of_match rules entry.pattern)
+abbrev pub removed_turn : (ℕ → Called) → List Rule → List SliceState → FlowRemoved → Option Turn
+removed_turn called rules states entry = owner_turn called states entry (owner_of_match rules entry.pattern)
 
 -- what follows for the slice whose request an error is for
 abbrev pub failure_turn : ℕ → ErrorMessage → ℕ → SliceState → Issued → Turn
@@ -212,9 +203,8 @@ abbrev pub request_turn : Called → ℕ → ErrorMessage → ℕ → SliceState
 request_turn called xid error slot state = option_map (failure_turn xid error slot state) (found slot xid called.requests)
 
 -- at that of the transaction id's top byte
-abbrev pub error_turn : (ℕ → Called) → List SliceState → ℕ → Option ErrorMessage → Option Turn
-error_turn called states xid None = None
-error_turn called states xid (Some error) =
+abbrev pub error_turn : (ℕ → Called) → List SliceState → ℕ → ErrorMessage → Option Turn
+error_turn called states xid error =
     option_and_then (λ state. request_turn (called (xid / 2 ^ 24)) xid error (xid / 2 ^ 24) state) (slice_get states (xid / 2 ^ 24))
 
 -- ---- what the switch replies to one slice
@@ -229,14 +219,12 @@ answer_turn slot [] number = None
 answer_turn slot (message ∷ others) number = Some (record { slot = slot; messages = message ∷ others; change = Replied number })
 
 -- of a reply to a barrier
-abbrev pub barrier_turn : (ℕ → Called) → List SliceState → ℕ → Bool → Option Turn
-barrier_turn called states xid false = None
-barrier_turn called states xid true = option_and_then (λ request. answer_turn (xid / 2 ^ 24) (barrier_told (Some request)) request.number) (request_seen called states xid)
+abbrev pub barrier_turn : (ℕ → Called) → List SliceState → ℕ → Option Turn
+barrier_turn called states xid = option_and_then (λ request. answer_turn (xid / 2 ^ 24) (barrier_told (Some request)) request.number) (request_seen called states xid)
 
 -- of a reply on the queues of a port of the slice
-abbrev pub queues_turn : (ℕ → Called) → List Rule → List SliceState → ℕ → Option QueuesMessage → Option Turn
-queues_turn called rules states xid None = None
-queues_turn called rules states xid (Some queues) =
+abbrev pub queues_turn : (ℕ → Called) → List Rule → List SliceState → ℕ → QueuesMessage → Option Turn
+queues_turn called rules states xid queues =
     if has_port rules (xid / 2 ^ 24) queues.port
     then option_and_then (λ request. answer_turn (xid / 2 ^ 24) (queues_told (Some request) queues.body) request.number) (request_seen called states xid)
     else None
@@ -264,49 +252,44 @@ abbrev pub collecting_turn : List Rule → Called → ℕ → StatsPart → List
 collecting_turn rules called slot part body request = if collects request part.kind called.collections then Some (part_turn rules called slot part body request) else None
 
 -- and from no part in another form than its type has
-abbrev pub statistics_turn : (ℕ → Called) → List Rule → List SliceState → ℕ → Option StatsPart → List ℕ → Option Turn
-statistics_turn called rules states xid None message = None
-statistics_turn called rules states xid (Some part) message =
-    if is_part part.kind (drop part.from message)
-    then option_and_then (collecting_turn rules (called (xid / 2 ^ 24)) (xid / 2 ^ 24) part (drop part.from message)) (request_seen called states xid)
+abbrev pub statistics_turn : (ℕ → Called) → List Rule → List SliceState → ℕ → StatsPart → List ℕ → Option Turn
+statistics_turn called rules states xid part body =
+    if is_part part.kind body
+    then option_and_then (collecting_turn rules (called (xid / 2 ^ 24)) (xid / 2 ^ 24) part body) (request_seen called states xid)
     else None
 
--- ---- messages for one slice
+-- ---- all, by what was read of a message
 
--- the types of messages that are for one slice at most
-abbrev pub is_for_one : List ℕ → Bool
-is_for_one message = is_of FLOW_REMOVED message || is_of ERROR message || is_of BARRIER_REPLY message || is_of QUEUE_GET_CONFIG_REPLY message || is_of STATS_REPLY message
+-- messages for one slice at most: of an entry that is gone, an error, or a reply
+abbrev pub turn_for : (ℕ → Called) → List Rule → List SliceState → ℕ → Result SwitchMessage Unread → Option Turn
+turn_for called rules states xid (Ok (says.FlowRemoved entry)) = removed_turn called rules states entry
+turn_for called rules states xid (Ok (says.Error error)) = error_turn called states xid error
+turn_for called rules states xid (Ok says.BarrierReply) = barrier_turn called states xid
+turn_for called rules states xid (Ok (says.QueueGetConfigReply queues)) = queues_turn called rules states xid queues
+turn_for called rules states xid (Ok (says.StatsReply part body)) = statistics_turn called rules states xid part body
+turn_for called rules states xid said = None
 
--- an entry that is gone, an error, or a reply
-abbrev pub turn_for : (ℕ → Called) → List Rule → List SliceState → List ℕ → Option Turn
-turn_for called rules states message =
-    if is_of FLOW_REMOVED message then removed_turn called rules states (well_formed (read_flow_removed message))
-    else if is_of ERROR message then error_turn called states (xid_of message) (well_formed (read_error message))
-    else if is_of BARRIER_REPLY message then barrier_turn called states (xid_of message) (is_bare message)
-    else if is_of QUEUE_GET_CONFIG_REPLY message then queues_turn called rules states (xid_of message) (well_formed (read_queues message))
-    else if is_of STATS_REPLY message then statistics_turn called rules states (xid_of message) (well_formed (part_of message)) message
-    else None
+-- messages for all slices: of a packet, or of a port; or for one
+abbrev pub message_told : (ℕ → Called) → List Rule → List (List ℕ) → List SliceState → ℕ → Result SwitchMessage Unread → List (ℕ × List ℕ)
+message_told called rules known states xid (Ok (says.PacketIn packet)) = packets_for_all rules states packet
+message_told called rules known states xid (Ok (says.PortStatus status)) = port_told rules states (kept_beside known (Some status))
+message_told called rules known states xid said = turn_told (turn_for called rules states xid said)
 
--- ---- all
+-- what changes
+abbrev pub message_changes : (ℕ → Called) → List Rule → List SliceState → ℕ → Result SwitchMessage Unread → List (ℕ × Change)
+message_changes called rules states xid (Ok (says.PacketIn packet)) = packet_changes rules states packet
+message_changes called rules states xid said = turn_changes (turn_for called rules states xid said)
 
--- a message of the switch, for all slices
-abbrev pub message_told : (ℕ → Called) → List Rule → List (List ℕ) → List SliceState → List ℕ → List (ℕ × List ℕ)
-message_told called rules known states message =
-    if is_of PACKET_IN message then packet_in_told rules states message
-    else if is_for_one message then turn_told (turn_for called rules states message)
-    else port_told rules states (status_kept known message)
-
--- what a message changes
-abbrev pub message_changes : (ℕ → Called) → List Rule → List SliceState → List ℕ → List (ℕ × Change)
-message_changes called rules states message =
-    if is_of PACKET_IN message then packet_in_changes rules states message else turn_changes (turn_for called rules states message)
-
--- all that follows from a message
-abbrev pub carried_for : (ℕ → Called) → List Rule → List (List ℕ) → List SliceState → List ℕ → Carried
-carried_for called rules known states message = record {
-  messages = message_told called rules known states message;
-  replies = echo_for message;
-  changes = message_changes called rules states message;
-  status = status_kept known message;
-  ends = is_bad message;
+-- all that follows
+abbrev pub carried_with : (ℕ → Called) → List Rule → List (List ℕ) → List SliceState → ℕ → Result SwitchMessage Unread → Carried
+carried_with called rules known states xid said = record {
+  messages = message_told called rules known states xid said;
+  replies = echo_said xid said;
+  changes = message_changes called rules states xid said;
+  status = kept_beside known (status_said said);
+  ends = has_bad_length said;
 }
+
+-- from a message
+abbrev pub carried_for : (ℕ → Called) → List Rule → List (List ℕ) → List SliceState → List ℕ → Carried
+carried_for called rules known states message = carried_with called rules known states (xid_of message) (read_switch message)

@@ -1,14 +1,14 @@
-ghost use Rattle.std.specs.Prelude.{ℕ, ◌≡◌, ◌≤◌, ◌∷◌, [], length, true, IfOk, IfSome};
-ghost use Rattle.of10_model.specs.Normal.{IsNormal};
-ghost use Rattle.of10_ctl.specs.declared.kind.TheConstants.{ECHO_REQUEST, FLOW_REMOVED};
-ghost use Rattle.of10_ctl.specs.Frames.{IsFrame, echo_reply_to};
-ghost use Rattle.of10_ctl.specs.Kinds.{IsOf, is_of};
-ghost use Rattle.of10_flow.specs.FlowRemoveds.{read_flow_removed};
+ghost use Rattle.std.specs.Prelude.{ℕ, ◌≡◌, ◌≤◌, ◌∷◌, [], length, Ok, IfOk};
+ghost use Rattle.of10_ctl.specs.declared.kind.TheConstants.{ECHO_REPLY};
+ghost use Rattle.of10_ctl.specs.Frames.{message_of};
+ghost use Rattle.of10_switch.specs.Messages.{read_switch};
+ghost use Rattle.of10_switch.specs.Views.{said_by};
+ghost use Rattle.of10_switch.specs.Ranges.{IsSaid};
 ghost use Rattle.flowspace.specs.Policies.{PolicyView};
-ghost use Rattle.desk_words.specs.Openings.{Switch, well_formed};
+ghost use Rattle.desk_words.specs.Openings.{Switch};
 ghost use Rattle.desk_words.specs.Histories.{Side};
 ghost use Rattle.switch_side.specs.Dispatches.{Surrounds, AllStand, AllNumbered, IsDispatch};
-ghost use Rattle.switch_side.specs.Carrying.{carried, telling, Called, AllCalled, carried_for};
+ghost use Rattle.switch_side.specs.Carrying.{carried, telling, Called, AllCalled, carried_with, carried_for};
 
 use crate::dispatch::Dispatch;
 use crate::errors::error;
@@ -19,25 +19,57 @@ use crate::replies::{barrier, queues};
 use crate::statistics::statistics;
 use flow_book::SliceState;
 use flowspace::SwitchPolicy;
-use of10_ctl::kind::{
-    BARRIER_REPLY, ECHO_REQUEST, ERROR, FLOW_REMOVED, PACKET_IN, PORT_STATUS,
-    QUEUE_GET_CONFIG_REPLY, STATS_REPLY,
-};
-use of10_ctl::{Frame, echo_reply};
+use of10_ctl::kind::ECHO_REPLY;
+use of10_ctl::{Frame, message};
+use of10_message::Unread;
+use of10_switch::{FromSwitch, read_switch};
 use port_view::PortView;
 use rule_index::RuleIndex;
 use std::alloc::{AllocError, Global};
 
 /// The reply to an ECHO_REQUEST (OpenFlow 1.0.0, section 5.5).
-fn echo(alloc: Global, frame: &Frame) -> Result<Dispatch, AllocError>
-    requires { IsOf ECHO_REQUEST frame.now }
-    ensures { IfOk result (λ d. carried d ≡ record (telling [] None) { replies = echo_reply_to frame.now ∷ [] }) }
+fn echo(alloc: Global, xid: u32, body: &[u8]) -> Result<Dispatch, AllocError>
+    requires { length body.now ≤ 65527 }
+    ensures { IfOk result (λ d. carried d ≡ record (telling [] None) { replies = message_of ECHO_REPLY xid body.now ∷ [] }) }
 {
-    Dispatch::replying(alloc, echo_reply(alloc, frame)?)
+    Dispatch::replying(alloc, message(alloc, ECHO_REPLY, xid, body)?)
 }
 
-/// What follows, by the type of the message. Types that a switch doesn't send are dropped like those that
-/// say nothing to anybody.
+/// What follows from a message under a transaction id, by its type. Types that say nothing to anybody are
+/// dropped.
+fn follow(
+    alloc: Global,
+    policy: &SwitchPolicy,
+    index: &RuleIndex,
+    ports: &PortView,
+    states: &[SliceState],
+    xid: u32,
+    said: &FromSwitch<'_>,
+) -> Result<Dispatch, AllocError>
+    requires few { length states.now ≤ 32 }
+    requires index { index.now ≡ policy.now.rules }
+    requires said { IsSaid (said_by said.now) }
+    ensures { (called : ℕ → Called) → AllCalled called states.now → IfOk result (λ d. carried d ≡ carried_with called policy.now.rules ports.now states.now xid (Ok (said_by said.now))) }
+{
+    match said {
+        FromSwitch::EchoRequest(body) => echo(alloc, xid, body),
+        FromSwitch::PacketIn(packet) => packet_in(alloc, policy, index, states, packet),
+        FromSwitch::FlowRemoved(entry) => flow_removed(alloc, index, states, entry),
+        FromSwitch::PortStatus(status) => port_status(alloc, policy, ports, states, status),
+        FromSwitch::Error(fault) => error(alloc, states, xid, fault),
+        FromSwitch::BarrierReply => barrier(alloc, states, xid),
+        FromSwitch::QueueGetConfigReply(told) => queues(alloc, policy, states, xid, told),
+        FromSwitch::StatsReply(part, body) => statistics(alloc, policy, states, xid, part, body),
+        FromSwitch::Hello
+        | FromSwitch::EchoReply
+        | FromSwitch::Vendor
+        | FromSwitch::FeaturesReply(_)
+        | FromSwitch::GetConfigReply(_) => Ok(Dispatch::nothing(alloc)),
+    }
+}
+
+/// What follows from a message, which is read once. One that can't be read is dropped, but for one whose length
+/// doesn't count its header: that ends the connection.
 fn dispatch(
     alloc: Global,
     policy: &SwitchPolicy,
@@ -47,31 +79,14 @@ fn dispatch(
     frame: &Frame,
 ) -> Result<Dispatch, AllocError>
     requires few { length states.now ≤ 32 }
-    requires frame { IsFrame frame.now }
     requires index { index.now ≡ policy.now.rules }
     ensures value { (called : ℕ → Called) → AllCalled called states.now → IfOk result (λ d. carried d ≡ carried_for called policy.now.rules ports.now states.now frame.now) }
-    ensures normal { is_of FLOW_REMOVED frame.now ≡ true → IfSome (well_formed (read_flow_removed frame.now)) (λ entry. IsNormal entry.pattern) }
+    ensures right { IfOk (read_switch frame.now) IsSaid }
 {
-    if frame.bad_length() {
-        Ok(Dispatch::closing(alloc))
-    } else if frame.is_of(ECHO_REQUEST) {
-        echo(alloc, frame)
-    } else if frame.is_of(PACKET_IN) {
-        packet_in(alloc, policy, index, states, frame)
-    } else if frame.is_of(FLOW_REMOVED) {
-        flow_removed(alloc, index, states, frame)
-    } else if frame.is_of(ERROR) {
-        error(alloc, states, frame)
-    } else if frame.is_of(PORT_STATUS) {
-        port_status(alloc, policy, ports, states, frame)
-    } else if frame.is_of(BARRIER_REPLY) {
-        barrier(alloc, states, frame)
-    } else if frame.is_of(QUEUE_GET_CONFIG_REPLY) {
-        queues(alloc, policy, states, frame)
-    } else if frame.is_of(STATS_REPLY) {
-        statistics(alloc, policy, states, frame)
-    } else {
-        Ok(Dispatch::nothing(alloc))
+    match read_switch(frame) {
+        Ok(said) => follow(alloc, policy, index, ports, states, frame.head().xid, &said),
+        Err(Unread::BadLength) => Ok(Dispatch::closing(alloc)),
+        Err(_) => Ok(Dispatch::nothing(alloc)),
     }
 }
 
@@ -91,7 +106,7 @@ pub fn react(
     requires index { index.now ≡ policy.now.rules }
     ensures dispatch { (p : PolicyView) (switch : Switch) (sides : ℕ → Side) (moment : ℕ) → Surrounds p switch policy.now ports.now → AllStand p switch sides states.now → AllNumbered p switch sides → IfOk result (IsDispatch p switch sides moment frame.now) }
 {
-    // A policy has at most 32 slices, and a frame at most 65,535 bytes.
-    let (_slices, _bytes) = (policy.slices(), frame.as_slice());
+    // A policy has at most 32 slices.
+    let _slices = policy.slices();
     dispatch(alloc, policy, index, ports, states, frame)
 }

@@ -1,14 +1,10 @@
 //! Errors of a switch for what slices asked of it (OpenFlow 1.0.0, section 5.4.4).
 
-ghost use Rattle.std.specs.Prelude.{ℕ, ◌≡◌, ◌/◌, ◌^◌, Some, IfOk};
-ghost use Rattle.of10_ctl.specs.declared.kind.TheConstants.{ERROR};
+ghost use Rattle.std.specs.Prelude.{ℕ, ◌≡◌, Some, IfOk};
 ghost use Rattle.of10_ctl.specs.Frames.{error_of};
-ghost use Rattle.of10_ctl.specs.Kinds.{IsOf};
-ghost use Rattle.of10_message.specs.Heads.{xid_of};
-ghost use Rattle.of10_message.specs.Errors.{error_of_view, read_error};
+ghost use Rattle.of10_message.specs.Errors.{error_of_view};
 ghost use Rattle.slice_words.specs.Messages.{quoted};
 ghost use Rattle.slice_words.specs.Answers.{error_told};
-ghost use Rattle.desk_words.specs.Openings.{well_formed};
 ghost use Rattle.switch_side.specs.Carrying.{carried, Called, AllCalled, while_up, failure_turn, error_turn, turning};
 
 use crate::change::Change;
@@ -68,15 +64,15 @@ fn failed(
     Dispatch::turning(alloc, slot, messages, change)
 }
 
-/// What follows from an error under a transaction id: the slice whose slot is the id's top byte is asked for
-/// the request.
-fn answered(
+/// What follows from an ERROR under a transaction id: the slice whose slot is the id's top byte is asked for the
+/// request. From one for no request that is remembered nothing follows.
+pub(crate) fn error(
     alloc: Global,
     states: &[SliceState],
     xid: u32,
     error: &ErrorView<'_>,
 ) -> Result<Dispatch, AllocError>
-    ensures { (called : ℕ → Called) → AllCalled called states.now → IfOk result (λ d. carried d ≡ turning (error_turn called states.now xid (Some (error_of_view error.now)))) }
+    ensures { (called : ℕ → Called) → AllCalled called states.now → IfOk result (λ d. carried d ≡ turning (error_turn called states.now xid (error_of_view error.now))) }
 {
     let slot = slot_of(xid);
     let Some(state) = states.get(usize::from(slot)) else {
@@ -85,21 +81,5 @@ fn answered(
     match state.xids.find(xid) {
         None => Ok(Dispatch::nothing(alloc)),
         Some(request) => failed(alloc, xid, slot, state, &request, error),
-    }
-}
-
-/// What follows from an ERROR; from one that isn't well formed, or is for no request that is remembered,
-/// nothing.
-pub(crate) fn error(
-    alloc: Global,
-    states: &[SliceState],
-    frame: &Frame,
-) -> Result<Dispatch, AllocError>
-    requires { IsOf ERROR frame.now }
-    ensures { (called : ℕ → Called) → AllCalled called states.now → IfOk result (λ d. carried d ≡ turning (error_turn called states.now (xid_of frame.now) (well_formed (read_error frame.now)))) }
-{
-    match ErrorView::decode(frame) {
-        Ok(error) => answered(alloc, states, frame.head().xid, &error),
-        Err(_) => Ok(Dispatch::nothing(alloc)),
     }
 }

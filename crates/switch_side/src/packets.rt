@@ -1,12 +1,10 @@
 //! Packets that the switch hands up (OpenFlow 1.0.0, section 5.4.1).
 
 ghost use Rattle.std.specs.Prelude.{◌≡◌, ◌+◌, ◌≤◌, ◌++◌, ◌∷◌, [], length, IfOk, OnOk};
-ghost use Rattle.of10_ctl.specs.declared.kind.TheConstants.{PACKET_IN};
-ghost use Rattle.of10_ctl.specs.Kinds.{IsOf};
 ghost use Rattle.of10_flow.specs.PacketIns.{packet_of, spell_packet_in};
 ghost use Rattle.desk_words.specs.Histories.{header_in};
 ghost use Rattle.switch_side.specs.Dispatches.{addressed};
-ghost use Rattle.switch_side.specs.Carrying.{carried, once, said_from, unnumbered, unmarked, wanted, written, named_told, packet_for, change_for, changes_from, changes_with, packets_for_all, packet_changes, packet_in_told, packet_in_changes, handing};
+ghost use Rattle.switch_side.specs.Carrying.{carried, once, said_from, unnumbered, unmarked, wanted, written, named_told, packet_for, change_for, changes_from, changes_with, packets_for_all, packet_changes, handing};
 
 use crate::audience::Audience;
 use crate::change::Change;
@@ -228,8 +226,8 @@ fn changes(
     changes_for_all(alloc, states, packet.buffer, header, audience)
 }
 
-/// What follows from a packet.
-fn handed(
+/// What follows from a PACKET_IN.
+pub(crate) fn packet_in(
     alloc: Global,
     policy: &SwitchPolicy,
     index: &RuleIndex,
@@ -246,23 +244,4 @@ fn handed(
     let to_slices = put_for_all(alloc, states, packet, audience)?;
     let changes = changes(alloc, states, packet, &header, audience)?;
     Ok(Dispatch::handing(alloc, to_slices, changes))
-}
-
-/// What follows from a PACKET_IN; from one that isn't well formed nothing.
-pub(crate) fn packet_in(
-    alloc: Global,
-    policy: &SwitchPolicy,
-    index: &RuleIndex,
-    states: &[SliceState],
-    frame: &Frame,
-) -> Result<Dispatch, AllocError>
-    requires kind { IsOf PACKET_IN frame.now }
-    requires few { length states.now ≤ 32 }
-    requires index { index.now ≡ policy.now.rules }
-    ensures { IfOk result (λ d. carried d ≡ handing (packet_in_told policy.now.rules states.now frame.now) (packet_in_changes policy.now.rules states.now frame.now)) }
-{
-    match PacketInView::decode(frame) {
-        Ok(packet) => handed(alloc, policy, index, states, &packet),
-        Err(_) => Ok(Dispatch::nothing(alloc)),
-    }
 }

@@ -1,10 +1,8 @@
 //! Ports that come, go or change (OpenFlow 1.0.0, section 5.4.3).
 
-ghost use Rattle.std.specs.Prelude.{◌≡◌, ◌≤◌, ◌++◌, length, IfOk, OnOk};
-ghost use Rattle.of10_ctl.specs.declared.kind.TheConstants.{PORT_STATUS};
-ghost use Rattle.of10_ctl.specs.Kinds.{IsOf};
+ghost use Rattle.std.specs.Prelude.{◌≡◌, ◌≤◌, ◌++◌, length, Some, IfOk, OnOk};
 ghost use Rattle.of10_port.specs.PortStatus.{spell_port_status};
-ghost use Rattle.desk_words.specs.Openings.{status_kept};
+ghost use Rattle.desk_words.specs.Openings.{kept_beside};
 ghost use Rattle.switch_side.specs.Dispatches.{addressed};
 ghost use Rattle.switch_side.specs.Carrying.{carried, telling, once, status_for, said_from, port_told};
 ghost use Rattle.switch_side.specs.Sharing.{HasNoted, HaveNoted, AreSlotsWith};
@@ -88,29 +86,28 @@ fn put_for_all(
 }
 
 /// What a PORT_STATUS tells, where the known ports would keep it.
-fn kept(ports: &PortView, frame: &Frame) -> Option<PortStatus>
-    requires { IsOf PORT_STATUS frame.now }
-    ensures { result ≡ status_kept ports.now frame.now }
+fn kept(ports: &PortView, status: &PortStatus) -> Option<PortStatus>
+    ensures { result ≡ kept_beside ports.now (Some status.now) }
 {
-    match PortStatus::decode(frame) {
-        Ok(status) if ports.test_status(&status) == Kept::Kept => Some(status),
-        _ => None,
+    if ports.test_status(status) == Kept::Kept {
+        Some(*status)
+    } else {
+        None
     }
 }
 
-/// What follows from a PORT_STATUS; from one that isn't well formed or isn't kept nothing.
+/// What follows from a PORT_STATUS; from one that isn't kept nothing.
 pub(crate) fn port_status(
     alloc: Global,
     policy: &SwitchPolicy,
     ports: &PortView,
     states: &[SliceState],
-    frame: &Frame,
+    status: &PortStatus,
 ) -> Result<Dispatch, AllocError>
-    requires kind { IsOf PORT_STATUS frame.now }
     requires few { length states.now ≤ 32 }
-    ensures value { IfOk result (λ d. carried d ≡ telling (port_told policy.now.rules states.now (status_kept ports.now frame.now)) (status_kept ports.now frame.now)) }
+    ensures value { IfOk result (λ d. carried d ≡ telling (port_told policy.now.rules states.now (kept_beside ports.now (Some status.now))) (kept_beside ports.now (Some status.now))) }
 {
-    match kept(ports, frame) {
+    match kept(ports, status) {
         None => Ok(Dispatch::nothing(alloc)),
         Some(status) => {
             let to_slices = put_for_all(alloc, policy, states, &status)?;

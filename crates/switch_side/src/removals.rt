@@ -1,12 +1,7 @@
 //! Entries that a switch removed from its table (OpenFlow 1.0.0, section 5.4.2).
 
-ghost use Rattle.std.specs.Prelude.{ℕ, ◌≡◌, Some, IfOk, IfSome};
-ghost use Rattle.of10_model.specs.Normal.{IsNormal};
-ghost use Rattle.of10_ctl.specs.declared.kind.TheConstants.{FLOW_REMOVED};
-ghost use Rattle.of10_ctl.specs.Kinds.{IsOf};
-ghost use Rattle.of10_flow.specs.FlowRemoveds.{read_flow_removed};
+ghost use Rattle.std.specs.Prelude.{ℕ, ◌≡◌, Some, IfOk};
 ghost use Rattle.slice_words.specs.Answers.{removal_told};
-ghost use Rattle.desk_words.specs.Openings.{well_formed};
 ghost use Rattle.switch_side.specs.declared.change.Change.TheVariants.{Released};
 ghost use Rattle.switch_side.specs.Carrying.{carried, Called, AllCalled, while_up, owner_turn, removed_turn, turning};
 
@@ -70,31 +65,17 @@ fn owned(
     released(alloc, slot, state.up, booked, entry)
 }
 
-/// The entry that a well-formed message tells of.
-fn removed(frame: &Frame) -> Option<FlowRemoved>
-    requires { IsOf FLOW_REMOVED frame.now }
-    ensures value { result ≡ well_formed (read_flow_removed frame.now) }
-    ensures normal { IfSome result (λ entry. IsNormal entry.pattern) }
-{
-    FlowRemoved::decode(frame).ok()
-}
-
-/// What follows from a FLOW_REMOVED; from one that isn't well formed, or whose match nobody owns, nothing.
+/// What follows from a FLOW_REMOVED; from one whose match nobody owns nothing.
 pub(crate) fn flow_removed(
     alloc: Global,
     index: &RuleIndex,
     states: &[SliceState],
-    frame: &Frame,
+    entry: &FlowRemoved,
 ) -> Result<Dispatch, AllocError>
-    requires { IsOf FLOW_REMOVED frame.now }
-    ensures value { (called : ℕ → Called) → AllCalled called states.now → IfOk result (λ d. carried d ≡ turning (removed_turn called index.now states.now (well_formed (read_flow_removed frame.now)))) }
-    ensures normal { IfSome (well_formed (read_flow_removed frame.now)) (λ entry. IsNormal entry.pattern) }
+    ensures { (called : ℕ → Called) → AllCalled called states.now → IfOk result (λ d. carried d ≡ turning (removed_turn called index.now states.now entry.now)) }
 {
-    let Some(entry) = removed(frame) else {
-        return Ok(Dispatch::nothing(alloc));
-    };
     match index.owner_of(&entry.pattern) {
         None => Ok(Dispatch::nothing(alloc)),
-        Some(slot) => owned(alloc, states, slot, &entry),
+        Some(slot) => owned(alloc, states, slot, entry),
     }
 }

@@ -1,12 +1,9 @@
 //! Replies of a switch to barriers (OpenFlow 1.0.0, section 5.3.7) and to questions for queues (section 5.3.4).
 
-ghost use Rattle.std.specs.Prelude.{ℕ, ◌≡◌, ◌≤◌, ◌/◌, ◌^◌, [], length, Some, IfOk};
-ghost use Rattle.of10_ctl.specs.declared.kind.TheConstants.{BARRIER_REPLY, QUEUE_GET_CONFIG_REPLY};
-ghost use Rattle.of10_ctl.specs.Kinds.{IsOf};
-ghost use Rattle.of10_message.specs.Heads.{xid_of};
-ghost use Rattle.of10_message.specs.Replies.{is_bare, queues_of_view, read_queues, port_of_queues};
+ghost use Rattle.std.specs.Prelude.{ℕ, ◌≡◌, ◌/◌, ◌^◌, [], Some, IfOk};
+ghost use Rattle.of10_message.specs.Replies.{queues_of_view};
+ghost use Rattle.of10_switch.specs.Ranges.{AreQueues};
 ghost use Rattle.slice_words.specs.Statistics.{barrier_told, queues_told};
-ghost use Rattle.desk_words.specs.Openings.{well_formed};
 ghost use Rattle.switch_side.specs.Carrying.{carried, Called, AllCalled, turning, answer_turn, barrier_turn, queues_turn};
 
 use crate::change::Change;
@@ -14,9 +11,10 @@ use crate::dispatch::{Dispatch, one};
 use crate::requests::{request_seen, slot_of};
 use flow_book::SliceState;
 use flowspace::SwitchPolicy;
-use of10_ctl::kind::{BARRIER_REPLY, QUEUE_GET_CONFIG_REPLY};
+use of10_config::queues_reply;
+use of10_ctl::kind::BARRIER_REPLY;
 use of10_ctl::{Frame, message};
-use of10_message::{QueuesView, is_bare};
+use of10_message::QueuesView;
 use std::alloc::{AllocError, Global};
 use xid_map::{AskKind, Issued};
 
@@ -56,56 +54,41 @@ fn queues_told(
     request: &Issued,
     queues: &QueuesView<'_>,
 ) -> Result<Vec<Frame>, AllocError>
-    requires front { queues.now.port ≡ port_of_queues queues.now.body.now }
-    requires fits { length queues.now.body.now ≤ 65527 }
+    requires { AreQueues (queues_of_view queues.now) }
     ensures { IfOk result (λ v. v.items ≡ queues_told (Some request.now) queues.now.body.now) }
 {
     let asks = matches!(request.asked.kind, AskKind::QueueConfig);
     if !asks || request.asked.port != queues.port || request.done {
         return Ok(Vec::new(alloc));
     }
-    one(
-        alloc,
-        message(
-            alloc,
-            QUEUE_GET_CONFIG_REPLY,
-            request.asked.xid,
-            queues.body,
-        )?,
-    )
+    one(alloc, queues_reply(alloc, request.asked.xid, queues.body)?)
 }
 
-/// What follows from a BARRIER_REPLY; from one that isn't well formed, or that is for no barrier of a slice,
-/// nothing.
+/// What follows from a BARRIER_REPLY under a transaction id; from one that is for no barrier of a slice nothing.
 pub(crate) fn barrier(
     alloc: Global,
     states: &[SliceState],
-    frame: &Frame,
+    xid: u32,
 ) -> Result<Dispatch, AllocError>
-    requires { IsOf BARRIER_REPLY frame.now }
-    ensures { (called : ℕ → Called) → AllCalled called states.now → IfOk result (λ d. carried d ≡ turning (barrier_turn called states.now (xid_of frame.now) (is_bare frame.now))) }
+    ensures { (called : ℕ → Called) → AllCalled called states.now → IfOk result (λ d. carried d ≡ turning (barrier_turn called states.now xid)) }
 {
-    if !is_bare(frame) {
-        return Ok(Dispatch::nothing(alloc));
-    }
-    let xid = frame.head().xid;
     match request_seen(states, xid) {
         None => Ok(Dispatch::nothing(alloc)),
         Some(request) => answered(alloc, xid, barrier_told(alloc, &request)?, request.number),
     }
 }
 
-/// What follows from what the switch says of the queues of a port under a transaction id.
-fn queues_answered(
+/// What follows from what the switch says of the queues of a port under a transaction id; from what is for no
+/// question of a slice nothing.
+pub(crate) fn queues(
     alloc: Global,
     policy: &SwitchPolicy,
     states: &[SliceState],
     xid: u32,
     queues: &QueuesView<'_>,
 ) -> Result<Dispatch, AllocError>
-    requires front { queues.now.port ≡ port_of_queues queues.now.body.now }
-    requires fits { length queues.now.body.now ≤ 65527 }
-    ensures { (called : ℕ → Called) → AllCalled called states.now → IfOk result (λ d. carried d ≡ turning (queues_turn called policy.now.rules states.now xid (Some (queues_of_view queues.now)))) }
+    requires { AreQueues (queues_of_view queues.now) }
+    ensures { (called : ℕ → Called) → AllCalled called states.now → IfOk result (λ d. carried d ≡ turning (queues_turn called policy.now.rules states.now xid (queues_of_view queues.now))) }
 {
     let slot = slot_of(xid);
     if !policy.has_port(slot, queues.port) {
@@ -119,22 +102,5 @@ fn queues_answered(
             queues_told(alloc, &request, queues)?,
             request.number,
         ),
-    }
-}
-
-/// What follows from a QUEUE_GET_CONFIG_REPLY; from one that isn't well formed, or that is for no question of
-/// a slice, nothing.
-pub(crate) fn queues(
-    alloc: Global,
-    policy: &SwitchPolicy,
-    states: &[SliceState],
-    frame: &Frame,
-) -> Result<Dispatch, AllocError>
-    requires { IsOf QUEUE_GET_CONFIG_REPLY frame.now }
-    ensures { (called : ℕ → Called) → AllCalled called states.now → IfOk result (λ d. carried d ≡ turning (queues_turn called policy.now.rules states.now (xid_of frame.now) (well_formed (read_queues frame.now)))) }
-{
-    match QueuesView::decode(frame) {
-        Ok(queues) => queues_answered(alloc, policy, states, frame.head().xid, &queues),
-        Err(_) => Ok(Dispatch::nothing(alloc)),
     }
 }

@@ -1,16 +1,11 @@
 //! Statistics that a switch replies, part by part (OpenFlow 1.0.0, section 5.3.5). What a slice asked for is
 //! collected until the last part has come.
 
-ghost use Rattle.std.specs.Prelude.{ℕ, ◌≡◌, ◌≤◌, ◌/◌, ◌^◌, true, List, length, drop, Some, option_and_then, IfOk};
+ghost use Rattle.std.specs.Prelude.{ℕ, ◌≡◌, ◌/◌, ◌^◌, true, List, Some, option_and_then, IfOk};
 ghost use Rattle.std.specs.List.{concat};
-ghost use Rattle.of10_ctl.specs.declared.kind.TheConstants.{STATS_REPLY};
-ghost use Rattle.of10_ctl.specs.Kinds.{IsOf};
-ghost use Rattle.of10_message.specs.Heads.{xid_of};
-ghost use Rattle.of10_stats.specs.Replies.{part_of};
 ghost use Rattle.xid_map.specs.Collections.{CollectionCall, CollectionsStand};
 ghost use Rattle.stats_filter.specs.Asking.{type_sent};
 ghost use Rattle.slice_words.specs.Statistics.{collects};
-ghost use Rattle.desk_words.specs.Openings.{well_formed};
 ghost use Rattle.desk_words.specs.Histories.{is_part};
 ghost use Rattle.switch_side.specs.Carrying.{carried, Called, AllCalled, turning, kept_entries, collecting_turn, statistics_turn, request_seen};
 
@@ -21,9 +16,8 @@ use crate::requests::slot_of;
 use flow_book::SliceState;
 use flowspace::SwitchPolicy;
 use of10_action::Bytes;
-use of10_ctl::Frame;
 use of10_stats::protocol::{DESC, FLOW, PORT, QUEUE};
-use of10_stats::{StatsPart, entry_size, part};
+use of10_stats::{StatsPart, entry_size};
 use stats_filter::{keep, type_sent};
 use std::alloc::{AllocError, Global};
 use xid_map::{AskKind, Collections, Issued};
@@ -137,31 +131,20 @@ fn is_part(kind: u16, body: &[u8]) -> bool
     }
 }
 
-/// The bytes of a part's entries.
-fn body_of<'a>(frame: &'a Frame, part: &StatsPart) -> &'a [u8]
-    requires { part.now.from ≤ length frame.now }
-    ensures { result.now ≡ drop part.now.from frame.now }
-{
-    &frame.as_slice()[part.from..]
-}
-
-/// What follows from a STATS_REPLY; from one that isn't well formed, or that is for no request that collects
-/// it, nothing.
+/// What follows from a part of statistics under a transaction id; from one that isn't in the form of its type, or
+/// is for no request that collects it, nothing.
 pub(crate) fn statistics(
     alloc: Global,
     policy: &SwitchPolicy,
     states: &[SliceState],
-    frame: &Frame,
+    xid: u32,
+    part: &StatsPart,
+    body: &[u8],
 ) -> Result<Dispatch, AllocError>
-    requires { IsOf STATS_REPLY frame.now }
-    ensures { (called : ℕ → Called) → AllCalled called states.now → IfOk result (λ d. carried d ≡ turning (statistics_turn called policy.now.rules states.now (xid_of frame.now) (well_formed (part_of frame.now)) frame.now)) }
+    ensures { (called : ℕ → Called) → AllCalled called states.now → IfOk result (λ d. carried d ≡ turning (statistics_turn called policy.now.rules states.now xid part.now body.now)) }
 {
-    let Ok(part) = part(frame) else {
-        return Ok(Dispatch::nothing(alloc));
-    };
-    let body = body_of(frame, &part);
     if !is_part(part.kind, body) {
         return Ok(Dispatch::nothing(alloc));
     }
-    answered(alloc, policy, states, frame.head().xid, &part, body)
+    answered(alloc, policy, states, xid, part, body)
 }

@@ -1,6 +1,5 @@
 use Rattle.std.proofs.Common.{ℕ, List, refl, sym, ap, ap₂, ◌∙◌, Ok}
-use Rattle.of10_ctl.specs.declared.kind.TheConstants.{QUEUE_GET_CONFIG_REQUEST}
-use Rattle.of10_ctl.specs.Frames.{message_of}
+use Rattle.of10_config.specs.Configs.{spell_queues_request}
 use Rattle.of10_message.specs.declared.controller.FromController.TheVariants as said
 use Rattle.slice_words.specs.Calls.{request_calls}
 use Rattle.slice_words.specs.FlowMods.{Ground, ground_of}
@@ -31,7 +30,7 @@ returns-clause-follows c s sight stands sees =
     (queues_sent g c.args.port c.args.frame.now
     (sym (same_but_booked (λ (k : Ground). is_port_on k c.args.port) (λ k booked. refl) s sight c.args.around.now.state.now c.args.around.now.policy.now c.args.around.now.ports.now c.args.around.now.features.now c.args.around.now.slot s.quota g.xid stands sees refl refl)
     ∙ same_port c.args.around.now.slot c.args.around.now.policy.now.rules c.args.port ∙ sym c.has_port.ensures.value ∙ c.if-not-has_port.false)
-    ∙ ap asking (sym (c.in_ok-question.ensures.value ∙ ap₂ (λ (xid : ℕ) (body : List ℕ). message_of QUEUE_GET_CONFIG_REQUEST xid body) xids c.body.ensures)))
+    ∙ ap asking (sym (c.in_ok-question.ensures ∙ ap₂ (λ (xid : ℕ) (body : List ℕ). spell_queues_request xid body) xids c.body.ensures)))
     refl c.asked-asked.ensures.value c.sending.ensures.to_slice c.sending.ensures.to_switch c.sending.ensures.close c.sending.ensures.change
 
 pub returns-then-not-has_port-clause-sent : goal.returns-then-not-has_port-clause-sent
@@ -40,6 +39,6 @@ returns-then-not-has_port-clause-sent c = nothing_sent c.refused.result c.args.a
 pub returns-clause-sent : goal.returns-clause-sent
 returns-clause-sent c = question_sent c.sending.result c.args.around.now.policy.now.rules c.args.around.now.slot c.args.around.now.ports.now c.args.around.now.state.now c.args.frame.now c.next-xid.result.1 (said.QueueGetConfigRequest c.args.port) c.in_ok-question.question (
   same_port c.args.around.now.slot c.args.around.now.policy.now.rules c.args.port ∙ sym c.has_port.ensures.value ∙ c.if-not-has_port.false,
-  c.in_ok-question.ensures.value ∙ ap (λ (body : List ℕ). message_of QUEUE_GET_CONFIG_REQUEST c.next-xid.result.1 body) c.body.ensures,
+  c.in_ok-question.ensures ∙ ap (λ (body : List ℕ). spell_queues_request c.next-xid.result.1 body) c.body.ensures,
 )
     c.sending.ensures.to_switch

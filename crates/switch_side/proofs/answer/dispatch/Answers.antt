@@ -1,32 +1,13 @@
-use Rattle.std.proofs.Common.{◌≡◌, IfOk, subst, sym, ◌∙◌}
-use Rattle.of10_flow.specs.FlowRemoveds.{read_flow_removed}
-use Rattle.desk_words.specs.Openings.{well_formed}
-use Rattle.switch_side.specs.Carrying.{Carried, carried, turning, removed_turn}
-use Rattle.switch_side.proofs.Answered.{removal_carried, error_carried, barrier_carried, queues_carried, statistics_carried}
+use Rattle.std.proofs.Common.{◌≡◌, Result, Ok, IfOk, sym, subst}
+use Rattle.of10_ctl.specs.declared.head.Head.{Head}
+use Rattle.of10_message.specs.declared.fault.Unread.{Unread}
+use Rattle.of10_message.specs.Heads.{xid_of}
+use Rattle.of10_switch.specs.Messages.{SwitchMessage}
+use Rattle.of10_switch.specs.Views.{said_by}
+use Rattle.switch_side.specs.Carrying.{carried, carried_with}
 use Rattle.switch_side.proofs.answer.dispatch.Goals as goal
 
-pub returns-then-is_of-3-clause-value : goal.returns-then-is_of-3-clause-value
-returns-then-is_of-3-clause-value c called all =
-    subst (λ (what : Carried). IfOk c.flow_removed.result (λ d. carried d ≡ what))
-    (removal_carried called c.args.policy.now.rules c.args.ports.now c.args.states.now c.args.frame.now (sym c.is_of-else-is_of-2.ensures.value ∙ c.if-is_of-3.true))
-    (subst (λ rules. IfOk c.flow_removed.result (λ d. carried d ≡ turning (removed_turn called rules c.args.states.now (well_formed (read_flow_removed c.args.frame.now))))) c.requires.index (c.flow_removed.ensures.value called all))
-
-pub returns-then-is_of-4-clause-value : goal.returns-then-is_of-4-clause-value
-returns-then-is_of-4-clause-value c called all =
-    subst (λ (what : Carried). IfOk c.error.result (λ d. carried d ≡ what))
-    (error_carried called c.args.policy.now.rules c.args.ports.now c.args.states.now c.args.frame.now (sym c.is_of-else-is_of-3.ensures.value ∙ c.if-is_of-4.true)) (c.error.ensures called all)
-
-pub returns-then-is_of-6-clause-value : goal.returns-then-is_of-6-clause-value
-returns-then-is_of-6-clause-value c called all =
-    subst (λ (what : Carried). IfOk c.barrier.result (λ d. carried d ≡ what))
-    (barrier_carried called c.args.policy.now.rules c.args.ports.now c.args.states.now c.args.frame.now (sym c.is_of-else-is_of-5.ensures.value ∙ c.if-is_of-6.true)) (c.barrier.ensures called all)
-
-pub returns-then-is_of-7-clause-value : goal.returns-then-is_of-7-clause-value
-returns-then-is_of-7-clause-value c called all =
-    subst (λ (what : Carried). IfOk c.queues.result (λ d. carried d ≡ what))
-    (queues_carried called c.args.policy.now.rules c.args.ports.now c.args.states.now c.args.frame.now (sym c.is_of-else-is_of-6.ensures.value ∙ c.if-is_of-7.true)) (c.queues.ensures called all)
-
-pub returns-then-is_of-8-clause-value : goal.returns-then-is_of-8-clause-value
-returns-then-is_of-8-clause-value c called all =
-    subst (λ (what : Carried). IfOk c.statistics.result (λ d. carried d ≡ what))
-    (statistics_carried called c.args.policy.now.rules c.args.ports.now c.args.states.now c.args.frame.now (sym c.is_of-else-is_of-7.ensures.value ∙ c.if-is_of-8.true)) (c.statistics.ensures called all)
+pub returns-in-Ok-clause-value : goal.returns-in-Ok-clause-value
+returns-in-Ok-clause-value c called all =
+    subst (λ (said : Result SwitchMessage Unread). IfOk c.follow.result (λ d. carried d ≡ carried_with called c.args.policy.now.rules c.args.ports.now c.args.states.now (xid_of c.args.frame.now) said)) (sym c.in-Ok.ensures.exact)
+    (subst (λ (head : Head). IfOk c.follow.result (λ d. carried d ≡ carried_with called c.args.policy.now.rules c.args.ports.now c.args.states.now head.xid (Ok (said_by c.in-Ok.said)))) c.head.ensures.value (c.follow.ensures called all))

@@ -8,6 +8,6 @@ pub returns : goal.returns
 returns c = record {
   dispatch = λ p switch sides moment around stand numbered.
       IfOk-weaker c.dispatch.result _ (IsDispatch p switch sides moment c.args.frame.now)
-      (λ d is. dispatched p switch sides moment c.args.policy.now c.args.ports.now c.args.states.now c.args.frame.now d c.requires.count c.slices-slices.ensures.policy c.dispatch.ensures.normal around stand numbered is)
+      (λ d is. dispatched p switch sides moment c.args.policy.now c.args.ports.now c.args.states.now c.args.frame.now d c.requires.count c.slices-slices.ensures.policy c.dispatch.ensures.right around stand numbered is)
       (c.dispatch.ensures.value (called_at p switch sides) (all_called p switch sides c.args.states.now stand));
 }

@@ -1,10 +1,12 @@
-use Rattle.std.proofs.Common.{sym, ◌∙◌}
+use Rattle.std.proofs.Common.{sym, ap}
 use Rattle.std.proofs.lemmas.Result.{IfOk-weaker}
-use Rattle.proxy_core.proofs.Switched.{begun_ends}
+use Rattle.of10_ctl.specs.declared.head.Head.{Head}
 use Rattle.proxy_core.proofs.parts.Desk.hear_first.Goals as goal
 
-pub returns-then-bad_length-clause-ok : goal.returns-then-bad_length-clause-ok
-returns-then-bad_length-clause-ok c moment = begun_ends c.args.self.now c.end.new.self moment c.args.frame.now c.end.ensures.ended (sym c.bad_length.ensures ∙ c.if-bad_length.true)
+pub returns-in-Ok-clause-ok : goal.returns-in-Ok-clause-ok
+returns-in-Ok-clause-ok c = IfOk-weaker c.hear_said.result _ _
+    (λ go acts moment. acts moment c.args.frame.now c.in-Ok.ensures.exact (sym (ap (λ (head : Head). head.xid) c.head.ensures.value))) c.hear_said.ensures.ok
 
-pub returns-in-Some-clause-ok : goal.returns-in-Some-clause-ok
-returns-in-Some-clause-ok c = IfOk-weaker c.open.result _ _ (λ go acts moment. acts moment c.args.frame.now (sym c.in_ok-features.ensures.value ∙ c.in-Some.is)) c.open.ensures.ok
+pub returns-in-Err-clause-ok : goal.returns-in-Err-clause-ok
+returns-in-Err-clause-ok c = IfOk-weaker c.hear_unread.result _ _
+    (λ go acts moment. acts moment c.args.frame.now c.in-Err.ensures.exact) c.hear_unread.ensures.ok

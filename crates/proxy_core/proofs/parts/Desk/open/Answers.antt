@@ -1,9 +1,14 @@
-use Rattle.std.proofs.Common.{List, ℕ, refl, subst}
+use Rattle.std.proofs.Common.{List, ℕ, refl, ap, subst}
+use Rattle.of10_port.specs.declared.features.Features.{Features}
+use Rattle.of10_switch.specs.Views.{features_of}
+use Rattle.desk_words.specs.Openings.{features_said}
+use Rattle.proxy_core.specs.Opening.{Begins}
 use Rattle.proxy_core.specs.Slots.{HasMore}
 use Rattle.proxy_core.proofs.Switched.{opened}
 use Rattle.proxy_core.proofs.parts.Desk.open.Goals as goal
 
 pub returns-clause-ok : goal.returns-clause-ok
 returns-clause-ok c moment message told =
-    opened c.args.self.now _ moment message c.args.features c.in_ok-session.session refl refl
-    (subst (λ (m : List (List ℕ)). HasMore m c.args.self.now.lane c.push_all.new.waiting) c.in_ok-messages.ensures (λ limit q h. c.push_all.ensures limit q (c.make_room.ensures.stands limit q h))) refl told c.in_ok-session.ensures
+    opened c.args.self.now _ moment message (features_of c.args.told.now) c.in_ok-session.session refl refl
+    (subst (λ (m : List (List ℕ)). HasMore m c.args.self.now.lane c.push_all.new.waiting) c.in_ok-messages.ensures (λ limit q h. c.push_all.ensures limit q (c.make_room.ensures.stands limit q h))) refl
+    (ap features_said told) (subst (λ (features : Features). Begins c.args.self.now.policy features c.in_ok-session.session) c.in_ok-features.ensures c.in_ok-session.ensures)

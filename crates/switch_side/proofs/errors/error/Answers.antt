@@ -4,7 +4,7 @@ use Rattle.std.proofs.lemmas.Option.{slice_get_read}
 use Rattle.of10_message.specs.Errors.{error_of_view}
 use Rattle.switch_side.specs.Carrying.{turning}
 use Rattle.switch_side.proofs.Turns.{request_found, request_none}
-use Rattle.switch_side.proofs.errors.answered.Goals as goal
+use Rattle.switch_side.proofs.errors.error.Goals as goal
 
 pub returns-in-Some-find : goal.returns-in-Some-find
 returns-in-Some-find c called all =
