@@ -14,6 +14,7 @@ SWITCH_PORTS = range(1, 1_365)
 LARGEST = 65_535
 READ = 65_536
 ALL_PORTS = 0xFFFC
+SET_TP_SRC, SET_TP_DST = 9, 10
 CHECK_OVERLAP = 2
 FLAGS = 70
 # A full book has 4,096 entries: 256 of each of 16 priorities.
@@ -40,6 +41,21 @@ def everything(actions, command=Command.ADD, priority=PRIORITY, flags=0):
 def full_book():
     """The flow-mods that book as many entries as there can be."""
     return [everything(output(2), priority=PRIORITY + k) for k in range(PRIORITIES)]
+
+
+def rewrite(action, port):
+    """An action: SET_TP_SRC or SET_TP_DST."""
+    return struct.pack(">HHHxx", action, 8, port)
+
+
+def rewritten_outputs(count):
+    """So many outputs, before each of which the packet is rewritten anew."""
+    return rewrite(SET_TP_DST, HEAVY_PORTS[-1]) + b"".join(rewrite(SET_TP_SRC, k) + output(2) for k in range(count))
+
+
+def turning_outputs(count):
+    """So many outputs, of packets that the last rule of the slice and the one before it have in turn."""
+    return b"".join(rewrite(SET_TP_DST, HEAVY_PORTS[-1 - k % 2]) + output(2) for k in range(count))
 
 
 def own_packet_out(actions, size):
@@ -69,10 +85,16 @@ def loads():
     return [
         Load("flow-mod in 256 pieces of 1,024 bytes", everything(output(2) * 119)),
         Load("flow-mod of 8,182 outputs in 256 pieces", everything(output(2) * 8_182), is_refused=True),
+        Load("flow-mod of 4,090 rewritten outputs in 256 pieces", everything(rewritten_outputs(4_090)), is_refused=True),
+        Load("flow-mod of 59 rewritten outputs in 256 pieces", everything(rewritten_outputs(59))),
+        Load("flow-mod of 4,090 outputs that two rules have in turn", everything(turning_outputs(4_090)), is_refused=True),
+        Load("flow-mod to 1,364 ports, 8,182 times", everything(output(ALL_PORTS) * 8_182), is_refused=True),
+        Load("flow-mod to 1,364 ports, five times", everything(output(ALL_PORTS) * 5), is_refused=True),
         Load("MODIFY in 256 pieces over a full book", everything(output(2), Command.MODIFY, PRIORITY - 1)),
         Load("CHECK_OVERLAP in 256 pieces over a full book", overlap, is_refused=True),
         Load("800 of these at once", overlap * 800, is_refused=True),
         Load("packet-out of 65,535 bytes", own_packet_out(output(2), LARGEST)),
+        Load("packet-out of 4,000 rewritten outputs", own_packet_out(rewritten_outputs(4_000), 64_100)),
         Load("packet-out to 1,364 ports, five times", own_packet_out(output(ALL_PORTS) * 5, 200)),
         Load("question for all flows, with 744 in the answer", flows_request()),
         Load("64 KiB of echoes at once", message(Kind.ECHO_REQUEST, 7, b"") * (READ // 8)),
