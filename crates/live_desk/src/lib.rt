@@ -6,4 +6,5 @@ mod object;
 mod waiting;
 
 pub use object::{DeskObject, DeskOp, DeskReply};
+pub use proxy_core::{Desk, Dest, Event, Taken, Timed, Verdict};
 pub use waiting::{Waiting, bit_at, place_of};

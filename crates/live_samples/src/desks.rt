@@ -3,8 +3,7 @@
 ghost use Rattle.std.specs.Prelude.{◌≡◌, ◌^◌, IfOk};
 ghost use Rattle.turn_desk.specs.Seats.{IsSeatOf};
 
-use live_session::{Bells, DeskObject};
-use proxy_core::Desk;
+use live_session::{Bells, Desk, DeskObject};
 use samples::{policy, rule, tcp};
 use std::alloc::{AllocError, Global};
 use turn_desk::{TurnDesk, TurnSeat};

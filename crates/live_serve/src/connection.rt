@@ -6,8 +6,7 @@ ghost use Rattle.turn_desk.specs.Seats.{IsSeatOf};
 
 use flowspace::Policy;
 use fv_live::{Dialer, Wires};
-use live_session::{Bells, DeskObject, Half};
-use proxy_core::Desk;
+use live_session::{Bells, Desk, DeskObject, Half};
 use std::alloc::{AllocError, Global};
 use std::sync::{Arc, Condvar, Mutex, Wait};
 use turn_desk::{TurnDesk, TurnSeat};

@@ -8,5 +8,6 @@ mod group;
 mod program;
 mod work;
 
+pub use live_session::{Gate, OpenGate, Side};
 pub use program::serve;
 pub use work::SessionWork;

@@ -4,8 +4,7 @@ ghost use Rattle.turn_desk.specs.Seats.{IsSeatOf};
 
 use crate::connection::Connection;
 use fv_live::{Clock, Dialer, Host, NeverSource, Wires, Work};
-use live_session::{DeskObject, Gate, ReaderEnd, Side, run_reader, run_slice, run_writer};
-use proxy_core::Dest;
+use live_session::{DeskObject, Dest, Gate, ReaderEnd, Side, run_reader, run_slice, run_writer};
 use std::alloc::Global;
 use std::net::{Net, TcpListener, TcpStream};
 use std::sync::{Arc, Wait};

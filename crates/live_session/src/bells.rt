@@ -2,8 +2,7 @@
 
 use crate::side::Side;
 use crossbeam_utils::CachePadded;
-use live_desk::{Waiting, bit_at, place_of};
-use proxy_core::Dest;
+use live_desk::{Dest, Waiting, bit_at, place_of};
 use std::alloc::{AllocError, Global};
 use std::sync::atomic::{AtomicBool, Ordering};
 use std::sync::{Arc, Condvar, Mutex, MutexGuard, Wait};

@@ -16,7 +16,7 @@ pub use bells::Bells;
 pub use ends::{ReaderEnd, SliceEnd, WriterEnd};
 pub use gate::{Gate, OpenGate};
 pub use half::Half;
-pub use live_desk::{DeskObject, DeskOp, DeskReply};
+pub use live_desk::{Desk, DeskObject, DeskOp, DeskReply, Dest, Event, Taken, Timed, Verdict};
 pub use reader::run_reader;
 pub use side::Side;
 pub use slice::run_slice;

@@ -16,12 +16,11 @@ use crate::gate::Gate;
 use crate::side::{Side, down, message, up};
 use crate::turns::Turns;
 use fv_live::{Clock, Host, Source};
-use live_desk::{DeskObject, DeskOp, DeskReply};
+use live_desk::{DeskObject, DeskOp, DeskReply, Event, Timed, Verdict};
 use of10_ctl::kind::{
     BARRIER_REQUEST, FLOW_MOD, PACKET_OUT, QUEUE_GET_CONFIG_REQUEST, STATS_REQUEST,
 };
 use of10_ctl::{Framer, Next};
-use proxy_core::{Event, Timed, Verdict};
 use std::alloc::{AllocError, Global};
 use std::net::{Net, TcpListener, TcpStream};
 use std::sync::Wait;

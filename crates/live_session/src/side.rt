@@ -1,8 +1,8 @@
 ghost use Rattle.std.specs.Prelude.{◌≡◌};
 ghost use Rattle.live_session.specs.Stretches.{up_of, message_of, down_of};
 
+use live_desk::Event;
 use of10_ctl::Frame;
-use proxy_core::Event;
 
 /// Whose connection it is.
 #[derive(Clone, Copy, Debug, PartialEq, Eq)]

@@ -2,7 +2,7 @@
 
 use fv_live::Host;
 use live_samples::{HELLO, Sent, all_hold, shares};
-use live_session::{Gate, Side};
+use live_serve::{Gate, Side};
 use std::alloc::{AllocError, Global};
 use std::net::{Net, TcpListener, TcpStream};
 use std::sync::atomic::{AtomicU64, Ordering};

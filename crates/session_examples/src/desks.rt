@@ -4,9 +4,8 @@ ghost use Rattle.std.specs.Prelude.{◌≡◌, ◌<◌, vec_len};
 ghost use Rattle.turn_desk.specs.Seats.{IsSeatOf, SameDesk};
 
 use fv_live::{MemoryClock, MemorySource};
-use live_session::{DeskObject, DeskOp, DeskReply};
+use live_session::{DeskObject, DeskOp, DeskReply, Dest, Event, Taken, Timed, Verdict};
 use of10_ctl::Frame;
-use proxy_core::{Dest, Event, Taken, Timed, Verdict};
 use samples::{bytes, frame};
 use std::alloc::{AllocError, Global};
 use std::process::Abort;

@@ -2,8 +2,9 @@ use crate::desks::{ECHO, FIRST_VERSION, TO_DISMISSED, clock, features, open, sou
 use fv_base::MemorySink;
 use fv_live::{Clock, MemorySource};
 use live_samples::desk;
-use live_session::{OpenGate, ReaderEnd, Side, WriterEnd, run_reader, run_writer};
-use proxy_core::{Dest, Event, Taken, Verdict};
+use live_session::{
+    Dest, Event, OpenGate, ReaderEnd, Side, Taken, Verdict, WriterEnd, run_reader, run_writer,
+};
 use samples::bytes;
 use std::test::Fail;
 
