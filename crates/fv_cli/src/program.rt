@@ -1,9 +1,9 @@
 //! The program's call without the system: the words in, files and output by their traits, the status out.
 
 ghost use Rattle.std.specs.Prelude.{◌≡◌, ◌≤◌, ◌<◌, ◌^◌, ℕ, List, length, true, Ok, IfOk, IfErr, IfSome, OnOk};
-ghost use Rattle.std.specs.List.{All};
 ghost use Rattle.fv_base.specs.Words.{form_of};
-ghost use Rattle.recording.specs.Recordings.{IsItem, all_told, read_items};
+ghost use Rattle.recording.specs.declared.item.Item.{Item};
+ghost use Rattle.recording.specs.Recordings.{all_told, read_items};
 ghost use Rattle.desk_words.specs.Recorded.{told_in};
 ghost use Rattle.desk_words.specs.Reports.{report};
 ghost use Rattle.fv_generator.specs.Made.{records_of};
@@ -15,9 +15,9 @@ use crate::base::{Failed, Files, Form, LoadFault, Sink, Words, WordsFault, load_
 use crate::ending::Ending;
 use crate::lines::{accepted_line, put_pieces};
 use flowspace::Policy;
-use fv_report::{ReportFault, report_items, summarise};
+use fv_report::{ReportFault, report, summarise};
 use policy_text::ReadFault;
-use recording::{Item, RecordingFault, items};
+use recording::accept;
 use std::alloc::{AllocError, Global};
 
 /// Most bytes of a policy: 1 MiB.
@@ -25,13 +25,6 @@ const POLICY_LIMIT: u64 = 1_048_576;
 
 /// Most bytes of a recording: 256 MiB.
 const RECORDING_LIMIT: u64 = 268_435_456;
-
-/// A recording that is accepted: its file, and the records of it.
-#[derive(Drop)]
-struct Recording {
-    bytes: Vec<u8>,
-    items: Vec<Item>,
-}
 
 /// A whole file.
 fn load<F: Files>(alloc: Global, files: &mut F, path: &str, limit: u64) -> Result<Vec<u8>, Ending>
@@ -70,15 +63,14 @@ pub fn load_policy<F: Files>(alloc: Global, files: &mut F, path: &str) -> Result
     }
 }
 
-/// The recording at a path under a policy of so many slices.
+/// The file of the recording at a path, which is accepted under a policy of so many slices.
 fn load_recording<F: Files>(
     alloc: Global,
     files: &mut F,
     path: &str,
     slices: u8,
-) -> Result<Recording, Ending>
-    ensures has { IfOk result (λ recording. HasRecording slices (F.contents files.old path.now) recording.bytes.items recording.items.items) }
-    ensures items { IfOk result (λ recording. All (IsItem slices recording.bytes.items) recording.items.items) }
+) -> Result<Vec<u8>, Ending>
+    ensures has { IfOk result (λ file. (items : List Item) × HasRecording slices (F.contents files.old path.now) file.items items) }
     ensures cause { IfErr result (IsRecordingCause slices (F.contents files.old path.now) (F.faults files.old path.now) (F.faults files.new path.now)) }
     ensures same { (at : List ℕ) → F.contents files.new at ≡ F.contents files.old at }
     ensures calm { OnOk result ((at : List ℕ) → F.faults files.new at ≡ F.faults files.old at) }
@@ -88,9 +80,8 @@ fn load_recording<F: Files>(
         Ok(bytes) => bytes,
         Err(ending) => return Err(ending),
     };
-    match items(alloc, &bytes, slices) {
-        Ok(items) => Ok(Recording { bytes, items }),
-        Err(RecordingFault::Memory) => Err(Ending::NoMemory),
+    match accept(&bytes, slices) {
+        Ok(()) => Ok(bytes),
         Err(fault) => Err(Ending::RecordingRefused(fault)),
     }
 }
@@ -137,13 +128,13 @@ fn replay<F: Files, O: Sink>(
     run(alloc, &policy, &recording, out)
 }
 
-/// Runs the recording under the policy.
-fn run<O: Sink>(alloc: Global, policy: &Policy, recording: &Recording, out: &mut O) -> Ending
-    requires { All (IsItem (length policy.now.slices) recording.now.bytes.items) recording.now.items.items }
-    ensures cause { IsRunEnding (report policy.now (told_in recording.now.bytes.items recording.now.items.items)) (O.contents out.old) (O.contents out.new) (O.faults out.old) (O.faults out.new) result }
+/// Runs the recording under the policy, under which it is accepted.
+fn run<O: Sink>(alloc: Global, policy: &Policy, recording: &[u8], out: &mut O) -> Ending
+    requires { (items : List Item) × (read_items (length policy.now.slices) recording.now ≡ Ok items) }
+    ensures cause { (items : List Item) → read_items (length policy.now.slices) recording.now ≡ Ok items → IsRunEnding (report policy.now (told_in recording.now items)) (O.contents out.old) (O.contents out.new) (O.faults out.old) (O.faults out.new) result }
     ensures puts { CountsPuts result (O.faults out.old) (O.faults out.new) }
 {
-    match report_items(alloc, policy, &recording.bytes, &recording.items, out) {
+    match report(alloc, policy, recording, out) {
         Ok(()) => Ending::Done,
         Err(ReportFault::WriteFault) => Ending::WriteFault,
         Err(ReportFault::Memory) => Ending::NoMemoryToRun,

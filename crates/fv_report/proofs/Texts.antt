@@ -1,6 +1,7 @@
 -- The text of what is told, and what a writer writes of it.
-use Rattle.std.proofs.Common.{◌≡◌, inl, inr, ◌+◌, ℕ, Bool, true, false, if◌then◌else◌, List, [], ◌∷◌, ◌++◌, refl, sym, ap, ap₂, ◌∙◌, subst, Option, Some, None, codes}
+use Rattle.std.proofs.Common.{◌≡◌, inl, inr, ◌+◌, ℕ, Bool, true, false, if◌then◌else◌, List, [], ◌∷◌, ◌++◌, refl, sym, ap, ap₂, ◌∙◌, subst, Option, Some, None, Result, Ok, Err, codes}
 use Rattle.std.specs.List.{flat_map, enumerate_from}
+use Rattle.std.specs.Result.{IsErrAnd}
 use Rattle.std.proofs.lemmas.List.{append-nil}
 use Rattle.std.proofs.lemmas.Grind.{flat_map-append}
 use Rattle.hex.specs.Hex.{encode_lower}
@@ -21,7 +22,7 @@ use Rattle.fv_report.specs.declared.fault.ReportFault.TheVariants.{Memory}
 use Rattle.fv_report.specs.Writing.{WrotePart, Wrote, CountedFault, Counted}
 use Rattle.fv_report.specs.Telling.{Line, Outcome, Close, line_text, lane_told, slice_told, told_by_slot, closing_told, close_told, down_line, down_told, event_told, lines_from, all_lines, Heard, HeardPart}
 use Rattle.summary_words.specs.Summaries.{event_count}
-use Rattle.fv_report.proofs.Writing.{both, none_of, part_of_first, part_of_second, fault_after}
+use Rattle.fv_report.proofs.Writing.{both, none_of, part_of_first, part_of_second, wrote_second, counted_after, fault_after}
 
 lane_text : (place : Place) (messages : List (List ℕ)) → flat_map line_text (lane_told place messages) ≡ lane_lines place messages
 lane_text place [] = refl
@@ -147,3 +148,37 @@ wrote_told_part seen contents faults fault (l ∷ lines) old new (inr (inr (next
       text = part_of_second (line_text l) (flat_map line_text lines) (contents old) (contents next) (contents new) told.1 rest.text;
       counted = fault_after fault (faults old) (faults next) (faults new) told.2 rest.counted;
     }
+
+-- ---- a whole report
+
+-- what a call that writes a text leaves of a sink
+pub record HasWritten {A T X : Type 0} (seen : T → X) (contents : T → Option (List ℕ)) (faults : T → ℕ) (result : Result A ReportFault) (text : List ℕ) (old new : T) : Type 0 where
+  pub same : seen new ≡ seen old
+  pub writes : Wrote result text (contents old) (contents new)
+  pub counted : Counted result (faults old) (faults new)
+
+-- all lines of a recording were told, and then the number of its events was put
+pub report_ended : {A T X : Type 0} (seen : T → X) (contents : T → Option (List ℕ)) (faults : T → ℕ) (p : PolicyView) (records : List Told) (result : Result A ReportFault) (old now new : T) → Heard (Writes seen contents faults) old (all_lines p records) now
+    → seen new ≡ seen now → Wrote result (last_line (event_count p records)) (contents now) (contents new) → Counted result (faults now) (faults new) → HasWritten seen contents faults result (report p records) old new
+report_ended seen contents faults p records result old now new told same last counted =
+    let lines = all_lines p records in
+    let written = wrote_told seen contents faults lines old now told in
+    record {
+      same = same ∙ written.same;
+      writes = subst (λ (text : List ℕ). Wrote result text (contents old) (contents new)) (whole_text p records)
+          (wrote_second result (flat_map line_text lines) (last_line (event_count p records)) (contents old) (contents now) (contents new) written.text last);
+      counted = counted_after result (faults old) (faults now) (faults new) written.counted counted;
+    }
+
+-- a fault came in its lines
+pub report_broken : {A T X : Type 0} (seen : T → X) (contents : T → Option (List ℕ)) (faults : T → ℕ) (p : PolicyView) (records : List Told) (fault : ReportFault) (result : Result A ReportFault) (old new : T) → IsErrAnd result (λ e. e ≡ fault)
+    → HeardPart (Writes seen contents faults) fault old (all_lines p records) new → HasWritten seen contents faults result (report p records) old new
+report_broken seen contents faults p records fault (Err e) old new same told =
+    let lines = all_lines p records in
+    let written = wrote_told_part seen contents faults fault lines old new told in
+    record {
+      same = written.same;
+      writes = subst (λ (text : List ℕ). WrotePart text (contents old) (contents new)) (whole_text p records) (part_of_first (flat_map line_text lines) (last_line (event_count p records)) (contents old) (contents new) written.text);
+      counted = subst (λ (f : ReportFault). CountedFault f (faults old) (faults new)) (sym same) written.counted;
+    }
+report_broken seen contents faults p records fault (Ok value) old new same told = absurd same

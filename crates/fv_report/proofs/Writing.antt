@@ -30,24 +30,10 @@ pub part_of_second : (first second : List ℕ) (before now later : Option (List 
 part_of_second first second before now later a (piece, (rest, is), told) =
     (first ++ piece, (rest, append_assoc first piece rest ∙ ap (λ text. first ++ text) is), both before now later first piece a told)
 
--- a whole text is a piece of itself
-pub part_of_all : (text : List ℕ) (before now : Option (List ℕ)) → now ≡ appended before text → WrotePart text before now
-part_of_all text before now a = (text, ([], append-nil text), a)
-
 -- after the first of two texts the second
 pub wrote_second : {A E : Type 0} (result : Result A E) (first second : List ℕ) (before now later : Option (List ℕ)) → now ≡ appended before first → Wrote result second now later → Wrote result (first ++ second) before later
 wrote_second (Ok value) first second before now later a b = both before now later first second a b
 wrote_second (Err fault) first second before now later a b = part_of_second first second before now later a b
-
--- at a fault a piece was written
-pub at_fault : {A E : Type 0} (result : Result A E) (text : List ℕ) (before now : Option (List ℕ)) → IsErr result → WrotePart text before now → Wrote result text before now
-at_fault (Err fault) text before now is part = part
-at_fault (Ok value) text before now is part = absurd cc
-
--- what holds holds at a success
-pub on_ok : {A E P : Type 0} (result : Result A E) → P → OnOk result P
-on_ok (Ok value) holds = holds
-on_ok (Err fault) holds = tt
 
 -- the count after a text that was put whole is the one before it
 pub counted_after : {A : Type 0} (result : Result A ReportFault) (old now later : ℕ) → now ≡ old → Counted result now later → Counted result old later
@@ -55,11 +41,6 @@ counted_after result old now later same counted = subst (λ (n : ℕ). Counted r
 
 pub fault_after : (fault : ReportFault) (old now later : ℕ) → now ≡ old → CountedFault fault now later → CountedFault fault old later
 fault_after fault old now later same counted = subst (λ (n : ℕ). CountedFault fault n later) same counted
-
--- a fault that is handed on leaves the count that it left
-pub counted_on : {A : Type 0} (fault : ReportFault) (result : Result A ReportFault) (old new : ℕ) → IsErrAnd result (λ e. e ≡ fault) → CountedFault fault old new → Counted result old new
-counted_on fault (Err e) old new same counted = subst (λ (f : ReportFault). CountedFault f old new) (sym same) counted
-counted_on fault (Ok value) old new same counted = absurd same
 
 -- ---- lines that are told
 

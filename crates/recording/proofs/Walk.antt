@@ -56,6 +56,12 @@ goes_on slices bytes front at r total h e so_far =
     ∙ ap (with_front front) (ap (λ (x : Result Item RecordingFault). x >>= λ q. items_from (length bytes) slices bytes (q ∷ reverse front) (q.from + q.size) >>= λ others. Ok (q ∷ others)) (sym e) ∙ sym (reads_on slices bytes (reverse front) at h))
     ∙ so_far)
 
+-- the fault of the next record is that of all
+pub ends_so : (slices : ℕ) (bytes : List ℕ) (front : List Item) (at : ℕ) (fault : RecordingFault) (total : Result (List Item) RecordingFault) → at < length bytes → record_at slices bytes (reverse front) at ≡ Err fault
+    → with_front front (items_from (length bytes) slices bytes (reverse front) at) ≡ total → total ≡ Err fault
+ends_so slices bytes front at fault total h e so_far =
+    sym so_far ∙ ap (with_front front) (reads_on slices bytes (reverse front) at h ∙ ap (λ (x : Result Item RecordingFault). x >>= λ q. items_from (length bytes) slices bytes (q ∷ reverse front) (q.from + q.size) >>= λ others. Ok (q ∷ others)) e)
+
 fails : {A : Type 0} (fault : RecordingFault) (read : Result A RecordingFault) → read ≡ Err fault → Fails fault read
 fails (Torn at) read e = e
 fails (Bad at) read e = e
@@ -65,7 +71,7 @@ fails Memory read e = tt
 pub ends : (slices : ℕ) (bytes : List ℕ) (front : List Item) (at : ℕ) (fault : RecordingFault) (total : Result (List Item) RecordingFault) → at < length bytes → record_at slices bytes (reverse front) at ≡ Err fault
     → with_front front (items_from (length bytes) slices bytes (reverse front) at) ≡ total → Fails fault total
 ends slices bytes front at fault total h e so_far =
-    fails fault total (sym so_far ∙ ap (with_front front) (reads_on slices bytes (reverse front) at h ∙ ap (λ (x : Result Item RecordingFault). x >>= λ q. items_from (length bytes) slices bytes (q ∷ reverse front) (q.from + q.size) >>= λ others. Ok (q ∷ others)) e))
+    fails fault total (ends_so slices bytes front at fault total h e so_far)
 
 pub is_done : (slices : ℕ) (bytes : List ℕ) (front : List Item) (at : ℕ) (total : Result (List Item) RecordingFault) → length bytes ≤ at
     → with_front front (items_from (length bytes) slices bytes (reverse front) at) ≡ total → total ≡ Ok front

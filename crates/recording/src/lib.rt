@@ -13,5 +13,5 @@ pub use item::{
     BYTE_LIMIT, Item, MAGIC, RECORD_HEAD, SLICE_BYTES, SLICE_DOWN, SLICE_UP, SWITCH_BYTES,
     SWITCH_DOWN, SWITCH_UP, SWITCHES,
 };
-pub use reading::items;
+pub use reading::{accept, items};
 pub use writing::{add_item, begin_recording};

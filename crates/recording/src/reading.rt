@@ -1,4 +1,4 @@
-ghost use Rattle.std.specs.Prelude.{◌≡◌, ◌≢◌, ◌+◌, ◌≤◌, List, [], length, Err, IfOk};
+ghost use Rattle.std.specs.Prelude.{◌≡◌, ◌≢◌, ◌+◌, ◌≤◌, List, [], length, Ok, Err, IfOk, IfErr, OnOk};
 ghost use Rattle.std.specs.List.{All};
 ghost use Rattle.recording.specs.declared.item.Item.{Item};
 ghost use Rattle.recording.specs.declared.fault.RecordingFault.TheVariants.{Memory};
@@ -120,4 +120,38 @@ pub fn items(alloc: Global, bytes: &[u8], slices: u8) -> Result<Vec<Item>, Recor
         return Err(RecordingFault::Bad(0));
     }
     records(alloc, bytes, slices)
+}
+
+// The records behind the bytes that begin a recording, one after the other.
+fn accept_records(bytes: &[u8], slices: u8) -> Result<(), RecordingFault>
+    requires { 8 ≤ length bytes.now }
+    ensures accepted { OnOk result ((items : List Item) × (items_from (length bytes.now) slices bytes.now [] 8 ≡ Ok items)) }
+    ensures refused { IfErr result (λ fault. items_from (length bytes.now) slices bytes.now [] 8 ≡ Err fault) }
+{
+    let mut ups = Ups::new();
+    let mut at = 8;
+    while at < bytes.len() {
+        let item = match record(slices, bytes, &ups, at) {
+            Ok(item) => item,
+            Err(fault) => return Err(fault),
+        };
+        ups.note(&item);
+        at = item.from + item.size;
+    }
+    Ok(())
+}
+
+/// Whether [`items`] reads the file, or its first fault. It makes no list of the records, and takes no memory.
+#[tactic(auto, unfolding(crate::specs::Recordings::read_items))]
+pub fn accept(bytes: &[u8], slices: u8) -> Result<(), RecordingFault>
+    ensures accepted { OnOk result ((items : List Item) × (read_items slices bytes.now ≡ Ok items)) }
+    ensures refused { IfErr result (λ fault. read_items slices bytes.now ≡ Err fault) }
+{
+    if bytes.len() < 8 {
+        return Err(RecordingFault::Torn(0));
+    }
+    if !bytes.starts_with(&MAGIC) {
+        return Err(RecordingFault::Bad(0));
+    }
+    accept_records(bytes, slices)
 }
