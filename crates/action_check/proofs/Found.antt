@@ -1,19 +1,10 @@
 -- What a rule that is found says of all rules.
-use Rattle.std.proofs.Common.{◌≡◌, ℕ, ◌&&◌, ◌||◌, IsTrue, Bool, true, false, cond, List, [], ◌∷◌, find, is_some, slice_get, Option, Some, None, refl}
+use Rattle.std.proofs.Common.{◌≡◌, ℕ, ◌&&◌, IsTrue, Bool, false, List, slice_get, Option, Some, None, refl}
 use Rattle.std.specs.List.{list_any}
 use Rattle.std.proofs.lemmas.List.Folds.{list_any_at}
 use Rattle.std.proofs.lemmas.Option.{slice_get_within, get_or_from_slice_get}
 use Rattle.flowspace.specs.declared.rules.Rule.{Rule}
 use Rattle.action_check.specs.ActionRules.{passes_at}
-
-by_first : {A : Type 0} (b : Bool) (x : A) (o : Option A) (rest : Bool) → is_some o ≡ rest → is_some (cond b (Some x) o) ≡ (b || rest)
-by_first true x o rest e = refl
-by_first false x o rest e = e
-
--- one is found where some element passes the test
-pub is_some-find : {A : Type 0} (p : A → Bool) (xs : List A) → is_some (find p xs) ≡ list_any p xs
-is_some-find p [] = refl
-is_some-find p (x ∷ xs) = by_first (p x) x (find p xs) (list_any p xs) (is_some-find p xs)
 
 of_one : (rules : List Rule) (place : ℕ) (p q : Rule → Bool) (o : Option Rule) → slice_get rules place ≡ o → IsTrue (elim o [ None ↦ false | Some rule ↦ p rule ]) → IsTrue (elim o [ None ↦ false | Some rule ↦ q rule ])
     → IsTrue (list_any (λ rule. p rule && q rule) rules)

@@ -1,6 +1,6 @@
 //! The rules by which each action of a list is tested.
 
-ghost use Rattle.std.specs.Prelude.{◌≡◌, ◌&&◌, IsTrue, find, is_some, option_copied};
+ghost use Rattle.std.specs.Prelude.{◌≡◌, ◌&&◌, IsTrue, is_some};
 ghost use Rattle.std.specs.List.{list_any};
 ghost use Rattle.of10_model.specs.Pattern.{has};
 ghost use Rattle.of10_model.specs.Inclusion.{includes_of, any_in_port};
@@ -135,38 +135,16 @@ fn has_header_at(rules: &[Rule], place: u16, header: &Header12, port: u16) -> bo
     }
 }
 
-/// The place of the first of some rules that has all of the cover.
-fn cover_among<'a>(rules: &[Rule], places: &'a [u16], cover: &Match, port: u16) -> Option<&'a u16>
-    ensures { option_copied result ≡ find (passes_at (λ rule. includes_of (counted port rule.pattern) cover.now) rules.now) places.now }
-{
-    places
-        .iter()
-        .find(|place| covers_at(rules, **place, cover, port))
-}
-
-fn header_among<'a>(
-    rules: &[Rule],
-    places: &'a [u16],
-    header: &Header12,
-    port: u16,
-) -> Option<&'a u16>
-    ensures { option_copied result ≡ find (passes_at (λ rule. has (counted port rule.pattern) header.now) rules.now) places.now }
-{
-    places
-        .iter()
-        .find(|place| has_header_at(rules, **place, header, port))
-}
-
 fn cover_place(policy: &SwitchPolicy, slot: u8, cover: &Match, port: u16) -> Option<u16>
     ensures { is_some result ≡ list_any (λ rule. is_written_by slot rule && includes_of (counted port rule.pattern) cover.now) policy.now.rules }
 {
-    cover_among(policy.rules(), policy.write_places(slot), cover, port).copied()
+    policy.first_cover(slot, cover, sees_in_port(port))
 }
 
 fn header_place(policy: &SwitchPolicy, slot: u8, header: &Header12, port: u16) -> Option<u16>
     ensures { is_some result ≡ list_any (λ rule. is_written_by slot rule && has (counted port rule.pattern) header.now) policy.now.rules }
 {
-    header_among(policy.rules(), policy.write_places(slot), header, port).copied()
+    policy.first_written(slot, header, sees_in_port(port))
 }
 
 /// Whether some rule by which the slice at the slot writes has the header, by whichever port the packet came

@@ -9,6 +9,7 @@ pub mod Accepting
 pub mod Overlapping
 pub mod Owning
 pub mod Placing
+pub mod Covering
 pub mod Faulty
 pub mod Naming
 pub mod Improper

@@ -1,5 +1,5 @@
 -- The places of the rules that a slice writes, and the ports from which they take packets.
-use Rattle.std.proofs.Common.{◌≡◌, ℕ, ◌+◌, ◌<◌, ◌≤◌, ◌&&◌, ◌||◌, Bool, true, false, cond, List, [], ◌∷◌, ◌++◌, length, get_or, take, map, filter, slice_get, All, IfSome, IfNone, Bor, is_some, nat_lt, Option, Some, None, refl, sym, ap, subst, ◌∙◌, arith}
+use Rattle.std.proofs.Common.{◌≡◌, ℕ, ◌+◌, ◌<◌, ◌≤◌, ◌&&◌, Bool, true, false, cond, List, [], ◌∷◌, ◌++◌, length, get_or, take, map, filter, slice_get, All, IfSome, IfNone, Bor, is_some, nat_lt, Option, Some, None, refl, sym, ap, subst, ◌∙◌, arith}
 use Rattle.std.proofs.lemmas.Bool.{ltb-true, ltb-false}
 use Rattle.std.specs.List.{list_any}
 use Rattle.std.proofs.lemmas.List.{append-nil, map-append, length-map, get_or-map}
@@ -73,36 +73,6 @@ some_at None xs i P within at each = tt
 some_at (Some x) xs i P within at each = subst P (sym at) (each x.now (ltb-true i (length xs) (sym within)))
 
 -- ---- what the places say of the rules that a slice writes
-
-any_first : {A : Type 0} (q : A → Bool) (x : A) (xs : List A) (b : Bool) → list_any q (cond b (x ∷ xs) xs) ≡ ((b && q x) || list_any q xs)
-any_first q x xs true = refl
-any_first q x xs false = refl
-
-any_filtered : {A : Type 0} (p q : A → Bool) (xs : List A) → list_any q (filter p xs) ≡ list_any (λ x. p x && q x) xs
-any_filtered p q [] = refl
-any_filtered p q (x ∷ xs) = any_first q x (filter p xs) (p x) ∙ ap (λ b. (p x && q x) || b) (any_filtered p q xs)
-
--- the rule at a place passes a test
-abbrev pub passes_at : {A : Type 0} → (A → Bool) → List A → ℕ → Bool
-passes_at q xs place = elim (slice_get xs place) [ None ↦ false | Some x ↦ q x ]
-
-some_passes : {A : Type 0} (q : A → Bool) (xs : List A) → list_any (λ (o : Option A). elim o [ None ↦ false | Some x ↦ q x ]) (map Some xs) ≡ list_any q xs
-some_passes q [] = refl
-some_passes q (x ∷ xs) = ap (λ b. q x || b) (some_passes q xs)
-
-any_mapped : {A B : Type 0} (q : B → Bool) (f : A → B) (xs : List A) → list_any q (map f xs) ≡ list_any (λ x. q (f x)) xs
-any_mapped q f [] = refl
-any_mapped q f (x ∷ xs) = ap (λ b. q (f x) || b) (any_mapped q f xs)
-
--- a test of the rules at the places finds what the same test of all rules that the slice writes does
-pub any_at_places : (rules : List Rule) (slot : ℕ) (places : List ℕ) (q : Rule → Bool) → AreWritePlaces rules slot places
-    → list_any (passes_at q rules) places ≡ list_any (λ rule. is_written_by slot rule && q rule) rules
-any_at_places rules slot places q at_places =
-    let test : Option Rule → Bool = λ o. elim o [ None ↦ false | Some x ↦ q x ] in
-    sym (any_mapped test (slice_get rules) places)
-    ∙ ap (list_any test) at_places
-    ∙ some_passes q (filter (is_written_by slot) rules)
-    ∙ any_filtered (is_written_by slot) q rules
 
 -- there are as many places as such rules
 pub places_length : (rules : List Rule) (slot : ℕ) (places : List ℕ) → AreWritePlaces rules slot places → length places ≡ length (filter (is_written_by slot) rules)

@@ -4,13 +4,13 @@ ghost use Rattle.flowspace.specs.Rules.{is_written_by};
 ghost use Rattle.flowspace.specs.Order.{first_of, first_rule, writer_of, readers_of};
 ghost use Rattle.flowspace.specs.Policies.{IsSwitchPolicy};
 ghost use Rattle.flowspace.specs.Owners.{owner_of_match, is_rule_at, has_port, HasPort};
-ghost use Rattle.flowspace.specs.Places.{IsWritesOf};
+ghost use Rattle.flowspace.specs.Places.{IsWritesOf, first_cover, first_written};
 
 use crate::owners::{is_in_port, owner_of};
 use crate::rules::Rule;
 use crate::slices::Slice;
 use crate::writes::{SliceWrites, writes_by_slot};
-use of10_match::{Header12, Match};
+use of10_match::{Header12, Match, exact_pattern};
 use std::alloc::{AllocError, Global};
 use std::marker::Model;
 
@@ -149,6 +149,28 @@ impl SwitchPolicy {
         match self.writes_of(slot) {
             Some(own) => &own.places,
             None => &[],
+        }
+    }
+
+    /// The place of the first rule that the slice writes and whose match has each header of `m`; `None` where
+    /// there is none. Where the port of entry isn't counted each rule takes any.
+    pub fn first_cover(&self, slot: u8, m: &Match, by_port: bool) -> Option<u16>
+        ensures { result ≡ first_cover self.now.rules slot by_port m.now }
+    {
+        match self.writes_of(slot) {
+            Some(own) => own.index(by_port).least(m.pattern()),
+            None => None,
+        }
+    }
+
+    /// The place of the first rule that the slice writes and whose match has the header; `None` where there is
+    /// none. Where the port of entry isn't counted each rule takes any.
+    pub fn first_written(&self, slot: u8, h: &Header12, by_port: bool) -> Option<u16>
+        ensures { result ≡ first_written self.now.rules slot by_port h.now }
+    {
+        match self.writes_of(slot) {
+            Some(own) => own.index(by_port).least(&exact_pattern(h)),
+            None => None,
         }
     }
 }

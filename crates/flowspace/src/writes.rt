@@ -1,11 +1,16 @@
-//! Which rules a slice writes on a switch, and from which ports they take packets, found once.
+//! Which rules a slice writes on a switch, from which ports they take packets and what they include, found
+//! once.
 
-ghost use Rattle.std.specs.Prelude.{ℕ, ◌≡◌, ◌<◌, ◌≤◌, length, IfOk};
+ghost use Rattle.std.specs.Prelude.{ℕ, ◌≡◌, ◌<◌, ◌≤◌, if◌then◌else◌, length, IfOk};
 ghost use Rattle.std.specs.List.{list_any};
+ghost use Rattle.of10_model.specs.Normal.{IsNormal};
 ghost use Rattle.flowspace.specs.Owners.{is_rule_at};
-ghost use Rattle.flowspace.specs.Places.{AreWritePlaces, takes_at, IsWritesOf, AreWrites};
+ghost use Rattle.flowspace.specs.Places.{AreWritePlaces, takes_at, counted, IsCoverIndex, IsWritesOf, AreWrites};
 
 use crate::rules::{Rule, is_written_by};
+use of10_match::Match;
+use of10_model::Pattern;
+use pattern_index::PatternIndex;
 use std::alloc::{AllocError, Global};
 use std::collections::BTreeSet;
 
@@ -24,6 +29,10 @@ pub(crate) struct SliceWrites {
     /// The places of the slice's write rules, in rule order.
     pub(crate) places: Vec<u16>,
     pub(crate) ports: EntryPorts,
+    /// The patterns of these rules, by their places.
+    pub(crate) covers: PatternIndex,
+    /// The same, where each takes any in_port.
+    pub(crate) covers_aside: PatternIndex,
 }
 
 /// The places of the rules that the slice writes.
@@ -58,6 +67,41 @@ fn entry_ports(alloc: Global, rules: &[Rule], slot: usize) -> Result<EntryPorts,
     Ok(EntryPorts::Named(named))
 }
 
+fn counted(m: &Match, by_port: bool) -> Pattern
+    ensures value { result ≡ counted by_port m.now }
+    ensures normal { IsNormal m.now }
+{
+    let pattern = *m.pattern();
+    if by_port {
+        pattern
+    } else {
+        Pattern {
+            in_port: None,
+            ..pattern
+        }
+    }
+}
+
+/// The patterns of the rules that the slice writes, by their places; each takes any in_port where that isn't
+/// counted.
+fn cover_index(
+    alloc: Global,
+    rules: &[Rule],
+    slot: usize,
+    by_port: bool,
+) -> Result<PatternIndex, AllocError>
+    requires { length rules.now ≤ 2048 }
+    ensures { IfOk result (IsCoverIndex by_port rules.now slot) }
+{
+    let mut index = PatternIndex::new(alloc);
+    for (place, rule) in rules.iter().enumerate() {
+        if is_written_by(rule, slot) {
+            index.put(alloc, &counted(&rule.pattern, by_port), place as u16)?;
+        }
+    }
+    Ok(index)
+}
+
 fn writes_of(alloc: Global, rules: &[Rule], slot: usize) -> Result<SliceWrites, AllocError>
     requires { length rules.now ≤ 2048 }
     ensures { IfOk result (λ own. IsWritesOf rules.now slot own) }
@@ -65,6 +109,8 @@ fn writes_of(alloc: Global, rules: &[Rule], slot: usize) -> Result<SliceWrites, 
     Ok(SliceWrites {
         places: write_places(alloc, rules, slot)?,
         ports: entry_ports(alloc, rules, slot)?,
+        covers: cover_index(alloc, rules, slot, true)?,
+        covers_aside: cover_index(alloc, rules, slot, false)?,
     })
 }
 
@@ -92,6 +138,19 @@ impl EntryPorts {
         match self {
             EntryPorts::Every => true,
             EntryPorts::Named(ports) => ports.contains(&port),
+        }
+    }
+}
+
+impl SliceWrites {
+    /// The index in which in_port is counted, or the other.
+    pub(crate) fn index(&self, by_port: bool) -> &PatternIndex
+        ensures { result.now ≡ (if by_port then self.now.covers else self.now.covers_aside) }
+    {
+        if by_port {
+            &self.covers
+        } else {
+            &self.covers_aside
         }
     }
 }

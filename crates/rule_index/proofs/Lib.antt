@@ -1,4 +1,1 @@
-pub mod Keys
-pub mod Tables
 pub mod Indexes
-pub mod Putting

@@ -1,12 +1,14 @@
--- The rules of a switch in groups. All of this is the proxy's own rule.
-use Rattle.std.specs.Prelude.{ℕ, ◌≤◌, ◌≡◌, true, is_some, List, slice_get, Some}
-use Rattle.of10_model.specs.Normal.{IsNormal}
+-- The rules of a switch in indexes. All of this is the proxy's own rule.
+use Rattle.std.specs.Prelude.{List}
+use Rattle.of10_model.specs.declared.pattern.Pattern.{Pattern}
+use Rattle.of10_model.specs.Pattern.{has}
+use Rattle.of10_model.specs.Exact.{exact_of}
+use Rattle.pattern_index.specs.declared.index.PatternIndex.{PatternIndex}
+use Rattle.pattern_index.specs.Places.{FindsFirst}
 use Rattle.flowspace.specs.declared.rules.Rule.{Rule}
-use Rattle.rule_index.specs.declared.group.Group.{Group}
-use Rattle.rule_index.specs.Groups.{IsTable}
+use Rattle.flowspace.specs.Owners.{is_owned_by}
 
--- groups of the rules from a place on, and of those among them that are written
-pub record IsIndex (rules : List Rule) (from : ℕ) (all written : List Group) : Type 0 where
-  pub in_all : IsTable (λ rule. true) rules from all
-  pub in_written : IsTable (λ rule. is_some rule.writer) rules from written
-  pub normal : (place : ℕ) (rule : Rule) → from ≤ place → slice_get rules place ≡ Some rule → IsNormal rule.pattern
+-- one index finds the first rule that has a header, and another the first that is written and includes a match
+pub record IsIndex (rules : List Rule) (all written : PatternIndex) : Type 0 where
+  pub in_all : FindsFirst exact_of (λ (rule : Rule) h. has rule.pattern h) rules all
+  pub in_written : FindsFirst (λ (m : Pattern). m) (λ rule m. is_owned_by m rule) rules written

@@ -1,3 +1,1 @@
-pub mod Keys
-pub mod Groups
 pub mod Indexes

@@ -1,13 +1,12 @@
-ghost use Rattle.std.specs.Prelude.{◌≡◌, is_some, slice_get, option_and_then, IfOk, OnOk};
-ghost use Rattle.std.specs.Bool.{MatchBool};
-ghost use Rattle.of10_model.specs.Normal.{IsNormal};
+ghost use Rattle.std.specs.Prelude.{◌≡◌, ◌+◌, ◌<◌, ◌≤◌, length, slice_get, take, slice_index_or, option_and_then, List, IfOk, OnOk};
 ghost use Rattle.flowspace.specs.Order.{first_of};
 ghost use Rattle.flowspace.specs.Owners.{owner_of_match};
-ghost use Rattle.rule_index.specs.Groups.{HavePut};
+ghost use Rattle.flowspace.specs.declared.rules.Rule.{Rule as RuleView};
+ghost use Rattle.rule_index.specs.Indexes.{IsIndex};
 
-use crate::group::{Group, least_of, put};
 use flowspace::{Rule, SwitchPolicy};
 use of10_match::{Header12, Match, exact_pattern};
+use pattern_index::PatternIndex;
 use std::alloc::{AllocError, Global};
 use std::marker::Model;
 
@@ -15,9 +14,9 @@ use std::marker::Model;
 #[derive(Debug, Drop)]
 pub struct RuleIndex {
     rules: Vec<Rule>,
-    all: Vec<Group>,
+    all: PatternIndex,
     /// Of the rules that a slice writes.
-    written: Vec<Group>,
+    written: PatternIndex,
 }
 
 impl Model for RuleIndex {
@@ -29,25 +28,23 @@ impl Model for RuleIndex {
 
     ghost view = { λ index. index.rules.items };
 
-    ghost invariant = { λ index. IsIndex index.rules.items 0 index.all.items index.written.items };
+    ghost invariant = { λ index. IsIndex index.rules.items index.all index.written };
 }
 
-/// Puts a rule before those that are in the groups.
+/// Puts a rule behind those that were put before.
 fn put_rule(
     alloc: Global,
-    all: &mut Vec<Group>,
-    written: &mut Vec<Group>,
+    all: &mut PatternIndex,
+    written: &mut PatternIndex,
     rule: &Rule,
     place: u16,
 ) -> Result<(), AllocError>
-    ensures all { OnOk result (HavePut rule.now.pattern place all.old.items all.new.items) }
-    ensures written { OnOk result (MatchBool (is_some rule.now.writer) (HavePut rule.now.pattern place written.old.items written.new.items) (written.new.items ≡ written.old.items)) }
-    ensures normal { IsNormal rule.now.pattern }
+    ensures { OnOk result ((rules : List RuleView) → place < length rules → slice_index_or rules place rule.now ≡ rule.now → IsIndex (take place rules) all.old written.old → IsIndex (take (place + 1) rules) all.new written.new) }
 {
     let m = rule.pattern.pattern();
-    put(alloc, all, m, place)?;
+    all.put(alloc, m, place)?;
     if rule.writer.is_some() {
-        put(alloc, written, m, place)?;
+        written.put(alloc, m, place)?;
     }
     Ok(())
 }
@@ -61,19 +58,26 @@ fn writer_at(rules: &[Rule], place: u16) -> Option<u8>
     }
 }
 
+/// The index of all rules, and that of those that a slice writes.
+fn indexes_of(alloc: Global, rules: &[Rule]) -> Result<(PatternIndex, PatternIndex), AllocError>
+    requires { length rules.now ≤ 2048 }
+    ensures { IfOk result (λ both. IsIndex rules.now both.0 both.1) }
+{
+    let mut all = PatternIndex::new(alloc);
+    let mut written = PatternIndex::new(alloc);
+    for (place, rule) in rules.iter().enumerate() {
+        put_rule(alloc, &mut all, &mut written, rule, place as u16)?;
+    }
+    Ok((all, written))
+}
+
 impl RuleIndex {
     /// The index of a switch's rules.
     pub fn build(alloc: Global, policy: &SwitchPolicy) -> Result<RuleIndex, AllocError>
         ensures { IfOk result (λ index. index ≡ policy.now.rules) }
     {
         let rules = Vec::from_slice(alloc, policy.rules())?;
-        let mut all = Vec::new(alloc);
-        let mut written = Vec::new(alloc);
-        for count in 0..rules.len() {
-            // The last rule is put first, so that of equal ones the first stays.
-            let place = rules.len() - 1 - count;
-            put_rule(alloc, &mut all, &mut written, &rules[place], place as u16)?;
-        }
+        let (all, written) = indexes_of(alloc, &rules)?;
         Ok(RuleIndex {
             rules,
             all,
@@ -85,7 +89,7 @@ impl RuleIndex {
     pub fn first(&self, h: &Header12) -> Option<u16>
         ensures { result ≡ first_of self.now h.now }
     {
-        least_of(&self.all, &exact_pattern(h))
+        self.all.least(&exact_pattern(h))
     }
 
     /// The slot of the slice that has a rule to write each header of the match; `None` where no slice
@@ -93,7 +97,7 @@ impl RuleIndex {
     pub fn owner_of(&self, m: &Match) -> Option<u8>
         ensures { result ≡ owner_of_match self.now m.now }
     {
-        match least_of(&self.written, m.pattern()) {
+        match self.written.least(m.pattern()) {
             Some(place) => writer_at(&self.rules, place),
             None => None,
         }

@@ -1,12 +1,9 @@
-use Rattle.std.proofs.Common.{◌∙◌}
-use Rattle.of10_model.specs.Pattern.{has}
-use Rattle.flowspace.proofs.Placing.{any_at_places}
-use Rattle.action_check.specs.ActionRules.{passes_at, counted}
-use Rattle.action_check.proofs.Found.{is_some-find}
+use Rattle.std.proofs.Common.{ap, is_some, ◌∙◌}
+use Rattle.pattern_index.proofs.Firsts.{is_some-position}
+use Rattle.flowspace.specs.Places.{covers_header}
 use Rattle.action_check.proofs.action_rules.header_place.Goals as goal
 
 pub returns : goal.returns
 returns c =
-    rw (c.copied.ensures, c.header_among.ensures, c.rules.ensures.value)
-    (is_some-find (passes_at (λ rule. has (counted c.args.port rule.pattern) c.args.header.now) c.args.policy.now.rules) c.write_places.result.now
-    ∙ any_at_places c.args.policy.now.rules c.args.slot c.write_places.result.now (λ rule. has (counted c.args.port rule.pattern) c.args.header.now) c.write_places.ensures.value)
+    rw c.sees_in_port.ensures at
+    (ap is_some c.first_written.ensures ∙ is_some-position (λ rule. covers_header c.args.slot c.sees_in_port.result rule c.args.header.now) c.args.policy.now.rules)

@@ -1,0 +1,4 @@
+pub mod Keys
+pub mod Putting
+pub mod Least
+pub mod Firsts

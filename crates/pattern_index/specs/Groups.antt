@@ -1,0 +1,31 @@
+-- Patterns by the fields that they constrain. All of this is the proxy's own rule.
+use Rattle.std.specs.Prelude.{ℕ, ◌≡◌, if◌then◌else◌, List, [], ◌∷◌, ◌++◌, ◌<◌, ◌⊎◌, length, slice_index_or, slice_set, fold, min, Option, Some, None}
+use Rattle.std.specs.BTreeMap.{get}
+use Rattle.of10_model.specs.declared.pattern.Pattern.{Pattern}
+use Rattle.of10_model.specs.Inclusion.{includes_of}
+use Rattle.pattern_index.specs.declared.group.Group.{Group}
+use Rattle.pattern_index.specs.Keys.{key_of, key_cmp}
+
+-- what a group has for a match: the place that is kept for its constraints on the fields of the group
+abbrev pub finds : Group → Pattern → Option ℕ
+finds group m = get key_cmp group.places (key_of group.shape m)
+
+-- the lesser of two places, of which either may be missing
+abbrev pub lesser : Option ℕ → Option ℕ → Option ℕ
+lesser None b = b
+lesser (Some x) None = Some x
+lesser (Some x) (Some y) = Some (min x y)
+
+-- the least place that any group has for a match
+abbrev pub least_of : List Group → Pattern → Option ℕ
+least_of groups m = fold (λ least group. lesser least (finds group m)) None groups
+
+-- a group that had these places, or none, and in which a pattern was put
+abbrev pub HasPut : Pattern → ℕ → (Pattern → Option ℕ) → Group → Type 0
+HasPut r place before after = (m : Pattern) → finds after m ≡ (if includes_of r m then lesser (Some place) (before m) else before m)
+
+-- groups in one of which a pattern was put, or which got a group of it alone
+abbrev pub HavePut : Pattern → ℕ → List Group → List Group → Type 0
+HavePut r place old new =
+    ((at : ℕ) × (group : Group) × (after : Group) × (at < length old) × (slice_index_or old at group ≡ group) × HasPut r place (finds group) after × (new ≡ slice_set old at after))
+    ⊎ ((after : Group) × HasPut r place (λ m. None) after × (new ≡ old ++ after ∷ []))

@@ -1,0 +1,10 @@
+//! Patterns by the fields that they constrain, so that the least place of those that include a match is
+//! looked up. This is this proxy's own rule.
+#![tactic(auto)]
+
+mod group;
+mod index;
+mod key;
+mod shape;
+
+pub use index::PatternIndex;

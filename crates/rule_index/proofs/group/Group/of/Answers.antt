@@ -1,7 +1,0 @@
-use Rattle.rule_index.proofs.Putting.{put_first}
-use Rattle.rule_index.proofs.group.Group.of.Goals as goal
-
-pub returns : goal.returns
-returns c =
-    put_first c.args.m.now c.args.place c.shape_of-shape.result c.key_of.result c.new-places.result c.insert.new.self c.shape_of-shape.ensures c.key_of.ensures c.new-places.ensures.empty
-    c.in_ok-insert.ensures.updates.0
