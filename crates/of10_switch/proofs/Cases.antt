@@ -1,5 +1,5 @@
 -- What a switch's message says, case by case.
-use Rattle.std.proofs.Common.{◌≡◌, ℕ, ◌==◌, not, Bool, true, false, if◌then◌else◌, List, length, drop, refl, Result, Ok, Err}
+use Rattle.std.proofs.Common.{◌≡◌, ℕ, ◌==◌, not, Bool, true, false, if◌then◌else◌, List, length, drop, true≢false, sym, refl, Result, Ok, Err}
 use Rattle.of10_model.proofs.Results.{either}
 use Rattle.of10_action.specs.declared.fault.WireFault.{WireFault}
 use Rattle.of10_action.specs.declared.fault.WireFault.TheVariants.{Length}
@@ -76,9 +76,13 @@ module _ (P : Result SwitchMessage Unread → Type 0) (bytes : List ℕ) (holds 
   of_switch bad = either P (is_bad bytes) (Err BadLength) _ bad of_good
 
 -- a message of a bad length says nothing else
-pub bad_read : (bytes : List ℕ) → is_bad bytes ≡ true → read_switch bytes ≡ Err BadLength
-unfolding read_switch
-bad_read bytes bad = rw bad refl
+pub bad_read : (read : Result SwitchMessage Unread) → has_bad_length read ≡ true → read ≡ Err BadLength
+bad_read (Err BadLength) bad = refl
+bad_read (Err NoCommonVersion) bad = absurd (true≢false (sym bad))
+bad_read (Err BadVersion) bad = absurd (true≢false (sym bad))
+bad_read (Err BadType) bad = absurd (true≢false (sym bad))
+bad_read (Err (BadForm fault)) bad = absurd (true≢false (sym bad))
+bad_read (Ok message) bad = absurd (true≢false (sym bad))
 
 -- and no other message is read so
 pub bad_length-read : (bytes : List ℕ) → has_bad_length (read_switch bytes) ≡ is_bad bytes
