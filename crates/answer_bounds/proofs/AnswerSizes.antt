@@ -1,5 +1,5 @@
 -- What is answered to an item is at most one message, unless it is the end of statistics, and what is put for the switch is small. A new kind of answer is a case more of `answer_size`.
-use Rattle.std.proofs.Common.{◌≡◌, ℕ, ◌+◌, ◌-◌, ◌^◌, ◌%◌, ◌==◌, ◌&&◌, ◌≤◌, not, Bool, true, false, if◌then◌else◌, List, [], ◌∷◌, ◌++◌, map, length, take, drop, filter, suc, append-nil, true≢false, refl, subst, Option, Some, None, option_map, arith}
+use Rattle.std.proofs.Common.{◌≡◌, ℕ, ◌+◌, ◌-◌, ◌^◌, ◌%◌, ◌==◌, ◌&&◌, ◌≤◌, not, Bool, true, false, if◌then◌else◌, List, [], ◌∷◌, ◌++◌, map, length, take, filter, suc, append-nil, true≢false, refl, sym, subst, Option, Some, None, Ok, option_map, arith}
 use Rattle.std.specs.List.{All}
 use Rattle.std.proofs.lemmas.Bool.{ltb-false}
 use Rattle.std.proofs.lemmas.List.{length-take}
@@ -12,8 +12,13 @@ use Rattle.of10_flow.specs.declared.flow_removed.FlowRemoved.{FlowRemoved}
 use Rattle.of10_flow.specs.declared.packet_out.PacketOut.{PacketOut}
 use Rattle.of10_flow.specs.PacketOuts.{spell_packet_out}
 use Rattle.of10_flow.specs.FlowMods.{spell_flow_mod}
+use Rattle.of10_message.specs.declared.controller.FromController.TheVariants as said
 use Rattle.of10_message.specs.Heads.{xid_of}
-use Rattle.of10_message.specs.Replies.{port_of_queues}
+use Rattle.of10_message.specs.Controller.{read_controller}
+use Rattle.of10_config.specs.declared.queues.QueuesQuestion.{QueuesQuestion}
+use Rattle.of10_config.specs.Queues.{port_of_queues, spell_queues_request}
+use Rattle.of10_config.proofs.Again.{question_passed}
+use Rattle.of10_message.proofs.Cases.{queues_as_read}
 use Rattle.of10_stats.specs.declared.request.StatsRequest.{StatsRequest}
 use Rattle.of10_stats.specs.Requests.{spell_request}
 use Rattle.stats_filter.specs.Asking.{asked_as, question_for}
@@ -118,6 +123,11 @@ short_question request xid question is = by_sent (asked_as request) is
 
 -- ---- messages of the controller
 
+-- a question for queues is as long as the message with which it came
+short-queues : (xid : ℕ) (message : List ℕ) (queues : QueuesQuestion) → IsShort message → read_controller message ≡ Ok (said.QueueGetConfigRequest queues) → IsShort (spell_queues_request xid queues)
+short-queues xid message queues short read =
+    subst IsShort (sym (question_passed xid message queues (queues_as_read message queues read))) (short-behind QUEUE_GET_CONFIG_REQUEST xid message short)
+
 message_size : (s : Settings) (view : List Item) (past : List Past) (moment : ℕ) (message : List ℕ) → IsShort message → HasFewPorts view → IsSmall (message_answer s view past moment message)
 message_size s view past moment message short ports = message_holds (λ (ends : Bool) (a : Answer). IsSmall a) s view past moment message (record {
   bad = small_dismissal (error_for bad_length message) (short-error (xid_of message) bad_length.0 bad_length.1 message);
@@ -132,7 +142,7 @@ message_size s view past moment message short ports = message_holds (λ (ends : 
   tells_table = small_told (table_reply (length (ground_of s view past).booked) s.quota (xid_of message)) (short-table (length (ground_of s view past).booked) s.quota (xid_of message));
   asks_statistics = λ request question read may is. small_asking question (short_question request (ground_of s view past).xid question is);
   asks_barrier = λ read. small_asking (message_of BARRIER_REQUEST (ground_of s view past).xid []) (short-message BARRIER_REQUEST (ground_of s view past).xid [] (omega arith));
-  asks_queues = λ port read own. small_asking (message_of QUEUE_GET_CONFIG_REQUEST (ground_of s view past).xid (drop 8 message)) (short-behind QUEUE_GET_CONFIG_REQUEST (ground_of s view past).xid message short);
+  asks_queues = λ queues read own. small_asking (spell_queues_request (ground_of s view past).xid queues) (short-queues (ground_of s view past).xid message queues short read);
 })
 
 -- ---- packets

@@ -13,7 +13,7 @@ use Rattle.of10_message.specs.Heads.{xid_of}
 use Rattle.of10_message.specs.declared.fault.Unread.{Unread}
 use Rattle.of10_message.specs.declared.fault.Unread.TheVariants.{BadLength}
 use Rattle.of10_message.specs.Errors.{ErrorMessage, pair_in}
-use Rattle.of10_message.specs.Replies.{QueuesMessage, read_queues}
+use Rattle.of10_config.specs.Queues.{QueuesMessage, read_queues}
 use Rattle.of10_switch.specs.Messages as says
 use Rattle.of10_switch.specs.Messages.{SwitchMessage, read_switch}
 use Rattle.of10_switch.proofs.Cases.{of_switch}
@@ -200,7 +200,7 @@ said_short message short = of_switch (λ said. IfOk said IsShortSaid) message (r
   echo_reply = tt;
   vendor = tt;
   features = λ features is. tt;
-  config = tt;
+  config = λ config is. tt;
   packet = λ packet is. if_read IsShortPacket (read_packet_in message) packet is (packet_short message short);
   removal = λ entry is. tt;
   status = λ status is. if_read IsWhole (read_port_status message) status is (read_status message);

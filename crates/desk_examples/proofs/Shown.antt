@@ -25,7 +25,7 @@ use Rattle.of10_flow.specs.FlowRemoveds.{read_flow_removed, spell_flow_removed}
 use Rattle.of10_message.specs.Controller.{read_controller, read_typed}
 use Rattle.of10_message.specs.Errors.{read_error, pair_in}
 use Rattle.of10_switch.specs.Messages.{read_switch, read_sent}
-use Rattle.of10_message.specs.Replies.{read_queues}
+use Rattle.of10_config.specs.Queues.{read_queues}
 use Rattle.action_check.specs.ActionRules.{code_of}
 use Rattle.flowmod_expand.specs.Messages.{piece_message}
 use Rattle.rate_bucket.specs.Rates.{has_room, is_conforming, accepted, is_accepted}

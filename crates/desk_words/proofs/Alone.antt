@@ -1,7 +1,6 @@
 -- Before the switch tells what it is a slice sees nothing; and what a slice is sent over a history is what it is sent alone over its view.
 use Rattle.std.proofs.Common.{◌≡◌, ℕ, Bool, true, false, cond, if◌then◌else◌, List, [], ◌∷◌, ◌++◌, refl, ap, ap₂, sym, ◌∙◌, true≢false, Option, Some, None}
 use Rattle.of10_model.proofs.Results.{either_none}
-use Rattle.of10_ctl.specs.Frames.{is_bad}
 use Rattle.of10_port.specs.declared.features.Features.{Features}
 use Rattle.flowspace.specs.Policies.{PolicyView}
 use Rattle.slice_words.specs.Items.{Settings, Item}
@@ -12,7 +11,7 @@ use Rattle.desk_words.specs.declared.event.Event.TheVariants.{SwitchUp, SwitchMs
 use Rattle.desk_words.specs.declared.event.Timed.{Timed}
 use Rattle.desk_words.specs.declared.phase.Phase.{Phase}
 use Rattle.desk_words.specs.declared.phase.Phase.TheVariants.{Fresh, Begun, Opened, Gone}
-use Rattle.desk_words.specs.Openings.{features_told, phase_after, phase_of, opening_with, opening_after, opening_of, Switch, switch_of}
+use Rattle.desk_words.specs.Openings.{ends_switch, features_told, phase_after, phase_of, opening_with, opening_after, opening_of, Switch, switch_of}
 use Rattle.desk_words.specs.Histories.{is_slot, settings_at, Side, side_start, items_of, phase_items, opening_items, with_shown, side_of, view_of, is_open}
 use Rattle.desk_words.specs.Laws.{IsAlone, AreAlike, IsBlindBefore}
 
@@ -44,7 +43,7 @@ told_after Fresh told SwitchDown before opened = absurd (true≢false (sym opene
 told_after Fresh told (SliceUp slot) before opened = absurd (true≢false (sym opened))
 told_after Fresh told (SliceMsg slot message) before opened = absurd (true≢false (sym opened))
 told_after Fresh told (SliceDown slot) before opened = absurd (true≢false (sym opened))
-told_after Begun told (SwitchMsg message) before opened = told_first told message (told_begun (is_bad message) (features_told message) opened)
+told_after Begun told (SwitchMsg message) before opened = told_first told message (told_begun (ends_switch message) (features_told message) opened)
 told_after Begun told SwitchUp before opened = absurd (true≢false (sym opened))
 told_after Begun told SwitchDown before opened = absurd (true≢false (sym opened))
 told_after Begun told (SliceUp slot) before opened = absurd (true≢false (sym opened))

@@ -2,14 +2,13 @@
 use Rattle.std.proofs.Common.{◌≡◌, ◌&&◌, ◌||◌, not, Bool, true, false, if◌then◌else◌, List, [], ◌∷◌, refl, ap, sym, ◌∙◌, true≢false, is_some, Option, Some, None}
 use mathlib.Core.Bool.{or-true}
 use Rattle.std.specs.Option.{option_or}
-use Rattle.of10_ctl.specs.Frames.{is_bad}
 use Rattle.of10_port.specs.declared.features.Features.{Features}
 use Rattle.desk_words.specs.declared.event.Event.{Event}
 use Rattle.desk_words.specs.declared.event.Event.TheVariants.{SwitchUp, SwitchMsg, SwitchDown, SliceUp, SliceMsg, SliceDown}
 use Rattle.desk_words.specs.declared.event.Timed.{Timed}
 use Rattle.desk_words.specs.declared.phase.Phase.{Phase}
 use Rattle.desk_words.specs.declared.phase.Phase.TheVariants.{Fresh, Begun, Opened, Gone}
-use Rattle.desk_words.specs.Openings.{features_told, phase_after, phase_of, opening_after, opening_of}
+use Rattle.desk_words.specs.Openings.{ends_switch, features_told, phase_after, phase_of, opening_after, opening_of}
 use Rattle.desk_words.specs.Histories.{is_open}
 use Rattle.desk_words.specs.Verdicts.{is_fresh, is_ended, is_switch_up}
 use Rattle.desk_words.specs.Laws.{has_begun, is_last, has_ended, features_in_event, first_told, IsPhaseByEvents}
@@ -47,7 +46,7 @@ begun_message false (Some features) = all_four true false (Some features) Opened
 
 from_begun : (event : Event) → Goes true false None Begun None event
 from_begun SwitchUp = all_four true false None Begun None refl refl refl refl
-from_begun (SwitchMsg message) = begun_message (is_bad message) (features_told message)
+from_begun (SwitchMsg message) = begun_message (ends_switch message) (features_told message)
 from_begun SwitchDown = all_four true true None Gone None refl refl refl refl
 from_begun (SliceUp slot) = all_four true false None Begun None refl refl refl refl
 from_begun (SliceMsg slot message) = all_four true false None Begun None refl refl refl refl
@@ -59,7 +58,7 @@ opened_message false features other = all_four true false (Some features) Opened
 
 from_opened : (features : Features) (event : Event) → Goes true false (Some features) Opened (Some features) event
 from_opened features SwitchUp = all_four true false (Some features) Opened (Some features) refl refl refl refl
-from_opened features (SwitchMsg message) = opened_message (is_bad message) features (features_told message)
+from_opened features (SwitchMsg message) = opened_message (ends_switch message) features (features_told message)
 from_opened features SwitchDown = all_four true true (Some features) Gone (Some features) refl refl refl refl
 from_opened features (SliceUp slot) = all_four true false (Some features) Opened (Some features) refl refl refl refl
 from_opened features (SliceMsg slot message) = all_four true false (Some features) Opened (Some features) refl refl refl refl

@@ -4,14 +4,13 @@ use Rattle.std.proofs.lemmas.Bool.{and_right, eq-eqb, or_parts}
 use Rattle.std.proofs.lemmas.Option.{none-some}
 use Rattle.std.specs.List.{filter, list_any}
 use Rattle.of10_model.proofs.Results.{either, either_none}
-use Rattle.of10_ctl.specs.Frames.{is_bad}
 use Rattle.of10_flow.specs.declared.packet_in.PacketIn.{PacketIn}
 use Rattle.of10_flow.specs.declared.flow_removed.FlowRemoved.{FlowRemoved}
 use Rattle.of10_message.specs.Heads.{xid_of}
 use Rattle.of10_message.specs.declared.fault.Unread.{Unread}
 use Rattle.of10_message.specs.declared.fault.Unread.TheVariants.{BadLength}
 use Rattle.of10_message.specs.Errors.{ErrorMessage, pair_in}
-use Rattle.of10_message.specs.Replies.{QueuesMessage}
+use Rattle.of10_config.specs.Queues.{QueuesMessage}
 use Rattle.of10_switch.specs.Messages as says
 use Rattle.of10_switch.specs.Messages.{SwitchMessage, read_switch}
 use Rattle.of10_stats.specs.declared.reply.StatsPart.{StatsPart}
@@ -31,7 +30,7 @@ use Rattle.desk_words.specs.declared.event.Event.TheVariants.{SwitchUp, SwitchMs
 use Rattle.desk_words.specs.declared.event.Timed.{Timed}
 use Rattle.desk_words.specs.declared.phase.Phase.{Phase}
 use Rattle.desk_words.specs.declared.phase.Phase.TheVariants.{Fresh, Begun, Opened, Gone}
-use Rattle.desk_words.specs.Openings.{status_said, features_told, phase_after, phase_of, opening_with, opening_after, opening_of, rules_of, Switch, switch_of}
+use Rattle.desk_words.specs.Openings.{ends_switch, status_said, features_told, phase_after, phase_of, opening_with, opening_after, opening_of, rules_of, Switch, switch_of}
 use Rattle.desk_words.specs.Verdicts.{is_before}
 use Rattle.desk_words.specs.Histories.{is_slot, settings_at, Side, side_start, side_of, view_of, handed, shares_of, packet_items, packet_in_items, lost_items, holder, number_given, number_told, came_with, status_items, removed_items, is_reply_to, error_items, barrier_items, queues_items, own_entries, is_part, part_items, statistics_items, packet_said, said_items, message_items, opening_items, event_items, phase_items, items_of, is_open, is_slice_up}
 use Rattle.port_view.specs.KnownPorts.{is_kept}
@@ -233,13 +232,13 @@ not_early false early = true≢false (sym early)
 
 untold_after : (phase : Phase) (told : Option Features) (event : Event) → (is_before phase ≡ true → told ≡ None) → is_before (phase_after phase event) ≡ true → opening_after phase told event ≡ None
 untold_after Fresh told event before early = ap (λ t. opening_after Fresh t event) (before refl)
-untold_after Begun told (SwitchMsg message) before early = ap (λ t. opening_after Begun t (SwitchMsg message)) (before refl) ∙ early_told (is_bad message) (features_told message) early
+untold_after Begun told (SwitchMsg message) before early = ap (λ t. opening_after Begun t (SwitchMsg message)) (before refl) ∙ early_told (ends_switch message) (features_told message) early
 untold_after Begun told SwitchUp before early = ap (λ t. opening_after Begun t SwitchUp) (before refl)
 untold_after Begun told SwitchDown before early = absurd (true≢false (sym early))
 untold_after Begun told (SliceUp slot) before early = ap (λ t. opening_after Begun t (SliceUp slot)) (before refl)
 untold_after Begun told (SliceMsg slot message) before early = ap (λ t. opening_after Begun t (SliceMsg slot message)) (before refl)
 untold_after Begun told (SliceDown slot) before early = ap (λ t. opening_after Begun t (SliceDown slot)) (before refl)
-untold_after Opened told (SwitchMsg message) before early = absurd (not_early (is_bad message) early)
+untold_after Opened told (SwitchMsg message) before early = absurd (not_early (ends_switch message) early)
 untold_after Opened told SwitchUp before early = absurd (true≢false (sym early))
 untold_after Opened told SwitchDown before early = absurd (true≢false (sym early))
 untold_after Opened told (SliceUp slot) before early = absurd (true≢false (sym early))

@@ -3,7 +3,6 @@ use Rattle.std.specs.Prelude.{ℕ, ◌≡◌, ◌+◌, ◌==◌, ◌&&◌, ◌||
 use Rattle.std.specs.declared.alloc.AllocError.{AllocError}
 use Rattle.std.specs.List.{list_any, take_while, flat_map, range_with_len}
 use Rattle.std.specs.Option.{option_or}
-use Rattle.of10_ctl.specs.Frames.{is_bad}
 use Rattle.of10_port.specs.declared.features.Features.{Features}
 use Rattle.of10_port.specs.declared.status.PortStatus.{PortStatus}
 use Rattle.of10_ctl.specs.Streams.{frames_of}
@@ -21,7 +20,7 @@ use Rattle.desk_words.specs.declared.event.Timed.{Timed}
 use Rattle.desk_words.specs.declared.answer.Verdict.{Verdict}
 use Rattle.desk_words.specs.declared.answer.Taken.{Taken}
 use Rattle.desk_words.specs.declared.answer.Taken.TheVariants.{Message}
-use Rattle.desk_words.specs.Openings.{features_told, status_told, phase_of, opening_of, ports_after, switch_of}
+use Rattle.desk_words.specs.Openings.{ends_switch, features_told, status_told, phase_of, opening_of, ports_after, switch_of}
 use Rattle.desk_words.specs.Histories.{is_slot, settings_at, own_ports, own_features, side_start, side_of, view_of, is_open, is_slice_up}
 use Rattle.desk_words.specs.Sent.{sent_by, sent, lane_by}
 use Rattle.desk_words.specs.Verdicts.{is_fresh, is_ended, is_over, is_switch_up, closes}
@@ -38,7 +37,7 @@ has_begun h = list_any (λ timed. is_switch_up timed.event) h
 -- an event of the switch that ends its connection: it is gone, or sent a message of a bad length
 abbrev pub is_last : Event → Bool
 is_last SwitchDown = true
-is_last (SwitchMsg message) = is_bad message
+is_last (SwitchMsg message) = ends_switch message
 is_last event = false
 
 -- after the switch connected such an event came

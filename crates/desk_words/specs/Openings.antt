@@ -1,11 +1,10 @@
 -- How far a switch's connection is, and what the switch told, by a history: the events of a desk, newest first. Sections are those of OpenFlow 1.0.0.
-use Rattle.std.specs.Prelude.{ℕ, if◌then◌else◌, List, [], ◌∷◌, Option, Some, None, Result, Ok}
-use Rattle.of10_ctl.specs.Frames.{is_bad}
+use Rattle.std.specs.Prelude.{ℕ, Bool, if◌then◌else◌, List, [], ◌∷◌, Option, Some, None, Result, Ok}
 use Rattle.of10_port.specs.declared.features.Features.{Features}
 use Rattle.of10_port.specs.declared.status.PortStatus.{PortStatus}
 use Rattle.of10_message.specs.declared.fault.Unread.{Unread}
 use Rattle.of10_switch.specs.Messages as says
-use Rattle.of10_switch.specs.Messages.{SwitchMessage, read_switch}
+use Rattle.of10_switch.specs.Messages.{SwitchMessage, read_switch, has_bad_length}
 use Rattle.flowspace.specs.declared.rules.Rule.{Rule}
 use Rattle.flowspace.specs.Order.{rules_on}
 use Rattle.flowspace.specs.Policies.{PolicyView}
@@ -38,13 +37,17 @@ status_told message = status_said (read_switch message)
 
 -- ---- phases
 
+-- a message ends the switch's connection where it reads as one of a bad length (this proxy's own rule)
+abbrev pub ends_switch : List ℕ → Bool
+ends_switch message = has_bad_length (read_switch message)
+
 -- the first message that tells what the switch is opens the desk (section 5.3.1); one of a bad length ends it (this proxy's own rule)
 abbrev pub begun_after : List ℕ → Phase
-begun_after message = if is_bad message then Gone else elim (features_told message) [ None ↦ Begun | Some features ↦ Opened ]
+begun_after message = if ends_switch message then Gone else elim (features_told message) [ None ↦ Begun | Some features ↦ Opened ]
 
 -- after the opening only a message of a bad length moves on
 abbrev pub opened_after : List ℕ → Phase
-opened_after message = if is_bad message then Gone else Opened
+opened_after message = if ends_switch message then Gone else Opened
 
 -- the switch connects, tells what it is, and its connection ends; nothing else of it moves on
 abbrev pub phase_after : Phase → Event → Phase

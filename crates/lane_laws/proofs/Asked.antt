@@ -1,5 +1,5 @@
 -- Questions for the switch: what a controller's message asks, what is sent for it, and what a switch reads of that.
-use Rattle.std.proofs.Common.{◌≡◌, ◌⊎◌, refl, sym, ◌∙◌, ap, subst, ℕ, ◌+◌, ◌<◌, ◌==◌, ◌||◌, nat_lt, inl, inr, Bool, true, false, if◌then◌else◌, List, [], length, drop, slice_index, eqb-true, Option, Some, None, is_some, not, option_map, Result, Ok, Err, arith}
+use Rattle.std.proofs.Common.{◌≡◌, ◌⊎◌, refl, sym, ◌∙◌, ap, subst, ℕ, ◌+◌, ◌<◌, ◌==◌, ◌||◌, nat_lt, inl, inr, Bool, true, false, if◌then◌else◌, List, [], length, drop, slice_index, eqb-true, Option, Some, None, is_some, option_map, Ok, Err, arith}
 use Rattle.std.specs.Prelude.{IsSome}
 use Rattle.std.proofs.Math.Bool.{or-true}
 use Rattle.std.proofs.lemmas.Bool.{or_cases, eq-eqb}
@@ -9,27 +9,25 @@ use Rattle.of10_model.specs.Normal.{number_at, match_at}
 use Rattle.of10_model.proofs.Applied.{IsNormal-Norm}
 use Rattle.of10_model.proofs.Ranges.{bytes-drop, number_at-lt}
 use Rattle.of10_model.proofs.Results.{either, ok_is, passed}
-use Rattle.of10_action.specs.declared.fault.WireFault.{WireFault}
 use Rattle.of10_action.specs.declared.fault.WireFault.TheVariants.{Length, StatKind, StatVendor}
-use Rattle.of10_ctl.specs.declared.kind.TheConstants.{HELLO, ERROR, ECHO_REQUEST, ECHO_REPLY, VENDOR, FEATURES_REQUEST, GET_CONFIG_REQUEST, SET_CONFIG, PACKET_OUT, FLOW_MOD, PORT_MOD, STATS_REQUEST, BARRIER_REQUEST, QUEUE_GET_CONFIG_REQUEST}
-use Rattle.of10_ctl.specs.Frames.{is_bad, message_of}
+use Rattle.of10_ctl.specs.declared.kind.TheConstants.{STATS_REQUEST, BARRIER_REQUEST, QUEUE_GET_CONFIG_REQUEST}
+use Rattle.of10_ctl.specs.Frames.{message_of}
 use Rattle.of10_ctl.specs.Kinds.{IsOf}
-use Rattle.of10_ctl.proofs.Reading.{length-message, IsOf-message}
+use Rattle.of10_ctl.proofs.Reading.{IsOf-message}
 use Rattle.of10_port.specs.declared.protocol.TheConstants.{NONE, ALL}
-use Rattle.of10_flow.specs.declared.flow_mod.FlowMod.{FlowMod}
-use Rattle.of10_flow.specs.FlowMods.{read_flow_mod}
-use Rattle.of10_flow.specs.declared.packet_out.PacketOut.{PacketOut}
-use Rattle.of10_flow.specs.PacketOuts.{read_packet_out}
 use Rattle.of10_stats.specs.declared.request.StatsRequest.{StatsRequest}
 use Rattle.of10_stats.specs.declared.request.StatsRequest.TheVariants as statistics
 use Rattle.of10_stats.specs.Requests.{IsRequest, request_of, read_request, spell_request, body_size}
 use Rattle.of10_stats.proofs.Again.{IsOf-request, request_again}
+use Rattle.of10_config.specs.declared.queues.QueuesQuestion.{QueuesQuestion}
+use Rattle.of10_config.specs.Queues.{IsQueuesQuestion, read_queues_request}
+use Rattle.of10_config.proofs.Again.{question_read as queues_told, question_kind}
 use Rattle.of10_message.specs.declared.controller.FromController.{FromController}
 use Rattle.of10_message.specs.declared.controller.FromController.TheVariants as said
-use Rattle.of10_message.specs.declared.fault.Unread.{Unread}
-use Rattle.of10_message.specs.declared.fault.Unread.TheVariants.{BadLength, NoCommonVersion, BadVersion, BadType, BadForm}
-use Rattle.of10_message.specs.Heads.{version_of, is_kind}
-use Rattle.of10_message.specs.Controller.{sized, formed, config_in, read_typed, read_hello, read_controller}
+use Rattle.of10_message.specs.Forms.{formed}
+use Rattle.of10_message.specs.Controller.{read_controller}
+use Rattle.of10_message.proofs.Cases.{request_as_read, queues_as_read}
+use Rattle.of10_message.proofs.Typed.{typed_by, request_typed, barrier_typed, question_read}
 use Rattle.flowspace.specs.declared.rules.Rule.{Rule}
 use Rattle.flowspace.specs.Owners.{HasPort, has_port}
 use Rattle.flowspace.proofs.Owning.{has_port-iff}
@@ -41,70 +39,6 @@ use Rattle.slice_words.proofs.LoneRules.{same_port}
 use Rattle.lane_laws.specs.Lane.{AsksForReply, AsksOwnPort, MayBeAsked, IsReadAsQuestion}
 use Rattle.lane_laws.proofs.Reading.{bytes-take}
 use Rattle.slice_side.specs.Checking.{IsQuestion}
-
--- ---- what is read of a controller's message
-
-module _ (bytes : List ℕ) where
-  -- where a message reads as a request for statistics its bytes do, and where it reads as a question for queues it has so many bytes, the port among them
-  record IsAsBytes (read : Result FromController Unread) : Type 0 where
-    request : (r : StatsRequest) → read ≡ Ok (said.StatsRequest r) → read_request bytes ≡ Ok r
-    queues : (port : ℕ) → read ≡ Ok (said.QueueGetConfigRequest port) → (length bytes ≡ 12) × (port ≡ number_at bytes 8 2)
-
-  -- a message is one of the two
-  abbrev is_either : Result FromController Unread → Bool
-  is_either (Ok (said.StatsRequest r)) = true
-  is_either (Ok (said.QueueGetConfigRequest port)) = true
-  is_either read = false
-
-  other : (read : Result FromController Unread) → is_either read ≡ false → IsAsBytes read
-  other read isnt = record {
-    request = λ r e. absurd (let clash : false ≡ true = sym isnt ∙ ap is_either e in cc);
-    queues = λ port e. absurd (let clash : false ≡ true = sym isnt ∙ ap is_either e in cc);
-  }
-
-  other_sized : (size : ℕ) (message : FromController) → is_either (Ok message) ≡ false → IsAsBytes (sized size message bytes)
-  other_sized size message isnt = either IsAsBytes (length bytes == size) (Ok message) _ (other (Ok message) isnt) (other (Err (BadForm (Length (length bytes)))) refl)
-
-  of_out : (read : Result PacketOut WireFault) → IsAsBytes (formed said.PacketOut read)
-  of_out (Ok m) = other (Ok (said.PacketOut m)) refl
-  of_out (Err fault) = other (Err (BadForm fault)) refl
-
-  of_flow : (read : Result FlowMod WireFault) → IsAsBytes (formed said.FlowMod read)
-  of_flow (Ok m) = other (Ok (said.FlowMod m)) refl
-  of_flow (Err fault) = other (Err (BadForm fault)) refl
-
-  of_request : (read : Result StatsRequest WireFault) → read_request bytes ≡ read → IsAsBytes (formed said.StatsRequest read)
-  of_request (Ok r) is = record { request = λ asked e. is ∙ cc; queues = λ port e. absurd cc }
-  of_request (Err fault) is = other (Err (BadForm fault)) refl
-
-  of_queues : (fits : Bool) → (length bytes == 12) ≡ fits → IsAsBytes (if fits then Ok (said.QueueGetConfigRequest (number_at bytes 8 2)) else Err (BadForm (Length (length bytes))))
-  of_queues true is = record { request = λ r e. absurd cc; queues = λ port e. (eqb-true (length bytes) 12 is, cc) }
-  of_queues false is = other (Err (BadForm (Length (length bytes)))) refl
-
-  of_typed : IsAsBytes (read_typed bytes)
-  unfolding read_typed
-  of_typed =
-      either IsAsBytes (is_kind ERROR bytes) _ _ (other (Ok said.Error) refl)
-      (either IsAsBytes (is_kind ECHO_REQUEST bytes) _ _ (other (Ok said.EchoRequest) refl)
-      (either IsAsBytes (is_kind ECHO_REPLY bytes) _ _ (other (Ok said.EchoReply) refl)
-      (either IsAsBytes (is_kind VENDOR bytes) _ _ (other (Ok said.Vendor) refl)
-      (either IsAsBytes (is_kind FEATURES_REQUEST bytes) _ _ (other_sized 8 said.FeaturesRequest refl)
-      (either IsAsBytes (is_kind GET_CONFIG_REQUEST bytes) _ _ (other_sized 8 said.GetConfigRequest refl)
-      (either IsAsBytes (is_kind SET_CONFIG bytes) _ _ (other_sized 12 (said.SetConfig (config_in bytes)) refl)
-      (either IsAsBytes (is_kind PACKET_OUT bytes) _ _ (of_out (read_packet_out bytes))
-      (either IsAsBytes (is_kind FLOW_MOD bytes) _ _ (of_flow (read_flow_mod bytes))
-      (either IsAsBytes (is_kind PORT_MOD bytes) _ _ (other (Ok said.PortMod) refl)
-      (either IsAsBytes (is_kind STATS_REQUEST bytes) _ _ (of_request (read_request bytes) refl)
-      (either IsAsBytes (is_kind BARRIER_REQUEST bytes) _ _ (other_sized 8 said.BarrierRequest refl)
-      (either IsAsBytes (is_kind QUEUE_GET_CONFIG_REQUEST bytes) _ _ (of_queues (length bytes == 12) refl) (other (Err BadType) refl)))))))))))))
-
-  as_bytes : IsAsBytes (read_controller bytes)
-  unfolding read_controller
-  as_bytes =
-      either IsAsBytes (is_bad bytes) (Err BadLength) _ (other (Err BadLength) refl)
-      (either IsAsBytes (is_kind HELLO bytes) (read_hello bytes) _
-      (either IsAsBytes (version_of bytes == 0) (Err NoCommonVersion) (Ok said.Hello) (other (Err NoCommonVersion) refl) (other (Ok said.Hello) refl))
-      (either IsAsBytes (not (version_of bytes == 1)) (Err BadVersion) _ (other (Err BadVersion) refl) of_typed))
 
 -- ---- ranges
 
@@ -151,37 +85,25 @@ some_asked : (asked : Option StatsRequest) (xid : ℕ) (question : List ℕ) →
 some_asked None xid question is = absurd cc
 some_asked (Some sent) xid question is = (sent, refl, cc)
 
-body_length : (message : List ℕ) → length message ≡ 12 → length (drop 8 message) ≡ 4
-body_length message is = (let short = length-drop 8 message in omega (arith, short, is))
+-- what was read of a message that asks for queues is a question
+question_is : (message : List ℕ) (queues : QueuesQuestion) → read_queues_request message ≡ Ok queues → IsQueuesQuestion queues
+question_is message queues read =
+    let told = queues_told message queues read in
+    let short = length-drop 8 message in
+    let long = told.0 in
+    subst IsQueuesQuestion (sym told.1) (record { front = refl; size = omega (arith, short, long) })
 
 -- a question asks for a reply
-pub asks_for_reply : (g : Ground) (message question : List ℕ) (asked : FromController) → read_controller message ≡ Ok asked → IsQuestion g message asked question → AsksForReply question
+pub asks_for_reply : (g : Ground) (message question : List ℕ) (asked : FromController) → read_controller message ≡ Ok asked → IsQuestion g asked question → AsksForReply question
 asks_for_reply g message question (said.StatsRequest request) read is =
     let sent = some_asked (asked_as request) g.xid question is.1 in
     inl (subst (IsOf STATS_REQUEST) (sym sent.2) (IsOf-request sent.0 g.xid))
 asks_for_reply g message question said.BarrierRequest read is = inr (inl (subst (IsOf BARRIER_REQUEST) (sym is) (IsOf-message BARRIER_REQUEST g.xid [] (omega arith))))
-asks_for_reply g message question (said.QueueGetConfigRequest port) read is =
-    let few = body_length message ((as_bytes message).queues port read).0 in
-    inr (inr (subst (IsOf QUEUE_GET_CONFIG_REQUEST) (sym is.1) (IsOf-message QUEUE_GET_CONFIG_REQUEST g.xid (drop 8 message) (omega (arith, few)))))
+asks_for_reply g message question (said.QueueGetConfigRequest queues) read is =
+    inr (inr (subst (IsOf QUEUE_GET_CONFIG_REQUEST) (sym is.1) (question_kind g.xid queues (question_is message queues (queues_as_read message queues read)))))
 asks_for_reply g message question _ read is = absurd is
 
 -- ---- what a switch reads of it
-
-typed_by : (kind : ℕ) (bytes : List ℕ) → IsOf kind bytes → (kind == HELLO) ≡ false → read_controller bytes ≡ read_typed bytes
-unfolding read_controller
-typed_by kind bytes of isnt = rw (of.3, of.2, of.1, isnt) refl
-
-request_typed : (bytes : List ℕ) → IsOf STATS_REQUEST bytes → read_typed bytes ≡ formed said.StatsRequest (read_request bytes)
-unfolding read_typed
-request_typed bytes of = rw of.2 refl
-
-barrier_typed : (bytes : List ℕ) → IsOf BARRIER_REQUEST bytes → read_typed bytes ≡ sized 8 said.BarrierRequest bytes
-unfolding read_typed
-barrier_typed bytes of = rw of.2 refl
-
-queues_typed : (bytes : List ℕ) → IsOf QUEUE_GET_CONFIG_REQUEST bytes → read_typed bytes ≡ sized 12 (said.QueueGetConfigRequest (number_at bytes 8 2)) bytes
-unfolding read_typed
-queues_typed bytes of = rw of.2 refl
 
 request_read : (r : StatsRequest) (xid : ℕ) → IsRequest r → read_controller (spell_request r xid) ≡ Ok (said.StatsRequest r)
 request_read r xid range =
@@ -192,18 +114,6 @@ barrier_read xid =
     let bytes = message_of BARRIER_REQUEST xid [] in
     let of = IsOf-message BARRIER_REQUEST xid [] (omega arith) in
     typed_by BARRIER_REQUEST bytes of refl ∙ barrier_typed bytes of
-
--- the port stands where it stood
-port_kept : (xid : ℕ) (message : List ℕ) → number_at (message_of QUEUE_GET_CONFIG_REQUEST xid (drop 8 message)) 8 2 ≡ number_at message 8 2
-port_kept xid message = refl
-
-queues_read : (xid : ℕ) (message : List ℕ) → length message ≡ 12 → read_controller (message_of QUEUE_GET_CONFIG_REQUEST xid (drop 8 message)) ≡ Ok (said.QueueGetConfigRequest (number_at message 8 2))
-queues_read xid message is =
-    let bytes = message_of QUEUE_GET_CONFIG_REQUEST xid (drop 8 message) in
-    let few = body_length message is in
-    let of = IsOf-message QUEUE_GET_CONFIG_REQUEST xid (drop 8 message) (omega (arith, few)) in
-    let size : length bytes ≡ 12 = (let long = length-message QUEUE_GET_CONFIG_REQUEST xid (drop 8 message) in omega (arith, long, few)) in
-    typed_by QUEUE_GET_CONFIG_REQUEST bytes of refl ∙ queues_typed bytes of ∙ rw (eq-eqb (length bytes) 12 size, port_kept xid message) refl
 
 -- ---- ports
 
@@ -248,24 +158,23 @@ module _ (g : Ground) (rules : List Rule) (slot : ℕ) (on_slot : g.slot ≡ slo
   asks_same (statistics.Queue port queue) asked is own = subst MaySend (same_Some (statistics.Queue port queue) asked is) (refl, own)
 
   -- a question may be asked
-  pub may_be : (message question : List ℕ) (asked : FromController) → IsQuestion g message asked question → MayBeAsked rules slot asked
+  pub may_be : (message question : List ℕ) (asked : FromController) → IsQuestion g asked question → MayBeAsked rules slot asked
   may_be message question (said.StatsRequest request) is = (ap is_some (some_asked (asked_as request) g.xid question is.1).1, may_own request is.0)
   may_be message question said.BarrierRequest is = tt
-  may_be message question (said.QueueGetConfigRequest port) is = owned port is.0
+  may_be message question (said.QueueGetConfigRequest queues) is = owned queues.port is.0
   may_be message question _ is = absurd is
 
   -- a switch reads it as one that may be asked
-  pub read_as_question : (message question : List ℕ) (asked : FromController) → ((k : ℕ) → slice_index message k < 256) → read_controller message ≡ Ok asked → IsQuestion g message asked question → IsReadAsQuestion rules slot question
+  pub read_as_question : (message question : List ℕ) (asked : FromController) → ((k : ℕ) → slice_index message k < 256) → read_controller message ≡ Ok asked → IsQuestion g asked question → IsReadAsQuestion rules slot question
   read_as_question message question (said.StatsRequest request) bytes read is =
       let sent = some_asked (asked_as request) g.xid question is.1 in
-      let range = asked_in_range request sent.0 sent.1 (read_in_range message request bytes ((as_bytes message).request request read)) in
+      let range = asked_in_range request sent.0 sent.1 (read_in_range message request bytes (request_as_read message request read)) in
       record { asked = said.StatsRequest sent.0; read = ap read_controller sent.2 ∙ request_read sent.0 g.xid range; may = asks_same request sent.0 sent.1 (may_own request is.0) }
   read_as_question message question said.BarrierRequest bytes read is = record { asked = said.BarrierRequest; read = ap read_controller is ∙ barrier_read g.xid; may = tt }
-  read_as_question message question (said.QueueGetConfigRequest port) bytes read is =
-      let sent = (as_bytes message).queues port read in
+  read_as_question message question (said.QueueGetConfigRequest queues) bytes read is =
       record {
-        asked = said.QueueGetConfigRequest port;
-        read = ap read_controller is.1 ∙ queues_read g.xid message sent.0 ∙ ap (λ (p : ℕ). Ok (said.QueueGetConfigRequest p)) (sym sent.1);
-        may = owned port is.0;
+        asked = said.QueueGetConfigRequest queues;
+        read = ap read_controller is.1 ∙ question_read g.xid queues (question_is message queues (queues_as_read message queues read));
+        may = owned queues.port is.0;
       }
   read_as_question message question _ bytes read is = absurd is

@@ -1,9 +1,10 @@
 -- What a message of a slice's controller has put for the switch: nothing, or what follows from a flow-mod, a packet-out or a question that is permitted.
-use Rattle.std.proofs.Common.{◌≡◌, ◌⊎◌, inl, inr, refl, sym, ap, ◌∙◌, ℕ, Bool, true, false, if◌then◌else◌, List, [], ◌∷◌, length, drop, Option, Some, None, Ok, Err}
-use Rattle.of10_ctl.specs.declared.kind.TheConstants.{BARRIER_REQUEST, QUEUE_GET_CONFIG_REQUEST}
+use Rattle.std.proofs.Common.{◌≡◌, ◌⊎◌, inl, inr, refl, sym, ap, ◌∙◌, ℕ, Bool, true, false, if◌then◌else◌, List, [], ◌∷◌, length, Option, Some, None, Ok, Err}
+use Rattle.of10_ctl.specs.declared.kind.TheConstants.{BARRIER_REQUEST}
 use Rattle.of10_ctl.specs.Frames.{message_of}
 use Rattle.of10_flow.specs.declared.flow_mod.FlowMod.{FlowMod}
 use Rattle.of10_flow.specs.declared.packet_out.PacketOut.{PacketOut}
+use Rattle.of10_config.specs.Queues.{spell_queues_request}
 use Rattle.of10_message.specs.declared.controller.FromController.{FromController}
 use Rattle.of10_message.specs.declared.controller.FromController.TheVariants as said
 use Rattle.of10_message.specs.Heads.{xid_of}
@@ -21,10 +22,10 @@ use Rattle.slice_side.specs.Checking.{IsQuestion}
 use Rattle.slice_side.proofs.Answering.{asked_answer}
 
 -- a message with which a slice may ask the switch something is to be sent on
-is_question : (g : Ground) (message question : List ℕ) (asked : FromController) → IsQuestion g message asked question → asks_switch (Ok asked) ≡ true
+is_question : (g : Ground) (message question : List ℕ) (asked : FromController) → IsQuestion g asked question → asks_switch (Ok asked) ≡ true
 is_question g message question (said.StatsRequest request) is = refl
 is_question g message question said.BarrierRequest is = refl
-is_question g message question (said.QueueGetConfigRequest port) is = refl
+is_question g message question (said.QueueGetConfigRequest queues) is = refl
 is_question g message question said.Hello is = absurd is
 is_question g message question said.Error is = absurd is
 is_question g message question said.EchoRequest is = absurd is
@@ -41,13 +42,13 @@ is_question g message question said.PortMod is = absurd is
 abbrev by_question : Ground → List ℕ → Option (List ℕ) → Answer
 by_question g message found = elim found [ None ↦ told (table_reply (length g.booked) g.quota (xid_of message) ∷ []) | Some question ↦ asking question ]
 
-question_follows : (s : Settings) (view : List Item) (past : List Past) (message question : List ℕ) (asked : FromController) → IsQuestion (ground_of s view past) message asked question
+question_follows : (s : Settings) (view : List Item) (past : List Past) (message question : List ℕ) (asked : FromController) → IsQuestion (ground_of s view past) asked question
     → forwarded_answer s view past asked message ≡ asking question
 question_follows s view past message question (said.StatsRequest request) is =
     ap (λ (b : Bool). if b then statistics_asked (ground_of s view past) request message else refused not_permitted message) is.0 ∙ ap (by_question (ground_of s view past) message) is.1
 question_follows s view past message question said.BarrierRequest is = ap asking (sym is)
-question_follows s view past message question (said.QueueGetConfigRequest port) is =
-    ap (λ (b : Bool). if b then queues_asked (ground_of s view past) message else refused not_permitted message) is.0 ∙ ap asking (sym is.1)
+question_follows s view past message question (said.QueueGetConfigRequest queues) is =
+    ap (λ (b : Bool). if b then queues_asked (ground_of s view past) queues else refused not_permitted message) is.0 ∙ ap asking (sym is.1)
 question_follows s view past message question _ is = absurd is
 
 module _ (s : Settings) (view : List Item) (past : List Past) (moment : ℕ) (message : List ℕ) where
@@ -71,7 +72,7 @@ module _ (s : Settings) (view : List Item) (past : List Past) (moment : ℕ) (me
   pub record PermitsQuestion (asked : FromController) (question : List ℕ) : Type 0 where
     pub read : read_controller message ≡ Ok asked
     pub rate : keeps_rate s view past moment ≡ true
-    pub may : IsQuestion (ground_of s view past) message asked question
+    pub may : IsQuestion (ground_of s view past) asked question
 
   -- what follows by what is read of the message, by whether it keeps the rate, and by the first line that refuses it
   abbrev read_as : Reading → Answer
@@ -110,7 +111,7 @@ module _ (s : Settings) (view : List Item) (past : List Past) (moment : ℕ) (me
 
   -- a message that may be a question
   abbrev MayAsk : Type 0
-  MayAsk = (asked : FromController) × (question : List ℕ) × (read_controller message ≡ Ok asked) × IsQuestion (ground_of s view past) message asked question
+  MayAsk = (asked : FromController) × (question : List ℕ) × (read_controller message ≡ Ok asked) × IsQuestion (ground_of s view past) asked question
 
   -- another message puts nothing
   abbrev IsOfThese : Answer → Type 0
@@ -130,7 +131,7 @@ module _ (s : Settings) (view : List Item) (past : List Past) (moment : ℕ) (me
     tells_table = inl refl;
     asks_statistics = λ request question read may is. inr (inr (inr (said.StatsRequest request, question, read, (may, is))));
     asks_barrier = λ read. inr (inr (inr (said.BarrierRequest, message_of BARRIER_REQUEST (ground_of s view past).xid [], read, refl)));
-    asks_queues = λ port read own. inr (inr (inr (said.QueueGetConfigRequest port, message_of QUEUE_GET_CONFIG_REQUEST (ground_of s view past).xid (drop 8 message), read, (own, refl))));
+    asks_queues = λ queues read own. inr (inr (inr (said.QueueGetConfigRequest queues, spell_queues_request (ground_of s view past).xid queues, read, (own, refl))));
   })
 
   -- nor does one that is refused

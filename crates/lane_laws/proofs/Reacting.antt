@@ -64,7 +64,7 @@ module _ (rules : List Rule) (slot : ℕ) (known : List (List ℕ)) (state : Sli
     pub packet_outs : (m : PacketOut) → read_controller message ≡ Ok (said.PacketOut m) → packet_out_fault ground m ≡ None → Q (packet_out_from state ground m)
 
   -- holds of what is sent on, with its fields in their ranges
-  all_sent : (P : FlowMod → Type 0) (Q : PacketOut → Type 0) (message : List ℕ) → HoldsOfAll IsRanged IsRangedOut message → HoldsOfAll P Q message → (sent : List (List ℕ)) → IsSentOn state ground message (read_controller message) sent
+  all_sent : (P : FlowMod → Type 0) (Q : PacketOut → Type 0) (message : List ℕ) → HoldsOfAll IsRanged IsRangedOut message → HoldsOfAll P Q message → (sent : List (List ℕ)) → IsSentOn state ground (read_controller message) sent
       → All (IsSentThat P Q) sent
   all_sent P Q message ranges holds sent (inl none) = subst (All (IsSentThat P Q)) (sym none) (All-nil (IsSentThat P Q))
   all_sent P Q message ranges holds sent (inr (inl some)) =
@@ -259,7 +259,7 @@ module _ (rules : List Rule) (slot : ℕ) (known : List (List ℕ)) (state : Sli
       })
 
 pub reaction_lies : (policy : SwitchView) (known : List (List ℕ)) (state : SliceState) (slot : ℕ) (message : List ℕ) (sent : List (List ℕ)) → IsSwitchPolicy policy.slices policy.rules → KeepsWritten policy.rules slot state
-    → AreNormal policy.rules → KeepsRanged state → All (λ byte. byte < 256) message → AreSentOn policy.rules slot known state message (read_controller message) sent
+    → AreNormal policy.rules → KeepsRanged state → All (λ byte. byte < 256) message → AreSentOn policy.rules slot known state (read_controller message) sent
     → All (IsSentThat (LiesInFlowspace policy.rules slot) (SendsOwnPacket (IsKeptHeader state) policy.rules slot)) sent
 reaction_lies policy known state slot message sent accepted written normal ranged bytes is =
     all_sent policy.rules slot known state is.0 is.1 (LiesInFlowspace policy.rules slot) (SendsOwnPacket (IsKeptHeader state) policy.rules slot) message
@@ -269,7 +269,7 @@ reaction_lies policy known state slot message sent accepted written normal range
     }) sent is.2
 
 pub reaction_outputs : (policy : SwitchView) (known : List (List ℕ)) (state : SliceState) (slot : ℕ) (message : List ℕ) (sent : List (List ℕ))
-    → AreNormal policy.rules → KeepsRanged state → All (λ byte. byte < 256) message → AreSentOn policy.rules slot known state message (read_controller message) sent
+    → AreNormal policy.rules → KeepsRanged state → All (λ byte. byte < 256) message → AreSentOn policy.rules slot known state (read_controller message) sent
     → All (IsSentThat (OutputsToOwnPorts policy.rules slot) (SendsToOwnPorts policy.rules slot)) sent
 reaction_outputs policy known state slot message sent normal ranged bytes is =
     all_sent policy.rules slot known state is.0 is.1 (OutputsToOwnPorts policy.rules slot) (SendsToOwnPorts policy.rules slot) message
@@ -279,7 +279,7 @@ reaction_outputs policy known state slot message sent normal ranged bytes is =
     }) sent is.2
 
 pub reaction_leaves : (policy : SwitchView) (known : List (List ℕ)) (state : SliceState) (slot : ℕ) (message : List ℕ) (sent : List (List ℕ))
-    → IsSwitchPolicy policy.slices policy.rules → AreNormal policy.rules → KeepsRanged state → All (λ byte. byte < 256) message → AreSentOn policy.rules slot known state message (read_controller message) sent
+    → IsSwitchPolicy policy.slices policy.rules → AreNormal policy.rules → KeepsRanged state → All (λ byte. byte < 256) message → AreSentOn policy.rules slot known state (read_controller message) sent
     → All (IsSentThat (LeavesOtherHeaders policy.rules slot) ChangesNoTable) sent
 reaction_leaves policy known state slot message sent accepted normal ranged bytes is =
     all_sent policy.rules slot known state is.0 is.1 (LeavesOtherHeaders policy.rules slot) ChangesNoTable message

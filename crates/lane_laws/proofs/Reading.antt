@@ -23,12 +23,15 @@ use Rattle.of10_flow.specs.declared.packet_out.PacketOut.{PacketOut}
 use Rattle.of10_flow.specs.PacketIns.{read_packet_in}
 use Rattle.of10_flow.specs.PacketOuts.{read_packet_out}
 use Rattle.of10_stats.specs.Requests.{read_request}
+use Rattle.of10_config.specs.Configs.{read_config}
+use Rattle.of10_config.specs.Queues.{read_queues_request}
 use Rattle.of10_message.specs.declared.controller.FromController.{FromController}
 use Rattle.of10_message.specs.declared.controller.FromController.TheVariants as said
 use Rattle.of10_message.specs.declared.fault.Unread.{Unread}
 use Rattle.of10_message.specs.declared.fault.Unread.TheVariants.{BadLength, NoCommonVersion, BadVersion, BadType}
 use Rattle.of10_message.specs.Heads.{version_of, is_kind}
-use Rattle.of10_message.specs.Controller.{sized, formed, config_in, read_typed, read_hello, read_controller}
+use Rattle.of10_message.specs.Forms.{sized, formed, read_hello}
+use Rattle.of10_message.specs.Controller.{read_typed, read_controller}
 
 -- ---- bytes
 
@@ -214,7 +217,7 @@ module _ (bytes : List ℕ) where
       if is_kind PORT_MOD bytes then Ok said.PortMod
       else if is_kind STATS_REQUEST bytes then formed said.StatsRequest (read_request bytes)
       else if is_kind BARRIER_REQUEST bytes then sized 8 said.BarrierRequest bytes
-      else if is_kind QUEUE_GET_CONFIG_REQUEST bytes then sized 12 (said.QueueGetConfigRequest (number_at bytes 8 2)) bytes
+      else if is_kind QUEUE_GET_CONFIG_REQUEST bytes then formed said.QueueGetConfigRequest (read_queues_request bytes)
       else Err BadType
 
   -- no type behind flow-mods is one
@@ -223,7 +226,7 @@ module _ (bytes : List ℕ) where
       either IsOther (is_kind PORT_MOD bytes) _ _ refl
       (either IsOther (is_kind STATS_REQUEST bytes) _ _ (not_formed said.StatsRequest (read_request bytes) (λ request. refl))
       (either IsOther (is_kind BARRIER_REQUEST bytes) _ _ (not_sized 8 said.BarrierRequest bytes refl)
-      (either IsOther (is_kind QUEUE_GET_CONFIG_REQUEST bytes) _ _ (not_sized 12 (said.QueueGetConfigRequest (number_at bytes 8 2)) bytes refl) refl)))
+      (either IsOther (is_kind QUEUE_GET_CONFIG_REQUEST bytes) _ _ (not_formed said.QueueGetConfigRequest (read_queues_request bytes) (λ queues. refl)) refl)))
 
   -- what is read from packet-outs on
   abbrev late : Bool → Bool → Result FromController Unread
@@ -232,7 +235,7 @@ module _ (bytes : List ℕ) where
   of_typed : (asked : FromController) → is_either (Ok asked) ≡ true → Reads asked (read_typed bytes) → Reads asked (late (is_kind PACKET_OUT bytes) (is_kind FLOW_MOD bytes))
   unfolding read_typed
   of_typed asked is e =
-      over asked is (is_kind SET_CONFIG bytes) (sized 12 (said.SetConfig (config_in bytes)) bytes) _ (not_sized 12 (said.SetConfig (config_in bytes)) bytes refl)
+      over asked is (is_kind SET_CONFIG bytes) (formed said.SetConfig (read_config bytes)) _ (not_formed said.SetConfig (read_config bytes) (λ config. refl))
       (over asked is (is_kind GET_CONFIG_REQUEST bytes) (sized 8 said.GetConfigRequest bytes) _ (not_sized 8 said.GetConfigRequest bytes refl)
       (over asked is (is_kind FEATURES_REQUEST bytes) (sized 8 said.FeaturesRequest bytes) _ (not_sized 8 said.FeaturesRequest bytes refl)
       (over asked is (is_kind VENDOR bytes) (Ok said.Vendor) _ refl
@@ -245,7 +248,7 @@ module _ (bytes : List ℕ) where
   of_controller asked is e =
       of_typed asked is
       (over asked is (not (version_of bytes == 1)) (Err BadVersion) _ refl
-      (over asked is (is_kind HELLO bytes) (read_hello bytes) _ (either IsOther (version_of bytes == 0) (Err NoCommonVersion) (Ok said.Hello) refl refl)
+      (over asked is (is_kind HELLO bytes) (read_hello said.Hello bytes) _ (either IsOther (version_of bytes == 0) (Err NoCommonVersion) (Ok said.Hello) refl refl)
       (over asked is (is_bad bytes) (Err BadLength) _ refl e)))
 
   flow_late : (m : FlowMod) (of_out of_flow : Bool) → Reads (said.FlowMod m) (late of_out of_flow) → read_flow_mod bytes ≡ Ok m

@@ -19,7 +19,7 @@ use Rattle.of10_flow.specs.FlowMods.{spell_flow_mod}
 use Rattle.of10_flow.specs.PacketOuts.{spell_packet_out}
 use Rattle.of10_flow.specs.Tables.{is_delete}
 use Rattle.of10_flow.proofs.Keeping.{Treatment-Apply}
-use Rattle.of10_ctl.specs.declared.kind.TheConstants.{BARRIER_REQUEST}
+use Rattle.of10_ctl.specs.declared.kind.TheConstants.{BARRIER_REQUEST, QUEUE_GET_CONFIG_REQUEST}
 use Rattle.of10_ctl.specs.Frames.{message_of}
 use Rattle.of10_stats.specs.declared.request.StatsRequest.{StatsRequest}
 use Rattle.of10_stats.specs.Requests.{spell_request}
@@ -28,7 +28,10 @@ use Rattle.slice_words.specs.Questions.{may_ask}
 use Rattle.of10_message.specs.declared.controller.FromController.{FromController}
 use Rattle.of10_message.specs.declared.controller.FromController.TheVariants as said
 use Rattle.of10_message.specs.Controller.{read_controller}
-use Rattle.of10_config.specs.Configs.{spell_queues_request}
+use Rattle.of10_config.specs.declared.queues.QueuesQuestion.{QueuesQuestion}
+use Rattle.of10_config.specs.Queues.{spell_queues_request}
+use Rattle.of10_config.proofs.Again.{question_passed}
+use Rattle.of10_message.proofs.Cases.{queues_as_read}
 use Rattle.flowspace.specs.declared.slices.Slice.{Slice}
 use Rattle.flowspace.specs.declared.rules.Rule.{Rule}
 use Rattle.flowspace.specs.Policies.{PolicyView, IsPolicy}
@@ -152,7 +155,7 @@ out_lane_whole policy h timed slot message m is up p =
 
 -- a question is sent as it was put
 question_lane_whole : (policy : PolicyView) (h : List Timed) (timed : Timed) (slot : ℕ) (message question : List ℕ) (asked : FromController) → timed.event ≡ SliceMsg slot message → is_slice_up policy slot h ≡ true
-    → read_controller message ≡ Ok asked → KeepsRate policy slot h timed.moment → IsQuestion (ground_in policy slot h) message asked question → lane_by policy h timed ≡ question ∷ []
+    → read_controller message ≡ Ok asked → KeepsRate policy slot h timed.moment → IsQuestion (ground_in policy slot h) asked question → lane_by policy h timed ≡ question ∷ []
 question_lane_whole policy h timed slot message question asked is up read rate may =
     let s = settings_in policy slot h in
     let view = view_of policy slot h in
@@ -165,7 +168,7 @@ abbrev IsAnyPut : PolicyView → ℕ → List Timed → ℕ → List ℕ → Typ
 IsAnyPut policy slot h moment message =
     ((m : FlowMod) × IsPermitted policy slot h moment message m)
     ⊎ (((m : PacketOut) × IsPermittedOut policy slot h moment message m)
-    ⊎ ((asked : FromController) × (question : List ℕ) × (read_controller message ≡ Ok asked) × KeepsRate policy slot h moment × IsQuestion (ground_in policy slot h) message asked question))
+    ⊎ ((asked : FromController) × (question : List ℕ) × (read_controller message ≡ Ok asked) × KeepsRate policy slot h moment × IsQuestion (ground_in policy slot h) asked question))
 
 lane_or_some : (policy : PolicyView) (h : List Timed) (timed : Timed) (slot : ℕ) (message : List ℕ) → timed.event ≡ SliceMsg slot message
     → (lane_by policy h timed ≡ []) ⊎ ((is_slice_up policy slot h ≡ true) × IsAnyPut policy slot h timed.moment message)
@@ -213,7 +216,7 @@ pub record HoldsOfSent (P : List Rule → FlowMod → Type 0) (Q : List Rule →
   pub packet_outs : (features : Features) → opening_of h ≡ Some features → is_slot policy slot ≡ true → (m : PacketOut) → read_controller message ≡ Ok (said.PacketOut m)
       → packet_out_fault (ground_by policy slot h (Some features)) m ≡ None → Q (rules_on features.datapath policy.rules) (packet_out_by policy slot h (ground_by policy slot h (Some features)) m)
   pub questions : (features : Features) → opening_of h ≡ Some features → is_slot policy slot ≡ true → (asked : FromController) (question : List ℕ) → read_controller message ≡ Ok asked
-      → IsQuestion (ground_by policy slot h (Some features)) message asked question → R (rules_on features.datapath policy.rules) question
+      → IsQuestion (ground_by policy slot h (Some features)) asked question → R (rules_on features.datapath policy.rules) question
 
 -- a message is spelled from a flow-mod of which one thing holds, or from a packet-out of which another does
 abbrev pub IsSpelled : (FlowMod → Type 0) → (PacketOut → Type 0) → List ℕ → Type 0
@@ -248,7 +251,7 @@ each_in_lane P Q R policy h timed slot message is holds =
           (All-cons Each (spell_packet_out (packet_out_at policy slot h m)) [] (inl (inr (packet_out_at policy slot h m, refl, sent))) (All-nil Each))
       | inr (up, inr (inr some)) ↦
           let told = told_up policy slot h up in
-          let may = subst (λ (found : Option Features). IsQuestion (ground_by policy slot h found) message some.0 some.1) told.1 some.4 in
+          let may = subst (λ (found : Option Features). IsQuestion (ground_by policy slot h found) some.0 some.1) told.1 some.4 in
           let one = holds.questions told.0 told.1 (up_here policy slot h (phase_of h) refl up) some.0 some.1 some.2 may in
           let sent : R (rules_in policy h) some.1 = subst (λ (found : Option Features). R (rules_of policy found) some.1) (sym told.1) one in
           rw (question_lane_whole policy h timed slot message some.1 some.0 is up some.2 some.3 some.4) (All-cons Each some.1 [] (inr sent) (All-nil Each))
@@ -300,10 +303,11 @@ module _ (policy : PolicyView) (h : List Timed) (timed : Timed) (slot : ℕ) (me
     pub barrier_sent : IsPermittedQuestion policy slot h timed.moment message said.BarrierRequest → lane_by policy h timed ≡ message_of BARRIER_REQUEST next_xid [] ∷ []
     barrier_sent p = question_lane_whole policy h timed slot message (message_of BARRIER_REQUEST next_xid []) said.BarrierRequest is up p.read p.rate refl
 
-    pub queues_sent : (port : ℕ) → IsPermittedQuestion policy slot h timed.moment message (said.QueueGetConfigRequest port) → lane_by policy h timed ≡ spell_queues_request next_xid (drop 8 message) ∷ []
-    queues_sent port p =
-        question_lane_whole policy h timed slot message (spell_queues_request next_xid (drop 8 message)) (said.QueueGetConfigRequest port) is up p.read p.rate
-        (owns (ground_in policy slot h) (rules_in policy h) slot (slot_is policy slot (opening_of h) _ refl) (patterns_are policy slot (opening_of h) (up_here policy slot h (phase_of h) refl up)) port p.may, refl)
+    pub queues_sent : (queues : QueuesQuestion) → IsPermittedQuestion policy slot h timed.moment message (said.QueueGetConfigRequest queues) → lane_by policy h timed ≡ message_of QUEUE_GET_CONFIG_REQUEST next_xid (drop 8 message) ∷ []
+    queues_sent queues p =
+        question_lane_whole policy h timed slot message (spell_queues_request next_xid queues) (said.QueueGetConfigRequest queues) is up p.read p.rate
+        (owns (ground_in policy slot h) (rules_in policy h) slot (slot_is policy slot (opening_of h) _ refl) (patterns_are policy slot (opening_of h) (up_here policy slot h (phase_of h) refl up)) queues.port p.may, refl)
+        ∙ ap (λ (sent : List ℕ). sent ∷ []) (question_passed next_xid message queues (queues_as_read message queues p.read))
 
 -- ---- one flow-mod for each piece
 

@@ -171,7 +171,7 @@ AsksOwnPort rules slot request = Unit {0}
 abbrev pub MayBeAsked : List Rule → ℕ → FromController → Type 0
 MayBeAsked rules slot (said.StatsRequest request) = IsSome (asked_as request) × AsksOwnPort rules slot request
 MayBeAsked rules slot said.BarrierRequest = Unit {0}
-MayBeAsked rules slot (said.QueueGetConfigRequest port) = HasPort rules slot port
+MayBeAsked rules slot (said.QueueGetConfigRequest queues) = HasPort rules slot queues.port
 MayBeAsked rules slot asked = ⊥
 
 -- ---- what a switch reads

@@ -7,8 +7,8 @@ ghost use Rattle.of10_flow.specs.declared.flow_mod.FlowMod.{FlowMod};
 ghost use Rattle.of10_flow.specs.declared.packet_out.PacketOut.{PacketOut};
 ghost use Rattle.of10_flow.specs.FlowMods.{spell_flow_mod, read_flow_mod};
 ghost use Rattle.of10_flow.specs.PacketOuts.{spell_packet_out, read_packet_out};
-ghost use Rattle.of10_ctl.specs.declared.kind.TheConstants.{BARRIER_REQUEST};
-ghost use Rattle.of10_config.specs.Configs.{spell_queues_request};
+ghost use Rattle.of10_ctl.specs.declared.kind.TheConstants.{BARRIER_REQUEST, QUEUE_GET_CONFIG_REQUEST};
+ghost use Rattle.of10_config.specs.declared.queues.QueuesQuestion.{QueuesQuestion};
 ghost use Rattle.of10_ctl.specs.Frames.{message_of};
 ghost use Rattle.of10_stats.specs.declared.request.StatsRequest.{StatsRequest};
 ghost use Rattle.of10_stats.specs.Requests.{spell_request};
@@ -115,8 +115,8 @@ pub fn permitted_questions_are_sent()
         → IsPermittedQuestion policy slot h timed.moment message (said.StatsRequest request) → asked_as request ≡ Some asked → lane_by policy h timed ≡ spell_request asked (ground_in policy slot h).xid ∷ [] }
     ensures barriers { (policy : PolicyView) (h : List Timed) (timed : Timed) (slot : ℕ) (message : List ℕ) → timed.event ≡ SliceMsg slot message → is_slice_up policy slot h ≡ true
         → IsPermittedQuestion policy slot h timed.moment message said.BarrierRequest → lane_by policy h timed ≡ message_of BARRIER_REQUEST (ground_in policy slot h).xid [] ∷ [] }
-    ensures queues { (policy : PolicyView) (h : List Timed) (timed : Timed) (slot : ℕ) (message : List ℕ) (port : ℕ) → timed.event ≡ SliceMsg slot message → is_slice_up policy slot h ≡ true
-        → IsPermittedQuestion policy slot h timed.moment message (said.QueueGetConfigRequest port) → lane_by policy h timed ≡ spell_queues_request (ground_in policy slot h).xid (drop 8 message) ∷ [] }
+    ensures queues { (policy : PolicyView) (h : List Timed) (timed : Timed) (slot : ℕ) (message : List ℕ) (queues : QueuesQuestion) → timed.event ≡ SliceMsg slot message → is_slice_up policy slot h ≡ true
+        → IsPermittedQuestion policy slot h timed.moment message (said.QueueGetConfigRequest queues) → lane_by policy h timed ≡ message_of QUEUE_GET_CONFIG_REQUEST (ground_in policy slot h).xid (drop 8 message) ∷ [] }
 {}
 
 /// The first three hold of what `slice_side::react` has sent on by its clause `sent`, for the policy, the ports
@@ -127,13 +127,13 @@ pub fn permitted_questions_are_sent()
 /// 32 and 16 bits, as each `Match`, `u8`, `u32` and `u16`.
 pub fn reactions_stay_within_the_slice()
     ensures flowspace { (policy : SwitchView) (known : List (List ℕ)) (state : SliceState) (slot : ℕ) (message : List ℕ) (sent : List (List ℕ))
-        → IsSwitchPolicy policy.slices policy.rules → KeepsWritten policy.rules slot state → AreNormal policy.rules → KeepsRanged state → All (λ byte. byte < 256) message → AreSentOn policy.rules slot known state message (read_controller message) sent
+        → IsSwitchPolicy policy.slices policy.rules → KeepsWritten policy.rules slot state → AreNormal policy.rules → KeepsRanged state → All (λ byte. byte < 256) message → AreSentOn policy.rules slot known state (read_controller message) sent
         → All (IsSentThat (LiesInFlowspace policy.rules slot) (SendsOwnPacket (IsKeptHeader state) policy.rules slot)) sent }
     ensures ports { (policy : SwitchView) (known : List (List ℕ)) (state : SliceState) (slot : ℕ) (message : List ℕ) (sent : List (List ℕ))
-        → AreNormal policy.rules → KeepsRanged state → All (λ byte. byte < 256) message → AreSentOn policy.rules slot known state message (read_controller message) sent
+        → AreNormal policy.rules → KeepsRanged state → All (λ byte. byte < 256) message → AreSentOn policy.rules slot known state (read_controller message) sent
         → All (IsSentThat (OutputsToOwnPorts policy.rules slot) (SendsToOwnPorts policy.rules slot)) sent }
     ensures headers { (policy : SwitchView) (known : List (List ℕ)) (state : SliceState) (slot : ℕ) (message : List ℕ) (sent : List (List ℕ))
-        → IsSwitchPolicy policy.slices policy.rules → AreNormal policy.rules → KeepsRanged state → All (λ byte. byte < 256) message → AreSentOn policy.rules slot known state message (read_controller message) sent
+        → IsSwitchPolicy policy.slices policy.rules → AreNormal policy.rules → KeepsRanged state → All (λ byte. byte < 256) message → AreSentOn policy.rules slot known state (read_controller message) sent
         → All (IsSentThat (LeavesOtherHeaders policy.rules slot) ChangesNoTable) sent }
     ensures states { (policy : PolicyView) (h : List Timed) (slot : ℕ) (state : SliceState) → SliceStands (settings_in policy slot h) (side_of policy slot h).sight state → KeepsWritten (rules_in policy h) slot state }
 {}

@@ -1,8 +1,9 @@
-//! Messages on the configuration of a switch and of its queues, as they are spelled; they are read where messages of
-//! controllers and of switches are.
+//! Messages on the configuration of a switch and of its queues, as they are read and spelled.
 #![tactic(auto)]
 
 mod config;
 pub mod laws;
+mod queues;
 
-pub use config::{config_reply, queues_reply, queues_request, set_config};
+pub use config::{SwitchConfig, config_reply, set_config};
+pub use queues::{QueuesQuestion, QueuesView, queues_reply, queues_request};

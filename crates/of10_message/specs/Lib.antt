@@ -1,4 +1,5 @@
 pub mod Heads
+pub mod Forms
 pub mod Controller
 pub mod Errors
 pub mod Replies

@@ -1,14 +1,6 @@
+use of10_config::{QueuesQuestion, SwitchConfig};
 use of10_flow::{FlowMod, PacketOut};
 use of10_stats::StatsRequest;
-
-/// How a switch is set (OpenFlow 1.0.0, section 5.3.2).
-#[derive(Clone, Copy, Debug, PartialEq, Eq)]
-pub struct SwitchConfig {
-    /// How fragments are handled: 0 as usual.
-    pub flags: u16,
-    /// How many bytes of a packet that no entry matched are handed up.
-    pub miss_send_len: u16,
-}
 
 /// A message that a controller sends (OpenFlow 1.0.0, section 5), but for its head.
 #[derive(Debug, Drop)]
@@ -39,6 +31,6 @@ pub enum FromController {
     StatsRequest(StatsRequest),
     /// Section 5.3.7.
     BarrierRequest,
-    /// Section 5.3.4: the port whose queues are asked for.
-    QueueGetConfigRequest(u16),
+    /// Section 5.3.4; its body is passed on as it came.
+    QueueGetConfigRequest(QueuesQuestion),
 }

@@ -2,14 +2,16 @@
 //! that is wrong with its bytes; and the errors of a switch.
 #![tactic(auto)]
 
+mod bare;
 mod controller;
 mod error;
 mod fault;
-mod queues;
+pub mod laws;
 mod reading;
 
-pub use controller::{FromController, SwitchConfig};
+pub use bare::is_bare;
+pub use controller::FromController;
 pub use error::{ErrorView, pair_in};
 pub use fault::{MessageFault, Unread};
-pub use queues::{QueuesView, is_bare};
+pub use of10_config::{QueuesQuestion, QueuesView, SwitchConfig};
 pub use reading::read_controller;

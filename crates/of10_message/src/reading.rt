@@ -1,20 +1,23 @@
 //! A controller's message, by its type.
 
 ghost use Rattle.std.specs.Prelude.{◌≡◌, false};
-ghost use Rattle.of10_model.specs.Normal.{number_at};
 ghost use Rattle.of10_ctl.specs.declared.kind.TheConstants.{PACKET_OUT, FLOW_MOD, STATS_REQUEST};
 ghost use Rattle.of10_ctl.specs.Kinds.{IsOf};
 ghost use Rattle.of10_ctl.specs.Frames.{is_bad};
+ghost use Rattle.of10_config.specs.Configs.{read_config};
+ghost use Rattle.of10_config.specs.Queues.{read_queues_request};
 ghost use Rattle.of10_flow.specs.PacketOuts.{read_packet_out};
 ghost use Rattle.of10_flow.specs.FlowMods.{read_flow_mod};
 ghost use Rattle.of10_stats.specs.Requests.{read_request};
 ghost use Rattle.of10_message.specs.declared.controller.FromController.TheVariants as said;
 ghost use Rattle.of10_message.specs.Heads.{version_of, is_kind};
-ghost use Rattle.of10_message.specs.Controller.{Gives, sized, formed, config_in, read_hello, read_typed, read_controller};
+ghost use Rattle.of10_message.specs.Forms.{sized, formed, read_hello};
+ghost use Rattle.of10_message.specs.Controller.{Gives, read_typed, read_controller};
 
-use crate::controller::{FromController, SwitchConfig};
+use crate::controller::FromController;
 use crate::fault::{MessageFault, Unread};
 use of10_action::{DecodeFault, WireFault};
+use of10_config::{QueuesQuestion, SwitchConfig};
 use of10_ctl::Frame;
 use of10_ctl::kind::{
     BARRIER_REQUEST, ECHO_REPLY, ECHO_REQUEST, ERROR, FEATURES_REQUEST, FLOW_MOD,
@@ -22,7 +25,6 @@ use of10_ctl::kind::{
     STATS_REQUEST, VENDOR,
 };
 use of10_flow::{FlowMod, PacketOut};
-use of10_model::wire::u16_at;
 use of10_stats::StatsRequest;
 use std::alloc::Global;
 
@@ -74,28 +76,22 @@ fn stats_request(frame: &Frame) -> Result<FromController, MessageFault>
     }
 }
 
-/// A message whose body is two numbers or a port.
 fn config(frame: &Frame) -> Result<FromController, MessageFault>
-    ensures { Gives result (sized 12 (said.SetConfig (config_in frame.now)) frame.now) }
+    ensures { Gives result (formed said.SetConfig (read_config frame.now)) }
 {
-    let bytes = frame.as_slice();
-    if bytes.len() != 12 {
-        return Err(MessageFault::Unread(Unread::BadForm(WireFault::Length(bytes.len() as u16))));
+    match SwitchConfig::decode(frame) {
+        Ok(config) => Ok(FromController::SetConfig(config)),
+        Err(fault) => Err(MessageFault::Unread(Unread::BadForm(fault))),
     }
-    Ok(FromController::SetConfig(SwitchConfig {
-        flags: u16_at(bytes, 8),
-        miss_send_len: u16_at(bytes, 10),
-    }))
 }
 
-fn queue_request(frame: &Frame) -> Result<FromController, MessageFault>
-    ensures { Gives result (sized 12 (said.QueueGetConfigRequest (number_at frame.now 8 2)) frame.now) }
+fn queues_request(frame: &Frame) -> Result<FromController, MessageFault>
+    ensures { Gives result (formed said.QueueGetConfigRequest (read_queues_request frame.now)) }
 {
-    let bytes = frame.as_slice();
-    if bytes.len() != 12 {
-        return Err(MessageFault::Unread(Unread::BadForm(WireFault::Length(bytes.len() as u16))));
+    match QueuesQuestion::decode(frame) {
+        Ok(question) => Ok(FromController::QueueGetConfigRequest(question)),
+        Err(fault) => Err(MessageFault::Unread(Unread::BadForm(fault))),
     }
-    Ok(FromController::QueueGetConfigRequest(u16_at(bytes, 8)))
 }
 
 /// A message of version 1 that is no HELLO, by its type.
@@ -119,7 +115,7 @@ fn typed(alloc: Global, frame: &Frame) -> Result<FromController, MessageFault>
         PORT_MOD => Ok(FromController::PortMod),
         STATS_REQUEST => stats_request(frame),
         BARRIER_REQUEST => sized(8, FromController::BarrierRequest, frame),
-        QUEUE_GET_CONFIG_REQUEST => queue_request(frame),
+        QUEUE_GET_CONFIG_REQUEST => queues_request(frame),
         _ => Err(MessageFault::Unread(Unread::BadType)),
     }
 }

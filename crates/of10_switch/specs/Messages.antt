@@ -1,9 +1,9 @@
 -- What a switch sends, read from its bytes, or the first thing that is wrong with them (OpenFlow 1.0.0, section 5; the order of what is looked at is this proxy's own rule, and is that of a controller's message).
-use Rattle.std.specs.Prelude.{ℕ, ◌==◌, not, Bool, true, false, if◌then◌else◌, List, length, drop, Result, Ok, Err}
-use Rattle.of10_action.specs.declared.fault.WireFault.{WireFault}
-use Rattle.of10_action.specs.declared.fault.WireFault.TheVariants.{Length}
+use Rattle.std.specs.Prelude.{ℕ, Bool, true, false, if◌then◌else◌, List, drop, Result, Ok, Err}
 use Rattle.of10_ctl.specs.declared.kind.TheConstants as kinds
-use Rattle.of10_ctl.specs.Frames.{is_bad}
+use Rattle.of10_config.specs.declared.config.SwitchConfig.{SwitchConfig}
+use Rattle.of10_config.specs.Configs.{read_config}
+use Rattle.of10_config.specs.Queues.{QueuesMessage, read_queues}
 use Rattle.of10_flow.specs.declared.packet_in.PacketIn.{PacketIn as Packet}
 use Rattle.of10_flow.specs.declared.flow_removed.FlowRemoved.{FlowRemoved as Removal}
 use Rattle.of10_flow.specs.FlowRemoveds.{read_flow_removed}
@@ -14,13 +14,11 @@ use Rattle.of10_port.specs.Features.{read_features}
 use Rattle.of10_port.specs.PortStatus.{read_port_status}
 use Rattle.of10_stats.specs.declared.reply.StatsPart.{StatsPart}
 use Rattle.of10_stats.specs.Replies.{part_of}
-use Rattle.of10_message.specs.declared.controller.SwitchConfig.{SwitchConfig}
 use Rattle.of10_message.specs.declared.fault.Unread.{Unread}
-use Rattle.of10_message.specs.declared.fault.Unread.TheVariants.{BadLength, NoCommonVersion, BadVersion, BadType, BadForm}
-use Rattle.of10_message.specs.Heads.{version_of, is_kind}
-use Rattle.of10_message.specs.Controller.{config_in}
+use Rattle.of10_message.specs.declared.fault.Unread.TheVariants.{BadLength, BadType}
+use Rattle.of10_message.specs.Heads.{is_kind}
+use Rattle.of10_message.specs.Forms.{sized, formed, read_as}
 use Rattle.of10_message.specs.Errors.{ErrorMessage, read_error}
-use Rattle.of10_message.specs.Replies.{QueuesMessage, read_queues}
 
 -- one value for each type of message that a switch sends, with what its body says
 pub data SwitchMessage : Type 0 where
@@ -50,20 +48,11 @@ pub data SwitchMessage : Type 0 where
   -- section 5.3.4
   QueueGetConfigReply : QueuesMessage → SwitchMessage
 
--- a message that has so many bytes and no other number
-abbrev pub sized : ℕ → SwitchMessage → List ℕ → Result SwitchMessage Unread
-sized size message bytes = if length bytes == size then Ok message else Err (BadForm (Length (length bytes)))
-
--- a message that is read by its own layout
-abbrev pub formed : {A : Type 0} → (A → SwitchMessage) → Result A WireFault → Result SwitchMessage Unread
-formed message (Ok record_read) = Ok (message record_read)
-formed message (Err fault) = Err (BadForm fault)
-
 -- a part of statistics, whose entries are all behind its front (section 5.3.5)
 abbrev pub part_with : List ℕ → StatsPart → SwitchMessage
 part_with bytes part = StatsReply part (drop part.from bytes)
 
--- a message of version 1, by its type: what has no layout here is taken at any length; a reply to a barrier (section 5.3.7) has no body, how the switch is set (5.3.2) four bytes of it, and all others are read whole
+-- a message of version 1, by its type: what has no layout here is taken at any length; a reply to a barrier (section 5.3.7) has no body, and all others are read whole
 unfoldable pub read_sent : List ℕ → Result SwitchMessage Unread
 read_sent bytes =
     if is_kind kinds.PACKET_IN bytes then formed PacketIn (read_packet_in bytes)
@@ -74,23 +63,15 @@ read_sent bytes =
     else if is_kind kinds.BARRIER_REPLY bytes then sized 8 BarrierReply bytes
     else if is_kind kinds.QUEUE_GET_CONFIG_REPLY bytes then formed QueueGetConfigReply (read_queues bytes)
     else if is_kind kinds.FEATURES_REPLY bytes then formed FeaturesReply (read_features bytes)
-    else if is_kind kinds.GET_CONFIG_REPLY bytes then sized 12 (GetConfigReply (config_in bytes)) bytes
+    else if is_kind kinds.GET_CONFIG_REPLY bytes then formed GetConfigReply (read_config bytes)
     else if is_kind kinds.ECHO_REQUEST bytes then Ok (EchoRequest (drop 8 bytes))
     else if is_kind kinds.ECHO_REPLY bytes then Ok EchoReply
     else if is_kind kinds.VENDOR bytes then Ok Vendor
     else Err BadType
 
--- a HELLO of version 0 has no version in common with this proxy; any other means version 1 (section 4.2)
-abbrev pub read_hello : List ℕ → Result SwitchMessage Unread
-read_hello bytes = if version_of bytes == 0 then Err NoCommonVersion else Ok Hello
-
 -- what a switch's message says, or the first thing that is wrong with it: a length that doesn't count its header, no version in common, another version, a type that no switch sends, or the form of its type
 unfoldable pub read_switch : List ℕ → Result SwitchMessage Unread
-read_switch bytes =
-    if is_bad bytes then Err BadLength
-    else if is_kind kinds.HELLO bytes then read_hello bytes
-    else if not (version_of bytes == 1) then Err BadVersion
-    else read_sent bytes
+read_switch bytes = read_as Hello read_sent bytes
 
 -- what was read of a message whose length doesn't count its header
 abbrev pub has_bad_length : Result SwitchMessage Unread → Bool

@@ -1,13 +1,8 @@
 -- What is right of each message of a switch that is read from a frame: it fits its length field (OpenFlow 1.0.0, section 5.1), and a match is in normal form.
-use Rattle.std.specs.Prelude.{◌≡◌, ◌+◌, ◌≤◌, length}
+use Rattle.std.specs.Prelude.{◌+◌, ◌≤◌, length}
 use Rattle.of10_model.specs.Normal.{IsNormal}
-use Rattle.of10_message.specs.Replies.{QueuesMessage, port_of_queues}
+use Rattle.of10_config.specs.Queues.{AreQueues}
 use Rattle.of10_switch.specs.Messages.{SwitchMessage, EchoRequest, FeaturesReply, PacketIn, FlowRemoved, QueueGetConfigReply}
-
--- what is said of the queues of a port begins with that port, and fits a message (section 5.3.4)
-pub record AreQueues (queues : QueuesMessage) : Type 0 where
-  pub front : queues.port ≡ port_of_queues queues.body
-  pub fits : length queues.body ≤ 65527
 
 -- a message that was read from a frame
 abbrev pub IsSaid : SwitchMessage → Type 0

@@ -1,11 +1,11 @@
 -- What views of a switch's messages show.
 use Rattle.std.specs.Prelude.{◌≡◌, Result, Err}
 use Rattle.of10_model.specs.Results.{Answers}
+use Rattle.of10_config.specs.Queues.{queues_of_view}
 use Rattle.of10_flow.specs.PacketIns.{packet_of}
 use Rattle.of10_port.specs.declared.features.Features.{Features}
 use Rattle.of10_message.specs.declared.fault.Unread.{Unread}
 use Rattle.of10_message.specs.Errors.{error_of_view}
-use Rattle.of10_message.specs.Replies.{queues_of_view}
 use Rattle.of10_switch.specs.declared.features.FeaturesView.{FeaturesView}
 use Rattle.of10_switch.specs.declared.message.FromSwitch.{FromSwitch}
 use Rattle.of10_switch.specs.declared.message.FromSwitch.TheVariants as views

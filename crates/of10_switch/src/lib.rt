@@ -3,6 +3,7 @@
 #![tactic(auto)]
 
 mod features;
+pub mod laws;
 mod message;
 mod reading;
 

@@ -1,6 +1,7 @@
 use crate::features::FeaturesView;
+use of10_config::{QueuesView, SwitchConfig};
 use of10_flow::{FlowRemoved, PacketInView};
-use of10_message::{ErrorView, QueuesView, SwitchConfig};
+use of10_message::ErrorView;
 use of10_port::PortStatus;
 use of10_stats::StatsPart;
 

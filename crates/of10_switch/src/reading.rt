@@ -4,15 +4,16 @@ ghost use Rattle.std.specs.Prelude.{◌≡◌, false, IfOk};
 ghost use Rattle.of10_ctl.specs.declared.kind.TheConstants.{ERROR, FEATURES_REPLY, PACKET_IN, FLOW_REMOVED, PORT_STATUS, STATS_REPLY, QUEUE_GET_CONFIG_REPLY};
 ghost use Rattle.of10_ctl.specs.Kinds.{IsOf};
 ghost use Rattle.of10_ctl.specs.Frames.{is_bad};
+ghost use Rattle.of10_config.specs.Configs.{read_config};
+ghost use Rattle.of10_config.specs.Queues.{read_queues};
 ghost use Rattle.of10_flow.specs.PacketIns.{read_packet_in};
 ghost use Rattle.of10_flow.specs.FlowRemoveds.{read_flow_removed};
 ghost use Rattle.of10_port.specs.Features.{read_features};
 ghost use Rattle.of10_port.specs.PortStatus.{read_port_status};
 ghost use Rattle.of10_stats.specs.Replies.{part_of};
 ghost use Rattle.of10_message.specs.Heads.{version_of};
-ghost use Rattle.of10_message.specs.Controller.{config_in};
+ghost use Rattle.of10_message.specs.Forms.{sized, formed};
 ghost use Rattle.of10_message.specs.Errors.{read_error};
-ghost use Rattle.of10_message.specs.Replies.{read_queues};
 ghost use Rattle.of10_switch.specs.Messages as said;
 ghost use Rattle.of10_switch.specs.Views.{said_by, Reads};
 ghost use Rattle.of10_switch.specs.Ranges.{IsSaid};
@@ -20,20 +21,20 @@ ghost use Rattle.of10_switch.specs.Ranges.{IsSaid};
 use crate::features::FeaturesView;
 use crate::message::FromSwitch;
 use of10_action::{DecodeFault, WireFault};
+use of10_config::{QueuesView, SwitchConfig};
 use of10_ctl::Frame;
 use of10_ctl::kind::{
     BARRIER_REPLY, ECHO_REPLY, ECHO_REQUEST, ERROR, FEATURES_REPLY, FLOW_REMOVED, GET_CONFIG_REPLY,
     HELLO, PACKET_IN, PORT_STATUS, QUEUE_GET_CONFIG_REPLY, STATS_REPLY, VENDOR,
 };
 use of10_flow::{FlowRemoved, PacketInView};
-use of10_message::{ErrorView, QueuesView, SwitchConfig, Unread, is_bare};
-use of10_model::wire::u16_at;
+use of10_message::{ErrorView, Unread, is_bare};
 use of10_port::PortStatus;
 use of10_stats::part;
 
 fn error(frame: &Frame) -> Result<FromSwitch<'_>, Unread>
     requires { IsOf ERROR frame.now }
-    ensures exact { Reads result (said.formed said.Error (read_error frame.now)) }
+    ensures exact { Reads result (formed said.Error (read_error frame.now)) }
     ensures range { IfOk result (λ m. IsSaid (said_by m)) }
 {
     match ErrorView::decode(frame) {
@@ -44,7 +45,7 @@ fn error(frame: &Frame) -> Result<FromSwitch<'_>, Unread>
 
 fn features(frame: &Frame) -> Result<FromSwitch<'_>, Unread>
     requires { IsOf FEATURES_REPLY frame.now }
-    ensures exact { Reads result (said.formed said.FeaturesReply (read_features frame.now)) }
+    ensures exact { Reads result (formed said.FeaturesReply (read_features frame.now)) }
     ensures range { IfOk result (λ m. IsSaid (said_by m)) }
 {
     match FeaturesView::decode(frame) {
@@ -54,22 +55,18 @@ fn features(frame: &Frame) -> Result<FromSwitch<'_>, Unread>
 }
 
 fn config(frame: &Frame) -> Result<FromSwitch<'_>, Unread>
-    ensures exact { Reads result (said.sized 12 (said.GetConfigReply (config_in frame.now)) frame.now) }
+    ensures exact { Reads result (formed said.GetConfigReply (read_config frame.now)) }
     ensures range { IfOk result (λ m. IsSaid (said_by m)) }
 {
-    let bytes = frame.as_slice();
-    if bytes.len() != 12 {
-        return Err(Unread::BadForm(WireFault::Length(bytes.len() as u16)));
+    match SwitchConfig::decode(frame) {
+        Ok(config) => Ok(FromSwitch::GetConfigReply(config)),
+        Err(fault) => Err(Unread::BadForm(fault)),
     }
-    Ok(FromSwitch::GetConfigReply(SwitchConfig {
-        flags: u16_at(bytes, 8),
-        miss_send_len: u16_at(bytes, 10),
-    }))
 }
 
 fn packet_in(frame: &Frame) -> Result<FromSwitch<'_>, Unread>
     requires { IsOf PACKET_IN frame.now }
-    ensures exact { Reads result (said.formed said.PacketIn (read_packet_in frame.now)) }
+    ensures exact { Reads result (formed said.PacketIn (read_packet_in frame.now)) }
     ensures range { IfOk result (λ m. IsSaid (said_by m)) }
 {
     match PacketInView::decode(frame) {
@@ -80,7 +77,7 @@ fn packet_in(frame: &Frame) -> Result<FromSwitch<'_>, Unread>
 
 fn flow_removed(frame: &Frame) -> Result<FromSwitch<'_>, Unread>
     requires { IsOf FLOW_REMOVED frame.now }
-    ensures exact { Reads result (said.formed said.FlowRemoved (read_flow_removed frame.now)) }
+    ensures exact { Reads result (formed said.FlowRemoved (read_flow_removed frame.now)) }
     ensures range { IfOk result (λ m. IsSaid (said_by m)) }
 {
     match FlowRemoved::decode(frame) {
@@ -93,7 +90,7 @@ fn flow_removed(frame: &Frame) -> Result<FromSwitch<'_>, Unread>
 
 fn port_status(frame: &Frame) -> Result<FromSwitch<'_>, Unread>
     requires { IsOf PORT_STATUS frame.now }
-    ensures exact { Reads result (said.formed said.PortStatus (read_port_status frame.now)) }
+    ensures exact { Reads result (formed said.PortStatus (read_port_status frame.now)) }
     ensures range { IfOk result (λ m. IsSaid (said_by m)) }
 {
     match PortStatus::decode(frame) {
@@ -104,7 +101,7 @@ fn port_status(frame: &Frame) -> Result<FromSwitch<'_>, Unread>
 
 fn statistics(frame: &Frame) -> Result<FromSwitch<'_>, Unread>
     requires { IsOf STATS_REPLY frame.now }
-    ensures exact { Reads result (said.formed (said.part_with frame.now) (part_of frame.now)) }
+    ensures exact { Reads result (formed (said.part_with frame.now) (part_of frame.now)) }
     ensures range { IfOk result (λ m. IsSaid (said_by m)) }
 {
     match part(frame) {
@@ -114,7 +111,7 @@ fn statistics(frame: &Frame) -> Result<FromSwitch<'_>, Unread>
 }
 
 fn barrier(frame: &Frame) -> Result<FromSwitch<'_>, Unread>
-    ensures exact { Reads result (said.sized 8 said.BarrierReply frame.now) }
+    ensures exact { Reads result (sized 8 said.BarrierReply frame.now) }
     ensures range { IfOk result (λ m. IsSaid (said_by m)) }
 {
     if is_bare(frame) {
@@ -126,7 +123,7 @@ fn barrier(frame: &Frame) -> Result<FromSwitch<'_>, Unread>
 
 fn queues(frame: &Frame) -> Result<FromSwitch<'_>, Unread>
     requires { IsOf QUEUE_GET_CONFIG_REPLY frame.now }
-    ensures exact { Reads result (said.formed said.QueueGetConfigReply (read_queues frame.now)) }
+    ensures exact { Reads result (formed said.QueueGetConfigReply (read_queues frame.now)) }
     ensures range { IfOk result (λ m. IsSaid (said_by m)) }
 {
     match QueuesView::decode(frame) {

@@ -2,7 +2,6 @@
 use Rattle.std.proofs.Common.{◌≡◌, ℕ, Bool, true, false, if◌then◌else◌, List, [], ◌∷◌, slice_get, refl, ap, ap₂, subst, sym, ◌∙◌, Option, Some, None, Result, Ok, Err}
 use Rattle.std.specs.Prelude.{ltb}
 use Rattle.std.proofs.lemmas.Option.{none-some}
-use Rattle.of10_ctl.specs.Frames.{is_bad}
 use Rattle.of10_port.specs.declared.features.Features.{Features}
 use Rattle.of10_message.specs.declared.fault.Unread.{Unread}
 use Rattle.of10_message.specs.declared.fault.Unread.TheVariants.{BadLength}
@@ -12,7 +11,7 @@ use Rattle.of10_switch.specs.declared.features.FeaturesView.{FeaturesView}
 use Rattle.of10_switch.specs.declared.message.FromSwitch.{FromSwitch}
 use Rattle.of10_switch.specs.declared.message.FromSwitch.TheVariants as views
 use Rattle.of10_switch.specs.Views.{said_by}
-use Rattle.of10_switch.proofs.Cases.{bad_read, bad_length-read}
+use Rattle.of10_switch.proofs.Cases.{bad_read}
 use Rattle.flowspace.specs.declared.slices.Slice.{Slice}
 use Rattle.flowspace.specs.Policies.{PolicyView}
 use Rattle.port_view.specs.KnownPorts.{first_known, known_of}
@@ -26,7 +25,7 @@ use Rattle.slice_words.specs.Standing.{SliceStands}
 use Rattle.desk_words.specs.declared.event.Event.TheVariants.{SwitchMsg}
 use Rattle.desk_words.specs.declared.phase.Phase.{Phase}
 use Rattle.desk_words.specs.declared.phase.Phase.TheVariants.{Begun}
-use Rattle.desk_words.specs.Openings.{features_said, features_told, opening_after, known_after, rules_of, Switch, switch_after}
+use Rattle.desk_words.specs.Openings.{ends_switch, features_said, features_told, opening_after, known_after, rules_of, Switch, switch_after}
 use Rattle.desk_words.specs.Histories.{is_slot, settings_at, own_features, Side, side_start, items_of, phase_items, opening_items, with_shown}
 use Rattle.desk_words.specs.Sent.{echo_said, echo_for}
 use Rattle.desk_words.specs.Operations.{slice_limit}
@@ -39,18 +38,18 @@ use Rattle.proxy_core.proofs.Fitting.{settings_known}
 
 -- ---- messages of a bad length
 
-pub bad_features : (message : List ℕ) → is_bad message ≡ true → features_told message ≡ None
-bad_features message bad = ap features_said (bad_read message bad)
+pub bad_features : (message : List ℕ) → ends_switch message ≡ true → features_told message ≡ None
+bad_features message bad = ap features_said (bad_read (read_switch message) bad)
 
-pub bad_echo : (message : List ℕ) → is_bad message ≡ true → echo_for message ≡ []
-bad_echo message bad = ap (echo_said (xid_of message)) (bad_read message bad)
+pub bad_echo : (message : List ℕ) → ends_switch message ≡ true → echo_for message ≡ []
+bad_echo message bad = ap (echo_said (xid_of message)) (bad_read (read_switch message) bad)
 
 -- one that says something else, and one that doesn't
-pub good_said : (message : List ℕ) (said : Result SwitchMessage Unread) → read_switch message ≡ said → has_bad_length said ≡ false → is_bad message ≡ false
-good_said message said is good = sym (bad_length-read message) ∙ ap has_bad_length is ∙ good
+pub good_said : (message : List ℕ) (said : Result SwitchMessage Unread) → read_switch message ≡ said → has_bad_length said ≡ false → ends_switch message ≡ false
+good_said message said is good = ap has_bad_length is ∙ good
 
-pub bad_said : (message : List ℕ) → read_switch message ≡ Err BadLength → is_bad message ≡ true
-bad_said message is = sym (bad_length-read message) ∙ ap has_bad_length is
+pub bad_said : (message : List ℕ) → read_switch message ≡ Err BadLength → ends_switch message ≡ true
+bad_said message is = ap has_bad_length is
 
 pub other_fault : (fault : Unread) → (fault ≡ BadLength → ⊥) → has_bad_length (Err fault) ≡ false
 other_fault BadLength other = absurd (other refl)
@@ -61,12 +60,12 @@ pub other_said : (said : FromSwitch) → ((told : FeaturesView) → said ≡ vie
 other_said (views.FeaturesReply told) other = absurd (other told refl)
 other_said said other = refl
 
-good_by : (bad : Bool) (message : List ℕ) (features : Features) → is_bad message ≡ bad → features_told message ≡ Some features → bad ≡ false
+good_by : (bad : Bool) (message : List ℕ) (features : Features) → ends_switch message ≡ bad → features_told message ≡ Some features → bad ≡ false
 good_by true message features is told = absurd (none-some features (sym (bad_features message is) ∙ told))
 good_by false message features is told = refl
 
-pub told_good : (message : List ℕ) (features : Features) → features_told message ≡ Some features → is_bad message ≡ false
-told_good message features told = good_by (is_bad message) message features refl told
+pub told_good : (message : List ℕ) (features : Features) → features_told message ≡ Some features → ends_switch message ≡ false
+told_good message features told = good_by (ends_switch message) message features refl told
 
 -- ---- the slots of the session
 

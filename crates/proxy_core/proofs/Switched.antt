@@ -3,7 +3,6 @@ use Rattle.std.proofs.Common.{◌≡◌, ℕ, ◌&&◌, not, Bool, true, false, 
 use Rattle.std.specs.Prelude.{ltb}
 use Rattle.std.proofs.lemmas.Bool.{ltb-true}
 use Rattle.std.proofs.lemmas.Option.{none-some}
-use Rattle.of10_ctl.specs.Frames.{is_bad}
 use Rattle.of10_port.specs.declared.features.Features.{Features}
 use Rattle.of10_port.specs.declared.status.PortStatus.{PortStatus}
 use Rattle.of10_message.specs.declared.fault.Unread.{Unread}
@@ -23,7 +22,7 @@ use Rattle.desk_words.specs.declared.event.Event.TheVariants.{SwitchMsg}
 use Rattle.desk_words.specs.declared.event.Timed.{Timed}
 use Rattle.desk_words.specs.declared.phase.Phase.{Phase}
 use Rattle.desk_words.specs.declared.phase.Phase.TheVariants.{Fresh, Begun, Opened, Gone}
-use Rattle.desk_words.specs.Openings.{features_said, status_said, features_told, status_told, kept_beside, status_kept, phase_after, opening_after, known_after, Switch, switch_after}
+use Rattle.desk_words.specs.Openings.{ends_switch, features_said, status_said, features_told, status_told, kept_beside, status_kept, phase_after, opening_after, known_after, Switch, switch_after}
 use Rattle.desk_words.specs.Histories.{settings_at, Side, said_items, message_items}
 use Rattle.desk_words.specs.Sent.{preparation, echo_said, echo_for, lane_in, put_with}
 use Rattle.desk_words.specs.Verdicts.{is_fresh, is_ended, is_before, is_closing}
@@ -45,10 +44,10 @@ use Rattle.proxy_core.proofs.Beginning.{bad_features, bad_echo, good_said, told_
 
 -- ---- a message of a switch that hasn't told what it is
 
-begun_bad : (message : List ℕ) → is_bad message ≡ true → phase_after Begun (SwitchMsg message) ≡ Gone
+begun_bad : (message : List ℕ) → ends_switch message ≡ true → phase_after Begun (SwitchMsg message) ≡ Gone
 begun_bad message bad = ap (λ (b : Bool). if b then Gone else elim (features_told message) [ None ↦ Begun | Some features ↦ Opened ]) bad
 
-begun_echo : (message : List ℕ) → is_bad message ≡ false → features_told message ≡ None → phase_after Begun (SwitchMsg message) ≡ Begun
+begun_echo : (message : List ℕ) → ends_switch message ≡ false → features_told message ≡ None → phase_after Begun (SwitchMsg message) ≡ Begun
 begun_echo message good none =
     ap₂ (λ (b : Bool) (told : Option Features). if b then Gone else elim told [ None ↦ Begun | Some features ↦ Opened ]) good none
 
@@ -108,7 +107,7 @@ told p switch sides qs ql moment message before after over sent old new body was
           ∙ sym (ap not (closes_msg p (up_after p switch sides timed) switch.phase (phase_after switch.phase (SwitchMsg message)) message (ap is_fresh was ∙ far)));
     }
 
-pub begun_ends : (old new : Desk) (moment : ℕ) (message : List ℕ) → Ends old new → is_bad message ≡ true → ActsIn Begun old (told_at moment message) false new
+pub begun_ends : (old new : Desk) (moment : ℕ) (message : List ℕ) → Ends old new → ends_switch message ≡ true → ActsIn Begun old (told_at moment message) false new
 begun_ends old new moment message ends bad p switch sides qs ql fit body begun =
     let none = bad_features message bad in
     told p switch sides qs ql moment message Begun Gone true [] old new body begun refl (begun_bad message bad) refl
@@ -117,7 +116,7 @@ begun_ends old new moment message ends bad p switch sides qs ql fit body begun =
     (begun_still p switch sides qs moment message old.session fit begun none body.opens))
 
 begun_still_answers : (old new : Desk) (moment : ℕ) (message : List ℕ) → new.policy ≡ old.policy → new.phase ≡ old.phase → HasMore (echo_for message) old.lane new.lane → new.session ≡ old.session
-    → is_bad message ≡ false → features_told message ≡ None → ActsIn Begun old (told_at moment message) true new
+    → ends_switch message ≡ false → features_told message ≡ None → ActsIn Begun old (told_at moment message) true new
 begun_still_answers old new moment message policy phase more session good none p switch sides qs ql fit body begun =
     told p switch sides qs ql moment message Begun Begun false (echo_for message) old new body begun refl (begun_echo message good none) refl
     (lane_begun (λ i. put_with p i switch (sides i) (told_at moment message)) message None none) policy (phase ∙ body.phase ∙ begun) (more lane_limit ql body.lane)
@@ -144,27 +143,27 @@ opened old new moment message features session policy phase more now tells begin
 -- ---- a message of a switch that has told what it is
 
 -- a message of a bad length ends the session
-opened_bad : (message : List ℕ) → is_bad message ≡ true → phase_after Opened (SwitchMsg message) ≡ Gone
+opened_bad : (message : List ℕ) → ends_switch message ≡ true → phase_after Opened (SwitchMsg message) ≡ Gone
 opened_bad message bad = ap (λ (b : Bool). if b then Gone else Opened) bad
 
-opened_good : (message : List ℕ) → is_bad message ≡ false → phase_after Opened (SwitchMsg message) ≡ Opened
+opened_good : (message : List ℕ) → ends_switch message ≡ false → phase_after Opened (SwitchMsg message) ≡ Opened
 opened_good message good = ap (λ (b : Bool). if b then Gone else Opened) good
 
-bad_shown : (p : PolicyView) (slot : ℕ) (switch : Switch) (side : Side) (message : List ℕ) → is_bad message ≡ true → message_items p slot switch side message ≡ End ∷ []
+bad_shown : (p : PolicyView) (slot : ℕ) (switch : Switch) (side : Side) (message : List ℕ) → ends_switch message ≡ true → message_items p slot switch side message ≡ End ∷ []
 unfolding message_items
-bad_shown p slot switch side message bad = ap (said_items p slot switch side (xid_of message)) (bad_read message bad)
+bad_shown p slot switch side message bad = ap (said_items p slot switch side (xid_of message)) (bad_read (read_switch message) bad)
 
 -- the session of a switch that ends
-pub bad_ends : (p : PolicyView) (switch : Switch) (sides : ℕ → Side) (qs : ℕ → Queue) (moment : ℕ) (message : List ℕ) (session : Session) → SessionStands p switch sides qs session → switch.phase ≡ Opened → is_bad message ≡ true
+pub bad_ends : (p : PolicyView) (switch : Switch) (sides : ℕ → Side) (qs : ℕ → Queue) (moment : ℕ) (message : List ℕ) (session : Session) → SessionStands p switch sides qs session → switch.phase ≡ Opened → ends_switch message ≡ true
     → SessionStands p (switch_after switch (SwitchMsg message)) (sides_after p switch sides (told_at moment message)) (queues_after p switch sides qs (told_at moment message)) session
 bad_ends p switch sides qs moment message session stands open_ bad =
     session_ends p switch sides qs (told_at moment message) session stands
-    (ap (λ (k : Phase). known_after k switch.known (SwitchMsg message)) open_ ∙ ap (λ (t : Option PortStatus). elim t [ None ↦ switch.known | Some status ↦ changed status switch.known ]) (ap status_said (bad_read message bad)))
+    (ap (λ (k : Phase). known_after k switch.known (SwitchMsg message)) open_ ∙ ap (λ (t : Option PortStatus). elim t [ None ↦ switch.known | Some status ↦ changed status switch.known ]) (ap status_said (bad_read (read_switch message) bad)))
     (λ slot here. items_opened p slot switch (sides slot) (told_at moment message) open_
     ∙ ap₂ (λ (b : Bool) (items : List Item). if b then items else []) here (bad_shown p slot switch (sides slot) message bad))
     (λ slot. refl)
 
-opens_bad : (p : PolicyView) (switch : Switch) (sides : ℕ → Side) (qs : ℕ → Queue) (moment : ℕ) (message : List ℕ) (session : Option Session) → Coherent p switch sides → switch.phase ≡ Opened → is_bad message ≡ true → Opens p switch sides qs session
+opens_bad : (p : PolicyView) (switch : Switch) (sides : ℕ → Side) (qs : ℕ → Queue) (moment : ℕ) (message : List ℕ) (session : Option Session) → Coherent p switch sides → switch.phase ≡ Opened → ends_switch message ≡ true → Opens p switch sides qs session
     → Opens p (switch_after switch (SwitchMsg message)) (sides_after p switch sides (told_at moment message)) (queues_after p switch sides qs (told_at moment message)) session
 opens_bad p switch sides qs moment message (Some session) fit open_ bad stands = bad_ends p switch sides qs moment message session stands open_ bad
 opens_bad p switch sides qs moment message None fit open_ bad opens = (let some = fit.open_told open_ in absurd (none-some some.0 (sym opens.0 ∙ some.1)))
@@ -265,7 +264,7 @@ carried_out moment message old new lane new_lane rooms p switch sides qs d open_
 
 pub closed_bad : (moment : ℕ) (message : List ℕ) (old : Session) (p : PolicyView) (switch : Switch) (sides : ℕ → Side) (qs : ℕ → Queue) (d : Dispatch) → switch.phase ≡ Opened → AllNumbered p switch sides → SessionStands p switch sides qs old
     → ((p : PolicyView) (switch : Switch) (sides : ℕ → Side) (moment : ℕ) → Surrounds p switch old.policy old.ports → AllStand p switch sides old.states.items → AllNumbered p switch sides → IsDispatch p switch sides moment message d)
-    → d.close ≡ true → is_bad message ≡ true
+    → d.close ≡ true → ends_switch message ≡ true
 closed_bad moment message old p switch sides qs d open_ numbered s dispatched goes =
     sym (dispatched p switch sides moment (surrounds p switch sides qs old s open_) (all_stand p switch sides qs old s) numbered).close ∙ goes
 

@@ -1,7 +1,6 @@
 -- When a desk is the one that a list of operations makes of a policy. All of this is this proxy's own rule.
 use Rattle.std.specs.Prelude.{ℕ, ◌≡◌, ◌<◌, ◌==◌, ◌&&◌, not, Bool, true, false, if◌then◌else◌, List, [], ◌∷◌, length, slice_get, Option, Some, None, Result}
 use Rattle.std.specs.declared.alloc.AllocError.{AllocError}
-use Rattle.of10_ctl.specs.Frames.{is_bad}
 use Rattle.flowspace.specs.Policies.{PolicyView}
 use Rattle.flow_book.specs.declared.state.SliceState.{SliceState}
 use Rattle.outbox.specs.Queues.{Queue, no_messages, push_all, size, without_first, Kept, QueueStands}
@@ -18,7 +17,7 @@ use Rattle.desk_words.specs.declared.answer.Taken.{Taken}
 use Rattle.desk_words.specs.declared.answer.Taken.TheVariants as takens
 use Rattle.desk_words.specs.declared.answer.Taken.TheVariants.{Message, NotOpen}
 use Rattle.desk_words.specs.declared.answer.Verdict.{Verdict}
-use Rattle.desk_words.specs.Openings.{rules_of, phase_of, phase_after, Switch as Known, switch_after, switch_of}
+use Rattle.desk_words.specs.Openings.{ends_switch, rules_of, phase_of, phase_after, Switch as Known, switch_after, switch_of}
 use Rattle.desk_words.specs.Histories.{is_slot, settings_at, Side, side_start, items_of, with_shown, side_of, is_open, is_slice_up}
 use Rattle.desk_words.specs.Numbers.{AreNumbered}
 use Rattle.desk_words.specs.Sent.{sent_with, put_with, lane_in, echo_for}
@@ -126,10 +125,10 @@ pub record Ends (old new : Desk) : Type 0 where
 -- a message of the switch went to the session, or has a bad length and so nothing changed yet
 abbrev pub PassedOn : PolicyView → Known → (ℕ → Side) → (ℕ → Queue) → Timed → List ℕ → Bool → Desk → Desk → Type 0
 PassedOn policy switch sides queues timed message true old new =
-    (is_bad message ≡ false) × (new.policy ≡ old.policy) × (new.phase ≡ old.phase)
+    (ends_switch message ≡ false) × (new.policy ≡ old.policy) × (new.phase ≡ old.phase)
     × Opens policy (switch_after switch timed.event) (sides_after policy switch sides timed) (queues_after policy switch sides queues timed) new.session
     × HasMore (echo_for message) old.lane new.lane
-PassedOn policy switch sides queues timed message false old new = (is_bad message ≡ true) × (new ≡ old)
+PassedOn policy switch sides queues timed message false old new = (ends_switch message ≡ true) × (new ≡ old)
 
 abbrev pub PassesOn : ℕ → List ℕ → Bool → Desk → Desk → Type 0
 PassesOn moment message go old new =

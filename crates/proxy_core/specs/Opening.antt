@@ -1,6 +1,5 @@
 -- A session, slot by slot, and how one begins (this proxy's own rule).
 use Rattle.std.specs.Prelude.{ℕ, ◌≡◌, ◌≢◌, ◌&&◌, ltb, if◌then◌else◌, Bool, true, false, List, [], length, slice_get, Option, Some, None}
-use Rattle.of10_ctl.specs.Frames.{is_bad}
 use Rattle.of10_port.specs.declared.features.Features.{Features}
 use Rattle.flowspace.specs.declared.slices.Slice.{Slice}
 use Rattle.flowspace.specs.Order.{rules_on}
@@ -14,7 +13,7 @@ use Rattle.desk_words.specs.declared.event.Event.TheVariants.{SwitchMsg}
 use Rattle.desk_words.specs.declared.answer.Taken.{Taken}
 use Rattle.desk_words.specs.declared.answer.Taken.TheVariants.{Choked, Nothing, Ended}
 use Rattle.desk_words.specs.declared.phase.Phase.TheVariants.{Opened}
-use Rattle.desk_words.specs.Openings.{Switch, switch_after}
+use Rattle.desk_words.specs.Openings.{ends_switch, Switch, switch_after}
 use Rattle.desk_words.specs.Histories.{Side}
 use Rattle.desk_words.specs.Sent.{echo_for}
 use Rattle.desk_words.specs.Operations.{slice_limit}
@@ -63,10 +62,10 @@ silence_at slot session =
 -- a message of the switch was carried out, or has a bad length and so nothing changed yet
 abbrev pub CarriedOut : PolicyView → Switch → (ℕ → Side) → (ℕ → Queue) → ℕ → List ℕ → Bool → Session → Kept → Session → Kept → Type 0
 CarriedOut policy switch sides queues moment message true old lane new new_lane =
-    (is_bad message ≡ false)
+    (ends_switch message ≡ false)
     × SessionStands policy (switch_after switch (SwitchMsg message)) (sides_after policy switch sides (told_at moment message)) (queues_after policy switch sides queues (told_at moment message)) new
     × HasMore (echo_for message) lane new_lane
-CarriedOut policy switch sides queues moment message false old lane new new_lane = (is_bad message ≡ true) × (new ≡ old) × (new_lane ≡ lane)
+CarriedOut policy switch sides queues moment message false old lane new new_lane = (ends_switch message ≡ true) × (new ≡ old) × (new_lane ≡ lane)
 
 -- what a session that has told what it is makes of a message of the switch
 abbrev pub Carries : ℕ → List ℕ → Bool → Session → Kept → Session → Kept → Type 0

@@ -51,7 +51,7 @@ set_is_plain (Ok (said.FlowMod m)) wanted is = absurd (none_some is)
 set_is_plain (Ok said.PortMod) wanted is = (refl, refl)
 set_is_plain (Ok (said.StatsRequest request)) wanted is = absurd (none_some is)
 set_is_plain (Ok said.BarrierRequest) wanted is = absurd (none_some is)
-set_is_plain (Ok (said.QueueGetConfigRequest port)) wanted is = absurd (none_some is)
+set_is_plain (Ok (said.QueueGetConfigRequest queues)) wanted is = absurd (none_some is)
 set_is_plain (Err fault) wanted is = absurd (none_some is)
 
 -- what asks something neither ends a connection nor sets a length
@@ -60,7 +60,7 @@ question_is_plain (Ok (said.PacketOut m)) is = (refl, refl)
 question_is_plain (Ok (said.FlowMod m)) is = (refl, refl)
 question_is_plain (Ok (said.StatsRequest request)) is = (refl, refl)
 question_is_plain (Ok said.BarrierRequest) is = (refl, refl)
-question_is_plain (Ok (said.QueueGetConfigRequest port)) is = (refl, refl)
+question_is_plain (Ok (said.QueueGetConfigRequest queues)) is = (refl, refl)
 question_is_plain (Ok said.Hello) is = absurd (true≢false (sym is))
 question_is_plain (Ok said.Error) is = absurd (true≢false (sym is))
 question_is_plain (Ok said.EchoRequest) is = absurd (true≢false (sym is))
@@ -94,7 +94,7 @@ unasked s view past moment message none =
       tells_table = refl;
       asks_statistics = λ request question read may is. absurd (true≢false (ap asks_switch (sym read) ∙ none));
       asks_barrier = λ read. absurd (true≢false (ap asks_switch (sym read) ∙ none));
-      asks_queues = λ port read own. absurd (true≢false (ap asks_switch (sym read) ∙ none));
+      asks_queues = λ queues read own. absurd (true≢false (ap asks_switch (sym read) ∙ none));
     })
 
 by_up : (up : Bool) (a : Answer) → a.to_switch ≡ [] → (if up then a else silence).to_switch ≡ []
@@ -362,7 +362,7 @@ sent_out s sight item at asked used old new requests stands is = absurd is
 inquiry_asks : (read : Reading) → is_inquiry read ≡ true → asks_switch read ≡ true
 inquiry_asks (Ok (said.StatsRequest request)) is = refl
 inquiry_asks (Ok said.BarrierRequest) is = refl
-inquiry_asks (Ok (said.QueueGetConfigRequest port)) is = refl
+inquiry_asks (Ok (said.QueueGetConfigRequest queues)) is = refl
 inquiry_asks (Ok (said.PacketOut m)) is = refl
 inquiry_asks (Ok (said.FlowMod m)) is = refl
 inquiry_asks (Ok said.Hello) is = absurd (true≢false (sym is))

@@ -8,6 +8,7 @@ use Rattle.xid_map.specs.declared.asked.Asked.{Asked}
 use Rattle.flow_book.specs.declared.booked.Booked.{Booked}
 use Rattle.stats_filter.specs.Asking.{question_for}
 use Rattle.stats_filter.specs.Replies.{table_reply}
+use Rattle.of10_config.specs.declared.queues.QueuesQuestion.{QueuesQuestion}
 use Rattle.slice_words.specs.Messages.{Reading, asked_of}
 use Rattle.slice_words.specs.Items.{Settings, Sight}
 use Rattle.slice_words.specs.Pasts.{Answer, told}
@@ -47,11 +48,11 @@ pub statistics_sent : (g : Ground) (request : StatsRequest) (message question : 
 statistics_sent g request message question is sent =
     ap (λ (b : Bool). if b then statistics_asked g request message else refused not_permitted message) is ∙ ap (by_question g message) sent
 
-pub queues_refused : (g : Ground) (port : ℕ) (message : List ℕ) → is_port_on g port ≡ false → queues_answer g port message ≡ refused not_permitted message
-queues_refused g port message is = ap (λ (b : Bool). if b then queues_asked g message else refused not_permitted message) is
+pub queues_refused : (g : Ground) (queues : QueuesQuestion) (message : List ℕ) → is_port_on g queues.port ≡ false → queues_answer g queues message ≡ refused not_permitted message
+queues_refused g queues message is = ap (λ (b : Bool). if b then queues_asked g queues else refused not_permitted message) is
 
-pub queues_sent : (g : Ground) (port : ℕ) (message : List ℕ) → is_port_on g port ≡ true → queues_answer g port message ≡ queues_asked g message
-queues_sent g port message is = ap (λ (b : Bool). if b then queues_asked g message else refused not_permitted message) is
+pub queues_sent : (g : Ground) (queues : QueuesQuestion) (message : List ℕ) → is_port_on g queues.port ≡ true → queues_answer g queues message ≡ queues_asked g queues
+queues_sent g queues message is = ap (λ (b : Bool). if b then queues_asked g queues else refused not_permitted message) is
 
 -- ---- reactions
 

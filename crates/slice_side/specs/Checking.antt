@@ -14,7 +14,7 @@ use Rattle.of10_ctl.specs.declared.kind.TheConstants.{BARRIER_REQUEST}
 use Rattle.of10_ctl.specs.Frames.{message_of}
 use Rattle.of10_message.specs.declared.controller.FromController.{FromController}
 use Rattle.of10_message.specs.declared.controller.FromController.TheVariants as said
-use Rattle.of10_config.specs.Configs.{spell_queues_request}
+use Rattle.of10_config.specs.Queues.{spell_queues_request}
 use Rattle.flowspace.specs.declared.rules.Rule.{Rule}
 use Rattle.flowmod_expand.specs.Messages.{piece_messages}
 use Rattle.stats_filter.specs.Asking.{question_for}
@@ -69,24 +69,24 @@ flow_mods_from state g m = piece_messages 0 m g.xid (pieces_on g m) (lists_on g 
 abbrev pub packet_out_from : SliceState → Ground → PacketOut → PacketOut
 packet_out_from state g m = record (packet_out_on g m) { buffer = number_in (packet_in state m.buffer) }
 
--- with this message, of which this was read, the slice may ask the switch this
-abbrev pub IsQuestion : Ground → List ℕ → FromController → List ℕ → Type 0
-IsQuestion g message (said.StatsRequest request) question = (may_ask g request ≡ true) × (question_for request g.xid ≡ Some question)
-IsQuestion g message said.BarrierRequest question = question ≡ message_of BARRIER_REQUEST g.xid []
-IsQuestion g message (said.QueueGetConfigRequest port) question = (is_port_on g port ≡ true) × (question ≡ spell_queues_request g.xid (drop 8 message))
-IsQuestion g message asked question = ⊥
+-- with a message of which this was read the slice may ask the switch this
+abbrev pub IsQuestion : Ground → FromController → List ℕ → Type 0
+IsQuestion g (said.StatsRequest request) question = (may_ask g request ≡ true) × (question_for request g.xid ≡ Some question)
+IsQuestion g said.BarrierRequest question = question ≡ message_of BARRIER_REQUEST g.xid []
+IsQuestion g (said.QueueGetConfigRequest queues) question = (is_port_on g queues.port ≡ true) × (question ≡ spell_queues_request g.xid queues)
+IsQuestion g asked question = ⊥
 
 -- this is sent on for a message of which this was read: nothing; the flow-mods for it where it is one that no line refuses; the packet-out for it where it is one that no line refuses; or one question that the slice may ask with it
-abbrev pub IsSentOn : SliceState → Ground → List ℕ → Reading → List (List ℕ) → Type 0
-IsSentOn state g message read sent =
+abbrev pub IsSentOn : SliceState → Ground → Reading → List (List ℕ) → Type 0
+IsSentOn state g read sent =
     (sent ≡ [])
     ⊎ (((m : FlowMod) × (read ≡ Ok (said.FlowMod m)) × (flow_mod_fault g m ≡ None) × (sent ≡ map spell_flow_mod (flow_mods_from state g m)))
     ⊎ (((m : PacketOut) × (read ≡ Ok (said.PacketOut m)) × (packet_out_fault g m ≡ None) × (sent ≡ spell_packet_out (packet_out_from state g m) ∷ []))
-    ⊎ ((asked : FromController) × (question : List ℕ) × (read ≡ Ok asked) × IsQuestion g message asked question × (sent ≡ question ∷ []))))
+    ⊎ ((asked : FromController) × (question : List ℕ) × (read ≡ Ok asked) × IsQuestion g asked question × (sent ≡ question ∷ []))))
 
 -- so it is by the rules of the switch, its ports and the slice's state, with some quota and some transaction id
-abbrev pub AreSentOn : List Rule → ℕ → List (List ℕ) → SliceState → List ℕ → Reading → List (List ℕ) → Type 0
-AreSentOn rules slot known state message read sent = (quota : ℕ) × (xid : ℕ) × IsSentOn state (ground_at rules slot known quota xid state) message read sent
+abbrev pub AreSentOn : List Rule → ℕ → List (List ℕ) → SliceState → Reading → List (List ℕ) → Type 0
+AreSentOn rules slot known state read sent = (quota : ℕ) × (xid : ℕ) × IsSentOn state (ground_at rules slot known quota xid state) read sent
 
 -- ---- ports
 

@@ -106,7 +106,7 @@ pub record IsSendingOut (held : List HeldPacket) (message : List ℕ) (read : Re
 abbrev pub is_inquiry : Reading → Bool
 is_inquiry (Ok (said.StatsRequest request)) = true
 is_inquiry (Ok said.BarrierRequest) = true
-is_inquiry (Ok (said.QueueGetConfigRequest port)) = true
+is_inquiry (Ok (said.QueueGetConfigRequest queues)) = true
 is_inquiry read = false
 
 -- such a message of a slice that holds these packets is sent on: it is remembered with its first bytes, and names none of the packets

@@ -17,7 +17,7 @@ use crate::change::Change;
 use crate::remembering::asked;
 use crate::replying::{Around, refused};
 use of10_action::error::{BAD_REQUEST, REQUEST_NOT_PERMITTED};
-use of10_config::queues_request;
+use of10_config::{QueuesQuestion, queues_request};
 use of10_ctl::kind::BARRIER_REQUEST;
 use of10_ctl::{Frame, message};
 use of10_port::protocol::{ALL, NONE};
@@ -64,7 +64,7 @@ pub(crate) fn statistics(
     moment: u64,
 ) -> Result<Reaction, AllocError>
     ensures sound { IfOk result (λ r. IsSound r.change) }
-    ensures sent { IfOk result (λ r. AreSentOn around.now.policy.now.rules around.now.slot around.now.ports.now around.now.state.now frame.now (Ok (said.StatsRequest request.now)) r.to_switch.items) }
+    ensures sent { IfOk result (λ r. AreSentOn around.now.policy.now.rules around.now.slot around.now.ports.now around.now.state.now (Ok (said.StatsRequest request.now)) r.to_switch.items) }
     ensures follows { (s : Settings) (sight : Sight) → SliceStands s sight around.now.state.now → Sees s sight.view around.now.policy.now around.now.ports.now around.now.features.now around.now.slot → IfOk result (Follows s sight frame.now (Ok (said.StatsRequest request.now)) (statistics_answer (ground_of s sight.view (past_of s sight.view)) request.now frame.now) moment) }
 {
     if !may_ask(around, request) {
@@ -98,7 +98,7 @@ pub(crate) fn barrier(
     moment: u64,
 ) -> Result<Reaction, AllocError>
     ensures sound { IfOk result (λ r. IsSound r.change) }
-    ensures sent { IfOk result (λ r. AreSentOn around.now.policy.now.rules around.now.slot around.now.ports.now around.now.state.now frame.now (Ok said.BarrierRequest) r.to_switch.items) }
+    ensures sent { IfOk result (λ r. AreSentOn around.now.policy.now.rules around.now.slot around.now.ports.now around.now.state.now (Ok said.BarrierRequest) r.to_switch.items) }
     ensures follows { (s : Settings) (sight : Sight) → SliceStands s sight around.now.state.now → Sees s sight.view around.now.policy.now around.now.ports.now around.now.features.now around.now.slot → IfOk result (Follows s sight frame.now (Ok said.BarrierRequest) (barrier_asked (ground_of s sight.view (past_of s sight.view))) moment) }
 {
     let asked = asked(frame, AskKind::Barrier, 0);
@@ -112,15 +112,15 @@ pub(crate) fn barrier(
 pub(crate) fn queues(
     alloc: Global,
     around: &Around<'_>,
-    port: u16,
+    question: &QueuesQuestion,
     frame: &Frame,
     moment: u64,
 ) -> Result<Reaction, AllocError>
     ensures sound { IfOk result (λ r. IsSound r.change) }
-    ensures sent { IfOk result (λ r. AreSentOn around.now.policy.now.rules around.now.slot around.now.ports.now around.now.state.now frame.now (Ok (said.QueueGetConfigRequest port)) r.to_switch.items) }
-    ensures follows { (s : Settings) (sight : Sight) → SliceStands s sight around.now.state.now → Sees s sight.view around.now.policy.now around.now.ports.now around.now.features.now around.now.slot → IfOk result (Follows s sight frame.now (Ok (said.QueueGetConfigRequest port)) (queues_answer (ground_of s sight.view (past_of s sight.view)) port frame.now) moment) }
+    ensures sent { IfOk result (λ r. AreSentOn around.now.policy.now.rules around.now.slot around.now.ports.now around.now.state.now (Ok (said.QueueGetConfigRequest question.now)) r.to_switch.items) }
+    ensures follows { (s : Settings) (sight : Sight) → SliceStands s sight around.now.state.now → Sees s sight.view around.now.policy.now around.now.ports.now around.now.features.now around.now.slot → IfOk result (Follows s sight frame.now (Ok (said.QueueGetConfigRequest question.now)) (queues_answer (ground_of s sight.view (past_of s sight.view)) question.now frame.now) moment) }
 {
-    if !around.policy.has_port(around.slot, port) {
+    if !around.policy.has_port(around.slot, question.port) {
         return refused(
             alloc,
             BAD_REQUEST,
@@ -129,8 +129,8 @@ pub(crate) fn queues(
             Change::Rated { moment },
         );
     }
-    let asked = asked(frame, AskKind::QueueConfig, port);
+    let asked = asked(frame, AskKind::QueueConfig, question.port);
     let (_, xid) = around.state.xids.next();
-    let question = queues_request(alloc, xid, frame.body())?;
-    Reaction::sending(alloc, question, Change::Inquired { moment, asked })
+    let sent = queues_request(alloc, xid, question)?;
+    Reaction::sending(alloc, sent, Change::Inquired { moment, asked })
 }

@@ -58,7 +58,7 @@ fn flow_mod(
     moment: u64,
 ) -> Result<Reaction, AllocError>
     ensures sound { IfOk result (λ r. IsSound r.change) }
-    ensures sent { IfOk result (λ r. AreSentOn around.now.policy.now.rules around.now.slot around.now.ports.now around.now.state.now frame.now (Ok (said.FlowMod m.now)) r.to_switch.items) }
+    ensures sent { IfOk result (λ r. AreSentOn around.now.policy.now.rules around.now.slot around.now.ports.now around.now.state.now (Ok (said.FlowMod m.now)) r.to_switch.items) }
     ensures follows { (s : Settings) (sight : Sight) → SliceStands s sight around.now.state.now → Sees s sight.view around.now.policy.now around.now.ports.now around.now.features.now around.now.slot → IfOk result (Follows s sight frame.now (Ok (said.FlowMod m.now)) (flow_mod_answer (ground_of s sight.view (past_of s sight.view)) m.now frame.now) moment) }
 {
     let quota = around.quota();
@@ -94,7 +94,7 @@ fn packet_out(
     moment: u64,
 ) -> Result<Reaction, AllocError>
     ensures sound { IfOk result (λ r. IsSound r.change) }
-    ensures sent { IfOk result (λ r. AreSentOn around.now.policy.now.rules around.now.slot around.now.ports.now around.now.state.now frame.now (Ok (said.PacketOut m.now)) r.to_switch.items) }
+    ensures sent { IfOk result (λ r. AreSentOn around.now.policy.now.rules around.now.slot around.now.ports.now around.now.state.now (Ok (said.PacketOut m.now)) r.to_switch.items) }
     ensures follows { (s : Settings) (sight : Sight) → SliceStands s sight around.now.state.now → Sees s sight.view around.now.policy.now around.now.ports.now around.now.features.now around.now.slot → IfOk result (Follows s sight frame.now (Ok (said.PacketOut m.now)) (packet_out_answer (ground_of s sight.view (past_of s sight.view)) m.now frame.now) moment) }
 {
     let (_, xid) = around.state.xids.next();
@@ -124,7 +124,7 @@ pub(crate) fn question(
 ) -> Result<Reaction, AllocError>
     requires { asks_switch (Ok message.now) ≡ true }
     ensures sound { IfOk result (λ r. IsSound r.change) }
-    ensures sent { IfOk result (λ r. AreSentOn around.now.policy.now.rules around.now.slot around.now.ports.now around.now.state.now frame.now (Ok message.now) r.to_switch.items) }
+    ensures sent { IfOk result (λ r. AreSentOn around.now.policy.now.rules around.now.slot around.now.ports.now around.now.state.now (Ok message.now) r.to_switch.items) }
     ensures follows { (s : Settings) (sight : Sight) → SliceStands s sight around.now.state.now → Sees s sight.view around.now.policy.now around.now.ports.now around.now.features.now around.now.slot → IfOk result (Follows s sight frame.now (Ok message.now) (rated_answer s sight.view (past_of s sight.view) moment message.now frame.now) moment) }
 {
     let latest = moment.max(around.state.moment);
@@ -144,8 +144,8 @@ pub(crate) fn question(
             statistics(alloc, around, request, frame, moment)
         }
         FromController::BarrierRequest => barrier(alloc, around, frame, moment),
-        FromController::QueueGetConfigRequest(port) => {
-            queues(alloc, around, *port, frame, moment)
+        FromController::QueueGetConfigRequest(question) => {
+            queues(alloc, around, question, frame, moment)
         }
         _ => unreachable!(),
     }

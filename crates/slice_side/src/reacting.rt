@@ -46,7 +46,7 @@ pub fn react(
     moment: u64,
 ) -> Result<Reaction, AllocError>
     ensures reaction { (s : Settings) (sight : Sight) → SliceStands s sight state.now → Sees s sight.view policy.now ports.now features.now slot → IfOk result (IsReaction s sight (Msg frame.now moment)) }
-    ensures sent { IfOk result (λ r. AreSentOn policy.now.rules slot ports.now state.now frame.now (read_controller frame.now) r.to_switch.items) }
+    ensures sent { IfOk result (λ r. AreSentOn policy.now.rules slot ports.now state.now (read_controller frame.now) r.to_switch.items) }
     ensures sound { IfOk result (λ r. IsSound r.change) }
 {
     let around = Around {

@@ -7,6 +7,7 @@ use Rattle.of10_flow.specs.declared.packet_out.PacketOut.{PacketOut}
 use Rattle.of10_stats.specs.declared.request.StatsRequest.{StatsRequest}
 use Rattle.of10_port.specs.declared.features.Features.{Features}
 use Rattle.of10_port.specs.Features.{spell_features}
+use Rattle.of10_config.specs.declared.queues.QueuesQuestion.{QueuesQuestion}
 use Rattle.of10_message.specs.declared.controller.FromController.{FromController}
 use Rattle.of10_message.specs.declared.controller.FromController.TheVariants as said
 use Rattle.of10_message.specs.declared.fault.Unread.TheVariants.{BadLength, NoCommonVersion, BadVersion, BadType, BadForm}
@@ -37,7 +38,7 @@ pub record HoldsOfEach (P : Bool → Answer → Type 0) (s : Settings) (view : L
   pub tells_table : P false (answered (table_reply (length (ground_of s view past).booked) s.quota (xid_of message) ∷ []))
   pub asks_statistics : (request : StatsRequest) (question : List ℕ) → read_controller message ≡ Ok (said.StatsRequest request) → may_ask (ground_of s view past) request ≡ true → question_for request (ground_of s view past).xid ≡ Some question → P false (asking question)
   pub asks_barrier : read_controller message ≡ Ok said.BarrierRequest → P false (barrier_asked (ground_of s view past))
-  pub asks_queues : (port : ℕ) → read_controller message ≡ Ok (said.QueueGetConfigRequest port) → is_port_on (ground_of s view past) port ≡ true → P false (queues_asked (ground_of s view past) message)
+  pub asks_queues : (queues : QueuesQuestion) → read_controller message ≡ Ok (said.QueueGetConfigRequest queues) → is_port_on (ground_of s view past) queues.port ≡ true → P false (queues_asked (ground_of s view past) queues)
 
 features_holds : (P : Bool → Answer → Type 0) (s : Settings) (view : List Item) (past : List Past) (message : List ℕ) (found : Option Features) → HoldsOfEach P s view past message
     → P false (elim found [ None ↦ silence | Some features ↦ answered (spell_features (features_with features (known_ports view)) (xid_of message) ∷ []) ])
@@ -68,11 +69,11 @@ statistics_holds : (P : Bool → Answer → Type 0) (s : Settings) (view : List 
 statistics_holds P s view past message request true each read is = asked_holds P s view past message request (question_for request (ground_of s view past).xid) each read is refl
 statistics_holds P s view past message request false each read is = each.refuses not_permitted
 
-queues_holds : (P : Bool → Answer → Type 0) (s : Settings) (view : List Item) (past : List Past) (message : List ℕ) (port : ℕ) (own : Bool) → HoldsOfEach P s view past message
-    → read_controller message ≡ Ok (said.QueueGetConfigRequest port) → is_port_on (ground_of s view past) port ≡ own
-    → P false (if own then queues_asked (ground_of s view past) message else refused not_permitted message)
-queues_holds P s view past message port true each read is = each.asks_queues port read is
-queues_holds P s view past message port false each read is = each.refuses not_permitted
+queues_holds : (P : Bool → Answer → Type 0) (s : Settings) (view : List Item) (past : List Past) (message : List ℕ) (queues : QueuesQuestion) (own : Bool) → HoldsOfEach P s view past message
+    → read_controller message ≡ Ok (said.QueueGetConfigRequest queues) → is_port_on (ground_of s view past) queues.port ≡ own
+    → P false (if own then queues_asked (ground_of s view past) queues else refused not_permitted message)
+queues_holds P s view past message queues true each read is = each.asks_queues queues read is
+queues_holds P s view past message queues false each read is = each.refuses not_permitted
 
 forwarded_holds : (P : Bool → Answer → Type 0) (s : Settings) (view : List Item) (past : List Past) (message : List ℕ) (asked : FromController) → HoldsOfEach P s view past message
     → read_controller message ≡ Ok asked → P false (forwarded_answer s view past asked message)
@@ -89,7 +90,7 @@ forwarded_holds P s view past message (said.FlowMod m) each read = flow_mod_hold
 forwarded_holds P s view past message said.PortMod each read = each.nothing
 forwarded_holds P s view past message (said.StatsRequest request) each read = statistics_holds P s view past message request (may_ask (ground_of s view past) request) each read refl
 forwarded_holds P s view past message said.BarrierRequest each read = each.asks_barrier read
-forwarded_holds P s view past message (said.QueueGetConfigRequest port) each read = queues_holds P s view past message port (is_port_on (ground_of s view past) port) each read refl
+forwarded_holds P s view past message (said.QueueGetConfigRequest queues) each read = queues_holds P s view past message queues (is_port_on (ground_of s view past) queues.port) each read refl
 
 rated_holds : (P : Bool → Answer → Type 0) (s : Settings) (view : List Item) (past : List Past) (moment : ℕ) (message : List ℕ) (asked : FromController) → HoldsOfEach P s view past message
     → read_controller message ≡ Ok asked → P false (rated_answer s view past moment asked message)
@@ -112,7 +113,7 @@ read_holds P s view past moment message (said.FlowMod m) each read = rated_holds
 read_holds P s view past moment message said.PortMod each read = each.refuses not_permitted
 read_holds P s view past moment message (said.StatsRequest request) each read = rated_holds P s view past moment message (said.StatsRequest request) each read
 read_holds P s view past moment message said.BarrierRequest each read = rated_holds P s view past moment message said.BarrierRequest each read
-read_holds P s view past moment message (said.QueueGetConfigRequest port) each read = rated_holds P s view past moment message (said.QueueGetConfigRequest port) each read
+read_holds P s view past moment message (said.QueueGetConfigRequest queues) each read = rated_holds P s view past moment message (said.QueueGetConfigRequest queues) each read
 
 by_reading : (P : Bool → Answer → Type 0) (s : Settings) (view : List Item) (past : List Past) (moment : ℕ) (message : List ℕ) (found : Reading) → HoldsOfEach P s view past message
     → read_controller message ≡ found

@@ -23,7 +23,7 @@ message_ends s view past moment message =
       tells_table = refl;
       asks_statistics = λ request question read may is. refl;
       asks_barrier = λ read. refl;
-      asks_queues = λ port read own. refl;
+      asks_queues = λ queues read own. refl;
     })
 
 -- what isn't asked for ends nothing, and while the slice is up the answer says

@@ -14,11 +14,12 @@ use Rattle.of10_port.specs.Features.{spell_features}
 use Rattle.of10_port.specs.PortStatus.{spell_port_status}
 use Rattle.of10_message.specs.declared.controller.FromController.{FromController}
 use Rattle.of10_message.specs.declared.controller.FromController.TheVariants as said
-use Rattle.of10_message.specs.declared.controller.SwitchConfig.{SwitchConfig}
+use Rattle.of10_config.specs.declared.config.SwitchConfig.{SwitchConfig}
 use Rattle.of10_message.specs.declared.fault.Unread.{Unread}
 use Rattle.of10_message.specs.declared.fault.Unread.TheVariants.{BadLength, NoCommonVersion, BadVersion, BadType, BadForm}
 use Rattle.of10_message.specs.Heads.{xid_of}
 use Rattle.of10_message.specs.Controller.{read_controller}
+use Rattle.of10_config.specs.declared.queues.QueuesQuestion.{QueuesQuestion}
 use Rattle.of10_config.specs.Configs.{spell_config_reply}
 use Rattle.port_view.specs.SlicePorts.{features_with}
 use Rattle.rate_bucket.specs.Rates.{is_accepted}
@@ -109,8 +110,8 @@ abbrev pub statistics_answer : Ground → StatsRequest → List ℕ → Answer
 statistics_answer g request message = if may_ask g request then statistics_asked g request message else refused not_permitted message
 
 -- so is a question for the queues of such a port (section 5.3.4)
-abbrev pub queues_answer : Ground → ℕ → List ℕ → Answer
-queues_answer g port message = if is_port_on g port then queues_asked g message else refused not_permitted message
+abbrev pub queues_answer : Ground → QueuesQuestion → List ℕ → Answer
+queues_answer g queues message = if is_port_on g queues.port then queues_asked g queues else refused not_permitted message
 
 -- what is to be sent on to the switch
 abbrev pub forwarded_answer : Settings → List Item → List Past → FromController → List ℕ → Answer
@@ -118,7 +119,7 @@ forwarded_answer s view past (said.PacketOut m) message = packet_out_answer (gro
 forwarded_answer s view past (said.FlowMod m) message = flow_mod_answer (ground_of s view past) m message
 forwarded_answer s view past (said.StatsRequest request) message = statistics_answer (ground_of s view past) request message
 forwarded_answer s view past said.BarrierRequest message = barrier_asked (ground_of s view past)
-forwarded_answer s view past (said.QueueGetConfigRequest port) message = queues_answer (ground_of s view past) port message
+forwarded_answer s view past (said.QueueGetConfigRequest queues) message = queues_answer (ground_of s view past) queues message
 forwarded_answer s view past other message = silence
 
 -- a message that is to be sent on keeps the rate: its moment is the greatest of the slice's moments so far

@@ -47,7 +47,7 @@ asks_switch (Ok (said.PacketOut m)) = true
 asks_switch (Ok (said.FlowMod m)) = true
 asks_switch (Ok (said.StatsRequest request)) = true
 asks_switch (Ok said.BarrierRequest) = true
-asks_switch (Ok (said.QueueGetConfigRequest port)) = true
+asks_switch (Ok (said.QueueGetConfigRequest queues)) = true
 asks_switch read = false
 
 -- the same of its bytes
@@ -63,12 +63,12 @@ kind_asked (Ok (said.StatsRequest (statistics.Flow pattern table out_port))) = k
 kind_asked (Ok (said.StatsRequest (statistics.Aggregate pattern table out_port))) = kinds.Aggregate
 kind_asked (Ok (said.StatsRequest (statistics.Port port))) = kinds.Port
 kind_asked (Ok (said.StatsRequest (statistics.Queue port queue))) = kinds.Queue
-kind_asked (Ok (said.QueueGetConfigRequest port)) = kinds.QueueConfig
+kind_asked (Ok (said.QueueGetConfigRequest queues)) = kinds.QueueConfig
 kind_asked read = kinds.Barrier
 
 -- the port that it asks for, where it asks for the queues of one
 abbrev pub port_asked : Reading → ℕ
-port_asked (Ok (said.QueueGetConfigRequest port)) = port
+port_asked (Ok (said.QueueGetConfigRequest queues)) = queues.port
 port_asked read = 0
 
 -- a request as it is remembered: with the slice's own transaction id, and with the first 64 bytes, which an error carries back (section 5.4.4)

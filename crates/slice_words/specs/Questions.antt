@@ -1,12 +1,13 @@
 -- What follows from a slice's requests for statistics (OpenFlow 1.0.0, section 5.3.5), questions for queues (5.3.4) and barriers (5.3.7). For which ports a slice may ask is this proxy's own rule.
-use Rattle.std.specs.Prelude.{ℕ, ◌==◌, ◌||◌, Bool, true, List, [], ◌∷◌, length, drop, Some, None}
+use Rattle.std.specs.Prelude.{ℕ, ◌==◌, ◌||◌, Bool, true, List, [], ◌∷◌, length, Some, None}
 use Rattle.of10_ctl.specs.declared.kind.TheConstants.{BARRIER_REQUEST}
 use Rattle.of10_ctl.specs.Frames.{message_of}
 use Rattle.of10_port.specs.declared.protocol.TheConstants.{NONE, ALL}
 use Rattle.of10_stats.specs.declared.request.StatsRequest.{StatsRequest}
 use Rattle.of10_stats.specs.declared.request.StatsRequest.TheVariants as statistics
 use Rattle.of10_message.specs.Heads.{xid_of}
-use Rattle.of10_config.specs.Configs.{spell_queues_request}
+use Rattle.of10_config.specs.declared.queues.QueuesQuestion.{QueuesQuestion}
+use Rattle.of10_config.specs.Queues.{spell_queues_request}
 use Rattle.flowspace.specs.Owners.{has_port}
 use Rattle.stats_filter.specs.Asking.{question_for}
 use Rattle.stats_filter.specs.Replies.{table_reply}
@@ -38,5 +39,5 @@ abbrev pub barrier_asked : Ground → Answer
 barrier_asked g = asking (message_of BARRIER_REQUEST g.xid [])
 
 -- and a question for queues, as it is
-abbrev pub queues_asked : Ground → List ℕ → Answer
-queues_asked g message = asking (spell_queues_request g.xid (drop 8 message))
+abbrev pub queues_asked : Ground → QueuesQuestion → Answer
+queues_asked g queues = asking (spell_queues_request g.xid queues)

@@ -1,8 +1,16 @@
 //! Laws of the definitions. Each function's contract is the law; its body does nothing.
 
 ghost use Rattle.std.specs.Prelude.{ℕ, List};
+ghost use Rattle.flowspace.specs.declared.slices.Slice.{Slice};
+ghost use Rattle.flowspace.specs.declared.rules.Rule.{Rule};
 ghost use Rattle.slice_words.specs.Items.{Settings, Item};
-ghost use Rattle.slice_words.specs.Laws.{AreJoined, IsSilentWhileDown, IsUpByTheLast, EndsExactly, IsSetByTheLast, IsForgotten, IsNeverSet, IsAtLeastEach, IsOneOrZero};
+ghost use Rattle.slice_words.specs.Laws.{AreOfWhatItWrites, AreJoined, IsSilentWhileDown, IsUpByTheLast, EndsExactly, IsSetByTheLast, IsForgotten, IsNeverSet, IsAtLeastEach, IsOneOrZero};
+
+/// A slice's settings are its limits and the matches that it writes, in rule order: neither the priorities of
+/// the rules, nor who reads, nor what other slices write is part of them.
+pub fn settings_are_of_what_it_writes()
+    ensures { (slice : Slice) (slot : ℕ) (rules other : List Rule) → AreOfWhatItWrites slice slot rules other }
+{}
 
 /// What a slice is sent over a view with more items is what it was sent before them, and then what
 /// follows from each of them.

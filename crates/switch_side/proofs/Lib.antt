@@ -13,5 +13,6 @@ pub mod ReplyTurns
 pub mod Answered
 pub mod Making
 pub mod Sharing
+pub mod Shares
 pub mod Holding
 pub mod Giving

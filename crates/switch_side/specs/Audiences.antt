@@ -1,11 +1,12 @@
 -- Whom a packet is for that the switch hands up (this proxy's own rule).
-use Rattle.std.specs.Prelude.{ℕ, ltb, Bool, false, if◌then◌else◌, List, Option, Some, None}
-use Rattle.of10_model.specs.Normal.{is_value}
+use Rattle.std.specs.Prelude.{ℕ, ◌==◌, ltb, Bool, false, if◌then◌else◌, List, [], ◌∷◌, ◌++◌, Option, Some, None, is_some}
+use Rattle.of10_model.specs.Normal.{is_value, bit}
 use Rattle.of10_flow.specs.declared.packet_in.PacketIn.{PacketIn}
 use Rattle.frame_header.specs.Probes.{probe_slot_of}
 use Rattle.flowspace.specs.declared.rules.Rule.{Rule}
 use Rattle.flowspace.specs.Order.{first_rule}
-use Rattle.desk_words.specs.Histories.{header_in}
+use Rattle.slice_words.specs.Items.{Share, Writer, Reader, Probe}
+use Rattle.desk_words.specs.Histories.{header_in, number_given}
 use Rattle.switch_side.specs.declared.audience.Audience.{Audience}
 use Rattle.switch_side.specs.declared.audience.Audience.TheVariants.{Prober, Named}
 
@@ -21,6 +22,13 @@ named_by (Some rule) = Named rule.writer rule.readers
 -- among so many slices, the one whose mark the packet bears, or those that the first rule of its header names
 abbrev pub audience_of : ℕ → List Rule → PacketIn → Audience
 audience_of count rules packet = elim (marked_in count packet.payload) [ None ↦ named_by (first_rule rules (header_in packet)) | Some slot ↦ Prober slot ]
+
+-- the shares of a packet that the slice at a slot has: as the prober alone, or as the writer and as a reader
+abbrev pub shares_in : Audience → PacketIn → ℕ → List Share
+shares_in (Prober other) packet slot = if other == slot then Probe ∷ [] else []
+shares_in (Named writer readers) packet slot =
+    (if is_value slot writer then Writer (is_some (number_given packet)) ∷ [] else [])
+    ++ (if bit readers slot then Reader ∷ [] else [])
 
 -- the slice at a slot may write such packets
 abbrev pub writes : Audience → ℕ → Bool

@@ -1,6 +1,5 @@
 -- What follows from one message of a switch that has told what it is, for all slices at once (this proxy's own rule).
 use Rattle.std.specs.Prelude.{ℕ, ◌≡◌, ◌+◌, true, List, [], ◌∷◌, ◌++◌, map, slice_get, Some}
-use Rattle.of10_ctl.specs.Frames.{is_bad}
 use Rattle.flowspace.specs.declared.slices.Slice.{Slice}
 use Rattle.flowspace.specs.Policies.{PolicyView, SwitchView}
 use Rattle.flow_book.specs.declared.state.SliceState.{SliceState}
@@ -8,7 +7,7 @@ use Rattle.slice_words.specs.Standing.{SliceStands}
 use Rattle.desk_words.specs.declared.event.Event.TheVariants.{SwitchMsg}
 use Rattle.desk_words.specs.declared.event.Timed.{Timed}
 use Rattle.desk_words.specs.declared.phase.Phase.TheVariants.{Opened}
-use Rattle.desk_words.specs.Openings.{status_kept, rules_of, Switch}
+use Rattle.desk_words.specs.Openings.{ends_switch, status_kept, rules_of, Switch}
 use Rattle.desk_words.specs.Histories.{is_slot, settings_at, items_of, number_told, Side}
 use Rattle.desk_words.specs.Numbers.{AreNumbered}
 use Rattle.desk_words.specs.Sent.{sent_with, echo_for}
@@ -61,4 +60,4 @@ pub record IsDispatch (p : PolicyView) (switch : Switch) (sides : ℕ → Side) 
   pub to_switch : d.to_switch.items ≡ echo_for message
   pub changes : AreChanges p switch sides moment message d.changes.items
   pub port : d.port ≡ status_kept switch.known message
-  pub close : d.close ≡ is_bad message
+  pub close : d.close ≡ ends_switch message

@@ -1,10 +1,11 @@
 //! Whom a packet is for that the switch hands up.
 
-ghost use Rattle.std.specs.Prelude.{◌≡◌, option_map};
+ghost use Rattle.std.specs.Prelude.{ℕ, ◌≡◌, length, option_map};
 ghost use Rattle.of10_flow.specs.PacketIns.{packet_of};
 ghost use Rattle.flowspace.specs.Order.{first_rule};
-ghost use Rattle.desk_words.specs.Histories.{header_in};
-ghost use Rattle.switch_side.specs.Audiences.{marked_in, named_by, audience_of, writes};
+ghost use Rattle.flowspace.specs.Policies.{PolicyView};
+ghost use Rattle.desk_words.specs.Histories.{header_in, shares_of};
+ghost use Rattle.switch_side.specs.Audiences.{marked_in, named_by, audience_of, shares_in, writes};
 
 use flowspace::{Rule, SwitchPolicy};
 use frame_header::probe_slot;
@@ -62,7 +63,7 @@ fn named(policy: &SwitchPolicy, index: &RuleIndex, header: &Header12) -> Audienc
 }
 
 impl Audience {
-    /// Whom the packet is for among so many slices.
+    /// Whom the packet is for among so many slices: each has the shares of it that the policy's rules say.
     pub(crate) fn of(
         policy: &SwitchPolicy,
         index: &RuleIndex,
@@ -72,7 +73,8 @@ impl Audience {
     ) -> Audience
         requires index { index.now ≡ policy.now.rules }
         requires header { header.now ≡ header_in (packet_of packet.now) }
-        ensures { result ≡ audience_of count policy.now.rules (packet_of packet.now) }
+        ensures value { result ≡ audience_of count policy.now.rules (packet_of packet.now) }
+        ensures shares { (told : PolicyView) → length told.slices ≡ count → (slot : ℕ) → shares_in result (packet_of packet.now) slot ≡ shares_of told policy.now.rules slot (packet_of packet.now) }
     {
         match marked_slot(count, packet.payload) {
             Some(slot) => Audience::Prober(slot),

@@ -1,8 +1,7 @@
 //! Replies of a switch to barriers (OpenFlow 1.0.0, section 5.3.7) and to questions for queues (section 5.3.4).
 
 ghost use Rattle.std.specs.Prelude.{ℕ, ◌≡◌, ◌/◌, ◌^◌, [], Some, IfOk};
-ghost use Rattle.of10_message.specs.Replies.{queues_of_view};
-ghost use Rattle.of10_switch.specs.Ranges.{AreQueues};
+ghost use Rattle.of10_config.specs.Queues.{queues_of_view, AreQueues};
 ghost use Rattle.slice_words.specs.Statistics.{barrier_told, queues_told};
 ghost use Rattle.switch_side.specs.Carrying.{carried, Called, AllCalled, turning, answer_turn, barrier_turn, queues_turn};
 

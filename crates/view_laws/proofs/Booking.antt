@@ -61,7 +61,7 @@ read_one s number (Ok (said.FlowMod m)) = inr (books.Added m.command (pieces_wit
 read_one s number (Ok said.PortMod) = inl refl
 read_one s number (Ok (said.StatsRequest request)) = inl refl
 read_one s number (Ok said.BarrierRequest) = inl refl
-read_one s number (Ok (said.QueueGetConfigRequest port)) = inl refl
+read_one s number (Ok (said.QueueGetConfigRequest queues)) = inl refl
 
 message_one : (puts : Bool) (these : List BookCall) → AtMostOne these → AtMostOne (if puts then these else [])
 message_one true these one = one
@@ -157,7 +157,7 @@ read_as s number (Ok (said.FlowMod m)) c is = (let same : adding_of s m number �
 read_as s number (Ok said.PortMod) c is = cc
 read_as s number (Ok (said.StatsRequest request)) c is = cc
 read_as s number (Ok said.BarrierRequest) c is = cc
-read_as s number (Ok (said.QueueGetConfigRequest port)) c is = cc
+read_as s number (Ok (said.QueueGetConfigRequest queues)) c is = cc
 
 -- what is made where something is put is made, and something is put
 put_parts : (puts : Bool) (these : List BookCall) (c : BookCall) → (if puts then these else []) ≡ c ∷ [] → (puts ≡ true) × (these ≡ c ∷ [])

@@ -1,5 +1,5 @@
 -- All that a message has sent to the switch is under one transaction id, and what is remembered of it begins as it does.
-use Rattle.std.proofs.Common.{◌≡◌, ℕ, ◌+◌, ◌*◌, ◌%◌, Bool, true, false, if◌then◌else◌, List, [], ◌∷◌, ◌++◌, zero, suc, length, take, drop, min, option_map, All, refl, sym, ap, subst, arith, Option, Some, None}
+use Rattle.std.proofs.Common.{◌≡◌, ℕ, ◌+◌, ◌*◌, ◌%◌, Bool, true, false, if◌then◌else◌, List, [], ◌∷◌, ◌++◌, zero, suc, length, take, min, option_map, All, refl, sym, ap, subst, arith, Option, Some, None}
 use Rattle.std.proofs.lemmas.List.Elements.{All-nil, All-cons, All-head, All-tail}
 use Rattle.of10_action.specs.declared.action.Action.{Action}
 use Rattle.of10_action.specs.Actions.{padding}
@@ -92,7 +92,7 @@ message_under s view past moment message =
       tells_table = none;
       asks_statistics = λ request question read may is. statistics_under (asked_as request) (ground_of s view past).xid question is;
       asks_barrier = λ read. asking_under (ground_of s view past).xid _ (xid-message BARRIER_REQUEST (ground_of s view past).xid []);
-      asks_queues = λ port read own. asking_under (ground_of s view past).xid _ (xid-message QUEUE_GET_CONFIG_REQUEST (ground_of s view past).xid (drop 8 message));
+      asks_queues = λ queues read own. asking_under (ground_of s view past).xid _ (xid-message QUEUE_GET_CONFIG_REQUEST (ground_of s view past).xid queues.body);
     })
 
 while_up : (up : Bool) (xid : ℕ) (a : Answer) → All (IsUnder xid) a.to_switch → All (IsUnder xid) (if up then a else silence).to_switch

@@ -95,7 +95,7 @@ statistics_read (Ok said.GetConfigRequest) is = absurd (true≢false (sym is))
 statistics_read (Ok (said.SetConfig config)) is = absurd (true≢false (sym is))
 statistics_read (Ok said.PortMod) is = absurd (true≢false (sym is))
 statistics_read (Ok said.BarrierRequest) is = absurd (true≢false (sym is))
-statistics_read (Ok (said.QueueGetConfigRequest port)) is = absurd (true≢false (sym is))
+statistics_read (Ok (said.QueueGetConfigRequest queues)) is = absurd (true≢false (sym is))
 statistics_read (Err fault) is = absurd (true≢false (sym is))
 
 -- a request for those of tables puts nothing for the switch
@@ -118,7 +118,7 @@ table_puts_nothing s view past moment message is =
       tells_table = refl;
       asks_statistics = λ request question read may asks. absurd (not_table request question read asks);
       asks_barrier = λ read. absurd (true≢false (sym is ∙ ap asks_table read));
-      asks_queues = λ port read own. absurd (true≢false (sym is ∙ ap asks_table read));
+      asks_queues = λ queues read own. absurd (true≢false (sym is ∙ ap asks_table read));
     })
   where
     not_table : (request : StatsRequest) (question : List ℕ) → read_controller message ≡ Ok (said.StatsRequest request) → question_for request (ground_of s view past).xid ≡ Some question → ⊥

@@ -5,5 +5,5 @@ pub returns : goal.returns
 returns c = record {
   statistics = λ policy h timed slot message request asked is up. statistics_sent policy h timed slot message is up request asked;
   barriers = λ policy h timed slot message is up. barrier_sent policy h timed slot message is up;
-  queues = λ policy h timed slot message port is up. queues_sent policy h timed slot message is up port;
+  queues = λ policy h timed slot message queues is up. queues_sent policy h timed slot message is up queues;
 }

@@ -1,5 +1,8 @@
-use Rattle.of10_config.proofs.Again.{question_again}
+use Rattle.of10_config.proofs.Again.{question_again, question_kind}
 use Rattle.of10_config.proofs.laws.queues_request_is_read_again.Goals as goal
 
-pub returns : goal.returns
-returns c = question_again
+pub returns-clause-again : goal.returns-clause-again
+returns-clause-again c = question_again
+
+pub returns-clause-kind : goal.returns-clause-kind
+returns-clause-kind c = question_kind

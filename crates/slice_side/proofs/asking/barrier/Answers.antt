@@ -18,4 +18,4 @@ returns-clause-follows c s sight stands sees =
     refl c.asked-asked.ensures.value c.sending.ensures.to_slice c.sending.ensures.to_switch c.sending.ensures.close c.sending.ensures.change
 
 pub returns-clause-sent : goal.returns-clause-sent
-returns-clause-sent c = question_sent c.sending.result c.args.around.now.policy.now.rules c.args.around.now.slot c.args.around.now.ports.now c.args.around.now.state.now c.args.frame.now c.next-xid.result.1 said.BarrierRequest c.in_ok-question.question c.in_ok-question.ensures.value c.sending.ensures.to_switch
+returns-clause-sent c = question_sent c.sending.result c.args.around.now.policy.now.rules c.args.around.now.slot c.args.around.now.ports.now c.args.around.now.state.now c.next-xid.result.1 said.BarrierRequest c.in_ok-question.question c.in_ok-question.ensures.value c.sending.ensures.to_switch

@@ -38,12 +38,12 @@ returns-in-Some-clause-follows c s sight stands sees =
     c.sending.ensures.to_slice c.sending.ensures.to_switch c.sending.ensures.close c.sending.ensures.change
 
 pub returns-then-not-may_ask-clause-sent : goal.returns-then-not-may_ask-clause-sent
-returns-then-not-may_ask-clause-sent c = nothing_sent c.refused.result c.args.around.now.policy.now.rules c.args.around.now.slot c.args.around.now.ports.now c.args.around.now.state.now c.args.frame.now (Ok (said.StatsRequest c.args.request.now)) c.refused.ensures.to_switch
+returns-then-not-may_ask-clause-sent c = nothing_sent c.refused.result c.args.around.now.policy.now.rules c.args.around.now.slot c.args.around.now.ports.now c.args.around.now.state.now (Ok (said.StatsRequest c.args.request.now)) c.refused.ensures.to_switch
 
 pub returns-in_ok-reply-in-None-clause-sent : goal.returns-in_ok-reply-in-None-clause-sent
-returns-in_ok-reply-in-None-clause-sent c = nothing_sent c.replying.result c.args.around.now.policy.now.rules c.args.around.now.slot c.args.around.now.ports.now c.args.around.now.state.now c.args.frame.now (Ok (said.StatsRequest c.args.request.now)) c.replying.ensures.to_switch
+returns-in_ok-reply-in-None-clause-sent c = nothing_sent c.replying.result c.args.around.now.policy.now.rules c.args.around.now.slot c.args.around.now.ports.now c.args.around.now.state.now (Ok (said.StatsRequest c.args.request.now)) c.replying.ensures.to_switch
 
 pub returns-in-Some-clause-sent : goal.returns-in-Some-clause-sent
-returns-in-Some-clause-sent c = question_sent c.sending.result c.args.around.now.policy.now.rules c.args.around.now.slot c.args.around.now.ports.now c.args.around.now.state.now c.args.frame.now c.next-xid.result.1 (said.StatsRequest c.args.request.now) c.in-Some.question
+returns-in-Some-clause-sent c = question_sent c.sending.result c.args.around.now.policy.now.rules c.args.around.now.slot c.args.around.now.ports.now c.args.around.now.state.now c.next-xid.result.1 (said.StatsRequest c.args.request.now) c.in-Some.question
     (sym (c.may_ask.ensures 0 c.next-xid.result.1) ∙ c.if-not-may_ask.false, sym c.in_ok-ask.ensures ∙ c.in-Some.is)
     c.sending.ensures.to_switch

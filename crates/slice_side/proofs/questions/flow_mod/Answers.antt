@@ -54,7 +54,7 @@ returns-else-is_empty-clause-follows c s sight stands sees =
     c.forwarding.ensures.to_slice c.forwarding.ensures.to_switch c.forwarding.ensures.close c.forwarding.ensures.change
 
 pub returns-in-Refused-clause-sent : goal.returns-in-Refused-clause-sent
-returns-in-Refused-clause-sent c = nothing_sent c.refused.result c.args.around.now.policy.now.rules c.args.around.now.slot c.args.around.now.ports.now c.args.around.now.state.now c.args.frame.now (Ok (said.FlowMod c.args.m.now)) c.refused.ensures.to_switch
+returns-in-Refused-clause-sent c = nothing_sent c.refused.result c.args.around.now.policy.now.rules c.args.around.now.slot c.args.around.now.ports.now c.args.around.now.state.now (Ok (said.FlowMod c.args.m.now)) c.refused.ensures.to_switch
 
 pub returns-then-is_empty-clause-sent : goal.returns-then-is_empty-clause-sent
 returns-then-is_empty-clause-sent c = (0, 0, inl c.silent.ensures.to_switch)

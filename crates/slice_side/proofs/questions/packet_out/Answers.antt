@@ -39,7 +39,7 @@ returns-in-Sent-clause-follows c s sight stands sees =
     c.sending.ensures.to_slice c.sending.ensures.to_switch c.sending.ensures.close c.sending.ensures.change
 
 pub returns-in-Refused-clause-sent : goal.returns-in-Refused-clause-sent
-returns-in-Refused-clause-sent c = nothing_sent c.refused.result c.args.around.now.policy.now.rules c.args.around.now.slot c.args.around.now.ports.now c.args.around.now.state.now c.args.frame.now (Ok (said.PacketOut c.args.m.now)) c.refused.ensures.to_switch
+returns-in-Refused-clause-sent c = nothing_sent c.refused.result c.args.around.now.policy.now.rules c.args.around.now.slot c.args.around.now.ports.now c.args.around.now.state.now (Ok (said.PacketOut c.args.m.now)) c.refused.ensures.to_switch
 
 pub returns-in-Sent-clause-sent : goal.returns-in-Sent-clause-sent
 returns-in-Sent-clause-sent c =

@@ -27,11 +27,11 @@ returns-clause-reaction c s sight stands sees = IfOk-weaker c.local.result _ _
     (c.local.ensures.follows s sight (past_of s sight.view) (shown s sight c.args.state.now c.args.policy.now c.args.ports.now c.args.features.now c.args.slot stands sees))
 
 pub returns-in-Err-clause-sent : goal.returns-in-Err-clause-sent
-returns-in-Err-clause-sent c = nothing_sent c.unread.result c.args.policy.now.rules c.args.slot c.args.ports.now c.args.state.now c.args.frame.now (read_controller c.args.frame.now) c.unread.ensures.nothing
+returns-in-Err-clause-sent c = nothing_sent c.unread.result c.args.policy.now.rules c.args.slot c.args.ports.now c.args.state.now (read_controller c.args.frame.now) c.unread.ensures.nothing
 
 pub returns-then-asks_switch-clause-sent : goal.returns-then-asks_switch-clause-sent
 returns-then-asks_switch-clause-sent c =
-    subst (λ (read : Reading). IfOk c.question.result (λ r. AreSentOn c.args.policy.now.rules c.args.slot c.args.ports.now c.args.state.now c.args.frame.now read r.to_switch.items)) (sym c.in-Ok.ensures) c.question.ensures.sent
+    subst (λ (read : Reading). IfOk c.question.result (λ r. AreSentOn c.args.policy.now.rules c.args.slot c.args.ports.now c.args.state.now read r.to_switch.items)) (sym c.in-Ok.ensures) c.question.ensures.sent
 
 pub returns-clause-sent : goal.returns-clause-sent
-returns-clause-sent c = nothing_sent c.local.result c.args.policy.now.rules c.args.slot c.args.ports.now c.args.state.now c.args.frame.now (read_controller c.args.frame.now) c.local.ensures.nothing
+returns-clause-sent c = nothing_sent c.local.result c.args.policy.now.rules c.args.slot c.args.ports.now c.args.state.now (read_controller c.args.frame.now) c.local.ensures.nothing
