@@ -1,7 +1,9 @@
-ghost use Rattle.std.specs.Prelude.{◌≡◌, ◌<◌, ◌+◌, ℕ, List, ◌++◌, [], Option, IfOk, IfErr, OnOk, OnErr, IfSome, IfNone, length};
+ghost use Rattle.std.specs.Prelude.{◌≡◌, ◌<◌, ◌+◌, ℕ, List, ◌++◌, [], Option, IsTrue, IfOk, IfErr, OnOk, OnErr, IfSome, IfNone, length};
 ghost use Rattle.fv_base.specs.Told.{Rose};
 ghost use Rattle.fv_live.specs.Live.{IsUsedUp};
 ghost use Rattle.of10_ctl.specs.Streams.{Stands, AreFirst, frames_of};
+ghost use Rattle.slice_words.specs.Messages.{is_question};
+ghost use Rattle.desk_words.specs.declared.event.Event.TheVariants.{SliceMsg};
 ghost use Rattle.live_desk.specs.declared.object.DeskReply.TheVariants.{Stepped};
 ghost use Rattle.live_session.specs.declared.ends.ReaderEnd.TheVariants.{Closed, ReadFault};
 ghost use Rattle.turn_desk.specs.Histories.{Called};
@@ -25,15 +27,6 @@ use std::alloc::{AllocError, Global};
 use std::net::{Net, TcpListener, TcpStream};
 use std::sync::Wait;
 use turn_desk::{Spent, TurnDesk, TurnSeat};
-
-/// The types of messages that are sent on to a switch.
-const FOR_THE_SWITCH: [u8; 5] = [
-    PACKET_OUT,
-    FLOW_MOD,
-    STATS_REQUEST,
-    BARRIER_REQUEST,
-    QUEUE_GET_CONFIG_REQUEST,
-];
 
 /// How many bytes are taken from a source at once.
 const PIECE: usize = 65_536;
@@ -117,12 +110,20 @@ pub(crate) fn ask_alone<R: Wait, C: Clock>(
     asked
 }
 
-// Whether the event is a message of a slice that may be sent on to the switch.
-fn is_for_the_switch(event: &Event) -> bool {
+/// Whether the event is a message of a slice that may be sent on to the switch. Its head tells it, so that one of bad
+/// form is too.
+#[tactic(auto, using(crate::proofs::Asking::last_type))]
+fn is_for_the_switch(event: &Event) -> bool
+    ensures { (slot : ℕ) (message : List ℕ) → event.now ≡ SliceMsg slot message → IsTrue (is_question message) → IsTrue result }
+{
     let Event::SliceMsg(_, frame) = event else {
         return false;
     };
-    FOR_THE_SWITCH.iter().any(|kind| frame.is_of(*kind))
+    frame.is_of(PACKET_OUT)
+        || frame.is_of(FLOW_MOD)
+        || frame.is_of(STATS_REQUEST)
+        || frame.is_of(BARRIER_REQUEST)
+        || frame.is_of(QUEUE_GET_CONFIG_REQUEST)
 }
 
 /// One event in a turn of the reader's.
