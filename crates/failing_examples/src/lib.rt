@@ -1,0 +1,22 @@
+//! What follows where a source, a sink, a dialler, a thread, a file or what switches connect to fails, or where
+//! something stands still. There are tests here alone.
+#![tactic(auto)]
+
+#[cfg(test)]
+mod calls;
+#[cfg(test)]
+mod devices;
+#[cfg(test)]
+mod expectations;
+#[cfg(test)]
+mod gate;
+#[cfg(test)]
+mod notes;
+#[cfg(test)]
+mod parts;
+#[cfg(test)]
+mod sessions;
+#[cfg(test)]
+mod sinks;
+#[cfg(test)]
+mod wires;
