@@ -61,7 +61,7 @@ impl Verdicts {
     }
 }
 
-/// Whether the image may go to the port. The rules are walked where it wasn't asked of such a port before.
+/// Whether the image may go to the port. They are looked up where it wasn't asked of such a port before.
 pub(crate) fn may_go_kept(
     policy: &SwitchPolicy,
     slot: u8,

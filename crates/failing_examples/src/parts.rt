@@ -11,10 +11,9 @@ use fv_base::Sink;
 use fv_live::{Dialer, Host, MemorySource};
 use live_samples::{Still, desk};
 use live_session::{
-    Bells, DeskObject, Half, ReaderEnd, Side, SliceEnd, WriterEnd, run_reader, run_slice,
+    Bells, DeskObject, Dest, Half, ReaderEnd, Side, SliceEnd, WriterEnd, run_reader, run_slice,
     run_writer,
 };
-use proxy_core::Dest;
 use std::alloc::{AllocError, Global};
 use std::net::{Net, TcpListener, TcpStream};
 use std::sync::{Arc, Wait};
