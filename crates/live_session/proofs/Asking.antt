@@ -1,5 +1,6 @@
 -- Which types of messages ask something of the switch.
 use Rattle.std.proofs.Common.{◌≡◌, ◌==◌, not, cond, ℕ, Bool, true, false, List, length, refl, Result, Ok, Err}
+use Rattle.of10_action.specs.declared.fault.WireFault.{WireFault}
 use Rattle.of10_ctl.specs.declared.kind.TheConstants.{HELLO, ERROR, ECHO_REQUEST, ECHO_REPLY, VENDOR, FEATURES_REQUEST, GET_CONFIG_REQUEST, SET_CONFIG, PACKET_OUT, FLOW_MOD, PORT_MOD, STATS_REQUEST, BARRIER_REQUEST, QUEUE_GET_CONFIG_REQUEST}
 use Rattle.of10_ctl.specs.Frames.{is_bad}
 use Rattle.of10_ctl.specs.Kinds.{is_of}
@@ -7,7 +8,9 @@ use Rattle.of10_message.specs.declared.controller.FromController.{FromController
 use Rattle.of10_message.specs.declared.controller.FromController.TheVariants as said
 use Rattle.of10_message.specs.declared.fault.Unread.{Unread}
 use Rattle.of10_message.specs.declared.fault.Unread.TheVariants.{BadLength, NoCommonVersion, BadVersion, BadType}
-use Rattle.of10_message.specs.Controller.{sized, config_in, read_hello, read_typed, read_controller}
+use Rattle.of10_config.specs.Configs.{read_config}
+use Rattle.of10_message.specs.Forms.{sized, formed, read_hello}
+use Rattle.of10_message.specs.Controller.{read_typed, read_controller}
 use Rattle.of10_message.specs.Heads.{version_of, is_kind}
 use Rattle.slice_words.specs.Messages.{asks_switch}
 
@@ -30,6 +33,10 @@ module _ (bytes : List ℕ) (out : is_of PACKET_OUT bytes ≡ false) (flow : is_
   plain_sized : (size : ℕ) (message : FromController) → asks_switch (Ok message) ≡ false → IsLast (sized size message bytes)
   plain_sized size message isnt = either IsLast (length bytes == size) (Ok message) _ (plain (Ok message) isnt) (λ is. absurd (let clash : false ≡ true = is in cc))
 
+  plain_formed : {A : Type 0} (message : A → FromController) (read : Result A WireFault) → ((value : A) → asks_switch (Ok (message value)) ≡ false) → IsLast (formed message read)
+  plain_formed message (Ok value) isnt = plain (Ok (message value)) (isnt value)
+  plain_formed message (Err fault) isnt = λ is. absurd (let clash : false ≡ true = is in cc)
+
   of_kind : (kind : ℕ) → (version_of bytes == 1) ≡ true → is_bad bytes ≡ false → is_kind kind bytes ≡ true → is_of kind bytes ≡ true
   of_kind kind one bad is = rw (one, bad, is) refl
 
@@ -45,7 +52,7 @@ module _ (bytes : List ℕ) (out : is_of PACKET_OUT bytes ≡ false) (flow : is_
       (either IsLast (is_kind VENDOR bytes) (Ok said.Vendor) _ (plain (Ok said.Vendor) refl)
       (either IsLast (is_kind FEATURES_REQUEST bytes) _ _ (plain_sized 8 said.FeaturesRequest refl)
       (either IsLast (is_kind GET_CONFIG_REQUEST bytes) _ _ (plain_sized 8 said.GetConfigRequest refl)
-      (either IsLast (is_kind SET_CONFIG bytes) _ _ (plain_sized 12 (said.SetConfig (config_in bytes)) refl)
+      (either IsLast (is_kind SET_CONFIG bytes) _ _ (plain_formed said.SetConfig (read_config bytes) (λ config. refl))
       (chosen IsLast (is_kind PACKET_OUT bytes) _ _ (other PACKET_OUT _ one bad out) (λ not_out.
       chosen IsLast (is_kind FLOW_MOD bytes) _ _ (other FLOW_MOD _ one bad flow) (λ not_flow.
       either IsLast (is_kind PORT_MOD bytes) (Ok said.PortMod) _ (plain (Ok said.PortMod) refl)
@@ -62,6 +69,6 @@ module _ (bytes : List ℕ) (out : is_of PACKET_OUT bytes ≡ false) (flow : is_
   unfolding read_controller
   last_type =
       chosen IsLast (is_bad bytes) (Err BadLength) _ (λ bad. plain (Err BadLength) refl) (λ good.
-      either IsLast (is_kind HELLO bytes) (read_hello bytes) _
+      either IsLast (is_kind HELLO bytes) (read_hello said.Hello bytes) _
       (either IsLast (version_of bytes == 0) (Err NoCommonVersion) (Ok said.Hello) (plain (Err NoCommonVersion) refl) (plain (Ok said.Hello) refl))
       (chosen IsLast (not (version_of bytes == 1)) (Err BadVersion) _ (λ bad. plain (Err BadVersion) refl) (λ one. typed (not_false (version_of bytes == 1) one) good)))
