@@ -1,9 +1,7 @@
-//! What follows where a source, a sink, a dialler, a thread, a file or what switches connect to fails, or where
-//! something stands still. There are tests here alone.
+//! What follows where a source or a sink of a session fails, or where something stands still. There are tests here
+//! alone.
 #![tactic(auto)]
 
-#[cfg(test)]
-mod calls;
 #[cfg(test)]
 mod devices;
 #[cfg(test)]
@@ -18,5 +16,3 @@ mod parts;
 mod sessions;
 #[cfg(test)]
 mod sinks;
-#[cfg(test)]
-mod wires;

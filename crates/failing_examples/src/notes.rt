@@ -3,7 +3,6 @@
 use fv_live::Flag;
 use live_session::Side;
 use std::alloc::{AllocError, Global};
-use std::sync::atomic::{AtomicU64, Ordering};
 use std::sync::{Arc, Mutex, Wait};
 
 /// What may come.
@@ -21,22 +20,14 @@ pub enum Mark {
     Read(Side),
     /// The side's writer has ended.
     Wrote(Side),
-    /// A connection wasn't accepted.
-    NotAccepted,
-    /// A thousand dials of alice's controller failed, and so many more.
-    NotDialled(u32),
 }
 
-/// What comes only where something is wrong: a message is held for all turns, or a reader dials after it gave up.
-const WRONG: [Mark; 2] = [Mark::HeldTooLong, Mark::NotDialled(1)];
-
-/// The marks that came, a flag that is raised by one of them, and how many works have run to their ends.
+/// The marks that came, and a flag that is raised by one of them.
 #[derive(Drop)]
 pub struct Notes {
     marks: Mutex<Vec<Mark>>,
     raised_by: Mark,
     flag: Arc<Flag, Global>,
-    works: AtomicU64,
 }
 
 impl Notes {
@@ -46,7 +37,6 @@ impl Notes {
             marks: Mutex::new(Vec::new(alloc)),
             raised_by,
             flag: Arc::new(alloc, Flag::new())?,
-            works: AtomicU64::new(0),
         };
         Ok(Arc::new(alloc, notes)?)
     }
@@ -66,16 +56,6 @@ impl Notes {
         if mark == self.raised_by {
             self.flag.raise(rt);
         }
-    }
-
-    /// A work has run to its end.
-    pub fn end_work(&self) {
-        self.works.fetch_add(1, Ordering::SeqCst);
-    }
-
-    /// How many works have.
-    pub fn works(&self) -> u64 {
-        self.works.load(Ordering::SeqCst)
     }
 
     /// How many came.
@@ -98,9 +78,9 @@ impl Notes {
         matches!((first, second), (Some(first), Some(second)) if first < second)
     }
 
-    /// Whether nothing came that is wrong.
+    /// Whether no message was held for all turns.
     pub fn is_right<R: Wait>(&self, rt: &R) -> bool {
         let marks = self.marks.lock(rt);
-        !WRONG.iter().any(|mark| marks.contains(mark))
+        !marks.contains(&Mark::HeldTooLong)
     }
 }
