@@ -127,7 +127,7 @@ fn is_for_the_switch(event: &Event) -> bool
 }
 
 /// One event in a turn of the reader's.
-fn ask_in_turn<R: Wait, C: Clock>(
+fn ask_in_turn<R: Host, C: Clock>(
     rt: &R,
     desk: &TurnDesk<DeskObject>,
     seat: &mut TurnSeat<DeskObject>,

@@ -3,10 +3,20 @@
 
 use crate::bells::Bells;
 use crate::side::Side;
+use fv_live::Host;
 use std::sync::{MutexGuard, Wait};
+use std::thread;
+use std::time::{Duration, Instant};
 
 /// After how many of a slice's messages others have their turn: one of them may cost as much as many packets do.
 const MESSAGES_OF_A_SLICE: u32 = 16;
+
+/// After how long a slice's messages let others have their turn, though there are fewer, and rest.
+const SHARE_OF_A_SLICE: Duration = Duration::from_micros(500);
+
+/// How many times as long as such messages took the slice then leaves the desk to the others: its worst messages,
+/// one behind the other, have it for a quarter of the time.
+const REST: u32 = 3;
 
 /// The same of a switch's messages.
 const MESSAGES_OF_A_SWITCH: u32 = 1024;
@@ -21,6 +31,8 @@ pub(crate) struct Turns<'a> {
     // How many messages are handed on before others have their turn.
     left: u32,
     hold: Option<MutexGuard<'a, ()>>,
+    // Since when, of a slice.
+    since: Option<Instant>,
 }
 
 fn messages_of(side: Side) -> u32 {
@@ -40,13 +52,24 @@ impl<'a> Turns<'a> {
             each,
             left: messages_of(side),
             hold: None,
+            since: None,
         }
     }
 
-    fn take_hold<R: Wait>(&mut self, rt: &R) {
-        if self.hold.is_none() {
-            self.hold = Some(self.bells.hold(rt));
+    fn take_hold<R: Host>(&mut self, rt: &R) {
+        if self.hold.is_some() {
+            return;
         }
+        self.hold = Some(self.bells.hold(rt));
+        if matches!(self.side, Side::Slice(_)) {
+            self.since = Instant::now(rt).ok();
+        }
+    }
+
+    /// How long a slice has had the desk, where that is longer than its share.
+    fn overdrawn<R: Host>(&self, rt: &R) -> Option<Duration> {
+        let had = self.since?.elapsed(rt).ok()?;
+        (had > SHARE_OF_A_SLICE).then_some(had)
     }
 
     fn let_go(&mut self) {
@@ -56,7 +79,7 @@ impl<'a> Turns<'a> {
 
     /// Before a message: nobody else asks the desk. One that a slice has for the switch waits while much waits there
     /// already, so that no slice fills the lane up.
-    pub(crate) fn begin<R: Wait>(&mut self, rt: &R, is_for_the_switch: bool) {
+    pub(crate) fn begin<R: Host>(&mut self, rt: &R, is_for_the_switch: bool) {
         self.take_hold(rt);
         if self.each || !is_for_the_switch {
             return;
@@ -72,12 +95,16 @@ impl<'a> Turns<'a> {
         }
     }
 
-    /// After a message, by which the connection goes on or not.
-    pub(crate) fn end<R: Wait>(&mut self, rt: &R, goes_on: bool) {
+    /// After a message, by which the connection goes on or not. A slice whose messages took long rests.
+    pub(crate) fn end<R: Host>(&mut self, rt: &R, goes_on: bool) {
         self.left = self.left.saturating_sub(1);
-        if self.each || self.left == 0 || !goes_on {
+        let overdrawn = self.overdrawn(rt);
+        if self.each || self.left == 0 || !goes_on || overdrawn.is_some() {
             self.let_go();
             self.bells.wake(rt, goes_on);
+        }
+        if let Some(had) = overdrawn {
+            thread::sleep(rt, had.saturating_mul(REST));
         }
     }
 
