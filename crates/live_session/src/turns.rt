@@ -11,8 +11,8 @@ use std::time::{Duration, Instant};
 /// After how many of a slice's messages others have their turn: one of them may cost as much as many packets do.
 const MESSAGES_OF_A_SLICE: u32 = 16;
 
-/// After how long a slice's messages let others have their turn, though there are fewer, and rest.
-const SHARE_OF_A_SLICE: Duration = Duration::from_micros(500);
+/// After how many microseconds a slice's messages let others have their turn, though there are fewer, and rest.
+const SHARE_OF_A_SLICE: u64 = 500;
 
 /// How many times as long as such messages took the slice then leaves the desk to the others: its worst messages,
 /// one behind the other, have it for a quarter of the time.
@@ -69,7 +69,7 @@ impl<'a> Turns<'a> {
     /// How long a slice has had the desk, where that is longer than its share.
     fn overdrawn<R: Host>(&self, rt: &R) -> Option<Duration> {
         let had = self.since?.elapsed(rt).ok()?;
-        (had > SHARE_OF_A_SLICE).then_some(had)
+        (had > Duration::from_micros(SHARE_OF_A_SLICE)).then_some(had)
     }
 
     fn let_go(&mut self) {
