@@ -17,6 +17,7 @@ THREADS = SWITCHES * (2 + 2 * SLICES) + 1
 PATIENCE = 30
 # The proxy remembers the last requests of each slice, and grows by so many bytes with each until there are as many.
 REQUESTS, REQUEST_BYTES = 4_096, 100
+ALL_REQUESTS = SWITCHES * SLICES * REQUESTS
 # What memory may grow by beside that from the first minute on, in KB.
 GROWTH = 4_096
 
@@ -53,8 +54,8 @@ class Renewal:
 class Watch:
     """What the proxy holds, minute by minute."""
 
-    def __init__(self, proxy, traffic):
-        self.proxy, self.traffic = proxy, traffic
+    def __init__(self, proxy, traffic, later):
+        self.proxy, self.traffic, self.later = proxy, traffic, later
         self.memory, self.threads, self.requests = [], [], []
 
     def remembered(self):
@@ -69,6 +70,8 @@ class Watch:
             self.memory.append(self.proxy.memory)
             self.threads.append(self.proxy.threads)
             self.requests.append(self.remembered())
+            if self.requests[-1] == ALL_REQUESTS:
+                self.traffic.rate = self.later
             passed = max(1, loop.time() - began)
             proxy, peers = (self.proxy.processor_seconds - theirs) / passed, (time.process_time() - ours) / passed
             print(
@@ -91,7 +94,12 @@ class Watch:
 
     def told(self):
         shown = self.memory if len(self.memory) < 8 else [*self.memory[:-1:6], self.memory[-1]]
-        return ", ".join(f"{kilobytes:,}" for kilobytes in shown)
+        text = ", ".join(f"{kilobytes:,}" for kilobytes in shown) + " KB"
+        if ALL_REQUESTS not in self.requests:
+            return text
+        full = self.requests.index(ALL_REQUESTS)
+        then = self.memory[full:]
+        return f"{text}, from minute {full} on, when it remembered all it can, {min(then):,} to {max(then):,} KB"
 
 
 async def end_all(proxy, switches):
@@ -101,7 +109,9 @@ async def end_all(proxy, switches):
     return await proxy.ending(PATIENCE)
 
 
-async def run(program, minutes=2, rate=500):
+async def run(program, minutes=2, rate=500, later=None):
+    """Where `later` is given, there are so many turns a second from the minute on at which the proxy remembers all it
+    can, so that what memory does then is seen at a load that the machine has beside other work."""
     controllers = [Controller(slot) for slot in range(SLICES)]
     async with site(program, controllers, connections=SWITCHES) as proxy:
         exchanges = []
@@ -111,7 +121,7 @@ async def run(program, minutes=2, rate=500):
         restless = [each for each in exchanges if each.slot >= RESTLESS]
         renewal = Renewal(restless, controllers)
         async with Traffic(exchanges, rate) as traffic:
-            watch = Watch(proxy, traffic)
+            watch = Watch(proxy, traffic, rate if later is None else later)
             renewing = asyncio.create_task(renewal.run())
             await watch.run(minutes)
             renewing.cancel()
@@ -120,6 +130,6 @@ async def run(program, minutes=2, rate=500):
     expect(faults, ended == (0, ""), f"it ended so: {ended}")
     seen = (
         f"{SWITCHES} switches with {SLICES} slices each ({THREADS:,} threads) for {minutes} minutes with {rate:,} "
-        f"turns a second, {renewal.count:,} links made anew; memory {watch.told()} KB; {traffic.told()}"
+        f"turns a second, {renewal.count:,} links made anew; memory {watch.told()}; {traffic.told()}"
     )
     return Outcome(seen, faults)
