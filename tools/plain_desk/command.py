@@ -47,7 +47,7 @@ def answered(words):
             accepted = load_policy(policy)
             return report_lines(accepted, load_records(recording, accepted))
         case ["gen", seed, count] if is_number(seed, SEEDS - 1) and is_number(count, MOST_ROUNDS):
-            accepted = read_policy(POLICY)
+            accepted = load_policy(POLICY)
             records = read_records(rounds(int(seed), int(count)), len(accepted.slices))
             return summary_lines(accepted, records)
     raise Ending(1, USAGE)

@@ -3,8 +3,11 @@ import itertools
 import struct
 
 from sunworsted import (
-    SLICE_BYTES, SLICE_UP, SWITCH_BYTES, SWITCH_UP, features_reply, message, packet_in, record, recording, tcp_packet,
+    ROOT, SLICE_BYTES, SLICE_UP, SWITCH_BYTES, SWITCH_UP, features_reply, message, packet_in, record, recording, tcp_packet,
 )
+
+# The policy under which they are replayed.
+POLICY = ROOT / "examples/two-slices.toml"
 
 ALICE, BOB = range(2)
 PORTS = [1, 2, 3, 0xFFFE]
@@ -76,27 +79,3 @@ def rounds(seed, count, switches=1):
     draw = draws(seed)
     openings = itertools.chain.from_iterable(map(opening, range(switches)))
     return recording(*openings, *(drawn_round(draw, number, number % switches) for number in range(count)))
-
-
-# The policy under which they are replayed.
-POLICY = b"""\
-version = 1
-[[slice]]
-name = "alice"
-controller = "127.0.0.1:6633"
-[[slice]]
-name = "bob"
-controller = "127.0.0.1:6634"
-[[rule]]
-priority = 100
-write = "alice"
-dl_type = 2048
-nw_proto = 6
-tp_dst = 80
-[[rule]]
-priority = 50
-write = "bob"
-dl_type = 2048
-nw_proto = 6
-tp_dst = 22
-"""
