@@ -23,6 +23,7 @@ demo: build
 	  $(program) replay examples/two-slices.toml examples/$$name.rec > examples/$$name.out && \
 	  cat examples/$$name.out && cmp examples/$$name.out examples/$$name.report || exit 1; \
 	done
+	@cd examples/plain-run && ../../$(program) replay plain-run.toml plain-run.rec | cmp - plain-run.report
 	@echo "as it should be"
 
 # The gate: every proof, the edits that must fail, the tests and the runs of programs.
