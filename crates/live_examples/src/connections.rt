@@ -1,3 +1,4 @@
+use crate::expectations::expect_eq;
 use fv_base::{Failed, MemorySink};
 use fv_live::{Dialer, Link, Links, MemoryDialer, MemorySource, MemoryWires, Source, Wires};
 use std::alloc::{AllocError, Global};
@@ -45,15 +46,15 @@ fn connections_are_accepted_in_their_order(rt: HostRuntime) -> Result<(), Fail> 
     let links = Arc::new(alloc, Links::new(Vec::new(alloc), Vec::new(alloc)))?;
     let failing = vec![in alloc; 0, 3]?;
     let mut wires = MemoryWires::new(alloc, connections, failing, links);
-    assert_eq!(rt; wires.listen(&rt, "there"), Err(Failed));
+    expect_eq!(rt; wires.listen(&rt, "there"), Err(Failed));
     assert!(rt; wires.listen(&rt, "here").is_ok());
-    assert_eq!(rt; byte_of(wires.accept(&rt)), Some(1));
-    assert_eq!(rt; byte_of(wires.accept(&rt)), None);
-    assert_eq!(rt; byte_of(wires.accept(&rt)), Some(2));
-    assert_eq!(rt; byte_of(wires.accept(&rt)), None);
-    assert_eq!(rt; wires.faults("there"), 1);
-    assert_eq!(rt; wires.faults("here"), 2);
-    assert_eq!(rt; wires.faults("elsewhere"), 0);
+    expect_eq!(rt; byte_of(wires.accept(&rt)), Some(1));
+    expect_eq!(rt; byte_of(wires.accept(&rt)), None);
+    expect_eq!(rt; byte_of(wires.accept(&rt)), Some(2));
+    expect_eq!(rt; byte_of(wires.accept(&rt)), None);
+    expect_eq!(rt; wires.faults("there"), 1);
+    expect_eq!(rt; wires.faults("here"), 2);
+    expect_eq!(rt; wires.faults("elsewhere"), 0);
     Ok(())
 }
 
@@ -68,13 +69,13 @@ fn each_link_is_given_once(rt: HostRuntime) -> Result<(), Fail> {
     let wires = MemoryWires::new(alloc, VecDeque::new(alloc), Vec::new(alloc), links);
     let mut first = wires.dialer();
     let mut second = wires.dialer();
-    assert_eq!(rt; byte_of(first.dial(&rt, "alice", 0)), Some(1));
-    assert_eq!(rt; byte_of(second.dial(&rt, "alice", 0)), Some(2));
-    assert_eq!(rt; byte_of(first.dial(&rt, "alice", 0)), None);
-    assert_eq!(rt; byte_of(second.dial(&rt, "bob", 0)), Some(11));
-    assert_eq!(rt; first.faults("alice"), 1);
-    assert_eq!(rt; first.faults("bob"), 0);
-    assert_eq!(rt; second.faults("alice"), 0);
+    expect_eq!(rt; byte_of(first.dial(&rt, "alice", 0)), Some(1));
+    expect_eq!(rt; byte_of(second.dial(&rt, "alice", 0)), Some(2));
+    expect_eq!(rt; byte_of(first.dial(&rt, "alice", 0)), None);
+    expect_eq!(rt; byte_of(second.dial(&rt, "bob", 0)), Some(11));
+    expect_eq!(rt; first.faults("alice"), 1);
+    expect_eq!(rt; first.faults("bob"), 0);
+    expect_eq!(rt; second.faults("alice"), 0);
     Ok(())
 }
 
@@ -85,10 +86,10 @@ fn dials_fail_where_the_list_says_so(rt: HostRuntime) -> Result<(), Fail> {
     waiting.push(link(alloc, "alice", 1)?)?;
     let links = Arc::new(alloc, Links::new(waiting, vec![in alloc; 0, 1]?))?;
     let mut dialer = MemoryDialer::new(alloc, Some(links));
-    assert_eq!(rt; byte_of(dialer.dial(&rt, "alice", 0)), None);
-    assert_eq!(rt; byte_of(dialer.dial(&rt, "bob", 1)), None);
-    assert_eq!(rt; byte_of(dialer.dial(&rt, "alice", 2)), Some(1));
-    assert_eq!(rt; dialer.faults("alice"), 1);
-    assert_eq!(rt; dialer.faults("bob"), 1);
+    expect_eq!(rt; byte_of(dialer.dial(&rt, "alice", 0)), None);
+    expect_eq!(rt; byte_of(dialer.dial(&rt, "bob", 1)), None);
+    expect_eq!(rt; byte_of(dialer.dial(&rt, "alice", 2)), Some(1));
+    expect_eq!(rt; dialer.faults("alice"), 1);
+    expect_eq!(rt; dialer.faults("bob"), 1);
     Ok(())
 }

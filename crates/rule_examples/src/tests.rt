@@ -1,2 +1,5 @@
 mod actions;
 mod flow_mods;
+mod index;
+mod stats;
+mod table;

@@ -1,6 +1,0 @@
-use Rattle.std.proofs.Common.{All}
-use Rattle.flowspace.specs.Slices.{IsPlainSlice}
-use Rattle.index_examples.proofs.tests.eight_slices.Given as goal
-
-abbrev pub invariant-loop-slot : goal.invariant-loop-slot
-invariant-loop-slot l = All IsPlainSlice l.slices.items

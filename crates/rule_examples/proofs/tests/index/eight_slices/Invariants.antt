@@ -1,0 +1,6 @@
+use Rattle.std.proofs.Common.{All}
+use Rattle.flowspace.specs.Slices.{IsPlainSlice}
+use Rattle.rule_examples.proofs.tests.index.eight_slices.Given as goal
+
+abbrev pub invariant-loop-slot : goal.invariant-loop-slot
+invariant-loop-slot l = All IsPlainSlice l.slices.items

@@ -1,0 +1,69 @@
+//! What an index of a switch's rules answers, beside the rules themselves.
+
+ghost use Rattle.std.specs.Prelude.{All, IfOk};
+ghost use Rattle.flowspace.specs.Slices.{IsPlainSlice};
+
+use crate::expectations::expect_eq;
+use flowspace::{Policy, PolicyFault, Rule, Slice, SwitchPolicy};
+use rule_index::RuleIndex;
+use samples::{packet, plain_rules, rule, slice, tcp};
+use std::alloc::{AllocError, Global};
+use std::test::Fail;
+
+const RULES: u16 = 2048;
+
+/// The slices s0 to s7.
+fn eight_slices(alloc: Global) -> Result<Vec<Slice>, AllocError>
+    ensures { IfOk result (λ v. All IsPlainSlice v.items) }
+{
+    let mut slices = Vec::new(alloc);
+    for slot in 0..8_u8 {
+        let name = format!(in alloc; "s{slot}")?;
+        slices.push(slice(alloc, name.as_str())?)?;
+    }
+    Ok(slices)
+}
+
+/// A rule for each TCP port below 2,048, written by the eight slices in turn.
+fn rule_for_each_port(alloc: Global) -> Result<Vec<Rule>, AllocError> {
+    let mut rules = Vec::new(alloc);
+    for port in 0..RULES {
+        let slot = (port % 8) as u8;
+        rules.push(rule(1, &tcp(None, port), slot, 0))?;
+    }
+    Ok(rules)
+}
+
+fn switch_of_eight_slices(alloc: Global) -> Result<SwitchPolicy, Fail> {
+    let slices = eight_slices(alloc)?;
+    let rules = rule_for_each_port(alloc)?;
+    let rules = plain_rules(alloc, &rules)?;
+    if slices.is_empty() {
+        Err(PolicyFault::Memory)?;
+    }
+    let policy = Policy::load(alloc, slices, rules)?;
+    Ok(policy.of_switch(alloc, 0xa1)?)
+}
+
+#[test]
+fn looks_up_the_last_of_many_rules_and_its_owner(rt: HostRuntime) -> Result<(), Fail> {
+    let policy = switch_of_eight_slices(rt.alloc())?;
+    let index = RuleIndex::build(rt.alloc(), &policy)?;
+    expect_eq!(rt; index.first(&packet(1, 0x0a00_0002, 2047)), Some(2047));
+    expect_eq!(rt; index.owner_of(&tcp(None, 2047)), Some(7));
+    expect_eq!(rt; index.first(&packet(1, 0x0a00_0002, 2048)), None);
+    Ok(())
+}
+
+#[test]
+fn answers_for_each_of_many_rules_as_the_policy_does(rt: HostRuntime) -> Result<(), Fail> {
+    let policy = switch_of_eight_slices(rt.alloc())?;
+    let index = RuleIndex::build(rt.alloc(), &policy)?;
+    for port in 0..RULES {
+        let header = packet(1, 0x0a00_0002, port);
+        let own = tcp(None, port);
+        expect_eq!(rt; index.first(&header), policy.first(&header), port);
+        expect_eq!(rt; index.owner_of(&own), policy.owner_of(&own), port);
+    }
+    Ok(())
+}

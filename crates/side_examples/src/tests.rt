@@ -1,2 +1,0 @@
-mod slices;
-mod switches;
