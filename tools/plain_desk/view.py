@@ -7,7 +7,7 @@ import bisect
 import collections
 from dataclasses import dataclass, field
 
-from flowvisor_tool.openflow.protocol import MessageType, StatsType
+from flowvisor_tool.openflow.protocol import MessageType
 
 from .answer import Answer
 from .items import Down, Entry, Item, Lost, Message, Opened, Packet, Share, Status, Up

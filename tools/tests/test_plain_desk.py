@@ -3,6 +3,7 @@ import contextlib
 import io
 import pathlib
 import re
+import struct
 import tempfile
 import unittest
 
@@ -130,7 +131,7 @@ class Rules(unittest.TestCase):
     def test_the_controller_sees_by_which_port_packets_came(self):
         match, fields, actions = self.flow_mod(0xFFFD)
         lines = replayed(TWO_PORTS, asked(14, 5, match + fields + actions))
-        self.assertEqual(lines[0][:49], "3 to alice 0101004c0000000500020006" + "010e0058000000"[:14])
+        self.assertTrue(lines[0].startswith("3 to alice 0101004c0000000500020006010e0058"), lines[0])
         match, fields, actions = self.flow_mod(2)
         sent = message(14, 0, match + fields[:-2] + b"\0\1" + actions)
         self.assertEqual(replayed(TWO_PORTS, asked(14, 5, match + fields + actions)), [f"3 lane {sent.hex()}", "end 4"])
@@ -139,6 +140,18 @@ class Rules(unittest.TestCase):
         error = bytes.fromhex("00010001")
         lines = replayed(SLICES, asked(18, 7), told(19, 0), told(19, 0), told(1, 0, error), told(1, 0, error))
         self.assertEqual(lines[1:], ["4 to alice 0113000800000007", "6 to alice 0101001400000007000100010112000800000007", "end 8"])
+
+    def test_the_last_4096_requests_are_remembered(self):
+        requests = [asked(18, number, moment=number) for number in range(4097)]
+        lines = replayed(TWO_PORTS, *requests, told(19, 0), told(19, 1))
+        self.assertEqual(lines[4097:], ["4101 to alice 0113000800000001", "end 4102"])
+
+    def test_no_more_than_1364_ports_are_known(self):
+        ports = [told(12, 0, struct.pack(">B7xH46x", 0, number)) for number in range(1363, 1367)]
+        records = [OPENING[0], record(SWITCH_BYTES, 0, features_reply(0xFF000001, 0xA1, range(1, 1363))), OPENING[2]]
+        policy = read_policy((SLICES + '[[rule]]\npriority = 1\nwrite = "alice"').encode())
+        lines = list(report_lines(policy, read_records(recording(*records, *ports), 2)))
+        self.assertEqual([line.split()[0] for line in lines if " alice 010c" in line], ["3", "4"])
 
     def test_a_stream_begins_anew(self):
         echo = message(2, 9, b"")
