@@ -18,6 +18,13 @@ pub const UNANSWERED: &[&str] = &["0103000800000063"];
 /// The greeting of a controller.
 pub const GREETING: &[&str] = &["0100000800000000"];
 
+/// The head of a packet-in by port 1 that the switch doesn't keep, and a packet for TCP port 22 in it.
+pub const IN: &str = "010a004800000000ffffffff003600010000";
+
+pub const TO_22: &str = "0000000000020000000000010800450000280000000040060000\
+0a0000010a000002040000160000000000000000500200000000\
+0000";
+
 /// Messages of one type that are as long as they can be: with the transactions from 0 on, and bodies that begin so
 /// and go on with zeros.
 #[derive(Clone, Copy)]

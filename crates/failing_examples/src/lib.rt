@@ -1,7 +1,8 @@
-//! What follows where a source or a sink of a session fails, or where something stands still. There are tests here
-//! alone.
+//! What follows where a source, a sink or a dialler fails, or where something stands still. There are tests here alone.
 #![tactic(auto)]
 
+#[cfg(test)]
+mod calls;
 #[cfg(test)]
 mod devices;
 #[cfg(test)]
@@ -13,6 +14,10 @@ mod notes;
 #[cfg(test)]
 mod parts;
 #[cfg(test)]
+mod ports;
+#[cfg(test)]
 mod sessions;
 #[cfg(test)]
 mod sinks;
+#[cfg(test)]
+mod threads;

@@ -2,7 +2,8 @@ ghost use Rattle.std.specs.Arc.{arc_value};
 ghost use Rattle.turn_desk.specs.Seats.{IsSeatOf, SameDesk};
 
 use crate::devices::{
-    ALICE, BOB, Device, GREETING, Long, NOTHING, SWITCH, Stream, Told, UNANSWERED, told_to_all,
+    ALICE, BOB, Device, GREETING, IN, Long, NOTHING, SWITCH, Stream, TO_22, Told, UNANSWERED,
+    told_to_all,
 };
 use crate::expectations::{expect, expect_equal};
 use crate::gate::Hold;
@@ -54,13 +55,6 @@ const MORE_THAN_MAY_WAIT: Long = Long { count: 40, ..OUT };
 const TO_80: &str = "0000000000020000000000010800450000280000000040060000\
 0a0000010a000002040000500000000000000000500200000000\
 0000";
-
-const TO_22: &str = "0000000000020000000000010800450000280000000040060000\
-0a0000010a000002040000160000000000000000500200000000\
-0000";
-
-/// The head of a packet-in by port 1 that the switch doesn't keep.
-const IN: &str = "010a004800000000ffffffff003600010000";
 
 /// The switch was sent what it is to be sent, and the readers of both slices have ended.
 const SLICES_ARE_OVER: &[Mark] = &[
