@@ -1,5 +1,5 @@
-//! Whole calls of the program over files and sinks in memory, and what they answer: policies, recordings,
-//! sessions and flow-mods; files, sinks and words by themselves, too. There are tests here alone.
+//! Files, sinks and words by themselves, and the report of a recording in memory. There are tests here alone; whole
+//! calls of the program are played by `case_tables`.
 #![tactic(auto)]
 
 #[cfg(test)]

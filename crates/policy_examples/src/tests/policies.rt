@@ -2,11 +2,9 @@
 
 mod given;
 
-ghost use Rattle.std.specs.Prelude.{◌<◌};
-
-use flowspace::PolicyFault::{DuplicateSlice, Improper, Overlap, TooMany, UnknownSlice};
-use flowspace::{Field, Policy, PolicyFault, Rule, What};
-use given::{at, load, named, numbered, packet, packets, rule, rule_on, tcp};
+use flowspace::PolicyFault::{DuplicateSlice, Improper, UnknownSlice};
+use flowspace::{Field, Policy, PolicyFault, Rule};
+use given::{at, load, named, packet, packets, rule, rule_on, tcp};
 use of10_match::Match;
 use std::alloc::Global;
 use std::test::Fail;
@@ -24,53 +22,6 @@ fn fault(alloc: Global, names: &[&str], rules: &[Rule]) -> Result<Option<PolicyF
 
 fn policy(alloc: Global, rules: &[Rule]) -> Result<Policy, Fail> {
     Ok(load(alloc, named(alloc, &NAMES)?, rules)??)
-}
-
-#[test]
-fn rules_of_two_slices_may_not_overlap(rt: HostRuntime) -> Result<(), Fail> {
-    let all = Match::all();
-    let table = [
-        // below it a rule that another slice writes, and one that nobody writes, which may not be above
-        (rule(50, &all, Some(1), 0), Some(Overlap(0, 1))),
-        (rule(10, &all, None, 0b10), None),
-        (rule(200, &all, None, 0b10), Some(Overlap(1, 0))),
-        // of one priority the file's order counts
-        (rule(100, &all, Some(1), 0), Some(Overlap(0, 1))),
-        (rule(50, &all, Some(0), 0), None),
-        (rule(50, &tcp(22), Some(1), 0), None),
-    ];
-    for (index, (second, expected)) in table.iter().enumerate() {
-        let answer = fault(rt.alloc(), &NAMES, &[web(), *second])?;
-        assert_eq!(rt; answer, *expected, "case {index}");
-    }
-    Ok(())
-}
-
-#[test]
-fn an_overlap_needs_a_header_and_a_switch(rt: HostRuntime) -> Result<(), Fail> {
-    let wide = packets(None, 8, None);
-    let narrow = packets(None, 16, None);
-    let all = Match::all();
-    let table = [
-        (None, wide, None, narrow, true),
-        (None, narrow, None, wide, true),
-        (None, packets(Some(1), 8, None), None, at(2), false),
-        (None, packets(Some(1), 8, Some(80)), None, at(1), true),
-        (Some(7), all, Some(8), all, false),
-        (Some(7), all, Some(7), all, true),
-        (Some(7), all, None, all, true),
-        (None, all, Some(7), all, true),
-    ];
-    for (index, (switch, m, other, n, overlaps)) in table.iter().enumerate() {
-        let rules = [rule_on(*switch, 9, m, 0), rule_on(*other, 8, n, 1)];
-        let expected = overlaps.then_some(Overlap(0, 1));
-        assert_eq!(rt;
-            fault(rt.alloc(), &NAMES, &rules)?,
-            expected,
-            "case {index}"
-        );
-    }
-    Ok(())
 }
 
 #[test]
@@ -114,73 +65,6 @@ fn names_come_before_rules(rt: HostRuntime) -> Result<(), Fail> {
     for (names, expected) in table {
         let answer = fault(rt.alloc(), &names, &[rule(1, &tcp(80), Some(4), 0)])?;
         assert_eq!(rt; answer, Some(expected));
-    }
-    Ok(())
-}
-
-#[test]
-fn the_first_overlap_is_given(rt: HostRuntime) -> Result<(), Fail> {
-    let all = Match::all();
-    let table = [
-        // the later rule that comes first in rule order
-        [
-            rule(10, &tcp(80), Some(1), 0),
-            rule(40, &tcp(80), Some(0), 0),
-            rule(30, &tcp(22), Some(0), 0),
-            rule(20, &tcp(22), Some(1), 0),
-        ],
-        // and then the earlier rule that does
-        [
-            rule(10, &all, Some(1), 0),
-            rule(30, &tcp(22), Some(0), 0),
-            rule(40, &tcp(80), Some(0), 0),
-            rule(35, &at(1), Some(1), 0),
-        ],
-        [
-            rule(10, &all, Some(1), 0),
-            rule(30, &tcp(22), Some(0), 0),
-            rule(40, &tcp(80), Some(0), 0),
-            rule(10, &tcp(80), Some(1), 0),
-        ],
-    ];
-    let expected = [(2, 3), (2, 3), (2, 0)];
-    for (rules, (i, j)) in table.iter().zip(expected) {
-        let answer = fault(rt.alloc(), &NAMES, rules)?;
-        assert_eq!(rt; answer, Some(Overlap(i, j)));
-    }
-    Ok(())
-}
-
-/// So many rules, each of a TCP port of its own, in turn of slices from the first on.
-fn many(alloc: Global, count: u16, slices: u8) -> Result<Vec<Rule>, Fail>
-    requires { 0 < slices }
-{
-    let mut rules = Vec::new(alloc);
-    for port in 0..count {
-        rules.push(rule(1, &tcp(port), Some((port % u16::from(slices)) as u8), 0))?;
-    }
-    Ok(rules)
-}
-
-#[test]
-fn limits_are_kept(rt: HostRuntime) -> Result<(), Fail> {
-    let table = [
-        (32, 2048, 8, None),
-        (33, 2049, 8, Some(TooMany(What::Slices, 33))),
-        (32, 2049, 8, Some(TooMany(What::Rules, 2049))),
-        (32, 512, 2, None),
-        (32, 513, 2, Some(TooMany(What::Writes, 257))),
-        (32, 515, 2, Some(TooMany(What::Writes, 258))),
-    ];
-    for (slices, rules, turns, expected) in table {
-        let rules = many(rt.alloc(), rules, turns)?;
-        let answer = load(rt.alloc(), numbered(rt.alloc(), slices)?, &rules)?.err();
-        assert_eq!(rt; answer, expected, "{} rules", rules.len());
-    }
-    let last = [rule(1, &tcp(80), Some(0), 1 << 31)];
-    for (slices, expected) in [(32, None), (31, Some(UnknownSlice(0)))] {
-        let answer = load(rt.alloc(), numbered(rt.alloc(), slices)?, &last)?.err();
-        assert_eq!(rt; answer, expected, "{slices} slices");
     }
     Ok(())
 }

@@ -1,9 +1,8 @@
 //! The program's words, and the same words as a command line of `clap` reads them.
 
-use super::outside::words_of;
 use clap::builder::ValueParser;
 use clap::{Arg, ArgAction, ArgMatches, Command};
-use fv_base::{Form, WordsFault, read_words};
+use fv_base::{Form, Words, WordsFault, read_words};
 use std::alloc::{AllocError, Global};
 use std::test::Fail;
 
@@ -61,6 +60,14 @@ fn form_in<'a>(matches: &ArgMatches<'a>) -> Option<Form<'a>> {
         listen: serve.get_str("listen")?,
         count: serve.get_one("count")?,
     })
+}
+
+fn words_of(alloc: Global, texts: &[&str]) -> Result<Words, AllocError> {
+    let mut words = Words::new(alloc);
+    for text in texts {
+        words.push(text)?;
+    }
+    Ok(words)
 }
 
 /// A command line, and the words behind the program's name.

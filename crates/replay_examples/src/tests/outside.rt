@@ -1,10 +1,8 @@
-//! Files and sinks in memory, whole files, and the words of the program.
+//! Files and sinks in memory, and whole files.
 
 use fv_base::{
-    Failed, Files, Form, LoadFault, MemoryFiles, MemorySink, NeverSink, Sink, Words, WordsFault,
-    load_file, put_all, read_words,
+    Failed, Files, LoadFault, MemoryFiles, MemorySink, NeverSink, Sink, load_file, put_all,
 };
-use std::alloc::{AllocError, Global};
 use std::test::Fail;
 
 const MEBIBYTE: usize = 1_048_576;
@@ -158,74 +156,6 @@ fn load_faults_say_what_is_wrong(rt: HostRuntime) -> Result<(), Fail> {
     ];
     for (fault, text) in &table {
         assert_eq!(rt; format!(in alloc; "{fault}")?.as_str(), *text);
-    }
-    Ok(())
-}
-
-pub(super) fn words_of(alloc: Global, texts: &[&str]) -> Result<Words, AllocError> {
-    let mut words = Words::new(alloc);
-    for text in texts {
-        words.push(text)?;
-    }
-    Ok(words)
-}
-
-#[test]
-fn words_have_a_form(rt: HostRuntime) -> Result<(), Fail> {
-    let words = words_of(rt.alloc(), &["replay", "P", "R-1"])?;
-    let form = Form::Replay {
-        policy: "P",
-        recording: "R-1",
-    };
-    assert_eq!(rt; read_words(&words), Ok(form));
-    let words = words_of(rt.alloc(), &["check", "P-1"])?;
-    assert_eq!(rt; read_words(&words), Ok(Form::Check { policy: "P-1" }));
-    let words = words_of(rt.alloc(), &["gen", "18446744073709551615", "1000000"])?;
-    let form = Form::Gen {
-        seed: u64::MAX,
-        count: 1_000_000,
-    };
-    assert_eq!(rt; read_words(&words), Ok(form));
-    let words = words_of(rt.alloc(), &["serve", "P", "L", "1000000000"])?;
-    let form = Form::Serve {
-        policy: "P",
-        listen: "L",
-        count: 1_000_000_000,
-    };
-    assert_eq!(rt; read_words(&words), Ok(form));
-    Ok(())
-}
-
-#[test]
-fn other_words_are_refused(rt: HostRuntime) -> Result<(), Fail> {
-    let alloc = rt.alloc();
-    let table: [&[&str]; 17] = [
-        &[],
-        &["replay"],
-        &["replay", "P"],
-        &["check"],
-        &["check", ""],
-        &["check", "-P"],
-        &["check", "P", "R"],
-        &["replay", "", "R"],
-        &["replay", "-x", "R"],
-        &["replay", "P", "-"],
-        &["Replay", "P", "R"],
-        &["replay", "P", "R", "S"],
-        &["serve", "P", "L", "0"],
-        &["serve", "P", "L", "1000000001"],
-        &["serve", "P", "-L", "1"],
-        &["gen", "1", "1000001"],
-        &["gen", "01", "1"],
-    ];
-    for texts in table {
-        let words = words_of(alloc, texts)?;
-        assert_eq!(rt;
-            read_words(&words),
-            Err(WordsFault::Usage),
-            "{} words",
-            texts.len()
-        );
     }
     Ok(())
 }

@@ -94,18 +94,6 @@ pub fn named(alloc: Global, names: &[&str]) -> Result<Vec<Slice>, AllocError>
     Ok(slices)
 }
 
-/// So many slices, of different names.
-pub fn numbered(alloc: Global, count: u32) -> Result<Vec<Slice>, AllocError>
-    ensures { IfOk result (λ v. All IsPlainSlice v.items) }
-{
-    let mut slices = Vec::new(alloc);
-    for number in 0..count {
-        let name = format!(in alloc; "slice-{number}")?;
-        slices.push(plain_slice(alloc, name.as_str())?)?;
-    }
-    Ok(slices)
-}
-
 fn are_plain(rules: &[Rule]) -> bool
     ensures { IsTrue result → All IsPlainRule rules.now }
 {

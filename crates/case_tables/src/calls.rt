@@ -1,0 +1,77 @@
+//! Whole calls of the program over files and sinks in memory, and what they answer.
+
+use crate::case::Case;
+use crate::fault::Fault;
+use crate::records::{Cut, recording};
+use fv_base::{MemoryFiles, MemorySink, Words};
+use fv_cli::offline;
+use std::alloc::Global;
+
+/// The words between which a `|` stands; none in an empty text.
+pub(crate) fn words_in(alloc: Global, text: &str) -> Result<Words, Fault> {
+    let mut words = Words::new(alloc);
+    if !text.is_empty() {
+        for word in text.split('|') {
+            words.push(word)?;
+        }
+    }
+    Ok(words)
+}
+
+/// The files of the call: a policy where the case has one, and a recording where it has steps.
+fn files_of(alloc: Global, case: &Case, cut: Cut) -> Result<MemoryFiles, Fault> {
+    let mut files = MemoryFiles::new(alloc);
+    if !case.policy.is_empty() {
+        files.add("policy", &case.policy)?;
+    }
+    if !case.steps.is_empty() {
+        let recording = recording(alloc, case.steps.as_str(), cut)?;
+        files.add("recording", &recording)?;
+    }
+    Ok(files)
+}
+
+fn sink_of(alloc: Global, case: &Case) -> Result<MemorySink, Fault> {
+    let mut failing = Vec::new(alloc);
+    if let Some(call) = case.manner.failing {
+        failing.push(call)?;
+    }
+    Ok(MemorySink::with_plan(alloc, case.manner.most, failing))
+}
+
+fn text_of(bytes: &[u8]) -> Result<&str, Fault> {
+    let text = std::str::from_utf8(bytes).ok();
+    text.ok_or(Fault::Bad("what came is no text"))
+}
+
+/// What came of the call of a case, as a table spells it. How many calls of the sink and of the files failed stands
+/// behind it, where it isn't one with status 4 or 5 and none with all others.
+pub(crate) fn answer(alloc: Global, case: &Case, cut: Cut) -> Result<String, Fault> {
+    let words = words_in(alloc, case.words.as_str())?;
+    let mut files = files_of(alloc, case, cut)?;
+    let mut out = sink_of(alloc, case)?;
+    let mut err = MemorySink::new(alloc);
+    let status = offline(alloc, &words, &mut files, &mut out, &mut err);
+    let mut told = String::from_str(alloc, text_of(out.as_slice())?)?;
+    if !told.is_empty() && !told.as_str().ends_with('\n') {
+        told.push_str("\\\n")?;
+    }
+    if status != 0 || !err.as_slice().is_empty() {
+        write!(told, "! {status} {}", text_of(err.as_slice())?)?;
+    }
+    let failed = out.faults().saturating_add(failed_reads(case, &files));
+    if failed != u64::from(status == 4 || status == 5) {
+        write!(told, "failed calls: {failed}\n")?;
+    }
+    Ok(told)
+}
+
+/// How many reads failed: of a policy, and where there is one of a recording.
+fn failed_reads(case: &Case, files: &MemoryFiles) -> u64 {
+    let policy = files.faults("policy");
+    if case.policy.is_empty() {
+        policy
+    } else {
+        policy.saturating_add(files.faults("recording"))
+    }
+}
