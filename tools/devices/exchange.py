@@ -1,6 +1,7 @@
 """The traffic of those to whom nothing is done: numbered, both ways, and looked at."""
 
 import asyncio
+import contextlib
 
 from devices.messages import echo_request, numbered_flow_mod, numbered_packet_in
 from devices.numbers import Numbers
@@ -9,6 +10,14 @@ TICK = 0.01
 # For how many seconds turns may be made up for at once, and what was sent may be under way at the end.
 MOST_OWED = 0.1
 SETTLING = 60
+# The least share of the turns that there are to be, where the machine lets some run too late.
+LEAST_SHARE = 0.5
+
+
+async def ended(task):
+    """Waits for a task that was cancelled. What it was ended by before goes on from here."""
+    with contextlib.suppress(asyncio.CancelledError):
+        await task
 
 
 class Exchange:
@@ -78,6 +87,7 @@ class Traffic:
         self.exchanges = exchanges
         self.switches = list({id(each.switch): each.switch for each in exchanges}.values())
         self.rate = turns_per_second
+        self.turns, self.wanted, self.seconds = 0, 0.0, 0.0
         self.task = None
         self.found = []
 
@@ -87,7 +97,7 @@ class Traffic:
 
     async def __aexit__(self, *_):
         self.task.cancel()
-        await asyncio.gather(self.task, return_exceptions=True)
+        await ended(self.task)
         await self.settle()
         self.found = self.faults()
 
@@ -99,10 +109,13 @@ class Traffic:
             now = loop.time()
             # Where the machine lets this run too late, what is owed is given up.
             owed = min(owed + (now - last) * self.rate, self.rate * MOST_OWED)
+            self.wanted += (now - last) * self.rate
+            self.seconds += now - last
             last = now
             for _ in range(int(owed)):
                 self.exchanges[place % len(self.exchanges)].turn()
                 place += 1
+                self.turns += 1
             owed -= int(owed)
 
     async def settle(self):
@@ -122,6 +135,8 @@ class Traffic:
             found += switch.echoes.all_faults()
             if switch.is_closed:
                 found.append(f"the connection of switch {switch.datapath} was closed")
+        if self.turns < LEAST_SHARE * self.wanted:
+            found.append(f"there were {self.turns:,} turns, and not {self.wanted:,.0f}")
         return found
 
     def told(self):
@@ -130,4 +145,6 @@ class Traffic:
         mods = sum(each.mods.whole for each in self.exchanges)
         echoes = sum(each.echoes.whole for each in self.exchanges) + sum(s.echoes.whole for s in self.switches)
         loss = "none lost, none doubled" if not self.found else f"{len(self.found)} FAULTS"
-        return f"of the others {packets:,} packet-ins, {mods:,} flow-mods and {echoes:,} echoes came, {loss}"
+        rate = self.turns / max(1, self.seconds)
+        came = f"{packets:,} packet-ins, {mods:,} flow-mods and {echoes:,} echoes came"
+        return f"of the others, at {rate:,.0f} turns a second, {came}, {loss}"

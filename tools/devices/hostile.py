@@ -9,7 +9,7 @@ import struct
 import subprocess
 
 from devices.exchange import Traffic
-from devices.messages import Kind
+from devices.messages import NO_BUFFER, NO_PORT, Kind, any_match
 from devices.outcome import Outcome, expect
 from devices.peers import PORTS, Controller, Raw
 from devices.site import connect_switch, exchanges_of, site
@@ -78,6 +78,26 @@ def bodies():
     yield Attack("messages of 65,535 bytes", b"".join(message(kind, 7, bytes(65_527)) for kind in Kind))
 
 
+def fields():
+    """Messages of a right length, or of a wrong one whose front is right, in which a field is wrong."""
+    front = any_match() + struct.pack(">QHHHHIHH", 0, 0, 0, 0, 1, NO_BUFFER, NO_PORT, 0)
+    for kind, size in ((0xFFFF, 0), (6, 0), (1, 40), (2, 45), (4, 7), (5, 9), (0, 1)):
+        body = struct.pack(">HH", kind, 0) + bytes(size)
+        yield Attack(f"statistics of type {kind} with {size} bytes", message(Kind.STATS_REQUEST, 7, body))
+    for length in (9, 8, 7, 1_000):
+        body = struct.pack(">IHH", NO_BUFFER, NO_PORT, length) + bytes(8)
+        yield Attack(f"a packet-out of 24 bytes with {length} of actions", message(Kind.PACKET_OUT, 7, body))
+    for kind, length in ((12, 8), (0xFFFF, 8), (0xFFFE, 8), (0, 4), (0, 0), (0, 9), (0, 16), (4, 8), (0, 65_528)):
+        actions = struct.pack(">HHI", kind, length, 0)
+        name = f"a flow-mod with an action of type {kind} and length {length}"
+        yield Attack(name, message(Kind.FLOW_MOD, 7, front + actions))
+    yield Attack("a flow-mod that ends in half an action", message(Kind.FLOW_MOD, 7, front + bytes(4)))
+    for command in (5, 255, 0xFFFF):
+        changed = front[:48] + struct.pack(">H", command) + front[50:]
+        yield Attack(f"a flow-mod of command {command}", message(Kind.FLOW_MOD, 7, changed))
+    yield Attack("an emergency flow-mod", message(Kind.FLOW_MOD, 7, front[:-2] + struct.pack(">H", 4)))
+
+
 def random_message(draw):
     """A message with a random body, whose length is wrong in one of ten."""
     body = draw.randbytes(draw.randrange(120))
@@ -104,6 +124,7 @@ def attacks():
     yield from bad_lengths()
     yield from versions()
     yield from bodies()
+    yield from fields()
     yield from noise()
     yield from ends()
 
@@ -164,7 +185,7 @@ async def tried(raw, oracle, attack):
     expect(faults, raw.taken == sent, f"{attack.name}: {raw.taken.hex()[:200]} came, and not {sent.hex()[:200]}")
     expect(faults, raw.is_closed == is_closed, f"{attack.name}: closed {raw.is_closed}, and not {is_closed}")
     if attack.manner is Manner.RESET:
-        raw.transport.abort()
+        raw.reset()
     else:
         raw.transport.close()
     return faults, is_closed

@@ -5,7 +5,7 @@ import itertools
 import sys
 import time
 
-from devices.exchange import Traffic
+from devices.exchange import Traffic, ended
 from devices.outcome import Outcome, expect
 from devices.peers import Controller
 from devices.site import connect_switch, exchanges_of, site
@@ -15,6 +15,8 @@ SWITCHES, SLICES = 16, 32
 RESTLESS = 24
 THREADS = SWITCHES * (2 + 2 * SLICES) + 1
 PATIENCE = 30
+# How many links are made anew each minute, at least.
+LEAST_RENEWALS = 30
 # The proxy remembers the last requests of each slice, and grows by so many bytes with each until there are as many.
 REQUESTS, REQUEST_BYTES = 4_096, 100
 ALL_REQUESTS = SWITCHES * SLICES * REQUESTS
@@ -125,9 +127,11 @@ async def run(program, minutes=2, rate=500, later=None):
             renewing = asyncio.create_task(renewal.run())
             await watch.run(minutes)
             renewing.cancel()
-        ended = await end_all(proxy, traffic.switches)
+            await ended(renewing)
+        ending = await end_all(proxy, traffic.switches)
     faults = [*renewal.faults, *watch.faults(), *traffic.found]
-    expect(faults, ended == (0, ""), f"it ended so: {ended}")
+    expect(faults, ending == (0, ""), f"it ended so: {ending}")
+    expect(faults, renewal.count >= LEAST_RENEWALS * minutes, f"only {renewal.count:,} links were made anew")
     seen = (
         f"{SWITCHES} switches with {SLICES} slices each ({THREADS:,} threads) for {minutes} minutes with {rate:,} "
         f"turns a second, {renewal.count:,} links made anew; memory {watch.told()}; {traffic.told()}"

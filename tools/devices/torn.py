@@ -1,16 +1,22 @@
-"""A switch that ends in the middle of a message: its session ends with it, and the next one begins anew."""
+"""A switch that ends in the middle of a message: its session ends with it, the next one begins anew, and another
+switch's isn't touched."""
 
 import asyncio
 
+from devices.exchange import Traffic
 from devices.messages import Kind, port_of
 from devices.outcome import Outcome, expect
 from devices.peers import Controller, Link
-from devices.site import connect_switch, site
+from devices.site import connect_switch, exchanges_of, site
 from sunworsted import packet_in, tcp_packet
 
 BUFFER = 7
 PATIENCE = 10
 SLOTS = 2
+OTHER = 0xB2
+TURNS_PER_SECOND = 200
+# The descriptors of the proxy once all but the other switch and its links have ended.
+OPEN_FILES = 16
 
 
 class Listener(Link):
@@ -49,7 +55,7 @@ async def tear(proxy, controllers, length, is_reset):
     if is_reset:
         # The bytes are to be taken before the reset, which would overtake them.
         await asyncio.sleep(0.005)
-        switch.transport.abort()
+        switch.reset()
     else:
         switch.transport.close()
     await asyncio.wait_for(asyncio.gather(*(link.closed for link in links)), PATIENCE)
@@ -63,16 +69,19 @@ async def run(program):
     whole = len(held_packet(0))
     faults, sessions = [], 0
     async with site(program, controllers) as proxy:
-        for is_reset in (False, True):
-            for length in range(1, whole):
-                faults += await tear(proxy, controllers, length, is_reset)
-                sessions += 1
-        await asyncio.sleep(0.5)
-        for controller in controllers:
-            expect(faults, controller.came.empty(), f"slot {controller.slot} was dialled without a switch")
-        expect(faults, proxy.open_files < 10, f"{proxy.open_files} descriptors stay open")
+        other = await exchanges_of(await connect_switch(proxy, OTHER), controllers)
+        async with Traffic(other, TURNS_PER_SECOND) as traffic:
+            for is_reset in (False, True):
+                for length in range(1, whole):
+                    faults += await tear(proxy, controllers, length, is_reset)
+                    sessions += 1
+            await asyncio.sleep(0.5)
+            for controller in controllers:
+                expect(faults, controller.came.empty(), f"slot {controller.slot} was dialled without a switch")
+            expect(faults, proxy.open_files < OPEN_FILES, f"{proxy.open_files} descriptors stay open")
     seen = (
         f"{sessions} sessions of a switch that ended behind 1 to {whole - 1} bytes of a message of {whole}, by an end "
-        "and by a reset: each time both links were closed, nothing of it was handed on, and the next one began anew"
+        "and by a reset: each time both links were closed, nothing of it was handed on, and the next one began anew; "
+        f"{traffic.told()}"
     )
-    return Outcome(seen, faults)
+    return Outcome(seen, faults + traffic.found)

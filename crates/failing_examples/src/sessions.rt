@@ -108,6 +108,8 @@ const SOURCE_FAILS: Case = Case {
             1,
             &[
                 Mark::Sent(Side::Switch),
+                Mark::Standing(ALICES),
+                Mark::Standing(BOBS),
                 Mark::AtGate(ALICES, 1),
                 Mark::AtGate(BOBS, 1),
             ],

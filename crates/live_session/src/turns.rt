@@ -12,11 +12,14 @@ use std::time::{Duration, Instant};
 const MESSAGES_OF_A_SLICE: u32 = 16;
 
 /// After how many microseconds a slice's messages let others have their turn, though there are fewer, and rest.
-const SHARE_OF_A_SLICE: u64 = 500;
+const SHARE_OF_A_SLICE: u64 = 200;
 
-/// How many times as long as such messages took the slice then leaves the desk to the others: its worst messages,
-/// one behind the other, have it for a quarter of the time.
+/// How many times as long as such messages took the slice then leaves the desk to the others: dear messages, one
+/// behind the other, have it for a quarter of the time.
 const REST: u32 = 3;
+
+/// The longest rest, in seconds: the time that messages took may be that in which the system ran other threads.
+const LONGEST_REST: u64 = 1;
 
 /// The same of a switch's messages.
 const MESSAGES_OF_A_SWITCH: u32 = 1024;
@@ -66,10 +69,17 @@ impl<'a> Turns<'a> {
         }
     }
 
-    /// How long a slice has had the desk, where that is longer than its share.
-    fn overdrawn<R: Host>(&self, rt: &R) -> Option<Duration> {
+    /// How long a slice rests that has had the desk for longer than its share. Where others have their turn after each
+    /// message anyway, as the gate of a test wants it, none does.
+    fn rest<R: Host>(&self, rt: &R) -> Option<Duration> {
+        if self.each {
+            return None;
+        }
         let had = self.since?.elapsed(rt).ok()?;
-        (had > Duration::from_micros(SHARE_OF_A_SLICE)).then_some(had)
+        let rest = had
+            .saturating_mul(REST)
+            .min(Duration::from_secs(LONGEST_REST));
+        (had > Duration::from_micros(SHARE_OF_A_SLICE)).then_some(rest)
     }
 
     fn let_go(&mut self) {
@@ -98,13 +108,14 @@ impl<'a> Turns<'a> {
     /// After a message, by which the connection goes on or not. A slice whose messages took long rests.
     pub(crate) fn end<R: Host>(&mut self, rt: &R, goes_on: bool) {
         self.left = self.left.saturating_sub(1);
-        let overdrawn = self.overdrawn(rt);
-        if self.each || self.left == 0 || !goes_on || overdrawn.is_some() {
+        let rest = self.rest(rt);
+        if self.each || self.left == 0 || !goes_on || rest.is_some() {
             self.let_go();
             self.bells.wake(rt, goes_on);
         }
-        if let Some(had) = overdrawn {
-            thread::sleep(rt, had.saturating_mul(REST));
+        match rest {
+            Some(rest) if goes_on => thread::sleep(rt, rest),
+            _ => {}
         }
     }
 

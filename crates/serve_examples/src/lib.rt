@@ -9,3 +9,5 @@ mod many;
 mod sessions;
 #[cfg(test)]
 mod statuses;
+#[cfg(test)]
+mod threads;

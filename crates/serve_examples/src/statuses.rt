@@ -1,126 +1,303 @@
 ghost use Rattle.std.specs.Prelude.{◌≡◌, None, IfOk};
 
-use fv_base::{MemoryFiles, MemorySink};
-use fv_live::{Links, MemorySource, MemoryWires, Work};
-use live_samples::{ClosureSpawner, POLICY, Still, source, words};
+use crate::threads::begin;
+use fv_base::{Failed, MemoryFiles, MemorySink, Words};
+use fv_live::{Host, Links, MemoryWires, Source, Spawner};
+use live_samples::{ClosureSpawner, POLICY, Still, words};
 use live_serve::{OpenGate, SessionWork, serve};
 use std::alloc::{AllocError, Global};
 use std::collections::VecDeque;
+use std::net::{Net, TcpListener, TcpStream};
+use std::process::Abort;
 use std::sync::Arc;
+use std::sync::atomic::{AtomicBool, AtomicU64, Ordering};
 use std::test::Fail;
-use std::thread;
 
 const USAGE: &str = "usage: flowvisor check POLICY / replay POLICY RECORDING / gen SEED COUNT / \
 serve POLICY LISTEN COUNT\n";
 
-/// The words, which calls of `listen` and `accept`, and which starts of threads fail; the status, and its line.
-type Case = (
-    &'static [&'static str],
-    &'static [u64],
-    &'static [u64],
-    u8,
-    &'static str,
-);
+/// A call of `serve`: its words; which reads of files, which calls of `listen` and `accept`, and which starts of
+/// threads fail, by their numbers from 0. And what comes of it: the status and its line, how many works had run to
+/// their ends when it answered, how many switches were listened to, and how many calls for the place had failed.
+#[derive(Clone, Copy)]
+struct Case {
+    words: &'static [&'static str],
+    reads: &'static [u64],
+    calls: &'static [u64],
+    starts: &'static [u64],
+    status: u8,
+    line: &'static str,
+    works: u64,
+    switches: usize,
+    faults: u64,
+}
 
-const CASES: [Case; 14] = [
-    (&["serve", "good", "here", "1"], &[], &[], 0, ""),
-    (&["serve", "good", "here", "2"], &[], &[], 0, ""),
-    (&["serve", "good", "here"], &[], &[], 1, USAGE),
-    (&["serve", "good", "here", "0"], &[], &[], 1, USAGE),
-    (&["serve", "good", "-here", "1"], &[], &[], 1, USAGE),
-    (&["check", "good"], &[], &[], 1, USAGE),
-    (
-        &["serve", "bad", "here", "1"],
-        &[],
-        &[],
-        2,
-        "policy: missing version\n",
-    ),
-    (&["serve", "none", "here", "1"], &[], &[], 4, "read fault\n"),
-    (&["serve", "large", "here", "1"], &[], &[], 7, "too large\n"),
-    (
-        &["serve", "good", "here", "1"],
-        &[0],
-        &[],
-        9,
-        "wire fault\n",
-    ),
-    (
-        &["serve", "good", "here", "2"],
-        &[2],
-        &[],
-        9,
-        "wire fault\n",
-    ),
-    (&["serve", "good", "here", "3"], &[], &[], 9, "wire fault\n"),
-    (
-        &["serve", "good", "here", "1"],
-        &[],
-        &[0],
-        10,
-        "no thread started\n",
-    ),
-    (
-        &["serve", "good", "here", "2"],
-        &[],
-        &[9],
-        10,
-        "no thread started\n",
-    ),
+/// The words aren't of the form.
+const REFUSED: Case = Case {
+    words: &[],
+    reads: &[],
+    calls: &[],
+    starts: &[],
+    status: 1,
+    line: USAGE,
+    works: 0,
+    switches: 0,
+    faults: 0,
+};
+
+/// One switch is served: a reader and a writer for it and for each of two slices.
+const SERVED: Case = Case {
+    words: &["serve", "good", "here", "1"],
+    status: 0,
+    line: "",
+    works: 6,
+    switches: 1,
+    ..REFUSED
+};
+
+/// Nothing is served, and nothing is listened at the place.
+const NOT_SERVED: Case = Case {
+    works: 0,
+    switches: 0,
+    ..SERVED
+};
+
+/// It can't listen, or accept a switch.
+const WIRE_FAULT: Case = Case {
+    status: 9,
+    line: "wire fault\n",
+    faults: 1,
+    ..SERVED
+};
+
+/// A thread isn't started.
+const NO_THREAD: Case = Case {
+    status: 10,
+    line: "no thread started\n",
+    ..SERVED
+};
+
+const CASES: [Case; 16] = [
+    SERVED,
+    Case {
+        words: &["serve", "good", "here", "2"],
+        works: 12,
+        switches: 2,
+        ..SERVED
+    },
+    Case {
+        words: &["serve", "good", "here"],
+        ..REFUSED
+    },
+    Case {
+        words: &["serve", "good", "here", "0"],
+        ..REFUSED
+    },
+    Case {
+        words: &["serve", "good", "-here", "1"],
+        ..REFUSED
+    },
+    Case {
+        words: &["check", "good"],
+        ..REFUSED
+    },
+    Case {
+        words: &["serve", "bad", "here", "1"],
+        status: 2,
+        line: "policy: missing version\n",
+        ..NOT_SERVED
+    },
+    Case {
+        words: &["serve", "none", "here", "1"],
+        status: 4,
+        line: "read fault\n",
+        ..NOT_SERVED
+    },
+    // A call of `listen` would fail as well.
+    Case {
+        reads: &[0],
+        calls: &[0],
+        status: 4,
+        line: "read fault\n",
+        ..NOT_SERVED
+    },
+    Case {
+        words: &["serve", "large", "here", "1"],
+        status: 7,
+        line: "too large\n",
+        ..NOT_SERVED
+    },
+    Case {
+        calls: &[0],
+        works: 0,
+        switches: 0,
+        ..WIRE_FAULT
+    },
+    // The second accept fails, and a third one, for which no switch is left.
+    Case {
+        words: &["serve", "good", "here", "2"],
+        calls: &[2],
+        ..WIRE_FAULT
+    },
+    Case {
+        words: &["serve", "good", "here", "3"],
+        works: 12,
+        switches: 2,
+        ..WIRE_FAULT
+    },
+    // No thread of a connection has a half of it before all were started.
+    Case {
+        starts: &[0],
+        works: 0,
+        switches: 0,
+        ..NO_THREAD
+    },
+    Case {
+        starts: &[2],
+        works: 2,
+        switches: 0,
+        ..NO_THREAD
+    },
+    Case {
+        words: &["serve", "good", "here", "2"],
+        starts: &[9],
+        works: 9,
+        ..NO_THREAD
+    },
 ];
 
-fn files(alloc: Global) -> Result<MemoryFiles, AllocError> {
-    let mut files = MemoryFiles::new(alloc);
+/// A switch that says nothing, and whether it was listened to.
+#[derive(Drop)]
+struct Silent {
+    is_heard: Arc<AtomicBool, Global>,
+}
+
+impl Source for Silent {
+    ghost left = { λ silent. None };
+
+    ghost faults = { λ silent. 0 };
+
+    fn take(&mut self, _into: &mut [u8]) -> Result<usize, Failed> {
+        self.is_heard.store(true, Ordering::SeqCst);
+        Ok(0)
+    }
+}
+
+type Heard = Arc<AtomicBool, Global>;
+
+type Ports = MemoryWires<Silent, MemorySink>;
+
+type CallWork = SessionWork<Ports, Still, OpenGate>;
+
+fn files(alloc: Global, failing: &[u64]) -> Result<MemoryFiles, AllocError> {
+    let failing = Vec::from_slice(alloc, failing)?;
+    let mut files = MemoryFiles::with_plan(alloc, usize::MAX, failing);
     files.add("good", POLICY.as_bytes())?;
     files.add("bad", b"")?;
     files.add("large", &vec![in alloc; 0; 1_048_577]?)?;
     Ok(files)
 }
 
-// Two switches that say nothing, no controllers, and which calls fail.
-fn wires(
-    alloc: Global,
-    failing: &[u64],
-) -> Result<MemoryWires<MemorySource, MemorySink>, AllocError>
+// These switches, no controllers, and which calls fail.
+fn wires(alloc: Global, heard: &[Heard], failing: &[u64]) -> Result<Ports, AllocError>
     ensures { IfOk result (λ wires. wires.place ≡ None) }
 {
     let mut connections = VecDeque::new(alloc);
-    for _ in 0..2 {
-        connections.push_back((source(alloc, &[])?, MemorySink::new(alloc)))?;
+    for switch in heard {
+        let is_heard = Arc::try_clone(switch)?;
+        connections.push_back((Silent { is_heard }, MemorySink::new(alloc)))?;
     }
     let links = Arc::new(alloc, Links::new(Vec::new(alloc), Vec::new(alloc)))?;
     let failing = Vec::from_slice(alloc, failing)?;
     Ok(MemoryWires::new(alloc, connections, failing, links))
 }
 
+/// What a call is made with beside its spawner, what it puts, and which of two switches are listened to.
+#[derive(Drop)]
+struct Call {
+    words: Words,
+    files: MemoryFiles,
+    wires: Ports,
+    err: MemorySink,
+    heard: Vec<Heard>,
+}
+
+impl Call {
+    fn new(alloc: Global, case: &Case) -> Result<Call, AllocError>
+        ensures { IfOk result (λ call. call.wires.place ≡ None) }
+    {
+        let mut heard = Vec::new(alloc);
+        for _ in 0..2 {
+            heard.push(Arc::new(alloc, AtomicBool::new(false))?)?;
+        }
+        Ok(Call {
+            words: words(alloc, case.words)?,
+            files: files(alloc, case.reads)?,
+            wires: wires(alloc, &heard, case.calls)?,
+            err: MemorySink::new(alloc),
+            heard,
+        })
+    }
+
+    // Its own function, which knows nothing of the spawner's closure.
+    fn status<R: Host + Net<Listener = TcpListener, Stream = TcpStream>, P: Spawner<CallWork>>(
+        &mut self,
+        rt: &R,
+        alloc: Global,
+        spawner: &mut P,
+    ) -> u8
+        requires silent { self.old.wires.place ≡ None }
+        requires can { P.can_start spawner.old }
+    {
+        serve(
+            rt,
+            alloc,
+            &self.words,
+            &mut self.files,
+            &mut self.wires,
+            &Still,
+            &OpenGate,
+            spawner,
+            &mut self.err,
+        )
+    }
+
+    // It ended so, by when so many works had run to their ends.
+    fn expect(&self, rt: &impl Abort, case: &Case, status: u8, works: u64) {
+        let about = case.words;
+        assert_eq!(rt; status, case.status, "status: {about:?}");
+        assert_eq!(rt;
+            self.err.as_slice(),
+            case.line.as_bytes(),
+            "line: {about:?}"
+        );
+        assert_eq!(rt; works, case.works, "works: {about:?}");
+        assert_eq!(rt; self.wires.faults("here"), case.faults, "faults: {about:?}");
+        for (place, heard) in self.heard.iter().enumerate() {
+            let is_heard = heard.load(Ordering::SeqCst);
+            assert_eq!(rt;
+                is_heard,
+                place < case.switches,
+                "switch {place}: {about:?}"
+            );
+        }
+    }
+}
+
 #[test]
 fn calls_end_with_their_statuses_and_lines(rt: HostRuntime) -> Result<(), Fail> {
     let alloc = rt.alloc();
-    for (each, accepts, starts, status, line) in CASES {
-        let words = words(alloc, each)?;
-        let mut files = files(alloc)?;
-        let mut wires = wires(alloc, accepts)?;
+    for case in CASES {
+        let ended = Arc::new(alloc, AtomicU64::new(0))?;
+        let starts = Vec::from_slice(alloc, case.starts)?;
         let mut spawner = ClosureSpawner::new(
             alloc,
-            Vec::from_slice(alloc, starts)?,
-            |work: SessionWork<_, Still, OpenGate>| {
-                thread::spawn(&rt, move || work.run(&rt)).ok()
-            },
+            starts,
+            |work: CallWork| begin(rt, &ended, work),
         );
-        let mut err = MemorySink::new(alloc);
-        let answer = serve(
-            &rt,
-            alloc,
-            &words,
-            &mut files,
-            &mut wires,
-            &Still,
-            &OpenGate,
-            &mut spawner,
-            &mut err,
-        );
-        assert_eq!(rt; answer, status);
-        assert_eq!(rt; err.as_slice(), line.as_bytes());
+        let mut call = Call::new(alloc, &case)?;
+        let status = call.status(&rt, alloc, &mut spawner);
+        call.expect(&rt, &case, status, ended.load(Ordering::SeqCst));
     }
     Ok(())
 }
