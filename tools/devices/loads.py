@@ -11,6 +11,9 @@ HEAVY_PORTS = range(2_000, 2_256)
 # As many ports as a switch can tell of.
 SWITCH_PORTS = range(1, 1_365)
 
+# The port of entry of rules that name one.
+ONE_PORT = 1
+
 LARGEST = 65_535
 READ = 65_536
 ALL_PORTS = 0xFFFC
@@ -98,4 +101,11 @@ def loads():
         Load("packet-out to 1,364 ports, five times", own_packet_out(output(ALL_PORTS) * 5, 200)),
         Load("question for all flows, with 744 in the answer", flows_request()),
         Load("64 KiB of echoes at once", message(Kind.ECHO_REQUEST, 7, b"") * (READ // 8)),
+        Load("echo of 65,535 bytes", message(Kind.ECHO_REQUEST, 7, bytes(LARGEST - 8))),
     ]
+
+
+def loads_of_one_port():
+    """Those of a slice whose rules name one port of entry, to which alone it may send."""
+    outputs = everything(output(ONE_PORT) * 8_182)
+    return [Load("flow-mod of 8,182 outputs in 256 pieces, by rules that name their port", outputs, is_refused=True)]

@@ -16,12 +16,13 @@ CONNECTIONS = 100_000
 
 @dataclasses.dataclass
 class Slice:
-    """A slice of a policy: where its controller listens, and the TCP ports that it writes."""
+    """A slice of a policy: where its controller listens, the TCP ports that it writes, and what else its rules say."""
 
     name: str
     port: int
     tcp_ports: range
     terms: str = ""
+    fields: str = ""
 
 
 def slice_at(slot, controller, terms=""):
@@ -36,7 +37,8 @@ def policy_text(slices):
     for each in slices:
         for port in each.tcp_ports:
             parts.append(
-                f'[[rule]]\npriority = 1\nwrite = "{each.name}"\ndl_type = 2048\nnw_proto = 6\ntp_dst = {port}\n'
+                f'[[rule]]\npriority = 1\nwrite = "{each.name}"\n{each.fields}dl_type = 2048\nnw_proto = 6\n'
+                f"tp_dst = {port}\n"
             )
     return "".join(parts)
 

@@ -11,7 +11,16 @@ import dataclasses
 import statistics
 import struct
 
-from devices.loads import HEAVY_PORTS, SWITCH_PORTS, everything, flows_told, full_book, loads
+from devices.loads import (
+    HEAVY_PORTS,
+    ONE_PORT,
+    SWITCH_PORTS,
+    everything,
+    flows_told,
+    full_book,
+    loads,
+    loads_of_one_port,
+)
 from devices.messages import Kind, number_of_packet_in, numbered_flow_mod, numbered_packet_in, output
 from devices.outcome import Outcome, expect
 from devices.peers import Controller, Link, Peer
@@ -218,18 +227,29 @@ class Bench:
         return "stayed"
 
 
-async def run(program):
+@contextlib.asynccontextmanager
+async def bench_of(program, fields=""):
+    """A bench whose heavy slice has rules that also say this."""
     heavy, *others = Controller(0, Heavy), *(Controller(slot, Answering) for slot in range(1, OTHERS + 1))
     for controller in (heavy, *others):
         await controller.listen()
-    slices = [Slice("heavy", heavy.port, HEAVY_PORTS, AMPLE), *(slice_at(each.slot, each, AMPLE) for each in others)]
-    faults = []
+    slices = [
+        Slice("heavy", heavy.port, HEAVY_PORTS, AMPLE, fields),
+        *(slice_at(each.slot, each, AMPLE) for each in others),
+    ]
     async with Proxy(program, slices) as proxy:
         switch = await proxy.connect(QuickSwitch())
-        bench = Bench(proxy, switch, await heavy.next_link(), [await each.next_link() for each in others])
+        yield Bench(proxy, switch, await heavy.next_link(), [await each.next_link() for each in others])
+
+
+async def run(program):
+    faults = []
+    async with bench_of(program, f"in_port = {ONE_PORT}\n") as bench:
+        seen = [await bench.seen_under(load, faults) for load in loads_of_one_port()]
+    async with bench_of(program) as bench:
         for data in full_book():
             await bench.heavy.round(data)
-        seen = [await bench.seen_under(load, faults) for load in loads()]
+        seen += [await bench.seen_under(load, faults) for load in loads()]
         became = await bench.burst(faults)
     seen.append(f"the switch {became} where {BURST} flow-mods in 256 pieces came at once")
     return Outcome("the others' latency: " + "; ".join(seen), faults)
