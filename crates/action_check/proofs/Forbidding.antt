@@ -5,7 +5,7 @@ use Rattle.of10_action.specs.declared.action.Action.{Action}
 use Rattle.flowspace.specs.declared.rules.Rule.{Rule}
 use Rattle.flowspace.proofs.Along.{option_or-None}
 use Rattle.action_check.specs.declared.origin.Origin.{Origin}
-use Rattle.action_check.specs.Origins.{after}
+use Rattle.action_check.specs.Origins.{image_after}
 use Rattle.action_check.specs.ActionRules.{code_of}
 use Rattle.action_check.specs.Permitted.{first_code, expanded, permitted}
 use Rattle.action_check.specs.Refusals.{image_of, AreAllowed, IsFirstForbidden}
@@ -17,7 +17,7 @@ no_split : (before later : List Action) (action : Action) → [] ≡ before ++ (
 no_split [] later action e = cc
 no_split (first ∷ before) later action e = cc
 
-allowed_from : (rs : List Rule) (slot : ℕ) (image : Origin) (first : Action) (others : List Action) → code_of rs slot image first ≡ None → AreAllowed rs slot (after image first) others
+allowed_from : (rs : List Rule) (slot : ℕ) (image : Origin) (first : Action) (others : List Action) → code_of rs slot image first ≡ None → AreAllowed rs slot (image_after image first) others
     → AreAllowed rs slot image (first ∷ others)
 allowed_from rs slot image first others e rest [] later action splits = let same : first ≡ action = cc in rw same at e
 allowed_from rs slot image first others e rest (head ∷ before) later action splits =
@@ -28,26 +28,26 @@ allowed_from rs slot image first others e rest (head ∷ before) later action sp
 AreAllowed-None : (rs : List Rule) (slot : ℕ) (image : Origin) (actions : List Action) → first_code rs slot image actions ≡ None → AreAllowed rs slot image actions
 AreAllowed-None rs slot image [] e = λ before later action splits. absurd (no_split before later action splits)
 AreAllowed-None rs slot image (first ∷ others) e =
-    let none = option_or-None (code_of rs slot image first) (first_code rs slot (after image first) others) e in
-    allowed_from rs slot image first others none.0 (AreAllowed-None rs slot (after image first) others none.1)
+    let none = option_or-None (code_of rs slot image first) (first_code rs slot (image_after image first) others) e in
+    allowed_from rs slot image first others none.0 (AreAllowed-None rs slot (image_after image first) others none.1)
 
 both_none : (o p : Option ℕ) → o ≡ None → p ≡ None → option_or o p ≡ None
 both_none o p e f = rw (e, f) refl
 
-later_allowed : (rs : List Rule) (slot : ℕ) (image : Origin) (first : Action) (others : List Action) → AreAllowed rs slot image (first ∷ others) → AreAllowed rs slot (after image first) others
+later_allowed : (rs : List Rule) (slot : ℕ) (image : Origin) (first : Action) (others : List Action) → AreAllowed rs slot image (first ∷ others) → AreAllowed rs slot (image_after image first) others
 later_allowed rs slot image first others all = λ before later action splits. all (first ∷ before) later action (ap (λ (xs : List Action). first ∷ xs) splits)
 
 None-AreAllowed : (rs : List Rule) (slot : ℕ) (image : Origin) (actions : List Action) → AreAllowed rs slot image actions → first_code rs slot image actions ≡ None
 None-AreAllowed rs slot image [] all = refl
 None-AreAllowed rs slot image (first ∷ others) all =
-    both_none (code_of rs slot image first) (first_code rs slot (after image first) others) (all [] others first refl)
-    (None-AreAllowed rs slot (after image first) others (later_allowed rs slot image first others all))
+    both_none (code_of rs slot image first) (first_code rs slot (image_after image first) others) (all [] others first refl)
+    (None-AreAllowed rs slot (image_after image first) others (later_allowed rs slot image first others all))
 
 -- ---- the first that is
 
 by_first : (rs : List Rule) (slot : ℕ) (image : Origin) (first : Action) (others : List Action) (code : ℕ) (o : Option ℕ) → code_of rs slot image first ≡ o
-    → option_or o (first_code rs slot (after image first) others) ≡ Some code
-    → (first_code rs slot (after image first) others ≡ Some code → IsFirstForbidden rs slot (after image first) others code)
+    → option_or o (first_code rs slot (image_after image first) others) ≡ Some code
+    → (first_code rs slot (image_after image first) others ≡ Some code → IsFirstForbidden rs slot (image_after image first) others code)
     → IsFirstForbidden rs slot image (first ∷ others) code
 by_first rs slot image first others code (Some own) e some deeper =
     record {
@@ -72,7 +72,7 @@ by_first rs slot image first others code None e some deeper =
 IsFirstForbidden-Some : (rs : List Rule) (slot : ℕ) (image : Origin) (actions : List Action) (code : ℕ) → first_code rs slot image actions ≡ Some code → IsFirstForbidden rs slot image actions code
 IsFirstForbidden-Some rs slot image [] code e = absurd (cc)
 IsFirstForbidden-Some rs slot image (first ∷ others) code e =
-    by_first rs slot image first others code (code_of rs slot image first) refl e (λ f. IsFirstForbidden-Some rs slot (after image first) others code f)
+    by_first rs slot image first others code (code_of rs slot image first) refl e (λ f. IsFirstForbidden-Some rs slot (image_after image first) others code f)
 
 own_or : (o p : Option ℕ) (code : ℕ) → o ≡ Some code → option_or o p ≡ Some code
 own_or o p code e = rw e refl
@@ -82,10 +82,10 @@ none_or o p code e f = rw (e, f) refl
 
 code_at : (rs : List Rule) (slot : ℕ) (image : Origin) (before later : List Action) (action : Action) (code : ℕ) → code_of rs slot (image_of image before) action ≡ Some code → AreAllowed rs slot image before
     → first_code rs slot image (before ++ (action ∷ later)) ≡ Some code
-code_at rs slot image [] later action code e all = own_or (code_of rs slot image action) (first_code rs slot (after image action) later) code e
+code_at rs slot image [] later action code e all = own_or (code_of rs slot image action) (first_code rs slot (image_after image action) later) code e
 code_at rs slot image (first ∷ before) later action code e all =
-    none_or (code_of rs slot image first) (first_code rs slot (after image first) (before ++ (action ∷ later))) code (all [] before first refl)
-    (code_at rs slot (after image first) before later action code e (later_allowed rs slot image first before all))
+    none_or (code_of rs slot image first) (first_code rs slot (image_after image first) (before ++ (action ∷ later))) code (all [] before first refl)
+    (code_at rs slot (image_after image first) before later action code e (later_allowed rs slot image first before all))
 
 -- ---- what is permitted
 

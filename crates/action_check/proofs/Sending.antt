@@ -29,8 +29,8 @@ use Rattle.flowspace.proofs.Owning.{Writes-iff}
 use Rattle.flowspace.proofs.Refusing.{is_value-Some}
 use Rattle.action_check.specs.declared.origin.Origin.{Origin}
 use Rattle.action_check.specs.declared.origin.Origin.TheVariants.{Piece, Packet, Probe}
-use Rattle.action_check.specs.Origins.{after}
-use Rattle.action_check.specs.ActionRules.{port_of, sees_in_port, counted, may_go, code_of}
+use Rattle.action_check.specs.Origins.{image_after}
+use Rattle.action_check.specs.ActionRules.{port_sent_to, sees_in_port, counted_at, may_go, code_of}
 use Rattle.action_check.specs.Permitted.{first_code, outputs, ports_for, spread, expanded}
 use Rattle.action_check.specs.Soundness.{IsFrom, Rewrite, MaySend}
 use Rattle.action_check.proofs.Aside.{entry_for, Has-entry}
@@ -67,7 +67,7 @@ sees port (inr e) = or_right (port == CONTROLLER) (port == TABLE) (eq-eqb port T
 
 -- a write rule that has the header, as it counts at the port
 by_rule : (ss : List Slice) (rs : List Rule) → IsSwitchPolicy ss rs → (slot : ℕ) (h : Header) → IsHeader h → (port k : ℕ) (rule : Rule) → k < length rs → get_or rs k rule ≡ rule
-    → is_written_by slot rule ≡ true → Has (counted port rule.pattern) h → MaySend rs slot port h
+    → is_written_by slot rule ≡ true → Has (counted_at port rule.pattern) h → MaySend rs slot port h
 by_rule ss rs policy slot h range port k rule lt at written has_counted =
     let writer : rule.writer ≡ Some slot = is_value-Some slot rule.writer written in
     elim (cases_Bool (sees_in_port port)) [
@@ -97,13 +97,13 @@ IsFit (Probe in_port) = Unit {0}
 
 may_send : (ss : List Slice) (rs : List Rule) → IsSwitchPolicy ss rs → (slot : ℕ) (image : Origin) (h : Header) → IsHeader h → IsFrom image h → (port : ℕ) → IsTrue (may_go rs slot image port) → MaySend rs slot port h
 may_send ss rs policy slot (Piece cover) h range from port t =
-    let some = Any-from_list_any (λ (rule : Rule). is_written_by slot rule && includes_of (counted port rule.pattern) cover) rs t in
-    let parts = and_parts (is_written_by slot some.1) (includes_of (counted port some.1.pattern) cover) some.4 in
-    by_rule ss rs policy slot h range port some.0 some.1 some.2 some.3 parts.0 (Has-includes (counted port some.1.pattern) cover parts.1 h from)
+    let some = Any-from_list_any (λ (rule : Rule). is_written_by slot rule && includes_of (counted_at port rule.pattern) cover) rs t in
+    let parts = and_parts (is_written_by slot some.1) (includes_of (counted_at port some.1.pattern) cover) some.4 in
+    by_rule ss rs policy slot h range port some.0 some.1 some.2 some.3 parts.0 (Has-includes (counted_at port some.1.pattern) cover parts.1 h from)
 may_send ss rs policy slot (Packet own) h range from port t =
-    let some = Any-from_list_any (λ (rule : Rule). is_written_by slot rule && has (counted port rule.pattern) own) rs t in
-    let parts = and_parts (is_written_by slot some.1) (has (counted port some.1.pattern) own) some.4 in
-    by_rule ss rs policy slot h range port some.0 some.1 some.2 some.3 parts.0 (rw from (Has-has (counted port some.1.pattern) own parts.1))
+    let some = Any-from_list_any (λ (rule : Rule). is_written_by slot rule && has (counted_at port rule.pattern) own) rs t in
+    let parts = and_parts (is_written_by slot some.1) (has (counted_at port some.1.pattern) own) some.4 in
+    by_rule ss rs policy slot h range port some.0 some.1 some.2 some.3 parts.0 (rw from (Has-has (counted_at port some.1.pattern) own parts.1))
 may_send ss rs policy slot (Probe in_port) h range from port t = absurd from
 
 covered : (o : Option ℕ) (f : ℕ → Bool) (port : ℕ) → IsTrue (elim o [ None ↦ true | Some p ↦ f p ]) → o ≡ Some port → IsTrue (f port)
@@ -111,18 +111,18 @@ covered None f port t e = absurd (cc)
 covered (Some p) f port t e = let same : p ≡ port = cc in rw same at t
 
 at_action : (ss : List Slice) (rs : List Rule) → IsSwitchPolicy ss rs → (slot : ℕ) (image : Origin) (h : Header) → IsHeader h → IsFrom image h → (action : Action) → code_of rs slot image action ≡ None
-    → (port : ℕ) → port_of action ≡ Some port → MaySend rs slot port h
+    → (port : ℕ) → port_sent_to action ≡ Some port → MaySend rs slot port h
 at_action ss rs policy slot image h range from action e port sends =
-    may_send ss rs policy slot image h range from port (covered (port_of action) (may_go rs slot image) port (allowed rs slot image action e).covered sends)
+    may_send ss rs policy slot image h range from port (covered (port_sent_to action) (may_go rs slot image) port (allowed rs slot image action e).covered sends)
 
 -- ---- the image of a list
 
-fit_after : (image : Origin) (action : Action) → IsFit image → IsFit (after image action)
+fit_after : (image : Origin) (action : Action) → IsFit image → IsFit (image_after image action)
 fit_after (Piece m) action e = applied-cover_of m action e
 fit_after (Packet h) action e = tt
 fit_after (Probe in_port) action e = tt
 
-from_after : (image : Origin) (action : Action) (h : Header) → IsFit image → IsFrom image h → IsFrom (after image action) (rewritten h action)
+from_after : (image : Origin) (action : Action) (h : Header) → IsFit image → IsFrom image h → IsFrom (image_after image action) (rewritten h action)
 from_after (Piece m) action h e from = Has-cover_of m h action e from
 from_after (Packet own) action h e from = ap (λ x. rewritten x action) from
 from_after (Probe in_port) action h e from = absurd from
@@ -130,9 +130,9 @@ from_after (Probe in_port) action h e from = absurd from
 -- at each OUTPUT and ENQUEUE of a list the header may be sent, as the actions before it rewrite it
 abbrev pub AllSent : List Rule → ℕ → Header → List Action → Type 0
 AllSent rs slot h [] = Unit {0}
-AllSent rs slot h (action ∷ others) = ((port : ℕ) → port_of action ≡ Some port → MaySend rs slot port h) × AllSent rs slot (rewritten h action) others
+AllSent rs slot h (action ∷ others) = ((port : ℕ) → port_sent_to action ≡ Some port → MaySend rs slot port h) × AllSent rs slot (rewritten h action) others
 
-pub sent_behind : (rs : List Rule) (slot : ℕ) (h : Header) (before later : List Action) (action : Action) (port : ℕ) → AllSent rs slot h (before ++ (action ∷ later)) → port_of action ≡ Some port → MaySend rs slot port (Rewrite h before)
+pub sent_behind : (rs : List Rule) (slot : ℕ) (h : Header) (before later : List Action) (action : Action) (port : ℕ) → AllSent rs slot h (before ++ (action ∷ later)) → port_sent_to action ≡ Some port → MaySend rs slot port (Rewrite h before)
 sent_behind rs slot h [] later action port sent e = sent.0 port e
 sent_behind rs slot h (first ∷ before) later action port sent e = sent_behind rs slot (rewritten h first) before later action port sent.1 e
 
@@ -164,7 +164,7 @@ sent_output : (rs : List Rule) (slot port max_len : ℕ) (h : Header) → MaySen
 sent_output rs slot port max_len h may None own others sent = (λ p e. let same : port ≡ p = cc in rw same at may, sent)
 sent_output rs slot port max_len h may (Some ports) own others sent = sent_outputs rs slot port h may max_len ports others (own ports refl) sent
 
-sent_spread : (rs : List Rule) (slot : ℕ) (h : Header) (flood all : List ℕ) → All (HasPort rs slot) flood → All (HasPort rs slot) all → (action : Action) → ((port : ℕ) → port_of action ≡ Some port → MaySend rs slot port h)
+sent_spread : (rs : List Rule) (slot : ℕ) (h : Header) (flood all : List ℕ) → All (HasPort rs slot) flood → All (HasPort rs slot) all → (action : Action) → ((port : ℕ) → port_sent_to action ≡ Some port → MaySend rs slot port h)
     → (others : List Action) → AllSent rs slot (rewritten h action) others → AllSent rs slot h (spread flood all action ++ others)
 sent_spread rs slot h flood all on_flood on_all (Output port max_len) may others sent =
     sent_output rs slot port max_len h (may port refl) (ports_for port flood all) (λ ports e. All-ports_for (HasPort rs slot) port flood all ports on_flood on_all e) others sent
@@ -185,9 +185,9 @@ pub sent_list : (ss : List Slice) (rs : List Rule) → IsSwitchPolicy ss rs → 
     → AllSent rs slot h (expanded flood all actions)
 sent_list ss rs policy slot flood all on_flood on_all image h [] e fit each range from = tt
 sent_list ss rs policy slot flood all on_flood on_all image h (action ∷ others) e fit each range from =
-    let none = option_or-None (code_of rs slot image action) (first_code rs slot (after image action) others) e in
+    let none = option_or-None (code_of rs slot image action) (first_code rs slot (image_after image action) others) e in
     let rest =
-    sent_list ss rs policy slot flood all on_flood on_all (after image action) (rewritten h action) others none.1 (fit_after image action fit) (All-tail IsAction action others each)
+    sent_list ss rs policy slot flood all on_flood on_all (image_after image action) (rewritten h action) others none.1 (fit_after image action fit) (All-tail IsAction action others each)
     (IsHeader-rewritten h action (All-head IsAction action others each) range) (from_after image action h fit from) in
     rw (flat_map-cons (spread flood all) action others)
     (sent_spread rs slot h flood all on_flood on_all action (at_action ss rs policy slot image h range from action none.0) (expanded flood all others) rest)

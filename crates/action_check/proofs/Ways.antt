@@ -19,7 +19,7 @@ use Rattle.flowspace.proofs.Owning.{has_port-iff}
 use Rattle.action_check.specs.declared.fault.TheConstants.{BAD_OUT_PORT}
 use Rattle.action_check.specs.declared.origin.Origin.{Origin}
 use Rattle.action_check.specs.declared.origin.Origin.TheVariants.{Piece, Packet, Probe}
-use Rattle.action_check.specs.Origins.{is_packet_out, after}
+use Rattle.action_check.specs.Origins.{is_packet_out, image_after}
 use Rattle.action_check.specs.ActionRules.{has_way_back, is_own_way, is_other_way, sees_in_port, probe_code, code_of}
 use Rattle.action_check.specs.Permitted.{first_code, outputs, ports_for, spread, expanded, permitted}
 use Rattle.action_check.specs.Soundness.{IsOrigin, HasWayBack, IsOwnWay, HasWay, IsSound}
@@ -153,7 +153,7 @@ same_entry h (SetTpSrc port) = at_either (is_tcp_or_udp h) (record h { tp_src = 
 same_entry h (SetTpDst port) = at_either (is_tcp_or_udp h) (record h { tp_dst = port }) h refl
 same_entry h (Enqueue port queue) = refl
 
-way_before : (rs : List Rule) (slot : ℕ) (image : Origin) (action other : Action) → HasWay rs slot (after image action) other → HasWay rs slot image other
+way_before : (rs : List Rule) (slot : ℕ) (image : Origin) (action other : Action) → HasWay rs slot (image_after image action) other → HasWay rs slot image other
 way_before rs slot (Piece m) action (Output port max_len) way = way
 way_before rs slot (Packet h) action (Output port max_len) (inl (inl own)) = inl (inl own)
 way_before rs slot (Packet h) action (Output port max_len) (inl (inr back)) = inl (inr (back.0, rw (same_entry h action) at back.1))
@@ -178,8 +178,8 @@ pub ways : (rs : List Rule) (slot : ℕ) (flood all : List ℕ) → All (HasPort
     → All (HasWay rs slot image) (expanded flood all actions)
 ways rs slot flood all on_flood on_all image [] e = All-nil (HasWay rs slot image)
 ways rs slot flood all on_flood on_all image (action ∷ others) e =
-    let none = option_or-None (code_of rs slot image action) (first_code rs slot (after image action) others) e in
-    let rest = All-weaker (HasWay rs slot (after image action)) (HasWay rs slot image) (way_before rs slot image action) (expanded flood all others) (ways rs slot flood all on_flood on_all (after image action) others none.1) in
+    let none = option_or-None (code_of rs slot image action) (first_code rs slot (image_after image action) others) e in
+    let rest = All-weaker (HasWay rs slot (image_after image action)) (HasWay rs slot image) (way_before rs slot image action) (expanded flood all others) (ways rs slot flood all on_flood on_all (image_after image action) others none.1) in
     rw (flat_map-cons (spread flood all) action others)
     (All-append (HasWay rs slot image) (spread flood all action) (expanded flood all others) (way_spread rs slot image flood all on_flood on_all action none.0) rest)
 

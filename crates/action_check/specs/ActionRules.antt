@@ -3,13 +3,14 @@ use Rattle.std.specs.Prelude.{ℕ, ◌==◌, ◌&&◌, ◌||◌, not, leb, if◌
 use Rattle.std.specs.List.{list_any}
 use Rattle.of10_model.specs.declared.pattern.Pattern.{Pattern}
 use Rattle.of10_model.specs.Pattern.{has}
-use Rattle.of10_model.specs.Inclusion.{includes_of, any_in_port}
+use Rattle.of10_model.specs.Inclusion.{includes_of}
 use Rattle.of10_action.specs.declared.action.Action.{Action}
 use Rattle.of10_action.specs.declared.action.Action.TheVariants.{Output, SetVlanVid, SetVlanPcp, Enqueue}
 use Rattle.of10_port.specs.declared.protocol.TheConstants.{IN_PORT, TABLE, FLOOD, ALL, CONTROLLER}
 use Rattle.flowspace.specs.declared.rules.Rule.{Rule}
 use Rattle.flowspace.specs.Rules.{is_written_by}
 use Rattle.flowspace.specs.Owners.{has_port}
+use Rattle.flowspace.specs.Places.{counted}
 use Rattle.action_check.specs.declared.fault.TheConstants.{BAD_OUT_PORT, BAD_ARGUMENT, NOT_PERMITTED}
 use Rattle.action_check.specs.declared.origin.Origin.{Origin}
 use Rattle.action_check.specs.declared.origin.Origin.TheVariants.{Piece, Packet, Probe}
@@ -26,10 +27,10 @@ argument_fits _ = true
 -- ---- ports
 
 -- OUTPUT and ENQUEUE send to a port
-abbrev pub port_of : Action → Option ℕ
-port_of (Output port max_len) = Some port
-port_of (Enqueue port queue) = Some port
-port_of _ = None
+abbrev pub port_sent_to : Action → Option ℕ
+port_sent_to (Output port max_len) = Some port
+port_sent_to (Enqueue port queue) = Some port
+port_sent_to _ = None
 
 -- a packet that is sent may go back to where it came in if that is a port of the slice; a flow's packets always may
 abbrev pub has_way_back : List Rule → ℕ → Origin → Bool
@@ -58,8 +59,8 @@ abbrev pub sees_in_port : ℕ → Bool
 sees_in_port port = port == CONTROLLER || port == TABLE
 
 -- what a match says of packets to a port: in_port is disregarded but for CONTROLLER and TABLE
-abbrev pub counted : ℕ → Pattern → Pattern
-counted port m = if sees_in_port port then m else any_in_port m
+abbrev pub counted_at : ℕ → Pattern → Pattern
+counted_at port m = counted (sees_in_port port) m
 
 -- a rule stands at a place and passes a test
 abbrev pub passes_at : (Rule → Bool) → List Rule → ℕ → Bool
@@ -67,13 +68,13 @@ passes_at test rules place = elim (slice_get rules place) [ None ↦ false | Som
 
 -- one write rule of the slice has all of the cover, or the packet's header; a probe isn't tested
 abbrev pub may_go : List Rule → ℕ → Origin → ℕ → Bool
-may_go rules slot (Piece cover) port = list_any (λ rule. is_written_by slot rule && includes_of (counted port rule.pattern) cover) rules
-may_go rules slot (Packet h) port = list_any (λ rule. is_written_by slot rule && has (counted port rule.pattern) h) rules
+may_go rules slot (Piece cover) port = list_any (λ rule. is_written_by slot rule && includes_of (counted_at port rule.pattern) cover) rules
+may_go rules slot (Packet h) port = list_any (λ rule. is_written_by slot rule && has (counted_at port rule.pattern) h) rules
 may_go rules slot (Probe in_port) port = true
 
 -- so it is at each OUTPUT and ENQUEUE
 abbrev pub is_covered : List Rule → ℕ → Origin → Action → Bool
-is_covered rules slot image action = elim (port_of action) [ None ↦ true | Some port ↦ may_go rules slot image port ]
+is_covered rules slot image action = elim (port_sent_to action) [ None ↦ true | Some port ↦ may_go rules slot image port ]
 
 -- ---- probes, and all rules in their order
 
@@ -81,7 +82,7 @@ is_covered rules slot image action = elim (port_of action) [ None ↦ true | Som
 abbrev pub probe_code : Origin → Action → Option ℕ
 probe_code (Piece m) action = None
 probe_code (Packet h) action = None
-probe_code (Probe in_port) action = elim (port_of action) [ None ↦ Some NOT_PERMITTED | Some port ↦ if sees_in_port port then Some BAD_OUT_PORT else None ]
+probe_code (Probe in_port) action = elim (port_sent_to action) [ None ↦ Some NOT_PERMITTED | Some port ↦ if sees_in_port port then Some BAD_OUT_PORT else None ]
 
 -- the code of the first rule that an action breaks, of those in this order: its argument, its way, its cover, and those of probes
 unfoldable pub code_of : List Rule → ℕ → Origin → Action → Option ℕ

@@ -19,12 +19,12 @@ pub record Question : Type 0 where
   pub all : List ℕ
 
 -- each field is in its range, and the ports are the slice's own
-pub record IsInRange (q : Question) : Type 0 where
+pub record IsQuestionInRange (q : Question) : Type 0 where
   pub origin : IsOrigin q.origin
   pub actions : All IsAction q.actions
   pub flood : All (HasPort q.rules q.slot) q.flood
   pub all : All (HasPort q.rules q.slot) q.all
 
 -- the list that it has instead, or the code of the fault
-abbrev pub answer_to : Question → Result (List Action) ℕ
-answer_to q = permitted q.rules q.slot q.origin q.actions q.flood q.all
+abbrev pub answer_of_question : Question → Result (List Action) ℕ
+answer_of_question q = permitted q.rules q.slot q.origin q.actions q.flood q.all

@@ -12,7 +12,7 @@ is_packet_out (Packet h) = true
 is_packet_out (Probe in_port) = true
 
 -- the image after one more action: of a piece its cover, of a packet its header, rewritten
-abbrev pub after : Origin → Action → Origin
-after (Piece cover) action = Piece (cover_of cover action)
-after (Packet h) action = Packet (rewritten h action)
-after (Probe in_port) action = Probe in_port
+abbrev pub image_after : Origin → Action → Origin
+image_after (Piece cover) action = Piece (cover_of cover action)
+image_after (Packet h) action = Packet (rewritten h action)
+image_after (Probe in_port) action = Probe in_port

@@ -11,13 +11,13 @@ use Rattle.flowspace.specs.declared.rules.Rule.{Rule}
 use Rattle.action_check.specs.declared.fault.CheckFault.{CheckFault}
 use Rattle.action_check.specs.declared.fault.CheckFault.TheVariants.{Refused, TooMany, Memory}
 use Rattle.action_check.specs.declared.origin.Origin.{Origin}
-use Rattle.action_check.specs.Origins.{after}
+use Rattle.action_check.specs.Origins.{image_after}
 use Rattle.action_check.specs.ActionRules.{code_of}
 
 -- the code of the first action that is forbidden, each tested on the image of the origin by the actions before it
 abbrev pub first_code : List Rule → ℕ → Origin → List Action → Option ℕ
 first_code rules slot image [] = None
-first_code rules slot image (action ∷ others) = option_or (code_of rules slot image action) (first_code rules slot (after image action) others)
+first_code rules slot image (action ∷ others) = option_or (code_of rules slot image action) (first_code rules slot (image_after image action) others)
 
 -- an output to each of some ports, of so many bytes
 abbrev pub outputs : ℕ → List ℕ → List Action
@@ -47,5 +47,5 @@ answer_of (Ok list) = if leb (length (spelling list)) 65463 then Ok list else Er
 answer_of (Err code) = Err (Refused code)
 
 -- a call gives the answer, or want of memory in the place of a list
-abbrev pub Gives : Result (List Action) CheckFault → Result (List Action) CheckFault → Type 0
-Gives called answer = Answers (λ fault told. (told ≡ Err fault) ⊎ ((fault ≡ Memory) × ((list : List Action) × (told ≡ Ok list)))) (λ list. list) called answer
+abbrev pub GivesList : Result (List Action) CheckFault → Result (List Action) CheckFault → Type 0
+GivesList called answer = Answers (λ fault told. (told ≡ Err fault) ⊎ ((fault ≡ Memory) × ((list : List Action) × (told ≡ Ok list)))) (λ list. list) called answer

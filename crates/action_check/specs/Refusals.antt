@@ -3,13 +3,13 @@ use Rattle.std.specs.Prelude.{ℕ, ◌≡◌, List, [], ◌∷◌, ◌++◌, Som
 use Rattle.of10_action.specs.declared.action.Action.{Action}
 use Rattle.flowspace.specs.declared.rules.Rule.{Rule}
 use Rattle.action_check.specs.declared.origin.Origin.{Origin}
-use Rattle.action_check.specs.Origins.{after}
+use Rattle.action_check.specs.Origins.{image_after}
 use Rattle.action_check.specs.ActionRules.{code_of}
 
 -- the image of an origin after each of a list of actions in turn
 abbrev pub image_of : Origin → List Action → Origin
 image_of origin [] = origin
-image_of origin (action ∷ others) = image_of (after origin action) others
+image_of origin (action ∷ others) = image_of (image_after origin action) others
 
 -- no action of the list is forbidden on the image by those before it
 abbrev pub AreAllowed : List Rule → ℕ → Origin → List Action → Type 0

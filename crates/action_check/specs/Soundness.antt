@@ -12,7 +12,7 @@ use Rattle.flowspace.specs.declared.rules.Rule.{Rule}
 use Rattle.flowspace.specs.Owners.{Writes, HasPort}
 use Rattle.action_check.specs.declared.origin.Origin.{Origin}
 use Rattle.action_check.specs.declared.origin.Origin.TheVariants.{Piece, Packet, Probe}
-use Rattle.action_check.specs.ActionRules.{port_of}
+use Rattle.action_check.specs.ActionRules.{port_sent_to}
 
 -- a piece is a normal match, and a packet's header lies in its ranges
 abbrev pub IsOrigin : Origin → Type 0
@@ -68,4 +68,4 @@ pub record MaySend (rules : List Rule) (slot port : ℕ) (h : Header) : Type 0 w
 pub record IsSound (rules : List Rule) (slot : ℕ) (origin : Origin) (given : List Action) : Type 0 where
   pub ways : All (HasWay rules slot origin) given
   pub headers : (h : Header) → IsHeader h → IsFrom origin h → (before later : List Action) (action : Action) (port : ℕ)
-      → given ≡ before ++ (action ∷ later) → port_of action ≡ Some port → MaySend rules slot port (Rewrite h before)
+      → given ≡ before ++ (action ∷ later) → port_sent_to action ≡ Some port → MaySend rules slot port (Rewrite h before)

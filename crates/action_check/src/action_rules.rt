@@ -5,7 +5,7 @@ ghost use Rattle.std.specs.List.{list_any};
 ghost use Rattle.of10_model.specs.Pattern.{has};
 ghost use Rattle.of10_model.specs.Inclusion.{includes_of, any_in_port};
 ghost use Rattle.flowspace.specs.Rules.{is_written_by};
-ghost use Rattle.action_check.specs.ActionRules.{argument_fits, port_of, has_way_back, is_own_way, is_other_way, has_way, sees_in_port, counted, passes_at, may_go, is_covered, probe_code, code_of};
+ghost use Rattle.action_check.specs.ActionRules.{argument_fits, port_sent_to, has_way_back, is_own_way, is_other_way, has_way, sees_in_port, counted_at, passes_at, may_go, is_covered, probe_code, code_of};
 ghost use Rattle.action_check.specs.Verdicts.{AreVerdicts};
 
 use crate::fault::{BAD_ARGUMENT, BAD_OUT_PORT, NOT_PERMITTED};
@@ -29,7 +29,7 @@ fn argument_fits(action: &Action) -> bool
 }
 
 fn port_of(action: &Action) -> Option<u16>
-    ensures { result ≡ port_of action.now }
+    ensures { result ≡ port_sent_to action.now }
 {
     match *action {
         Action::Output { port, .. } | Action::Enqueue { port, .. } => Some(port),
@@ -82,7 +82,7 @@ pub(crate) fn sees_in_port(port: u16) -> bool
 }
 
 fn covers(m: &Match, cover: &Match, port: u16) -> bool
-    ensures { result ≡ includes_of (counted port m.now) cover.now }
+    ensures { result ≡ includes_of (counted_at port m.now) cover.now }
 {
     if sees_in_port(port) {
         includes(m, cover)
@@ -108,7 +108,7 @@ fn has_aside(m: &Match, header: &Header12) -> bool
 }
 
 fn has_header(m: &Match, header: &Header12, port: u16) -> bool
-    ensures { result ≡ has (counted port m.now) header.now }
+    ensures { result ≡ has (counted_at port m.now) header.now }
 {
     if sees_in_port(port) {
         m.matches(header)
@@ -118,7 +118,7 @@ fn has_header(m: &Match, header: &Header12, port: u16) -> bool
 }
 
 fn covers_at(rules: &[Rule], place: u16, cover: &Match, port: u16) -> bool
-    ensures { result ≡ passes_at (λ rule. includes_of (counted port rule.pattern) cover.now) rules.now place }
+    ensures { result ≡ passes_at (λ rule. includes_of (counted_at port rule.pattern) cover.now) rules.now place }
 {
     match rules.get(usize::from(place)) {
         Some(rule) => covers(&rule.pattern, cover, port),
@@ -127,7 +127,7 @@ fn covers_at(rules: &[Rule], place: u16, cover: &Match, port: u16) -> bool
 }
 
 fn has_header_at(rules: &[Rule], place: u16, header: &Header12, port: u16) -> bool
-    ensures { result ≡ passes_at (λ rule. has (counted port rule.pattern) header.now) rules.now place }
+    ensures { result ≡ passes_at (λ rule. has (counted_at port rule.pattern) header.now) rules.now place }
 {
     match rules.get(usize::from(place)) {
         Some(rule) => has_header(&rule.pattern, header, port),
@@ -136,13 +136,13 @@ fn has_header_at(rules: &[Rule], place: u16, header: &Header12, port: u16) -> bo
 }
 
 fn cover_place(policy: &SwitchPolicy, slot: u8, cover: &Match, port: u16) -> Option<u16>
-    ensures { is_some result ≡ list_any (λ rule. is_written_by slot rule && includes_of (counted port rule.pattern) cover.now) policy.now.rules }
+    ensures { is_some result ≡ list_any (λ rule. is_written_by slot rule && includes_of (counted_at port rule.pattern) cover.now) policy.now.rules }
 {
     policy.first_cover(slot, cover, sees_in_port(port))
 }
 
 fn header_place(policy: &SwitchPolicy, slot: u8, header: &Header12, port: u16) -> Option<u16>
-    ensures { is_some result ≡ list_any (λ rule. is_written_by slot rule && has (counted port rule.pattern) header.now) policy.now.rules }
+    ensures { is_some result ≡ list_any (λ rule. is_written_by slot rule && has (counted_at port rule.pattern) header.now) policy.now.rules }
 {
     policy.first_written(slot, header, sees_in_port(port))
 }

@@ -4,9 +4,9 @@ ghost use Rattle.std.specs.List.{All};
 ghost use Rattle.of10_action.specs.Actions.{IsAction, HasAddress, spelling};
 ghost use Rattle.flowspace.specs.Owners.{HasPort};
 ghost use Rattle.action_check.specs.declared.origin.Origin.{Origin as Image};
-ghost use Rattle.action_check.specs.Origins.{after};
+ghost use Rattle.action_check.specs.Origins.{image_after};
 ghost use Rattle.action_check.specs.Verdicts.{AreVerdicts};
-ghost use Rattle.action_check.specs.Permitted.{first_code, permitted, answer_of, Gives};
+ghost use Rattle.action_check.specs.Permitted.{first_code, permitted, answer_of, GivesList};
 
 use crate::action_rules::code_of;
 use crate::expansion::{expanded_bytes, expansion};
@@ -22,7 +22,7 @@ const ACTION_BYTES: usize = 8;
 
 /// Whether an action leaves every header as it is: OUTPUT and ENQUEUE do.
 fn keeps_headers(action: &Action) -> bool
-    ensures { IsTrue result → (image : Image) → after image action.now ≡ image }
+    ensures { IsTrue result → (image : Image) → image_after image action.now ≡ image }
 {
     matches!(*action, Action::Output { .. } | Action::Enqueue { .. })
 }
@@ -30,7 +30,7 @@ fn keeps_headers(action: &Action) -> bool
 /// The image by one more action, and what is known of it.
 fn advance(image: &mut Origin, verdicts: &mut Verdicts, action: &Action)
     requires { HasAddress action.now }
-    ensures image { image.new ≡ after image.old action.now }
+    ensures image { image.new ≡ image_after image.old action.now }
     ensures kept { (rules : List Rule) (slot : ℕ) → AreVerdicts rules slot image.old verdicts.old → AreVerdicts rules slot image.new verdicts.new }
 {
     if !keeps_headers(action) {
@@ -73,7 +73,7 @@ pub fn check(
     requires flood { All (HasPort policy.now.rules slot) flood.now }
     requires all { All (HasPort policy.now.rules slot) all.now }
     // Which list it is and which fault. Memory can only be wanted for a list.
-    ensures exact { Gives result (answer_of (permitted policy.now.rules slot origin.now actions.now flood.now all.now)) }
+    ensures exact { GivesList result (answer_of (permitted policy.now.rules slot origin.now actions.now flood.now all.now)) }
     ensures only { IfOk result (λ list. permitted policy.now.rules slot origin.now actions.now flood.now all.now ≡ Ok list) }
     ensures size { IfOk result (λ list. length (spelling list) ≤ 65463) }
     ensures range { All IsAction actions.now → IfOk result (λ list. All IsAction list) }

@@ -1,6 +1,6 @@
 ghost use Rattle.std.specs.Prelude.{◌≡◌};
 ghost use Rattle.of10_action.specs.Actions.{HasAddress};
-ghost use Rattle.action_check.specs.Origins.{after};
+ghost use Rattle.action_check.specs.Origins.{image_after};
 
 use match_meet::{rewrite, rewrite_header};
 use of10_action::Action;
@@ -21,7 +21,7 @@ pub enum Origin {
 /// What an image becomes by one more action.
 pub(crate) fn after(image: &Origin, action: &Action) -> Origin
     requires { HasAddress action.now }
-    ensures { result ≡ after image.now action.now }
+    ensures { result ≡ image_after image.now action.now }
 {
     match image {
         Origin::Piece(cover) => Origin::Piece(rewrite(cover, action)),

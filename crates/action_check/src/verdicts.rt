@@ -4,7 +4,7 @@ ghost use Rattle.std.specs.Prelude.{ℕ, ◌≡◌, List};
 ghost use Rattle.flowspace.specs.declared.rules.Rule.{Rule};
 ghost use Rattle.action_check.specs.declared.origin.Origin.{Origin as Image};
 ghost use Rattle.action_check.specs.ActionRules.{may_go};
-ghost use Rattle.action_check.specs.Verdicts.{AreVerdicts, found, with_verdict};
+ghost use Rattle.action_check.specs.Verdicts.{AreVerdicts, verdict_kept, with_verdict};
 
 use crate::action_rules::{may_go, sees_in_port};
 use crate::origin::Origin;
@@ -41,7 +41,7 @@ impl Verdicts {
     }
 
     fn found(&self, port: u16) -> Option<bool>
-        ensures { result ≡ found self.now port }
+        ensures { result ≡ verdict_kept self.now port }
     {
         if sees_in_port(port) {
             self.seeing
@@ -61,7 +61,7 @@ impl Verdicts {
     }
 }
 
-/// Whether the image may go to the port. They are looked up where it wasn't asked of such a port before.
+/// Whether the image may go to the port. The rules are looked up where it wasn't asked of such a port before.
 pub(crate) fn may_go_kept(
     policy: &SwitchPolicy,
     slot: u8,

@@ -7,7 +7,7 @@ use Rattle.of10_model.specs.Normal.{IsPrefix}
 use Rattle.of10_model.specs.Meet.{◌>>=◌}
 use Rattle.of10_model.specs.Pattern.{leading_bits}
 use Rattle.of10_model.proofs.Ranges.{IsPrefix-leading}
-use Rattle.address_text.specs.Addresses.{hex_digit, pair_at, has_colons, six_pairs, hardware_address, digits_at, octet_of, octet_at, after, dotted_at, bits_of, bits_after, prefix}
+use Rattle.address_text.specs.Addresses.{hex_digit, pair_at, has_colons, six_pairs, hardware_address, digits_at, octet_of, octet_at, behind_byte, dotted_at, prefix_length, bits_after, prefix}
 
 pub bind_some : {A B : Type 0} (o : Option A) (f : A → Option B) (y : B) → (o >>= f) ≡ Some y → (x : A) × (o ≡ Some x) × (f x ≡ Some y)
 bind_some None f y e = absurd cc
@@ -110,11 +110,11 @@ pub record IsOfOctets (text : List ℕ) (n : ℕ × List ℕ) : Type 0 where
   pub behind_third : List ℕ
   pub fourth : ℕ × List ℕ
   pub first_is : octet_at text ≡ Some first
-  pub first_dot : after 46 first.1 ≡ Some behind_first
+  pub first_dot : behind_byte 46 first.1 ≡ Some behind_first
   pub second_is : octet_at behind_first ≡ Some second
-  pub second_dot : after 46 second.1 ≡ Some behind_second
+  pub second_dot : behind_byte 46 second.1 ≡ Some behind_second
   pub third_is : octet_at behind_second ≡ Some third
-  pub third_dot : after 46 third.1 ≡ Some behind_third
+  pub third_dot : behind_byte 46 third.1 ≡ Some behind_third
   pub fourth_is : octet_at behind_third ≡ Some fourth
   pub whole : (((first.0 * 256 + second.0) * 256 + third.0) * 256 + fourth.0, fourth.1) ≡ n
 
@@ -122,11 +122,11 @@ pub octets_read : (text : List ℕ) (n : ℕ × List ℕ) → dotted_at text ≡
 unfolding dotted_at
 octets_read text n e =
     let a = bind_some (octet_at text) _ n e in
-    let ra = bind_some (after 46 a.0.1) _ n a.2 in
+    let ra = bind_some (behind_byte 46 a.0.1) _ n a.2 in
     let b = bind_some (octet_at ra.0) _ n ra.2 in
-    let rb = bind_some (after 46 b.0.1) _ n b.2 in
+    let rb = bind_some (behind_byte 46 b.0.1) _ n b.2 in
     let c = bind_some (octet_at rb.0) _ n rb.2 in
-    let rc = bind_some (after 46 c.0.1) _ n c.2 in
+    let rc = bind_some (behind_byte 46 c.0.1) _ n c.2 in
     let d = bind_some (octet_at rc.0) _ n rc.2 in
     let made : ℕ × List ℕ = (((a.0.0 * 256 + b.0.0) * 256 + c.0.0) * 256 + d.0.0, d.0.1) in
     record {
@@ -153,7 +153,7 @@ dotted_below text n e =
     let value : ((o.first.0 * 256 + o.second.0) * 256 + o.third.0) * 256 + o.fourth.0 ≡ n.0 = ap (λ (m : ℕ × List ℕ). m.0) o.whole in
     omega (arith, octet_below text o.first o.first_is, octet_below o.behind_first o.second o.second_is, octet_below o.behind_second o.third o.third_is, octet_below o.behind_third o.fourth o.fourth_is, value)
 
-bits_of_range : (n : ℕ × List ℕ) (bits : ℕ) → bits_of n ≡ Some bits → (1 ≤ bits) × (bits ≤ 32)
+bits_of_range : (n : ℕ × List ℕ) (bits : ℕ) → prefix_length n ≡ Some bits → (1 ≤ bits) × (bits ≤ 32)
 bits_of_range n bits e =
     let k = cond_some (nat_le 1 n.0 && nat_le n.0 32 && length n.1 == 0) n.0 bits e in
     let outer = and_parts (nat_le 1 n.0 && nat_le n.0 32) (length n.1 == 0) k.0 in
@@ -163,7 +163,7 @@ bits_of_range n bits e =
 pub bits_after_range : (text : List ℕ) (bits : ℕ) → bits_after text ≡ Some bits → (1 ≤ bits) × (bits ≤ 32)
 bits_after_range [] bits e = let same : 32 ≡ bits = cc in subst (λ m. (1 ≤ m) × (m ≤ 32)) same (omega arith, omega arith)
 bits_after_range (c ∷ rest) bits e =
-    let a = bind_some (after 47 (c ∷ rest) >>= octet_at) bits_of bits e in
+    let a = bind_some (behind_byte 47 (c ∷ rest) >>= octet_at) prefix_length bits e in
     bits_of_range a.0 bits a.2
 
 pub prefix_range : (text : List ℕ) (p : Prefix) → prefix text ≡ Some p → IsPrefix (Some p)

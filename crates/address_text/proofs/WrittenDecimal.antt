@@ -8,7 +8,7 @@ use Rattle.std.proofs.lemmas.Option.{same_Some, cond_some}
 use Rattle.of10_model.specs.declared.pattern.Prefix.{Prefix}
 use Rattle.of10_model.specs.Meet.{◌>>=◌}
 use Rattle.of10_model.specs.Pattern.{leading_bits}
-use Rattle.address_text.specs.Addresses.{digit_at, with_digit_in, with_digit, digits_at, octet_of, octet_at, after, dotted_at, bits_of, bits_after, prefix}
+use Rattle.address_text.specs.Addresses.{digit_at, with_digit_in, with_digit, digits_at, octet_of, octet_at, behind_byte, dotted_at, prefix_length, bits_after, prefix}
 use Rattle.address_text.specs.Texts.{dotted_text}
 use Rattle.address_text.specs.Written.{IsPrefixText, PrefixesAreAsWritten}
 use Rattle.address_text.proofs.Ranges.{bind_some, map_some, octet_below, octets_read, dotted_below, bits_after_range}
@@ -82,7 +82,7 @@ octet_written text n e =
 
 -- ---- four octets
 
-after_written : (byte : ℕ) (text rest : List ℕ) → after byte text ≡ Some rest → text ≡ byte ∷ rest
+after_written : (byte : ℕ) (text rest : List ℕ) → behind_byte byte text ≡ Some rest → text ≡ byte ∷ rest
 after_written byte [] rest e = absurd cc
 after_written byte (c ∷ others) rest e =
     let k = cond_some (c == byte) others rest e in
@@ -128,7 +128,7 @@ dotted_written text n e =
 
 -- ---- how many leading bits
 
-bits_of_written : (n : Read) (bits : ℕ) → bits_of n ≡ Some bits → decimal n.0 ++ n.1 ≡ decimal bits
+bits_of_written : (n : Read) (bits : ℕ) → prefix_length n ≡ Some bits → decimal n.0 ++ n.1 ≡ decimal bits
 bits_of_written n bits e =
     let k = cond_some (nat_le 1 n.0 && nat_le n.0 32 && length n.1 == 0) n.0 bits e in
     let outer = and_parts (nat_le 1 n.0 && nat_le n.0 32) (length n.1 == 0) k.0 in
@@ -138,8 +138,8 @@ bits_of_written n bits e =
 bits_written : (text : List ℕ) (bits : ℕ) → bits_after text ≡ Some bits → (text ≡ 47 ∷ decimal bits) ⊎ ((bits ≡ 32) × (text ≡ []))
 bits_written [] bits e = inr (sym (same_Some 32 bits e), refl)
 bits_written (c ∷ rest) bits e =
-    let a = bind_some (after 47 (c ∷ rest) >>= octet_at) bits_of bits e in
-    let b = bind_some (after 47 (c ∷ rest)) octet_at a.0 a.1 in
+    let a = bind_some (behind_byte 47 (c ∷ rest) >>= octet_at) prefix_length bits e in
+    let b = bind_some (behind_byte 47 (c ∷ rest)) octet_at a.0 a.1 in
     inl (after_written 47 (c ∷ rest) b.0 b.1 ∙ ap (λ (t : List ℕ). 47 ∷ t) (octet_written b.0 a.0 b.2 ∙ bits_of_written a.0 bits a.2))
 
 -- ---- both ways

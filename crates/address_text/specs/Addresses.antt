@@ -73,30 +73,30 @@ unfoldable pub octet_at : List ℕ → Option (ℕ × List ℕ)
 octet_at text = digits_at text >>= octet_of
 
 -- what follows a byte at the front
-abbrev pub after : ℕ → List ℕ → Option (List ℕ)
-after byte [] = None
-after byte (c ∷ rest) = if c == byte then Some rest else None
+abbrev pub behind_byte : ℕ → List ℕ → Option (List ℕ)
+behind_byte byte [] = None
+behind_byte byte (c ∷ rest) = if c == byte then Some rest else None
 
 -- four such numbers with dots between them
 unfoldable pub dotted_at : List ℕ → Option (ℕ × List ℕ)
 dotted_at text = do
   a ← octet_at text
-  after_a ← after 46 a.1
+  after_a ← behind_byte 46 a.1
   b ← octet_at after_a
-  after_b ← after 46 b.1
+  after_b ← behind_byte 46 b.1
   c ← octet_at after_b
-  after_c ← after 46 c.1
+  after_c ← behind_byte 46 c.1
   d ← octet_at after_c
   Some (((a.0 * 256 + b.0) * 256 + c.0) * 256 + d.0, d.1)
 
 -- a number of leading bits, 1 to 32, and nothing else
-abbrev pub bits_of : ℕ × List ℕ → Option ℕ
-bits_of n = if nat_le 1 n.0 && nat_le n.0 32 && length n.1 == 0 then Some n.0 else None
+abbrev pub prefix_length : ℕ × List ℕ → Option ℕ
+prefix_length n = if nat_le 1 n.0 && nat_le n.0 32 && length n.1 == 0 then Some n.0 else None
 
 -- the number of leading bits after a slash, or all 32
 abbrev pub bits_after : List ℕ → Option ℕ
 bits_after [] = Some 32
-bits_after (c ∷ rest) = after 47 (c ∷ rest) >>= octet_at >>= bits_of
+bits_after (c ∷ rest) = behind_byte 47 (c ∷ rest) >>= octet_at >>= prefix_length
 
 -- a network address, or the addresses with its leading bits
 unfoldable pub prefix : List ℕ → Option Prefix

@@ -1,7 +1,7 @@
 //! Identifiers and addresses that texts name.
 
 ghost use Rattle.std.specs.Prelude.{◌≡◌, ◌≤◌, ◌<◌, ◌+◌, ◌*◌, IfSome, length, option_map, true};
-ghost use Rattle.address_text.specs.Addresses.{after, bits_after, bits_of, datapath_id, digit_at, digits_at, dotted_at, hardware_address, has_colons, hex_after, hex_digit, octet_at, pair_at, prefix, six_pairs, with_digit};
+ghost use Rattle.address_text.specs.Addresses.{behind_byte, bits_after, prefix_length, datapath_id, digit_at, digits_at, dotted_at, hardware_address, has_colons, hex_after, hex_digit, octet_at, pair_at, prefix, six_pairs, with_digit};
 
 use of10_model::Prefix;
 
@@ -136,7 +136,7 @@ fn octet_at(text: &[u8]) -> Option<(u32, &[u8])>
 }
 
 fn after(byte: u8, text: &[u8]) -> Option<&[u8]>
-    ensures { option_map (λ rest. rest.now) result ≡ after byte text.now }
+    ensures { option_map (λ rest. rest.now) result ≡ behind_byte byte text.now }
 {
     match text {
         [c, rest @ ..] if *c == byte => Some(rest),
@@ -156,7 +156,7 @@ fn dotted_at(text: &[u8]) -> Option<(u32, &[u8])>
 }
 
 fn bits_of(number: u32, rest: &[u8]) -> Option<u8>
-    ensures value { result ≡ bits_of (number, rest.now) }
+    ensures value { result ≡ prefix_length (number, rest.now) }
     ensures range { IfSome result (λ bits. (1 ≤ bits) × (bits ≤ 32)) }
 {
     if 1 <= number && number <= 32 && rest.is_empty() {

@@ -33,14 +33,14 @@ use Rattle.flow_book.specs.Books.{booking}
 use Rattle.xid_map.specs.declared.asked.Issued.{Issued}
 use Rattle.slice_words.specs.Messages.{quoted}
 use Rattle.slice_words.specs.Items.{Settings, Share, Writer, Reader, Probe, Packet, Item, Opened, Up, Down, Msg, Lost, Handed, Removed, Status, Fault, Barrier, Queues, Entry, Last, End, is_up, miss_send_len, buffered_count, known_ports}
-use Rattle.slice_words.specs.Pasts.{SendsOut, Answer, Past, silence, told, dismissal, forwarded}
+use Rattle.slice_words.specs.Pasts.{SendsOut, Answer, Past, no_answer, told, dismissal, forwarded}
 use Rattle.slice_words.specs.Statistics.{is_barrier, asks_queues, barrier_told, queues_told}
 use Rattle.slice_words.specs.Questions.{asking}
 use Rattle.slice_words.specs.Calls.{request_calls, request_for, book_calls}
 use Rattle.slice_words.specs.FlowMods.{Ground, ground_of, packet_at, sent_on, flow_mod_fault}
 use Rattle.slice_words.specs.PacketOuts.{packet_out_on, packet_out_size, sent_out, packet_out_fault}
 use Rattle.slice_words.specs.Answers.{error_for, refused, no_common_version, bad_length, config_reply, packet_message, packet_told, message_answer, removal_told, error_told, answer}
-use Rattle.slice_words.specs.Alone.{number_of, rendered, played, answer_to, sent_for, put_for}
+use Rattle.slice_words.specs.Alone.{number_it_came_with, rendered, played, answer_to, sent_for, put_for}
 use Rattle.of10_model.proofs.Results.{either}
 use Rattle.slice_words.proofs.AnswerKinds.{message_holds}
 use Rattle.slice_words.proofs.Forwarding.{flow_mods_numbered, rendered_sent, not_large_numbered, out_not_large}
@@ -71,7 +71,7 @@ pub record IsSmall (a : Answer) : Type 0 where
 small_tells : (messages : List (List ℕ)) → AreFew 1 messages → IsSmall (told messages)
 small_tells messages few = record { to_slice = few; to_switch = λ came. small-none 262144 }
 
-small_silence : IsSmall silence
+small_silence : IsSmall no_answer
 small_silence = small_tells [] (few-none 1)
 
 small_told : (message : List ℕ) → IsShort message → IsSmall (told (message ∷ []))
@@ -100,7 +100,7 @@ small_forwarded g m none = record {
 small_out : (came : List ℕ) (m : PacketOut) (packet : Option ℕ) → packet_out_size m ≤ 65535 → AreSmall 262144 (rendered came (SendsOut m packet) ∷ [])
 small_out came m None fits = small-few 1 262144 (rendered came (SendsOut m None) ∷ []) (omega arith) (few-one (spell_packet_out m) (short-packet_out m fits))
 small_out came m (Some k) fits =
-    let sent : PacketOut = record m { buffer = number_of came k } in
+    let sent : PacketOut = record m { buffer = number_it_came_with came k } in
     small-few 1 262144 (spell_packet_out sent ∷ []) (omega arith) (few-one (spell_packet_out sent) (short-packet_out sent fits))
 
 small_sent_out : (g : Ground) (m : PacketOut) → packet_out_fault g m ≡ None → IsSmall (forwarded (sent_out g m))
@@ -232,7 +232,7 @@ speaks item = true
 abbrev pub speaking : List Item → ℕ
 speaking items = length (filter speaks items)
 
-lost_silent : (up : Bool) → (if up then silence else silence).to_slice ≡ []
+lost_silent : (up : Bool) → (if up then no_answer else no_answer).to_slice ≡ []
 lost_silent true = refl
 lost_silent false = refl
 

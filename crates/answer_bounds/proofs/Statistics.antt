@@ -15,12 +15,12 @@ use Rattle.xid_map.proofs.Gathering.{IsLongestRun-kept}
 use Rattle.stats_filter.specs.Asking.{type_sent}
 use Rattle.stats_filter.specs.Keeping.{entries_in, is_own_entry}
 use Rattle.stats_filter.specs.Replies.{page_size, replies_for, sum_reply}
-use Rattle.stats_filter.specs.Laws.{AreSmall as FitPages}
+use Rattle.stats_filter.specs.Laws.{FitPages as FitPages}
 use Rattle.stats_filter.proofs.Rows.{AreInFront-entries_in}
 use Rattle.stats_filter.proofs.Coming.{small_entries}
 use Rattle.stats_filter.proofs.Replying.{size-replies_for, short-replies_for}
 use Rattle.slice_words.specs.Items.{Settings, own_rules, Item, Entry, Last, is_up}
-use Rattle.slice_words.specs.Pasts.{Answer, silence}
+use Rattle.slice_words.specs.Pasts.{Answer, no_answer}
 use Rattle.slice_words.specs.Statistics.{collects, collected_replies, statistics_told}
 use Rattle.slice_words.specs.Calls.{request_for, request_calls, collection_calls}
 use Rattle.slice_words.specs.Alone.{answer_to, sent_for}
@@ -86,7 +86,7 @@ end_replied s view false x kind whole =
 
 -- for an entry nothing is sent
 silent_entry : (s : Settings) (view : List Item) (x kind : ℕ) (entry : List ℕ) → (answer_to s view (Entry x kind entry)).to_slice ≡ []
-silent_entry s view x kind entry = either (λ (a : Answer). a.to_slice ≡ []) (is_up view) silence silence refl refl
+silent_entry s view x kind entry = either (λ (a : Answer). a.to_slice ≡ []) (is_up view) no_answer no_answer refl refl
 
 entries_replied : (s : Settings) (view : List Item) (x kind : ℕ) (entries : List (List ℕ)) (rest : List Item) → All (λ entry. IsWholeEntry (Entry x kind entry)) entries → All IsWholeEntry view
     → ((later : List Item) → All IsWholeEntry later → AreReplied s later rest) → AreReplied s view (map (Entry x kind) entries ++ rest)

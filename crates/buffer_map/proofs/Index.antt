@@ -14,7 +14,7 @@ use Rattle.std.proofs.lemmas.List.Folds.{list_any_at, list_any_none}
 use Rattle.std.proofs.lemmas.List.Sorted.{searched, IsPermutation-remove, length_permutation, sum_by-IsPermutation}
 use Rattle.std.proofs.lemmas.List.Sums.{sum_by-cons, length-filter}
 use Rattle.buffer_map.specs.declared.held.Held.{Held}
-use Rattle.buffer_map.specs.Places.{IsIndex}
+use Rattle.buffer_map.specs.Places.{AreNumbersOf}
 
 -- what a search in numbers that ascend tells
 pub is_ok-searched : (xs : List ℕ) (x : ℕ) (r : Result ℕ ℕ) → IsNonDecreasing xs → IsBinarySearchResult (λ y. nat_cmp y x) xs r
@@ -109,10 +109,10 @@ none_filtered key physical (x ∷ xs) none =
 
 -- ---- what is given, used and lost
 
-pub IsIndex-none : IsIndex [] []
+pub IsIndex-none : AreNumbersOf [] []
 IsIndex-none = record { same_length = refl; same_counts = λ physical. refl }
 
-pub IsIndex-add : (numbers more : List ℕ) (packets : List Held) (b : Held) → IsIndex numbers packets → IsPermutation (b.physical ∷ numbers) more → IsIndex more (b ∷ packets)
+pub IsIndex-add : (numbers more : List ℕ) (packets : List Held) (b : Held) → AreNumbersOf numbers packets → IsPermutation (b.physical ∷ numbers) more → AreNumbersOf more (b ∷ packets)
 IsIndex-add numbers more packets b h moved = record {
   same_length = omega (arith, length_permutation (b.physical ∷ numbers) more moved, h.same_length);
   same_counts = λ physical.
@@ -122,8 +122,8 @@ IsIndex-add numbers more packets b h moved = record {
       ∙ sym (sum_by-cons (λ b. cond (b.physical == physical) 1 0) b packets);
 }
 
-pub IsIndex-remove : (numbers fewer : List ℕ) (packets rest : List Held) (b : Held) → IsIndex numbers packets → IsPermutation packets (b ∷ rest)
-    → (list_any (λ other. other == b.physical) numbers ≡ true → IsPermutation numbers (b.physical ∷ fewer)) → IsIndex fewer rest
+pub IsIndex-remove : (numbers fewer : List ℕ) (packets rest : List Held) (b : Held) → AreNumbersOf numbers packets → IsPermutation packets (b ∷ rest)
+    → (list_any (λ other. other == b.physical) numbers ≡ true → IsPermutation numbers (b.physical ∷ fewer)) → AreNumbersOf fewer rest
 IsIndex-remove numbers fewer packets rest b h moved taken =
     let count : ℕ → Held → ℕ = λ physical b. cond (b.physical == physical) 1 0 in
     let own : (b.physical == b.physical) ≡ true = eq-eqb _ _ refl in
@@ -146,8 +146,8 @@ IsIndex-remove numbers fewer packets rest b h moved taken =
       );
     }
 
-pub IsIndex-lose : (numbers : List ℕ) (packets : List Held) (physical : ℕ) → IsIndex numbers packets
-    → IsIndex (filter (λ other. not (other == physical)) numbers) (filter (λ b. not (b.physical == physical)) packets)
+pub IsIndex-lose : (numbers : List ℕ) (packets : List Held) (physical : ℕ) → AreNumbersOf numbers packets
+    → AreNumbersOf (filter (λ other. not (other == physical)) numbers) (filter (λ b. not (b.physical == physical)) packets)
 IsIndex-lose numbers packets physical h = record {
   same_length = omega (
     arith,
@@ -164,7 +164,7 @@ IsIndex-lose numbers packets physical h = record {
       ∙ sym (without (λ (b : Held). b.physical) physical other packets);
 }
 
-pub none_lost : (numbers : List ℕ) (packets : List Held) (physical : ℕ) → IsIndex numbers packets → list_any (λ other. other == physical) numbers ≡ false
+pub none_lost : (numbers : List ℕ) (packets : List Held) (physical : ℕ) → AreNumbersOf numbers packets → list_any (λ other. other == physical) numbers ≡ false
     → filter (λ b. not (b.physical == physical)) packets ≡ packets
 none_lost numbers packets physical h none =
     none_filtered (λ b. b.physical) physical packets (sym (h.same_counts physical) ∙ none_counted (λ other. other) physical numbers none)

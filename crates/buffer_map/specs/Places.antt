@@ -8,6 +8,6 @@ IsInOrder count next [] = Unit {0}
 IsInOrder count next (b ∷ earlier) = (b.ordinal < next) × (count ≤ b.ordinal + 256) × IsInOrder count b.ordinal earlier
 
 -- the numbers are those of the packets, each as often as it is theirs
-pub record IsIndex (numbers : List ℕ) (packets : List Held) : Type 0 where
+pub record AreNumbersOf (numbers : List ℕ) (packets : List Held) : Type 0 where
   pub same_length : length numbers ≡ length packets
   pub same_counts : (physical : ℕ) → count_by (λ other. other == physical) numbers ≡ count_by (λ b. b.physical == physical) packets

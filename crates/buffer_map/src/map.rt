@@ -32,13 +32,13 @@ impl Model for BufferMap {
     ghost use Rattle.std.specs.Prelude.{◌≤◌, ◌%◌};
     ghost use Rattle.std.specs.VecDeque.{deque_capacity};
     ghost use Rattle.buffer_map.specs.Buffers.{Buffers};
-    ghost use Rattle.buffer_map.specs.Places.{IsInOrder, IsIndex};
+    ghost use Rattle.buffer_map.specs.Places.{IsInOrder, AreNumbersOf};
 
     ghost Value = { Buffers };
 
     ghost view = { λ m. record { given = m.given; held = m.packets.items } };
 
-    ghost invariant = { λ m. IsInOrder m.given m.given m.packets.items × IsIndex m.physicals m.packets.items × (256 ≤ deque_capacity m.packets) };
+    ghost invariant = { λ m. IsInOrder m.given m.given m.packets.items × AreNumbersOf m.physicals m.packets.items × (256 ≤ deque_capacity m.packets) };
 }
 
 /// Whether the oldest packet is not among the last 256 once another one is given after so many.

@@ -4,7 +4,7 @@ use Rattle.of10_model.specs.declared.pattern.Pattern.{Pattern}
 use Rattle.of10_model.specs.Exact.{all_free}
 use Rattle.flowspace.specs.Policies.{PolicyView}
 use Rattle.recording.specs.Recordings.{switch_bytes}
-use Rattle.desk_examples.specs.Examples.{policy, named, written, told, alice_sends, Follows}
+use Rattle.desk_examples.specs.Examples.{policy, slice_named, written_rule, record_told, alice_sends, ReportFollows}
 
 -- every header, and TCP packets for port 80 and for port 22
 abbrev pub all_headers : List ℕ
@@ -29,7 +29,7 @@ delete_fields = codes "00000000000000000003000000000000ffffffffffff0000"
 
 -- alice's ADD of every header is sent for what she may write of it, and so is her DELETE
 abbrev pub FlowModIsCut : Type 0
-FlowModIsCut = Follows policy
+FlowModIsCut = ReportFollows policy
     (alice_sends (codes "010e00500000002a" ++ all_headers ++ add_fields ++ codes "0000" ++ output_2)
     ∷ alice_sends (codes "010e00480000002b" ++ all_headers ++ delete_fields) ∷ [])
     (codes "4 0 lane 010e005000000000" ++ to_80 ++ add_fields ++ codes "0001" ++ output_2
@@ -41,16 +41,16 @@ quoted_fields = codes "00000000000000000000003c0000000a"
 
 -- her ADD for bob's port is refused: FLOW_MOD_FAILED, EPERM; of her DELETE for it nothing follows
 abbrev pub FlowModIsRefused : Type 0
-FlowModIsRefused = Follows policy
+FlowModIsRefused = ReportFollows policy
     (alice_sends (codes "010e00500000002a" ++ to_22 ++ add_fields ++ codes "0000" ++ output_2)
     ∷ alice_sends (codes "010e00480000002b" ++ to_22 ++ delete_fields) ∷ [])
     (codes "4 0 to alice 0101004c0000002a00030002010e00500000002a" ++ to_22 ++ quoted_fields ++ codes "\nend 6\n")
 
 -- the first error for it reaches her under her own transaction id, the second doesn't: FLOW_MOD_FAILED, ALL_TABLES_FULL
 abbrev pub ErrorIsToldOnce : Type 0
-ErrorIsToldOnce = Follows policy
+ErrorIsToldOnce = ReportFollows policy
     (alice_sends (codes "010e00500000002a" ++ all_headers ++ add_fields ++ codes "0000" ++ output_2)
-    ∷ told switch_bytes 0 (codes "0101000c0000000000030000") ∷ told switch_bytes 0 (codes "0101000c0000000000030000") ∷ [])
+    ∷ record_told switch_bytes 0 (codes "0101000c0000000000030000") ∷ record_told switch_bytes 0 (codes "0101000c0000000000030000") ∷ [])
     (codes "4 0 lane 010e005000000000" ++ to_80 ++ add_fields ++ codes "0001" ++ output_2
     ++ codes "\n5 0 to alice 0101004c0000002a00030000010e00500000002a" ++ all_headers ++ quoted_fields ++ codes "\nend 7\n")
 
@@ -69,8 +69,8 @@ to_net bits value = record ip { nw_dst = Some (record { bits = bits; value = val
 -- alice writes IP packets to 10/8, those from 10/8, and TCP packets to 10/8
 abbrev pub three_rules : PolicyView
 three_rules = record {
-  slices = named (codes "alice") ∷ named (codes "bob") ∷ [];
-  rules = written 100 0 (to_net 8 0x0a000000) ∷ written 90 0 from_10 ∷ written 80 0 (record (to_net 8 0x0a000000) { nw_proto = Some 6 }) ∷ [];
+  slices = slice_named (codes "alice") ∷ slice_named (codes "bob") ∷ [];
+  rules = written_rule 100 0 (to_net 8 0x0a000000) ∷ written_rule 90 0 from_10 ∷ written_rule 80 0 (record (to_net 8 0x0a000000) { nw_proto = Some 6 }) ∷ [];
 }
 
 -- TCP packets to 10.1/16, and those of them that come from 10/8
@@ -82,7 +82,7 @@ tcp_from_10_to_net = codes "003418cf00000000000000000000000000000000000008000006
 
 -- her ADD for TCP packets to 10.1/16 has two pieces, itself and what of it comes from 10/8: the third rule has no more than the first
 abbrev pub FlowModHasTwoPieces : Type 0
-FlowModHasTwoPieces = Follows three_rules
+FlowModHasTwoPieces = ReportFollows three_rules
     (alice_sends (codes "010e00500000002a" ++ tcp_to_net ++ add_fields ++ codes "0000" ++ output_2) ∷ [])
     (codes "4 0 lane 010e005000000000" ++ tcp_to_net ++ add_fields ++ codes "0001" ++ output_2
     ++ codes "\n4 0 lane 010e005000000000" ++ tcp_from_10_to_net ++ add_fields ++ codes "0001" ++ output_2
@@ -96,8 +96,8 @@ quiet_port_2 = codes "0002000000000000000000000000000000000000000000000000001000
 
 -- an output to FLOOD is sent as outputs to ports 1 and 3, and one to ALL to port 2 too
 abbrev pub FloodIsSpread : Type 0
-FloodIsSpread = Follows policy
-    (told switch_bytes 0 (codes "010c0040000000090200000000000000" ++ quiet_port_2)
+FloodIsSpread = ReportFollows policy
+    (record_told switch_bytes 0 (codes "010c0040000000090200000000000000" ++ quiet_port_2)
     ∷ alice_sends (codes "010e00500000002a" ++ all_headers ++ add_fields ++ codes "000000000008fffb0000")
     ∷ alice_sends (codes "010e00500000002b" ++ all_headers ++ add_fields ++ codes "000000000008fffc0000") ∷ [])
     (codes "4 0 to alice 010c0040000000000200000000000000" ++ quiet_port_2 ++ codes "\n4 0 to bob 010c0040000000000200000000000000" ++ quiet_port_2
@@ -107,8 +107,8 @@ FloodIsSpread = Follows policy
 -- alice writes IP packets to 10.1/16, and bob those to 10.2/16
 abbrev pub two_nets : PolicyView
 two_nets = record {
-  slices = named (codes "alice") ∷ named (codes "bob") ∷ [];
-  rules = written 100 0 (to_net 16 0x0a010000) ∷ written 50 1 (to_net 16 0x0a020000) ∷ [];
+  slices = slice_named (codes "alice") ∷ slice_named (codes "bob") ∷ [];
+  rules = written_rule 100 0 (to_net 16 0x0a010000) ∷ written_rule 50 1 (to_net 16 0x0a020000) ∷ [];
 }
 
 -- IP packets, and those to 10.1/16
@@ -120,7 +120,7 @@ ip_to_alice = codes "003420ef000000000000000000000000000000000000080000000000000
 
 -- her packets may be sent with another address of hers; with one of bob's they may not go to port 2, and not to CONTROLLER either: BAD_ACTION, EPERM; and to NORMAL they may not go: BAD_ACTION, BAD_OUT_PORT
 abbrev pub ActionsAreHeldToTheSlice : Type 0
-ActionsAreHeldToTheSlice = Follows two_nets
+ActionsAreHeldToTheSlice = ReportFollows two_nets
     (alice_sends (codes "010e00580000002a" ++ all_ip ++ add_fields ++ codes "0000000700080a020001" ++ output_2)
     ∷ alice_sends (codes "010e00580000002b" ++ all_ip ++ add_fields ++ codes "0000000700080a02000100000008fffd0000")
     ∷ alice_sends (codes "010e00580000002c" ++ all_ip ++ add_fields ++ codes "0000000700080a010909" ++ output_2)
@@ -134,7 +134,7 @@ ActionsAreHeldToTheSlice = Follows two_nets
 
 -- alice may book one entry
 abbrev pub narrow : PolicyView
-narrow = record policy { slices = record (named (codes "alice")) { quota = 1 } ∷ named (codes "bob") ∷ [] }
+narrow = record policy { slices = record (slice_named (codes "alice")) { quota = 1 } ∷ slice_named (codes "bob") ∷ [] }
 
 -- her ADD of every header with another priority and other flags
 abbrev pub add_at : List ℕ → List ℕ → List ℕ → List ℕ
@@ -150,11 +150,11 @@ removed_80 xid = codes "010b0058" ++ xid ++ to_80 ++ codes "0000000000000000000a
 
 -- a second pair is refused: FLOW_MOD_FAILED, ALL_TABLES_FULL; the pair that is booked may be added again; and once the switch says that its entry is gone, of which alice is told, another is booked
 abbrev pub QuotaHolds : Type 0
-QuotaHolds = Follows narrow
+QuotaHolds = ReportFollows narrow
     (alice_sends (add_at (codes "0000002a") (codes "000a") (codes "0000"))
     ∷ alice_sends (add_at (codes "0000002b") (codes "000b") (codes "0000"))
     ∷ alice_sends (add_at (codes "0000002c") (codes "000a") (codes "0001"))
-    ∷ told switch_bytes 0 (removed_80 (codes "00000009"))
+    ∷ record_told switch_bytes 0 (removed_80 (codes "00000009"))
     ∷ alice_sends (add_at (codes "0000002d") (codes "000b") (codes "0000")) ∷ [])
     (codes "4 0 lane " ++ sent_at (codes "00000000") (codes "000a")
     ++ codes "\n5 0 to alice 0101004c0000002b00030000010e00500000002b" ++ all_headers ++ codes "00000000000000000000003c0000000b"
@@ -164,7 +164,7 @@ QuotaHolds = Follows narrow
 
 -- an ADD that asks for CHECK_OVERLAP is sent without it, and refused where it overlaps: FLOW_MOD_FAILED, OVERLAP
 abbrev pub OverlapIsRefused : Type 0
-OverlapIsRefused = Follows policy
+OverlapIsRefused = ReportFollows policy
     (alice_sends (add_at (codes "0000002a") (codes "000a") (codes "0002")) ∷ alice_sends (add_at (codes "0000002b") (codes "000a") (codes "0002")) ∷ [])
     (codes "4 0 lane " ++ sent_at (codes "00000000") (codes "000a")
     ++ codes "\n5 0 to alice 0101004c0000002b00030001010e00500000002b" ++ all_headers ++ quoted_fields ++ codes "\nend 6\n")

@@ -1,7 +1,7 @@
 -- Worked examples of packets that the switch holds (OpenFlow 1.0.0, section 5.4.1), of packet-outs (section 5.3.6), and of probes: what alice and bob are told, and what the switch is sent.
 use Rattle.std.specs.Prelude.{ℕ, List, [], ◌∷◌, ◌++◌, codes}
 use Rattle.recording.specs.Recordings.{Told, switch_bytes, slice_bytes}
-use Rattle.desk_examples.specs.Examples.{policy, told, alice_sends, Follows}
+use Rattle.desk_examples.specs.Examples.{policy, record_told, alice_sends, ReportFollows}
 use Rattle.desk_examples.specs.FlowMods.{output_2}
 
 -- TCP packets for port 80 and for port 22
@@ -21,13 +21,13 @@ use_packet xid number = codes "010d0018" ++ xid ++ number ++ codes "00010008" ++
 
 -- bob sends a message
 abbrev pub bob_sends : List ℕ → Told
-bob_sends text = told slice_bytes 1 text
+bob_sends text = record_told slice_bytes 1 text
 
 -- the switch uses its number 7 again: alice's packet is lost, BAD_REQUEST, BUFFER_UNKNOWN; bob's is there
 abbrev pub ReusedPacketIsLost : Type 0
-ReusedPacketIsLost = Follows policy
-    (told switch_bytes 0 (handed_up (codes "00000007") packet_80)
-    ∷ told switch_bytes 0 (handed_up (codes "00000007") packet_22)
+ReusedPacketIsLost = ReportFollows policy
+    (record_told switch_bytes 0 (handed_up (codes "00000007") packet_80)
+    ∷ record_told switch_bytes 0 (handed_up (codes "00000007") packet_22)
     ∷ alice_sends (use_packet (codes "0000002b") (codes "00000000"))
     ∷ bob_sends (use_packet (codes "0000002b") (codes "00000000")) ∷ [])
     (codes "4 0 to alice " ++ handed_up (codes "00000000") packet_80
@@ -37,8 +37,8 @@ ReusedPacketIsLost = Follows policy
 
 -- a packet is used once: BAD_REQUEST, BUFFER_UNKNOWN
 abbrev pub PacketIsUsedOnce : Type 0
-PacketIsUsedOnce = Follows policy
-    (told switch_bytes 0 (handed_up (codes "00000007") packet_80)
+PacketIsUsedOnce = ReportFollows policy
+    (record_told switch_bytes 0 (handed_up (codes "00000007") packet_80)
     ∷ alice_sends (use_packet (codes "0000002b") (codes "00000000"))
     ∷ alice_sends (use_packet (codes "0000002c") (codes "00000000")) ∷ [])
     (codes "4 0 to alice " ++ handed_up (codes "00000000") packet_80
@@ -51,7 +51,7 @@ send_packet xid actions packet = xid ++ codes "ffffffffffff" ++ actions ++ packe
 
 -- alice's packet for bob's port is refused, BAD_REQUEST, EPERM; so is hers that becomes one, BAD_ACTION, EPERM; hers is sent
 abbrev pub PacketOutIsHeldToTheSlice : Type 0
-PacketOutIsHeldToTheSlice = Follows policy
+PacketOutIsHeldToTheSlice = ReportFollows policy
     (alice_sends (codes "010d004e" ++ send_packet (codes "0000002a") (codes "0008" ++ output_2) packet_22)
     ∷ alice_sends (codes "010d0056" ++ send_packet (codes "0000002b") (codes "0010000a000800160000" ++ output_2) packet_80)
     ∷ alice_sends (codes "010d004e" ++ send_packet (codes "0000002c") (codes "0008" ++ output_2) packet_80) ∷ [])
@@ -68,10 +68,10 @@ filling = codes "000000000000000000000000000000000000000000000000000000000000000
 
 -- a probe of each slice is sent with its mark; one of alice's that comes back reaches her alone, without the mark and without a number
 abbrev pub ProbeComesBack : Type 0
-ProbeComesBack = Follows policy
+ProbeComesBack = ReportFollows policy
     (alice_sends (codes "010d0028" ++ send_packet (codes "0000002a") (codes "0008" ++ output_2) probe)
     ∷ bob_sends (codes "010d0028" ++ send_packet (codes "0000002a") (codes "0008" ++ output_2) probe)
-    ∷ told switch_bytes 0 (codes "010a004e0000000000000009003c00010000" ++ probe ++ filling ++ codes "4656534c00000000") ∷ [])
+    ∷ record_told switch_bytes 0 (codes "010a004e0000000000000009003c00010000" ++ probe ++ filling ++ codes "4656534c00000000") ∷ [])
     (codes "4 0 lane 010d0054" ++ send_packet (codes "00000000") (codes "0008" ++ output_2) probe ++ filling ++ codes "4656534c00000000"
     ++ codes "\n5 0 lane 010d0054" ++ send_packet (codes "01000000") (codes "0008" ++ output_2) probe ++ filling ++ codes "4656534c01000000"
     ++ codes "\n6 0 to alice 010a004600000000ffffffff003400010000" ++ probe ++ filling ++ codes "\nend 7\n")

@@ -8,16 +8,16 @@ use Rattle.desk_words.specs.Openings.{opening_of}
 use Rattle.desk_words.specs.Histories.{settings_at, view_of}
 use Rattle.desk_words.specs.Sent.{sent}
 use Rattle.desk_words.specs.Recorded.{history_of}
-use Rattle.desk_examples.specs.Examples.{named, tcp_to, written, policy, told, opened, alice_sends, Follows}
+use Rattle.desk_examples.specs.Examples.{slice_named, tcp_for, written_rule, policy, record_told, opened, alice_sends, ReportFollows}
 use Rattle.desk_examples.specs.FlowMods.{all_headers, to_80, add_fields, output_2}
 
 -- the other world: bob reads alice's packets, writes TCP packets for port 23 in the place of port 22, and reads all that nobody writes; and each rule has another priority
 abbrev pub other_policy : PolicyView
 other_policy = record {
-  slices = named (codes "alice") ∷ named (codes "bob") ∷ [];
+  slices = slice_named (codes "alice") ∷ slice_named (codes "bob") ∷ [];
   rules =
-      record (written 7 0 (tcp_to 80)) { readers = 2 }
-      ∷ written 3 1 (tcp_to 23)
+      record (written_rule 7 0 (tcp_for 80)) { readers = 2 }
+      ∷ written_rule 3 1 (tcp_for 23)
       ∷ record { switch = None; priority = 1; pattern = all_free; writer = None; readers = 2 }
       ∷ [];
 }
@@ -32,7 +32,7 @@ ssh_packet = codes "010a004800000000ffffffff003600010000000000000002000000000001
 -- the switch hands up both, and alice adds an entry for every header
 abbrev pub both_packets : List Told
 both_packets =
-    told switch_bytes 0 web_packet ∷ told switch_bytes 0 ssh_packet
+    record_told switch_bytes 0 web_packet ∷ record_told switch_bytes 0 ssh_packet
     ∷ alice_sends (codes "010e00500000002a" ++ all_headers ++ add_fields ++ codes "0000" ++ output_2) ∷ []
 
 -- what she has the switch sent
@@ -41,11 +41,11 @@ entry_line = codes "6 0 lane 010e005000000000" ++ to_80 ++ add_fields ++ codes "
 
 -- in the first world alice gets the one packet, and bob the other, which he writes
 abbrev pub FirstWorld : Type 0
-FirstWorld = Follows policy both_packets (codes "4 0 to alice " ++ web_packet ++ codes "\n5 0 to bob " ++ ssh_packet ++ codes "\n" ++ entry_line ++ codes "end 7\n")
+FirstWorld = ReportFollows policy both_packets (codes "4 0 to alice " ++ web_packet ++ codes "\n5 0 to bob " ++ ssh_packet ++ codes "\n" ++ entry_line ++ codes "end 7\n")
 
 -- in the other one she gets the same, and bob reads both
 abbrev pub OtherWorld : Type 0
-OtherWorld = Follows other_policy both_packets
+OtherWorld = ReportFollows other_policy both_packets
     (codes "4 0 to alice " ++ web_packet ++ codes "\n4 0 to bob " ++ web_packet ++ codes "\n5 0 to bob " ++ ssh_packet ++ codes "\n" ++ entry_line ++ codes "end 7\n")
 
 -- the switch's history under a policy, which is the same in both

@@ -11,7 +11,7 @@ use Rattle.desk_words.specs.declared.event.Event.TheVariants.{SwitchUp, SwitchMs
 use Rattle.desk_words.specs.declared.event.Timed.{Timed}
 use Rattle.desk_words.specs.declared.phase.Phase.{Phase}
 use Rattle.desk_words.specs.declared.phase.Phase.TheVariants.{Fresh, Begun, Opened, Gone}
-use Rattle.desk_words.specs.Openings.{ends_switch, features_told, phase_after, phase_of, opening_with, opening_after, opening_of, Switch, switch_of}
+use Rattle.desk_words.specs.Openings.{ends_switch, features_told, phase_after, phase_of, opening_with, opening_after, opening_of, KnownSwitch, switch_of}
 use Rattle.desk_words.specs.Histories.{is_slot, settings_at, Side, side_start, items_of, phase_items, opening_items, with_shown, side_of, view_of, is_open}
 use Rattle.desk_words.specs.Laws.{IsAlone, AreAlike, IsBlindBefore}
 
@@ -66,7 +66,7 @@ untold_before phase (Some features) event none = none
 none_begun : (policy : PolicyView) (slot : ℕ) (told : Option Features) → told ≡ None → opening_items policy slot told ≡ []
 none_begun policy slot told none = rw none refl
 
-pub none_in : (policy : PolicyView) (slot : ℕ) (switch : Switch) (side : Side) (timed : Timed) (phase : Phase)
+pub none_in : (policy : PolicyView) (slot : ℕ) (switch : KnownSwitch) (side : Side) (timed : Timed) (phase : Phase)
     → is_open phase ≡ false → opening_with phase timed.event ≡ None → phase_items policy slot switch side timed phase ≡ []
 none_in policy slot switch side timed Fresh shut none = refl
 none_in policy slot switch side timed Begun shut none = none_begun policy slot (opening_with Begun timed.event) none
@@ -107,7 +107,7 @@ opening_unsent : (s : Settings) (policy : PolicyView) (slot : ℕ) (told : Optio
 opening_unsent s policy slot None = refl
 opening_unsent s policy slot (Some features) = refl
 
-early_in : (s : Settings) (policy : PolicyView) (slot : ℕ) (switch : Switch) (timed : Timed) (phase : Phase) → is_open phase ≡ false
+early_in : (s : Settings) (policy : PolicyView) (slot : ℕ) (switch : KnownSwitch) (timed : Timed) (phase : Phase) → is_open phase ≡ false
     → sent_for s [] (phase_items policy slot switch side_start timed phase) ≡ []
 early_in s policy slot switch timed Fresh shut = refl
 early_in s policy slot switch timed Begun shut = opening_unsent s policy slot (opening_with Begun timed.event)
@@ -125,7 +125,7 @@ settings_stay policy slot phase None event has = absurd (true≢false (sym has))
 settings_stay policy slot phase (Some features) event has = refl
 
 -- over a side that sees nothing, an event in a phase that isn't open has nothing sent, whatever the settings
-unsent_before : (s : Settings) (policy : PolicyView) (slot : ℕ) (switch : Switch) (side : Side) (timed : Timed) → side ≡ side_start → is_open switch.phase ≡ false
+unsent_before : (s : Settings) (policy : PolicyView) (slot : ℕ) (switch : KnownSwitch) (side : Side) (timed : Timed) → side ≡ side_start → is_open switch.phase ≡ false
     → sent_for s side.sight.view (items_of policy slot switch side timed) ≡ []
 unsent_before s policy slot switch side timed start shut =
     ap (λ (other : Side). sent_for s other.sight.view (items_of policy slot switch other timed)) start

@@ -10,10 +10,10 @@ use Rattle.desk_words.specs.declared.event.Timed.{Timed}
 use Rattle.desk_words.specs.declared.phase.Phase.{Phase}
 use Rattle.desk_words.specs.declared.phase.Phase.TheVariants.{Fresh, Begun, Opened, Gone}
 use Rattle.slice_words.specs.Alone.{sent_for}
-use Rattle.desk_words.specs.Openings.{phase_of, phase_after, opening_after, known_after, Switch, switch_after, switch_of, opening_of}
+use Rattle.desk_words.specs.Openings.{phase_of, phase_after, opening_after, known_after, KnownSwitch, switch_after, switch_of, opening_of}
 use Rattle.desk_words.specs.Histories.{is_slot, settings_at, Side, items_of, phase_items, event_items, with_shown, side_of, view_of}
 use Rattle.desk_words.specs.Sent.{sent_with, sent_by, sent}
-use Rattle.desk_words.specs.Laws.{is_others, erased, AreSame, IsErasable}
+use Rattle.desk_words.specs.Laws.{is_others, erased, IsServedTheSame, IsErasable}
 
 -- an event of a slice's connection
 abbrev is_slices : Event → Bool
@@ -65,7 +65,7 @@ slices_known phase known (SwitchMsg message) is = absurd (true≢false (sym is))
 slices_known phase known SwitchDown is = absurd (true≢false (sym is))
 
 -- nothing that a slice does changes what is known of the switch
-pub slices_switch : (switch : Switch) (event : Event) → is_slices event ≡ true → switch_after switch event ≡ switch
+pub slices_switch : (switch : KnownSwitch) (event : Event) → is_slices event ≡ true → switch_after switch event ≡ switch
 slices_switch switch event is =
     rw (slices_phase switch.phase event is, slices_opening switch.phase switch.features event is, slices_known switch.phase switch.known event is) refl
 
@@ -79,7 +79,7 @@ others_slices slot (SwitchMsg message) is = absurd (true≢false (sym is))
 others_slices slot SwitchDown is = absurd (true≢false (sym is))
 
 -- after the opening it shows nothing
-others_shown : (policy : PolicyView) (slot : ℕ) (switch : Switch) (side : Side) (moment : ℕ) (event : Event)
+others_shown : (policy : PolicyView) (slot : ℕ) (switch : KnownSwitch) (side : Side) (moment : ℕ) (event : Event)
     → is_others slot event ≡ true → event_items policy slot switch side moment event ≡ []
 others_shown policy slot switch side moment (SliceUp other) is = rw (not-true (other == slot) is) refl
 others_shown policy slot switch side moment (SliceMsg other message) is = rw (not-true (other == slot) is) refl
@@ -88,7 +88,7 @@ others_shown policy slot switch side moment SwitchUp is = refl
 others_shown policy slot switch side moment (SwitchMsg message) is = absurd (true≢false (sym is))
 others_shown policy slot switch side moment SwitchDown is = absurd (true≢false (sym is))
 
-others_begun : (policy : PolicyView) (slot : ℕ) (switch : Switch) (side : Side) (timed : Timed) (event : Event)
+others_begun : (policy : PolicyView) (slot : ℕ) (switch : KnownSwitch) (side : Side) (timed : Timed) (event : Event)
     → timed.event ≡ event → is_others slot event ≡ true → phase_items policy slot switch side timed Begun ≡ []
 others_begun policy slot switch side timed (SliceUp other) e is = rw e refl
 others_begun policy slot switch side timed (SliceMsg other message) e is = rw e refl
@@ -97,14 +97,14 @@ others_begun policy slot switch side timed SwitchUp e is = rw e refl
 others_begun policy slot switch side timed (SwitchMsg message) e is = absurd (true≢false (sym is))
 others_begun policy slot switch side timed SwitchDown e is = rw e refl
 
-others_in : (policy : PolicyView) (slot : ℕ) (switch : Switch) (side : Side) (timed : Timed) (phase : Phase)
+others_in : (policy : PolicyView) (slot : ℕ) (switch : KnownSwitch) (side : Side) (timed : Timed) (phase : Phase)
     → is_others slot timed.event ≡ true → phase_items policy slot switch side timed phase ≡ []
 others_in policy slot switch side timed Fresh is = refl
 others_in policy slot switch side timed Begun is = others_begun policy slot switch side timed timed.event refl is
 others_in policy slot switch side timed Opened is = others_shown policy slot switch side timed.moment timed.event is
 others_in policy slot switch side timed Gone is = refl
 
-pub others_items : (policy : PolicyView) (slot : ℕ) (switch : Switch) (side : Side) (timed : Timed)
+pub others_items : (policy : PolicyView) (slot : ℕ) (switch : KnownSwitch) (side : Side) (timed : Timed)
     → is_others slot timed.event ≡ true → items_of policy slot switch side timed ≡ []
 others_items policy slot switch side timed is =
     either_none (is_slot policy slot) (phase_items policy slot switch side timed switch.phase) (others_in policy slot switch side timed switch.phase is)
@@ -124,7 +124,7 @@ slices_unnumbered Gone event moment side is = refl
 -- ---- histories
 
 -- one event more of the switch or of the slice itself
-keeps : (policy : PolicyView) (slot : ℕ) (g h : List Timed) (timed : Timed) → AreSame policy slot g h → AreSame policy slot (timed ∷ g) (timed ∷ h)
+keeps : (policy : PolicyView) (slot : ℕ) (g h : List Timed) (timed : Timed) → IsServedTheSame policy slot g h → IsServedTheSame policy slot (timed ∷ g) (timed ∷ h)
 keeps policy slot g h timed same = record {
   switch = ap (λ switch. switch_after switch timed.event) same.switch;
   side = ap₂ (λ switch side. with_shown switch.phase timed (items_of policy slot switch side timed) side) same.switch same.side;
@@ -132,7 +132,7 @@ keeps policy slot g h timed same = record {
 }
 
 -- one event more of another slice
-skips : (policy : PolicyView) (slot : ℕ) (g h : List Timed) (timed : Timed) → is_others slot timed.event ≡ true → AreSame policy slot g h → AreSame policy slot g (timed ∷ h)
+skips : (policy : PolicyView) (slot : ℕ) (g h : List Timed) (timed : Timed) → is_others slot timed.event ≡ true → IsServedTheSame policy slot g h → IsServedTheSame policy slot g (timed ∷ h)
 skips policy slot g h timed is same =
     let none = others_items policy slot (switch_of h) (side_of policy slot h) timed is in
     let unsent : sent_by policy slot h timed ≡ [] = ap (λ items. sent_for (settings_at policy slot (opening_of h)) (view_of policy slot h) items) none in
@@ -143,7 +143,7 @@ skips policy slot g h timed is same =
     }
 
 one_more : (policy : PolicyView) (slot : ℕ) (h : List Timed) (timed : Timed) (b : Bool) → is_others slot timed.event ≡ b
-    → IsErasable policy slot h → AreSame policy slot (if not b then timed ∷ erased slot h else erased slot h) (timed ∷ h)
+    → IsErasable policy slot h → IsServedTheSame policy slot (if not b then timed ∷ erased slot h else erased slot h) (timed ∷ h)
 one_more policy slot h timed true is same = skips policy slot (erased slot h) h timed is same
 one_more policy slot h timed false is same = keeps policy slot (erased slot h) h timed same
 

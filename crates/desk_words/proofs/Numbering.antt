@@ -16,12 +16,12 @@ use Rattle.flowspace.specs.Policies.{PolicyView}
 use Rattle.slice_words.specs.Items.{Settings, Writer, Reader, Probe, Packet, Item, Opened as Told, Up, Down, Msg, Lost, Handed, Removed, Status, Fault, Barrier, Queues, Entry, Last, End, is_up, is_own_port, is_buffered, buffered_count}
 use Rattle.slice_words.specs.Messages.{is_dismissing}
 use Rattle.slice_words.specs.Pasts.{Answer, view_in}
-use Rattle.slice_words.specs.Buffers.{HeldPacket, packet_header, is_named, is_recent, held_after, held_packets}
+use Rattle.slice_words.specs.Buffers.{HeldPacket, packet_header, is_named, is_recent_packet, held_after, held_packets}
 use Rattle.slice_words.specs.Answers.{answer}
-use Rattle.slice_words.specs.Alone.{number_of, with_items, answer_to}
+use Rattle.slice_words.specs.Alone.{number_it_came_with, with_items, answer_to}
 use Rattle.slice_words.specs.Standing.{past_of}
 use Rattle.slice_words.proofs.Holding.{recent, view_in-played}
-use Rattle.desk_words.specs.Histories.{is_slot, settings_at, header_in, handed, packet_said, packet_in_read, number_given, marked_slot, packet_items, packet_in_items, said_items, message_items, event_items, opening_items, phase_items, number_told, with_shown, side_start, side_of, Numbered, Side, holder, is_given, is_any_given, came_with, numbered_with}
+use Rattle.desk_words.specs.Histories.{is_slot, settings_at, header_in, handed, packet_said, packet_in_read, number_given, marked_slot, packet_items, packet_in_items, said_items, message_items, event_items, opening_items, phase_items, number_told, with_shown, side_start, side_of, Numbered, Side, holder, hands_up_buffered, is_any_given, came_with, numbered_with}
 use Rattle.desk_words.specs.Numbers.{AreNumbered}
 use Rattle.of10_message.specs.declared.fault.Unread.{Unread}
 use Rattle.of10_message.specs.Heads.{xid_of}
@@ -36,7 +36,7 @@ use Rattle.desk_words.specs.declared.event.Event.TheVariants.{SwitchUp, SwitchMs
 use Rattle.desk_words.specs.declared.event.Timed.{Timed}
 use Rattle.desk_words.specs.declared.phase.Phase.{Phase}
 use Rattle.desk_words.specs.declared.phase.Phase.TheVariants.{Fresh, Begun, Opened, Gone}
-use Rattle.desk_words.specs.Openings.{opening_with, rules_of, Switch, switch_of, phase_of}
+use Rattle.desk_words.specs.Openings.{opening_with, rules_of, KnownSwitch, switch_of, phase_of}
 use Rattle.desk_words.proofs.Silence.{none_or, none_of_others}
 
 -- ---- numbers
@@ -48,14 +48,14 @@ holder_other : (number other : ℕ) (ordinal : Option ℕ) (numbered : List Numb
 holder_other number other ordinal numbered apart = rw (ne_eqb other number apart) refl
 
 -- the numbers of earlier packets stay
-pub number_earlier : (number : ℕ) (came : List ℕ) (k : ℕ) → k < length came → number_of (number ∷ came) k ≡ number_of came k
+pub number_earlier : (number : ℕ) (came : List ℕ) (k : ℕ) → k < length came → number_it_came_with (number ∷ came) k ≡ number_it_came_with came k
 number_earlier number came k within =
     get_or-reverse (number ∷ came) k NO_BUFFER (omega (arith, within))
     ∙ ap (λ i. get_or (number ∷ came) i NO_BUFFER) {y = suc (length came - 1 - k)} (omega (arith, within))
     ∙ sym (get_or-reverse came k NO_BUFFER within)
 
 -- the newest packet has the newest number
-pub number_newest : (number : ℕ) (came : List ℕ) → number_of (number ∷ came) (length came) ≡ number
+pub number_newest : (number : ℕ) (came : List ℕ) → number_it_came_with (number ∷ came) (length came) ≡ number
 number_newest number came =
     get_or-reverse (number ∷ came) (length came) NO_BUFFER (omega arith)
     ∙ ap (λ i. get_or (number ∷ came) i NO_BUFFER) {y = 0} (omega arith)
@@ -75,12 +75,12 @@ not_given P true packet newer held none all = absurd (true≢false none)
 not_given P false packet newer held none all = all
 
 -- an item that gives none leaves of those that are held some, and their count
-kept_after : (P : HeldPacket → Type 0) (count : ℕ) (item : Item) (a : Answer) (held : List HeldPacket) → is_given item ≡ false → All P held → All P (held_after count item a held)
+kept_after : (P : HeldPacket → Type 0) (count : ℕ) (item : Item) (a : Answer) (held : List HeldPacket) → hands_up_buffered item ≡ false → All P held → All P (held_after count item a held)
 kept_after P count Up a held none all = All-nil P
 kept_after P count Down a held none all = All-nil P
 kept_after P count (Msg message moment) a held none all = kept_filter P (is_dismissing message) (λ packet. not (is_named packet.ordinal a.to_switch)) held all
 kept_after P count (Lost k) a held none all = All-filter (λ packet. not (packet.ordinal == k)) P held all
-kept_after P count (Handed packet) a held none all = not_given P (is_buffered packet.share) (record { ordinal = count; header = packet_header packet }) (filter (is_recent (count + 1)) held) held none all
+kept_after P count (Handed packet) a held none all = not_given P (is_buffered packet.share) (record { ordinal = count; header = packet_header packet }) (filter (is_recent_packet (count + 1)) held) held none all
 kept_after P count (Told features) a held none all = all
 kept_after P count (Removed entry) a held none all = all
 kept_after P count (Status status) a held none all = all
@@ -91,7 +91,7 @@ kept_after P count (Entry x kind bytes) a held none all = all
 kept_after P count (Last x kind) a held none all = all
 kept_after P count End a held none all = all
 
-same_count : (item : Item) (view : List Item) → is_given item ≡ false → buffered_count (item ∷ view) ≡ buffered_count view
+same_count : (item : Item) (view : List Item) → hands_up_buffered item ≡ false → buffered_count (item ∷ view) ≡ buffered_count view
 same_count (Handed packet) view none = rw none refl
 same_count Up view none = refl
 same_count Down view none = refl
@@ -110,13 +110,13 @@ same_count End view none = refl
 pub same_count_all : (items view : List Item) → is_any_given items ≡ false → buffered_count (with_items items view) ≡ buffered_count view
 same_count_all [] view none = refl
 same_count_all (item ∷ items) view none =
-    let parts = or_parts (is_given item) (is_any_given items) none in
+    let parts = or_parts (hands_up_buffered item) (is_any_given items) none in
     same_count_all items (item ∷ view) parts.1 ∙ same_count item view parts.0
 
 pub kept_all : (P : HeldPacket → Type 0) (s : Settings) (items view : List Item) → is_any_given items ≡ false → All P (held_in s view) → All P (held_in s (with_items items view))
 kept_all P s [] view none all = all
 kept_all P s (item ∷ items) view none all =
-    let parts = or_parts (is_given item) (is_any_given items) none in
+    let parts = or_parts (hands_up_buffered item) (is_any_given items) none in
     kept_all P s items (item ∷ view) parts.1
     (kept_after P (buffered_count (view_in (past_of s view))) item (answer_to s view item) (held_in s view) parts.0 all)
 
@@ -126,7 +126,7 @@ pub still_numbered : (s : Settings) (side : Side) (items : List Item) → is_any
     → AreNumbered s (record { sight = record { view = with_items items side.sight.view; came = side.sight.came }; numbered = side.numbered })
 still_numbered s side items none n = record {
   count = n.count ∙ sym (same_count_all items side.sight.view none);
-  held = kept_all (λ packet. holder (number_of side.sight.came packet.ordinal) side.numbered ≡ Some packet.ordinal) s items side.sight.view none n.held;
+  held = kept_all (λ packet. holder (number_it_came_with side.sight.came packet.ordinal) side.numbered ≡ Some packet.ordinal) s items side.sight.view none n.held;
   given = n.given;
   came = n.came;
 }
@@ -139,11 +139,11 @@ lost_of lost = elim lost [ None ↦ [] | Some k ↦ Lost k ∷ [] ]
 
 -- a packet's number is another one
 abbrev IsOther : ℕ → List ℕ → HeldPacket → Type 0
-IsOther number came packet = number_of came packet.ordinal ≢ number
+IsOther number came packet = number_it_came_with came packet.ordinal ≢ number
 
 lost_other : (number : ℕ) (came : List ℕ) (numbered : List Numbered) (held : List HeldPacket) (lost : Option ℕ) → holder number numbered ≡ lost
-    → All (λ packet. holder (number_of came packet.ordinal) numbered ≡ Some packet.ordinal) held
-    → (packet : HeldPacket) → holder (number_of came packet.ordinal) numbered ≡ Some packet.ordinal → number_of came packet.ordinal ≡ number → lost ≡ Some packet.ordinal
+    → All (λ packet. holder (number_it_came_with came packet.ordinal) numbered ≡ Some packet.ordinal) held
+    → (packet : HeldPacket) → holder (number_it_came_with came packet.ordinal) numbered ≡ Some packet.ordinal → number_it_came_with came packet.ordinal ≡ number → lost ≡ Some packet.ordinal
 lost_other number came numbered held lost is all packet at same = sym is ∙ ap (λ n. holder n numbered) (sym same) ∙ at
 
 -- after what is lost no packet that is held has the number
@@ -154,7 +154,7 @@ apart_after s side number None is n =
 apart_after s side number (Some j) is n =
     λ k d within. λ same.
     let stays = filter (λ packet. not (packet.ordinal == j)) (held_in s side.sight.view) in
-    let P : HeldPacket → Type 0 = λ packet. holder (number_of side.sight.came packet.ordinal) side.numbered ≡ Some packet.ordinal in
+    let P : HeldPacket → Type 0 = λ packet. holder (number_it_came_with side.sight.came packet.ordinal) side.numbered ≡ Some packet.ordinal in
     let at = All-filter (λ packet. not (packet.ordinal == j)) P (held_in s side.sight.view) n.held k d within in
     let passes = filter_passes (λ packet. not (packet.ordinal == j)) (held_in s side.sight.view) k d within in
     let found = lost_other number side.sight.came side.numbered (held_in s side.sight.view) (Some j) is n.held (get_or stays k d) at same in
@@ -169,12 +169,12 @@ pub data IsShown (items : List Item) : Type 0 where
 
 -- one packet-in with a number after which none is given: the number names no packet of the slice any more
 number_taken : (s : Settings) (side : Side) (number : ℕ) (view : List Item) → length side.sight.came ≡ buffered_count view
-    → All (λ packet. holder (number_of side.sight.came packet.ordinal) side.numbered ≡ Some packet.ordinal) (held_in s view)
+    → All (λ packet. holder (number_it_came_with side.sight.came packet.ordinal) side.numbered ≡ Some packet.ordinal) (held_in s view)
     → All (IsOther number side.sight.came) (held_in s view) → AreNumbered s side
     → AreNumbered s (record { sight = record { view = view; came = side.sight.came }; numbered = record { number = number; ordinal = None } ∷ side.numbered })
 number_taken s side number view count held apart n = record {
   count = count;
-  held = λ k d within. holder_other (number_of side.sight.came (get_or (held_in s view) k d).ordinal) number None side.numbered (λ e. apart k d within (sym e)) ∙ held k d within;
+  held = λ k d within. holder_other (number_it_came_with side.sight.came (get_or (held_in s view) k d).ordinal) number None side.numbered (λ e. apart k d within (sym e)) ∙ held k d within;
   given = λ q ordinal is. n.given q ordinal (earlier q ordinal is);
   came = λ q ordinal is. n.came q ordinal (earlier q ordinal is);
 }
@@ -187,7 +187,7 @@ number_taken s side number view count held apart n = record {
 
 -- one after which the slice's packet has the number
 number_given_to : (s : Settings) (side : Side) (number : ℕ) (view : List Item) → length side.sight.came + 1 ≡ buffered_count view
-    → All (λ packet. (packet.ordinal ≡ length side.sight.came) ⊎ ((packet.ordinal < length side.sight.came) × (holder (number_of side.sight.came packet.ordinal) side.numbered ≡ Some packet.ordinal) × IsOther number side.sight.came packet)) (held_in s view)
+    → All (λ packet. (packet.ordinal ≡ length side.sight.came) ⊎ ((packet.ordinal < length side.sight.came) × (holder (number_it_came_with side.sight.came packet.ordinal) side.numbered ≡ Some packet.ordinal) × IsOther number side.sight.came packet)) (held_in s view)
     → AreNumbered s side
     → AreNumbered s (record { sight = record { view = view; came = number ∷ side.sight.came }; numbered = record { number = number; ordinal = Some (length side.sight.came) } ∷ side.numbered })
 number_given_to s side number view count all n = record {
@@ -200,16 +200,16 @@ number_given_to s side number view count all n = record {
     now : List Numbered
     now = record { number = number; ordinal = Some (length side.sight.came) } ∷ side.numbered
 
-    of_one : (packet : HeldPacket) → (packet.ordinal ≡ length side.sight.came) ⊎ ((packet.ordinal < length side.sight.came) × (holder (number_of side.sight.came packet.ordinal) side.numbered ≡ Some packet.ordinal) × IsOther number side.sight.came packet)
-        → holder (number_of (number ∷ side.sight.came) packet.ordinal) now ≡ Some packet.ordinal
+    of_one : (packet : HeldPacket) → (packet.ordinal ≡ length side.sight.came) ⊎ ((packet.ordinal < length side.sight.came) × (holder (number_it_came_with side.sight.came packet.ordinal) side.numbered ≡ Some packet.ordinal) × IsOther number side.sight.came packet)
+        → holder (number_it_came_with (number ∷ side.sight.came) packet.ordinal) now ≡ Some packet.ordinal
     of_one packet (inl newest) =
-        ap (λ k. holder (number_of (number ∷ side.sight.came) k) now) newest
+        ap (λ k. holder (number_it_came_with (number ∷ side.sight.came) k) now) newest
         ∙ ap (λ q. holder q now) (number_newest number side.sight.came)
         ∙ holder_here number (Some (length side.sight.came)) side.numbered
         ∙ ap (λ k. Some k) (sym newest)
     of_one packet (inr older) =
         ap (λ q. holder q now) (number_earlier number side.sight.came packet.ordinal older.0)
-        ∙ holder_other (number_of side.sight.came packet.ordinal) number (Some (length side.sight.came)) side.numbered (λ e. older.2 (sym e))
+        ∙ holder_other (number_it_came_with side.sight.came packet.ordinal) number (Some (length side.sight.came)) side.numbered (λ e. older.2 (sym e))
         ∙ older.1
 
     given_now : (q ordinal : ℕ) → holder q now ≡ Some ordinal → ordinal < length (number ∷ side.sight.came)
@@ -221,12 +221,12 @@ number_given_to s side number view count all n = record {
       | inr other ↦ let before = n.given q ordinal (rw other.0 at is) in omega (arith, before)
     ]
 
-    came_now : (q ordinal : ℕ) → holder q now ≡ Some ordinal → number_of (number ∷ side.sight.came) ordinal ≡ q
+    came_now : (q ordinal : ℕ) → holder q now ≡ Some ordinal → number_it_came_with (number ∷ side.sight.came) ordinal ≡ q
     came_now q ordinal is = elim (eqb_tells number q) [
       | inl same ↦
           let own : Some (length side.sight.came) ≡ Some ordinal = rw same.0 at is in
           let at_end : length side.sight.came ≡ ordinal = ap (λ (o : Option ℕ). unwrap_or o ordinal) own in
-          ap (λ k. number_of (number ∷ side.sight.came) k) (sym at_end) ∙ number_newest number side.sight.came ∙ same.1
+          ap (λ k. number_it_came_with (number ∷ side.sight.came) k) (sym at_end) ∙ number_newest number side.sight.came ∙ same.1
       | inr other ↦
           let before : holder q side.numbered ≡ Some ordinal = rw other.0 at is in
           number_earlier number side.sight.came ordinal (n.given q ordinal before) ∙ n.came q ordinal before
@@ -259,7 +259,7 @@ shown_with number shown view side = record {
 -- a packet that is held has its number and was given before this one
 abbrev IsEarlier : ℕ → Side → HeldPacket → Type 0
 IsEarlier number side packet =
-    (packet.ordinal < length side.sight.came) × (holder (number_of side.sight.came packet.ordinal) side.numbered ≡ Some packet.ordinal) × IsOther number side.sight.came packet
+    (packet.ordinal < length side.sight.came) × (holder (number_it_came_with side.sight.came packet.ordinal) side.numbered ≡ Some packet.ordinal) × IsOther number side.sight.came packet
 
 abbrev IsOldOrNew : ℕ → Side → HeldPacket → Type 0
 IsOldOrNew number side packet = (packet.ordinal ≡ length side.sight.came) ⊎ IsEarlier number side packet
@@ -271,15 +271,15 @@ given_first s side number view packet true buffered is count all =
     let own = buffered_count (view_in (past_of s view)) in
     let newest : HeldPacket = record { ordinal = own; header = packet_header packet } in
     rw buffered
-    (All-cons (IsOldOrNew number side) newest (filter (is_recent (own + 1)) (held_in s view))
+    (All-cons (IsOldOrNew number side) newest (filter (is_recent_packet (own + 1)) (held_in s view))
     (inl (ap buffered_count (view_in-played (answer s) view) ∙ count))
-    (All-filter (is_recent (own + 1)) (IsOldOrNew number side) (held_in s view) (All-weaker (IsEarlier number side) (IsOldOrNew number side) (λ packet_ early. inr early) (held_in s view) all)))
+    (All-filter (is_recent_packet (own + 1)) (IsOldOrNew number side) (held_in s view) (All-weaker (IsEarlier number side) (IsOldOrNew number side) (λ packet_ early. inr early) (held_in s view) all)))
 
 more_count : (packet : Packet) (view : List Item) → is_buffered packet.share ≡ true → buffered_count (Handed packet ∷ view) ≡ buffered_count view + 1
 more_count packet view buffered = rw buffered refl
 
 earlier_all : (s : Settings) (side : Side) (number : ℕ) (view : List Item) → buffered_count view ≡ length side.sight.came
-    → All (λ packet. holder (number_of side.sight.came packet.ordinal) side.numbered ≡ Some packet.ordinal) (held_in s view) → All (IsOther number side.sight.came) (held_in s view)
+    → All (λ packet. holder (number_it_came_with side.sight.came packet.ordinal) side.numbered ≡ Some packet.ordinal) (held_in s view) → All (IsOther number side.sight.came) (held_in s view)
     → All (IsEarlier number side) (held_in s view)
 earlier_all s side number view count held apart =
     λ k d within.
@@ -288,12 +288,12 @@ earlier_all s side number view count held apart =
     (omega (arith, young.0, counted), held k d within, apart k d within)
 
 step_shown : (s : Settings) (side : Side) (number : ℕ) (view shown : List Item) → buffered_count view ≡ buffered_count side.sight.view
-    → All (λ packet. holder (number_of side.sight.came packet.ordinal) side.numbered ≡ Some packet.ordinal) (held_in s view) → All (IsOther number side.sight.came) (held_in s view)
+    → All (λ packet. holder (number_it_came_with side.sight.came packet.ordinal) side.numbered ≡ Some packet.ordinal) (held_in s view) → All (IsOther number side.sight.came) (held_in s view)
     → AreNumbered s side → IsShown shown → AreNumbered s (shown_with number shown view side)
 step_shown s side number view shown count held apart n (NoneGiven none) =
     rw none
     (number_taken s side number (with_items shown view) (n.count ∙ sym count ∙ sym (same_count_all shown view none))
-    (kept_all (λ packet. holder (number_of side.sight.came packet.ordinal) side.numbered ≡ Some packet.ordinal) s shown view none held)
+    (kept_all (λ packet. holder (number_it_came_with side.sight.came packet.ordinal) side.numbered ≡ Some packet.ordinal) s shown view none held)
     (kept_all (IsOther number side.sight.came) s shown view none apart) n)
 step_shown s side number view shown count held apart n (FirstGiven packet rest is buffered none) =
     let own : buffered_count view ≡ length side.sight.came = count ∙ sym n.count in
@@ -315,7 +315,7 @@ numbered_packet s policy rules slot side packet number None is some n =
     step_shown s side number side.sight.view (packet_items policy rules slot side.sight.view packet) refl n.held (apart_after s side number None is n) n (shape policy rules slot side.sight.view packet some)
 numbered_packet s policy rules slot side packet number (Some j) is some n =
     step_shown s side number (Lost j ∷ side.sight.view) (packet_items policy rules slot side.sight.view packet) refl
-    (kept_all (λ packet_. holder (number_of side.sight.came packet_.ordinal) side.numbered ≡ Some packet_.ordinal) s (Lost j ∷ []) side.sight.view refl n.held)
+    (kept_all (λ packet_. holder (number_it_came_with side.sight.came packet_.ordinal) side.numbered ≡ Some packet_.ordinal) s (Lost j ∷ []) side.sight.view refl n.held)
     (apart_after s side number (Some j) is n) n (shape policy rules slot side.sight.view packet some)
 
 -- the same with what is lost before what is shown
@@ -361,43 +361,43 @@ by_packet : (s : Settings) (policy : PolicyView) (rules : List Rule) (slot : ℕ
 by_packet s policy rules slot side packet n = one_packet s policy rules slot side packet (number_given packet) refl n
 
 -- other messages give no packet
-pub none_given : (policy : PolicyView) (slot : ℕ) (switch : Switch) (side : Side) (xid : ℕ) (said : Result SwitchMessage Unread) → packet_said said ≡ None → is_any_given (said_items policy slot switch side xid said) ≡ false
+pub none_given : (policy : PolicyView) (slot : ℕ) (switch : KnownSwitch) (side : Side) (xid : ℕ) (said : Result SwitchMessage Unread) → packet_said said ≡ None → is_any_given (said_items policy slot switch side xid said) ≡ false
 none_given policy slot switch side xid (Ok (says.PortStatus status)) none =
     let s = settings_at policy slot switch.features in
-    none_or is_given (is_kept status switch.known && is_own_port s (port_number status.port)) (Status status ∷ []) refl
+    none_or hands_up_buffered (is_kept status switch.known && is_own_port s (port_number status.port)) (Status status ∷ []) refl
 none_given policy slot switch side xid said none =
-    none_of_others is_given policy slot switch side xid said (record {
+    none_of_others hands_up_buffered policy slot switch side xid said (record {
       end = refl;
       removed = λ entry. refl;
       fault = λ x class code pair. refl;
       reply = record { barrier = λ x. refl; queues = λ x body. refl; entry = λ x kind bytes. refl; last = λ x kind. refl };
     }) none refl
 
-by_said : (s : Settings) (policy : PolicyView) (slot : ℕ) (switch : Switch) (side : Side) (xid : ℕ) (said : Result SwitchMessage Unread) → AreNumbered s side
+by_said : (s : Settings) (policy : PolicyView) (slot : ℕ) (switch : KnownSwitch) (side : Side) (xid : ℕ) (said : Result SwitchMessage Unread) → AreNumbered s side
     → AreNumbered s (after_items (option_and_then number_given (packet_said said)) (said_items policy slot switch side xid said) side)
 by_said s policy slot switch side xid (Ok (says.PacketIn packet)) n = by_packet s policy (rules_of policy switch.features) slot side packet n
 by_said s policy slot switch side xid said n = still_numbered s side (said_items policy slot switch side xid said) (none_given policy slot switch side xid said refl) n
 
-by_message : (s : Settings) (policy : PolicyView) (slot : ℕ) (switch : Switch) (side : Side) (message : List ℕ) → AreNumbered s side
+by_message : (s : Settings) (policy : PolicyView) (slot : ℕ) (switch : KnownSwitch) (side : Side) (message : List ℕ) → AreNumbered s side
     → AreNumbered s (after_items (option_and_then number_given (packet_in_read message)) (message_items policy slot switch side message) side)
 unfolding message_items
 by_message s policy slot switch side message n = by_said s policy slot switch side (xid_of message) (read_switch message) n
 
-by_event : (s : Settings) (policy : PolicyView) (slot moment : ℕ) (switch : Switch) (side : Side) (event : Event) → AreNumbered s side
+by_event : (s : Settings) (policy : PolicyView) (slot moment : ℕ) (switch : KnownSwitch) (side : Side) (event : Event) → AreNumbered s side
     → AreNumbered s (after_items (number_told Opened event) (event_items policy slot switch side moment event) side)
 by_event s policy slot moment switch side SwitchUp n = n
 by_event s policy slot moment switch side (SwitchMsg message) n = by_message s policy slot switch side message n
 by_event s policy slot moment switch side SwitchDown n = still_numbered s side (End ∷ []) refl n
-by_event s policy slot moment switch side (SliceUp other) n = still_numbered s side (if other == slot then Up ∷ [] else []) (none_or is_given (other == slot) (Up ∷ []) refl) n
+by_event s policy slot moment switch side (SliceUp other) n = still_numbered s side (if other == slot then Up ∷ [] else []) (none_or hands_up_buffered (other == slot) (Up ∷ []) refl) n
 by_event s policy slot moment switch side (SliceMsg other message) n =
-    still_numbered s side (if other == slot && is_up side.sight.view then Msg message moment ∷ [] else []) (none_or is_given (other == slot && is_up side.sight.view) (Msg message moment ∷ []) refl) n
-by_event s policy slot moment switch side (SliceDown other) n = still_numbered s side (if other == slot then Down ∷ [] else []) (none_or is_given (other == slot) (Down ∷ []) refl) n
+    still_numbered s side (if other == slot && is_up side.sight.view then Msg message moment ∷ [] else []) (none_or hands_up_buffered (other == slot && is_up side.sight.view) (Msg message moment ∷ []) refl) n
+by_event s policy slot moment switch side (SliceDown other) n = still_numbered s side (if other == slot then Down ∷ [] else []) (none_or hands_up_buffered (other == slot) (Down ∷ []) refl) n
 
 by_opening : (s : Settings) (policy : PolicyView) (slot : ℕ) (side : Side) (told : Option Features) → AreNumbered s side → AreNumbered s (after_items None (opening_items policy slot told) side)
 by_opening s policy slot side None n = n
 by_opening s policy slot side (Some features) n = still_numbered s side (opening_items policy slot (Some features)) refl n
 
-by_phase : (s : Settings) (policy : PolicyView) (slot : ℕ) (switch : Switch) (side : Side) (timed : Timed) (phase : Phase) → AreNumbered s side
+by_phase : (s : Settings) (policy : PolicyView) (slot : ℕ) (switch : KnownSwitch) (side : Side) (timed : Timed) (phase : Phase) → AreNumbered s side
     → AreNumbered s (with_shown phase timed (phase_items policy slot switch side timed phase) side)
 by_phase s policy slot switch side timed Fresh n = n
 by_phase s policy slot switch side timed Begun n = by_opening s policy slot side (opening_with Begun timed.event) n
@@ -407,7 +407,7 @@ by_phase s policy slot switch side timed Gone n = n
 -- ---- histories
 
 at_start : (s : Settings) → AreNumbered s side_start
-at_start s = record { count = refl; held = All-nil (λ (packet : HeldPacket). holder (number_of [] packet.ordinal) [] ≡ Some packet.ordinal); given = λ number ordinal is. absurd (none-some ordinal is); came = λ number ordinal is. absurd (none-some ordinal is) }
+at_start s = record { count = refl; held = All-nil (λ (packet : HeldPacket). holder (number_it_came_with [] packet.ordinal) [] ≡ Some packet.ordinal); given = λ number ordinal is. absurd (none-some ordinal is); came = λ number ordinal is. absurd (none-some ordinal is) }
 
 -- whatever the settings are
 pub numbered : (policy : PolicyView) (slot : ℕ) (s : Settings) (h : List Timed) → is_slot policy slot ≡ true → AreNumbered s (side_of policy slot h)

@@ -35,7 +35,7 @@ use Rattle.desk_words.specs.declared.event.Event.TheVariants.{SwitchUp, SwitchMs
 use Rattle.desk_words.specs.declared.event.Timed.{Timed}
 use Rattle.desk_words.specs.declared.phase.Phase.{Phase}
 use Rattle.desk_words.specs.declared.phase.Phase.TheVariants.{Fresh, Begun, Opened, Gone}
-use Rattle.desk_words.specs.Openings.{opening_with, rules_of, Switch, switch_of, phase_of}
+use Rattle.desk_words.specs.Openings.{opening_with, rules_of, KnownSwitch, switch_of, phase_of}
 
 -- ---- slices of a policy
 
@@ -174,7 +174,7 @@ abbrev pub statistics_items : Settings → ℕ → StatsPart → List ℕ → Li
 statistics_items s xid part body = if is_reply_to s xid && is_part part.kind body then part_items s (xid % 2 ^ 24) part body else []
 
 -- a message under a transaction id, by what was read of it: one of a bad length ends the switch's connection (this proxy's own rule), and what can't be read otherwise, or says nothing to a slice, shows nothing
-abbrev pub said_items : PolicyView → ℕ → Switch → Side → ℕ → Result SwitchMessage Unread → List Item
+abbrev pub said_items : PolicyView → ℕ → KnownSwitch → Side → ℕ → Result SwitchMessage Unread → List Item
 said_items policy slot switch side xid (Err BadLength) = End ∷ []
 said_items policy slot switch side xid (Ok (says.PacketIn packet)) = packet_in_items policy (rules_of policy switch.features) slot side packet
 said_items policy slot switch side xid (Ok (says.FlowRemoved entry)) = removed_items (settings_at policy slot switch.features) entry
@@ -186,7 +186,7 @@ said_items policy slot switch side xid (Ok (says.StatsReply part body)) = statis
 said_items policy slot switch side xid said = []
 
 -- a message of the switch that came after it told what it is
-unfoldable pub message_items : PolicyView → ℕ → Switch → Side → List ℕ → List Item
+unfoldable pub message_items : PolicyView → ℕ → KnownSwitch → Side → List ℕ → List Item
 message_items policy slot switch side message = said_items policy slot switch side (xid_of message) (read_switch message)
 
 -- the opening shows the slice the features of the switch
@@ -195,7 +195,7 @@ opening_items policy slot None = []
 opening_items policy slot (Some features) = items.Opened (own_features (settings_at policy slot (Some features)) features) ∷ []
 
 -- an event after the opening shows a slice what concerns it: its own connection and messages, while it is up, and what the switch says of it
-abbrev pub event_items : PolicyView → ℕ → Switch → Side → ℕ → Event → List Item
+abbrev pub event_items : PolicyView → ℕ → KnownSwitch → Side → ℕ → Event → List Item
 event_items policy slot switch side moment SwitchUp = []
 event_items policy slot switch side moment (SwitchMsg message) = message_items policy slot switch side message
 event_items policy slot switch side moment SwitchDown = End ∷ []
@@ -204,14 +204,14 @@ event_items policy slot switch side moment (SliceMsg other message) = if other =
 event_items policy slot switch side moment (SliceDown other) = if other == slot then Down ∷ [] else []
 
 -- the opening is the first event that shows anything, and the end the last
-abbrev pub phase_items : PolicyView → ℕ → Switch → Side → Timed → Phase → List Item
+abbrev pub phase_items : PolicyView → ℕ → KnownSwitch → Side → Timed → Phase → List Item
 phase_items policy slot switch side timed Fresh = []
 phase_items policy slot switch side timed Begun = opening_items policy slot (opening_with Begun timed.event)
 phase_items policy slot switch side timed Opened = event_items policy slot switch side timed.moment timed.event
 phase_items policy slot switch side timed Gone = []
 
 -- what an event shows the slice at a slot of the policy, after what is known of the switch and what the slice sees, the oldest first
-abbrev pub items_of : PolicyView → ℕ → Switch → Side → Timed → List Item
+abbrev pub items_of : PolicyView → ℕ → KnownSwitch → Side → Timed → List Item
 items_of policy slot switch side timed = if is_slot policy slot then phase_items policy slot switch side timed switch.phase else []
 
 -- ---- what a history shows a slice
@@ -222,13 +222,13 @@ number_told Opened (SwitchMsg message) = option_and_then number_given (packet_in
 number_told phase event = None
 
 -- an item hands up a packet that the slice may use by number
-abbrev pub is_given : Item → Bool
-is_given (Handed packet) = is_buffered packet.share
-is_given item = false
+abbrev pub hands_up_buffered : Item → Bool
+hands_up_buffered (Handed packet) = is_buffered packet.share
+hands_up_buffered item = false
 
 -- one of these does
 abbrev pub is_any_given : List Item → Bool
-is_any_given items = list_any is_given items
+is_any_given items = list_any hands_up_buffered items
 
 -- the numbers of a slice's packets with these items, one of which came under a number, if one is given here
 abbrev pub came_with : Option ℕ → List Item → List ℕ → List ℕ

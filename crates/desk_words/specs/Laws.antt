@@ -89,14 +89,14 @@ abbrev pub erased : ℕ → List Timed → List Timed
 erased slot h = filter (λ timed. not (is_others slot timed.event)) h
 
 -- of two histories the slice at a slot sees the same and is sent the same
-pub record AreSame (policy : PolicyView) (slot : ℕ) (g h : List Timed) : Type 0 where
+pub record IsServedTheSame (policy : PolicyView) (slot : ℕ) (g h : List Timed) : Type 0 where
   pub switch : switch_of g ≡ switch_of h
   pub side : side_of policy slot g ≡ side_of policy slot h
   pub sends : sent policy slot g ≡ sent policy slot h
 
 -- nothing that other slices do changes what a slice sees or is sent
 abbrev pub IsErasable : PolicyView → ℕ → List Timed → Type 0
-IsErasable policy slot h = AreSame policy slot (erased slot h) h
+IsErasable policy slot h = IsServedTheSame policy slot (erased slot h) h
 
 -- ---- before the opening, and while a slice is down
 

@@ -113,13 +113,13 @@ status_kept known message = kept_beside known (status_told message)
 -- ---- all that is known of a switch
 
 -- how far its connection is, what it told of itself first, and its ports
-pub record Switch : Type 0 where
+pub record KnownSwitch : Type 0 where
   pub phase : Phase
   pub features : Option Features
   pub known : List (List ℕ)
 
 -- each of these after an event
-abbrev pub switch_after : Switch → Event → Switch
+abbrev pub switch_after : KnownSwitch → Event → KnownSwitch
 switch_after switch event = record {
   phase = phase_after switch.phase event;
   features = opening_after switch.phase switch.features event;
@@ -127,5 +127,5 @@ switch_after switch event = record {
 }
 
 -- what a history says of the switch
-abbrev pub switch_of : List Timed → Switch
+abbrev pub switch_of : List Timed → KnownSwitch
 switch_of h = record { phase = phase_of h; features = opening_of h; known = ports_after h }

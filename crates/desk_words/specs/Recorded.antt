@@ -110,8 +110,8 @@ all_happened policy records = flat_map (λ one. happened_in policy (reverse (tak
 -- ---- the records of a file
 
 -- the bytes that an item of a file carries
-abbrev pub carried : List ℕ → Item → List ℕ
-carried file item = take item.size (drop item.from file)
+abbrev pub bytes_carried : List ℕ → Item → List ℕ
+bytes_carried file item = take item.size (drop item.from file)
 
 -- what an item that carries these bytes tells
 abbrev pub told_by : Item → List ℕ → Told
@@ -119,4 +119,4 @@ told_by item bytes = record { kind = item.kind; switch = item.switch; slot = ite
 
 -- what the items of a file tell
 abbrev pub told_in : List ℕ → List Item → List Told
-told_in file items = map (λ item. told_by item (carried file item)) items
+told_in file items = map (λ item. told_by item (bytes_carried file item)) items

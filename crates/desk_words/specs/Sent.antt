@@ -18,13 +18,13 @@ use Rattle.desk_words.specs.declared.event.Event.TheVariants.{SwitchUp, SwitchMs
 use Rattle.desk_words.specs.declared.event.Timed.{Timed}
 use Rattle.desk_words.specs.declared.phase.Phase.{Phase}
 use Rattle.desk_words.specs.declared.phase.Phase.TheVariants.{Begun, Opened, Gone}
-use Rattle.desk_words.specs.Openings.{features_told, Switch, switch_of, phase_of}
+use Rattle.desk_words.specs.Openings.{features_told, KnownSwitch, switch_of, phase_of}
 use Rattle.desk_words.specs.Histories.{settings_at, items_of, Side, side_of}
 
 -- ---- to the slices
 
 -- what the slice at a slot is sent at an event, after what is known of the switch and what the slice sees
-abbrev pub sent_with : PolicyView → ℕ → Switch → Side → Timed → List (List ℕ)
+abbrev pub sent_with : PolicyView → ℕ → KnownSwitch → Side → Timed → List (List ℕ)
 sent_with policy slot switch side timed = sent_for (settings_at policy slot switch.features) side.sight.view (items_of policy slot switch side timed)
 
 -- what it is sent at an event after a history
@@ -82,7 +82,7 @@ begun_lane message = elim (features_told message) [ None ↦ echo_for message | 
 -- ---- to the switch: messages of slices
 
 -- what the slice at a slot has sent to the switch at an event, after what is known of the switch and what the slice sees
-abbrev pub put_with : PolicyView → ℕ → Switch → Side → Timed → List (List ℕ)
+abbrev pub put_with : PolicyView → ℕ → KnownSwitch → Side → Timed → List (List ℕ)
 put_with policy slot switch side timed =
     map (rendered side.sight.came) (put_for (settings_at policy slot switch.features) side.sight.view (items_of policy slot switch side timed))
 

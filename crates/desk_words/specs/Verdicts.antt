@@ -43,11 +43,11 @@ is_down (SliceDown slot) = true
 is_down event = false
 
 -- the event's slot is one of the policy; events of the switch have none
-abbrev pub has_slot : PolicyView → Event → Bool
-has_slot policy (SliceUp slot) = is_slot policy slot
-has_slot policy (SliceMsg slot message) = is_slot policy slot
-has_slot policy (SliceDown slot) = is_slot policy slot
-has_slot policy event = true
+abbrev pub is_of_policy : PolicyView → Event → Bool
+is_of_policy policy (SliceUp slot) = is_slot policy slot
+is_of_policy policy (SliceMsg slot message) = is_slot policy slot
+is_of_policy policy (SliceDown slot) = is_slot policy slot
+is_of_policy policy event = true
 
 -- the connection that an event came from is up, where those of the slices are so and the switch's is in a phase
 abbrev pub is_connected : (ℕ → Bool) → Phase → Event → Bool
@@ -59,7 +59,7 @@ is_connected slice_up phase event = not (is_ended phase)
 -- an event closes its connection: the switch hasn't connected before and this isn't that, it has no such slot, or it is no down and its connection isn't up after it
 abbrev pub is_closing : PolicyView → Phase → (ℕ → Bool) → Phase → Event → Bool
 is_closing policy before slice_up after event =
-    (is_fresh before && not (is_switch_up event)) || not (has_slot policy event) || (not (is_down event) && not (is_connected slice_up after event))
+    (is_fresh before && not (is_switch_up event)) || not (is_of_policy policy event) || (not (is_down event) && not (is_connected slice_up after event))
 
 -- the same of an event after a history
 abbrev pub closes : PolicyView → List Timed → Timed → Bool

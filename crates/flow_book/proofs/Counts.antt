@@ -18,7 +18,7 @@ use Rattle.of10_model.specs.Inclusion.{includes_of}
 use Rattle.of10_model.specs.Meet.{is_disjoint}
 use Rattle.flowspace.proofs.Ranking.{filter-both}
 use Rattle.flow_book.specs.declared.booked.Booked.{Booked}
-use Rattle.flow_book.specs.Order.{IsInOrder}
+use Rattle.flow_book.specs.Order.{ArePairsInOrder}
 use Rattle.flow_book.specs.Books.{BookCall, Book, BookStands, is_pair, is_newcomer, newcomers_in, fits_in, overlaps_in, book, booking, HaveSame}
 use Rattle.of10_model.specs.Same.{is_same}
 use Rattle.of10_model.proofs.Same.{one-is_same, is_same-one}
@@ -141,7 +141,7 @@ found test (x ∷ xs) h = elim (cases_Bool (test x)) [
 ]
 
 -- in a book in order a pair is found once, so lists with the same pairs find the same
-pub find_same : (xs ys : List Booked) → HaveSame xs ys → IsInOrder ys → (m : Pattern) (p : ℕ) → find (is_pair m p) xs ≡ find (is_pair m p) ys
+pub find_same : (xs ys : List Booked) → HaveSame xs ys → ArePairsInOrder ys → (m : Pattern) (p : ℕ) → find (is_pair m p) xs ≡ find (is_pair m p) ys
 find_same xs ys same o m p = elim (cases_Bool (list_any (is_pair m p) ys)) [
   | inr none ↦ find_no (is_pair m p) xs (any_alike (is_pair m p) xs ys (same (is_pair m p)) ∙ none) ∙ sym (find_no (is_pair m p) ys none)
   | inl some ↦
@@ -167,5 +167,5 @@ find_same xs ys same o m p = elim (cases_Bool (list_any (is_pair m p) ys)) [
 ]
 
 -- so a book in order keeps of a pair what its calls say
-pub booking_kept : (calls : List BookCall) (kept : Book) → BookStands calls kept → IsInOrder kept.booked → (m : Pattern) (p : ℕ) → find (is_pair m p) kept.booked ≡ booking m p calls
+pub booking_kept : (calls : List BookCall) (kept : Book) → BookStands calls kept → ArePairsInOrder kept.booked → (m : Pattern) (p : ℕ) → find (is_pair m p) kept.booked ≡ booking m p calls
 booking_kept calls kept s o m p = sym (find_same (book calls) kept.booked s.same o m p)

@@ -16,17 +16,17 @@ use Rattle.of10_model.specs.declared.pattern.Pattern.{Pattern}
 use Rattle.of10_model.specs.Normal.{IsNormal}
 use Rattle.of10_model.specs.Spelling.{Spell}
 use Rattle.flow_book.specs.declared.booked.Booked.{Booked}
-use Rattle.flow_book.specs.Order.{stands_to, order, IsInOrder, IsAt, IsGapFor}
+use Rattle.flow_book.specs.Order.{stands_to, order, ArePairsInOrder, IsPairAt, IsGapFor}
 use Rattle.flow_book.specs.Books.{is_pair, is_booked, without}
 use Rattle.flow_book.specs.Adding.{with_asked}
 use Rattle.flow_book.proofs.Order.{key_of, key_cmp_total}
 use Rattle.flow_book.proofs.SamePairs.{pair-Equal, Equal-pair, other-Less, other-Greater}
 
 -- the element at a place has the pair
-pub pair_at : (xs : List Booked) (m : Pattern) (p i : ℕ) → IsInOrder xs → IsNormal m → IsAt xs m p i → (d : Booked) → is_pair m p (get_or xs i d) ≡ true
+pub pair_at : (xs : List Booked) (m : Pattern) (p i : ℕ) → ArePairsInOrder xs → IsNormal m → IsPairAt xs m p i → (d : Booked) → is_pair m p (get_or xs i d) ≡ true
 pair_at xs m p i h nm at d = pair-Equal m p (get_or xs i d) nm (h.normal i d at.in_range) (at.has_pair d)
 
-pub is_booked-at : (xs : List Booked) (m : Pattern) (p i : ℕ) → IsInOrder xs → IsNormal m → IsAt xs m p i → is_booked m p xs ≡ true
+pub is_booked-at : (xs : List Booked) (m : Pattern) (p i : ℕ) → ArePairsInOrder xs → IsNormal m → IsPairAt xs m p i → is_booked m p xs ≡ true
 is_booked-at [] m p i h nm at = absurd (omega (arith, at.in_range))
 is_booked-at (x ∷ xs) m p i h nm at = list_any_at (is_pair m p) (x ∷ xs) i x at.in_range (pair_at (x ∷ xs) m p i h nm at x)
 
@@ -40,7 +40,7 @@ none_beside xs m p i gap k d lt = elim (cases_lt k i) [
 pub is_booked-gap : (xs : List Booked) (m : Pattern) (p i : ℕ) → IsGapFor xs m p i → is_booked m p xs ≡ false
 is_booked-gap xs m p i gap = list_any_none (is_pair m p) xs (none_beside xs m p i gap)
 
-pub is_booked-place : (xs : List Booked) (m : Pattern) (p : ℕ) (r : Result ℕ ℕ) → IsInOrder xs → IsNormal m → IfOk r (IsAt xs m p) → IfErr r (IsGapFor xs m p) → is_ok r ≡ is_booked m p xs
+pub is_booked-place : (xs : List Booked) (m : Pattern) (p : ℕ) (r : Result ℕ ℕ) → ArePairsInOrder xs → IsNormal m → IfOk r (IsPairAt xs m p) → IfErr r (IsGapFor xs m p) → is_ok r ≡ is_booked m p xs
 is_booked-place xs m p (Ok i) h nm at gap = sym (is_booked-at xs m p i h nm at)
 is_booked-place xs m p (Err i) h nm at gap = sym (is_booked-gap xs m p i gap)
 
@@ -74,7 +74,7 @@ pub record PassesAt {X : Type 0} (test : X → Bool) (xs : List X) (i : ℕ) : T
   pub here : (d : X) → test (get_or xs i d) ≡ true
   pub elsewhere : (k : ℕ) (d : X) → k < length xs → k ≢ i → test (get_or xs k d) ≡ false
 
-PassesAt-pair : (xs : List Booked) (m : Pattern) (p i : ℕ) → IsInOrder xs → IsNormal m → IsAt xs m p i → PassesAt (is_pair m p) xs i
+PassesAt-pair : (xs : List Booked) (m : Pattern) (p i : ℕ) → ArePairsInOrder xs → IsNormal m → IsPairAt xs m p i → PassesAt (is_pair m p) xs i
 PassesAt-pair xs m p i h nm at = record {
   in_range = at.in_range;
   here = pair_at xs m p i h nm at;
@@ -120,19 +120,19 @@ module _ {X : Type 0} (test : X → Bool) where
 
 -- ---- what is read and written at the place of a pair
 
-pub find_pair-at : (xs : List Booked) (m : Pattern) (p i : ℕ) (x : Booked) → IsInOrder xs → IsNormal m → IsAt xs m p i → x ≡ get_or xs i x → find (is_pair m p) xs ≡ Some x
+pub find_pair-at : (xs : List Booked) (m : Pattern) (p i : ℕ) (x : Booked) → ArePairsInOrder xs → IsNormal m → IsPairAt xs m p i → x ≡ get_or xs i x → find (is_pair m p) xs ≡ Some x
 find_pair-at xs m p i x h nm at is = find_one (is_pair m p) xs i x is (PassesAt-pair xs m p i h nm at)
 
 pub find_pair-gap : (xs : List Booked) (m : Pattern) (p i : ℕ) → IsGapFor xs m p i → find (is_pair m p) xs ≡ None
 find_pair-gap xs m p i gap = find_none (is_pair m p) xs (none_beside xs m p i gap)
 
-pub remove_pair : (xs : List Booked) (m : Pattern) (p i : ℕ) → IsInOrder xs → IsNormal m → IsAt xs m p i → remove xs i ≡ without m p xs
+pub remove_pair : (xs : List Booked) (m : Pattern) (p i : ℕ) → ArePairsInOrder xs → IsNormal m → IsPairAt xs m p i → remove xs i ≡ without m p xs
 remove_pair xs m p i h nm at = remove_one (is_pair m p) xs i (PassesAt-pair xs m p i h nm at)
 
 pub without-gap : (xs : List Booked) (m : Pattern) (p i : ℕ) → IsGapFor xs m p i → without m p xs ≡ xs
 without-gap xs m p i gap = filter_none (is_pair m p) xs (none_beside xs m p i gap)
 
-pub set_pair : (xs : List Booked) (m : Pattern) (p i : ℕ) (asked : Bool) (d : Booked) → IsInOrder xs → IsNormal m → IsAt xs m p i
+pub set_pair : (xs : List Booked) (m : Pattern) (p i : ℕ) (asked : Bool) (d : Booked) → ArePairsInOrder xs → IsNormal m → IsPairAt xs m p i
     → set xs i (record (get_or xs i d) { asked = asked }) ≡ map (with_asked m p asked) xs
 set_pair xs m p i asked d h nm at = set_one (is_pair m p) (λ b. record b { asked = asked }) xs i d (PassesAt-pair xs m p i h nm at)
 
@@ -158,7 +158,7 @@ unfolding IsStrictlySortedBy
 ascending-map f h [] up = tt
 ascending-map f h (x ∷ xs) up = (above-map f h x xs up.0, ascending-map f h xs up.1)
 
-pub IsInOrder-map : (f : Booked → Booked) → KeepsPairs f → (xs : List Booked) → IsInOrder xs → IsInOrder (map f xs)
+pub IsInOrder-map : (f : Booked → Booked) → KeepsPairs f → (xs : List Booked) → ArePairsInOrder xs → ArePairsInOrder (map f xs)
 IsInOrder-map f h xs o = record {
   normal = All-map (λ b. IsNormal b.pattern) f xs (All-weaker (λ b. IsNormal b.pattern) (λ b. IsNormal (f b).pattern) (λ b n. subst IsNormal (sym (h.keeps_pattern b)) n) xs o.normal);
   ascending = ascending-map f h xs o.ascending;
@@ -170,7 +170,7 @@ KeepsPairs-with_asked m p asked = record {
   keeps_priority = λ b. elim (cases_Bool (is_pair m p b)) [ inl same ↦ rw same refl | inr other ↦ rw other refl ];
 }
 
-pub IsInOrder-filter : (test : Booked → Bool) (xs : List Booked) → IsInOrder xs → IsInOrder (filter test xs)
+pub IsInOrder-filter : (test : Booked → Bool) (xs : List Booked) → ArePairsInOrder xs → ArePairsInOrder (filter test xs)
 IsInOrder-filter test xs o = record {
   normal = All-filter test (λ b. IsNormal b.pattern) xs o.normal;
   ascending = IsStrictlySortedBy-filter order test xs o.ascending;
@@ -197,7 +197,7 @@ ascending-insert (x ∷ xs) (suc i) y up gap =
     let above = All-insert (λ b. order x b ≡ Less) xs i y (gap.lower_before zero x (omega arith) (omega arith)) (All-from_recursion (λ b. order x b ≡ Less) xs up.0) in
     (recursion_from_All (λ b. order x b ≡ Less) (insert xs i y) above, ascending-insert xs i y up.1 rest)
 
-pub IsInOrder-insert : (xs : List Booked) (i : ℕ) (y : Booked) → IsInOrder xs → IsNormal y.pattern → IsGapFor xs y.pattern y.priority i → IsInOrder (insert xs i y)
+pub IsInOrder-insert : (xs : List Booked) (i : ℕ) (y : Booked) → ArePairsInOrder xs → IsNormal y.pattern → IsGapFor xs y.pattern y.priority i → ArePairsInOrder (insert xs i y)
 IsInOrder-insert xs i y o n gap = record {
   normal = All-insert (λ b. IsNormal b.pattern) xs i y n o.normal;
   ascending = ascending-insert xs i y o.ascending gap;

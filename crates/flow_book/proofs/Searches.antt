@@ -14,7 +14,7 @@ use Rattle.of10_model.specs.declared.pattern.Pattern.{Pattern}
 use Rattle.of10_model.specs.Meet.{is_disjoint}
 use Rattle.of10_model.specs.Spelling.{Spell}
 use Rattle.flow_book.specs.declared.booked.Booked.{Booked}
-use Rattle.flow_book.specs.Order.{order, IsAt, IsGapFor}
+use Rattle.flow_book.specs.Order.{order, IsPairAt, IsGapFor}
 use Rattle.flow_book.specs.Books.{overlaps_in}
 use Rattle.flow_book.proofs.Order.{key_of, key_cmp_total}
 
@@ -85,7 +85,7 @@ eq-Equal Greater e = cc
 
 -- a search by the spelled match ends at the pair, or at the gap for it
 module _ (xs : List Booked) (pattern : Pattern) (p : ℕ) (spelling : List ℕ) (same : spelling ≡ Spell pattern) (place : ℕ) where
-  pub found_at : (x : Booked) → place < length xs → ((d : Booked) → get_or xs place d ≡ x) → is_eq (stands p spelling x) ≡ true → IsAt xs pattern p place
+  pub found_at : (x : Booked) → place < length xs → ((d : Booked) → get_or xs place d ≡ x) → is_eq (stands p spelling x) ≡ true → IsPairAt xs pattern p place
   found_at x within is equal = record {
     in_range = within;
     has_pair = λ d. subst (λ s. stands p s (get_or xs place d) ≡ Equal) same (ap (stands p spelling) (is d) ∙ eq-Equal (stands p spelling x) equal);

@@ -12,7 +12,7 @@ use Rattle.of10_model.specs.Normal.{IsNormal}
 use Rattle.of10_model.specs.Inclusion.{includes_of}
 use Rattle.of10_model.proofs.Including.{includes-Includes}
 use Rattle.flow_book.specs.declared.booked.Booked.{Booked}
-use Rattle.flow_book.specs.Order.{IsInOrder}
+use Rattle.flow_book.specs.Order.{ArePairsInOrder}
 use Rattle.flow_book.specs.Books.{BookCall, Added, Removed, Failed, is_pair, is_booked, includes_booked, is_newcomer, first_booked, booked_again, is_first, without, book, Book, BookStands, HaveSame}
 use Rattle.flow_book.specs.Adding.{AreNew}
 use Rattle.of10_model.specs.Same.{is_same}
@@ -28,7 +28,7 @@ pub stands-removed : (calls : List BookCall) (xs : List Booked) (after : Book) (
 unfolding book
 stands-removed calls xs after m p same e = record { same = subst (HaveSame (without m p (book calls))) (sym e) (without_same (book calls) xs m p same) }
 
-pub stands-failed : (calls : List BookCall) (xs : List Booked) (after : Book) (number : ℕ) (m : Pattern) (p : ℕ) → HaveSame (book calls) xs → IsInOrder xs
+pub stands-failed : (calls : List BookCall) (xs : List Booked) (after : Book) (number : ℕ) (m : Pattern) (p : ℕ) → HaveSame (book calls) xs → ArePairsInOrder xs
     → after.booked ≡ (if is_first number (find (is_pair m p) xs) then without m p xs else xs) → BookStands (Failed number m p ∷ calls) after
 unfolding book
 stands-failed calls xs after number m p same o e =
@@ -62,7 +62,7 @@ pub booked_again_other : (command : ℕ) (ms : List Pattern) (p : ℕ) (asked : 
 booked_again_other command ms p asked [] other = refl
 booked_again_other command ms p asked (x ∷ xs) other = rw (other, booked_again_other command ms p asked xs other) refl
 
-pub IsInOrder-nil : IsInOrder []
+pub IsInOrder-nil : ArePairsInOrder []
 unfolding IsStrictlySortedBy
 IsInOrder-nil = record { normal = All-nil (λ b. IsNormal b.pattern); ascending = tt }
 

@@ -12,7 +12,7 @@ use Rattle.std.proofs.lemmas.List.Sums.{count_by_more_yes, count_by_more_no, sum
 use Rattle.std.proofs.lemmas.List.Sorted.{IsPermutation-trans, IsPermutation-append_right, list_any-IsPermutation}
 use Rattle.of10_model.specs.declared.pattern.Pattern.{Pattern}
 use Rattle.flow_book.specs.declared.booked.Booked.{Booked}
-use Rattle.flow_book.specs.Order.{IsInOrder}
+use Rattle.flow_book.specs.Order.{ArePairsInOrder}
 use Rattle.flow_book.specs.Books.{is_pair, is_booked, is_newcomer, newcomers_in, first_booked}
 use Rattle.flow_book.specs.Adding.{with_asked, again, AreNew}
 
@@ -79,7 +79,7 @@ module _ (command : ℕ) (ms : List Pattern) (i : ℕ) (m : Pattern) (p : ℕ) (
 -- of these entries some are settled already
 pub record Settling (fresh entries left settled : List Booked) : Type 0 where
   pub moved : IsPermutation (fresh ++ entries) (left ++ settled)
-  pub in_order : IsInOrder settled
+  pub in_order : ArePairsInOrder settled
   pub unbooked : AreNew left settled
 
 AreNew-settled : (left : List Booked) (x : Booked) (settled after : List Booked) → IsPermutation (x ∷ settled) after → AreNew (left ++ x ∷ []) settled → AreNew left after
@@ -96,7 +96,7 @@ AreNew-settled left x settled after moved new = record {
       sym (list_any-IsPermutation (is_pair y.pattern y.priority) (x ∷ settled) after moved) ∙ ap (λ b. b || is_booked y.pattern y.priority settled) other ∙ before;
 }
 
-pub settle_more : (fresh entries left : List Booked) (x : Booked) (before after : List Booked) → Settling fresh entries (left ++ x ∷ []) before → IsPermutation (x ∷ before) after → IsInOrder after → Settling fresh entries left after
+pub settle_more : (fresh entries left : List Booked) (x : Booked) (before after : List Booked) → Settling fresh entries (left ++ x ∷ []) before → IsPermutation (x ∷ before) after → ArePairsInOrder after → Settling fresh entries left after
 settle_more fresh entries left x before after s moved o = record {
   moved = IsPermutation-trans (fresh ++ entries) ((left ++ x ∷ []) ++ before) (left ++ after) s.moved
       (subst (λ l. IsPermutation l (left ++ after)) (sym (append_assoc left (x ∷ []) before)) (IsPermutation-append_right left (x ∷ before) after moved));

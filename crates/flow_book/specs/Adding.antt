@@ -3,7 +3,7 @@ use Rattle.std.specs.Prelude.{ℕ, ◌≡◌, ◌+◌, Bool, false, if◌then◌
 use Rattle.std.specs.List.{list_any}
 use Rattle.of10_model.specs.declared.pattern.Pattern.{Pattern}
 use Rattle.flow_book.specs.declared.booked.Booked.{Booked}
-use Rattle.flow_book.specs.Order.{IsInOrder}
+use Rattle.flow_book.specs.Order.{ArePairsInOrder}
 use Rattle.flow_book.specs.Books.{Book, is_pair, is_booked}
 
 -- the pair of one match and priority asks, or doesn't; others stay
@@ -22,7 +22,7 @@ pub record AreNew (fresh booked : List Booked) : Type 0 where
 -- fresh entries are put to their places among the others, and none is left
 pub record IsSettled {Z : Type 0} (fresh : Vec Booked Z) (before : Book) (left : Vec Booked Z) (after : Book) : Type 0 where
   pub added : IsPermutation (fresh.items ++ before.booked) after.booked
-  pub order : IsInOrder after.booked
+  pub order : ArePairsInOrder after.booked
   pub len : length after.booked ≡ length before.booked + vec_len fresh
   pub room : after.room + vec_len fresh ≡ before.room
   pub empty : left.items ≡ []

@@ -20,12 +20,12 @@ abbrev pub order : Booked → Booked → Ordering
 order a b = stands_to a b.pattern b.priority
 
 -- pairs of normal matches, each below those after it
-pub record IsInOrder (pairs : List Booked) : Type 0 where
+pub record ArePairsInOrder (pairs : List Booked) : Type 0 where
   pub normal : All (λ b. IsNormal b.pattern) pairs
   pub ascending : IsStrictlySortedBy order pairs
 
 -- the pair of this match and priority is at this place
-pub record IsAt (pairs : List Booked) (pattern : Pattern) (priority place : ℕ) : Type 0 where
+pub record IsPairAt (pairs : List Booked) (pattern : Pattern) (priority place : ℕ) : Type 0 where
   pub in_range : place < length pairs
   pub has_pair : HoldsAt (λ b. stands_to b pattern priority ≡ Equal) pairs place
 

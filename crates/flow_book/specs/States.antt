@@ -2,7 +2,7 @@
 use Rattle.std.specs.Prelude.{ℕ, ◌≡◌, false, []}
 use Rattle.flowspace.specs.declared.slices.Slice.{Slice}
 use Rattle.xid_map.specs.Requests.{RequestsStand}
-use Rattle.xid_map.specs.Collections.{CollectionsStand, HasRoom}
+use Rattle.xid_map.specs.Collections.{CollectionsStand, HasRoomToCollect}
 use Rattle.buffer_map.specs.Buffers.{BuffersStand}
 use Rattle.rate_bucket.specs.Rates.{BucketStands}
 use Rattle.flow_book.specs.declared.state.SliceState.{SliceState}
@@ -13,7 +13,7 @@ pub record IsFreshState (slot : ℕ) (of : Slice) (state : SliceState) : Type 0 
   pub xids : RequestsStand slot [] state.xids
   pub issued : state.xids.issued ≡ 0
   pub collections : CollectionsStand [] state.collections
-  pub room : (number bytes : ℕ) → HasRoom number bytes state.collections
+  pub room : (number bytes : ℕ) → HasRoomToCollect number bytes state.collections
   pub buffers : BuffersStand [] state.buffers
   pub given : state.buffers.given ≡ 0
   pub held : state.buffers.held ≡ []

@@ -22,7 +22,7 @@ pub record EachOnce (size : ℕ) (order free : List ℕ) : Type 0 where
   pub beyond : (place : ℕ) → size ≤ place → times place order + times place free ≡ 0
 
 -- an entry was put to a place of a store, which was free or behind all others: what lies at the places in order stays
-pub record IsPut {Z Y : Type 0} (store : Vec Booked Z) (free : Vec ℕ Y) (entry : Booked) (place : ℕ) (after : Vec Booked Z) (left : Vec ℕ Y) : Type 0 where
+pub record IsStored {Z Y : Type 0} (store : Vec Booked Z) (free : Vec ℕ Y) (entry : Booked) (place : ℕ) (after : Vec Booked Z) (left : Vec ℕ Y) : Type 0 where
   pub here : slice_index_or after.items place no_pair ≡ entry
   pub once : (order : List ℕ) → EachOnce (vec_len store) order free.items → EachOnce (vec_len after) (place ∷ order) left.items
   pub kept : (order : List ℕ) → EachOnce (vec_len store) order free.items → at_places after.items order ≡ at_places store.items order

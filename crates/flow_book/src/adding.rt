@@ -2,7 +2,7 @@
 
 ghost use Rattle.std.specs.Prelude.{◌≡◌, ◌+◌, ◌≤◌, ◌<◌, ◌∷◌, ◌^◌, [], false, length, filter, map, All, IsPermutation, vec_len, vec_capacity};
 ghost use Rattle.of10_model.specs.Normal.{IsNormal};
-ghost use Rattle.flow_book.specs.Order.{IsInOrder};
+ghost use Rattle.flow_book.specs.Order.{ArePairsInOrder};
 ghost use Rattle.flow_book.specs.Books.{is_booked, is_newcomer, newcomers_in, first_booked, booked_again};
 ghost use Rattle.flow_book.specs.Adding.{with_asked, again, AreNew, IsSettled};
 
@@ -25,7 +25,7 @@ pub(crate) fn gather(
     number: u64,
     fresh: &mut Vec<Entry>,
 )
-    requires order { IsInOrder entries.now.booked }
+    requires order { ArePairsInOrder entries.now.booked }
     requires empty { fresh.old.items ≡ [] }
     requires room { newcomers_in command pieces.now priority entries.now.booked ≤ vec_capacity fresh.old }
     ensures items { fresh.new.items ≡ map (first_booked priority asked number) (filter (is_newcomer command priority entries.now.booked) pieces.now) }
@@ -48,9 +48,9 @@ pub(crate) fn gather(
 
 /// Books the pair anew where it is booked.
 fn book_pair_again(entries: &mut Entries, piece: &Match, priority: u16, asked: bool)
-    requires { IsInOrder entries.old.booked }
+    requires { ArePairsInOrder entries.old.booked }
     ensures items { entries.new.booked ≡ map (with_asked piece.now priority asked) entries.old.booked }
-    ensures order { IsInOrder entries.new.booked }
+    ensures order { ArePairsInOrder entries.new.booked }
     ensures room { entries.new.room ≡ entries.old.room }
 {
     if let Ok(place) = place_of(entries, piece, priority) {
@@ -59,9 +59,9 @@ fn book_pair_again(entries: &mut Entries, piece: &Match, priority: u16, asked: b
 }
 
 fn book_pieces_again(entries: &mut Entries, pieces: &[Match], priority: u16, asked: bool)
-    requires { IsInOrder entries.old.booked }
+    requires { ArePairsInOrder entries.old.booked }
     ensures items { entries.new.booked ≡ map (again pieces.now priority asked) entries.old.booked }
-    ensures order { IsInOrder entries.new.booked }
+    ensures order { ArePairsInOrder entries.new.booked }
     ensures room { entries.new.room ≡ entries.old.room }
 {
     for piece in pieces {
@@ -77,9 +77,9 @@ pub(crate) fn book_again(
     priority: u16,
     asked: bool,
 )
-    requires { IsInOrder entries.old.booked }
+    requires { ArePairsInOrder entries.old.booked }
     ensures items { entries.new.booked ≡ map (booked_again command pieces.now priority asked) entries.old.booked }
-    ensures order { IsInOrder entries.new.booked }
+    ensures order { ArePairsInOrder entries.new.booked }
     ensures room { entries.new.room ≡ entries.old.room }
 {
     if command == ADD {
@@ -89,12 +89,12 @@ pub(crate) fn book_again(
 
 /// Puts an entry whose pair isn't booked to its place. There is room for it.
 fn settle(entries: &mut Entries, entry: Entry)
-    requires order { IsInOrder entries.old.booked }
+    requires order { ArePairsInOrder entries.old.booked }
     requires few { length entries.old.booked < 2 ^ 32 }
     requires absent { is_booked entry.pattern entry.priority entries.old.booked ≡ false }
     requires room { 0 < entries.old.room }
     ensures added { IsPermutation (entry ∷ entries.old.booked) entries.new.booked }
-    ensures order { IsInOrder entries.new.booked }
+    ensures order { ArePairsInOrder entries.new.booked }
     ensures len { length entries.new.booked ≡ length entries.old.booked + 1 }
     ensures room { entries.new.room + 1 ≡ entries.old.room }
 {
@@ -106,7 +106,7 @@ fn settle(entries: &mut Entries, entry: Entry)
 
 /// Puts entries of pairs that aren't booked to their places. There is room for them.
 pub(crate) fn settle_all(entries: &mut Entries, fresh: &mut Vec<Entry>)
-    requires order { IsInOrder entries.old.booked }
+    requires order { ArePairsInOrder entries.old.booked }
     requires few { length entries.old.booked + vec_len fresh.old < 2 ^ 32 }
     requires unbooked { AreNew fresh.old.items entries.old.booked }
     requires room { vec_len fresh.old ≤ entries.old.room }

@@ -1,5 +1,5 @@
 ghost use Rattle.std.specs.Prelude.{◌≡◌, ◌≢◌, ◌+◌, ◌^◌, ◌<◌, ◌≤◌, List, [], ◌∷◌, length, find, AllPairs, OnOk, OnErr, if◌then◌else◌};
-ghost use Rattle.flow_book.specs.Order.{IsInOrder};
+ghost use Rattle.flow_book.specs.Order.{ArePairsInOrder};
 ghost use Rattle.flow_book.specs.Books.{BookCall, Added, Removed, Failed, is_pair, is_first, without, newcomers_in, fits_in, overlaps_in, book, booking, BookStands};
 
 use crate::adding::{book_again, gather, settle_all};
@@ -25,14 +25,14 @@ pub struct FlowBook {
 
 impl Model for FlowBook {
     ghost use Rattle.std.specs.Prelude.{◌≡◌, ◌^◌, ◌<◌, [], length, min, vec_len, vec_capacity};
-    ghost use Rattle.flow_book.specs.Order.{IsInOrder};
+    ghost use Rattle.flow_book.specs.Order.{ArePairsInOrder};
     ghost use Rattle.flow_book.specs.Books.{Book};
 
     ghost Value = { Book };
 
     ghost view = { λ b. record { booked = b.entries.booked; room = min b.entries.room (vec_capacity b.fresh) } };
 
-    ghost invariant = { λ b. IsInOrder b.entries.booked × (length b.entries.booked < 2 ^ 32) × (b.fresh.items ≡ []) × (vec_len b.fresh ≡ 0) };
+    ghost invariant = { λ b. ArePairsInOrder b.entries.booked × (length b.entries.booked < 2 ^ 32) × (b.fresh.items ≡ []) × (vec_len b.fresh ≡ 0) };
 }
 
 impl FlowBook {
@@ -50,7 +50,7 @@ impl FlowBook {
 
     /// How many pairs are booked. They are in ascending order of priority, then of the 40 bytes of the match.
     pub fn count(&self) -> u32
-        ensures order { IsInOrder self.now.booked }
+        ensures order { ArePairsInOrder self.now.booked }
         ensures answer { (calls : List BookCall) → BookStands calls self.now → result ≡ length (book calls) }
         ensures value { result ≡ length self.now.booked }
     {
@@ -166,7 +166,7 @@ impl FlowBook {
     /// Whether the pair is booked, and the request of the number booked it first.
     fn is_first(&self, number: u64, pattern: &Match, priority: u16) -> bool
         ensures value { result ≡ is_first number (find (is_pair pattern.now priority) self.now.booked) }
-        ensures order { IsInOrder self.now.booked }
+        ensures order { ArePairsInOrder self.now.booked }
     {
         let _ = &self.entries;
         self.booked(pattern, priority)

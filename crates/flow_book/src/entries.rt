@@ -3,7 +3,7 @@
 ghost use Rattle.std.specs.Prelude.{ℕ, List, ◌≡◌, ◌+◌, ◌<◌, ◌≤◌, ◌^◌, [], length, slice_index_or, set, OnOk, OnErr, vec_len, vec_capacity};
 ghost use Rattle.std.specs.List.{insert, remove};
 ghost use Rattle.flow_book.specs.declared.booked.Booked.{Booked as BookedPair};
-ghost use Rattle.flow_book.specs.Store.{EachOnce, IsPut};
+ghost use Rattle.flow_book.specs.Store.{EachOnce, IsStored};
 
 use crate::booked::Booked;
 use crate::entry::Entry;
@@ -39,7 +39,7 @@ fn put(store: &mut Vec<Entry>, free: &mut Vec<u32>, entry: Entry) -> u32
     requires once { (order : List ℕ) × EachOnce (vec_len store.old) order free.old.items }
     requires few { vec_len store.old < 2 ^ 32 + vec_len free.old }
     requires room { vec_len store.old < vec_capacity store.old + vec_len free.old }
-    ensures { IsPut store.old free.old entry result store.new free.new }
+    ensures { IsStored store.old free.old entry result store.new free.new }
 {
     match free.pop() {
         Some(place) => {

@@ -4,7 +4,7 @@ ghost use Rattle.std.specs.Prelude.{◌≡◌, ◌≤◌, not, length};
 ghost use Rattle.std.specs.List.{list_any};
 ghost use Rattle.of10_model.specs.Normal.{IsNormal};
 ghost use Rattle.of10_model.specs.Meet.{is_disjoint};
-ghost use Rattle.flow_book.specs.Order.{IsInOrder};
+ghost use Rattle.flow_book.specs.Order.{ArePairsInOrder};
 ghost use Rattle.flow_book.specs.Books.{is_booked, includes_booked, is_newcomer, newcomers_in, overlaps_in};
 
 use crate::entries::Entries;
@@ -18,7 +18,7 @@ use of10_match::Match;
 const LEAST: [u8; 40] = [0; 40];
 
 pub(crate) fn is_booked(entries: &Entries, pattern: &Match, priority: u16) -> bool
-    requires { IsInOrder entries.now.booked }
+    requires { ArePairsInOrder entries.now.booked }
     ensures value { result ≡ is_booked pattern.now priority entries.now.booked }
     ensures normal { IsNormal pattern.now }
 {
@@ -40,7 +40,7 @@ fn includes_any(entries: &Entries, pattern: &Match) -> bool
 /// Whether the match includes one that is booked, of any priority. The pair itself, if it is booked, is
 /// found by a look-up.
 fn includes_booked(entries: &Entries, pattern: &Match, priority: u16) -> bool
-    requires { IsInOrder entries.now.booked }
+    requires { ArePairsInOrder entries.now.booked }
     ensures { result ≡ includes_booked pattern.now entries.now.booked }
 {
     is_booked(entries, pattern, priority) || includes_any(entries, pattern)
@@ -48,7 +48,7 @@ fn includes_booked(entries: &Entries, pattern: &Match, priority: u16) -> bool
 
 /// Whether a flow-mod with the command books the piece while it isn't booked.
 pub(crate) fn is_newcomer(entries: &Entries, command: u16, piece: &Match, priority: u16) -> bool
-    requires { IsInOrder entries.now.booked }
+    requires { ArePairsInOrder entries.now.booked }
     ensures { result ≡ is_newcomer command priority entries.now.booked piece.now }
 {
     match command {
@@ -59,7 +59,7 @@ pub(crate) fn is_newcomer(entries: &Entries, command: u16, piece: &Match, priori
 }
 
 pub(crate) fn newcomers(entries: &Entries, command: u16, pieces: &[Match], priority: u16) -> usize
-    requires { IsInOrder entries.now.booked }
+    requires { ArePairsInOrder entries.now.booked }
     ensures value { result ≡ newcomers_in command pieces.now priority entries.now.booked }
     ensures within { result ≤ length pieces.now }
 {
@@ -80,7 +80,7 @@ fn shares_header(entry: &Entry, pieces: &[Match]) -> bool
 /// Whether a piece shares a header with an entry of the priority. No other entries are looked at but the
 /// first of the next priority.
 pub(crate) fn overlaps(entries: &Entries, pieces: &[Match], priority: u16) -> bool
-    requires { IsInOrder entries.now.booked }
+    requires { ArePairsInOrder entries.now.booked }
     ensures { result ≡ overlaps_in pieces.now priority entries.now.booked }
 {
     for index in place_from(entries, priority, &LEAST)..entries.len() {

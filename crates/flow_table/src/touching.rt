@@ -2,7 +2,7 @@
 
 ghost use Rattle.std.specs.Prelude.{◌≡◌, count_by};
 ghost use Rattle.std.specs.List.{list_any};
-ghost use Rattle.of10_flow.specs.Tables.{describes, names, outputs_to, outputs_as_asked, touches, has_flag, overlaps, refuses};
+ghost use Rattle.of10_flow.specs.Tables.{describes, names_entry, outputs_to, outputs_as_asked, touches, has_flag, overlaps, refuses};
 
 use match_meet::{disjoint, includes};
 use of10_action::Action;
@@ -17,7 +17,7 @@ fn describes(m: &FlowMod, entry: &FlowEntry) -> bool
 }
 
 fn names(m: &FlowMod, entry: &FlowEntry) -> bool
-    ensures { result ≡ names m.now entry.now }
+    ensures { result ≡ names_entry m.now entry.now }
 {
     entry.priority == m.priority && entry.pattern.is_same(&m.pattern)
 }

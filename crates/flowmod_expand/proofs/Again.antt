@@ -13,7 +13,7 @@ use Rattle.of10_flow.specs.FlowMods.{IsFlowMod, spell_flow_mod, read_flow_mod}
 use Rattle.of10_flow.proofs.Again.{flow_mod_of, flow_mod_again}
 use Rattle.of10_flow.specs.Tables.{is_delete}
 use Rattle.flowmod_expand.specs.Messages.{buffer_at, piece_message, are_too_large}
-use Rattle.flowmod_expand.specs.Laws.{Order, IsPaired, IsInRange, messages_of, Place, flow_mod_at}
+use Rattle.flowmod_expand.specs.Laws.{Order, IsPaired, IsOrderInRange, messages_of, MessagePlace, flow_mod_at}
 use Rattle.flowmod_expand.proofs.Walks.{spell_size, flow_messages_length, flow_messages_at, sizes_within}
 
 either_fits : (b : Bool) (number : ℕ) → number < 2 ^ 32 → (if b then number else 0xffffffff) < 2 ^ 32
@@ -57,7 +57,7 @@ is_sent m xid piece actions buffer is xid_fits normal all number small =
     }
 
 -- the message at a place is that of the piece, the list and the buffer there
-pub message_there : (o : Order) → IsPaired o → (at : Place o) → at.message ≡ spell_flow_mod (flow_mod_at o at)
+pub message_there : (o : Order) → IsPaired o → (at : MessagePlace o) → at.message ≡ spell_flow_mod (flow_mod_at o at)
 message_there o paired at =
     let within : at.number < length o.pieces = slice_get_within o.pieces at.number at.piece at.has_piece in
     let made = flow_messages_at o.flow_mod o.xid o.pieces o.lists o.buffer at.number at.message at.piece at.actions within paired in
@@ -67,7 +67,7 @@ message_there o paired at =
     ∙ ap₂ (λ (p : Pattern) (l : List Action). spell_flow_mod (piece_message o.flow_mod o.xid p l (buffer_at o.buffer at.number))) piece actions
 
 -- and it is read as that
-pub read_there : (o : Order) → IsPaired o → IsInRange o → are_too_large (messages_of o) ≡ false → (at : Place o)
+pub read_there : (o : Order) → IsPaired o → IsOrderInRange o → are_too_large (messages_of o) ≡ false → (at : MessagePlace o)
     → IsOf FLOW_MOD at.message × (read_flow_mod at.message ≡ Ok (flow_mod_at o at))
 read_there o paired range small at =
     let there = message_there o paired at in

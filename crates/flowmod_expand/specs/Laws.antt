@@ -21,7 +21,7 @@ abbrev pub IsPaired : Order → Type 0
 IsPaired o = length o.lists ≡ length o.pieces
 
 -- each field is in its range
-pub record IsInRange (o : Order) : Type 0 where
+pub record IsOrderInRange (o : Order) : Type 0 where
   pub flow_mod : IsFlowMod o.flow_mod
   pub xid : o.xid < 2 ^ 32
   pub pieces : All IsNormal o.pieces
@@ -33,7 +33,7 @@ abbrev pub messages_of : Order → List (List ℕ)
 messages_of o = flow_messages o.flow_mod o.xid o.pieces o.lists o.buffer
 
 -- what is sent at a place, and the piece, the list and the message that stand there
-pub record Place (o : Order) : Type 0 where
+pub record MessagePlace (o : Order) : Type 0 where
   pub number : ℕ
   pub piece : Pattern
   pub actions : List Action
@@ -43,5 +43,5 @@ pub record Place (o : Order) : Type 0 where
   pub has_message : slice_get (messages_of o) number ≡ Some message
 
 -- the flow-mod for a place: that of its piece, its list and its buffer
-abbrev pub flow_mod_at : (o : Order) → Place o → FlowMod
+abbrev pub flow_mod_at : (o : Order) → MessagePlace o → FlowMod
 flow_mod_at o at = piece_message o.flow_mod o.xid at.piece at.actions (buffer_at o.buffer at.number)

@@ -42,7 +42,7 @@ abbrev pub are_too_large : List (List ℕ) → Bool
 are_too_large messages = nat_lt 262144 (sum_by length messages) || list_any (λ bytes. nat_lt 65535 (length bytes)) messages
 
 -- a call answers the messages exactly where they aren't too large, or want of memory in their place, and that they are too large where they are
-abbrev pub Gives : {A : Type 0} → (A → List (List ℕ)) → Result A BuildFault → List (List ℕ) → Type 0
-Gives view (Ok frames) messages = (view frames ≡ messages) × (are_too_large messages ≡ false)
-Gives view (Err TooLarge) messages = are_too_large messages ≡ true
-Gives view (Err Memory) messages = are_too_large messages ≡ false
+abbrev pub GivesMessages : {A : Type 0} → (A → List (List ℕ)) → Result A BuildFault → List (List ℕ) → Type 0
+GivesMessages view (Ok frames) messages = (view frames ≡ messages) × (are_too_large messages ≡ false)
+GivesMessages view (Err TooLarge) messages = are_too_large messages ≡ true
+GivesMessages view (Err Memory) messages = are_too_large messages ≡ false

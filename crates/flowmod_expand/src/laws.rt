@@ -21,7 +21,7 @@ ghost use Rattle.of10_flow.specs.Tables.{ApplyAll, Treatment};
 ghost use Rattle.of10_flow.specs.Outside.{LeavesTreatment};
 ghost use Rattle.flowmod_expand.specs.Pieces.{pieces_within, pieces_of};
 ghost use Rattle.flowmod_expand.specs.Messages.{piece_messages, are_too_large};
-ghost use Rattle.flowmod_expand.specs.Laws.{Order, IsPaired, IsInRange, messages_of, Place, flow_mod_at};
+ghost use Rattle.flowmod_expand.specs.Laws.{Order, IsPaired, IsOrderInRange, messages_of, MessagePlace, flow_mod_at};
 
 /// The pieces of a match have together the headers of the match that the slice's rules let it write; so
 /// under a policy of the switch they have those that the slice writes.
@@ -52,13 +52,13 @@ pub fn piece_is_normal()
 /// place.
 pub fn each_piece_has_its_message()
     ensures count { (o : Order) → IsPaired o → length (messages_of o) ≡ length o.pieces }
-    ensures message { (o : Order) → IsPaired o → (at : Place o) → at.message ≡ spell_flow_mod (flow_mod_at o at) }
+    ensures message { (o : Order) → IsPaired o → (at : MessagePlace o) → at.message ≡ spell_flow_mod (flow_mod_at o at) }
 {}
 
 /// The message of a piece, where they aren't too large, is a flow-mod and is read as that of the piece.
 pub fn message_is_read_again()
-    ensures kind { (o : Order) → IsPaired o → IsInRange o → are_too_large (messages_of o) ≡ false → (at : Place o) → IsOf FLOW_MOD at.message }
-    ensures again { (o : Order) → IsPaired o → IsInRange o → are_too_large (messages_of o) ≡ false → (at : Place o) → read_flow_mod at.message ≡ Ok (flow_mod_at o at) }
+    ensures kind { (o : Order) → IsPaired o → IsOrderInRange o → are_too_large (messages_of o) ≡ false → (at : MessagePlace o) → IsOf FLOW_MOD at.message }
+    ensures again { (o : Order) → IsPaired o → IsOrderInRange o → are_too_large (messages_of o) ≡ false → (at : MessagePlace o) → read_flow_mod at.message ≡ Ok (flow_mod_at o at) }
 {}
 
 /// Each message of a flow-mod leaves every flow table treating as before each header that none of the given

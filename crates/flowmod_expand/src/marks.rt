@@ -1,7 +1,7 @@
 //! Marks by which most pieces that differ are told apart at once, so that few are compared.
 
 ghost use Rattle.std.specs.Prelude.{◌≡◌, ◌+◌, ◌*◌, ◌<◌, ◌%◌, ◌^◌};
-ghost use Rattle.flowmod_expand.specs.Marks.{field_key, prefix_key, weighed, mark_of};
+ghost use Rattle.flowmod_expand.specs.Marks.{field_mark, prefix_key, weighed, mark_of};
 
 use of10_model::{Pattern, Prefix};
 
@@ -35,7 +35,7 @@ const NW_PROTO: u64 = 0xd622_8754_9a02_7b0b;
 const NW_TOS: u64 = 0xa427_f0e6_cd04_c29f;
 
 fn short_key(field: Option<u16>) -> u64
-    ensures { result ≡ field_key field }
+    ensures { result ≡ field_mark field }
 {
     match field {
         Some(value) => u64::from(value) + 1,
@@ -44,7 +44,7 @@ fn short_key(field: Option<u16>) -> u64
 }
 
 fn byte_key(field: Option<u8>) -> u64
-    ensures { result ≡ field_key field }
+    ensures { result ≡ field_mark field }
 {
     match field {
         Some(value) => u64::from(value) + 1,
@@ -53,7 +53,7 @@ fn byte_key(field: Option<u8>) -> u64
 }
 
 fn address_key(address: Option<u64>) -> u64
-    ensures { result ≡ field_key address % 2 ^ 64 }
+    ensures { result ≡ field_mark address % 2 ^ 64 }
 {
     match address {
         Some(value) => value.wrapping_add(1),

@@ -4,7 +4,7 @@ ghost use Rattle.std.specs.Prelude.{ℕ, ◌≡◌, ◌⊎◌, ◌+◌, ◌<◌,
 ghost use Rattle.of10_model.specs.declared.pattern.Pattern.{Pattern};
 ghost use Rattle.of10_ctl.specs.declared.kind.TheConstants.{FLOW_MOD};
 ghost use Rattle.of10_ctl.specs.Kinds.{IsOf};
-ghost use Rattle.flowmod_expand.specs.Messages.{buffer_at, flow_messages, are_too_large, Gives};
+ghost use Rattle.flowmod_expand.specs.Messages.{buffer_at, flow_messages, are_too_large, GivesMessages};
 
 use crate::fault::BuildFault;
 use crate::sending::{piece_message, sent_actions};
@@ -88,7 +88,7 @@ pub fn build(
     requires lists { length actions.now ≡ length pieces.now }
     requires command { m.now.command ≤ 4 }
     requires place { IfSome buffer (λ own. own.0 < length pieces.now) }
-    ensures exact { Gives (λ frames. frames.items) result (flow_messages m.now xid pieces.now actions.now buffer) }
+    ensures exact { GivesMessages (λ frames. frames.items) result (flow_messages m.now xid pieces.now actions.now buffer) }
     ensures kind { IfOk result (λ frames. All (IsOf FLOW_MOD) frames.items) }
     ensures sizes { IfOk result (λ frames. All (λ frame. length frame ≤ 65535) frames.items) }
     ensures together { IfOk result (λ frames. sum_by length frames.items ≤ 262144) }

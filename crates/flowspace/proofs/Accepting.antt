@@ -14,10 +14,10 @@ use Rattle.flowspace.specs.declared.fault.What.{What}
 use Rattle.flowspace.specs.declared.fault.What.TheVariants.{Slices, Rules, Writes}
 use Rattle.flowspace.specs.declared.fault.PolicyFault.{PolicyFault}
 use Rattle.flowspace.specs.Slices.{IsPlainSlice}
-use Rattle.flowspace.specs.Rules.{IsPlainRule, is_written_by, is_slot, is_own_reader, is_refused, Yields}
+use Rattle.flowspace.specs.Rules.{IsPlainRule, is_written_by, is_slot_or_none, is_own_reader, is_refused, Yields}
 use Rattle.flowspace.specs.Order.{ranked, in_order, IsAccepted}
 use Rattle.flowspace.specs.Policies.{IsPolicy, AreNormal}
-use Rattle.flowspace.specs.Faults.{NamesDiffer, IsSound}
+use Rattle.flowspace.specs.Faults.{NamesDiffer, IsSoundRule}
 use Rattle.flowspace.specs.Loading.{first_of_faults, first_along, excess, name_fault, rule_fault, writes_fault, filed, filed_in_order, overlap_fault, fault_of, load_of}
 use Rattle.flowspace.proofs.Ranking.{map-ranked}
 use Rattle.flowspace.proofs.Ordering.{rank_of, IsPermutation-in_order}
@@ -61,21 +61,21 @@ no_name_twice ss differ =
 
 -- ---- slots
 
-pub IfSome-is_slot : (count : ℕ) (o : Option ℕ) → is_slot count o ≡ true → IfSome o (λ w. w < count)
+pub IfSome-is_slot : (count : ℕ) (o : Option ℕ) → is_slot_or_none count o ≡ true → IfSome o (λ w. w < count)
 IfSome-is_slot count None e = tt
 IfSome-is_slot count (Some w) e = ltb-true w count e
 
-pub is_slot-IfSome : (count : ℕ) (o : Option ℕ) → IfSome o (λ w. w < count) → is_slot count o ≡ true
+pub is_slot-IfSome : (count : ℕ) (o : Option ℕ) → IfSome o (λ w. w < count) → is_slot_or_none count o ≡ true
 is_slot-IfSome count None h = refl
 is_slot-IfSome count (Some w) h = lt-ltb w count h
 
 -- a rule without a fault is sound
-IsSound-rule_fault : (slots : ℕ) (before : List Rule) (rule : Rule) → rule_fault slots before rule ≡ None → IsSound slots rule
+IsSound-rule_fault : (slots : ℕ) (before : List Rule) (rule : Rule) → rule_fault slots before rule ≡ None → IsSoundRule slots rule
 IsSound-rule_fault slots before rule e =
-    elim (cases_Bool (is_slot slots rule.writer && nat_lt rule.readers (2 ^ slots))) [
+    elim (cases_Bool (is_slot_or_none slots rule.writer && nat_lt rule.readers (2 ^ slots))) [
       | inr unknown ↦ let clash = sym (cond-false _ _ _ unknown) ∙ e in absurd (cc)
       | inl known ↦
-          let parts = and_parts (is_slot slots rule.writer) (nat_lt rule.readers (2 ^ slots)) known in
+          let parts = and_parts (is_slot_or_none slots rule.writer) (nat_lt rule.readers (2 ^ slots)) known in
           let inner = sym (cond-true _ _ _ known) ∙ e in
           elim (cases_Bool (is_own_reader rule)) [
             | inl own ↦ let clash = sym (cond-true (is_own_reader rule) _ _ own) ∙ inner in absurd (cc)
@@ -84,15 +84,15 @@ IsSound-rule_fault slots before rule e =
           ]
     ]
 
-rule_fault-IsSound : (slots : ℕ) (before : List Rule) (rule : Rule) → IsSound slots rule → rule_fault slots before rule ≡ None
+rule_fault-IsSound : (slots : ℕ) (before : List Rule) (rule : Rule) → IsSoundRule slots rule → rule_fault slots before rule ≡ None
 rule_fault-IsSound slots before rule sound =
-    cond-true _ _ _ (and_from (is_slot slots rule.writer) (nat_lt rule.readers (2 ^ slots)) (is_slot-IfSome slots rule.writer sound.0.writer_known) (lt-ltb rule.readers (2 ^ slots) sound.0.readers_known))
+    cond-true _ _ _ (and_from (is_slot_or_none slots rule.writer) (nat_lt rule.readers (2 ^ slots)) (is_slot-IfSome slots rule.writer sound.0.writer_known) (lt-ltb rule.readers (2 ^ slots) sound.0.readers_known))
     ∙ cond-false (is_own_reader rule) _ _ sound.1
 
-pub sound_rules : (slots : ℕ) (rs : List Rule) → first_along (rule_fault slots) [] rs ≡ None → All (IsSound slots) rs
+pub sound_rules : (slots : ℕ) (rs : List Rule) → first_along (rule_fault slots) [] rs ≡ None → All (IsSoundRule slots) rs
 sound_rules slots rs e = λ k d lt. IsSound-rule_fault slots (take k rs) (get_or rs k d) (none_along (rule_fault slots) [] rs e k d lt)
 
-no_rule_fault : (slots : ℕ) (rs : List Rule) → All (IsSound slots) rs → first_along (rule_fault slots) [] rs ≡ None
+no_rule_fault : (slots : ℕ) (rs : List Rule) → All (IsSoundRule slots) rs → first_along (rule_fault slots) [] rs ≡ None
 no_rule_fault slots rs sound = along_none (rule_fault slots) [] rs (λ k d lt. rule_fault-IsSound slots (take k rs) (get_or rs k d) (sound k d lt))
 
 -- ---- rules of one slice
@@ -105,7 +105,7 @@ none_counted : (p : Rule → Bool) (rs : List Rule) → All (λ r. p r ≡ false
 none_counted p [] h = refl
 none_counted p (r ∷ rs) h = rw (All-head (λ r. p r ≡ false) r rs h, none_counted p rs (All-tail (λ r. p r ≡ false) r rs h)) refl
 
-pub few_writes : (ss : List Slice) (rs : List Rule) → All (IsSound (length ss)) rs → first_along (writes_fault rs) [] ss ≡ None → (slot : ℕ) → count_by (is_written_by slot) rs ≤ 256
+pub few_writes : (ss : List Slice) (rs : List Rule) → All (IsSoundRule (length ss)) rs → first_along (writes_fault rs) [] ss ≡ None → (slot : ℕ) → count_by (is_written_by slot) rs ≤ 256
 few_writes [] rs sound e slot =
     let none = none_counted (is_written_by slot) rs (λ k d lt. is_written_by-past 0 slot (get_or rs k d).writer (omega arith) (sound k d lt).0.writer_known) in omega arith
 few_writes (s ∷ ss) rs sound e slot =

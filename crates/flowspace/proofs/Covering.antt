@@ -7,9 +7,9 @@ use Rattle.of10_model.specs.Header.{Header}
 use Rattle.of10_model.specs.Pattern.{has}
 use Rattle.of10_model.specs.Normal.{IsNormal, IsInRange}
 use Rattle.of10_model.specs.Exact.{exact_of}
-use Rattle.of10_model.specs.Inclusion.{includes_of, any_in_port}
+use Rattle.of10_model.specs.Inclusion.{includes_of}
 use Rattle.pattern_index.specs.declared.index.PatternIndex.{PatternIndex}
-use Rattle.pattern_index.specs.Places.{Kept, StandsFor, FindsFirst}
+use Rattle.pattern_index.specs.Places.{PlacedPattern, StandsFor}
 use Rattle.pattern_index.proofs.Keys.{includes_exact}
 use Rattle.pattern_index.proofs.Firsts.{finds_put, finds_same, position-none}
 use Rattle.flowspace.specs.declared.rules.Rule.{Rule}
@@ -36,7 +36,7 @@ in_range false m range = record {
 
 -- a rule that the slice writes is put behind those before it
 pub covers_more : (by_port : Bool) (rules : List Rule) (slot i : ℕ) (rule : Rule) (old new : PatternIndex) → i < length rules → rule ≡ get_or rules i rule → is_written_by slot rule ≡ true → IsNormal rule.pattern
-    → ((kept : List Kept) → StandsFor kept old → StandsFor (record { pattern = counted by_port rule.pattern; place = i } ∷ kept) new)
+    → ((kept : List PlacedPattern) → StandsFor kept old → StandsFor (record { pattern = counted by_port rule.pattern; place = i } ∷ kept) new)
     → IsCoverIndex by_port (take i rules) slot old → IsCoverIndex by_port (take (i + 1) rules) slot new
 covers_more by_port rules slot i rule old new lt at written normal put before = record {
   of_matches =

@@ -14,9 +14,9 @@ use Rattle.flowspace.specs.declared.fault.What.TheVariants.{Slices, Rules, Write
 use Rattle.flowspace.specs.declared.fault.Field.TheVariants.{Read}
 use Rattle.flowspace.specs.declared.fault.PolicyFault.{PolicyFault}
 use Rattle.flowspace.specs.declared.fault.PolicyFault.TheVariants.{TooMany, DuplicateSlice, UnknownSlice, Improper, Overlap}
-use Rattle.flowspace.specs.Rules.{is_written_by, is_slot, is_own_reader, is_refused}
+use Rattle.flowspace.specs.Rules.{is_written_by, is_slot_or_none, is_own_reader, is_refused}
 use Rattle.flowspace.specs.Policies.{AreNormal}
-use Rattle.flowspace.specs.Faults.{AreFew, NamesSlots, IsFirstRepeat, IsFirstUnknown, IsFirstOwnReader, IsFirstFull, IsFirstFault}
+use Rattle.flowspace.specs.Faults.{AreWithinLimits, NamesSlots, IsFirstRepeat, IsFirstUnknown, IsFirstOwnReader, IsFirstFull, IsFirstPolicyFault}
 use Rattle.flowspace.specs.Loading.{first_of_faults, first_along, excess, name_fault, rule_fault, writes_fault, filed_in_order, overlap_fault, fault_of, load_of}
 use Rattle.flowspace.proofs.Along.{along_none, some_along}
 use Rattle.flowspace.proofs.Accepting.{excess-None, names_differ, IfSome-is_slot, is_slot-IfSome, sound_rules, few_writes}
@@ -67,17 +67,17 @@ name_fault-Some before slice fault e =
 rule_fault-Some : (slots : ℕ) (before : List Rule) (rule : Rule) (fault : PolicyFault) → rule_fault slots before rule ≡ Some fault
     → ((NamesSlots slots rule → ⊥) × (UnknownSlice (length before) ≡ fault)) ⊎ (NamesSlots slots rule × IsTrue (is_own_reader rule) × (Improper (length before) Read ≡ fault))
 rule_fault-Some slots before rule fault e =
-    elim (cases_Bool (is_slot slots rule.writer && nat_lt rule.readers (2 ^ slots))) [
+    elim (cases_Bool (is_slot_or_none slots rule.writer && nat_lt rule.readers (2 ^ slots))) [
       | inr unknown ↦
           let same : Some (UnknownSlice (length before)) ≡ Some fault = sym (cond-false _ _ _ unknown) ∙ e in
           inl (
             λ names.
-                let known = and_from (is_slot slots rule.writer) (nat_lt rule.readers (2 ^ slots)) (is_slot-IfSome slots rule.writer names.writer_known) (lt-ltb rule.readers (2 ^ slots) names.readers_known) in
+                let known = and_from (is_slot_or_none slots rule.writer) (nat_lt rule.readers (2 ^ slots)) (is_slot-IfSome slots rule.writer names.writer_known) (lt-ltb rule.readers (2 ^ slots) names.readers_known) in
                 true≢false (sym known ∙ unknown),
             cc,
           )
       | inl known ↦
-          let parts = and_parts (is_slot slots rule.writer) (nat_lt rule.readers (2 ^ slots)) known in
+          let parts = and_parts (is_slot_or_none slots rule.writer) (nat_lt rule.readers (2 ^ slots)) known in
           let inner = sym (cond-true _ _ _ known) ∙ e in
           elim (cases_Bool (is_own_reader rule)) [
             | inl own ↦
@@ -164,7 +164,7 @@ first_pair rs fault e =
 
 -- ---- all together
 
-pub IsFirstFault-load_of : (ss : List Slice) (rs : List Rule) (fault : PolicyFault) → AreNormal rs → load_of ss rs ≡ Err fault → IsFirstFault ss rs fault
+pub IsFirstFault-load_of : (ss : List Slice) (rs : List Rule) (fault : PolicyFault) → AreNormal rs → load_of ss rs ≡ Err fault → IsFirstPolicyFault ss rs fault
 IsFirstFault-load_of ss rs fault normal e =
     elim (found_by ss rs fault (refused_load ss rs fault (fault_of ss rs) refl e)) [
       | inl a ↦ let found = excess-Some Slices 32 (length ss) fault a in rw (← found.1) (refl, found.0)
@@ -173,7 +173,7 @@ IsFirstFault-load_of ss rs fault normal e =
           elim after_a.1 [
             | inl b ↦ let found = excess-Some Rules 2048 (length rs) fault b in rw (← found.1) (few_slices, refl, found.0)
             | inr after_b ↦
-                let few : AreFew ss rs = (few_slices, excess-None Rules 2048 (length rs) after_b.0) in
+                let few : AreWithinLimits ss rs = (few_slices, excess-None Rules 2048 (length rs) after_b.0) in
                 elim after_b.1 [
                   | inl c ↦ let found = first_repeat ss fault c in rw (← found.2) (few, found.1)
                   | inr after_c ↦

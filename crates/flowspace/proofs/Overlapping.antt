@@ -14,7 +14,7 @@ use Rattle.flowspace.specs.declared.fault.PolicyFault.{PolicyFault}
 use Rattle.flowspace.specs.declared.fault.PolicyFault.TheVariants.{Overlap}
 use Rattle.flowspace.specs.declared.fault.What.{What}
 use Rattle.flowspace.specs.declared.fault.What.TheVariants.{Slices, Rules, Writes}
-use Rattle.flowspace.specs.Rules.{is_slot, is_own_reader, is_written_by, is_refused}
+use Rattle.flowspace.specs.Rules.{is_slot_or_none, is_own_reader, is_written_by, is_refused}
 use Rattle.flowspace.specs.Order.{placed, ranked}
 use Rattle.flowspace.specs.Policies.{PolicyView, AreNormal, ComesBefore, IsOverlap, IsFirstOverlap}
 use Rattle.flowspace.specs.Loading.{first_of_faults, first_along, excess, name_fault, rule_fault, writes_fault, filed, filed_in_order, overlap_fault, fault_of, load_of}
@@ -326,7 +326,7 @@ no_name_fault before slice i j e =
 
 no_rule_fault : (slots : ℕ) (before : List Rule) (rule : Rule) (i j : ℕ) → rule_fault slots before rule ≡ Some (Overlap i j) → ⊥
 no_rule_fault slots before rule i j e =
-    elim (cases_Bool (is_slot slots rule.writer && nat_lt rule.readers (2 ^ slots))) [
+    elim (cases_Bool (is_slot_or_none slots rule.writer && nat_lt rule.readers (2 ^ slots))) [
       | inr unknown ↦ let clash = sym (cond-false _ _ _ unknown) ∙ e in cc
       | inl known ↦
           elim (cases_Bool (is_own_reader rule)) [

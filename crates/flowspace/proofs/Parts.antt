@@ -6,7 +6,7 @@ use Rattle.std.proofs.lemmas.List.Filters.{length-filter_both, sum_by-filter_bot
 use Rattle.std.proofs.lemmas.List.Kept.{AllPairs-filter}
 use Rattle.flowspace.specs.declared.slices.Slice.{Slice}
 use Rattle.flowspace.specs.declared.rules.Rule.{Rule}
-use Rattle.flowspace.specs.Rules.{holds, names, have_switch, is_written_by, is_own_reader, IsPlainRule, Yields}
+use Rattle.flowspace.specs.Rules.{holds, names_switch, have_switch, is_written_by, is_own_reader, IsPlainRule, Yields}
 use Rattle.flowspace.specs.Order.{in_order, rules_on}
 use Rattle.flowspace.specs.Policies.{AreProper, IsPolicy, IsSwitchPolicy}
 use Rattle.flowspace.proofs.Ordering.{IsPermutation-in_order, HasNoLower-in_order, in_order-filter}
@@ -39,7 +39,7 @@ AreProper-rules_on ss rs datapath h =
     }
 
 -- two rules that hold on one switch
-pub have_switch-names : (datapath : ℕ) (c d : Option ℕ) → IsTrue (names c datapath) → IsTrue (names d datapath) → IsTrue (have_switch c d)
+pub have_switch-names : (datapath : ℕ) (c d : Option ℕ) → IsTrue (names_switch c datapath) → IsTrue (names_switch d datapath) → IsTrue (have_switch c d)
 have_switch-names datapath None d h k = refl
 have_switch-names datapath (Some x) None h k = refl
 have_switch-names datapath (Some x) (Some y) h k = eq-eqb y x (eqb-true y datapath k ∙ sym (eqb-true x datapath h))

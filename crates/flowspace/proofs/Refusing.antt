@@ -6,7 +6,7 @@ use Rattle.of10_model.specs.Normal.{is_value, IsInRange}
 use Rattle.of10_model.specs.Meet.{meet_of, is_disjoint}
 use Rattle.of10_model.proofs.Disjointness.{shared, Disjoint-none}
 use Rattle.flowspace.specs.declared.rules.Rule.{Rule}
-use Rattle.flowspace.specs.Rules.{names, have_switch, is_usurped, is_refused, ShareHeader, Yields}
+use Rattle.flowspace.specs.Rules.{names_switch, have_switch, is_usurped, is_refused, ShareHeader, Yields}
 use Rattle.flowspace.proofs.Parts.{have_switch-names}
 
 -- ---- writers
@@ -40,8 +40,8 @@ usurped earlier later slot e none = rw e (not_from_false (is_value slot earlier)
 -- a switch on which both hold
 pub record OnBoth (c d : Option ℕ) : Type 0 where
   pub datapath : ℕ
-  pub first : IsTrue (names c datapath)
-  pub second : IsTrue (names d datapath)
+  pub first : IsTrue (names_switch c datapath)
+  pub second : IsTrue (names_switch d datapath)
 
 pub on_both : (c d : Option ℕ) → have_switch c d ≡ true → OnBoth c d
 on_both None None e = record { datapath = 0; first = refl; second = refl }

@@ -10,8 +10,8 @@ use Rattle.flowspace.specs.Rules.{is_written_by, is_own_reader}
 use Rattle.flowspace.specs.Policies.{IsFirstOverlap}
 
 -- no more slices and rules than a policy may have
-abbrev pub AreFew : List Slice → List Rule → Type 0
-AreFew slices rules = (length slices ≤ 32) × (length rules ≤ 2048)
+abbrev pub AreWithinLimits : List Slice → List Rule → Type 0
+AreWithinLimits slices rules = (length slices ≤ 32) × (length rules ≤ 2048)
 
 -- no two slices of one name
 abbrev pub NamesDiffer : List Slice → Type 0
@@ -23,8 +23,8 @@ pub record NamesSlots (slots : ℕ) (rule : Rule) : Type 0 where
   pub readers_known : rule.readers < 2 ^ slots
 
 -- and its writer is not among its readers
-abbrev pub IsSound : ℕ → Rule → Type 0
-IsSound slots rule = NamesSlots slots rule × (is_own_reader rule ≡ false)
+abbrev pub IsSoundRule : ℕ → Rule → Type 0
+IsSoundRule slots rule = NamesSlots slots rule × (is_own_reader rule ≡ false)
 
 -- no slice writes more rules than it may
 abbrev pub WritesFew : List Rule → Type 0
@@ -42,7 +42,7 @@ pub record IsFirstUnknown (slots : ℕ) (rules : List Rule) (place : ℕ) : Type
   pub rule : Rule
   pub is_there : slice_get rules place ≡ Some rule
   pub unknown : NamesSlots slots rule → ⊥
-  pub is_first : All (IsSound slots) (take place rules)
+  pub is_first : All (IsSoundRule slots) (take place rules)
 
 -- the writer of the rule at a place reads it too, and each rule before it is sound
 pub record IsFirstOwnReader (slots : ℕ) (rules : List Rule) (place : ℕ) : Type 0 where
@@ -50,7 +50,7 @@ pub record IsFirstOwnReader (slots : ℕ) (rules : List Rule) (place : ℕ) : Ty
   pub is_there : slice_get rules place ≡ Some rule
   pub known : NamesSlots slots rule
   pub own : IsTrue (is_own_reader rule)
-  pub is_first : All (IsSound slots) (take place rules)
+  pub is_first : All (IsSoundRule slots) (take place rules)
 
 -- so many rules, and more than it may, are written by a slice, and no slice before it writes too many
 pub record IsFirstFull (slices : List Slice) (rules : List Rule) (count : ℕ) : Type 0 where
@@ -61,12 +61,12 @@ pub record IsFirstFull (slices : List Slice) (rules : List Rule) (count : ℕ) :
   pub is_first : (k : ℕ) → k < slot → count_by (is_written_by k) rules ≤ 256
 
 -- a fault of slices and rules, with no fault of those that come before it: too many slices, too many rules, a name twice, along the file a rule that isn't sound, along the slots too many written rules, and along rule order an overlap
-abbrev pub IsFirstFault : List Slice → List Rule → PolicyFault → Type 0
-IsFirstFault slices rules (TooMany Slices count) = (length slices ≡ count) × (32 < count)
-IsFirstFault slices rules (TooMany Rules count) = (length slices ≤ 32) × (length rules ≡ count) × (2048 < count)
-IsFirstFault slices rules (DuplicateSlice place) = AreFew slices rules × IsFirstRepeat slices place
-IsFirstFault slices rules (UnknownSlice place) = AreFew slices rules × NamesDiffer slices × IsFirstUnknown (length slices) rules place
-IsFirstFault slices rules (Improper place Read) = AreFew slices rules × NamesDiffer slices × IsFirstOwnReader (length slices) rules place
-IsFirstFault slices rules (TooMany Writes count) = AreFew slices rules × NamesDiffer slices × All (IsSound (length slices)) rules × IsFirstFull slices rules count
-IsFirstFault slices rules (Overlap first second) = AreFew slices rules × NamesDiffer slices × All (IsSound (length slices)) rules × WritesFew rules × IsFirstOverlap rules first second
-IsFirstFault slices rules other = ⊥
+abbrev pub IsFirstPolicyFault : List Slice → List Rule → PolicyFault → Type 0
+IsFirstPolicyFault slices rules (TooMany Slices count) = (length slices ≡ count) × (32 < count)
+IsFirstPolicyFault slices rules (TooMany Rules count) = (length slices ≤ 32) × (length rules ≡ count) × (2048 < count)
+IsFirstPolicyFault slices rules (DuplicateSlice place) = AreWithinLimits slices rules × IsFirstRepeat slices place
+IsFirstPolicyFault slices rules (UnknownSlice place) = AreWithinLimits slices rules × NamesDiffer slices × IsFirstUnknown (length slices) rules place
+IsFirstPolicyFault slices rules (Improper place Read) = AreWithinLimits slices rules × NamesDiffer slices × IsFirstOwnReader (length slices) rules place
+IsFirstPolicyFault slices rules (TooMany Writes count) = AreWithinLimits slices rules × NamesDiffer slices × All (IsSoundRule (length slices)) rules × IsFirstFull slices rules count
+IsFirstPolicyFault slices rules (Overlap first second) = AreWithinLimits slices rules × NamesDiffer slices × All (IsSoundRule (length slices)) rules × WritesFew rules × IsFirstOverlap rules first second
+IsFirstPolicyFault slices rules other = ⊥

@@ -11,7 +11,7 @@ use Rattle.flowspace.specs.declared.fault.PolicyFault.TheVariants.{TooMany, Dupl
 use Rattle.flowspace.specs.declared.slices.Slice.{Slice}
 use Rattle.flowspace.specs.declared.rules.Rule.{Rule}
 use Rattle.flowspace.specs.declared.order.FiledRule.{FiledRule}
-use Rattle.flowspace.specs.Rules.{is_written_by, is_slot, is_own_reader, is_refused}
+use Rattle.flowspace.specs.Rules.{is_written_by, is_slot_or_none, is_own_reader, is_refused}
 use Rattle.flowspace.specs.Order.{ranked}
 use Rattle.flowspace.specs.Policies.{PolicyView}
 
@@ -36,7 +36,7 @@ name_fault before slice = if list_any (λ earlier. bytes_eq earlier.name slice.n
 -- a rule's writer or a bit of its readers is no slot, or its writer is among its readers
 abbrev pub rule_fault : ℕ → List Rule → Rule → Option PolicyFault
 rule_fault slots before rule =
-    if is_slot slots rule.writer && nat_lt rule.readers (2 ^ slots)
+    if is_slot_or_none slots rule.writer && nat_lt rule.readers (2 ^ slots)
     then (if is_own_reader rule then Some (Improper (length before) Read) else None)
     else Some (UnknownSlice (length before))
 
@@ -80,5 +80,5 @@ abbrev pub load_of : List Slice → List Rule → Result PolicyView PolicyFault
 load_of slices rules = elim (fault_of slices rules) [ None ↦ Ok (record { slices = slices; rules = rules }) | Some fault ↦ Err fault ]
 
 -- a call answers what it should, or want of memory
-abbrev pub Gives : {A : Type 0} → Result A PolicyFault → Result A PolicyFault → Type 0
-Gives called said = Answers (λ fault told. (fault ≡ Memory) ⊎ (told ≡ Err fault)) (λ x. x) called said
+abbrev pub GivesPolicy : {A : Type 0} → Result A PolicyFault → Result A PolicyFault → Type 0
+GivesPolicy called said = Answers (λ fault told. (fault ≡ Memory) ⊎ (told ≡ Err fault)) (λ x. x) called said

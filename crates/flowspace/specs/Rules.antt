@@ -10,13 +10,13 @@ use Rattle.flowspace.specs.declared.fault.Field.TheVariants.{DlVlanPcp, NwTos, N
 use Rattle.flowspace.specs.declared.rules.Rule.{Rule}
 
 -- no switch named stands for each
-abbrev pub names : Option ℕ → ℕ → Bool
-names None datapath = true
-names (Some switch) datapath = switch == datapath
+abbrev pub names_switch : Option ℕ → ℕ → Bool
+names_switch None datapath = true
+names_switch (Some switch) datapath = switch == datapath
 
 -- a rule holds on a switch where its own switch is missing or is that one
 abbrev pub holds : ℕ → Rule → Bool
-holds datapath rule = names rule.switch datapath
+holds datapath rule = names_switch rule.switch datapath
 
 -- a rule is written by the slice at a slot
 abbrev pub is_written_by : ℕ → Rule → Bool
@@ -82,7 +82,7 @@ Yields earlier later = ShareHeader earlier later → (slot : ℕ) → later.writ
 -- two rules hold on a common switch: one of them names none, or both name the same
 abbrev pub have_switch : Option ℕ → Option ℕ → Bool
 have_switch None other = true
-have_switch (Some switch) other = names other switch
+have_switch (Some switch) other = names_switch other switch
 
 -- the later of two rules is written by a slice that doesn't write the earlier one
 abbrev pub is_usurped : Option ℕ → Option ℕ → Bool
@@ -96,9 +96,9 @@ is_refused earlier later = is_usurped earlier.writer later.writer && have_switch
 -- ---- what a rule says of slots
 
 -- a slot that may be missing is one of the first so many
-abbrev pub is_slot : ℕ → Option ℕ → Bool
-is_slot count None = true
-is_slot count (Some slot) = nat_lt slot count
+abbrev pub is_slot_or_none : ℕ → Option ℕ → Bool
+is_slot_or_none count None = true
+is_slot_or_none count (Some slot) = nat_lt slot count
 
 -- the writer of a rule is among its readers
 abbrev pub is_own_reader : Rule → Bool

@@ -12,7 +12,7 @@ ghost use Rattle.flowspace.specs.Slices.{IsPlainSlice};
 ghost use Rattle.flowspace.specs.Rules.{IsPlainRule};
 ghost use Rattle.flowspace.specs.Order.{rules_on};
 ghost use Rattle.flowspace.specs.Policies.{IsPolicy, IsSwitchPolicy, AreNormal, IsFirstOverlap};
-ghost use Rattle.flowspace.specs.Faults.{IsFirstFault};
+ghost use Rattle.flowspace.specs.Faults.{IsFirstPolicyFault};
 ghost use Rattle.flowspace.specs.Loading.{load_of};
 ghost use Rattle.flowspace.specs.Owners.{Writes, HasWriteRule, owner_of_match, IsOwner, Owns};
 
@@ -26,7 +26,7 @@ pub fn what_is_accepted_is_loaded()
 /// slice that has the name of an earlier one, else the first rule in the file that names no slice or
 /// whose writer reads, else the rules of the first slot that writes too many, else an overlap.
 pub fn what_is_refused_has_a_first_fault()
-    ensures { (slices : List Slice) (rules : List Rule) (fault : PolicyFault) → AreNormal rules → load_of slices rules ≡ Err fault → IsFirstFault slices rules fault }
+    ensures { (slices : List Slice) (rules : List Rule) (fault : PolicyFault) → AreNormal rules → load_of slices rules ≡ Err fault → IsFirstPolicyFault slices rules fault }
 {}
 
 /// An overlap names two rules of which the first comes before the second, that share a header on a

@@ -3,7 +3,7 @@
 ghost use Rattle.std.specs.Prelude.{◌≡◌, ◌^◌, [], length, nat_lt, bytes_eq, count_by, IfOk, IfSome, Ok, Some, find, option_map};
 ghost use Rattle.std.specs.List.{list_any};
 ghost use Rattle.flowspace.specs.declared.fault.What.TheVariants.{Writes};
-ghost use Rattle.flowspace.specs.Rules.{is_written_by, is_slot, is_own_reader, is_refused};
+ghost use Rattle.flowspace.specs.Rules.{is_written_by, is_slot_or_none, is_own_reader, is_refused};
 ghost use Rattle.flowspace.specs.Loading.{excess, first_along, name_fault, rule_fault, writes_fault, overlap_fault, fault_before_order, fault_of};
 
 use crate::fault::{Field, PolicyFault, What};
@@ -52,7 +52,7 @@ fn are_slots(slots: usize, bits: u32) -> bool
 }
 
 fn is_slot(slots: usize, writer: Option<u8>) -> bool
-    ensures { result ≡ is_slot slots writer }
+    ensures { result ≡ is_slot_or_none slots writer }
 {
     writer.is_none_or(|slot| usize::from(slot) < slots)
 }

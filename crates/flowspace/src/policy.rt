@@ -3,7 +3,7 @@ ghost use Rattle.flowspace.specs.Slices.{IsPlainSlice};
 ghost use Rattle.flowspace.specs.Rules.{IsPlainRule};
 ghost use Rattle.flowspace.specs.Order.{rules_on};
 ghost use Rattle.flowspace.specs.Policies.{IsPolicy};
-ghost use Rattle.flowspace.specs.Loading.{Gives, load_of, fault_before_order};
+ghost use Rattle.flowspace.specs.Loading.{GivesPolicy, load_of, fault_before_order};
 
 use crate::fault::PolicyFault;
 use crate::loading::fault_of;
@@ -40,7 +40,7 @@ impl Policy {
         requires some_slice { 1 ≤ length slices.items }
         requires plain_slices { All IsPlainSlice slices.items }
         requires plain_rules { All IsPlainRule rules.items }
-        ensures answer { Gives result (load_of slices.items rules.items) }
+        ensures answer { GivesPolicy result (load_of slices.items rules.items) }
         ensures early { IfSome (fault_before_order slices.items rules.items) (λ fault. result ≡ Err fault) }
     {
         match fault_of(alloc, &slices, &rules) {

@@ -1,12 +1,12 @@
 -- Lines that are put for endings.
 use Rattle.std.proofs.Common.{◌≡◌, ℕ, ◌==◌, ◌&&◌, if◌then◌else◌, Bool, true, false, List, [], ◌∷◌, Option, None, Some, refl, sym, ap, subst, ◌∙◌, arith, inl, inr, append-nil}
 use Rattle.std.proofs.lemmas.Bool.{cases_Bool}
-use Rattle.fv_base.specs.Told.{appended, IsPrefix, Rose}
+use Rattle.fv_base.specs.Told.{appended, IsBeginning, Rose}
 use Rattle.fv_base.proofs.Appending.{appended_none}
 use Rattle.fv_base.specs.Words.{FormBytes, OfCheck, OfReplay, OfGen, OfServe, form_of}
 use Rattle.fv_cli.specs.declared.ending.Ending.{Ending}
 use Rattle.fv_cli.specs.declared.ending.Ending.TheVariants.{Done, Usage, ReadFault, WriteFault, NoMemory, NoMemoryToRun, TooLarge, PolicyRefused, RecordingRefused}
-use Rattle.fv_cli.specs.Endings.{status_of, line_of, IsPut, Outside, EndedWith, Causes, IsCheckCause, IsReplayCause, IsGenEnding}
+use Rattle.fv_cli.specs.Endings.{ending_status, ending_line, IsPut, Outside, EndedWith, Causes, IsCheckCause, IsReplayCause, IsGenEnding}
 use Rattle.flowvisor.specs.Asked.{Suits, EndedSo, is_of_check, is_of_gen}
 
 -- ---- lines
@@ -21,7 +21,7 @@ Rose-Rose a b c (inl lt) (inr last) = inr last
 Rose-Rose a b c (inr last) (inl more) = inr (omega (arith, last, more))
 Rose-Rose a b c (inr _) (inr last) = inr last
 
-no_piece : (piece : List ℕ) → IsPrefix piece [] → piece ≡ []
+no_piece : (piece : List ℕ) → IsBeginning piece [] → piece ≡ []
 no_piece [] (rest, e) = refl
 no_piece (x ∷ piece) (rest, e) = absurd (cc)
 
@@ -86,7 +86,7 @@ fault_suits (Some (OfGen seed count)) _ = refl
 fault_suits (Some (OfServe policy listen count)) (inl e) = absurd (cc)
 fault_suits (Some (OfServe policy listen count)) (inr e) = absurd (cc)
 
-only_done : (ending : Ending) (failed : Bool) → (status_of ending == 0 && failed) ≡ true → ending ≡ Done
+only_done : (ending : Ending) (failed : Bool) → (ending_status ending == 0 && failed) ≡ true → ending ≡ Done
 only_done Done failed e = refl
 only_done Usage failed e = absurd (cc)
 only_done ReadFault failed e = absurd (cc)
@@ -100,7 +100,7 @@ only_done (RecordingRefused fault) failed e = absurd (cc)
 pub after_run : (w : Outside) (words : List (List ℕ)) (failed : Bool) (before between after : Option (List ℕ)) (count count_between count_after status result : ℕ)
     → EndedWith w words before between count count_between status
     → result ≡ (if status == 0 && failed then 5 else status)
-    → ((status == 0 && failed) ≡ true → IsPut (line_of WriteFault) between after count_between count_after)
+    → ((status == 0 && failed) ≡ true → IsPut (ending_line WriteFault) between after count_between count_after)
     → ((status == 0 && failed) ≡ false → (after ≡ between) × (count_after ≡ count_between))
     → EndedSo (Suits None (form_of words)) before after count count_after result
 after_run w words failed before between after count count_between count_after status result ended said line quiet =
@@ -112,7 +112,7 @@ after_run w words failed before between after count count_between count_after st
             ending = WriteFault;
             suits = fault_suits (form_of words) (subst (λ e. Suits None (form_of words) e) done suits);
             answer = said ∙ rw fails refl;
-            line = behind_nothing (line_of WriteFault) before between after count count_between count_after (subst (λ e. IsPut (line_of e) before between count count_between) done ended.line) (line fails);
+            line = behind_nothing (ending_line WriteFault) before between after count count_between count_after (subst (λ e. IsPut (ending_line e) before between count count_between) done ended.line) (line fails);
           }
       | inr well ↦
           let same = quiet well in
@@ -120,6 +120,6 @@ after_run w words failed before between after count count_between count_after st
             ending = ended.ending;
             suits = suits;
             answer = said ∙ rw well ended.answer;
-            line = subst (λ n. IsPut (line_of ended.ending) before after count n) (sym same.1) (subst (λ told. IsPut (line_of ended.ending) before told count count_between) (sym same.0) ended.line);
+            line = subst (λ n. IsPut (ending_line ended.ending) before after count n) (sym same.1) (subst (λ told. IsPut (ending_line ended.ending) before told count count_between) (sym same.0) ended.line);
           }
     ]

@@ -3,16 +3,16 @@ use Rattle.std.specs.Prelude.{◌≡◌, ◌≢◌, ◌⊎◌, ℕ, Bool, true, 
 use Rattle.fv_base.specs.Words.{FormBytes, OfCheck, OfReplay, OfGen, OfServe}
 use Rattle.fv_cli.specs.declared.ending.Ending.{Ending}
 use Rattle.fv_cli.specs.declared.ending.Ending.TheVariants.{Done, Usage, WriteFault, NoMemory, NoMemoryToRun, RecordingRefused}
-use Rattle.fv_cli.specs.Endings.{status_of, line_of, IsPut}
+use Rattle.fv_cli.specs.Endings.{ending_status, ending_line, IsPut}
 use Rattle.flowvisor.specs.declared.texts.TheConstants.{HELP, VERSION}
 
 -- the text that a word asks for
-abbrev pub text_of : List ℕ → Option (List ℕ)
-text_of word = if bytes_eq word (codes "--help") then Some HELP.now else if bytes_eq word (codes "-h") then Some HELP.now else if bytes_eq word (codes "--version") then Some VERSION.now else None
+abbrev pub text_asked : List ℕ → Option (List ℕ)
+text_asked word = if bytes_eq word (codes "--help") then Some HELP.now else if bytes_eq word (codes "-h") then Some HELP.now else if bytes_eq word (codes "--version") then Some VERSION.now else None
 
 -- the text that these words ask for: one word alone
 abbrev pub text_in : List (List ℕ) → Option (List ℕ)
-text_in (word ∷ []) = text_of word
+text_in (word ∷ []) = text_asked word
 text_in _ = None
 
 -- an ending that a check of a policy can have: none of words without a form, of a recording, or of a run
@@ -43,5 +43,5 @@ Suits None (Some (OfServe policy listen count)) ending = (ending ≡ Usage) ⊎ 
 pub record EndedSo (Suiting : Ending → Type 0) (err_before err_after : Option (List ℕ)) (err_faults err_faults_after status : ℕ) : Type 0 where
   pub ending : Ending
   pub suits : Suiting ending
-  pub answer : status ≡ status_of ending
-  pub line : IsPut (line_of ending) err_before err_after err_faults err_faults_after
+  pub answer : status ≡ ending_status ending
+  pub line : IsPut (ending_line ending) err_before err_after err_faults err_faults_after

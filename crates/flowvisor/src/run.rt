@@ -1,10 +1,10 @@
 //! What the program does once its words are known, over any writer and any sink for its line.
 
 ghost use Rattle.std.specs.Prelude.{ℕ, List, ◌≡◌, ◌⊎◌, ◌&&◌, ◌==◌, if◌then◌else◌, is_err, false, true, map, string_bytes, IfOk, None, Some};
-ghost use Rattle.fv_base.specs.Told.{appended, IsPrefix, Rose};
+ghost use Rattle.fv_base.specs.Told.{appended, IsBeginning, Rose};
 ghost use Rattle.fv_base.specs.Words.{form_of, is_serve};
 ghost use Rattle.fv_cli.specs.declared.ending.Ending.TheVariants.{WriteFault};
-ghost use Rattle.fv_cli.specs.Endings.{status_of, line_of, IsPut};
+ghost use Rattle.fv_cli.specs.Endings.{ending_status, ending_line, IsPut};
 ghost use Rattle.flowvisor.specs.Asked.{text_in, EndedSo, Suits};
 ghost use Rattle.flowvisor.specs.Served.{ServedBy, WordsHadNoMemory};
 
@@ -25,8 +25,8 @@ const OUTPUT_PIECE: usize = 262_144;
 
 /// Puts the line of an ending, and answers its status.
 pub fn end<E: Sink>(err: &mut E, ending: &Ending) -> u8
-    ensures status { result ≡ status_of ending.now }
-    ensures line { IsPut (line_of ending.now) (E.contents err.old) (E.contents err.new) (E.faults err.old) (E.faults err.new) }
+    ensures status { result ≡ ending_status ending.now }
+    ensures line { IsPut (ending_line ending.now) (E.contents err.old) (E.contents err.new) (E.faults err.old) (E.faults err.new) }
 {
     ending.say(err);
     ending.status()
@@ -35,7 +35,7 @@ pub fn end<E: Sink>(err: &mut E, ending: &Ending) -> u8
 /// Puts a text that was asked for, and answers the status.
 fn show<O: Sink, E: Sink>(text: &str, out: &mut O, err: &mut E) -> u8
     ensures done { result ≡ 0 → (O.contents out.new ≡ appended (O.contents out.old) text.now) × (O.faults out.new ≡ O.faults out.old) }
-    ensures fault { (result ≡ 0) ⊎ ((result ≡ 5) × ((piece : List ℕ) × IsPrefix piece text.now × (O.contents out.new ≡ appended (O.contents out.old) piece)) × Rose (O.faults out.old) (O.faults out.new)) }
+    ensures fault { (result ≡ 0) ⊎ ((result ≡ 5) × ((piece : List ℕ) × IsBeginning piece text.now × (O.contents out.new ≡ appended (O.contents out.old) piece)) × Rose (O.faults out.old) (O.faults out.new)) }
     ensures ended { EndedSo (Suits (Some text.now) None) (E.contents err.old) (E.contents err.new) (E.faults err.old) (E.faults err.new) result }
 {
     match put_all(out, text.as_bytes()) {
@@ -47,7 +47,7 @@ fn show<O: Sink, E: Sink>(text: &str, out: &mut O, err: &mut E) -> u8
 // A flush that fails is a fault of writing, where the run told of none.
 fn after_flush<E: Sink>(status: u8, flushed: Result<(), Failed>, err: &mut E) -> u8
     ensures status { result ≡ (if status == 0 && is_err flushed then 5 else status) }
-    ensures line { (status == 0 && is_err flushed) ≡ true → IsPut (line_of WriteFault) (E.contents err.old) (E.contents err.new) (E.faults err.old) (E.faults err.new) }
+    ensures line { (status == 0 && is_err flushed) ≡ true → IsPut (ending_line WriteFault) (E.contents err.old) (E.contents err.new) (E.faults err.old) (E.faults err.new) }
     ensures quiet { (status == 0 && is_err flushed) ≡ false → (E.contents err.new ≡ E.contents err.old) × (E.faults err.new ≡ E.faults err.old) }
 {
     if status == 0 && flushed.is_err() {

@@ -1,7 +1,7 @@
 //! The texts that a lone word asks for.
 
 ghost use Rattle.std.specs.Prelude.{◌≡◌, map, option_map, string_bytes};
-ghost use Rattle.flowvisor.specs.Asked.{text_in, text_of};
+ghost use Rattle.flowvisor.specs.Asked.{text_in, text_asked};
 
 /// What `--help` prints, and `-h`.
 pub const HELP: &str = "\
@@ -35,7 +35,7 @@ large, 9 where it can't listen or accept a connection, and 10 where a thread can
 pub const VERSION: &str = "flowvisor 0.1.0 (OpenFlow 1.0, wire version 0x01)\n";
 
 fn text_of(word: &str) -> Option<&'static str>
-    ensures { option_map (λ t. t.now) result ≡ text_of word.now }
+    ensures { option_map (λ t. t.now) result ≡ text_asked word.now }
 {
     match word {
         "--help" => Some(HELP),

@@ -12,7 +12,7 @@ use Rattle.frame_header.specs.declared.network.Network.{Network}
 use Rattle.frame_header.specs.Links.{field_at, typed, tagged_link, link_of}
 use Rattle.frame_header.specs.Networks.{header_length, no_transport, transport_at, transport_of, ipv4_of, arp_of, network_of}
 use Rattle.frame_header.specs.Headers.{header_of_packet}
-use Rattle.frame_header.specs.Packets.{Tag, IsTag, IsTagOrNone, Framing, IsFraming, spell_snap, spell_type, Ethernet, IsEthernet, spell_ethernet, vlan_of, pcp_of, Segment, IsSegment, proto_of, first_of, second_of, spell_segment, Ipv4, IsIpv4, spell_ipv4_header, spell_ipv4, ipv4_header, Arp, IsArp, spell_arp, arp_header}
+use Rattle.frame_header.specs.Packets.{Tag, IsTag, IsTagOrNone, Framing, IsFraming, spell_snap, spell_type, Ethernet, IsEthernet, spell_ethernet, vlan_of, pcp_of, Segment, IsSegment, proto_of, first_port, second_of, spell_segment, Ipv4, IsIpv4, spell_ipv4_header, spell_ipv4, ipv4_header, Arp, IsArp, spell_arp, arp_header}
 
 -- ---- Ethernet
 
@@ -161,7 +161,7 @@ ports_transport proto src dst rest fits test =
       big_number-reads_back 2 dst [] fits.1,
     ) refl
 
-segment_transport : (s : Segment) (rest : List ℕ) → IsSegment s → transport_at (proto_of s) (spell_segment s ++ rest) 0 ≡ record { tp_src = first_of s; tp_dst = second_of s }
+segment_transport : (s : Segment) (rest : List ℕ) → IsSegment s → transport_at (proto_of s) (spell_segment s ++ rest) 0 ≡ record { tp_src = first_port s; tp_dst = second_of s }
 unfolding transport_at
 segment_transport (Segment.Tcp src dst) rest fits = ports_transport 6 src dst rest fits refl
 segment_transport (Segment.Udp src dst) rest fits = ports_transport 17 src dst rest fits refl
@@ -234,7 +234,7 @@ ipv4_type : IsType 0x0800
 ipv4_type = record { fits = omega arith; least = refl; no_tag = refl }
 
 pub whole_ipv4 : (in_port : ℕ) (e : Ethernet) (p : Ipv4) (s : Segment) (rest : List ℕ) → IsEthernet e → IsIpv4 p → IsSegment s → p.proto ≡ proto_of s
-    → header_of_packet in_port (spell_ethernet e 0x0800 (spell_ipv4 p 0 (spell_segment s ++ rest))) ≡ ipv4_header in_port e p (first_of s) (second_of s)
+    → header_of_packet in_port (spell_ethernet e 0x0800 (spell_ipv4 p 0 (spell_segment s ++ rest))) ≡ ipv4_header in_port e p (first_port s) (second_of s)
 whole_ipv4 in_port e p s rest h ip fits proto =
     let payload = spell_ipv4 p 0 (spell_segment s ++ rest) in
     header_again in_port e 0x0800 payload _ h ipv4_type (ipv4_network payload ∙ ipv4_again p 0 (spell_segment s ++ rest) _ ip (whole_transport p (spell_segment s ++ rest) ip ∙ ap (λ n. transport_at n (spell_segment s ++ rest) 0) proto ∙ segment_transport s rest fits))

@@ -1,7 +1,7 @@
 -- The header of a packet: its twelve fields as matching sees them (OpenFlow 1.0.0, section 3.4).
 use Rattle.std.specs.Prelude.{ℕ, List}
 use Rattle.of10_model.specs.Header.{Header}
-use Rattle.frame_header.specs.Links.{field_at, Link, link_of}
+use Rattle.frame_header.specs.Links.{field_at, LinkHeader, link_of}
 use Rattle.frame_header.specs.declared.network.Network.{Network}
 use Rattle.frame_header.specs.Networks.{network_of}
 
@@ -10,7 +10,7 @@ abbrev pub dl_type_of : List ℕ → ℕ
 dl_type_of bytes = (link_of bytes).kind
 
 -- the fields that two layers give, with the port of entry and the addresses
-abbrev pub header_from : ℕ → List ℕ → Link → Network → Header
+abbrev pub header_from : ℕ → List ℕ → LinkHeader → Network → Header
 header_from in_port bytes link network = record {
   in_port = in_port;
   dl_src = field_at bytes 6 6;

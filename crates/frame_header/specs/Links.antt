@@ -28,28 +28,28 @@ typed word rest =
     else unread 0x05ff
 
 -- a packet's VLAN id with its priority, its type and its payload
-pub record Link : Type 0 where
+pub record LinkHeader : Type 0 where
   pub vlan : ℕ
   pub pcp : ℕ
   pub kind : ℕ
   pub payload : List ℕ
 
 -- without a VLAN tag the id is 0xffff (OpenFlow 1.0.0, section 5.2.3)
-abbrev pub untagged : Typed → Link
+abbrev pub untagged : Typed → LinkHeader
 untagged t = record { vlan = 0xffff; pcp = 0; kind = t.kind; payload = t.payload }
 
 -- an IEEE 802.1Q tag has the priority in its high 3 bits and the id in its low 12
-abbrev pub tagged : ℕ → Typed → Link
+abbrev pub tagged : ℕ → Typed → LinkHeader
 tagged tag t = record { vlan = tag % 0x1000; pcp = tag / 0x2000; kind = t.kind; payload = t.payload }
 
 -- what is behind type 0x8100: the tag and the type of what it tags; a tag that is cut off is none (this proxy's own rule)
-unfoldable pub tagged_link : List ℕ → Link
+unfoldable pub tagged_link : List ℕ → LinkHeader
 tagged_link rest =
     if leb 4 (length rest) then tagged (number_at rest 0 2) (typed (number_at rest 2 2) (drop 4 rest))
     else untagged (unread 0)
 
 -- the link layer behind the two addresses: at most one tag is read; a packet without a type has type 0 (this proxy's own rule)
-unfoldable pub link_of : List ℕ → Link
+unfoldable pub link_of : List ℕ → LinkHeader
 link_of bytes =
     if not (leb 14 (length bytes)) then untagged (unread 0)
     else if number_at bytes 12 2 == 0x8100 then tagged_link (drop 14 bytes)

@@ -95,10 +95,10 @@ proto_of (Udp src dst) = 17
 proto_of (Icmp kind code) = 1
 
 -- the first field: the source port, or ICMP's type
-abbrev pub first_of : Segment → ℕ
-first_of (Tcp src dst) = src
-first_of (Udp src dst) = src
-first_of (Icmp kind code) = kind
+abbrev pub first_port : Segment → ℕ
+first_port (Tcp src dst) = src
+first_port (Udp src dst) = src
+first_port (Icmp kind code) = kind
 
 -- the second field: the destination port, or ICMP's code
 abbrev pub second_of : Segment → ℕ

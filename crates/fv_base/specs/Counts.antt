@@ -10,9 +10,9 @@ abbrev pub one_more : ℕ → ℕ
 one_more count = min (count + 1) (2 ^ 64 - 1)
 
 -- where the first count of a name stands, or how many counts there are
-abbrev pub place_of : List Count → List ℕ → ℕ
-place_of [] name = 0
-place_of (count ∷ others) name = if bytes_eq (string_bytes count.name) name then 0 else place_of others name + 1
+abbrev pub count_place : List Count → List ℕ → ℕ
+count_place [] name = 0
+count_place (count ∷ others) name = if bytes_eq (string_bytes count.name) name then 0 else count_place others name + 1
 
 -- one of the counts is of this name
 abbrev pub has_count : List Count → List ℕ → Bool

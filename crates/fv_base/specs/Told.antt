@@ -9,8 +9,8 @@ appended None bytes = None
 appended (Some before) bytes = Some (before ++ bytes)
 
 -- the bytes begin with the piece
-abbrev pub IsPrefix : List ℕ → List ℕ → Type 0
-IsPrefix piece bytes = (rest : List ℕ) × (piece ++ rest ≡ bytes)
+abbrev pub IsBeginning : List ℕ → List ℕ → Type 0
+IsBeginning piece bytes = (rest : List ℕ) × (piece ++ rest ≡ bytes)
 
 -- The count rose. At the last value of a u64 it stays, and is taken as risen.
 abbrev pub Rose : ℕ → ℕ → Type 0
@@ -22,7 +22,7 @@ CountedAt path (Err ReadFault) old new = Rose (old path) (new path)
 CountedAt path result old new = (at : List ℕ) → new at ≡ old at
 
 -- The first n bytes of what is left of a file were put over the front of a buffer: none only at the end.
-pub record Gives (left before : List ℕ) (n : ℕ) (after : List ℕ) : Type 0 where
+pub record GivesBytes (left before : List ℕ) (n : ℕ) (after : List ℕ) : Type 0 where
   pub some_left : n ≤ length left
   pub buffer : after ≡ take n left ++ drop n before
   pub at_end : n ≡ 0 → left ≡ []

@@ -2,7 +2,7 @@
 
 ghost use Rattle.std.specs.Prelude.{◌≡◌, ◌≤◌, List, ℕ, false, ◌||◌, ◌&&◌, is_ok, IsTrue, IsFalse};
 ghost use Rattle.std.specs.Str.{bytes_eq};
-ghost use Rattle.fv_base.specs.Counts.{count_at, is_declared, place_of, raised_at};
+ghost use Rattle.fv_base.specs.Counts.{count_at, is_declared, count_place, raised_at};
 ghost use Rattle.fv_base.specs.Told.{Rose};
 
 use super::one_more;
@@ -17,7 +17,7 @@ struct Count {
 
 // The place of the count of the name, or how many counts there are.
 fn place(counts: &[Count], name: &str) -> usize
-    ensures { result ≡ place_of counts.now name.now }
+    ensures { result ≡ count_place counts.now name.now }
 {
     for (i, count) in counts.iter().enumerate() {
         if count.name.as_str() == name {

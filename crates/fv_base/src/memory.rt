@@ -5,7 +5,7 @@ ghost use Rattle.std.specs.Result.{result_ok};
 ghost use Rattle.std.specs.Str.{bytes_eq};
 ghost use Rattle.fv_base.specs.Counts.{count_at, is_declared, one_more, raised_at};
 ghost use Rattle.fv_base.specs.Memory.{Starts, bytes_taken, called, file_at, files_plan, moved, read_count, sink_plan, with_file};
-ghost use Rattle.fv_base.specs.Told.{Gives, Rose, appended};
+ghost use Rattle.fv_base.specs.Told.{GivesBytes, Rose, appended};
 
 use super::{Counts, Failed, Files, Sink, one_more};
 use std::alloc::{AllocError, Global};
@@ -186,7 +186,7 @@ fn copy(bytes: &[u8], from: u64, most: usize, into: &mut [u8]) -> usize
     requires some { 0 < most }
     requires within { most ≤ length into.old }
     ensures within { result ≤ length into.old }
-    ensures given { Gives (drop from bytes.now) into.old result into.new }
+    ensures given { GivesBytes (drop from bytes.now) into.old result into.new }
     ensures count { result ≡ min (length bytes.now - from) most }
 {
     if from >= bytes.len() as u64 {
@@ -279,7 +279,7 @@ impl Files for MemoryFiles {
     fn read(&mut self, path: &str, from: u64, into: &mut [u8]) -> Result<usize, Failed>
         requires { 0 < length into.old }
         ensures within { IfOk result (λ n. n ≤ length into.old) }
-        ensures given { IfOk result (λ n. IfSome (file_at self.old.files.items path.now) (λ file. Gives (drop from file) into.old n into.new)) }
+        ensures given { IfOk result (λ n. IfSome (file_at self.old.files.items path.now) (λ file. GivesBytes (drop from file) into.old n into.new)) }
         ensures cause { OnErr result (Rose (count_at self.old.counts path.now) (count_at self.new.counts path.now)) }
         ensures same { (at : List ℕ) → file_at self.new.files.items at ≡ file_at self.old.files.items at }
         ensures count { (at : List ℕ) → count_at self.old.counts at ≤ count_at self.new.counts at }

@@ -6,7 +6,7 @@
 
 ghost use Rattle.std.specs.Prelude.{◌≡◌, ◌≤◌, ◌<◌, ℕ, List, Option, length, drop, take, IfOk, OnOk, OnErr, IfSome};
 ghost use Rattle.fv_base.specs.Counts.{one_more};
-ghost use Rattle.fv_base.specs.Told.{appended, Gives, Rose};
+ghost use Rattle.fv_base.specs.Told.{appended, GivesBytes, Rose};
 
 /// A call on the outside failed. Its cause is that the object's count of faults rose.
 #[derive(Clone, Copy, Debug, PartialEq, Eq)]
@@ -55,7 +55,7 @@ pub trait Files: Drop {
     fn read(&mut self, path: &str, from: u64, into: &mut [u8]) -> Result<usize, Failed>
         requires { 0 < length into.old }
         ensures within { IfOk result (λ n. n ≤ length into.old) }
-        ensures given { IfOk result (λ n. IfSome (contents self.old path.now) (λ file. Gives (drop from file) into.old n into.new)) }
+        ensures given { IfOk result (λ n. IfSome (contents self.old path.now) (λ file. GivesBytes (drop from file) into.old n into.new)) }
         ensures cause { OnErr result (Rose (faults self.old path.now) (faults self.new path.now)) }
         ensures calm { OnOk result ((at : List ℕ) → faults self.new at ≡ faults self.old at) }
         ensures same { (at : List ℕ) → contents self.new at ≡ contents self.old at }

@@ -1,7 +1,7 @@
 //! Whole transfers over the traits of the outside: all bytes put, a whole file loaded.
 
 ghost use Rattle.std.specs.Prelude.{◌≡◌, ◌≤◌, ◌<◌, ℕ, List, length, IfOk, IfErr, IfSome, OnOk, OnErr};
-ghost use Rattle.fv_base.specs.Told.{appended, IsPrefix, Rose, CountedAt};
+ghost use Rattle.fv_base.specs.Told.{appended, IsBeginning, Rose, CountedAt};
 
 use super::{Failed, Files, Sink};
 use std::alloc::Global;
@@ -27,7 +27,7 @@ pub enum LoadFault {
 /// Puts all of `bytes`. After `Failed` the sink took the first of them, perhaps none.
 pub fn put_all<K: Sink>(sink: &mut K, bytes: &[u8]) -> Result<(), Failed>
     ensures all { OnOk result (K.contents sink.new ≡ appended (K.contents sink.old) bytes.now) }
-    ensures part { OnErr result ((piece : List ℕ) × IsPrefix piece bytes.now × (K.contents sink.new ≡ appended (K.contents sink.old) piece)) }
+    ensures part { OnErr result ((piece : List ℕ) × IsBeginning piece bytes.now × (K.contents sink.new ≡ appended (K.contents sink.old) piece)) }
     ensures cause { OnErr result (Rose (K.faults sink.old) (K.faults sink.new)) }
     ensures calm { OnOk result (K.faults sink.new ≡ K.faults sink.old) }
     ensures count { K.faults sink.old ≤ K.faults sink.new }

@@ -10,12 +10,12 @@ use Rattle.recording.specs.declared.fault.RecordingFault.{RecordingFault}
 use Rattle.recording.specs.Recordings.{read_items}
 use Rattle.fv_cli.specs.declared.ending.Ending.{Ending}
 use Rattle.fv_cli.specs.declared.ending.Ending.TheVariants.{Done, Usage, ReadFault, WriteFault, NoMemory, NoMemoryToRun, TooLarge, PolicyRefused, RecordingRefused}
-use Rattle.fv_cli.specs.Endings.{status_of, policy_limit, recording_limit, PassesLimit, WereRead, PolicySays, HasPolicy, RecordingFails, Outside, IsCheckCause, IsReplayCause, IsGenEnding, Causes, IsReadyPolicy, IsReadyRecording, Completes}
+use Rattle.fv_cli.specs.Endings.{ending_status, policy_limit, recording_limit, PassesLimit, WereRead, PolicySays, HasPolicy, RecordingFails, Outside, IsCheckCause, IsReplayCause, IsGenEnding, Causes, IsReadyPolicy, IsReadyRecording, Completes}
 use Rattle.fv_cli.proofs.Making.{same_Ok}
 
 -- all was done, or memory ran out
 abbrev IsFine : Ending → Type 0
-IsFine ending = (status_of ending ≡ 0) ⊎ (status_of ending ≡ 6)
+IsFine ending = (ending_status ending ≡ 0) ⊎ (ending_status ending ≡ 6)
 
 -- what was read of a file that is told is all of it
 read_whole : (limit : ℕ) (file : Option (List ℕ)) (told bytes : List ℕ) → file ≡ Some told → WereRead limit file bytes → bytes ≡ told
@@ -78,7 +78,7 @@ gen_is_fine text before after count_before count_after calm (PolicyRefused fault
 gen_is_fine text before after count_before count_after calm (RecordingRefused fault) cause = absurd cause
 
 -- an ending that has its cause completes the call
-pub completes : (w : Outside) (form : Option FormBytes) (ending : Ending) → Causes w form ending → Completes w form (status_of ending)
+pub completes : (w : Outside) (form : Option FormBytes) (ending : Ending) → Causes w form ending → Completes w form (ending_status ending)
 completes w None ending cause ready calm = absurd ready
 completes w (Some (OfCheck policy)) ending cause (p, ready) calm = check_is_fine w policy p ready calm ending cause
 completes w (Some (OfReplay policy recording)) ending cause (p, ready, run) calm = replay_is_fine w policy recording p ready run calm ending cause

@@ -5,7 +5,7 @@ use Rattle.std.specs.List.{flat_map}
 use Rattle.std.proofs.Math.Seq.{drop-append_seam, take-append_seam}
 use Rattle.std.proofs.lemmas.List.{length-append}
 use Rattle.std.proofs.lemmas.Bool.{and_parts}
-use Rattle.recording.specs.Recordings.{Told, head_spelling, spell, magic, told_at, all_told}
+use Rattle.recording.specs.Recordings.{Told, head_spelling, record_bytes, magic, placed_record, all_told}
 use Rattle.desk_words.specs.Recorded.{told_by, told_in}
 use Rattle.fv_base.specs.Words.{FormBytes, OfCheck, OfReplay, OfGen, OfServe, replay_of, gen_of, seed_of, rounds_of, number_of, within, serve_of, form_of, is_plain, connections_of}
 use Rattle.fv_generator.specs.Made.{records_of, recording_of}
@@ -23,22 +23,22 @@ unfolding head_of head_spelling
 head_size t = refl
 
 -- records that stand behind other bytes
-read_behind : (before : List ℕ) (told : List Told) → told_in (before ++ flat_map spell told) (all_told (length before) told) ≡ told
+read_behind : (before : List ℕ) (told : List Told) → told_in (before ++ flat_map record_bytes told) (all_told (length before) told) ≡ told
 unfolding all_told head_of
 read_behind before [] = refl
 read_behind before (t ∷ others) =
-    let rest = flat_map spell others in
-    let file = before ++ (spell t ++ rest) in
+    let rest = flat_map record_bytes others in
+    let file = before ++ (record_bytes t ++ rest) in
     let sixteen = head_size t in
     let placed : length (before ++ head_of t) ≡ length before + 16 = omega (arith, length-append before (head_of t), sixteen) in
     let parted : file ≡ (before ++ head_of t) ++ (t.bytes ++ rest) = ap (λ (text : List ℕ). before ++ text) (append_assoc (head_of t) t.bytes rest) ∙ sym (append_assoc before (head_of t) (t.bytes ++ rest)) in
     let carries : take (length t.bytes) (drop (length before + 16) file) ≡ t.bytes =
     ap (take (length t.bytes)) (ap₂ (λ (n : ℕ) (text : List ℕ). drop n text) (sym placed) parted ∙ drop-append_seam (before ++ head_of t) (t.bytes ++ rest)) ∙ take-append_seam t.bytes rest in
-    let next : length (before ++ spell t) ≡ length before + 16 + length t.bytes = omega (arith, length-append before (spell t), length-append (head_of t) t.bytes, sixteen) in
+    let next : length (before ++ record_bytes t) ≡ length before + 16 + length t.bytes = omega (arith, length-append before (record_bytes t), length-append (head_of t) t.bytes, sixteen) in
     let later : told_in file (all_told (length before + 16 + length t.bytes) others) ≡ others =
     subst (λ (at : ℕ). told_in file (all_told at others) ≡ others) next
-    (subst (λ (text : List ℕ). told_in text (all_told (length (before ++ spell t)) others) ≡ others) (append_assoc before (spell t) rest) (read_behind (before ++ spell t) others)) in
-    ap₂ (λ (bytes : List ℕ) (more : List Told). told_by (told_at (length before) t) bytes ∷ more) carries later
+    (subst (λ (text : List ℕ). told_in text (all_told (length (before ++ record_bytes t)) others) ≡ others) (append_assoc before (record_bytes t) rest) (read_behind (before ++ record_bytes t) others)) in
+    ap₂ (λ (bytes : List ℕ) (more : List Told). told_by (placed_record (length before) t) bytes ∷ more) carries later
 
 -- the records that are read of a made recording tell those that were drawn
 pub made_is_told : (seed count : ℕ) → told_in (recording_of seed count) (all_told 8 (records_of seed count)) ≡ records_of seed count

@@ -1,7 +1,7 @@
 -- Lines that are put piece by piece.
 use Rattle.std.proofs.Common.{◌≡◌, ℕ, zero, suc, ◌+◌, ◌<◌, ◌++◌, List, [], ◌∷◌, length, take, drop, get_or, Option, refl, sym, ap, ◌∙◌, append_assoc, add-one, arith}
 use Rattle.std.proofs.lemmas.Grind.{common_steps}
-use Rattle.fv_base.specs.Told.{appended, IsPrefix}
+use Rattle.fv_base.specs.Told.{appended, IsBeginning}
 use Rattle.fv_cli.specs.declared.lines.Piece.{Piece}
 use Rattle.fv_cli.specs.Lines.{piece_text, whole_text}
 use Rattle.fv_report.proofs.Writing.{appended_twice}
@@ -46,8 +46,8 @@ piece-put pieces i other old before after h so-far now =
 
 -- the first bytes of a piece were put
 pub part-put : (pieces : List Piece) (i : ℕ) (other : Piece) (old before after : Option (List ℕ)) (put : List ℕ) → i < length pieces →
-    before ≡ appended old (whole_text (take i pieces)) → IsPrefix put (piece_text (get_or pieces i other)) → after ≡ appended before put →
-    (all : List ℕ) × IsPrefix all (whole_text pieces) × (after ≡ appended old all)
+    before ≡ appended old (whole_text (take i pieces)) → IsBeginning put (piece_text (get_or pieces i other)) → after ≡ appended before put →
+    (all : List ℕ) × IsBeginning all (whole_text pieces) × (after ≡ appended old all)
 part-put pieces i other old before after put h so-far (rest, is) now =
     let front = whole_text (take i pieces) in
     let behind = whole_text (drop (suc i) pieces) in

@@ -1,6 +1,6 @@
 -- How a call of the program ends: its status, its line, and what has to be so for it. All of this is the program's own rule.
 use Rattle.std.specs.Prelude.{◌≡◌, ℕ, ◌<◌, ◌≤◌, ◌⊎◌, List, [], length, codes, Bool, true, false, Option, Some, None, IfSome, Result, Ok, Err}
-use Rattle.fv_base.specs.Told.{appended, IsPrefix, Rose}
+use Rattle.fv_base.specs.Told.{appended, IsBeginning, Rose}
 use Rattle.fv_base.specs.Words.{FormBytes, OfCheck, OfReplay, OfGen, OfServe, form_of}
 use Rattle.flowspace.specs.Policies.{PolicyView, IsPolicy}
 use Rattle.policy_text.specs.declared.fault.ReadFault as text
@@ -18,28 +18,28 @@ use Rattle.fv_cli.specs.declared.ending.Ending.{Ending}
 use Rattle.fv_cli.specs.declared.ending.Ending.TheVariants.{Done, Usage, ReadFault, WriteFault, NoMemory, NoMemoryToRun, TooLarge, PolicyRefused, RecordingRefused}
 use Rattle.fv_cli.specs.Lines.{policy_line, recording_line, accepted_line}
 
-abbrev pub status_of : Ending → ℕ
-status_of Done = 0
-status_of Usage = 1
-status_of (PolicyRefused fault) = 2
-status_of (RecordingRefused fault) = 3
-status_of ReadFault = 4
-status_of WriteFault = 5
-status_of NoMemory = 6
-status_of NoMemoryToRun = 6
-status_of TooLarge = 7
+abbrev pub ending_status : Ending → ℕ
+ending_status Done = 0
+ending_status Usage = 1
+ending_status (PolicyRefused fault) = 2
+ending_status (RecordingRefused fault) = 3
+ending_status ReadFault = 4
+ending_status WriteFault = 5
+ending_status NoMemory = 6
+ending_status NoMemoryToRun = 6
+ending_status TooLarge = 7
 
 -- the line on the error stream; nothing where all was done
-abbrev pub line_of : Ending → List ℕ
-line_of Done = []
-line_of Usage = codes "usage: flowvisor check POLICY / replay POLICY RECORDING / gen SEED COUNT / serve POLICY LISTEN COUNT\n"
-line_of (PolicyRefused fault) = policy_line fault
-line_of (RecordingRefused fault) = recording_line fault
-line_of ReadFault = codes "read fault\n"
-line_of WriteFault = codes "write fault\n"
-line_of NoMemory = codes "no memory\n"
-line_of NoMemoryToRun = codes "no memory\n"
-line_of TooLarge = codes "too large\n"
+abbrev pub ending_line : Ending → List ℕ
+ending_line Done = []
+ending_line Usage = codes "usage: flowvisor check POLICY / replay POLICY RECORDING / gen SEED COUNT / serve POLICY LISTEN COUNT\n"
+ending_line (PolicyRefused fault) = policy_line fault
+ending_line (RecordingRefused fault) = recording_line fault
+ending_line ReadFault = codes "read fault\n"
+ending_line WriteFault = codes "write fault\n"
+ending_line NoMemory = codes "no memory\n"
+ending_line NoMemoryToRun = codes "no memory\n"
+ending_line TooLarge = codes "too large\n"
 
 -- the limits of the two files in bytes
 abbrev pub policy_limit : ℕ
@@ -163,11 +163,11 @@ Causes w (Some (OfGen seed count)) ending = IsGenEnding (summary the_policy (rec
 Causes w (Some (OfServe policy listen count)) ending = ending ≡ Usage
 
 -- an ending before the run
-abbrev pub is_early : Ending → Bool
-is_early Done = false
-is_early WriteFault = false
-is_early NoMemoryToRun = false
-is_early _ = true
+abbrev pub is_before_run : Ending → Bool
+is_before_run Done = false
+is_before_run WriteFault = false
+is_before_run NoMemoryToRun = false
+is_before_run _ = true
 
 -- what a call leaves of the counts of all paths: they stay, but at a read fault, where none falls
 abbrev pub CountsReads : Ending → (List ℕ → ℕ) → (List ℕ → ℕ) → Type 0
@@ -182,17 +182,17 @@ CountsPuts ending before after = after ≡ before
 -- the line was put and the count stayed, or a prefix of it where the count rose
 abbrev pub IsPut : List ℕ → Option (List ℕ) → Option (List ℕ) → ℕ → ℕ → Type 0
 IsPut line before after count_before count_after =
-    ((after ≡ appended before line) × (count_after ≡ count_before)) ⊎ ((piece : List ℕ) × IsPrefix piece line × (after ≡ appended before piece) × Rose count_before count_after)
+    ((after ≡ appended before line) × (count_after ≡ count_before)) ⊎ ((piece : List ℕ) × IsBeginning piece line × (after ≡ appended before piece) × Rose count_before count_after)
 
 -- A call that ended with a status: one ending gives the status, has its cause, left the output alone before the run, left the counts that aren't its cause, and put its line.
 pub record EndedWith (w : Outside) (words : List (List ℕ)) (err_before err_after : Option (List ℕ)) (err_faults err_faults_after status : ℕ) : Type 0 where
   pub ending : Ending
-  pub answer : status ≡ status_of ending
+  pub answer : status ≡ ending_status ending
   pub cause : Causes w (form_of words) ending
-  pub nothing_early : is_early ending ≡ true → w.out_after ≡ w.out_before
+  pub nothing_early : is_before_run ending ≡ true → w.out_after ≡ w.out_before
   pub reads : CountsReads ending w.read_before w.read_after
   pub puts : CountsPuts ending w.put_before w.put_after
-  pub line : IsPut (line_of ending) err_before err_after err_faults err_faults_after
+  pub line : IsPut (ending_line ending) err_before err_after err_faults err_faults_after
 
 -- ---- completeness
 

@@ -8,7 +8,7 @@ use Rattle.flowspace.specs.declared.fault.PolicyFault.TheVariants as refusal
 use Rattle.flowspace.specs.Policies.{PolicyView}
 use Rattle.policy_text.specs.declared.fault.ReadFault.{ReadFault}
 use Rattle.policy_text.specs.declared.fault.ReadFault.TheVariants as reading
-use Rattle.policy_text.specs.Places.{field_key, place_text}
+use Rattle.policy_text.specs.Places.{field_key, key_path_text}
 use Rattle.recording.specs.declared.fault.RecordingFault.{RecordingFault}
 use Rattle.recording.specs.declared.fault.RecordingFault.TheVariants as recording
 use Rattle.fv_cli.specs.declared.lines.Piece.{Piece}
@@ -46,9 +46,9 @@ refusal_text refusal.Memory = codes "no memory"
 
 abbrev pub reading_text : ReadFault → List ℕ
 reading_text reading.NotToml = codes "not TOML"
-reading_text (reading.Missing at) = codes "missing " ++ place_text at
-reading_text (reading.BadValue at) = codes "bad value " ++ place_text at
-reading_text (reading.UnknownKey at) = codes "unknown key " ++ place_text at
+reading_text (reading.Missing at) = codes "missing " ++ key_path_text at
+reading_text (reading.BadValue at) = codes "bad value " ++ key_path_text at
+reading_text (reading.UnknownKey at) = codes "unknown key " ++ key_path_text at
 reading_text (reading.Improper rule field) = improper_text rule field
 reading_text (reading.Refused fault) = refusal_text fault
 reading_text reading.Memory = codes "no memory"

@@ -1,7 +1,7 @@
 //! How a call of the program ends.
 
 ghost use Rattle.std.specs.Prelude.{◌≡◌};
-ghost use Rattle.fv_cli.specs.Endings.{status_of, line_of, IsPut};
+ghost use Rattle.fv_cli.specs.Endings.{ending_status, ending_line, IsPut};
 ghost use Rattle.fv_cli.specs.Lines.{whole_text};
 
 use crate::base::Sink;
@@ -35,7 +35,7 @@ pub enum Ending {
 impl Ending {
     /// The exit status.
     pub fn status(&self) -> u8
-        ensures { result ≡ status_of self.now }
+        ensures { result ≡ ending_status self.now }
     {
         match self {
             Ending::Done => 0,
@@ -50,7 +50,7 @@ impl Ending {
     }
 
     fn line(&self) -> Line<'_>
-        ensures { whole_text result ≡ line_of self.now }
+        ensures { whole_text result ≡ ending_line self.now }
     {
         match self {
             Ending::Done => plain_line(""),
@@ -69,7 +69,7 @@ impl Ending {
     /// Puts the line of the ending with its line feed, or as much of it as the sink takes; nothing where
     /// all was done. It takes no memory.
     pub fn say<E: Sink>(&self, err: &mut E)
-        ensures { IsPut (line_of self.now) (E.contents err.old) (E.contents err.new) (E.faults err.old) (E.faults err.new) }
+        ensures { IsPut (ending_line self.now) (E.contents err.old) (E.contents err.new) (E.faults err.old) (E.faults err.new) }
     {
         let _ = put_pieces(err, &self.line());
     }

@@ -2,9 +2,9 @@
 //! memory.
 
 ghost use Rattle.std.specs.Prelude.{◌≡◌, ◌≤◌, ◌++◌, ℕ, List, codes, decimal, OnOk, OnErr};
-ghost use Rattle.fv_base.specs.Told.{appended, IsPrefix, Rose};
+ghost use Rattle.fv_base.specs.Told.{appended, IsBeginning, Rose};
 ghost use Rattle.flowspace.specs.Policies.{IsPolicy};
-ghost use Rattle.policy_text.specs.Places.{field_key, place_text};
+ghost use Rattle.policy_text.specs.Places.{field_key, key_path_text};
 ghost use Rattle.fv_cli.specs.Lines.{piece_text, whole_text, what_text, improper_text, refusal_text, reading_text, policy_line, recording_line, accepted_line};
 
 use crate::base::{Failed, Sink, put_all};
@@ -27,7 +27,7 @@ const NOTHING: Piece<'static> = Piece::Text("");
 
 fn put_piece<K: Sink>(sink: &mut K, piece: Piece<'_>) -> Result<(), Failed>
     ensures all { OnOk result (K.contents sink.new ≡ appended (K.contents sink.old) (piece_text piece.entry)) }
-    ensures part { OnErr result ((put : List ℕ) × IsPrefix put (piece_text piece.entry) × (K.contents sink.new ≡ appended (K.contents sink.old) put)) }
+    ensures part { OnErr result ((put : List ℕ) × IsBeginning put (piece_text piece.entry) × (K.contents sink.new ≡ appended (K.contents sink.old) put)) }
     ensures cause { OnErr result (Rose (K.faults sink.old) (K.faults sink.new)) }
     ensures calm { OnOk result (K.faults sink.new ≡ K.faults sink.old) }
     ensures count { K.faults sink.old ≤ K.faults sink.new }
@@ -41,7 +41,7 @@ fn put_piece<K: Sink>(sink: &mut K, piece: Piece<'_>) -> Result<(), Failed>
 /// Puts all pieces. After `Failed` the sink took the first bytes of them, perhaps none.
 pub(crate) fn put_pieces<K: Sink>(sink: &mut K, pieces: &[Piece<'_>]) -> Result<(), Failed>
     ensures all { OnOk result (K.contents sink.new ≡ appended (K.contents sink.old) (whole_text pieces.now)) }
-    ensures part { OnErr result ((put : List ℕ) × IsPrefix put (whole_text pieces.now) × (K.contents sink.new ≡ appended (K.contents sink.old) put)) }
+    ensures part { OnErr result ((put : List ℕ) × IsBeginning put (whole_text pieces.now) × (K.contents sink.new ≡ appended (K.contents sink.old) put)) }
     ensures cause { OnErr result (Rose (K.faults sink.old) (K.faults sink.new)) }
     ensures calm { OnOk result (K.faults sink.new ≡ K.faults sink.old) }
     ensures count { K.faults sink.old ≤ K.faults sink.new }
@@ -83,7 +83,7 @@ fn field(field: Field) -> &'static str
 }
 
 fn place(at: &Place) -> [Piece<'_>; 4]
-    ensures { whole_text result ≡ place_text at.now }
+    ensures { whole_text result ≡ key_path_text at.now }
 {
     let table = match at.part {
         Part::Top => return [Piece::Text(at.key.as_str()), NOTHING, NOTHING, NOTHING],
@@ -99,7 +99,7 @@ fn place(at: &Place) -> [Piece<'_>; 4]
 }
 
 fn at_place<'a>(fault: &'static str, at: &'a Place) -> [Piece<'a>; 5]
-    ensures { whole_text result ≡ fault.now ++ place_text at.now }
+    ensures { whole_text result ≡ fault.now ++ key_path_text at.now }
 {
     let [a, b, c, d] = place(at);
     [Piece::Text(fault), a, b, c, d]

@@ -9,7 +9,7 @@ ghost use Rattle.desk_words.specs.Reports.{report};
 ghost use Rattle.fv_generator.specs.Made.{records_of};
 ghost use Rattle.fv_generator.specs.Policies.{the_policy};
 ghost use Rattle.summary_words.specs.Summaries.{summary};
-ghost use Rattle.fv_cli.specs.Endings.{PolicySays, HasRecording, IsLoadCause, IsPolicyCause, IsRecordingCause, IsRunEnding, IsGenEnding, IsCheckCause, IsReplayCause, Causes, is_early, CountsReads, CountsPuts, EndedWith, Completes};
+ghost use Rattle.fv_cli.specs.Endings.{PolicySays, HasRecording, IsLoadCause, IsPolicyCause, IsRecordingCause, IsRunEnding, IsGenEnding, IsCheckCause, IsReplayCause, Causes, is_before_run, CountsReads, CountsPuts, EndedWith, Completes};
 
 use crate::base::{Failed, Files, Form, LoadFault, Sink, Words, WordsFault, load_file, read_words};
 use crate::ending::Ending;
@@ -89,7 +89,7 @@ fn load_recording<F: Files>(
 /// Says whether the policy is accepted.
 fn check<F: Files, O: Sink>(alloc: Global, policy: &str, files: &mut F, out: &mut O) -> Ending
     ensures cause { IsCheckCause (record { files = F.contents files.old; read_before = F.faults files.old; read_after = F.faults files.new; out_before = O.contents out.old; out_after = O.contents out.new; put_before = O.faults out.old; put_after = O.faults out.new }) policy.now result }
-    ensures early { is_early result ≡ true → O.contents out.new ≡ O.contents out.old }
+    ensures early { is_before_run result ≡ true → O.contents out.new ≡ O.contents out.old }
     ensures reads { CountsReads result (F.faults files.old) (F.faults files.new) }
     ensures puts { CountsPuts result (O.faults out.old) (O.faults out.new) }
 {
@@ -112,7 +112,7 @@ fn replay<F: Files, O: Sink>(
     out: &mut O,
 ) -> Ending
     ensures cause { IsReplayCause (record { files = F.contents files.old; read_before = F.faults files.old; read_after = F.faults files.new; out_before = O.contents out.old; out_after = O.contents out.new; put_before = O.faults out.old; put_after = O.faults out.new }) policy.now recording.now result }
-    ensures early { is_early result ≡ true → O.contents out.new ≡ O.contents out.old }
+    ensures early { is_before_run result ≡ true → O.contents out.new ≡ O.contents out.old }
     ensures reads { CountsReads result (F.faults files.old) (F.faults files.new) }
     ensures puts { CountsPuts result (O.faults out.old) (O.faults out.new) }
 {
@@ -154,7 +154,7 @@ fn made_recording(alloc: Global, seed: u64, count: u32) -> Result<Vec<u8>, Alloc
 fn generate<O: Sink>(alloc: Global, seed: u64, count: u32, out: &mut O) -> Ending
     requires { count ≤ 1000000 }
     ensures cause { IsGenEnding (summary the_policy (records_of seed count)) (O.contents out.old) (O.contents out.new) (O.faults out.old) (O.faults out.new) result }
-    ensures early { is_early result ≡ true → O.contents out.new ≡ O.contents out.old }
+    ensures early { is_before_run result ≡ true → O.contents out.new ≡ O.contents out.old }
     ensures puts { CountsPuts result (O.faults out.old) (O.faults out.new) }
 {
     let Ok(policy) = fv_generator::policy(alloc) else {
@@ -173,7 +173,7 @@ fn generate<O: Sink>(alloc: Global, seed: u64, count: u32, out: &mut O) -> Endin
 /// Does what the words ask for.
 fn decide<F: Files, O: Sink>(alloc: Global, words: &Words, files: &mut F, out: &mut O) -> Ending
     ensures cause { Causes (record { files = F.contents files.old; read_before = F.faults files.old; read_after = F.faults files.new; out_before = O.contents out.old; out_after = O.contents out.new; put_before = O.faults out.old; put_after = O.faults out.new }) (form_of words.now) result }
-    ensures early { is_early result ≡ true → O.contents out.new ≡ O.contents out.old }
+    ensures early { is_before_run result ≡ true → O.contents out.new ≡ O.contents out.old }
     ensures reads { CountsReads result (F.faults files.old) (F.faults files.new) }
     ensures puts { CountsPuts result (O.faults out.old) (O.faults out.new) }
 {

@@ -7,9 +7,9 @@ use Rattle.std.proofs.lemmas.Bool.{le-leb}
 use Rattle.std.proofs.lemmas.List.Elements.{All-from_recursion}
 use Rattle.of10_port.specs.Features.{spell_features, features_front}
 use Rattle.recording.specs.declared.item.Item.{Item}
-use Rattle.recording.specs.Recordings.{Told, HasMoment, told_at, all_told, may_be_told, is_formed, fits, is_switch_open, is_slice_open, read_items, magic, spell, head_spelling}
+use Rattle.recording.specs.Recordings.{Told, HasMoment, placed_record, all_told, may_be_told, is_formed, fits, is_switch_open, is_slice_open, read_items, magic, record_bytes, head_spelling}
 use Rattle.recording.proofs.Told.{told_again}
-use Rattle.fv_generator.specs.Made.{by_switch, by_slice, features_told, opening, drawn_round, rounds, records_of, recording_of}
+use Rattle.fv_generator.specs.Made.{by_switch, by_slice, features_message, opening, drawn_round, rounds, records_of, recording_of}
 use Rattle.fv_generator.proofs.Sizes.{features_size}
 use Rattle.fv_generator.proofs.Cases.{of_round}
 
@@ -21,9 +21,9 @@ record AllUp (before : List Item) : Type 0 where
 
 -- a record may come next, and leaves all up
 record MayCome (at : ℕ) (before : List Item) (r : Told) : Type 0 where
-  formed : is_formed 2 0 (told_at at r) ≡ true
-  fitting : fits before (told_at at r) ≡ true
-  up : AllUp (told_at at r ∷ before)
+  formed : is_formed 2 0 (placed_record at r) ≡ true
+  fitting : fits before (placed_record at r) ≡ true
+  up : AllUp (placed_record at r ∷ before)
 
 short : (message : List ℕ) → length message ≤ 80 → leb (length message) 16777216 ≡ true
 short message few = le-leb (length message) 16777216 (omega (arith, few))
@@ -68,15 +68,15 @@ pub recording_is_read : (seed count : ℕ) → count ≤ 1000000 → read_items 
 recording_is_read seed count few = told_again 2 (records_of seed count) (moments seed count few) (records_may seed count)
 
 -- how many bytes a record takes
-spelled_size : (r : Told) → length (spell r) ≡ 16 + length r.bytes
+spelled_size : (r : Told) → length (record_bytes r) ≡ 16 + length r.bytes
 unfolding head_spelling
 spelled_size r = omega arith
 
-round_size : (number state : ℕ) → length (spell (drawn_round number state).0) ≤ 96
+round_size : (number state : ℕ) → length (record_bytes (drawn_round number state).0) ≤ 96
 round_size number state =
-    of_round (λ r. length (spell r) ≤ 96) number (λ message few. rw (spelled_size (by_switch number message)) (omega (arith, few))) (λ slot message known few. rw (spelled_size (by_slice number slot message)) (omega (arith, few))) state
+    of_round (λ r. length (record_bytes r) ≤ 96) number (λ message few. rw (spelled_size (by_switch number message)) (omega (arith, few))) (λ slot message known few. rw (spelled_size (by_slice number slot message)) (omega (arith, few))) state
 
-rounds_size : (n number state : ℕ) → length (flat_map spell (rounds n number state)) ≤ 96 * n
+rounds_size : (n number state : ℕ) → length (flat_map record_bytes (rounds n number state)) ≤ 96 * n
 unfolding rounds
 rounds_size zero number state = omega arith
 rounds_size (suc n) number state =
@@ -84,16 +84,16 @@ rounds_size (suc n) number state =
     let others = rounds_size n (number + 1) (drawn_round number state).1 in
     rw (length-append) (omega (arith, first, others))
 
-opening_size : length (flat_map spell opening) ≡ 288
-unfolding head_spelling features_told spell_features features_front
+opening_size : length (flat_map record_bytes opening) ≡ 288
+unfolding head_spelling features_message spell_features features_front
 opening_size = refl
 
-begun : (seed count : ℕ) → recording_of seed count ≡ magic ++ (flat_map spell opening ++ flat_map spell (rounds count 0 seed))
-begun seed count = ap (λ (told : List ℕ). magic ++ told) (flat_map-append spell opening (rounds count 0 seed))
+begun : (seed count : ℕ) → recording_of seed count ≡ magic ++ (flat_map record_bytes opening ++ flat_map record_bytes (rounds count 0 seed))
+begun seed count = ap (λ (told : List ℕ). magic ++ told) (flat_map-append record_bytes opening (rounds count 0 seed))
 
 pub recording_size : (seed count : ℕ) → length (recording_of seed count) ≤ 296 + 96 * count
 recording_size seed count =
     let left = rounds_size count 0 seed in
-    let told : length (flat_map spell opening ++ flat_map spell (rounds count 0 seed)) ≤ 288 + 96 * count =
-    rw (length-append (flat_map spell opening) (flat_map spell (rounds count 0 seed)), opening_size) (omega (arith, left)) in
+    let told : length (flat_map record_bytes opening ++ flat_map record_bytes (rounds count 0 seed)) ≤ 288 + 96 * count =
+    rw (length-append (flat_map record_bytes opening) (flat_map record_bytes (rounds count 0 seed)), opening_size) (omega (arith, left)) in
     subst (λ (file : List ℕ). length file ≤ 296 + 96 * count) (sym (begun seed count)) (omega (arith, told))

@@ -7,10 +7,10 @@ use Rattle.of10_flow.specs.PacketOuts.{spell_packet_out}
 use Rattle.of10_flow.specs.FlowMods.{spell_flow_mod}
 use Rattle.fv_generator.specs.Packets.{packet_to}
 use Rattle.fv_generator.specs.Messages.{drawn_packet_in, drawn_flow_mod, drawn_packet_out, drawn_request, barrier}
-use Rattle.fv_generator.specs.Made.{features_told}
+use Rattle.fv_generator.specs.Made.{features_message}
 
-pub features_size : length features_told ≡ 224
-unfolding features_told spell_features features_front
+pub features_size : length features_message ≡ 224
+unfolding features_message spell_features features_front
 features_size = refl
 
 pub packet_in_size : (state : ℕ) → length (drawn_packet_in state).0 ≡ 72

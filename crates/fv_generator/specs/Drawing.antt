@@ -19,8 +19,8 @@ abbrev pub ◌>>=◌ : {A B : Type 0} → Drawing A → (A → Drawing B) → Dr
 (drawing >>= later) x = later (drawing x).0 (drawing x).1
 
 -- nothing is drawn
-abbrev pub given : {A : Type 0} → A → Drawing A
-given value x = (value, x)
+abbrev pub drawn_none : {A : Type 0} → A → Drawing A
+drawn_none value x = (value, x)
 
 -- a value was drawn from a state, and left a state
 abbrev pub Drew : {A : Type 0} → Drawing A → ℕ → A → ℕ → Type 0

@@ -4,8 +4,8 @@ use Rattle.byteorder.specs.Endian.{big_bytes}
 use Rattle.of10_port.specs.declared.features.Features.{Features}
 use Rattle.of10_port.specs.declared.protocol.TheConstants.{LOCAL}
 use Rattle.of10_port.specs.Features.{spell_features}
-use Rattle.recording.specs.Recordings.{Told, switch_up, switch_bytes, slice_up, slice_bytes, spell, recording}
-use Rattle.fv_generator.specs.Drawing.{Drawing, draw, given, ◌>>=◌}
+use Rattle.recording.specs.Recordings.{Told, switch_up, switch_bytes, slice_up, slice_bytes, record_bytes, recording}
+use Rattle.fv_generator.specs.Drawing.{Drawing, draw, drawn_none, ◌>>=◌}
 use Rattle.fv_generator.specs.Messages.{drawn_packet_in, drawn_request}
 
 -- ---- records, all of the switch 0
@@ -29,20 +29,20 @@ by_slice moment slot message = record { kind = slice_bytes; switch = 0; slot = s
 -- ---- how a recording begins
 
 -- a port's number, and nothing else of it
-abbrev pub port_of : ℕ → List ℕ
-port_of number = big_bytes 2 number ++ replicate 46 0
+abbrev pub bare_port : ℕ → List ℕ
+bare_port number = big_bytes 2 number ++ replicate 46 0
 
 -- the switch a1 with the ports 1 to 3 and its own, 256 buffers and all actions of the standard
 abbrev pub the_switch : Features
-the_switch = record { datapath = 0xa1; buffers = 256; tables = 1; capabilities = 0; actions = 0xfff; ports = port_of 1 ∷ port_of 2 ∷ port_of 3 ∷ port_of LOCAL ∷ [] }
+the_switch = record { datapath = 0xa1; buffers = 256; tables = 1; capabilities = 0; actions = 0xfff; ports = bare_port 1 ∷ bare_port 2 ∷ bare_port 3 ∷ bare_port LOCAL ∷ [] }
 
 -- what the switch tells of itself when the proxy asks
-unfoldable pub features_told : List ℕ
-features_told = spell_features the_switch 0xff000001
+unfoldable pub features_message : List ℕ
+features_message = spell_features the_switch 0xff000001
 
 -- the switch connects and tells of itself, then both slices connect
 abbrev pub opening : List Told
-opening = switch_comes ∷ by_switch 0 features_told ∷ slice_comes 0 ∷ slice_comes 1 ∷ []
+opening = switch_comes ∷ by_switch 0 features_message ∷ slice_comes 0 ∷ slice_comes 1 ∷ []
 
 -- ---- rounds
 
@@ -50,14 +50,14 @@ opening = switch_comes ∷ by_switch 0 features_told ∷ slice_comes 0 ∷ slice
 abbrev pub packet_round : ℕ → Drawing Told
 packet_round number = do
   message ← drawn_packet_in
-  given (by_switch number message)
+  drawn_none (by_switch number message)
 
 -- a slice's message of a kind in a round: first the slice is drawn
 abbrev pub slice_round : ℕ → ℕ → Drawing Told
 slice_round kind number = do
   slot ← draw 2
   message ← drawn_request kind number
-  given (by_slice number slot message)
+  drawn_none (by_slice number slot message)
 
 -- a round of a kind
 abbrev pub round_of : ℕ → ℕ → Drawing Told
@@ -86,4 +86,4 @@ recording_of seed count = recording (records_of seed count)
 
 -- to a file the record is appended that is drawn from a state
 abbrev pub Appends : Drawing Told → ℕ → ℕ → List ℕ → List ℕ → Type 0
-Appends drawing before after old new = (new ≡ old ++ spell (drawing before).0) × (after ≡ (drawing before).1)
+Appends drawing before after old new = (new ≡ old ++ record_bytes (drawing before).0) × (after ≡ (drawing before).1)

@@ -9,7 +9,7 @@ use Rattle.of10_flow.specs.PacketIns.{spell_packet_in}
 use Rattle.of10_flow.specs.PacketOuts.{spell_packet_out}
 use Rattle.of10_flow.specs.FlowMods.{spell_flow_mod}
 use Rattle.of10_port.specs.declared.protocol.TheConstants.{NONE}
-use Rattle.fv_generator.specs.Drawing.{Drawing, draw, given, ◌>>=◌}
+use Rattle.fv_generator.specs.Drawing.{Drawing, draw, drawn_none, ◌>>=◌}
 use Rattle.fv_generator.specs.Packets.{packet_to, tcp_from}
 
 -- ---- parts of messages
@@ -22,19 +22,19 @@ tcp_port place = if place == 0 then 80 else if place == 1 then 22 else 443
 abbrev pub drawn_port : Drawing ℕ
 drawn_port = do
   place ← draw 3
-  given (1 + place)
+  drawn_none (1 + place)
 
 -- an output to one of them
 abbrev pub drawn_output : Drawing (List Action)
 drawn_output = do
   port ← drawn_port
-  given (Output port 0 ∷ [])
+  drawn_none (Output port 0 ∷ [])
 
 -- none or one of 64 buffers: which of them is drawn only where one is
 abbrev pub drawn_buffer : Drawing ℕ
 drawn_buffer = do
   buffered ← draw 2
-  if buffered == 0 then given NO_BUFFER else draw 64
+  if buffered == 0 then drawn_none NO_BUFFER else draw 64
 
 -- ---- messages
 
@@ -44,7 +44,7 @@ drawn_packet_in = do
   place ← draw 3
   buffer ← drawn_buffer
   in_port ← drawn_port
-  given (spell_packet_in (record { xid = 0; buffer = buffer; total_len = 54; in_port = in_port; reason = 0; payload = packet_to (tcp_port place) }))
+  drawn_none (spell_packet_in (record { xid = 0; buffer = buffer; total_len = 54; in_port = in_port; reason = 0; payload = packet_to (tcp_port place) }))
 
 -- an entry for the TCP packets from one of 100 ports, in one of four priorities, whose end is to be told
 abbrev pub drawn_flow_mod : ℕ → Drawing (List ℕ)
@@ -52,18 +52,18 @@ drawn_flow_mod xid = do
   from ← draw 100
   priority ← draw 4
   actions ← drawn_output
-  given (spell_flow_mod (record { xid = xid; pattern = tcp_from from; cookie = 0; command = ADD; idle = 0; hard = 0; priority = priority; buffer = NO_BUFFER; out_port = NONE; flags = SEND_FLOW_REM; actions = actions }))
+  drawn_none (spell_flow_mod (record { xid = xid; pattern = tcp_from from; cookie = 0; command = ADD; idle = 0; hard = 0; priority = priority; buffer = NO_BUFFER; out_port = NONE; flags = SEND_FLOW_REM; actions = actions }))
 
 -- a packet to alice's or to bob's TCP port
 abbrev pub drawn_packet_out : ℕ → Drawing (List ℕ)
 drawn_packet_out xid = do
   actions ← drawn_output
   place ← draw 2
-  given (spell_packet_out (record { xid = xid; buffer = NO_BUFFER; in_port = 1; actions = actions; payload = packet_to (tcp_port place) }))
+  drawn_none (spell_packet_out (record { xid = xid; buffer = NO_BUFFER; in_port = 1; actions = actions; payload = packet_to (tcp_port place) }))
 
 -- a barrier, of which nothing is drawn
 abbrev pub barrier : ℕ → Drawing (List ℕ)
-barrier xid = given (message_of BARRIER_REQUEST xid [])
+barrier xid = drawn_none (message_of BARRIER_REQUEST xid [])
 
 -- a slice's message of a kind: a flow-mod under 6, a packet-out for 6, a barrier above
 abbrev pub drawn_request : ℕ → ℕ → Drawing (List ℕ)

@@ -1,8 +1,8 @@
 //! How a recording begins.
 
 ghost use Rattle.std.specs.Prelude.{◌≡◌, ◌++◌, IfOk, OnOk, flat_map};
-ghost use Rattle.recording.specs.Recordings.{spell};
-ghost use Rattle.fv_generator.specs.Made.{features_told, opening, port_of};
+ghost use Rattle.recording.specs.Recordings.{record_bytes};
+ghost use Rattle.fv_generator.specs.Made.{features_message, opening, bare_port};
 
 use of10_ctl::Frame;
 use of10_model::wire::set_u16;
@@ -16,7 +16,7 @@ const ASKED: u32 = 0xff00_0001;
 
 /// A port of which all but its number is zero.
 fn port(number: u16) -> Port
-    ensures { result ≡ port_of number }
+    ensures { result ≡ bare_port number }
 {
     let mut raw = [0; 48];
     set_u16(&mut raw, 0, number);
@@ -24,9 +24,9 @@ fn port(number: u16) -> Port
 }
 
 /// What the switch tells of itself: four ports, one of them its own.
-#[tactic(auto, unfolding(crate::specs::Made::features_told))]
+#[tactic(auto, unfolding(crate::specs::Made::features_message))]
 fn features(alloc: Global) -> Result<Frame, AllocError>
-    ensures { IfOk result (λ f. f ≡ features_told) }
+    ensures { IfOk result (λ f. f ≡ features_message) }
 {
     let features = Features {
         datapath: 0xa1,
@@ -41,7 +41,7 @@ fn features(alloc: Global) -> Result<Frame, AllocError>
 
 /// Appends the records with which every made recording begins: the switch and both slices come.
 pub(crate) fn put_opening(alloc: Global, out: &mut Vec<u8>) -> Result<(), AllocError>
-    ensures { OnOk result (out.new.items ≡ out.old.items ++ flat_map spell opening) }
+    ensures { OnOk result (out.new.items ≡ out.old.items ++ flat_map record_bytes opening) }
 {
     let told = features(alloc)?;
     add_item(out, SWITCH_UP, 0, 0, 0, &[])?;

@@ -1,5 +1,5 @@
 ghost use Rattle.std.specs.Prelude.{◌≡◌, ◌≤◌, ◌<◌, ◌-◌, ◌++◌, IfOk, OnOk, flat_map};
-ghost use Rattle.recording.specs.Recordings.{spell};
+ghost use Rattle.recording.specs.Recordings.{record_bytes};
 ghost use Rattle.fv_generator.specs.Drawing.{Drew};
 ghost use Rattle.fv_generator.specs.Made.{Appends, packet_round, slice_round, drawn_round, recording_of};
 

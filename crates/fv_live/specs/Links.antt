@@ -15,6 +15,6 @@ first_link [] to = None
 first_link (link ∷ others) to = if bytes_eq (string_bytes link.address) to then Some link else first_link others to
 
 -- the links without the first one to an address
-abbrev pub without_first : {S K : Type 0} → List (Link S K) → List ℕ → List (Link S K)
-without_first [] to = []
-without_first (link ∷ others) to = if bytes_eq (string_bytes link.address) to then others else link ∷ without_first others to
+abbrev pub without_link : {S K : Type 0} → List (Link S K) → List ℕ → List (Link S K)
+without_link [] to = []
+without_link (link ∷ others) to = if bytes_eq (string_bytes link.address) to then others else link ∷ without_link others to

@@ -12,9 +12,9 @@ IsUsedUp None = Unit {0}
 IsUsedUp (Some left) = left ≡ []
 
 -- the moment that a clock answers next
-abbrev pub moment_of : List ℕ → ℕ
-moment_of [] = 0
-moment_of (moment ∷ later) = moment
+abbrev pub next_moment : List ℕ → ℕ
+next_moment [] = 0
+next_moment (moment ∷ later) = moment
 
 -- the moments that it answers after that: the last one stays
 abbrev pub moments_after : List ℕ → List ℕ
@@ -26,9 +26,9 @@ moments_after (moment ∷ next ∷ later) = next ∷ later
 abbrev pub Asked : Option (List ℕ) → List ℕ → Option (List ℕ) → Type 0
 Asked None answers rest = rest ≡ None
 Asked (Some coming) [] rest = rest ≡ Some coming
-Asked (Some coming) (answer ∷ answers) rest = (answer ≡ moment_of coming) × Asked (Some (moments_after coming)) answers rest
+Asked (Some coming) (answer ∷ answers) rest = (answer ≡ next_moment coming) × Asked (Some (moments_after coming)) answers rest
 
 -- a number that is told, and so many more
-abbrev pub counted : Option ℕ → ℕ → Option ℕ
-counted None more = None
-counted (Some n) more = Some (n + more)
+abbrev pub count_more : Option ℕ → ℕ → Option ℕ
+count_more None more = None
+count_more (Some n) more = Some (n + more)

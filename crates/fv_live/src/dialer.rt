@@ -6,7 +6,7 @@ ghost use Rattle.fv_base.specs.Counts.{count_at, is_declared};
 ghost use Rattle.fv_base.specs.Told.{Rose};
 ghost use Rattle.fv_live.specs.Calls.{count_after};
 ghost use Rattle.fv_live.specs.Dialers.{IsFresh, IsOneDialMore, fails_dial, given_after};
-ghost use Rattle.fv_live.specs.Live.{counted};
+ghost use Rattle.fv_live.specs.Live.{count_more};
 
 use super::links::{Link, Links};
 use super::{Host, Source};
@@ -37,7 +37,7 @@ pub trait Dialer: Drop {
         to: &str,
         attempt: u32,
     ) -> Result<(Self::In, Self::Out), Failed>
-        ensures given { OnOk result (links self.new ≡ counted (links self.old) 1) }
+        ensures given { OnOk result (links self.new ≡ count_more (links self.old) 1) }
         ensures refused { OnErr result (links self.new ≡ links self.old) }
         ensures cause { OnErr result (Rose (faults self.old to.now) (faults self.new to.now)) }
         ensures calm { OnOk result ((at : List ℕ) → faults self.new at ≡ faults self.old at) }
@@ -110,7 +110,7 @@ impl<S: Source, K: Sink> Dialer for MemoryDialer<S, K> {
         to: &str,
         _attempt: u32,
     ) -> Result<(S, K), Failed>
-        ensures given { OnOk result (Some self.new.given ≡ counted (Some self.old.given) 1) }
+        ensures given { OnOk result (Some self.new.given ≡ count_more (Some self.old.given) 1) }
         ensures refused { OnErr result (Some self.new.given ≡ Some self.old.given) }
         ensures cause { OnErr result (Rose (count_at self.old.counts to.now) (count_at self.new.counts to.now)) }
         ensures calm { OnOk result ((at : List ℕ) → count_at self.new.counts at ≡ count_at self.old.counts at) }

@@ -1,7 +1,7 @@
 // Links that diallers in memory share.
 
 ghost use Rattle.std.specs.Prelude.{◌≡◌};
-ghost use Rattle.fv_live.specs.Links.{first_link, place_of_link, without_first};
+ghost use Rattle.fv_live.specs.Links.{first_link, place_of_link, without_link};
 
 use super::Source;
 use fv_base::Sink;
@@ -59,7 +59,7 @@ fn place<S: Source, K: Sink>(links: &[Link<S, K>], to: &str) -> usize
 // Takes the first link to the address out of the list.
 fn take_first<S: Source, K: Sink>(links: &mut Vec<Link<S, K>>, to: &str) -> Option<Link<S, K>>
     ensures first { result ≡ first_link links.old.items to.now }
-    ensures rest { links.new.items ≡ without_first links.old.items to.now }
+    ensures rest { links.new.items ≡ without_link links.old.items to.now }
 {
     let at = place(links, to);
     if at < links.len() {

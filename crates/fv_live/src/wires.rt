@@ -8,7 +8,7 @@ ghost use Rattle.fv_base.specs.Counts.{count_at, is_declared};
 ghost use Rattle.fv_base.specs.Told.{Rose};
 ghost use Rattle.fv_live.specs.Calls.{NoCallYet, count_after, fails_next, one_call_more};
 ghost use Rattle.fv_live.specs.Dialers.{IsFresh};
-ghost use Rattle.fv_live.specs.Live.{counted};
+ghost use Rattle.fv_live.specs.Live.{count_more};
 ghost use Rattle.fv_live.specs.Wires.{place_bytes};
 
 use super::calls::FailingCalls;
@@ -67,7 +67,7 @@ pub trait Wires: Drop {
         requires { listens self.old ≡ true }
         ensures listens { listens self.new ≡ true }
         ensures there { place self.new ≡ place self.old }
-        ensures given { OnOk result (accepted self.new ≡ counted (accepted self.old) 1) }
+        ensures given { OnOk result (accepted self.new ≡ count_more (accepted self.old) 1) }
         ensures refused { OnErr result (accepted self.new ≡ accepted self.old) }
         ensures cause { OnErr result (Rose (faults self.old (place self.old)) (faults self.new (place self.old))) }
         ensures calm { OnOk result ((at : List ℕ) → faults self.new at ≡ faults self.old at) }
@@ -197,7 +197,7 @@ impl<S: Source, K: Sink> Wires for MemoryWires<S, K> {
         requires { is_some self.old.place ≡ true }
         ensures listens { is_some self.new.place ≡ true }
         ensures there { place_bytes self.new.place ≡ place_bytes self.old.place }
-        ensures given { OnOk result (Some self.new.accepted ≡ counted (Some self.old.accepted) 1) }
+        ensures given { OnOk result (Some self.new.accepted ≡ count_more (Some self.old.accepted) 1) }
         ensures refused { OnErr result (Some self.new.accepted ≡ Some self.old.accepted) }
         ensures cause { OnErr result (Rose (count_at self.old.counts (place_bytes self.old.place)) (count_at self.new.counts (place_bytes self.old.place))) }
         ensures calm { OnOk result ((at : List ℕ) → count_at self.new.counts at ≡ count_at self.old.counts at) }

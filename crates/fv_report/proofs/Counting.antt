@@ -25,7 +25,7 @@ use Rattle.desk_words.specs.Reports.{Place, name_at, speaker}
 use Rattle.summary_words.specs.Summaries.{lane_messages, slice_messages, event_count, count_line, summary}
 use Rattle.fv_report.specs.declared.counter.Count.{Count}
 use Rattle.fv_report.specs.declared.counter.Counter.{Counter}
-use Rattle.fv_report.specs.Telling.{Line, Outcome, Saying, Lane, To, Close, Down, lane_told, slice_told, told_by_slot, closing_told, close_told, down_line, down_told, event_told, lines_from, all_lines, Heard, HeardPart}
+use Rattle.fv_report.specs.Telling.{Line, Outcome, Saying, Lane, To, Close, Down, lane_told, slice_told, told_by_slot, closing_told, close_told, down_line, down_told, event_told, lines_from, all_lines, ToldWhole, HeardPart}
 use Rattle.fv_report.proofs.Recorded.{same_number, set_get}
 use Rattle.fv_report.specs.Counting.{Added, lane_said, slice_in, lane_told_in, slice_told_in, IsCount, Counts, CountsLine, summary_text}
 
@@ -262,7 +262,7 @@ counts_as slots lane other_lane slices other_slices counter same same_slices cou
 }
 
 -- after lines that were told the messages that they tell of are counted
-pub counted_lines : (lines : List Line) (old new : Counter) (slots : ℕ) (lane : List (List ℕ)) (slices : ℕ → List (List ℕ)) → Counts slots lane slices old → Heard (λ was line outcome is. CountsLine line.saying outcome was is) old lines new
+pub counted_lines : (lines : List Line) (old new : Counter) (slots : ℕ) (lane : List (List ℕ)) (slices : ℕ → List (List ℕ)) → Counts slots lane slices old → ToldWhole (λ was line outcome is. CountsLine line.saying outcome was is) old lines new
     → Counts slots (lane ++ lane_told_in lines) (λ slot. slices slot ++ slice_told_in slot lines) new
 counted_lines [] old new slots lane slices counts same =
     subst (Counts slots (lane ++ []) (λ slot. slices slot ++ [])) (sym same)

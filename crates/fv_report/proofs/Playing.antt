@@ -23,7 +23,7 @@ use Rattle.fv_report.specs.Telling.{Line, Outcome, event_told, told_of}
 use Rattle.fv_report.specs.Holding.{IsQuiet}
 use Rattle.fv_report.specs.Players.{Scene, IsPlaying, later, HasTold}
 use Rattle.fv_report.specs.Streams.{TookFrame}
-use Rattle.fv_report.specs.Plays.{event_from, happens, happening, Rests, PlaysEvents, Plays, Hears}
+use Rattle.fv_report.specs.Plays.{event_from, happens, happening, Rests, PlaysEvents, Plays, PlaysFrames}
 use Rattle.fv_report.proofs.Streaming.{next_left, nothing_left}
 use Rattle.fv_report.proofs.Players.{later_none, later_both, told_nothing, told_none, told_second, told_first, told_as, told_so}
 
@@ -212,7 +212,7 @@ hearing_stopped {A} {T} {More} Tells scene at from first all fed before now desk
 
 -- all frames were heard
 pub hearing_all : {T : Type 0} (Tells : T → Line → Outcome → T → Type 0) (scene : Scene) (from : Dest) (first : List Timed) (all : List (List ℕ)) (fed : List ℕ) (before now : Player T) (desk : Desk) (framer framer_after : Stream)
-    (s : Hearing Tells scene from first all fed before now desk framer) → TookFrame None fed s.given framer_after → Hears Tells scene from first fed all (Ok tt) before now desk framer_after
+    (s : Hearing Tells scene from first all fed before now desk framer) → TookFrame None fed s.given framer_after → PlaysFrames Tells scene from first fed all (Ok tt) before now desk framer_after
 hearing_all Tells scene from first all fed before now desk framer framer_after s took =
     let p = scene.policy in
     let m = scene.moment in

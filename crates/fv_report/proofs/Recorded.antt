@@ -28,11 +28,11 @@ use Rattle.proxy_core.specs.declared.parts.Desk.{Desk}
 use Rattle.fv_report.specs.declared.switch.Switch.{Switch}
 use Rattle.fv_report.specs.declared.streams.Streams.{Streams}
 use Rattle.fv_report.specs.Holding.{IsQuiet}
-use Rattle.fv_report.specs.Plays.{event_from, happening, Rests, PlaysEvents, Plays, Hears}
+use Rattle.fv_report.specs.Plays.{event_from, happening, Rests, PlaysEvents, Plays, PlaysFrames}
 use Rattle.fv_report.proofs.Happening.{happening_is}
 use Rattle.fv_report.specs.Switches.{SwitchStands, IsFoundWhere, RecordPlayed, PlaysRecord, IsTurn, Readies, kind_from, slot_from, told_from}
 use Rattle.fv_report.proofs.Players.{told_none, told_on, told_so}
-use Rattle.fv_report.specs.Streams.{Restarts, AreFresh, connection, StreamStands, StreamsStand}
+use Rattle.fv_report.specs.Streams.{Restarts, NothingCame, connection, StreamStands, StreamsStand}
 
 pub same_number : (n : ℕ) → (n == n) ≡ true
 same_number n = eq-eqb n n refl
@@ -79,7 +79,7 @@ fresh switch kind slot before framer empty stands = subst (λ (bytes : List ℕ)
 
 -- fresh streams are those of a switch on which nothing came
 pub streams_fresh : (slices switch : ℕ) (before : List Told) (streams : Streams) → stream_before (connection switch switch_bytes 0) before ≡ [] → ((slot : ℕ) → stream_before (connection switch slice_bytes slot) before ≡ [])
-    → AreFresh slices streams → StreamsStand slices switch before streams
+    → NothingCame slices streams → StreamsStand slices switch before streams
 streams_fresh slices switch before streams of_switch of_slices are = record {
   of_switch = fresh switch switch_bytes 0 before streams.switch of_switch are.0;
   number = are.1.number;
@@ -87,7 +87,7 @@ streams_fresh slices switch before streams of_switch of_slices are = record {
 }
 
 -- the switch connected
-streams_up : (slices switch slot moment : ℕ) (bytes : List ℕ) (before : List Told) (streams : Streams) → AreFresh slices streams
+streams_up : (slices switch slot moment : ℕ) (bytes : List ℕ) (before : List Told) (streams : Streams) → NothingCame slices streams
     → StreamsStand slices switch (record { kind = switch_up; switch = switch; slot = slot; moment = moment; bytes = bytes } ∷ before) streams
 streams_up slices switch slot moment bytes before streams are =
     let r : Told = record { kind = switch_up; switch = switch; slot = slot; moment = moment; bytes = bytes } in
@@ -186,7 +186,7 @@ Spoken p r before fed desk framer = Rests p (history_at p r before) (events_in p
 
 -- frames of a connection that were heard are what a record of its bytes makes happen
 pub heard_from : {T : Type 0} (Tells : T → Line → Outcome → T → Type 0) (p : PolicyView) (events : ℕ) (from : Dest) (number moment : ℕ) (bytes : List ℕ) (before : List Told) (outcome : Outcome) (old new : Player T) (desk : Desk) (framer : Stream)
-    → (let r = told_from from number moment bytes in let fed = stream_before (connection number (kind_from from) (slot_from from)) before in Hears Tells (scene_of p events r) from (history_of p number before) (fed ++ bytes) (drop (length (frames_of fed)) (frames_of (fed ++ bytes))) outcome old new desk framer)
+    → (let r = told_from from number moment bytes in let fed = stream_before (connection number (kind_from from) (slot_from from)) before in PlaysFrames Tells (scene_of p events r) from (history_of p number before) (fed ++ bytes) (drop (length (frames_of fed)) (frames_of (fed ++ bytes))) outcome old new desk framer)
     → (let r = told_from from number moment bytes in RecordPlayed Tells p events r before (Spoken p r before (stream_before (connection number (kind_from from) (slot_from from)) before ++ bytes) desk framer) outcome old new)
 heard_from Tells p events ToSwitch number moment bytes before outcome old new desk framer hears =
     let r = told_from ToSwitch number moment bytes in

@@ -11,13 +11,13 @@ use Rattle.recording.specs.declared.item.Item.{Item}
 use Rattle.recording.specs.Recordings.{Told, IsItem, switch_up, switch_bytes, slice_bytes}
 use Rattle.answer_bounds.specs.Bounds.{IsFramed, AreFramed}
 use Rattle.desk_words.specs.declared.event.Timed.{Timed}
-use Rattle.desk_words.specs.Recorded.{told_by, stream_before, next_of, history_of, history_at, events_in, carried, told_in, Happened, each_after, happened_in}
+use Rattle.desk_words.specs.Recorded.{told_by, stream_before, next_of, history_of, history_at, events_in, bytes_carried, told_in, Happened, each_after, happened_in}
 use Rattle.std.specs.Result.{IsErrAnd}
 use Rattle.desk_words.specs.Reports.{Place}
 use Rattle.fv_report.specs.declared.fault.ReportFault.{ReportFault}
 use Rattle.fv_report.specs.declared.fault.ReportFault.TheVariants.{Memory}
 use Rattle.fv_report.specs.declared.player.Player.{Player}
-use Rattle.fv_report.specs.Telling.{Line, Outcome, Heard, HeardPart, Tell, event_told, told_of, lines_from, all_lines}
+use Rattle.fv_report.specs.Telling.{Line, Outcome, ToldWhole, HeardPart, Tell, event_told, told_of, lines_from, all_lines}
 use Rattle.fv_report.specs.Players.{scene_of, IsPlaying, TellsAll}
 use Rattle.summary_words.specs.Summaries.{event_count}
 use Rattle.desk_words.proofs.Making.{happened_each}
@@ -26,7 +26,7 @@ use Rattle.fv_report.specs.declared.switch.Switch.{Switch}
 use Rattle.fv_report.specs.declared.streams.Streams.{Streams}
 use Rattle.fv_report.specs.Holding.{IsQuiet}
 use Rattle.fv_report.specs.Streams.{connection, StreamsStand}
-use Rattle.fv_report.specs.Switches.{IsFreshSwitch, SwitchStands, IsFoundWhere, IsFound, IsRecord, RecordPlayed, IsUntouched, IsAt, PlaysAt, AreUnknown, AllStand, PlaysAmong}
+use Rattle.fv_report.specs.Switches.{IsFreshSwitch, SwitchStands, IsFoundWhere, IsFound, IsRecord, RecordPlayed, IsUntouched, IsAt, PlaysAt, AreUnknown, SwitchesStand, PlaysAmong}
 use Rattle.fv_report.proofs.Writing.{heard_none, heard_both, heard_part_of_first, heard_part_of_second, tell_on}
 use Rattle.fv_report.proofs.Recorded.{history_other, stream_other, set_get, streams_fresh, streams_stay, played_so}
 
@@ -69,7 +69,7 @@ no_bytes size false true a b few = absurd (true≢false b)
 no_bytes size false false a b few = omega (arith, few)
 
 -- what is read of a recording is a record of it
-pub is_record : (slices : ℕ) (file : List ℕ) (item : Item) → IsItem slices file item → IsRecord slices item (carried file item)
+pub is_record : (slices : ℕ) (file : List ℕ) (item : Item) → IsItem slices file item → IsRecord slices item (bytes_carried file item)
 is_record slices file item is =
     let size = is.size in
     record {
@@ -93,7 +93,7 @@ at_other p number r before (Some switch) other stands = record {
 }
 
 -- one switch was played, and the others stay
-among : (p : PolicyView) (r : Told) (before : List Told) (switches : List (Option Switch)) (new : Option Switch) → AllStand p before switches → IsAt p r.switch (r ∷ before) new → AllStand p (r ∷ before) (set switches r.switch new)
+among : (p : PolicyView) (r : Told) (before : List Told) (switches : List (Option Switch)) (new : Option Switch) → SwitchesStand p before switches → IsAt p r.switch (r ∷ before) new → SwitchesStand p (r ∷ before) (set switches r.switch new)
 among p r before switches new stands own = record {
   count = length-set switches r.switch new ∙ stands.count;
   each = λ at known g. set_get (λ n s. IsAt p n (r ∷ before) s) switches r.switch new (λ n s unlike gs. at_other p n r before s unlike (stands.each n s gs)) own at known g;
@@ -101,7 +101,7 @@ among p r before switches new stands own = record {
 
 -- a record that began was played at its switch
 pub played_among : {T : Type 0} (Tells : T → Line → Outcome → T → Type 0) (p : PolicyView) (number : ℕ) (r : Told) (before : List Told) (outcome : Outcome) (old begun new : Player T) (switches : List (Option Switch)) (known known_after : Option Switch) → begun.teller ≡ old.teller
-    → IsPlaying (scene_of p number r) begun → slice_get switches r.switch ≡ Some known → AllStand p before switches → PlaysAt Tells r outcome begun new known known_after → RecordPlayed Tells p number r before (AllStand p (r ∷ before) (set switches r.switch known_after)) outcome old new
+    → IsPlaying (scene_of p number r) begun → slice_get switches r.switch ≡ Some known → SwitchesStand p before switches → PlaysAt Tells r outcome begun new known known_after → RecordPlayed Tells p number r before (SwitchesStand p (r ∷ before) (set switches r.switch known_after)) outcome old new
 played_among {T} Tells p number r before outcome old begun new switches known known_after same is there stands plays =
     let played = played_so Tells p number r before outcome begun new (λ own. among p r before switches known_after stands own) (plays p number before is (stands.each r.switch known there)) in
     record {
@@ -155,9 +155,9 @@ no_lines p number before = refl
 pub record Running {T : Type 0} (Tells : T → Line → Outcome → T → Type 0) (p : PolicyView) (file : List ℕ) (all left : List Item) (before now : Player T) (switches : List (Option Switch)) : Type 0 where
   pub policy : now.policy.now ≡ p
   pub past : List Told
-  pub stands : AllStand p past switches
+  pub stands : SwitchesStand p past switches
   pub done : List Line
-  pub told : Heard Tells before.teller done now.teller
+  pub told : ToldWhole Tells before.teller done now.teller
   pub whole : done ++ lines_from p now.place.number (happened_after p past (told_in file left)) ≡ all_lines p (told_in file all)
   pub count : now.place.number + length (happened_after p past (told_in file left)) ≡ event_count p (told_in file all)
 
@@ -178,9 +178,9 @@ running_first Tells file all player switches none unknown =
 
 -- one record more was played
 pub running_more : {T : Type 0} (Tells : T → Line → Outcome → T → Type 0) (p : PolicyView) (file : List ℕ) (all from left : List Item) (item : Item) (value : Unit {0}) (before now after : Player T) (old new : List (Option Switch)) → from ≡ item ∷ left → Running Tells p file all from before now old
-    → PlaysAmong Tells (told_by item (carried file item)) (Ok value) now after old new → Running Tells p file all left before after new
+    → PlaysAmong Tells (told_by item (bytes_carried file item)) (Ok value) now after old new → Running Tells p file all left before after new
 running_more Tells p file all from left item value before now after old new is s plays =
-    let r = told_by item (carried file item) in
+    let r = told_by item (bytes_carried file item) in
     let events = now.place.number in
     let own = events_in p r s.past in
     let lines = told_of p (record { number = events; switch = r.switch }) (history_at p r s.past) own in
@@ -204,9 +204,9 @@ running_more Tells p file all from left item value before now after old new is s
 
 -- a fault came in the lines of the next record
 pub running_part : {A T : Type 0} (Tells : T → Line → Outcome → T → Type 0) (p : PolicyView) (file : List ℕ) (all from left : List Item) (item : Item) (fault : ReportFault) (result : Result A ReportFault) (before now after : Player T) (old new : List (Option Switch)) → from ≡ item ∷ left → Running Tells p file all from before now old
-    → IsErrAnd result (λ e. e ≡ fault) → PlaysAmong Tells (told_by item (carried file item)) (Err fault) now after old new → TellsAll Tells p (told_in file all) result before after
+    → IsErrAnd result (λ e. e ≡ fault) → PlaysAmong Tells (told_by item (bytes_carried file item)) (Err fault) now after old new → TellsAll Tells p (told_in file all) result before after
 running_part {A} Tells p file all from left item fault (Err e) before now after old new is s same plays =
-    let r = told_by item (carried file item) in
+    let r = told_by item (bytes_carried file item) in
     let events = now.place.number in
     let lines = told_of p (record { number = events; switch = r.switch }) (history_at p r s.past) (events_in p r s.past) in
     let rest = lines_from p (events + length (events_in p r s.past)) (happened_after p (r ∷ s.past) (told_in file left)) in
@@ -231,6 +231,6 @@ pub running_last : {A T : Type 0} (Tells : T → Line → Outcome → T → Type
 running_last Tells p file all value before now old s =
     let all_counted = s.count in
     record {
-      told = subst (λ (t : List Line). Heard Tells before.teller t now.teller) (sym (append-nil s.done) ∙ ap (λ (lines : List Line). s.done ++ lines) (sym (no_lines p now.place.number s.past)) ∙ s.whole) s.told;
+      told = subst (λ (t : List Line). ToldWhole Tells before.teller t now.teller) (sym (append-nil s.done) ∙ ap (λ (lines : List Line). s.done ++ lines) (sym (no_lines p now.place.number s.past)) ∙ s.whole) s.told;
       count = omega (arith, all_counted);
     }

@@ -3,7 +3,7 @@ use Rattle.std.proofs.Common.{◌≡◌, ℕ, true, List, [], ◌∷◌, ◌++�
 use Rattle.std.proofs.lemmas.List.{append-nil, append_cancel_left}
 use Rattle.of10_ctl.specs.declared.framer.Next.{Next}
 use Rattle.of10_ctl.specs.declared.framer.Next.TheVariants.{Frame, NeedMore, Ended}
-use Rattle.of10_ctl.specs.Streams.{Stream, Stands, frames_of, has_bad, answer, frame_in}
+use Rattle.of10_ctl.specs.Streams.{Stream, Stands, frames_of, has_bad, next_answer, frame_in}
 use Rattle.of10_ctl.proofs.Answering.{frame_exact, need_more_exact, ended_exact}
 use Rattle.fv_report.specs.Streams.{frame_given, TookFrame}
 
@@ -13,7 +13,7 @@ ended_all s fed given stands bad =
     sym (ap frames_of (sym (append-nil fed)) ∙ stands.frames [] ∙ rw (stands.ended ∙ bad) (append-nil given))
 
 -- what a framer answers says which frame was taken
-pub took : (old new : Stream) (fed : List ℕ) (given : List (List ℕ)) (next : Next) → Stands old fed given → next ≡ answer fed given → Stands new fed (given ++ frame_in next) → TookFrame (frame_given next) fed given new
+pub took : (old new : Stream) (fed : List ℕ) (given : List (List ℕ)) (next : Next) → Stands old fed given → next ≡ next_answer fed given → Stands new fed (given ++ frame_in next) → TookFrame (frame_given next) fed given new
 took old new fed given (Frame frame) stands is then = ((frame_exact old fed given frame stands).0 (sym is), then)
 took old new fed given NeedMore stands is then = (((need_more_exact old fed given stands).0 (sym is)).0, subst (Stands new fed) (append-nil given) then)
 took old new fed given Ended stands is then = (ended_all old fed given stands ((ended_exact old fed given stands).0 (sym is)), subst (Stands new fed) (append-nil given) then)

@@ -20,7 +20,7 @@ use Rattle.desk_words.specs.Reports.{Place, line, name_at, speaker, lane_lines, 
 use Rattle.fv_report.specs.declared.fault.ReportFault.{ReportFault}
 use Rattle.fv_report.specs.declared.fault.ReportFault.TheVariants.{Memory}
 use Rattle.fv_report.specs.Writing.{WrotePart, Wrote, CountedFault, Counted}
-use Rattle.fv_report.specs.Telling.{Line, Outcome, Close, line_text, lane_told, slice_told, told_by_slot, closing_told, close_told, down_line, down_told, event_told, lines_from, all_lines, Heard, HeardPart}
+use Rattle.fv_report.specs.Telling.{Line, Outcome, Close, line_text, lane_told, slice_told, told_by_slot, closing_told, close_told, down_line, down_told, event_told, lines_from, all_lines, ToldWhole, HeardPart}
 use Rattle.summary_words.specs.Summaries.{event_count}
 use Rattle.fv_report.proofs.Writing.{both, none_of, part_of_first, part_of_second, wrote_second, counted_after, fault_after}
 
@@ -115,7 +115,7 @@ pub record WrittenPart {T X : Type 0} (seen : T → X) (contents : T → Option 
   pub counted : CountedFault fault (faults old) (faults new)
 
 -- lines that are written one by one are written together
-pub wrote_told : {T X : Type 0} (seen : T → X) (contents : T → Option (List ℕ)) (faults : T → ℕ) (lines : List Line) (old new : T) → Heard (Writes seen contents faults) old lines new → Written seen contents faults lines old new
+pub wrote_told : {T X : Type 0} (seen : T → X) (contents : T → Option (List ℕ)) (faults : T → ℕ) (lines : List Line) (old new : T) → ToldWhole (Writes seen contents faults) old lines new → Written seen contents faults lines old new
 wrote_told seen contents faults [] old new same = record { same = ap seen same; text = ap contents same ∙ appended_none (contents old); counted = ap faults same }
 wrote_told seen contents faults (l ∷ lines) old new (next, told, others) =
     let rest = wrote_told seen contents faults lines next new others in
@@ -158,7 +158,7 @@ pub record HasWritten {A T X : Type 0} (seen : T → X) (contents : T → Option
   pub counted : Counted result (faults old) (faults new)
 
 -- all lines of a recording were told, and then the number of its events was put
-pub report_ended : {A T X : Type 0} (seen : T → X) (contents : T → Option (List ℕ)) (faults : T → ℕ) (p : PolicyView) (records : List Told) (result : Result A ReportFault) (old now new : T) → Heard (Writes seen contents faults) old (all_lines p records) now
+pub report_ended : {A T X : Type 0} (seen : T → X) (contents : T → Option (List ℕ)) (faults : T → ℕ) (p : PolicyView) (records : List Told) (result : Result A ReportFault) (old now new : T) → ToldWhole (Writes seen contents faults) old (all_lines p records) now
     → seen new ≡ seen now → Wrote result (last_line (event_count p records)) (contents now) (contents new) → Counted result (faults now) (faults new) → HasWritten seen contents faults result (report p records) old new
 report_ended seen contents faults p records result old now new told same last counted =
     let lines = all_lines p records in

@@ -10,7 +10,7 @@ use Rattle.recording.specs.Recordings.{IsItem, item_at, is_formed, fits, record_
 use Rattle.recording.proofs.Forms.{formed_item}
 use Rattle.recording.proofs.Walk.{same_count}
 use Rattle.flowspace.specs.Policies.{PolicyView}
-use Rattle.desk_words.specs.Recorded.{told_by, carried, told_in}
+use Rattle.desk_words.specs.Recorded.{told_by, bytes_carried, told_in}
 use Rattle.fv_report.specs.declared.switch.Switch.{Switch}
 use Rattle.std.specs.Result.{IsErrAnd}
 use Rattle.fv_report.specs.declared.fault.ReportFault.{ReportFault}
@@ -123,7 +123,7 @@ walking_next Tells p file all at before now switches more s =
 
 -- one record more was played
 pub walking_more : {T : Type 0} (Tells : T → Line → Outcome → T → Type 0) (p : PolicyView) (file : List ℕ) (all : List Item) (at : ℕ) (item : Item) (value : Unit {0}) (before now after : Player T) (old new : List (Option Switch)) → at < length file → item ≡ item_at file at
-    → Walking Tells p file all at before now old → PlaysAmong Tells (told_by item (carried file item)) (Ok value) now after old new → Walking Tells p file all (item.from + item.size) before after new
+    → Walking Tells p file all at before now old → PlaysAmong Tells (told_by item (bytes_carried file item)) (Ok value) now after old new → Walking Tells p file all (item.from + item.size) before after new
 walking_more Tells p file all at item value before now after old new more is s plays =
     let next = next_of (length p.slices) file at s.left more s.rest in
     let own : s.left ≡ item ∷ next.others = next.is ∙ ap (λ (r : Item). r ∷ next.others) (sym is) in
@@ -135,7 +135,7 @@ walking_more Tells p file all at item value before now after old new more is s p
 
 -- a fault came in the lines of the next record
 pub walking_part : {A T : Type 0} (Tells : T → Line → Outcome → T → Type 0) (p : PolicyView) (file : List ℕ) (all : List Item) (at : ℕ) (item : Item) (fault : ReportFault) (result : Result A ReportFault) (before now after : Player T) (old new : List (Option Switch)) → at < length file → item ≡ item_at file at
-    → Walking Tells p file all at before now old → IsErrAnd result (λ e. e ≡ fault) → PlaysAmong Tells (told_by item (carried file item)) (Err fault) now after old new → TellsAll Tells p (told_in file all) result before after
+    → Walking Tells p file all at before now old → IsErrAnd result (λ e. e ≡ fault) → PlaysAmong Tells (told_by item (bytes_carried file item)) (Err fault) now after old new → TellsAll Tells p (told_in file all) result before after
 walking_part Tells p file all at item fault result before now after old new more is s same plays =
     let next = next_of (length p.slices) file at s.left more s.rest in
     let own : s.left ≡ item ∷ next.others = next.is ∙ ap (λ (r : Item). r ∷ next.others) (sym is) in

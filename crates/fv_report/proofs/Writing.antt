@@ -6,7 +6,7 @@ use Rattle.fv_base.specs.Told.{appended}
 use Rattle.fv_base.proofs.Appending.{appended_none}
 use Rattle.fv_report.specs.declared.fault.ReportFault.{ReportFault}
 use Rattle.fv_report.specs.declared.fault.ReportFault.TheVariants.{Memory}
-use Rattle.fv_report.specs.Telling.{Line, Outcome, Heard, HeardPart, Tell}
+use Rattle.fv_report.specs.Telling.{Line, Outcome, ToldWhole, HeardPart, Tell}
 use Rattle.fv_report.specs.Writing.{WrotePart, Wrote, CountedFault, Counted}
 
 pub appended_twice : (told : Option (List ℕ)) (first second : List ℕ) → appended (appended told first) second ≡ appended told (first ++ second)
@@ -45,8 +45,8 @@ fault_after fault old now later same counted = subst (λ (n : ℕ). CountedFault
 -- ---- lines that are told
 
 -- two stretches of lines were told
-pub heard_both : {T : Type 0} (Tells : T → Line → Outcome → T → Type 0) (before now later : T) (first second : List Line) → Heard Tells before first now → Heard Tells now second later → Heard Tells before (first ++ second) later
-heard_both Tells before now later [] second same b = subst (λ state. Heard Tells state second later) same b
+pub heard_both : {T : Type 0} (Tells : T → Line → Outcome → T → Type 0) (before now later : T) (first second : List Line) → ToldWhole Tells before first now → ToldWhole Tells now second later → ToldWhole Tells before (first ++ second) later
+heard_both Tells before now later [] second same b = subst (λ state. ToldWhole Tells state second later) same b
 heard_both Tells before now later (line ∷ first) second (next, told, others) b = (next, told, heard_both Tells next now later first second others b)
 
 -- nothing was told before memory ran out
@@ -63,7 +63,7 @@ heard_part_of_first Tells fault (line ∷ first) second before now (inr (inl bro
 heard_part_of_first Tells fault (line ∷ first) second before now (inr (inr (next, told, others))) = inr (inr (next, told, heard_part_of_first Tells fault first second next now others))
 
 -- the first of two stretches, and a piece of the second
-pub heard_part_of_second : {T : Type 0} (Tells : T → Line → Outcome → T → Type 0) (fault : ReportFault) (first second : List Line) (before now later : T) → Heard Tells before first now → HeardPart Tells fault now second later → HeardPart Tells fault before (first ++ second) later
+pub heard_part_of_second : {T : Type 0} (Tells : T → Line → Outcome → T → Type 0) (fault : ReportFault) (first second : List Line) (before now later : T) → ToldWhole Tells before first now → HeardPart Tells fault now second later → HeardPart Tells fault before (first ++ second) later
 heard_part_of_second Tells fault [] second before now later same part = subst (λ state. HeardPart Tells fault state second later) same part
 heard_part_of_second Tells fault (line ∷ first) second before now later (next, told, others) part = inr (inr (next, told, heard_part_of_second Tells fault first second next now later others part))
 
@@ -73,7 +73,7 @@ tell_line Tells (Ok value) line before now told = (now, told, refl)
 tell_line Tells (Err fault) line before now broken = inr (inl broken)
 
 -- after the first of two stretches the second
-pub tell_second : {A T : Type 0} (Tells : T → Line → Outcome → T → Type 0) (result : Result A ReportFault) (first second : List Line) (before now later : T) → Heard Tells before first now → Tell Tells result second now later → Tell Tells result (first ++ second) before later
+pub tell_second : {A T : Type 0} (Tells : T → Line → Outcome → T → Type 0) (result : Result A ReportFault) (first second : List Line) (before now later : T) → ToldWhole Tells before first now → Tell Tells result second now later → Tell Tells result (first ++ second) before later
 tell_second Tells (Ok value) first second before now later a b = heard_both Tells before now later first second a b
 tell_second Tells (Err fault) first second before now later a b = heard_part_of_second Tells fault first second before now later a b
 

@@ -51,7 +51,7 @@ Plays Tells scene h events result old new desk =
     let own = happening scene.policy scene.moment h events in PlaysEvents Tells scene h own (Rests scene.policy h own desk) result old new
 
 -- the frames of a connection that its framer hadn't given were played, and the framer has given all
-abbrev pub Hears : {T : Type 0} → (T → Line → Outcome → T → Type 0) → Scene → Dest → List Timed → List ℕ → List (List ℕ) → Outcome → Player T → Player T → Desk → Stream → Type 0
-Hears Tells scene from h fed rest result old new desk framer =
+abbrev pub PlaysFrames : {T : Type 0} → (T → Line → Outcome → T → Type 0) → Scene → Dest → List Timed → List ℕ → List (List ℕ) → Outcome → Player T → Player T → Desk → Stream → Type 0
+PlaysFrames Tells scene from h fed rest result old new desk framer =
     let own = happening scene.policy scene.moment h (map (event_from from) rest) in
     PlaysEvents Tells scene h own (Rests scene.policy h own desk × Stands framer fed (frames_of fed)) result old new

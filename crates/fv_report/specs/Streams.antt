@@ -13,8 +13,8 @@ pub record AreFreshFramers (count : ℕ) (framers : List Stream) : Type 0 where
   pub each : (slot : ℕ) (framer : Stream) → slice_get framers slot ≡ Some framer → Stands framer [] []
 
 -- nothing came on any connection
-abbrev pub AreFresh : ℕ → Streams → Type 0
-AreFresh slices streams = Stands streams.switch [] [] × AreFreshFramers slices streams.slices.items
+abbrev pub NothingCame : ℕ → Streams → Type 0
+NothingCame slices streams = Stands streams.switch [] [] × AreFreshFramers slices streams.slices.items
 
 -- the frame that a framer gave, if it did
 abbrev pub frame_given : Next → Option (List ℕ)

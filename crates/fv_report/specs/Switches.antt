@@ -14,12 +14,12 @@ use Rattle.fv_report.specs.Players.{scene_of, IsPlaying, HasPlayed}
 use Rattle.fv_report.specs.Plays.{PlaysEvents}
 use Rattle.fv_report.specs.declared.switch.Switch.{Switch}
 use Rattle.fv_report.specs.Holding.{IsQuiet}
-use Rattle.fv_report.specs.Streams.{AreFresh, StreamsStand}
+use Rattle.fv_report.specs.Streams.{NothingCame, StreamsStand}
 
 -- nothing has happened at a switch yet
 pub record IsFreshSwitch (policy : PolicyView) (switch : Switch) : Type 0 where
   pub quiet : IsQuiet policy [] switch.desk
-  pub streams : AreFresh (length policy.slices) switch.streams
+  pub streams : NothingCame (length policy.slices) switch.streams
 
 -- a switch is the one of a number after records
 pub record SwitchStands (policy : PolicyView) (number : ℕ) (before : List Told) (switch : Switch) : Type 0 where
@@ -86,15 +86,15 @@ PlaysAt Tells r result old new switch switch_after =
     → RecordPlayed Tells policy number r before (IsAt policy r.switch (r ∷ before) switch_after) result old new
 
 -- each switch is the one of its number after records
-pub record AllStand (policy : PolicyView) (before : List Told) (switches : List (Option Switch)) : Type 0 where
+pub record SwitchesStand (policy : PolicyView) (before : List Told) (switches : List (Option Switch)) : Type 0 where
   pub count : length switches ≡ 16
   pub each : (number : ℕ) (switch : Option Switch) → slice_get switches number ≡ Some switch → IsAt policy number before switch
 
 -- the same among all switches
 abbrev pub PlaysAmong : {T : Type 0} → (T → Line → Outcome → T → Type 0) → Told → Outcome → Player T → Player T → List (Option Switch) → List (Option Switch) → Type 0
 PlaysAmong Tells r result old new switches switches_after =
-    (policy : PolicyView) (number : ℕ) (before : List Told) → HasPlayed policy number old → AllStand policy before switches
-    → RecordPlayed Tells policy number r before (AllStand policy (r ∷ before) switches_after) result old new
+    (policy : PolicyView) (number : ℕ) (before : List Told) → HasPlayed policy number old → SwitchesStand policy before switches
+    → RecordPlayed Tells policy number r before (SwitchesStand policy (r ∷ before) switches_after) result old new
 
 -- a record of a recording: a known kind, one of 16 switches, slot 0 or a slot of the policy, and bytes only where its kind has them
 pub record IsRecord (slices : ℕ) (item : Item) (bytes : List ℕ) : Type 0 where

@@ -125,9 +125,9 @@ abbrev pub Outcome : Type 0
 Outcome = Result (Unit {0}) ReportFault
 
 -- from one state to another by these lines, each told whole
-abbrev pub Heard : {T : Type 0} → (T → Line → Outcome → T → Type 0) → T → List Line → T → Type 0
-Heard Tells old [] new = new ≡ old
-Heard {T} Tells old (first ∷ others) new = (next : T) × Tells old first (Ok tt) next × Heard Tells next others new
+abbrev pub ToldWhole : {T : Type 0} → (T → Line → Outcome → T → Type 0) → T → List Line → T → Type 0
+ToldWhole Tells old [] new = new ≡ old
+ToldWhole {T} Tells old (first ∷ others) new = (next : T) × Tells old first (Ok tt) next × ToldWhole Tells next others new
 
 -- by the first of these lines, until a fault: one broke a line off, or memory ran out where none was told
 abbrev pub HeardPart : {T : Type 0} → (T → Line → Outcome → T → Type 0) → ReportFault → T → List Line → T → Type 0
@@ -137,5 +137,5 @@ HeardPart {T} Tells fault old (first ∷ others) new =
 
 -- all of these lines were told; at a fault the first of them
 abbrev pub Tell : {A T : Type 0} → (T → Line → Outcome → T → Type 0) → Result A ReportFault → List Line → T → T → Type 0
-Tell Tells (Ok value) lines old new = Heard Tells old lines new
+Tell Tells (Ok value) lines old new = ToldWhole Tells old lines new
 Tell Tells (Err fault) lines old new = HeardPart Tells fault old lines new

@@ -1,12 +1,12 @@
 -- What a call that writes a text leaves on its sink (this proxy's own rule).
 use Rattle.std.specs.Prelude.{◌≡◌, ◌≤◌, ℕ, List, Option, Result, Ok, Err}
-use Rattle.fv_base.specs.Told.{appended, IsPrefix, Rose}
+use Rattle.fv_base.specs.Told.{appended, IsBeginning, Rose}
 use Rattle.fv_report.specs.declared.fault.ReportFault.{ReportFault}
 use Rattle.fv_report.specs.declared.fault.ReportFault.TheVariants.{WriteFault, Memory}
 
 -- the first bytes of a text were written, perhaps none
 abbrev pub WrotePart : List ℕ → Option (List ℕ) → Option (List ℕ) → Type 0
-WrotePart text before after = (piece : List ℕ) × IsPrefix piece text × (after ≡ appended before piece)
+WrotePart text before after = (piece : List ℕ) × IsBeginning piece text × (after ≡ appended before piece)
 
 -- a text was written; at a fault its first bytes
 abbrev pub Wrote : {A E : Type 0} → Result A E → List ℕ → Option (List ℕ) → Option (List ℕ) → Type 0

@@ -8,7 +8,7 @@ ghost use Rattle.answer_bounds.specs.Bounds.{IsFramed, AreFramed};
 ghost use Rattle.desk_words.specs.declared.event.Timed.{Timed};
 ghost use Rattle.fv_report.specs.Holding.{IsQuiet};
 ghost use Rattle.fv_report.specs.Players.{Scene, IsPlaying};
-ghost use Rattle.fv_report.specs.Plays.{event_from, happens, Plays, Hears};
+ghost use Rattle.fv_report.specs.Plays.{event_from, happens, Plays, PlaysFrames};
 
 use crate::fault::ReportFault;
 use crate::player::Player;
@@ -64,7 +64,7 @@ impl<T: Teller> Player<'_, T> {
     /// All frames of a connection that its framer hasn't given yet.
     fn hear(&mut self, desk: &mut Desk, from: Dest, framer: &mut Framer) -> Result<(), ReportFault>
         ensures { (scene : Scene) (h : List Timed) (fed : List ℕ) (given rest : List (List ℕ)) → IsPlaying scene self.old → IsQuiet scene.policy h desk.old → AreFramed h → Stands framer.old fed given → given ++ rest ≡ frames_of fed
-            → Hears T.Tells scene from h fed rest result self.old self.new desk.new framer.new }
+            → PlaysFrames T.Tells scene from h fed rest result self.old self.new desk.new framer.new }
     {
         while let Some(frame) = next_frame(framer)? {
             self.hear_one(desk, from, frame)?;
@@ -81,7 +81,7 @@ impl<T: Teller> Player<'_, T> {
         bytes: &[u8],
     ) -> Result<(), ReportFault>
         ensures { (scene : Scene) (h : List Timed) (fed : List ℕ) → IsPlaying scene self.old → IsQuiet scene.policy h desk.old → AreFramed h → Stands framer.old fed (frames_of fed)
-            → Hears T.Tells scene from h (fed ++ bytes.now) (drop (length (frames_of fed)) (frames_of (fed ++ bytes.now))) result self.old self.new desk.new framer.new }
+            → PlaysFrames T.Tells scene from h (fed ++ bytes.now) (drop (length (frames_of fed)) (frames_of (fed ++ bytes.now))) result self.old self.new desk.new framer.new }
     {
         framer.feed(bytes)?;
         self.hear(desk, from, framer)

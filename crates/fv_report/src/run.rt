@@ -4,7 +4,7 @@ ghost use Rattle.std.specs.Prelude.{◌≡◌, List, [], length, Ok, IfOk};
 ghost use Rattle.std.specs.List.{All};
 ghost use Rattle.recording.specs.declared.item.Item.{Item};
 ghost use Rattle.recording.specs.Recordings.{IsItem, read_items};
-ghost use Rattle.desk_words.specs.Recorded.{told_by, carried, told_in};
+ghost use Rattle.desk_words.specs.Recorded.{told_by, bytes_carried, told_in};
 ghost use Rattle.desk_words.specs.Reports.{report};
 ghost use Rattle.fv_report.specs.Writing.{Wrote, Counted};
 ghost use Rattle.fv_report.specs.Players.{TellsAll};
@@ -22,7 +22,7 @@ use std::alloc::{AllocError, Global};
 
 /// The bytes that a record of the file carries.
 fn carried<'a>(file: &'a [u8], item: &Item) -> &'a [u8]
-    ensures { result.now ≡ carried file.now item.now }
+    ensures { result.now ≡ bytes_carried file.now item.now }
 {
     let rest = file.get(item.from..).unwrap_or(&[]);
     &rest[..item.size.min(rest.len())]
@@ -70,7 +70,7 @@ impl<T: Teller> Player<'_, T> {
     ) -> Result<(), ReportFault>
         requires item { IsItem (length self.old.policy.now.slices) file.now item.now }
         requires count { length switches.old.items ≡ 16 }
-        ensures plays { PlaysAmong T.Tells (told_by item.now (carried file.now item.now)) result self.old self.new switches.old.items switches.new.items }
+        ensures plays { PlaysAmong T.Tells (told_by item.now (bytes_carried file.now item.now)) result self.old self.new switches.old.items switches.new.items }
         ensures count { length switches.new.items ≡ 16 }
     {
         let bytes = carried(file, item);

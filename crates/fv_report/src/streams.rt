@@ -2,7 +2,7 @@
 
 ghost use Rattle.std.specs.Prelude.{◌≡◌, ◌<◌, length, IfOk, IfSome};
 ghost use Rattle.of10_ctl.specs.Frames.{IsFrame};
-ghost use Rattle.fv_report.specs.Streams.{AreFreshFramers, AreFresh, Restarts, frame_given, TakesFrame};
+ghost use Rattle.fv_report.specs.Streams.{AreFreshFramers, NothingCame, Restarts, frame_given, TakesFrame};
 
 use of10_ctl::{Frame, Framer, Next};
 use std::alloc::{AllocError, Global};
@@ -27,7 +27,7 @@ fn fresh_framers(alloc: Global, count: u8) -> Result<Vec<Framer>, AllocError>
 impl Streams {
     /// Nothing came yet, for a policy of so many slices.
     pub(crate) fn new(alloc: Global, slices: u8) -> Result<Streams, AllocError>
-        ensures { IfOk result (AreFresh slices) }
+        ensures { IfOk result (NothingCame slices) }
     {
         Ok(Streams {
             switch: Framer::new(alloc),

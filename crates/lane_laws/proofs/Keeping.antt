@@ -20,7 +20,7 @@ use Rattle.flowspace.proofs.Refusing.{is_value-Some}
 use Rattle.flowmod_expand.proofs.Somewhere.{Any-first, Any-later}
 use Rattle.slice_words.specs.Items.{Settings, Writer, Reader, Probe, Item, Up, Down, Msg, Lost, is_up, buffered_count}
 use Rattle.slice_words.specs.Pasts.{view_in}
-use Rattle.slice_words.specs.Buffers.{HeldPacket, is_recent}
+use Rattle.slice_words.specs.Buffers.{HeldPacket, is_recent_packet}
 use Rattle.slice_words.specs.Answers.{answer}
 use Rattle.slice_words.specs.Alone.{with_items}
 use Rattle.slice_words.specs.Standing.{past_of}
@@ -30,8 +30,8 @@ use Rattle.desk_words.specs.declared.event.Event.TheVariants.{SwitchUp, SwitchMs
 use Rattle.desk_words.specs.declared.event.Timed.{Timed}
 use Rattle.desk_words.specs.declared.phase.Phase.{Phase}
 use Rattle.desk_words.specs.declared.phase.Phase.TheVariants.{Fresh, Begun, Opened, Gone}
-use Rattle.desk_words.specs.Openings.{opening_with, rules_of, Switch, switch_of, phase_of, opening_of}
-use Rattle.desk_words.specs.Histories.{is_slot, Side, side_of, header_in, handed, number_given, marked_slot, lost_items, packet_items, packet_in_items, packet_said, said_items, message_items, event_items, opening_items, phase_items, items_of, number_told, Numbered, holder, is_given, is_any_given, numbered_with, is_open}
+use Rattle.desk_words.specs.Openings.{opening_with, rules_of, KnownSwitch, switch_of, phase_of, opening_of}
+use Rattle.desk_words.specs.Histories.{is_slot, Side, side_of, header_in, handed, number_given, marked_slot, lost_items, packet_items, packet_in_items, packet_said, said_items, message_items, event_items, opening_items, phase_items, items_of, number_told, Numbered, holder, hands_up_buffered, is_any_given, numbered_with, is_open}
 use Rattle.desk_words.specs.Numbers.{AreNumbered}
 use Rattle.desk_words.proofs.Alone.{has_told, opened_told, blind}
 use Rattle.desk_words.proofs.Silence.{none_or, none_both}
@@ -80,33 +80,33 @@ module _ (policy : PolicyView) (slot : ℕ) where
       let shown = packet_items policy rules slot side.sight.view packet in
       let none = lost_plain (option_and_then (λ number. holder number side.numbered) (number_given packet)) in
       elim (by_shares packet (is_up side.sight.view) (marked_slot policy packet) slot (is_value slot (writer_of rules (header_in packet))) (bit (readers_of rules (header_in packet)) slot) (is_some (number_given packet))) [
-        | inl nothing ↦ NoneShown (none_both is_given lost shown none nothing)
+        | inl nothing ↦ NoneShown (none_both hands_up_buffered lost shown none nothing)
         | inr one ↦
             let number = some_number (number_given packet) one.4 in
             OneShown packet number.0 lost one.0 refl number.1 (ap (λ (items : List Item). lost ++ items) one.1) none one.2 (is_value-Some slot (writer_of rules (header_in packet)) one.3)
       ]
 
-  shows_said : (switch : Switch) (side : Side) (xid : ℕ) (said : Result SwitchMessage Unread) → Shows (rules_of policy switch.features) slot (said_items policy slot switch side xid said) (packet_said said)
+  shows_said : (switch : KnownSwitch) (side : Side) (xid : ℕ) (said : Result SwitchMessage Unread) → Shows (rules_of policy switch.features) slot (said_items policy slot switch side xid said) (packet_said said)
   shows_said switch side xid (Ok (says.PacketIn packet)) = shows_packet (rules_of policy switch.features) side packet
   shows_said switch side xid said = NoneShown (none_given policy slot switch side xid said refl)
 
-  shows_message : (switch : Switch) (side : Side) (message : List ℕ) → Shows (rules_of policy switch.features) slot (message_items policy slot switch side message) (packet_handed Opened (SwitchMsg message))
+  shows_message : (switch : KnownSwitch) (side : Side) (message : List ℕ) → Shows (rules_of policy switch.features) slot (message_items policy slot switch side message) (packet_handed Opened (SwitchMsg message))
   unfolding message_items
   shows_message switch side message = shows_said switch side (xid_of message) (read_switch message)
 
-  shows_event : (switch : Switch) (side : Side) (moment : ℕ) (event : Event) → Shows (rules_of policy switch.features) slot (event_items policy slot switch side moment event) (packet_handed Opened event)
+  shows_event : (switch : KnownSwitch) (side : Side) (moment : ℕ) (event : Event) → Shows (rules_of policy switch.features) slot (event_items policy slot switch side moment event) (packet_handed Opened event)
   shows_event switch side moment SwitchUp = NoneShown refl
   shows_event switch side moment (SwitchMsg message) = shows_message switch side message
   shows_event switch side moment SwitchDown = NoneShown refl
-  shows_event switch side moment (SliceUp other) = NoneShown (none_or is_given (other == slot) (Up ∷ []) refl)
-  shows_event switch side moment (SliceMsg other message) = NoneShown (none_or is_given (other == slot && is_up side.sight.view) (Msg message moment ∷ []) refl)
-  shows_event switch side moment (SliceDown other) = NoneShown (none_or is_given (other == slot) (Down ∷ []) refl)
+  shows_event switch side moment (SliceUp other) = NoneShown (none_or hands_up_buffered (other == slot) (Up ∷ []) refl)
+  shows_event switch side moment (SliceMsg other message) = NoneShown (none_or hands_up_buffered (other == slot && is_up side.sight.view) (Msg message moment ∷ []) refl)
+  shows_event switch side moment (SliceDown other) = NoneShown (none_or hands_up_buffered (other == slot) (Down ∷ []) refl)
 
   plain_opening : (told : Option Features) → is_any_given (opening_items policy slot told) ≡ false
   plain_opening None = refl
   plain_opening (Some features) = refl
 
-  shows_in : (rules : List Rule) (switch : Switch) (side : Side) (timed : Timed) (phase : Phase) → (is_open phase ≡ true → rules_of policy switch.features ≡ rules)
+  shows_in : (rules : List Rule) (switch : KnownSwitch) (side : Side) (timed : Timed) (phase : Phase) → (is_open phase ≡ true → rules_of policy switch.features ≡ rules)
       → Shows rules slot (phase_items policy slot switch side timed phase) (packet_handed phase timed.event)
   shows_in rules switch side timed Fresh same = NoneShown refl
   shows_in rules switch side timed Begun same = NoneShown (plain_opening (opening_with Begun timed.event))
@@ -122,7 +122,7 @@ with_more (item ∷ items) others view = with_more items others (item ∷ view)
 
 given_within : (packet : PacketIn) (lost rest : List Item) → is_any_given (lost ++ (handed (Writer true) packet ∷ rest)) ≡ true
 given_within packet [] rest = refl
-given_within packet (item ∷ lost) rest = or_right (is_given item) (is_any_given (lost ++ (handed (Writer true) packet ∷ rest))) (given_within packet lost rest)
+given_within packet (item ∷ lost) rest = or_right (hands_up_buffered item) (is_any_given (lost ++ (handed (Writer true) packet ∷ rest))) (given_within packet lost rest)
 
 any_within : (P : Item → Type 0) (item : Item) (lost rest : List Item) → P item → Any P (lost ++ (item ∷ rest))
 any_within P item [] rest holds = Any-first P item rest holds
@@ -244,7 +244,7 @@ module _ (policy : PolicyView) (slot : ℕ) (rules : List Rule) (h : List Timed)
         | inr other ↦ moved q held (kept q (rw other.0 at is)) (other_arrival q packet told (rw has other.0))
       ] in
       kept_all After s rest (item ∷ view) rest_none
-      (All-cons After newest (filter (is_recent (own + 1)) (held_in s view)) newest_kept (All-filter (is_recent (own + 1)) After (held_in s view) old))
+      (All-cons After newest (filter (is_recent_packet (own + 1)) (held_in s view)) newest_kept (All-filter (is_recent_packet (own + 1)) After (held_in s view) old))
 
   abbrev items : List Item
   items = items_of policy slot (switch_of h) side timed

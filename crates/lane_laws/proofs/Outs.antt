@@ -32,10 +32,10 @@ use Rattle.action_check.specs.Permitted.{permitted}
 use Rattle.action_check.specs.Soundness.{HasWay}
 use Rattle.action_check.proofs.Aside.{entry_for, Has-entry}
 use Rattle.slice_words.specs.Items.{lone_rules}
-use Rattle.slice_words.specs.Buffers.{HeldPacket, held_under}
+use Rattle.slice_words.specs.Buffers.{HeldPacket, packet_under}
 use Rattle.slice_words.specs.FlowMods.{Ground, list_given, packet_at, first_some}
 use Rattle.slice_words.specs.PacketOuts.{is_buffered_out, carried_header, is_probe, marked, origin_with, sent_out_with, names_no_packet, may_come_by, comes_by_another, lies_aside, carries_another, forbidden_out, out_too_large, packet_out_fault}
-use Rattle.slice_words.specs.Alone.{number_of}
+use Rattle.slice_words.specs.Alone.{number_it_came_with}
 use Rattle.slice_words.proofs.LoneRules.{same_port}
 use Rattle.slice_words.proofs.Holding.{found_holds}
 use Rattle.slice_words.proofs.Forwarding.{not_applying}
@@ -94,7 +94,7 @@ list_for g m origin = list_given (permitted (lone_rules g.slot g.patterns) g.slo
 
 -- what is sent for a packet that the slice holds
 abbrev pub sent_held : List ℕ → Ground → PacketOut → HeldPacket → PacketOut
-sent_held came g m packet = record { xid = g.xid; buffer = number_of came packet.ordinal; in_port = packet.header.in_port; actions = list_for g m (origins.Packet packet.header); payload = [] }
+sent_held came g m packet = record { xid = g.xid; buffer = number_it_came_with came packet.ordinal; in_port = packet.header.in_port; actions = list_for g m (origins.Packet packet.header); payload = [] }
 
 -- what is sent for a probe
 abbrev pub sent_probe : Ground → PacketOut → PacketOut
@@ -108,7 +108,7 @@ sent_carried g m = record { xid = g.xid; buffer = NO_BUFFER; in_port = m.in_port
 abbrev pub out_with : List ℕ → Ground → PacketOut → Option HeldPacket → PacketOut
 out_with came g m named =
     let sent = sent_out_with named g m (list_for g m (origin_with named m)) in
-    elim named [ None ↦ sent | Some packet ↦ record sent { buffer = number_of came packet.ordinal } ]
+    elim named [ None ↦ sent | Some packet ↦ record sent { buffer = number_it_came_with came packet.ordinal } ]
 
 -- and by whether it is a probe
 abbrev unnamed : Ground → PacketOut → Bool → PacketOut
@@ -149,7 +149,7 @@ out_holds Q came g m none holds = by_named (packet_at g m.buffer) refl
 -- ---- the packet that is held
 
 -- it is one of those that are held
-at_number : (P : HeldPacket → Type 0) (none : Bool) (number : ℕ) (held : List HeldPacket) (packet : HeldPacket) → All P held → (if none then None else held_under number held) ≡ Some packet → P packet
+at_number : (P : HeldPacket → Type 0) (none : Bool) (number : ℕ) (held : List HeldPacket) (packet : HeldPacket) → All P held → (if none then None else packet_under number held) ≡ Some packet → P packet
 at_number P true number held packet all is = absurd cc
 at_number P false number held packet all is = (found_holds P (λ other. other.ordinal % 2 ^ 24 == number) held packet all is).0
 
@@ -210,10 +210,10 @@ carries_written ss rules policy g slot m on_patterns lies =
 
 -- so what is sent is the slice's own
 pub out_lies : (IsHeaderUnder : ℕ → Header → Type 0) (ss : List Slice) (rules : List Rule) → IsSwitchPolicy ss rules → (came : List ℕ) (g : Ground) (slot : ℕ) (m : PacketOut) → g.slot ≡ slot → g.patterns ≡ writes_of rules slot
-    → All (λ packet. (h : Header) × IsHeaderUnder (number_of came packet.ordinal) h × Writes rules slot h) g.held
+    → All (λ packet. (h : Header) × IsHeaderUnder (number_it_came_with came packet.ordinal) h × Writes rules slot h) g.held
     → HoldsOfOuts (SendsOwnPacket IsHeaderUnder rules slot) came g m
 out_lies IsHeaderUnder ss rules policy came g slot m on_slot on_patterns all = record {
-  held = λ packet is. inl (packet_holds (λ held. (h : Header) × IsHeaderUnder (number_of came held.ordinal) h × Writes rules slot h) g m.buffer packet all is);
+  held = λ packet is. inl (packet_holds (λ held. (h : Header) × IsHeaderUnder (number_it_came_with came held.ordinal) h × Writes rules slot h) g m.buffer packet all is);
   probe = λ comes is. inr (refl, came_in g rules slot m.in_port on_slot on_patterns comes.1, inr (subst (IsProbe (marked g.slot m.payload)) on_slot (IsProbe-marked g.slot m is)));
   carried = λ comes is lies. inr (refl, came_in g rules slot m.in_port on_slot on_patterns comes.1, inl (carries_written ss rules policy g slot m on_patterns lies));
 }
@@ -227,7 +227,7 @@ not_lldp in_port = refl
 
 held_no_probe : (came : List ℕ) (g : Ground) (m : PacketOut) (packet : HeldPacket) → is_probe (sent_held came g m packet) ≡ true → ⊥
 held_no_probe came g m packet is =
-    true≢false (sym (and_parts (number_of came packet.ordinal == NO_BUFFER) ((header_of_packet packet.header.in_port []).dl_type == 0x88cc) is).1 ∙ not_lldp packet.header.in_port)
+    true≢false (sym (and_parts (number_it_came_with came packet.ordinal == NO_BUFFER) ((header_of_packet packet.header.in_port []).dl_type == 0x88cc) is).1 ∙ not_lldp packet.header.in_port)
 
 -- what it carries is no probe if the slice's message wasn't
 pub same_probe : (g : Ground) (m : PacketOut) → m.buffer ≡ NO_BUFFER → is_probe (sent_carried g m) ≡ is_probe m

@@ -35,7 +35,7 @@ use Rattle.action_check.proofs.Sizes.{IsAction-expanded}
 use Rattle.action_check.proofs.Ways.{permitted-Ok}
 use Rattle.recording.proofs.Untold.{bytes_of}
 use Rattle.slice_words.specs.Buffers.{HeldPacket}
-use Rattle.slice_words.specs.FlowMods.{Ground, packet_of}
+use Rattle.slice_words.specs.FlowMods.{Ground, named_packet}
 use Rattle.slice_words.specs.PacketOuts.{carried_header, packet_out_fault}
 use Rattle.slice_words.proofs.Holding.{found_holds}
 use Rattle.desk_words.specs.declared.event.Event.{Event}
@@ -166,7 +166,7 @@ module _ (policy : PolicyView) (slot : ℕ) (h : List Timed) (bytes : All (λ t.
   came = (side_of policy slot h).sight.came
 
   -- the number that a flow-mod carries has 32 bits
-  number_below : (m : FlowMod) (piece : Pattern) (buffer : ℕ) → MayCarry came (packet_of ground m) piece buffer → buffer < 2 ^ 32
+  number_below : (m : FlowMod) (piece : Pattern) (buffer : ℕ) → MayCarry came (named_packet ground m) piece buffer → buffer < 2 ^ 32
   number_below m piece buffer (inl none) = omega (arith, none)
   number_below m piece buffer (inr (packet, named, number, has_header)) =
       let kept = packet_named policy slot h features is here m (is_delete m) packet named in

@@ -36,12 +36,12 @@ use Rattle.action_check.specs.Soundness.{HasWay}
 use Rattle.recording.proofs.Untold.{bytes_of}
 use Rattle.slice_words.specs.Items.{lone_rules}
 use Rattle.slice_words.specs.Buffers.{HeldPacket, held_packets}
-use Rattle.slice_words.specs.FlowMods.{Ground, pieces_on, packet_at, permitted_on, list_given, place_of}
+use Rattle.slice_words.specs.FlowMods.{Ground, pieces_on, packet_at, permitted_on, list_given, piece_place}
 use Rattle.slice_words.specs.PacketOuts.{carried_header, is_probe, origin_with, sent_out_with, packet_out_fault}
 use Rattle.slice_words.specs.Standing.{SliceStands, past_of, held_as}
 use Rattle.slice_words.proofs.Holding.{found_holds}
-use Rattle.slice_side.specs.Reactions.{kept, ground_at}
-use Rattle.slice_side.specs.Checking.{packet_in, packet_for, carrier_in, number_in, flow_mods_from, packet_out_from, IsSentOn, AreSentOn}
+use Rattle.slice_side.specs.Reactions.{without_physical, ground_at}
+use Rattle.slice_side.specs.Checking.{packet_in, held_for, carrier_in, number_in, flow_mods_from, packet_out_from, IsSentOn, AreSentOn}
 use Rattle.slice_side.proofs.Packets.{kept_packet}
 use Rattle.desk_words.specs.declared.event.Timed.{Timed}
 use Rattle.desk_words.specs.Histories.{side_of, view_of}
@@ -89,7 +89,7 @@ module _ (rules : List Rule) (slot : ℕ) (known : List (List ℕ)) (state : Sli
       → ((k : ℕ) (d : Pattern) → k < length (pieces_on ground m) → (buffer : ℕ) → P (piece_message m xid (get_or (pieces_on ground m) k d) (list ground m (get_or (pieces_on ground m) k d)) buffer))
       → All P (flow_mods_from state ground m)
   each_from P m each =
-      let carrier = carrier_in (packet_for state m) (pieces_on ground m) in
+      let carrier = carrier_in (held_for state m) (pieces_on ground m) in
       each_sent P m xid (list ground m) carrier 0 (pieces_on ground m) (λ k d within. each k d within (buffer_at carrier (0 + k)))
 
   lies_from : (slices : List Slice) → IsSwitchPolicy slices rules → (m : FlowMod) → All (LiesInFlowspace rules slot) (flow_mods_from state ground m)
@@ -139,27 +139,27 @@ module _ (rules : List Rule) (slot : ℕ) (known : List (List ℕ)) (state : Sli
 
   buffer_below : (found : Option Held) (pieces : List Pattern) (k : ℕ) → ((packet : Held) → found ≡ Some packet → packet.physical < 2 ^ 32) → buffer_at (carrier_in found pieces) k < 2 ^ 32
   buffer_below None pieces k each = omega arith
-  buffer_below (Some packet) pieces k each = placed_below packet (place_of packet.header pieces) k (each packet refl)
+  buffer_below (Some packet) pieces k each = placed_below packet (piece_place packet.header pieces) k (each packet refl)
 
   -- a packet that a flow-mod names is one that the state holds
   named_in : (deletes : Bool) (buffer : ℕ) (packet : Held) → KeepsRanged state → (if deletes then None else packet_in state buffer) ≡ Some packet → HasRanges packet
-  named_in true buffer packet kept is = absurd (true≢false (sym (ap is_some is)))
-  named_in false buffer packet kept is = found_in HasRanges (buffer == NO_BUFFER) buffer state.buffers.held packet kept is
+  named_in true buffer packet without_physical is = absurd (true≢false (sym (ap is_some is)))
+  named_in false buffer packet without_physical is = found_in HasRanges (buffer == NO_BUFFER) buffer state.buffers.held packet without_physical is
 
   -- the list of an origin has each field in its range
   list_ranged : (origin : Origin) (actions : List Action) → All IsAction actions → All IsAction (list_given (permitted (lone_rules slot (writes_of rules slot)) slot origin actions (flooded false (ports_of_slice rules slot known)) (flooded true (ports_of_slice rules slot known))))
   list_ranged origin actions each = given_holds (All IsAction) rules slot slot (writes_of rules slot) (ports_of_slice rules slot known) known origin actions refl refl refl (given_ranged rules slot origin actions each)
 
   ranged_from : AreNormal rules → KeepsRanged state → (m : FlowMod) → IsRead m → All IsRanged (flow_mods_from state ground m)
-  ranged_from normal kept m read =
-      let named = packet_for state m in
+  ranged_from normal without_physical m read =
+      let named = held_for state m in
       each_sent IsRanged m xid (list ground m) (carrier_in named (pieces_on ground m)) 0 (pieces_on ground m)
       (λ k d within.
       let piece = get_or (pieces_on ground m) k d in
       let buffer = buffer_at (carrier_in named (pieces_on ground m)) (0 + k) in
       let none = All-nil IsAction in
       ranged_sent m xid piece (list ground m piece) buffer read (pieces_of_normal rules slot m.pattern normal read.pattern k d within)
-      (buffer_below named (pieces_on ground m) (0 + k) (λ packet is. (named_in (is_delete m) m.buffer packet kept is).0))
+      (buffer_below named (pieces_on ground m) (0 + k) (λ packet is. (named_in (is_delete m) m.buffer packet without_physical is).0))
       (sent_holds (All IsAction) m xid piece (list ground m piece) buffer none
       (either (All IsAction) (is_delete m) [] (list_given (permitted_on ground m piece)) none (list_ranged (origins.Piece piece) m.actions read.actions))))
 
@@ -195,9 +195,9 @@ module _ (rules : List Rule) (slot : ℕ) (known : List (List ℕ)) (state : Sli
       let packet = get_or state.buffers.held k d in
       (k, packet, within, get_or_default state.buffers.held k packet d within, (refl, refl))
 
-  port_below : KeepsRanged state → (m : PacketOut) (packet : HeldPacket) (found : Option Held) → packet_in state m.buffer ≡ found → option_map kept found ≡ Some packet → packet.header.in_port < 2 ^ 16
+  port_below : KeepsRanged state → (m : PacketOut) (packet : HeldPacket) (found : Option Held) → packet_in state m.buffer ≡ found → option_map without_physical found ≡ Some packet → packet.header.in_port < 2 ^ 16
   port_below ranged m packet None is named = absurd (true≢false (sym (ap is_some named)))
-  port_below ranged m packet (Some held) is named = subst (λ (other : HeldPacket). other.header.in_port < 2 ^ 16) (same_Some (kept held) packet named) (named_in false m.buffer held ranged is).1
+  port_below ranged m packet (Some held) is named = subst (λ (other : HeldPacket). other.header.in_port < 2 ^ 16) (same_Some (without_physical held) packet named) (named_in false m.buffer held ranged is).1
 
   ranged_out_from : KeepsRanged state → (m : PacketOut) → IsReadOut m → packet_out_fault ground m ≡ None → IsRangedOut (packet_out_from state ground m)
   ranged_out_from ranged m read none =
@@ -218,7 +218,7 @@ module _ (rules : List Rule) (slot : ℕ) (known : List (List ℕ)) (state : Sli
     packet_outs = λ m read none. ranged_out_from ranged m (read_out_of message m (bytes_of message bytes) read) none;
   }
 
-  own_held : KeepsWritten rules slot state → (m : PacketOut) (packet : HeldPacket) (found : Option Held) → packet_in state m.buffer ≡ found → option_map kept found ≡ Some packet
+  own_held : KeepsWritten rules slot state → (m : PacketOut) (packet : HeldPacket) (found : Option Held) → packet_in state m.buffer ≡ found → option_map without_physical found ≡ Some packet
       → (h : Header) × IsKeptHeader state (number_in found) h × Writes rules slot h
   own_held written m packet None is named = absurd (true≢false (sym (ap is_some named)))
   own_held written m packet (Some held) is named = (

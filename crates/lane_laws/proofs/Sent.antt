@@ -47,12 +47,12 @@ use Rattle.action_check.specs.declared.origin.Origin.TheVariants.{Piece}
 use Rattle.action_check.specs.Permitted.{permitted}
 use Rattle.action_check.specs.Soundness.{HasWay}
 use Rattle.slice_words.specs.Items.{Settings, Sight, lone_rules, Item, Msg, is_up, known_ports}
-use Rattle.slice_words.specs.Pasts.{SendsOut, Answer, silence}
+use Rattle.slice_words.specs.Pasts.{SendsOut, Answer, no_answer}
 use Rattle.slice_words.specs.Buffers.{HeldPacket, held_packets}
-use Rattle.slice_words.specs.FlowMods.{Ground, ground_of, pieces_on, permitted_on, list_given, packet_at, packet_of, place_of, carrier_of, flow_mod_fault}
+use Rattle.slice_words.specs.FlowMods.{Ground, ground_of, pieces_on, permitted_on, list_given, packet_at, named_packet, piece_place, carrier_of, flow_mod_fault}
 use Rattle.slice_words.specs.PacketOuts.{origin_with, permitted_out, packet_out_on, packet_out_fault}
 use Rattle.slice_words.specs.Answers.{message_answer}
-use Rattle.slice_words.specs.Alone.{number_of, rendered, answer_to, put_for}
+use Rattle.slice_words.specs.Alone.{number_it_came_with, rendered, answer_to, put_for}
 use Rattle.slice_words.specs.Standing.{past_of}
 use Rattle.slice_words.proofs.LoneRules.{same_ports}
 use Rattle.slice_words.proofs.Forwarding.{numbered, flow_mods_numbered, rendered_sent}
@@ -67,7 +67,7 @@ use Rattle.desk_words.specs.Laws.{HasSeen}
 use Rattle.desk_words.proofs.Alone.{has_told, opened_told, blind}
 use Rattle.desk_words.proofs.Silence.{sees_nothing}
 use Rattle.desk_words.proofs.Seen.{seen}
-use Rattle.lane_laws.specs.Lane.{AsksForReply, LiesInFlowspace, NamesOwnPort, OutputsToOwnPorts, LeavesOtherHeaders, SendsOwnPacket, SendsToOwnPorts, ChangesNoTable, IsBufferHeader, CarriesOwnBuffer, SendsOwnBuffer, IsOwnBuffer, HoldsWritten, rules_in, settings_in, ports_in, ground_in, switch_number, flow_mods_at, packet_out_at, KeepsRate, IsPermitted, IsPermittedOut, IsPermittedQuestion, IsAnyPermitted, AsksOwnPort}
+use Rattle.lane_laws.specs.Lane.{AsksForReply, LiesInFlowspace, NamesOwnPort, OutputsToOwnPorts, LeavesOtherHeaders, SendsOwnPacket, SendsToOwnPorts, ChangesNoTable, IsBufferHeader, CarriesOwnBuffer, SendsOwnBuffer, IsOwnBuffer, HoldsWritten, rules_in, settings_in, ports_shown, ground_in, switch_number, flow_mods_at, packet_out_at, KeepsRate, IsPermitted, IsPermittedOut, IsPermittedQuestion, IsAnyPermitted, AsksOwnPort}
 use Rattle.lane_laws.proofs.Keeping.{IsKept, kept_now}
 use Rattle.slice_side.specs.Checking.{IsQuestion}
 use Rattle.lane_laws.proofs.Forwarded.{put_whole, out_whole, question_whole, put_or_none}
@@ -93,7 +93,7 @@ put_up : (s : Settings) (view : List Item) (came message : List ℕ) (moment : �
 put_up s view came message moment here same is_here is_same up =
     let whole = message_answer s view (past_of s view) moment message in
     rw (is_here, is_same, up)
-    (ap (map (rendered came)) (append-nil (answer_to s view (Msg message moment)).to_switch ∙ ap (λ (b : Bool). (if b then whole else silence).to_switch) up))
+    (ap (map (rendered came)) (append-nil (answer_to s view (Msg message moment)).to_switch ∙ ap (λ (b : Bool). (if b then whole else no_answer).to_switch) up))
 
 put_down : (s : Settings) (view : List Item) (came message : List ℕ) (moment : ℕ) (here same : Bool) → same ≡ true → is_up view ≡ false
     → map (rendered came) (put_for s view (if here then (if same && is_up view then Msg message moment ∷ [] else []) else [])) ≡ []
@@ -128,7 +128,7 @@ up_here policy slot h Opened at up = here_of policy slot h up
 
 -- the packet-out, with the switch's number where it names a packet
 pub rendered_out : (came : List ℕ) (m : PacketOut) (named : Option HeldPacket)
-    → rendered came (SendsOut m (option_map (λ packet. packet.ordinal) named)) ≡ spell_packet_out (elim named [ None ↦ m | Some packet ↦ record m { buffer = number_of came packet.ordinal } ])
+    → rendered came (SendsOut m (option_map (λ packet. packet.ordinal) named)) ≡ spell_packet_out (elim named [ None ↦ m | Some packet ↦ record m { buffer = number_it_came_with came packet.ordinal } ])
 rendered_out came m None = refl
 rendered_out came m (Some packet) = refl
 
@@ -313,10 +313,10 @@ module _ (policy : PolicyView) (h : List Timed) (timed : Timed) (slot : ℕ) (me
 
 -- the number that a piece's flow-mod carries: none, or that of the packet that is named where the piece has the packet's header
 abbrev pub MayCarry : List ℕ → Option HeldPacket → Pattern → ℕ → Type 0
-MayCarry came named piece buffer = (buffer ≡ NO_BUFFER) ⊎ ((packet : HeldPacket) × (named ≡ Some packet) × (buffer ≡ number_of came packet.ordinal) × (has piece packet.header ≡ true))
+MayCarry came named piece buffer = (buffer ≡ NO_BUFFER) ⊎ ((packet : HeldPacket) × (named ≡ Some packet) × (buffer ≡ number_it_came_with came packet.ordinal) × (has piece packet.header ≡ true))
 
-carries_at : (came : List ℕ) (packet : HeldPacket) (pieces : List Pattern) (k : ℕ) (d : Pattern) (place : Option ℕ) → place_of packet.header pieces ≡ place
-    → MayCarry came (Some packet) (get_or pieces k d) (buffer_at (option_map (λ (own : ℕ × ℕ). (own.0, number_of came own.1)) (option_map (λ (first : ℕ). (first, packet.ordinal)) place)) k)
+carries_at : (came : List ℕ) (packet : HeldPacket) (pieces : List Pattern) (k : ℕ) (d : Pattern) (place : Option ℕ) → piece_place packet.header pieces ≡ place
+    → MayCarry came (Some packet) (get_or pieces k d) (buffer_at (option_map (λ (own : ℕ × ℕ). (own.0, number_it_came_with came own.1)) (option_map (λ (first : ℕ). (first, packet.ordinal)) place)) k)
 carries_at came packet pieces k d None is = inl refl
 carries_at came packet pieces k d (Some place) is = elim (eqb_tells place k) [
   | inl here ↦
@@ -326,9 +326,9 @@ carries_at came packet pieces k d (Some place) is = elim (eqb_tells place k) [
 ]
 
 carries : (came : List ℕ) (named : Option HeldPacket) (pieces : List Pattern) (k : ℕ) (d : Pattern)
-    → MayCarry came named (get_or pieces k d) (buffer_at (option_map (λ (own : ℕ × ℕ). (own.0, number_of came own.1)) (carrier_of named pieces)) k)
+    → MayCarry came named (get_or pieces k d) (buffer_at (option_map (λ (own : ℕ × ℕ). (own.0, number_it_came_with came own.1)) (carrier_of named pieces)) k)
 carries came None pieces k d = inl refl
-carries came (Some packet) pieces k d = carries_at came packet pieces k d (place_of packet.header pieces) refl
+carries came (Some packet) pieces k d = carries_at came packet pieces k d (piece_place packet.header pieces) refl
 
 -- the list of a piece
 abbrev pub list : Ground → FlowMod → Pattern → List Action
@@ -336,17 +336,17 @@ list g m piece = if is_delete m then [] else list_given (permitted_on g m piece)
 
 -- what holds of the flow-mod of each piece holds of all
 pub each_on : (P : FlowMod → Type 0) (came : List ℕ) (g : Ground) (m : FlowMod) (patterns : List Pattern) → g.patterns ≡ patterns
-    → All (λ piece. (buffer : ℕ) → MayCarry came (packet_of g m) piece buffer → P (piece_message m g.xid piece (list g m piece) buffer)) (pieces_within patterns m.pattern)
+    → All (λ piece. (buffer : ℕ) → MayCarry came (named_packet g m) piece buffer → P (piece_message m g.xid piece (list g m piece) buffer)) (pieces_within patterns m.pattern)
     → All P (flow_mods_numbered came g m)
 each_on P came g m patterns is each =
-    let carrier = numbered came (carrier_of (packet_of g m) (pieces_on g m)) in
-    let own : All (λ piece. (buffer : ℕ) → MayCarry came (packet_of g m) piece buffer → P (piece_message m g.xid piece (list g m piece) buffer)) (pieces_on g m) =
-    subst (λ ps. All (λ piece. (buffer : ℕ) → MayCarry came (packet_of g m) piece buffer → P (piece_message m g.xid piece (list g m piece) buffer)) (pieces_within ps m.pattern)) (sym is) each in
+    let carrier = numbered came (carrier_of (named_packet g m) (pieces_on g m)) in
+    let own : All (λ piece. (buffer : ℕ) → MayCarry came (named_packet g m) piece buffer → P (piece_message m g.xid piece (list g m piece) buffer)) (pieces_on g m) =
+    subst (λ ps. All (λ piece. (buffer : ℕ) → MayCarry came (named_packet g m) piece buffer → P (piece_message m g.xid piece (list g m piece) buffer)) (pieces_within ps m.pattern)) (sym is) each in
     each_sent P m g.xid (list g m) carrier 0 (pieces_on g m)
     (λ k d within.
     let piece = get_or (pieces_on g m) k d in
     subst (λ n. P (piece_message m g.xid piece (list g m piece) (buffer_at carrier n))) {x = k} {y = 0 + k} (omega arith)
-    (own k d within (buffer_at carrier k) (carries came (packet_of g m) (pieces_on g m) k d)))
+    (own k d within (buffer_at carrier k) (carries came (named_packet g m) (pieces_on g m) k d)))
 
 -- ---- ports and actions
 
@@ -378,7 +378,7 @@ judged policy slot h features is here origin actions =
 judged_by : (policy : PolicyView) (slot : ℕ) (h : List Timed) → is_slice_up policy slot h ≡ true → (origin : Ground → Origin) (actions : List Action)
     → permitted (lone_rules (settings_in policy slot h).slot (settings_in policy slot h).patterns) (settings_in policy slot h).slot (origin (ground_in policy slot h)) actions
     (flooded false (known_ports (view_of policy slot h))) (flooded true (known_ports (view_of policy slot h)))
-    ≡ permitted (rules_in policy h) slot (origin (ground_in policy slot h)) actions (flooded false (ports_in policy slot h)) (flooded true (ports_in policy slot h))
+    ≡ permitted (rules_in policy h) slot (origin (ground_in policy slot h)) actions (flooded false (ports_shown policy slot h)) (flooded true (ports_shown policy slot h))
 judged_by policy slot h up origin actions =
     let told = told_up policy slot h up in
     let here = up_here policy slot h (phase_of h) refl up in
@@ -390,12 +390,12 @@ judged_by policy slot h up origin actions =
     (sym told.1) (judged policy slot h told.0 told.1 here (origin (ground_by policy slot h (Some told.0))) actions)
 
 pub actions_are : (policy : PolicyView) (h : List Timed) (slot : ℕ) (m : FlowMod) (piece : Pattern) → is_slice_up policy slot h ≡ true
-    → permitted_on (ground_in policy slot h) m piece ≡ permitted (rules_in policy h) slot (Piece piece) m.actions (flooded false (ports_in policy slot h)) (flooded true (ports_in policy slot h))
+    → permitted_on (ground_in policy slot h) m piece ≡ permitted (rules_in policy h) slot (Piece piece) m.actions (flooded false (ports_shown policy slot h)) (flooded true (ports_shown policy slot h))
 actions_are policy h slot m piece up = judged_by policy slot h up (λ g. Piece piece) m.actions
 
 pub out_actions_are : (policy : PolicyView) (h : List Timed) (slot : ℕ) (m : PacketOut) → is_slice_up policy slot h ≡ true
     → permitted_out (ground_in policy slot h) m
-    ≡ permitted (rules_in policy h) slot (origin_with (packet_at (ground_in policy slot h) m.buffer) m) m.actions (flooded false (ports_in policy slot h)) (flooded true (ports_in policy slot h))
+    ≡ permitted (rules_in policy h) slot (origin_with (packet_at (ground_in policy slot h) m.buffer) m) m.actions (flooded false (ports_shown policy slot h)) (flooded true (ports_shown policy slot h))
 out_actions_are policy h slot m up = judged_by policy slot h up (λ g. origin_with (packet_at g m.buffer) m) m.actions
 
 -- what holds of the lists that a slice may have for an origin holds of the one that it has
@@ -437,7 +437,7 @@ lies_on policy accepted slot h features here m =
     let P = LiesInFlowspace rules slot in
     let came = (side_of policy slot h).sight.came in
     each_on P came g m (writes_of rules slot) (patterns_are policy slot (Some features) here)
-    (All-weaker (Owns rules slot) (λ piece. (buffer : ℕ) → MayCarry came (packet_of g m) piece buffer → P (piece_message m g.xid piece (list g m piece) buffer))
+    (All-weaker (Owns rules slot) (λ piece. (buffer : ℕ) → MayCarry came (named_packet g m) piece buffer → P (piece_message m g.xid piece (list g m piece) buffer))
     (λ piece owns buffer carrying. sent_within policy.slices rules (IsSwitchPolicy-rules_on policy.slices policy.rules features.datapath accepted) slot m g.xid piece (list g m piece) buffer owns)
     (pieces_of rules slot m.pattern) (Owns-pieces_of rules slot m.pattern))
 

@@ -34,10 +34,10 @@ use Rattle.action_check.specs.Soundness.{IsSound}
 use Rattle.stats_filter.specs.Asking.{asked_as}
 use Rattle.slice_words.specs.Items.{Settings, Sight, Writer}
 use Rattle.slice_words.specs.Buffers.{held_packets}
-use Rattle.slice_words.specs.FlowMods.{Ground, ground_of, pieces_on, lists_on, packet_at, packet_of, carrier_of, flow_mod_fault}
+use Rattle.slice_words.specs.FlowMods.{Ground, ground_of, pieces_on, lists_on, packet_at, named_packet, carrier_of, flow_mod_fault}
 use Rattle.slice_words.specs.PacketOuts.{carried_header, is_probe, packet_out_on, packet_out_fault}
 use Rattle.slice_words.specs.Answers.{keeps_rate}
-use Rattle.slice_words.specs.Alone.{number_of}
+use Rattle.slice_words.specs.Alone.{number_it_came_with}
 use Rattle.slice_words.specs.Standing.{past_of}
 use Rattle.desk_words.specs.declared.event.Event.{Event}
 use Rattle.desk_words.specs.declared.event.Event.TheVariants.{SwitchMsg, SliceMsg}
@@ -285,8 +285,8 @@ abbrev pub settings_in : PolicyView → ℕ → List Timed → Settings
 settings_in policy slot h = settings_at policy slot (opening_of h)
 
 -- the slice's own of the known ports
-abbrev pub ports_in : PolicyView → ℕ → List Timed → List (List ℕ)
-ports_in policy slot h = ports_of_slice (rules_in policy h) slot (ports_after h)
+abbrev pub ports_shown : PolicyView → ℕ → List Timed → List (List ℕ)
+ports_shown policy slot h = ports_of_slice (rules_in policy h) slot (ports_after h)
 
 -- what a flow-mod or a packet-out of the slice is answered by
 abbrev pub ground_in : PolicyView → ℕ → List Timed → Ground
@@ -294,13 +294,13 @@ ground_in policy slot h = ground_of (settings_in policy slot h) (view_of policy 
 
 -- the switch's number for the slice's packet before which it was given so many
 abbrev pub switch_number : PolicyView → ℕ → List Timed → ℕ → ℕ
-switch_number policy slot h ordinal = number_of (side_of policy slot h).sight.came ordinal
+switch_number policy slot h ordinal = number_it_came_with (side_of policy slot h).sight.came ordinal
 
 -- the flow-mods for the pieces of a match: the first whose piece has the header of the packet that is named carries the switch's number for it
 abbrev pub flow_mods_at : PolicyView → ℕ → List Timed → FlowMod → List FlowMod
 flow_mods_at policy slot h m =
     let g = ground_in policy slot h in
-    piece_messages 0 m g.xid (pieces_on g m) (lists_on g m) (option_map (λ own. (own.0, switch_number policy slot h own.1)) (carrier_of (packet_of g m) (pieces_on g m)))
+    piece_messages 0 m g.xid (pieces_on g m) (lists_on g m) (option_map (λ own. (own.0, switch_number policy slot h own.1)) (carrier_of (named_packet g m) (pieces_on g m)))
 
 -- the packet-out that is sent, with the switch's number for the packet that is named
 abbrev pub packet_out_at : PolicyView → ℕ → List Timed → PacketOut → PacketOut

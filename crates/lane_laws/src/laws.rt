@@ -29,7 +29,7 @@ ghost use Rattle.desk_words.specs.declared.event.Event.TheVariants.{SliceMsg};
 ghost use Rattle.desk_words.specs.declared.event.Timed.{Timed};
 ghost use Rattle.desk_words.specs.Histories.{side_of, is_slice_up};
 ghost use Rattle.desk_words.specs.Sent.{lane_by};
-ghost use Rattle.lane_laws.specs.Lane.{IsRanged, IsRangedOut, IsSentThat, LiesInFlowspace, OutputsToOwnPorts, LeavesOtherHeaders, StaysWithin, SendsOwnPacket, SendsToOwnPorts, ChangesNoTable, SendsWithin, IsReadThat, IsOfBytes, IsBufferHeader, CarriesOwnBuffer, SendsOwnBuffer, HoldsWritten, KeepsWritten, KeepsRanged, IsKeptHeader, rules_in, settings_in, ports_in, ground_in, flow_mods_at, packet_out_at, IsPermitted, IsPermittedOut, IsPermittedQuestion, IsAnyPermitted};
+ghost use Rattle.lane_laws.specs.Lane.{IsRanged, IsRangedOut, IsSentThat, LiesInFlowspace, OutputsToOwnPorts, LeavesOtherHeaders, StaysWithin, SendsOwnPacket, SendsToOwnPorts, ChangesNoTable, SendsWithin, IsReadThat, IsOfBytes, IsBufferHeader, CarriesOwnBuffer, SendsOwnBuffer, HoldsWritten, KeepsWritten, KeepsRanged, IsKeptHeader, rules_in, settings_in, ports_shown, ground_in, flow_mods_at, packet_out_at, IsPermitted, IsPermittedOut, IsPermittedQuestion, IsAnyPermitted};
 
 /// Whatever a message of a slice has sent to the switch is a flow-mod, and the slice writes each header of its
 /// match; or it is a packet-out of a packet that the slice writes, or of a probe with the slice's mark; or it is
@@ -92,7 +92,7 @@ pub fn permitted_flow_mods_are_sent()
         → IsPermitted policy slot h timed.moment message m → lane_by policy h timed ≡ map spell_flow_mod (flow_mods_at policy slot h m) }
     ensures pieces { (policy : PolicyView) (h : List Timed) (slot : ℕ) (m : FlowMod) → is_slice_up policy slot h ≡ true → pieces_on (ground_in policy slot h) m ≡ pieces_of (rules_in policy h) slot m.pattern }
     ensures actions { (policy : PolicyView) (h : List Timed) (slot : ℕ) (m : FlowMod) (piece : Pattern) → is_slice_up policy slot h ≡ true
-        → permitted_on (ground_in policy slot h) m piece ≡ permitted (rules_in policy h) slot (Piece piece) m.actions (flooded false (ports_in policy slot h)) (flooded true (ports_in policy slot h)) }
+        → permitted_on (ground_in policy slot h) m piece ≡ permitted (rules_in policy h) slot (Piece piece) m.actions (flooded false (ports_shown policy slot h)) (flooded true (ports_shown policy slot h)) }
     ensures nothing_else { (policy : PolicyView) (h : List Timed) (timed : Timed) (slot : ℕ) (message : List ℕ) → timed.event ≡ SliceMsg slot message
         → (lane_by policy h timed ≡ []) ⊎ ((is_slice_up policy slot h ≡ true) × IsAnyPermitted policy slot h timed.moment message) }
 {}
@@ -105,7 +105,7 @@ pub fn permitted_packet_outs_are_sent()
         → IsPermittedOut policy slot h timed.moment message m → lane_by policy h timed ≡ spell_packet_out (packet_out_at policy slot h m) ∷ [] }
     ensures actions { (policy : PolicyView) (h : List Timed) (slot : ℕ) (m : PacketOut) → is_slice_up policy slot h ≡ true
         → permitted_out (ground_in policy slot h) m
-        ≡ permitted (rules_in policy h) slot (origin_with (packet_at (ground_in policy slot h) m.buffer) m) m.actions (flooded false (ports_in policy slot h)) (flooded true (ports_in policy slot h)) }
+        ≡ permitted (rules_in policy h) slot (origin_with (packet_at (ground_in policy slot h) m.buffer) m) m.actions (flooded false (ports_shown policy slot h)) (flooded true (ports_shown policy slot h)) }
 {}
 
 /// A question of a slice that is up is sent where it keeps the rate and the slice may ask it: exactly one, under

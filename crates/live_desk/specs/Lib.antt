@@ -1,2 +1,2 @@
-pub mod Acts
+pub mod Operates
 pub mod Turns

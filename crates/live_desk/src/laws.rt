@@ -12,16 +12,16 @@ ghost use Rattle.turn_desk.specs.Histories.{IsLegal, Runs, seen_of};
 ghost use Rattle.live_desk.specs.declared.object.DeskObject.{DeskObject};
 ghost use Rattle.live_desk.specs.declared.object.DeskOp.{DeskOp};
 ghost use Rattle.live_desk.specs.declared.object.DeskReply.{DeskReply};
-ghost use Rattle.live_desk.specs.Acts.{Acts};
+ghost use Rattle.live_desk.specs.Operates.{Operates};
 ghost use Rattle.live_desk.specs.Turns.{AreOperations};
 
 /// What a seat has seen of a desk that was new, as `Desk::new` gives it, is a legal history of a desk of its
 /// policy.
 pub fn legal_lists_are_legal_histories()
-    ensures { (policy : PolicyView) (opening : DeskObject) (v : Option (Member DeskObject DeskOp DeskReply)) → DeskStands policy [] opening.desk → IsLegal Acts opening v → (operations : List Operation) × AreOperations (seen_of v) operations × IsLegalHistory policy operations }
+    ensures { (policy : PolicyView) (opening : DeskObject) (v : Option (Member DeskObject DeskOp DeskReply)) → DeskStands policy [] opening.desk → IsLegal Operates opening v → (operations : List Operation) × AreOperations (seen_of v) operations × IsLegalHistory policy operations }
 {}
 
 /// Where all turns are known, the desk stands for them.
 pub fn desks_stand_for_their_turns()
-    ensures { (policy : PolicyView) (opening last : DeskObject) (turns : List (Entry DeskOp DeskReply)) → DeskStands policy [] opening.desk → Runs Acts opening turns last → (operations : List Operation) × AreOperations turns operations × IsLegalHistory policy operations × DeskStands policy operations last.desk }
+    ensures { (policy : PolicyView) (opening last : DeskObject) (turns : List (Entry DeskOp DeskReply)) → DeskStands policy [] opening.desk → Runs Operates opening turns last → (operations : List Operation) × AreOperations turns operations × IsLegalHistory policy operations × DeskStands policy operations last.desk }
 {}

@@ -33,13 +33,13 @@ pub enum DeskReply {
 }
 
 impl Object for DeskObject {
-    ghost use Rattle.live_desk.specs.Acts.{Acts};
+    ghost use Rattle.live_desk.specs.Operates.{Operates};
 
     type Op = DeskOp;
 
     type Reply = DeskReply;
 
-    ghost acts = { λ old op reply new. Acts old op reply new };
+    ghost acts = { λ old op reply new. Operates old op reply new };
 
     fn act(&mut self, op: DeskOp) -> DeskReply {
         match op {

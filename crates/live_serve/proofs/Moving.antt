@@ -11,17 +11,17 @@ use Rattle.fv_cli.specs.Endings.{PolicySays, PassesLimit, policy_limit}
 use Rattle.live_serve.specs.declared.accept.RunEnd.TheVariants.{Done, NoMemory, WireFault, NoThread}
 use Rattle.live_serve.specs.declared.finish.Finish.{Finish}
 use Rattle.live_serve.specs.declared.finish.Finish.TheVariants.{Early, Ran}
-use Rattle.live_serve.specs.Running.{Outside, outside}
-use Rattle.live_serve.specs.Serving.{Reads, Places, Causes, IsServeCause, IsReadyPolicy, AreCalm, Completes, status_of}
+use Rattle.live_serve.specs.Running.{ServeOutside, outside}
+use Rattle.live_serve.specs.Serving.{ServeReads, Places, ServeCauses, IsServeCause, IsPolicyToServe, AreCalm, ServeCompletes, finish_status}
 
 -- the spawner told the same at the end
-pub cause_kept : (w : Reads) (a : Places) (accepted : Option ℕ) (roles roles' : Option (List Role)) (h : List ℕ → ℕ) (s s' : ℕ) (form : Option FormBytes) (finish : Finish) →
+pub cause_kept : (w : ServeReads) (a : Places) (accepted : Option ℕ) (roles roles' : Option (List Role)) (h : List ℕ → ℕ) (s s' : ℕ) (form : Option FormBytes) (finish : Finish) →
     roles' ≡ roles → s' ≡ s →
-    Causes w a (λ at. outside accepted roles (h at) s) form finish →
-    Causes w a (λ at. outside accepted roles' (h at) s') form finish
+    ServeCauses w a (λ at. outside accepted roles (h at) s) form finish →
+    ServeCauses w a (λ at. outside accepted roles' (h at) s') form finish
 cause_kept w a accepted roles roles' h s s' form finish same calm cause =
-    let told = subst (λ r. Causes w a (λ at. outside accepted r (h at) s) form finish) (sym same) cause in
-    subst (λ n. Causes w a (λ at. outside accepted roles' (h at) n) form finish) (sym calm) told
+    let told = subst (λ r. ServeCauses w a (λ at. outside accepted r (h at) s) form finish) (sym same) cause in
+    subst (λ n. ServeCauses w a (λ at. outside accepted roles' (h at) n) form finish) (sym calm) told
 
 -- ---- completeness
 
@@ -38,7 +38,7 @@ not_refused bytes p fault (read, were, says) (again, were', refused) =
     absurd cc
 
 -- with a policy that is ready, all was done or memory ran out
-complete_run : (w : Reads) (policy : List ℕ) (count : ℕ) (a b : Outside) (finish : Finish) → IsServeCause w policy count a b finish → IsReadyPolicy w policy → AreCalm a b → (status_of finish ≡ 0) ⊎ (status_of finish ≡ 6)
+complete_run : (w : ServeReads) (policy : List ℕ) (count : ℕ) (a b : ServeOutside) (finish : Finish) → IsServeCause w policy count a b finish → IsPolicyToServe w policy → AreCalm a b → (finish_status finish ≡ 0) ⊎ (finish_status finish ≡ 6)
 complete_run w policy count a b (Ran Done) cause ready calm = inl refl
 complete_run w policy count a b (Ran NoMemory) cause ready calm = inr refl
 complete_run w policy count a b (Ran WireFault) cause ready calm = absurd (calm.wires cause.2.1)
@@ -53,7 +53,7 @@ complete_run w policy count a b (Early early.TooLarge) cause ready calm = absurd
 complete_run w policy count a b (Early (early.PolicyRefused fault)) cause ready calm = absurd (not_refused ready.bytes ready.p fault ready.says (subst (λ file. PolicySays (Err fault) file) ready.told cause.0))
 complete_run w policy count a b (Early (early.RecordingRefused fault)) cause ready calm = absurd cause.0
 
-pub complete : (w : Reads) (a b : Places) (form : Option FormBytes) (finish : Finish) → Causes w a b form finish → Completes w a b form (status_of finish)
+pub complete : (w : ServeReads) (a b : Places) (form : Option FormBytes) (finish : Finish) → ServeCauses w a b form finish → ServeCompletes w a b form (finish_status finish)
 complete w a b None finish cause ready = absurd ready
 complete w a b (Some (OfCheck policy)) finish cause ready = absurd ready
 complete w a b (Some (OfReplay policy recording)) finish cause ready = absurd ready

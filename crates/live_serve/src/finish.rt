@@ -2,7 +2,7 @@
 
 ghost use Rattle.std.specs.Prelude.{◌≡◌};
 ghost use Rattle.fv_cli.specs.Endings.{IsPut};
-ghost use Rattle.live_serve.specs.Serving.{status_of, line_of, run_line};
+ghost use Rattle.live_serve.specs.Serving.{finish_status, finish_line, run_line};
 
 use crate::accept::RunEnd;
 use fv_base::{Sink, put_all};
@@ -19,7 +19,7 @@ pub(crate) enum Finish {
 impl Finish {
     /// The exit status.
     pub(crate) fn status(&self) -> u8
-        ensures { result ≡ status_of self.now }
+        ensures { result ≡ finish_status self.now }
     {
         match self {
             Finish::Early(ending) => ending.status(),
@@ -33,7 +33,7 @@ impl Finish {
     /// Puts the line of the finish with its line feed, or as much of it as the sink takes; nothing where all was
     /// done. It takes no memory.
     pub(crate) fn say<E: Sink>(&self, err: &mut E)
-        ensures { IsPut (line_of self.now) (E.contents err.old) (E.contents err.new) (E.faults err.old) (E.faults err.new) }
+        ensures { IsPut (finish_line self.now) (E.contents err.old) (E.contents err.new) (E.faults err.old) (E.faults err.new) }
     {
         match self {
             Finish::Early(ending) => ending.say(err),

@@ -4,7 +4,7 @@ ghost use Rattle.std.specs.Prelude.{◌≡◌, map, false};
 ghost use Rattle.fv_base.specs.Words.{form_of};
 ghost use Rattle.live_serve.specs.Roles.{controller_of};
 ghost use Rattle.live_serve.specs.Running.{outside, IsRunCause};
-ghost use Rattle.live_serve.specs.Serving.{IsServeCause, Causes, LeavesReads, ServeEnded, Completes};
+ghost use Rattle.live_serve.specs.Serving.{IsServeCause, ServeCauses, LeavesReads, ServeEnded, ServeCompletes};
 
 use crate::accept::{RunEnd, accept_all};
 use crate::finish::Finish;
@@ -105,7 +105,7 @@ fn decide<
     requires silent { N.listens wires.old ≡ false }
     requires can { P.can_start spawner.old }
     ensures can { P.can_start spawner.new }
-    ensures cause { Causes (record { files = F.contents files.old; before = F.faults files.old; after = F.faults files.new }) (λ at. outside (N.accepted wires.old) (P.roles spawner.old) (N.faults wires.old at) (P.faults spawner.old)) (λ at. outside (N.accepted wires.new) (P.roles spawner.new) (N.faults wires.new at) (P.faults spawner.new)) (form_of words.now) result }
+    ensures cause { ServeCauses (record { files = F.contents files.old; before = F.faults files.old; after = F.faults files.new }) (λ at. outside (N.accepted wires.old) (P.roles spawner.old) (N.faults wires.old at) (P.faults spawner.old)) (λ at. outside (N.accepted wires.new) (P.roles spawner.new) (N.faults wires.new at) (P.faults spawner.new)) (form_of words.now) result }
     ensures reads { LeavesReads result (F.faults files.old) (F.faults files.new) }
 {
     match read_words(words) {
@@ -160,7 +160,7 @@ pub fn serve<
     requires can { P.can_start spawner.old }
     ensures can { P.can_start spawner.new }
     ensures ended { ServeEnded (record { files = F.contents files.old; before = F.faults files.old; after = F.faults files.new }) (λ at. outside (N.accepted wires.old) (P.roles spawner.old) (N.faults wires.old at) (P.faults spawner.old)) (λ at. outside (N.accepted wires.new) (P.roles spawner.new) (N.faults wires.new at) (P.faults spawner.new)) words.now (E.contents err.old) (E.contents err.new) (E.faults err.old) (E.faults err.new) result }
-    ensures complete { Completes (record { files = F.contents files.old; before = F.faults files.old; after = F.faults files.new }) (λ at. outside (N.accepted wires.old) (P.roles spawner.old) (N.faults wires.old at) (P.faults spawner.old)) (λ at. outside (N.accepted wires.new) (P.roles spawner.new) (N.faults wires.new at) (P.faults spawner.new)) (form_of words.now) result }
+    ensures complete { ServeCompletes (record { files = F.contents files.old; before = F.faults files.old; after = F.faults files.new }) (λ at. outside (N.accepted wires.old) (P.roles spawner.old) (N.faults wires.old at) (P.faults spawner.old)) (λ at. outside (N.accepted wires.new) (P.roles spawner.new) (N.faults wires.new at) (P.faults spawner.new)) (form_of words.now) result }
 {
     let finish = decide(rt, alloc, words, files, wires, clock, gate, spawner);
     spawner.finish(rt);

@@ -7,12 +7,12 @@ use Rattle.live_desk.specs.declared.object.DeskReply.{DeskReply}
 use Rattle.live_session.specs.declared.side.Side.{Side}
 use Rattle.live_session.specs.declared.ends.ReaderEnd.{ReaderEnd}
 use Rattle.live_session.specs.declared.ends.ReaderEnd.TheVariants.{Closed, ReadFault, Dismissed, DeskEnded, Spent, Memory}
-use Rattle.live_session.specs.Stretches.{up_of, down_of, messages, cut_off, whole, DeskCall, Spot, Went, WentOne, WentOn, Tells, ReadTo, Reading, BeginsAs, Begun, Finishes, EndsAs, Stretch}
+use Rattle.live_session.specs.Stretches.{up_of, down_of, messages, cut_off, whole_stretch, DeskCall, Spot, Went, WentOne, WentOn, Tells, ReadTo, StretchOfMessages, BeginsAs, StretchBeforeDown, Finishes, EndsAs, Stretch}
 use Rattle.live_session.proofs.Making.{went_on_more, stopped_more, went_on_to_more}
 use Rattle.live_session.proofs.Going.{went_none, went_more, moved_none}
 
 -- nothing was taken, since no memory was there for a piece
-pub reads_nothing : (side : Side) (a : Spot) (before : Option (List ℕ)) → Reading side a before Memory before a
+pub reads_nothing : (side : Side) (a : Spot) (before : Option (List ℕ)) → StretchOfMessages side a before Memory before a
 reads_nothing side a before = record {
   bytes = [];
   given = [];
@@ -28,7 +28,7 @@ unfolding frames_of frames_at
 no_frames = refl
 
 -- a source that gives nothing was read to its end
-pub reads_no_bytes : (side : Side) (a : Spot) → Reading side a (Some []) Closed (Some []) a
+pub reads_no_bytes : (side : Side) (a : Spot) → StretchOfMessages side a (Some []) Closed (Some []) a
 reads_no_bytes side a = record {
   bytes = [];
   given = [];
@@ -40,7 +40,7 @@ reads_no_bytes side a = record {
 }
 
 -- not even an up
-pub begins_spent : (side : Side) (a b : Spot) (before : Option (List ℕ)) → b ≡ a → a.left ≡ 0 → Begun side a before Spent before b
+pub begins_spent : (side : Side) (a b : Spot) (before : Option (List ℕ)) → b ≡ a → a.left ≡ 0 → StretchBeforeDown side a before Spent before b
 begins_spent side a b before same none = record {
   bytes = [];
   given = [];
@@ -61,7 +61,7 @@ up_tells Spent side op reply all left t = absurd t
 up_tells Memory side op reply all left t = (refl, inr ([], record { op = op; reply = reply }, refl, tt, t))
 
 -- the reply to the up ended it
-pub begins_end : (side : Side) (a b : Spot) (before : Option (List ℕ)) (reply : DeskReply) (end : ReaderEnd) → WentOne a (up_of side) reply b → Tells (Some end) reply → Begun side a before end before b
+pub begins_end : (side : Side) (a b : Spot) (before : Option (List ℕ)) (reply : DeskReply) (end : ReaderEnd) → WentOne a (up_of side) reply b → Tells (Some end) reply → StretchBeforeDown side a before end before b
 begins_end side a b before reply end w t = record {
   bytes = [];
   given = [];
@@ -90,7 +90,7 @@ begun_by Spent side given all calls left h = (inr refl, h.0, h.1)
 begun_by Memory side given all calls left h = (refl, h)
 
 -- after the up the messages
-pub begins_reading : (side : Side) (a b c : Spot) (before after : Option (List ℕ)) (reply : DeskReply) (end : ReaderEnd) → WentOne a (up_of side) reply b → Tells None reply → Reading side b before end after c → Begun side a before end after c
+pub begins_reading : (side : Side) (a b c : Spot) (before after : Option (List ℕ)) (reply : DeskReply) (end : ReaderEnd) → WentOne a (up_of side) reply b → Tells None reply → StretchOfMessages side b before end after c → StretchBeforeDown side a before end after c
 begins_reading side a b c before after reply end w goes r =
     let first = record { op = w.0; reply = reply } ∷ [] in
     record {
@@ -105,7 +105,7 @@ begins_reading side a b c before after reply end w goes r =
     }
 
 -- with its down
-closed_by : (side : Side) (a b c : Spot) (before after : Option (List ℕ)) (end result : ReaderEnd) (reply : DeskReply) (h : Begun side a before end after b) (w : WentOne b (down_of side) reply c)
+closed_by : (side : Side) (a b c : Spot) (before after : Option (List ℕ)) (end result : ReaderEnd) (reply : DeskReply) (h : StretchBeforeDown side a before end after b) (w : WentOne b (down_of side) reply c)
     → EndsAs result side h.given (frames_of h.bytes) (h.events ++ down_of side ∷ []) (h.calls ++ record { op = w.0; reply = reply } ∷ []) c.left → Stretch side a before result after c
 closed_by side a b c before after end result reply h w e = record {
   bytes = h.bytes;
@@ -119,7 +119,7 @@ closed_by side a b c before after end result reply h w e = record {
 }
 
 -- without one
-left_by : (side : Side) (a b c : Spot) (before after : Option (List ℕ)) (end result : ReaderEnd) (h : Begun side a before end after b) → c ≡ b → EndsAs result side h.given (frames_of h.bytes) h.events h.calls b.left → Stretch side a before result after c
+left_by : (side : Side) (a b c : Spot) (before after : Option (List ℕ)) (end result : ReaderEnd) (h : StretchBeforeDown side a before end after b) → c ≡ b → EndsAs result side h.given (frames_of h.bytes) h.events h.calls b.left → Stretch side a before result after c
 left_by side a b c before after end result h same e = record {
   bytes = h.bytes;
   given = h.given;
@@ -131,11 +131,11 @@ left_by side a b c before after end result h same e = record {
   ends = subst (λ s. EndsAs result side h.given (frames_of h.bytes) h.events h.calls s.left) (sym same) e;
 }
 
-with_down : (side : Side) (events : List _) (given : List (List ℕ)) → events ≡ cut_off side given → (events ++ down_of side ∷ []) ≡ whole side given
+with_down : (side : Side) (events : List _) (given : List (List ℕ)) → events ≡ cut_off side given → (events ++ down_of side ∷ []) ≡ whole_stretch side given
 with_down side events given e = ap (λ l. l ++ down_of side ∷ []) e
 
 -- how it began and how it was finished
-pub stretch_of : (side : Side) (a b c : Spot) (before after : Option (List ℕ)) (end result : ReaderEnd) → Begun side a before end after b → Finishes side end b result c → Stretch side a before result after c
+pub stretch_of : (side : Side) (a b c : Spot) (before after : Option (List ℕ)) (end result : ReaderEnd) → StretchBeforeDown side a before end after b → Finishes side end b result c → Stretch side a before result after c
 stretch_of side a b c before after Closed result h (inl f) = closed_by side a b c before after Closed result f.1.0 h f.1.1 (subst (λ r. EndsAs r side h.given (frames_of h.bytes) (h.events ++ down_of side ∷ []) (h.calls ++ record { op = f.1.1.0; reply = f.1.0 } ∷ []) c.left) (sym f.0) (with_down side h.events h.given h.begins.0, h.begins.1.0, (h.calls, record { op = f.1.1.0; reply = f.1.0 }, refl, h.begins.1.1)))
 stretch_of side a b c before after Closed result h (inr f) = left_by side a b c before after Closed result h f.1 (subst (λ r. EndsAs r side h.given (frames_of h.bytes) h.events h.calls b.left) (sym f.0) (inr h.begins.0, f.2, inl h.begins.1.1))
 stretch_of side a b c before after ReadFault result h (inl f) = closed_by side a b c before after ReadFault result f.1.0 h f.1.1 (subst (λ r. EndsAs r side h.given (frames_of h.bytes) (h.events ++ down_of side ∷ []) (h.calls ++ record { op = f.1.1.0; reply = f.1.0 } ∷ []) c.left) (sym f.0) (with_down side h.events h.given h.begins.0, h.begins.1.0, (h.calls, record { op = f.1.1.0; reply = f.1.0 }, refl, h.begins.1.1)))

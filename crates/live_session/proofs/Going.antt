@@ -13,7 +13,7 @@ use Rattle.live_desk.specs.declared.object.DeskObject.{DeskObject}
 use Rattle.turn_desk.specs.declared.view.Member.{Member}
 use Rattle.desk_words.specs.declared.event.Timed.{Timed}
 use Rattle.desk_words.specs.declared.answer.Taken.{Taken}
-use Rattle.live_desk.specs.Acts.{Acts}
+use Rattle.live_desk.specs.Operates.{Operates}
 use Rattle.live_session.specs.Stretches.{ops_of, AreSteps, at_moment, DeskCall, Spot, Went, WentOne}
 use Rattle.turn_desk.proofs.Making.{made_none, made_one, made_more, acted}
 use Rattle.live_session.proofs.Making.{ops_append}
@@ -48,7 +48,7 @@ steps_more os ps es fs ms ns h k = (
 pub went_none : (a : Spot) → Went a [] [] a
 went_none a = record { moments = []; made = made_none _ a.view; steps = ([], refl, refl, refl); asked = asked_none a.coming; fewer = omega arith }
 
-pub went_one : (a b : Spot) (event : Event) (moment : ℕ) (reply : DeskReply) → Called Acts a.view (at_moment event moment) reply b.view → Asked a.coming (moment ∷ []) b.coming → b.left + 1 ≡ a.left → WentOne a event reply b
+pub went_one : (a b : Spot) (event : Event) (moment : ℕ) (reply : DeskReply) → Called Operates a.view (at_moment event moment) reply b.view → Asked a.coming (moment ∷ []) b.coming → b.left + 1 ≡ a.left → WentOne a event reply b
 went_one a b event moment reply c m f = (
   at_moment event moment,
   record {
@@ -71,5 +71,5 @@ went_more a b c es fs xs ys h k =
     }
 
 -- a step isn't replied as a take
-pub not_took : (v w : Option (Member DeskObject DeskOp DeskReply)) (timed : Timed) (answer : Taken) → Called Acts v (Step timed) (Took answer) w → ⊥
-not_took v w timed answer c = (acted Acts v w (Step timed) (Took answer) c).2
+pub not_took : (v w : Option (Member DeskObject DeskOp DeskReply)) (timed : Timed) (answer : Taken) → Called Operates v (Step timed) (Took answer) w → ⊥
+not_took v w timed answer c = (acted Operates v w (Step timed) (Took answer) c).2

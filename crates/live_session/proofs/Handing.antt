@@ -3,7 +3,7 @@ use Rattle.std.proofs.Common.{◌≡◌, inl, inr, ℕ, true, cond, List, [], �
 use Rattle.std.specs.Prelude.{Option, Some, None}
 use Rattle.std.proofs.lemmas.List.{map-append}
 use Rattle.of10_ctl.specs.declared.framer.Next.TheVariants.{NeedMore, Ended}
-use Rattle.of10_ctl.specs.Streams.{frames_of, AreFirst, answer, Stream, Stands}
+use Rattle.of10_ctl.specs.Streams.{frames_of, AreFirst, next_answer, Stream, Stands}
 use Rattle.of10_ctl.proofs.Standing.{frames_fed}
 use Rattle.of10_ctl.proofs.Answering.{given_first, need_more_exact, ended_exact}
 use Rattle.live_desk.specs.declared.object.DeskOp.{DeskOp}
@@ -11,7 +11,7 @@ use Rattle.live_desk.specs.declared.object.DeskReply.{DeskReply}
 use Rattle.live_session.specs.declared.side.Side.{Side}
 use Rattle.live_session.specs.declared.ends.ReaderEnd.{ReaderEnd}
 use Rattle.live_session.specs.declared.ends.ReaderEnd.TheVariants.{Closed, ReadFault, Dismissed, DeskEnded, Spent, Memory}
-use Rattle.live_session.specs.Stretches.{message_of, messages, DeskCall, Spot, Went, WentOne, WentOn, Tells, HandedTo}
+use Rattle.live_session.specs.Stretches.{message_event, messages, DeskCall, Spot, Went, WentOne, WentOn, Tells, HandedTo}
 use Rattle.live_session.proofs.Making.{went_on_more}
 use Rattle.live_session.proofs.Going.{went_none, went_more}
 
@@ -27,12 +27,12 @@ pub hands_none : (side : Side) (a : Spot) (framer : Stream) (fed : List ℕ) (gi
 hands_none side a framer fed given stands = ([], [], subst (λ g. Stands framer fed g) (sym (append-nil given)) stands, went_none a, tt)
 
 -- a message of one frame more
-went_message : (side : Side) (a b c : Spot) (frames : List (List ℕ)) (frame : List ℕ) (calls : List DeskCall) (reply : DeskReply) → Went a (messages side frames) calls b → (h : WentOne b (message_of side frame) reply c) → Went a (messages side (frames ++ frame ∷ [])) (calls ++ record { op = h.0; reply = reply } ∷ []) c
+went_message : (side : Side) (a b c : Spot) (frames : List (List ℕ)) (frame : List ℕ) (calls : List DeskCall) (reply : DeskReply) → Went a (messages side frames) calls b → (h : WentOne b (message_event side frame) reply c) → Went a (messages side (frames ++ frame ∷ [])) (calls ++ record { op = h.0; reply = reply } ∷ []) c
 went_message side a b c frames frame calls reply w h =
-    let both = went_more a b c (messages side frames) (message_of side frame ∷ []) calls (record { op = h.0; reply = reply } ∷ []) w h.1 in
-    subst (λ events. Went a events (calls ++ record { op = h.0; reply = reply } ∷ []) c) (sym (map-append (message_of side) frames (frame ∷ []))) both
+    let both = went_more a b c (messages side frames) (message_event side frame ∷ []) calls (record { op = h.0; reply = reply } ∷ []) w h.1 in
+    subst (λ events. Went a events (calls ++ record { op = h.0; reply = reply } ∷ []) c) (sym (map-append (message_event side) frames (frame ∷ []))) both
 
-pub hands_more : (side : Side) (a b c : Spot) (framer next : Stream) (fed : List ℕ) (given : List (List ℕ)) (frame : List ℕ) (reply : DeskReply) → (h : Hands side a fed given framer b) → Stands next fed ((given ++ h.0) ++ frame ∷ []) → WentOne b (message_of side frame) reply c → Tells None reply → Hands side a fed given next c
+pub hands_more : (side : Side) (a b c : Spot) (framer next : Stream) (fed : List ℕ) (given : List (List ℕ)) (frame : List ℕ) (reply : DeskReply) → (h : Hands side a fed given framer b) → Stands next fed ((given ++ h.0) ++ frame ∷ []) → WentOne b (message_event side frame) reply c → Tells None reply → Hands side a fed given next c
 hands_more side a b c framer next fed given frame reply h stands w goes = (
   h.0 ++ frame ∷ [],
   h.1 ++ record { op = w.0; reply = reply } ∷ [],
@@ -42,12 +42,12 @@ hands_more side a b c framer next fed given frame reply h stands w goes = (
 )
 
 -- all frames were handed on
-pub hands_all : (side : Side) (a b : Spot) (framer next : Stream) (fed : List ℕ) (given : List (List ℕ)) → (h : Hands side a fed given framer b) → NeedMore ≡ answer fed (given ++ h.0) → Stands next fed ((given ++ h.0) ++ []) → HandsTo side a fed given next None b
+pub hands_all : (side : Side) (a b : Spot) (framer next : Stream) (fed : List ℕ) (given : List (List ℕ)) → (h : Hands side a fed given framer b) → NeedMore ≡ next_answer fed (given ++ h.0) → Stands next fed ((given ++ h.0) ++ []) → HandsTo side a fed given next None b
 hands_all side a b framer next fed given h is stands =
     (h.0, h.1, h.3, given_first framer fed (given ++ h.0) h.2, (subst (λ g. Stands next fed g) (append-nil (given ++ h.0)) stands, ((need_more_exact framer fed (given ++ h.0) h.2).0 (sym is)).0, h.4))
 
 -- all frames were handed on, and none will follow
-pub hands_last : (side : Side) (a b : Spot) (framer next : Stream) (fed : List ℕ) (given : List (List ℕ)) → (h : Hands side a fed given framer b) → Ended ≡ answer fed (given ++ h.0) → Stands next fed ((given ++ h.0) ++ []) → HandsTo side a fed given next None b
+pub hands_last : (side : Side) (a b : Spot) (framer next : Stream) (fed : List ℕ) (given : List (List ℕ)) → (h : Hands side a fed given framer b) → Ended ≡ next_answer fed (given ++ h.0) → Stands next fed ((given ++ h.0) ++ []) → HandsTo side a fed given next None b
 hands_last side a b framer next fed given h is stands =
     let bad = (ended_exact framer fed (given ++ h.0) h.2).0 (sym is) in
     let over : framer.ended ≡ true = h.2.ended ∙ bad in
@@ -72,7 +72,7 @@ by_reply Spent op reply framer fed given calls left on t = absurd t
 by_reply Memory op reply framer fed given calls left on t = inr (calls, record { op = op; reply = reply }, refl, on, t)
 
 -- a reply ended it
-pub hands_end : (side : Side) (a b c : Spot) (framer next : Stream) (fed : List ℕ) (given : List (List ℕ)) (frame : List ℕ) (reply : DeskReply) (end : ReaderEnd) → (h : Hands side a fed given framer b) → Stands next fed ((given ++ h.0) ++ frame ∷ []) → WentOne b (message_of side frame) reply c → Tells (Some end) reply → HandsTo side a fed given next (Some end) c
+pub hands_end : (side : Side) (a b c : Spot) (framer next : Stream) (fed : List ℕ) (given : List (List ℕ)) (frame : List ℕ) (reply : DeskReply) (end : ReaderEnd) → (h : Hands side a fed given framer b) → Stands next fed ((given ++ h.0) ++ frame ∷ []) → WentOne b (message_event side frame) reply c → Tells (Some end) reply → HandsTo side a fed given next (Some end) c
 hands_end side a b c framer next fed given frame reply end h stands w t =
     let more = h.0 ++ frame ∷ [] in (
       more,

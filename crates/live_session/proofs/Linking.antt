@@ -1,7 +1,7 @@
 -- Links, one after another.
 use Rattle.std.proofs.Common.{◌≡◌, ◌≢◌, inl, inr, ◌≤◌, ℕ, ◌+◌, Bool, true, false, if◌then◌else◌, List, [], ◌∷◌, ◌++◌, refl, ap, subst, ◌∙◌, arith}
 use Rattle.std.specs.Prelude.{Option, Some, None}
-use Rattle.fv_live.specs.Live.{counted}
+use Rattle.fv_live.specs.Live.{count_more}
 use Rattle.live_session.specs.Links.{RoseBy}
 use Rattle.desk_words.specs.declared.answer.Dest.TheVariants.{Slice}
 use Rattle.desk_words.specs.declared.answer.Taken.{Taken}
@@ -40,11 +40,11 @@ still_early slot v w u left m n answer h k is = (
   early_more h.0 (record { op = Take (Slice slot); reply = Took answer }) h.2 (ap Took is),
 )
 
-twice : (told : Option ℕ) (n : ℕ) → counted (counted told n) 1 ≡ counted told (n + 1)
+twice : (told : Option ℕ) (n : ℕ) → count_more (count_more told n) 1 ≡ count_more told (n + 1)
 twice None n = refl
 twice (Some k) n = let e : (k + n) + 1 ≡ k + (n + 1) = omega arith in ap Some e
 
-pub counted_none : (told : Option ℕ) → told ≡ counted told 0
+pub counted_none : (told : Option ℕ) → told ≡ count_more told 0
 counted_none None = refl
 counted_none (Some k) = let e : k ≡ k + 0 = omega arith in ap Some e
 
@@ -53,13 +53,13 @@ abbrev extra : Bool → ℕ
 extra asked = if asked then 1 else 0
 
 abbrev pub SoFar : Option ℕ → Bool → List Way → Option ℕ → Type 0
-SoFar before asked ways now = (now ≡ counted before (links_in ways)) × (withouts_in ways ≡ extra asked)
+SoFar before asked ways now = (now ≡ count_more before (links_in ways)) × (withouts_in ways ≡ extra asked)
 
 pub none_yet : (told : Option ℕ) → SoFar told false [] told
 none_yet told = (counted_none told, refl)
 
-pub link_more : (before mid after : Option ℕ) (asked : Bool) (end : ReaderEnd) (ways : List Way) → SoFar before asked ways mid → after ≡ counted mid 1 → SoFar before asked (OfLink end ∷ ways) after
-link_more before mid after asked end ways h k = (k ∙ (ap (λ t. counted t 1) h.0 ∙ twice before (links_in ways)), h.1)
+pub link_more : (before mid after : Option ℕ) (asked : Bool) (end : ReaderEnd) (ways : List Way) → SoFar before asked ways mid → after ≡ count_more mid 1 → SoFar before asked (OfLink end ∷ ways) after
+link_more before mid after asked end ways h k = (k ∙ (ap (λ t. count_more t 1) h.0 ∙ twice before (links_in ways)), h.1)
 
 pub ask_more : (before mid : Option ℕ) (asked : Bool) (end : ReaderEnd) (ways : List Way) → asked ≡ false → SoFar before asked ways mid → SoFar before true (Without end ∷ ways) mid
 ask_more before mid asked end ways is h =

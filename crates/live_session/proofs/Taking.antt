@@ -7,7 +7,7 @@ use Rattle.fv_live.specs.Live.{Moved}
 use Rattle.live_session.specs.declared.side.Side.{Side}
 use Rattle.live_session.specs.declared.ends.ReaderEnd.{ReaderEnd}
 use Rattle.live_session.specs.declared.ends.ReaderEnd.TheVariants.{Closed, ReadFault, Dismissed, DeskEnded, Spent, Memory}
-use Rattle.live_session.specs.Stretches.{message_of, messages, DeskCall, Spot, Went, WentOn, HandedTo, ReadTo, Reading}
+use Rattle.live_session.specs.Stretches.{message_event, messages, DeskCall, Spot, Went, WentOn, HandedTo, ReadTo, StretchOfMessages}
 use Rattle.live_session.proofs.Making.{went_on_more, stopped_more, went_on_to_more}
 use Rattle.live_session.proofs.Going.{went_none, went_more, moved_none, moved_more}
 use Rattle.live_session.proofs.Handing.{HandsTo}
@@ -24,7 +24,7 @@ pub takes_none : (side : Side) (a : Spot) (before : Option (List ℕ)) (framer :
 takes_none side a before framer stands = ([], [], subst (λ g. Stands framer [] g) (sym no_frames) stands, moved_none before, subst (λ g. Went a (messages side g) [] a) (sym no_frames) (went_none a), tt)
 
 -- memory ran out for a piece
-pub takes_memory : (side : Side) (a b : Spot) (before mid after : Option (List ℕ)) (framer : Stream) (piece : List ℕ) → (h : Takes side a before framer mid b) → Moved mid piece after → Reading side a before Memory after b
+pub takes_memory : (side : Side) (a b : Spot) (before mid after : Option (List ℕ)) (framer : Stream) (piece : List ℕ) → (h : Takes side a before framer mid b) → Moved mid piece after → StretchOfMessages side a before Memory after b
 takes_memory side a b before mid after framer piece h m = record {
   bytes = h.0 ++ piece;
   given = frames_of h.0;
@@ -38,7 +38,7 @@ takes_memory side a b before mid after framer piece h m = record {
 -- messages of more frames
 went_messages : (side : Side) (a b c : Spot) (frames more : List (List ℕ)) (xs ys : List DeskCall) → Went a (messages side frames) xs b → Went b (messages side more) ys c → Went a (messages side (frames ++ more)) (xs ++ ys) c
 went_messages side a b c frames more xs ys h k =
-    subst (λ events. Went a events (xs ++ ys) c) (sym (map-append (message_of side) frames more)) (went_more a b c (messages side frames) (messages side more) xs ys h k)
+    subst (λ events. Went a events (xs ++ ys) c) (sym (map-append (message_event side) frames more)) (went_more a b c (messages side frames) (messages side more) xs ys h k)
 
 -- the frames of one piece more were handed on
 pub takes_more : (side : Side) (a b c : Spot) (before mid after : Option (List ℕ)) (framer next : Stream) (piece : List ℕ) → (h : Takes side a before framer mid b) → Moved mid piece after → HandsTo side b (h.0 ++ piece) (frames_of h.0) next None c → Takes side a before next after c
@@ -60,7 +60,7 @@ ended_so Spent framer fed given xs ys left on h = (h.0, went_on_more xs ys on h.
 ended_so Memory framer fed given xs ys left on h = went_on_to_more xs ys on h
 
 -- the connection ended among the frames of a piece
-pub takes_end : (side : Side) (a b c : Spot) (before mid after : Option (List ℕ)) (framer next : Stream) (piece : List ℕ) (end : ReaderEnd) → (h : Takes side a before framer mid b) → Moved mid piece after → HandsTo side b (h.0 ++ piece) (frames_of h.0) next (Some end) c → Reading side a before end after c
+pub takes_end : (side : Side) (a b c : Spot) (before mid after : Option (List ℕ)) (framer next : Stream) (piece : List ℕ) (end : ReaderEnd) → (h : Takes side a before framer mid b) → Moved mid piece after → HandsTo side b (h.0 ++ piece) (frames_of h.0) next (Some end) c → StretchOfMessages side a before end after c
 takes_end side a b c before mid after framer next piece end h m k = record {
   bytes = h.0 ++ piece;
   given = frames_of h.0 ++ k.0;

@@ -1,6 +1,6 @@
 -- What a slice's reader asks of a desk: takes until the desk is opened, and then a stretch for each link. This proxy's own rules.
 use Rattle.std.specs.Prelude.{◌≡◌, ◌≢◌, ◌+◌, ◌≤◌, ◌⊎◌, ◌^◌, ◌-◌, ℕ, List, [], ◌∷◌, ◌++◌, Option, Some, None}
-use Rattle.fv_live.specs.Live.{counted}
+use Rattle.fv_live.specs.Live.{count_more}
 use Rattle.desk_words.specs.declared.answer.Dest.TheVariants.{Slice}
 use Rattle.desk_words.specs.declared.answer.Taken.{Taken}
 use Rattle.desk_words.specs.declared.answer.Taken.TheVariants as taken
@@ -63,8 +63,8 @@ withouts_in (OfLink end ∷ ways) = withouts_in ways
 withouts_in (Without end ∷ ways) = withouts_in ways + 1
 
 -- the stretch of one link, whatever its source
-abbrev pub Link : Side → Spot → ReaderEnd → Spot → Type 0
-Link side a end b = (before after : Option (List ℕ)) × Stretch side a before end after b
+abbrev pub LinkStretch : Side → Spot → ReaderEnd → Spot → Type 0
+LinkStretch side a end b = (before after : Option (List ℕ)) × Stretch side a before end after b
 
 -- a stretch without a link: that of a source that gives nothing, so that there are no messages in it
 abbrev pub Unlinked : Side → Spot → ReaderEnd → Spot → Type 0
@@ -72,7 +72,7 @@ Unlinked side a end b = Stretch side a (Some []) end (Some []) b
 
 -- the stretch that came and ended so
 abbrev pub Came : Side → Way → Spot → Spot → Type 0
-Came side (OfLink end) a b = Link side a end b
+Came side (OfLink end) a b = LinkStretch side a end b
 Came side (Without end) a b = Unlinked side a end b
 
 -- the stretches that came and ended so, one after another; the last one is the first of the list
@@ -82,7 +82,7 @@ Linked side (way ∷ ways) a b = (mid : Spot) × Linked side ways a mid × Came 
 
 -- the stretches by links are those of the links that the dialler gave, and at most one came without a link
 abbrev pub AreLinks : Option ℕ → List Way → Option ℕ → Type 0
-AreLinks before ways after = (after ≡ counted before (links_in ways)) × (withouts_in ways ≤ 1)
+AreLinks before ways after = (after ≡ count_more before (links_in ways)) × (withouts_in ways ≤ 1)
 
 -- how the stretches ended, by the answer
 abbrev pub LinksEnd : SliceEnd → List Way → Type 0

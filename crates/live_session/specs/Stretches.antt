@@ -16,7 +16,7 @@ use Rattle.live_session.specs.declared.side.Side.{Side}
 use Rattle.live_session.specs.declared.side.Side.TheVariants.{Switch, Slice}
 use Rattle.live_session.specs.declared.ends.ReaderEnd.{ReaderEnd}
 use Rattle.live_session.specs.declared.ends.ReaderEnd.TheVariants.{Closed, ReadFault, Dismissed, DeskEnded, Spent, Memory}
-use Rattle.live_desk.specs.Acts.{Acts}
+use Rattle.live_desk.specs.Operates.{Operates}
 use Rattle.turn_desk.specs.declared.object.Object.{Ghosts}
 use Rattle.turn_desk.specs.declared.parts.TurnSeat.{TurnSeat}
 use Rattle.turn_desk.specs.Calls.{Call, Made}
@@ -28,9 +28,9 @@ up_of Switch = SwitchUp
 up_of (Slice slot) = SliceUp slot
 
 -- a message came on it
-abbrev pub message_of : Side → List ℕ → Event
-message_of Switch frame = SwitchMsg frame
-message_of (Slice slot) frame = SliceMsg slot frame
+abbrev pub message_event : Side → List ℕ → Event
+message_event Switch frame = SwitchMsg frame
+message_event (Slice slot) frame = SliceMsg slot frame
 
 -- it ended
 abbrev pub down_of : Side → Event
@@ -67,7 +67,7 @@ spot seat coming = record { view = view_of seat; left = seat.left; coming = comi
 -- From one spot to another the seat's own new calls were these: the steps of these events in their order, the i-th at the clock's i-th answer.
 pub record Went (a : Spot) (events : List Event) (calls : List DeskCall) (b : Spot) : Type 0 where
   pub moments : List ℕ
-  pub made : Made Acts a.view calls b.view
+  pub made : Made Operates a.view calls b.view
   pub steps : AreSteps (ops_of calls) events moments
   pub asked : Asked a.coming moments b.coming
   pub fewer : b.left + length calls ≡ a.left
@@ -78,7 +78,7 @@ WentOne a event reply b = (op : DeskOp) × Went a (event ∷ []) (record { op = 
 
 -- the messages of these frames
 abbrev pub messages : Side → List (List ℕ) → List Event
-messages side frames = map (message_of side) frames
+messages side frames = map (message_event side) frames
 
 -- each call was answered that the connection goes on
 abbrev pub WentOn : List DeskCall → Type 0
@@ -113,7 +113,7 @@ ReadTo Spent given all calls left = (left ≡ 0) × WentOn calls
 ReadTo Memory given all calls left = WentOnTo calls
 
 -- the messages between the up and the down: those of the first frames of the bytes that were taken
-pub record Reading (side : Side) (a : Spot) (before : Option (List ℕ)) (end : ReaderEnd) (after : Option (List ℕ)) (b : Spot) : Type 0 where
+pub record StretchOfMessages (side : Side) (a : Spot) (before : Option (List ℕ)) (end : ReaderEnd) (after : Option (List ℕ)) (b : Spot) : Type 0 where
   pub bytes : List ℕ
   pub given : List (List ℕ)
   pub calls : List DeskCall
@@ -140,8 +140,8 @@ Tells (Some Memory) reply = IsWant reply
 Tells None reply = reply ≡ Stepped (Ok verdict.Go)
 
 -- up, messages, down
-abbrev pub whole : Side → List (List ℕ) → List Event
-whole side frames = up_of side ∷ (messages side frames ++ down_of side ∷ [])
+abbrev pub whole_stretch : Side → List (List ℕ) → List Event
+whole_stretch side frames = up_of side ∷ (messages side frames ++ down_of side ∷ [])
 
 -- the same without the down
 abbrev pub cut_off : Side → List (List ℕ) → List Event
@@ -153,7 +153,7 @@ BeginsAs Spent side given all events calls left = ((events ≡ []) ⊎ (events �
 BeginsAs end side given all events calls left = (events ≡ cut_off side given) × ReadTo end given all calls left
 
 -- one connection without its down
-pub record Begun (side : Side) (a : Spot) (before : Option (List ℕ)) (end : ReaderEnd) (after : Option (List ℕ)) (b : Spot) : Type 0 where
+pub record StretchBeforeDown (side : Side) (a : Spot) (before : Option (List ℕ)) (end : ReaderEnd) (after : Option (List ℕ)) (b : Spot) : Type 0 where
   pub bytes : List ℕ
   pub given : List (List ℕ)
   pub events : List Event
@@ -164,13 +164,13 @@ pub record Begun (side : Side) (a : Spot) (before : Option (List ℕ)) (end : Re
   pub begins : BeginsAs end side given (frames_of bytes) events calls b.left
 
 -- a connection that ended so has a down
-abbrev pub closes : ReaderEnd → Bool
-closes Closed = true
-closes ReadFault = true
-closes Memory = true
-closes Dismissed = false
-closes DeskEnded = false
-closes Spent = false
+abbrev pub has_down : ReaderEnd → Bool
+has_down Closed = true
+has_down ReadFault = true
+has_down Memory = true
+has_down Dismissed = false
+has_down DeskEnded = false
+has_down Spent = false
 
 abbrev pub FinishesBy : Bool → Side → ReaderEnd → Spot → ReaderEnd → Spot → Type 0
 FinishesBy true side end a result b = ((result ≡ end) × ((reply : DeskReply) × WentOne a (down_of side) reply b)) ⊎ ((result ≡ Spent) × (b ≡ a) × (a.left ≡ 0))
@@ -178,16 +178,16 @@ FinishesBy false side end a result b = (result ≡ end) × (b ≡ a)
 
 -- the down of a connection that ended so, if it has one; it is missing where no calls are left
 abbrev pub Finishes : Side → ReaderEnd → Spot → ReaderEnd → Spot → Type 0
-Finishes side end a result b = FinishesBy (closes end) side end a result b
+Finishes side end a result b = FinishesBy (has_down end) side end a result b
 
 -- How a stretch ended. The first frames were handed on, all of them at the end of the source and at its fault, and none behind a reply that doesn't let the connection go on. The down is missing where the last reply ended the connection, and may be missing where no calls are left.
 abbrev pub EndsAs : ReaderEnd → Side → List (List ℕ) → List (List ℕ) → List Event → List DeskCall → ℕ → Type 0
-EndsAs Closed side given all events calls left = (events ≡ whole side given) × (given ≡ all) × ButLast WentOn calls
-EndsAs ReadFault side given all events calls left = (events ≡ whole side given) × (given ≡ all) × ButLast WentOn calls
+EndsAs Closed side given all events calls left = (events ≡ whole_stretch side given) × (given ≡ all) × ButLast WentOn calls
+EndsAs ReadFault side given all events calls left = (events ≡ whole_stretch side given) × (given ≡ all) × ButLast WentOn calls
 EndsAs Dismissed side given all events calls left = (events ≡ cut_off side given) × StoppedBy (Stepped (Ok verdict.Close)) calls
 EndsAs DeskEnded side given all events calls left = (events ≡ cut_off side given) × StoppedBy (Stepped (Ok verdict.Ended)) calls
 EndsAs Spent side given all events calls left = ((events ≡ []) ⊎ (events ≡ cut_off side given)) × (left ≡ 0) × WentOnTo calls
-EndsAs Memory side given all events calls left = (events ≡ whole side given) × ButLast WentOnTo calls
+EndsAs Memory side given all events calls left = (events ≡ whole_stretch side given) × ButLast WentOnTo calls
 
 -- one connection: the seat's own new calls, by what was taken from the source, in which order and at which moments
 pub record Stretch (side : Side) (a : Spot) (before : Option (List ℕ)) (end : ReaderEnd) (after : Option (List ℕ)) (b : Spot) : Type 0 where

@@ -1,6 +1,6 @@
 -- What a seat takes of a desk for one destination, and what of it is written. This proxy's own rules.
 use Rattle.std.specs.Prelude.{◌≡◌, ◌+◌, ℕ, List, [], ◌∷◌, ◌++◌, length, Option}
-use Rattle.fv_base.specs.Told.{appended, IsPrefix}
+use Rattle.fv_base.specs.Told.{appended, IsBeginning}
 use Rattle.desk_words.specs.declared.answer.Dest.{Dest}
 use Rattle.desk_words.specs.declared.answer.Taken.{Taken}
 use Rattle.desk_words.specs.declared.answer.Taken.TheVariants as taken
@@ -14,7 +14,7 @@ use Rattle.live_session.specs.declared.ends.WriterEnd.{WriterEnd}
 use Rattle.live_session.specs.declared.ends.WriterEnd.TheVariants.{WriteFault, Choked, Ended, Spent}
 use Rattle.live_session.specs.declared.writer.Pause.{Pause}
 use Rattle.live_session.specs.declared.writer.Pause.TheVariants.{Hand, Over}
-use Rattle.live_desk.specs.Acts.{Acts}
+use Rattle.live_desk.specs.Operates.{Operates}
 use Rattle.turn_desk.specs.Calls.{LastReply, Made}
 use Rattle.live_session.specs.Stretches.{DeskCall}
 
@@ -33,9 +33,9 @@ message_replied (Took answer) = given_by answer
 message_replied (Stepped reply) = []
 
 -- the messages that the calls gave, joined
-abbrev pub joined : List DeskCall → List ℕ
-joined [] = []
-joined (c ∷ cs) = message_replied c.reply ++ joined cs
+abbrev pub joined_messages : List DeskCall → List ℕ
+joined_messages [] = []
+joined_messages (c ∷ cs) = message_replied c.reply ++ joined_messages cs
 
 -- the calls are takes for this destination
 abbrev pub AreTakes : Dest → List DeskCall → Type 0
@@ -44,7 +44,7 @@ AreTakes dest (c ∷ cs) = (c.op ≡ Take dest) × AreTakes dest cs
 
 -- the seat's own new calls are these takes for the destination
 pub record Taking (dest : Dest) (v : View) (left : ℕ) (calls : List DeskCall) (w : View) (left' : ℕ) : Type 0 where
-  pub made : Made Acts v calls w
+  pub made : Made Operates v calls w
   pub takes : AreTakes dest calls
   pub fewer : left' + length calls ≡ left
 
@@ -74,13 +74,13 @@ PausedBy other calls left = Unit {0}
 pub record Gathers (dest : Dest) (v : View) (left : ℕ) (before : List ℕ) (pause : Pause) (w : View) (left' : ℕ) (after : List ℕ) : Type 0 where
   pub calls : List DeskCall
   pub took : Taking dest v left calls w left'
-  pub bytes : (after ++ in_hand pause) ≡ before ++ joined calls
+  pub bytes : (after ++ in_hand pause) ≡ before ++ joined_messages calls
   pub paused : PausedBy pause calls left'
 
 -- what was written, by how it ended: the messages of the takes joined, or the first bytes of that after a fault of the sink
 abbrev pub WrittenBy : WriterEnd → List ℕ → List DeskCall → ℕ → Type 0
-WrittenBy WriteFault piece calls left = IsPrefix piece (joined calls)
-WrittenBy end piece calls left = (piece ≡ joined calls) × OverBy end calls left
+WrittenBy WriteFault piece calls left = IsBeginning piece (joined_messages calls)
+WrittenBy end piece calls left = (piece ≡ joined_messages calls) × OverBy end calls left
 
 -- the seat's own new calls are takes, and the bytes put are the messages that they gave
 pub record Written (dest : Dest) (v : View) (left : ℕ) (before : Option (List ℕ)) (end : WriterEnd) (after : Option (List ℕ)) (w : View) (left' : ℕ) : Type 0 where

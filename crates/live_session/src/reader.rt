@@ -8,9 +8,9 @@ ghost use Rattle.live_desk.specs.declared.object.DeskReply.TheVariants.{Stepped}
 ghost use Rattle.live_session.specs.declared.ends.ReaderEnd.TheVariants.{Closed, ReadFault};
 ghost use Rattle.turn_desk.specs.Histories.{Called};
 ghost use Rattle.turn_desk.specs.Seats.{IsSeatOf, SameDesk, view};
-ghost use Rattle.live_desk.specs.Acts.{Acts};
+ghost use Rattle.live_desk.specs.Operates.{Operates};
 ghost use Rattle.live_desk.specs.declared.object.DeskOp.TheVariants.{Step};
-ghost use Rattle.live_session.specs.Stretches.{spot, messages, Went, WentOne, Tells, Reading, HandedTo, DeskCall, Begun, closes, Finishes, Stretch};
+ghost use Rattle.live_session.specs.Stretches.{spot, messages, Went, WentOne, Tells, StretchOfMessages, HandedTo, DeskCall, StretchBeforeDown, has_down, Finishes, Stretch};
 
 use crate::bells::Bells;
 use crate::ends::ReaderEnd;
@@ -40,7 +40,7 @@ fn step<R: Wait>(
 ) -> Result<Result<Verdict, AllocError>, Spent>
     requires desk { IsSeatOf desk.now seat.old }
     ensures desk { SameDesk seat.new seat.old }
-    ensures called { IfOk result (λ stepped. Called Acts (view seat.old) (Step timed) (Stepped stepped) (view seat.new)) }
+    ensures called { IfOk result (λ stepped. Called Operates (view seat.old) (Step timed) (Stepped stepped) (view seat.new)) }
     ensures fewer { OnOk result (seat.new.left + 1 ≡ seat.old.left) }
     ensures spent { OnErr result (seat.old.left ≡ 0) }
     ensures same { OnErr result (seat.new ≡ seat.old) }
@@ -237,7 +237,7 @@ fn read_on<R: Host + Net<Listener = TcpListener, Stream = TcpStream>, S: Source,
     requires desk { IsSeatOf desk.now seat.old }
     requires piece { 0 < length piece.old }
     ensures desk { SameDesk seat.new seat.old }
-    ensures reading { Reading side (spot seat.old (C.coming clock.old)) (S.left source.old) result (S.left source.new) (spot seat.new (C.coming clock.new)) }
+    ensures reading { StretchOfMessages side (spot seat.old (C.coming clock.old)) (S.left source.old) result (S.left source.new) (spot seat.new (C.coming clock.new)) }
     ensures fault { result ≡ ReadFault → Rose (S.faults source.old) (S.faults source.new) }
     ensures closed { result ≡ Closed → IsUsedUp (S.left source.new) }
 {
@@ -291,7 +291,7 @@ fn read_all<
 ) -> ReaderEnd
     requires desk { IsSeatOf desk.now seat.old }
     ensures desk { SameDesk seat.new seat.old }
-    ensures reading { Reading side (spot seat.old (C.coming clock.old)) (S.left source.old) result (S.left source.new) (spot seat.new (C.coming clock.new)) }
+    ensures reading { StretchOfMessages side (spot seat.old (C.coming clock.old)) (S.left source.old) result (S.left source.new) (spot seat.new (C.coming clock.new)) }
     ensures fault { result ≡ ReadFault → Rose (S.faults source.old) (S.faults source.new) }
     ensures closed { result ≡ Closed → IsUsedUp (S.left source.new) }
 {
@@ -317,7 +317,7 @@ fn begin<R: Host + Net<Listener = TcpListener, Stream = TcpStream>, S: Source, C
 ) -> ReaderEnd
     requires desk { IsSeatOf desk.now seat.old }
     ensures desk { SameDesk seat.new seat.old }
-    ensures begun { Begun side (spot seat.old (C.coming clock.old)) (S.left source.old) result (S.left source.new) (spot seat.new (C.coming clock.new)) }
+    ensures begun { StretchBeforeDown side (spot seat.old (C.coming clock.old)) (S.left source.old) result (S.left source.new) (spot seat.new (C.coming clock.new)) }
     ensures fault { result ≡ ReadFault → Rose (S.faults source.old) (S.faults source.new) }
     ensures closed { result ≡ Closed → IsUsedUp (S.left source.new) }
 {
@@ -334,7 +334,7 @@ fn begin<R: Host + Net<Listener = TcpListener, Stream = TcpStream>, S: Source, C
 
 /// Whether the desk is told that a connection ended so.
 fn closes(end: ReaderEnd) -> bool
-    ensures { result ≡ closes end }
+    ensures { result ≡ has_down end }
 {
     match end {
         ReaderEnd::Closed | ReaderEnd::ReadFault | ReaderEnd::Memory => true,

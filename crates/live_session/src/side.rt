@@ -1,5 +1,5 @@
 ghost use Rattle.std.specs.Prelude.{◌≡◌};
-ghost use Rattle.live_session.specs.Stretches.{up_of, message_of, down_of};
+ghost use Rattle.live_session.specs.Stretches.{up_of, message_event, down_of};
 
 use live_desk::Event;
 use of10_ctl::Frame;
@@ -25,7 +25,7 @@ pub(crate) fn up(side: Side) -> Event
 
 // A message came on it.
 pub(crate) fn message(side: Side, frame: Frame) -> Event
-    ensures { result ≡ message_of side frame }
+    ensures { result ≡ message_event side frame }
 {
     match side {
         Side::Switch => Event::SwitchMsg(frame),

@@ -1,13 +1,13 @@
 ghost use Rattle.std.specs.Prelude.{◌≡◌, ◌≤◌, ◌<◌, ◌+◌, ℕ, List, [], Option, Some, IfOk, OnOk, OnErr, IfSome, IfNone, MatchBool, ◌≢◌};
 ghost use Rattle.fv_base.specs.Told.{Rose};
-ghost use Rattle.fv_live.specs.Live.{counted};
+ghost use Rattle.fv_live.specs.Live.{count_more};
 ghost use Rattle.turn_desk.specs.Seats.{IsSeatOf, SameDesk, view};
 ghost use Rattle.live_session.specs.declared.ends.SliceEnd.TheVariants.{GaveUp};
 ghost use Rattle.desk_words.specs.declared.answer.Taken.TheVariants as takens;
 ghost use Rattle.live_session.specs.declared.side.Side.TheVariants as sides;
-ghost use Rattle.live_session.specs.Stretches.{spot, Begun};
+ghost use Rattle.live_session.specs.Stretches.{spot, StretchBeforeDown};
 ghost use Rattle.live_session.specs.Takings.{TookOne};
-ghost use Rattle.live_session.specs.Links.{AreLinks, RoseBy, Opening, OpeningSpent, Link, Unlinked, Way, Linked, LinksEnd, OverFor, Sliced};
+ghost use Rattle.live_session.specs.Links.{AreLinks, RoseBy, Opening, OpeningSpent, LinkStretch, Unlinked, Way, Linked, LinksEnd, OverFor, Sliced};
 
 use crate::bells::Bells;
 use crate::ends::{ReaderEnd, SliceEnd};
@@ -101,8 +101,8 @@ fn dial_once<
 ) -> Option<ReaderEnd>
     requires desk { IsSeatOf desk.now seat.old }
     ensures desk { SameDesk seat.new seat.old }
-    ensures link { IfSome result (λ end. Link (sides.Slice slot) (spot seat.old (C.coming clock.old)) end (spot seat.new (C.coming clock.new))) }
-    ensures told { IfSome result (λ end. D.links dialer.new ≡ counted (D.links dialer.old) 1) }
+    ensures link { IfSome result (λ end. LinkStretch (sides.Slice slot) (spot seat.old (C.coming clock.old)) end (spot seat.new (C.coming clock.new))) }
+    ensures told { IfSome result (λ end. D.links dialer.new ≡ count_more (D.links dialer.old) 1) }
     ensures same { IfNone result (spot seat.new (C.coming clock.new) ≡ spot seat.old (C.coming clock.old)) }
     ensures untold { IfNone result (D.links dialer.new ≡ D.links dialer.old) }
     ensures cause { IfNone result (Rose (D.faults dialer.old to.now) (D.faults dialer.new to.now)) }
@@ -137,7 +137,7 @@ fn begin_without_link<R: Wait, C: Clock>(
 ) -> ReaderEnd
     requires desk { IsSeatOf desk.now seat.old }
     ensures desk { SameDesk seat.new seat.old }
-    ensures begun { Begun side (spot seat.old (C.coming clock.old)) (Some []) result (Some []) (spot seat.new (C.coming clock.new)) }
+    ensures begun { StretchBeforeDown side (spot seat.old (C.coming clock.old)) (Some []) result (Some []) (spot seat.new (C.coming clock.new)) }
 {
     let Ok(stepped) = ask_alone(rt, desk, seat, clock, bells, up(side)) else {
         return ReaderEnd::Spent;

@@ -1,5 +1,5 @@
 ghost use Rattle.std.specs.Prelude.{◌≡◌, ◌<◌, ◌+◌, ℕ, List, ◌++◌, [], ◌∷◌, Option, IfOk, IfErr, OnOk, OnErr, IfSome, IfNone, length};
-ghost use Rattle.fv_base.specs.Told.{Rose, appended, IsPrefix};
+ghost use Rattle.fv_base.specs.Told.{Rose, appended, IsBeginning};
 ghost use Rattle.turn_desk.specs.Seats.{IsSeatOf, SameDesk, view};
 ghost use Rattle.live_session.specs.declared.ends.WriterEnd.TheVariants.{WriteFault};
 ghost use Rattle.live_session.specs.Takings.{TookOne, Gathers, Written, in_hand};
@@ -105,7 +105,7 @@ fn gather<R: Wait>(
 fn put_out<K: Sink>(sink: &mut K, buffer: &mut Vec<u8>, pause: &Pause) -> Result<(), Failed>
     ensures all { OnOk result (K.contents sink.new ≡ appended (K.contents sink.old) (buffer.old.items ++ in_hand pause.now)) }
     ensures empty { OnOk result (buffer.new.items ≡ []) }
-    ensures part { OnErr result ((piece : List ℕ) × IsPrefix piece (buffer.old.items ++ in_hand pause.now) × (K.contents sink.new ≡ appended (K.contents sink.old) piece)) }
+    ensures part { OnErr result ((piece : List ℕ) × IsBeginning piece (buffer.old.items ++ in_hand pause.now) × (K.contents sink.new ≡ appended (K.contents sink.old) piece)) }
     ensures cause { OnErr result (Rose (K.faults sink.old) (K.faults sink.new)) }
     ensures calm { OnOk result (K.faults sink.new ≡ K.faults sink.old) }
 {

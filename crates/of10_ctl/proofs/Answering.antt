@@ -4,7 +4,7 @@ use Rattle.std.proofs.lemmas.List.{append-nil, length-append, append_cancel_left
 use Rattle.std.proofs.Math.Seq.{drop-append_seam}
 use Rattle.of10_ctl.specs.declared.framer.Next.{Next}
 use Rattle.of10_ctl.specs.declared.framer.Next.TheVariants.{Frame, NeedMore, Ended}
-use Rattle.of10_ctl.specs.Streams.{frames_of, has_bad, AreFirst, next_of, answer, Stream, Stands}
+use Rattle.of10_ctl.specs.Streams.{frames_of, has_bad, AreFirst, next_frame, next_answer, Stream, Stands}
 use Rattle.of10_ctl.proofs.Standing.{frames_fed}
 
 -- the frames that were given come first
@@ -13,9 +13,9 @@ given_first s fed given stands = (cond s.ended [] (frames_of s.left), sym (frame
 
 -- the answer where so many frames are behind those given
 abbrev answer_by : Bool → List (List ℕ) → Next
-answer_by bad more = cond bad Ended (next_of more)
+answer_by bad more = cond bad Ended (next_frame more)
 
-by_more : (s : Stream) (fed : List ℕ) (given : List (List ℕ)) → Stands s fed given → answer fed given ≡ answer_by s.ended (cond s.ended [] (frames_of s.left))
+by_more : (s : Stream) (fed : List ℕ) (given : List (List ℕ)) → Stands s fed given → next_answer fed given ≡ answer_by s.ended (cond s.ended [] (frames_of s.left))
 by_more s fed given stands =
     rw (sym stands.ended, frames_fed s fed given stands, drop-append_seam given (cond s.ended [] (frames_of s.left))) refl
 
@@ -39,7 +39,7 @@ frame_first false (next ∷ others) given frame = (
 
 -- a frame is answered exactly where it is the next one
 pub frame_exact : (s : Stream) (fed : List ℕ) (given : List (List ℕ)) (frame : List ℕ) → Stands s fed given
-    → (answer fed given ≡ Frame frame) ↔ AreFirst (given ++ frame ∷ []) (frames_of fed)
+    → (next_answer fed given ≡ Frame frame) ↔ AreFirst (given ++ frame ∷ []) (frames_of fed)
 frame_exact s fed given frame stands =
     rw (by_more s fed given stands, frames_fed s fed given stands) (frame_first s.ended (frames_of s.left) given frame)
 
@@ -51,7 +51,7 @@ none_left false (next ∷ others) given =
 
 -- more is needed exactly where all frames were given and none of them has a bad length
 pub need_more_exact : (s : Stream) (fed : List ℕ) (given : List (List ℕ)) → Stands s fed given
-    → (answer fed given ≡ NeedMore) ↔ ((given ≡ frames_of fed) × (has_bad given ≡ false))
+    → (next_answer fed given ≡ NeedMore) ↔ ((given ≡ frames_of fed) × (has_bad given ≡ false))
 need_more_exact s fed given stands =
     rw (by_more s fed given stands, frames_fed s fed given stands, sym stands.ended) (none_left s.ended (frames_of s.left) given)
 
@@ -61,5 +61,5 @@ ended_bad false [] = (λ e. absurd cc, λ e. absurd cc)
 ended_bad false (next ∷ others) = (λ e. absurd cc, λ e. absurd cc)
 
 -- the stream has ended exactly where a frame of a bad length was given
-pub ended_exact : (s : Stream) (fed : List ℕ) (given : List (List ℕ)) → Stands s fed given → (answer fed given ≡ Ended) ↔ (has_bad given ≡ true)
+pub ended_exact : (s : Stream) (fed : List ℕ) (given : List (List ℕ)) → Stands s fed given → (next_answer fed given ≡ Ended) ↔ (has_bad given ≡ true)
 ended_exact s fed given stands = rw (by_more s fed given stands, sym stands.ended) (ended_bad s.ended (frames_of s.left))

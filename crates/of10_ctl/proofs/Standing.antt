@@ -5,7 +5,7 @@ use Rattle.std.proofs.lemmas.List.Folds.{list_any-append}
 use Rattle.std.proofs.Math.Seq.{drop-append_seam}
 use Rattle.of10_ctl.specs.declared.framer.Next.TheVariants.{Frame}
 use Rattle.of10_ctl.specs.Frames.{is_bad}
-use Rattle.of10_ctl.specs.Streams.{frames_of, has_bad, next_of, answer, Stream, Stands}
+use Rattle.of10_ctl.specs.Streams.{frames_of, has_bad, next_frame, next_answer, Stream, Stands}
 
 -- the frames of the bytes fed are those given and those of the bytes left
 pub frames_fed : (s : Stream) (fed : List ℕ) (given : List (List ℕ)) → Stands s fed given → frames_of fed ≡ given ++ cond s.ended [] (frames_of s.left)
@@ -15,7 +15,7 @@ frames_fed s fed given stands =
 
 -- what comes next while the stream goes on
 pub answer_unended : (s : Stream) (fed : List ℕ) (given : List (List ℕ)) → Stands s fed given → s.ended ≡ false
-    → (frames : List (List ℕ)) → frames_of s.left ≡ frames → next_of frames ≡ answer fed given
+    → (frames : List (List ℕ)) → frames_of s.left ≡ frames → next_frame frames ≡ next_answer fed given
 answer_unended s fed given stands unended frames is =
     let none_bad : has_bad given ≡ false = sym stands.ended ∙ unended in
     let all : frames_of fed ≡ given ++ frames = frames_fed s fed given stands ∙ rw (unended, is) refl in
@@ -49,7 +49,7 @@ stands_given read size items ended bad fed given frame unended is first stands =
 
 -- the frame that begins the bytes left comes next
 pub answer_given : (s : Stream) (fed : List ℕ) (given : List (List ℕ)) → Stands s fed given → s.ended ≡ false
-    → (frame : List ℕ) (others : List (List ℕ)) → frames_of (s.left ++ []) ≡ frame ∷ others → Frame frame ≡ answer fed given
+    → (frame : List ℕ) (others : List (List ℕ)) → frames_of (s.left ++ []) ≡ frame ∷ others → Frame frame ≡ next_answer fed given
 answer_given s fed given stands unended frame others is =
     answer_unended s fed given stands unended (frame ∷ others) (ap frames_of (sym (append-nil s.left)) ∙ is)
 

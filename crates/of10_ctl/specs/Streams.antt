@@ -28,13 +28,13 @@ abbrev pub AreFirst : List (List ℕ) → List (List ℕ) → Type 0
 AreFirst given frames = (others : List (List ℕ)) × (given ++ others ≡ frames)
 
 -- the first of the frames that were not given, or that more bytes are needed
-abbrev pub next_of : List (List ℕ) → Next
-next_of [] = NeedMore
-next_of (frame ∷ others) = Frame frame
+abbrev pub next_frame : List (List ℕ) → Next
+next_frame [] = NeedMore
+next_frame (frame ∷ others) = Frame frame
 
 -- what comes next, by all bytes fed and the frames given so far: the frame behind those, unless one of them has a bad length
-abbrev pub answer : List ℕ → List (List ℕ) → Next
-answer fed given = if has_bad given then Ended else next_of (drop (length given) (frames_of fed))
+abbrev pub next_answer : List ℕ → List (List ℕ) → Next
+next_answer fed given = if has_bad given then Ended else next_frame (drop (length given) (frames_of fed))
 
 -- the frame that an answer gives, if it gives one
 abbrev pub frame_in : Next → List (List ℕ)

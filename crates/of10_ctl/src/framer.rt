@@ -1,6 +1,6 @@
 ghost use Rattle.std.specs.Prelude.{◌≡◌, ◌≤◌, ◌+◌, ◌*◌, ◌++◌, ◌∷◌, List, [], ℕ, if◌then◌else◌, false, IfOk, OnOk, OnErr, IfSome, IfNone, length, take, drop};
 ghost use Rattle.of10_ctl.specs.Frames.{IsFrame, is_bad};
-ghost use Rattle.of10_ctl.specs.Streams.{Stands, answer, frame_in, frames_of};
+ghost use Rattle.of10_ctl.specs.Streams.{Stands, next_answer, frame_in, frames_of};
 
 use crate::frame::{Frame, told_size};
 use std::alloc::{AllocError, Global};
@@ -107,12 +107,12 @@ impl Framer {
     /// The next frame of all that was fed; `NeedMore` where none is whole, and `Ended` after a frame of
     /// a bad length. Only a frame takes memory.
     pub fn next(&mut self) -> Result<Next, AllocError>
-        ensures answer { IfOk result (λ next. (fed : List ℕ) (given : List (List ℕ)) → Stands self.old fed given → next ≡ answer fed given) }
+        ensures answer { IfOk result (λ next. (fed : List ℕ) (given : List (List ℕ)) → Stands self.old fed given → next ≡ next_answer fed given) }
         ensures stands { IfOk result (λ next. (fed : List ℕ) (given : List (List ℕ)) → Stands self.old fed given → Stands self.new fed (given ++ frame_in next)) }
         // A frame takes at least eight of the bytes that are left.
         ensures shorter { IfOk result (λ next. length self.new.left + 8 * length (frame_in next) ≤ length self.old.left) }
         ensures unchanged { OnErr result (self.new ≡ self.old) }
-        ensures memory { OnErr result ((fed : List ℕ) (given : List (List ℕ)) → Stands self.old fed given → (frame : List ℕ) × (frame_in (answer fed given) ≡ frame ∷ [])) }
+        ensures memory { OnErr result ((fed : List ℕ) (given : List (List ℕ)) → Stands self.old fed given → (frame : List ℕ) × (frame_in (next_answer fed given) ≡ frame ∷ [])) }
     {
         if self.ended {
             return Ok(Next::Ended);

@@ -7,7 +7,7 @@ ghost use Rattle.of10_ctl.specs.declared.kind.TheConstants.{HELLO, ERROR, ECHO_R
 ghost use Rattle.of10_ctl.specs.Heads.{head_of, length_field};
 ghost use Rattle.of10_ctl.specs.Frames.{IsFrame, message_of};
 ghost use Rattle.of10_ctl.specs.Kinds.{IsOf};
-ghost use Rattle.of10_ctl.specs.Streams.{frames_at, frames_of, has_bad, AreFirst, answer, Stream, Stands};
+ghost use Rattle.of10_ctl.specs.Streams.{frames_at, frames_of, has_bad, AreFirst, next_answer, Stream, Stands};
 
 /// The types of messages have the numbers 0 to 21 (OpenFlow 1.0.0, section 5.1, `ofp_type`).
 pub fn types_are_numbered()
@@ -56,7 +56,7 @@ pub fn given_frames_come_first()
 /// A framer gives a frame exactly where it is the next one, needs more exactly where all frames were
 /// given and none of them has a bad length, and has ended exactly where one of a bad length was given.
 pub fn framer_answers_exactly()
-    ensures frame { (stream : Stream) (fed : List ℕ) (given : List (List ℕ)) (next : List ℕ) → Stands stream fed given → (answer fed given ≡ Frame next) ↔ AreFirst (given ++ next ∷ []) (frames_of fed) }
-    ensures need_more { (stream : Stream) (fed : List ℕ) (given : List (List ℕ)) → Stands stream fed given → (answer fed given ≡ NeedMore) ↔ ((given ≡ frames_of fed) × (has_bad given ≡ false)) }
-    ensures ended { (stream : Stream) (fed : List ℕ) (given : List (List ℕ)) → Stands stream fed given → (answer fed given ≡ Ended) ↔ (has_bad given ≡ true) }
+    ensures frame { (stream : Stream) (fed : List ℕ) (given : List (List ℕ)) (next : List ℕ) → Stands stream fed given → (next_answer fed given ≡ Frame next) ↔ AreFirst (given ++ next ∷ []) (frames_of fed) }
+    ensures need_more { (stream : Stream) (fed : List ℕ) (given : List (List ℕ)) → Stands stream fed given → (next_answer fed given ≡ NeedMore) ↔ ((given ≡ frames_of fed) × (has_bad given ≡ false)) }
+    ensures ended { (stream : Stream) (fed : List ℕ) (given : List (List ℕ)) → Stands stream fed given → (next_answer fed given ≡ Ended) ↔ (has_bad given ≡ true) }
 {}

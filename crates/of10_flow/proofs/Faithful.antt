@@ -9,7 +9,7 @@ use Rattle.of10_model.specs.declared.pattern.Pattern.{Pattern}
 use Rattle.of10_flow.specs.declared.flow_mod.FlowMod.{FlowMod}
 use Rattle.of10_flow.specs.declared.entry.FlowEntry.{FlowEntry}
 use Rattle.of10_flow.specs.Tables.{touches, entry_of, with_actions_of, Apply, ApplyAll}
-use Rattle.of10_flow.specs.Outside.{Deletes, Puts, piece_entry, ArePieces, TouchAlike, Follows, Delete, Change, Add}
+use Rattle.of10_flow.specs.Outside.{Deletes, Puts, piece_entry, IsSplitTable, TouchAlike, FollowsByPieces, Delete, Change, Add}
 use Rattle.of10_flow.proofs.Choosing.{Among, Contains-iff, among_filter, filter_among, among_map, map_among}
 use Rattle.of10_flow.proofs.Keeping.{same_pattern}
 use Rattle.of10_flow.proofs.Turns.{Apply-delete, deletes_leave, put_on, taken, touching_change, touching_none}
@@ -22,9 +22,9 @@ any_none p (x ∷ xs) none = elim (cases_Bool (p x)) [
   | inr isnt ↦ All-cons (λ x. p x ≡ false) x xs isnt (any_none p xs (rw isnt at none))
 ]
 
-module _ (pieces : Pattern → List Pattern) (whole split : List FlowEntry) (are : ArePieces pieces whole split) (m : FlowMod) (ms : List FlowMod) (alike : TouchAlike pieces whole m ms) where
+module _ (pieces : Pattern → List Pattern) (whole split : List FlowEntry) (are : IsSplitTable pieces whole split) (m : FlowMod) (ms : List FlowMod) (alike : TouchAlike pieces whole m ms) where
   -- deletes
-  after_deletes : Deletes m → All Deletes ms → ArePieces pieces (Apply whole m) (ApplyAll split ms)
+  after_deletes : Deletes m → All Deletes ms → IsSplitTable pieces (Apply whole m) (ApplyAll split ms)
   after_deletes deletes all x = (
     λ there.
         let left = (deletes_leave ms split all x).0 ((Contains-iff (ApplyAll split ms) x).0 there) in
@@ -53,7 +53,7 @@ module _ (pieces : Pattern → List Pattern) (whole split : List FlowEntry) (are
         | inr isnt ↦ rw (sym same ∙ isnt, isnt) refl
       ]
 
-  after_changes : Puts m.actions m → All (Puts m.actions) ms → list_any (touches m) whole ≡ true → All (λ sent. list_any (touches sent) split ≡ true) ms → ArePieces pieces (Apply whole m) (ApplyAll split ms)
+  after_changes : Puts m.actions m → All (Puts m.actions) ms → list_any (touches m) whole ≡ true → All (λ sent. list_any (touches sent) split ≡ true) ms → IsSplitTable pieces (Apply whole m) (ApplyAll split ms)
   after_changes puts all some each x =
       let here : Apply whole m ≡ map (with_actions_of m) whole = rw (taken whole m m.actions puts, puts.puts, some) refl in
       let there : ApplyAll split ms ≡ map (put_on ms m.actions) split = touching_change m.actions ms all split each in (
@@ -79,7 +79,7 @@ module _ (pieces : Pattern → List Pattern) (whole split : List FlowEntry) (are
       )
 
   after_adds : Puts m.actions m → All (Puts m.actions) ms → list_any (touches m) whole ≡ false → All (λ sent. list_any (touches sent) split ≡ false) ms → AllPairs (λ sent later. touches later (entry_of sent) ≡ false) ms
-      → ((x : FlowEntry) → Contains (map entry_of ms) x ↔ ((piece : Pattern) × Contains (pieces m.pattern) piece × (x ≡ piece_entry (entry_of m) piece))) → ArePieces pieces (Apply whole m) (ApplyAll split ms)
+      → ((x : FlowEntry) → Contains (map entry_of ms) x ↔ ((piece : Pattern) × Contains (pieces m.pattern) piece × (x ≡ piece_entry (entry_of m) piece))) → IsSplitTable pieces (Apply whole m) (ApplyAll split ms)
   after_adds puts all none each apart new x =
       let here : Apply whole m ≡ whole ++ (entry_of m ∷ []) = rw (taken whole m m.actions puts, puts.puts, none) refl in
       let there : ApplyAll split ms ≡ split ++ map entry_of ms = touching_none m.actions ms all split each apart in (
@@ -95,7 +95,7 @@ module _ (pieces : Pattern → List Pattern) (whole split : List FlowEntry) (are
             ]),
       )
 
-  pub stay_pieces : Follows pieces whole split m ms → ArePieces pieces (Apply whole m) (ApplyAll split ms)
+  pub stay_pieces : FollowsByPieces pieces whole split m ms → IsSplitTable pieces (Apply whole m) (ApplyAll split ms)
   stay_pieces (Delete deletes all) = after_deletes deletes all
   stay_pieces (Change puts all some each) = after_changes puts all some each
   stay_pieces (Add puts all none each apart new) = after_adds puts all none each apart new

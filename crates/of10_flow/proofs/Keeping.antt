@@ -12,12 +12,12 @@ use Rattle.of10_model.proofs.Including.{Has-includes}
 use Rattle.of10_flow.specs.declared.flow_mod.FlowMod.{FlowMod}
 use Rattle.of10_flow.specs.declared.protocol.TheConstants.{ADD, MODIFY, MODIFY_STRICT, DELETE, DELETE_STRICT}
 use Rattle.of10_flow.specs.declared.entry.FlowEntry.{FlowEntry}
-use Rattle.of10_flow.specs.Tables.{describes, names, outputs_as_asked, touches, refuses, entry_of, with_actions_of, Apply, having, foremost, Treatment}
+use Rattle.of10_flow.specs.Tables.{describes, names_entry, outputs_as_asked, touches, refuses, entry_of, with_actions_of, Apply, having, foremost, Treatment}
 
 -- ---- what is touched lies in the match
 
 -- a flow-mod's match has the headers of an entry that it names
-named_has : (m : FlowMod) (e : FlowEntry) → names m e ≡ true → (h : Header) → Has e.pattern h → Has m.pattern h
+named_has : (m : FlowMod) (e : FlowEntry) → names_entry m e ≡ true → (h : Header) → Has e.pattern h → Has m.pattern h
 named_has m e is h k = subst (λ p. Has p h) ((is_same_iff e.pattern m.pattern).0 (and_parts (e.priority == m.priority) (is_same e.pattern m.pattern) is).1) k
 
 -- and of one that it describes
@@ -37,7 +37,7 @@ touched_has m e is h k =
         | inr not_two ↦ elim (cases_Bool (m.command == DELETE)) [
           | inl three ↦ described_has m e (first_of_both (describes m e) (outputs_as_asked m e) (rw (not_one, not_two, three) at is)) h k
           | inr not_three ↦ elim (cases_Bool (m.command == DELETE_STRICT)) [
-            | inl four ↦ named_has m e (first_of_both (names m e) (outputs_as_asked m e) (rw (not_one, not_two, not_three, four) at is)) h k
+            | inl four ↦ named_has m e (first_of_both (names_entry m e) (outputs_as_asked m e) (rw (not_one, not_two, not_three, four) at is)) h k
             | inr not_four ↦ absurd (let no : false ≡ true = rw (not_one, not_two, not_three, not_four) at is in cc)
           ]
         ]

@@ -13,11 +13,11 @@ use Rattle.of10_model.proofs.Disjointness.{is_disjoint_iff, shared}
 use Rattle.of10_flow.specs.declared.flow_mod.FlowMod.{FlowMod}
 use Rattle.of10_flow.specs.declared.protocol.TheConstants.{ADD, MODIFY, MODIFY_STRICT, DELETE}
 use Rattle.of10_flow.specs.declared.entry.FlowEntry.{FlowEntry}
-use Rattle.of10_flow.specs.Tables.{names, describes, touches, overlaps, entry_of, Apply}
+use Rattle.of10_flow.specs.Tables.{names_entry, describes, touches, overlaps, entry_of, Apply}
 use Rattle.of10_flow.specs.Outside.{SharesHeader}
 
 -- a flow-mod names the entries of its match and priority
-pub names_iff : (m : FlowMod) (e : FlowEntry) → IsTrue (names m e) ↔ ((e.pattern ≡ m.pattern) × (e.priority ≡ m.priority))
+pub names_iff : (m : FlowMod) (e : FlowEntry) → IsTrue (names_entry m e) ↔ ((e.pattern ≡ m.pattern) × (e.priority ≡ m.priority))
 names_iff m e = (
   λ is. (let both = and_parts (e.priority == m.priority) (is_same e.pattern m.pattern) is in ((is_same_iff e.pattern m.pattern).0 both.1, eqb-true e.priority m.priority both.0)),
   λ both. and_from (e.priority == m.priority) (is_same e.pattern m.pattern) (eq-eqb e.priority m.priority both.1) ((is_same_iff e.pattern m.pattern).1 both.0),
@@ -47,7 +47,7 @@ overlaps_iff m e i j = (
 -- ---- a modification that touches nothing
 
 -- a match describes what it names
-names-describes : (m : FlowMod) (e : FlowEntry) → IsNormal m.pattern → names m e ≡ true → describes m e ≡ true
+names-describes : (m : FlowMod) (e : FlowEntry) → IsNormal m.pattern → names_entry m e ≡ true → describes m e ≡ true
 names-describes m e i is =
     let same = ((names_iff m e).0 is).0 in
     rw same (includes-Includes m.pattern m.pattern i.0 i.0 (λ h r k. k))
@@ -60,7 +60,7 @@ none_weaker p q weaker (x ∷ xs) none = elim (cases_Bool (q x)) [
 ]
 
 -- what is named is touched, but by a delete
-pub names-touches : (m : FlowMod) (e : FlowEntry) → IsNormal m.pattern → leb DELETE m.command ≡ false → names m e ≡ true → touches m e ≡ true
+pub names-touches : (m : FlowMod) (e : FlowEntry) → IsNormal m.pattern → leb DELETE m.command ≡ false → names_entry m e ≡ true → touches m e ≡ true
 names-touches m e i not_delete is = elim (cases_Bool (m.command == ADD || m.command == MODIFY_STRICT)) [
   | inl names_one ↦ rw names_one is
   | inr not_one ↦ elim (cases_Bool (m.command == MODIFY)) [
@@ -79,14 +79,14 @@ names-touches m e i not_delete is = elim (cases_Bool (m.command == ADD || m.comm
 abbrev pub as_add : FlowMod → FlowMod
 as_add m = record m { command = ADD; flags = 0 }
 
-adds : (table : List FlowEntry) (m : FlowMod) → list_any (names m) table ≡ false → Apply table (as_add m) ≡ table ++ (entry_of m ∷ [])
+adds : (table : List FlowEntry) (m : FlowMod) → list_any (names_entry m) table ≡ false → Apply table (as_add m) ≡ table ++ (entry_of m ∷ [])
 adds table m none = rw none refl
 
 pub modify_as_add : (table : List FlowEntry) (m : FlowMod) → IsNormal m.pattern → (m.command ≡ MODIFY) ⊎ (m.command ≡ MODIFY_STRICT) → list_any (touches m) table ≡ false → Apply table m ≡ Apply table (as_add m)
 modify_as_add table m i (inl modify) none =
     let none_described : list_any (describes m) table ≡ false = rw modify at none in
-    let none_named = none_weaker (names m) (describes m) (λ e is. names-describes m e i is) table none_described in
+    let none_named = none_weaker (names_entry m) (describes m) (λ e is. names-describes m e i is) table none_described in
     rw (adds table m none_named, modify, none_described) refl
 modify_as_add table m i (inr modify) none =
-    let none_named : list_any (names m) table ≡ false = rw modify at none in
+    let none_named : list_any (names_entry m) table ≡ false = rw modify at none in
     rw (adds table m none_named, modify, none_named) refl

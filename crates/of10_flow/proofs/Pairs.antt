@@ -11,7 +11,7 @@ use Rattle.of10_flow.specs.declared.flow_mod.FlowMod.{FlowMod}
 use Rattle.of10_flow.specs.declared.protocol.TheConstants.{DELETE}
 use Rattle.of10_flow.specs.declared.entry.FlowEntry.{FlowEntry}
 use Rattle.of10_flow.specs.Tables.{touches, refuses, entry_of, with_actions_of, Apply, ApplyAll}
-use Rattle.of10_flow.specs.Outside.{IsSamePair, HasEachPairOnce}
+use Rattle.of10_flow.specs.Outside.{IsSameEntry, HasEachPairOnce}
 use Rattle.of10_flow.proofs.Keeping.{same_pattern, same_priority}
 use Rattle.of10_flow.proofs.Meaning.{names_iff, names-touches}
 
@@ -46,7 +46,7 @@ module _ {A : Type 0} (R : A → A → Type 0) where
 
 -- entries of different matches or priorities stay so
 abbrev pub IsApart : FlowEntry → FlowEntry → Type 0
-IsApart e other = IsSamePair e other → ⊥
+IsApart e other = IsSameEntry e other → ⊥
 
 stays_apart : (m : FlowMod) (e other : FlowEntry) → IsApart e other → IsApart (with_actions_of m e) (with_actions_of m other)
 stays_apart m e other apart same = apart (sym (same_pattern m e) ∙ same.0 ∙ same_pattern m other, sym (same_priority m e) ∙ same.1 ∙ same_priority m other)

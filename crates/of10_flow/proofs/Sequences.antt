@@ -9,7 +9,7 @@ use Rattle.of10_model.specs.Same.{is_same}
 use Rattle.of10_model.proofs.Same.{is_same_iff}
 use Rattle.of10_flow.specs.declared.flow_mod.FlowMod.{FlowMod}
 use Rattle.of10_flow.specs.declared.entry.FlowEntry.{FlowEntry}
-use Rattle.of10_flow.specs.Tables.{names, Apply, ApplyAll, Treatment}
+use Rattle.of10_flow.specs.Tables.{names_entry, Apply, ApplyAll, Treatment}
 use Rattle.of10_flow.specs.Outside.{Cleans}
 use Rattle.of10_flow.proofs.Keeping.{Treatment-Apply}
 
@@ -22,8 +22,8 @@ Treatment-ApplyAll (m ∷ ms) table h outside =
 -- ---- flow-mods that take away the entry of one match and priority, whatever it outputs to
 
 -- such a one takes away what it names
-pub Apply-cleans : (table : List FlowEntry) (m : FlowMod) → Cleans m → Apply table m ≡ filter (λ e. not (names m e)) table
-Apply-cleans table m c = rw (c.command, c.out_port) (filter_agree (λ e. not (names m e && true)) (λ e. not (names m e)) (λ e. ap not (and_true (names m e))) table)
+pub Apply-cleans : (table : List FlowEntry) (m : FlowMod) → Cleans m → Apply table m ≡ filter (λ e. not (names_entry m e)) table
+Apply-cleans table m c = rw (c.command, c.out_port) (filter_agree (λ e. not (names_entry m e && true)) (λ e. not (names_entry m e)) (λ e. ap not (and_true (names_entry m e))) table)
   where
     and_true : (x : Bool) → (x && true) ≡ x
     and_true true = refl
@@ -31,7 +31,7 @@ Apply-cleans table m c = rw (c.command, c.out_port) (filter_agree (λ e. not (na
 
 -- a fact of every entry stays one
 stays_so : (P : FlowEntry → Type 0) (table : List FlowEntry) (m : FlowMod) → Cleans m → All P table → All P (Apply table m)
-stays_so P table m c all = rw (Apply-cleans table m c) (All-filter (λ e. not (names m e)) P table all)
+stays_so P table m c all = rw (Apply-cleans table m c) (All-filter (λ e. not (names_entry m e)) P table all)
 
 stay_so : (P : FlowEntry → Type 0) (ms : List FlowMod) → All Cleans ms → (table : List FlowEntry) → All P table → All P (ApplyAll table ms)
 stay_so P [] clean table all = all
@@ -41,15 +41,15 @@ stay_so P (m ∷ ms) clean table all = stay_so P ms (All-tail Cleans m ms clean)
 abbrev pub IsOther : FlowMod → FlowEntry → Type 0
 IsOther m e = e.pattern ≡ m.pattern → e.priority ≡ m.priority → ⊥
 
-other : (m : FlowMod) (e : FlowEntry) → not (names m e) ≡ true → IsOther m e
+other : (m : FlowMod) (e : FlowEntry) → not (names_entry m e) ≡ true → IsOther m e
 other m e not_named pattern priority =
-    both_ways (names m e) (not-true (names m e) not_named)
+    both_ways (names_entry m e) (not-true (names_entry m e) not_named)
     (and_from (e.priority == m.priority) (is_same e.pattern m.pattern) (eq-eqb e.priority m.priority priority) ((is_same_iff e.pattern m.pattern).1 pattern))
 
 -- it leaves none of its match and priority
 goes : (table : List FlowEntry) (m : FlowMod) → Cleans m → All (IsOther m) (Apply table m)
 goes table m c =
-    rw (Apply-cleans table m c) (All-weaker (λ e. not (names m e) ≡ true) (IsOther m) (other m) (filter (λ e. not (names m e)) table) (filter_passes (λ e. not (names m e)) table))
+    rw (Apply-cleans table m c) (All-weaker (λ e. not (names_entry m e) ≡ true) (IsOther m) (other m) (filter (λ e. not (names_entry m e)) table) (filter_passes (λ e. not (names_entry m e)) table))
 
 -- all of them together leave none of the match and priority of one of them
 pub none_left : (ms : List FlowMod) → All Cleans ms → (table : List FlowEntry) → All (λ m. All (IsOther m) (ApplyAll table ms)) ms

@@ -21,12 +21,12 @@ abbrev pub SharesHeader : Pattern → Pattern → Type 0
 SharesHeader a b = (h : Header) × IsHeader h × Has a h × Has b h
 
 -- two entries have one match and one priority, by which a table knows an entry (OpenFlow 1.0.0, section 4.6)
-abbrev pub IsSamePair : FlowEntry → FlowEntry → Type 0
-IsSamePair e other = (e.pattern ≡ other.pattern) × (e.priority ≡ other.priority)
+abbrev pub IsSameEntry : FlowEntry → FlowEntry → Type 0
+IsSameEntry e other = (e.pattern ≡ other.pattern) × (e.priority ≡ other.priority)
 
 -- a table has at most one entry of each match and priority
 abbrev pub HasEachPairOnce : List FlowEntry → Type 0
-HasEachPairOnce table = AllPairs (λ e other. IsSamePair e other → ⊥) table
+HasEachPairOnce table = AllPairs (λ e other. IsSameEntry e other → ⊥) table
 
 -- two tables have the same action lists in their treatments of a header, repeats disregarded
 abbrev pub HaveSameLists : List FlowEntry → List FlowEntry → Header → Type 0
@@ -58,8 +58,8 @@ pub record IsSplit (whole : List FlowEntry) (pieces : FlowEntry → List Pattern
   pub exact : (e : FlowEntry) (piece : Pattern) → Contains whole e → Contains (pieces e) piece → Has piece h → is_exact piece ≡ is_exact e.pattern
 
 -- up to order and repeats, the entries of a table are the pieces of another one's, each with the priority and the actions of its entry
-abbrev pub ArePieces : (Pattern → List Pattern) → List FlowEntry → List FlowEntry → Type 0
-ArePieces pieces whole split = (x : FlowEntry) → Contains split x ↔ ((e : FlowEntry) × (piece : Pattern) × Contains whole e × Contains (pieces e.pattern) piece × (x ≡ piece_entry e piece))
+abbrev pub IsSplitTable : (Pattern → List Pattern) → List FlowEntry → List FlowEntry → Type 0
+IsSplitTable pieces whole split = (x : FlowEntry) → Contains split x ↔ ((e : FlowEntry) × (piece : Pattern) × Contains whole e × Contains (pieces e.pattern) piece × (x ≡ piece_entry e piece))
 
 -- a flow-mod is a delete
 abbrev pub Deletes : FlowMod → Type 0
@@ -76,8 +76,8 @@ abbrev pub TouchAlike : (Pattern → List Pattern) → List FlowEntry → FlowMo
 TouchAlike pieces whole m ms = (e : FlowEntry) (piece : Pattern) → Contains whole e → Contains (pieces e.pattern) piece → touches m e ≡ list_any (λ sent. touches sent (piece_entry e piece)) ms
 
 -- what flow-mods do to the pieces of a table's entries where one changes the table: they are deletes as it is; or all put its actions, and each touches a piece where it touches an entry; or where it touches none each touches none and not what an earlier one adds, and together they add the pieces of its match
-pub data Follows (pieces : Pattern → List Pattern) (whole split : List FlowEntry) (m : FlowMod) (ms : List FlowMod) : Type 0 where
-  Delete : Deletes m → All Deletes ms → Follows pieces whole split m ms
-  Change : Puts m.actions m → All (Puts m.actions) ms → list_any (touches m) whole ≡ true → All (λ sent. list_any (touches sent) split ≡ true) ms → Follows pieces whole split m ms
+pub data FollowsByPieces (pieces : Pattern → List Pattern) (whole split : List FlowEntry) (m : FlowMod) (ms : List FlowMod) : Type 0 where
+  Delete : Deletes m → All Deletes ms → FollowsByPieces pieces whole split m ms
+  Change : Puts m.actions m → All (Puts m.actions) ms → list_any (touches m) whole ≡ true → All (λ sent. list_any (touches sent) split ≡ true) ms → FollowsByPieces pieces whole split m ms
   Add : Puts m.actions m → All (Puts m.actions) ms → list_any (touches m) whole ≡ false → All (λ sent. list_any (touches sent) split ≡ false) ms → AllPairs (λ sent later. touches later (entry_of sent) ≡ false) ms
-      → ((x : FlowEntry) → Contains (map entry_of ms) x ↔ ((piece : Pattern) × Contains (pieces m.pattern) piece × (x ≡ piece_entry (entry_of m) piece))) → Follows pieces whole split m ms
+      → ((x : FlowEntry) → Contains (map entry_of ms) x ↔ ((piece : Pattern) × Contains (pieces m.pattern) piece × (x ≡ piece_entry (entry_of m) piece))) → FollowsByPieces pieces whole split m ms

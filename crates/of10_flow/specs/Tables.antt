@@ -27,8 +27,8 @@ abbrev pub describes : FlowMod → FlowEntry → Bool
 describes m e = includes_of m.pattern e.pattern
 
 -- a flow-mod names an entry: the one of its match and priority (section 4.6)
-abbrev pub names : FlowMod → FlowEntry → Bool
-names m e = is_entry_of m.pattern m.priority e
+abbrev pub names_entry : FlowMod → FlowEntry → Bool
+names_entry m e = is_entry_of m.pattern m.priority e
 
 -- an action outputs to a port: it is an OUTPUT that names the port (section 4.6), or an ENQUEUE that does (this proxy's own rule)
 abbrev pub outputs_to : ℕ → Action → Bool
@@ -52,10 +52,10 @@ outputs_as_asked m e = m.out_port == NONE || list_any (outputs_to m.out_port) e.
 -- a flow-mod touches an entry: ADD and the strict commands the one that they name, MODIFY and DELETE those that they describe, and the deletes only those that output as asked, which other commands disregard (sections 4.6 and 5.3.3); a command above 4 touches none
 abbrev pub touches : FlowMod → FlowEntry → Bool
 touches m e =
-    if m.command == ADD || m.command == MODIFY_STRICT then names m e
+    if m.command == ADD || m.command == MODIFY_STRICT then names_entry m e
     else if m.command == MODIFY then describes m e
     else if m.command == DELETE then describes m e && outputs_as_asked m e
-    else if m.command == DELETE_STRICT then names m e && outputs_as_asked m e
+    else if m.command == DELETE_STRICT then names_entry m e && outputs_as_asked m e
     else false
 
 -- ---- what a flow-mod does

@@ -11,13 +11,13 @@ ghost use Rattle.of10_action.specs.declared.action.Action.{Action};
 ghost use Rattle.of10_flow.specs.declared.flow_mod.FlowMod.{FlowMod};
 ghost use Rattle.of10_flow.specs.declared.protocol.TheConstants.{ADD, MODIFY, MODIFY_STRICT};
 ghost use Rattle.of10_flow.specs.declared.entry.FlowEntry.{FlowEntry as Entry};
-ghost use Rattle.of10_flow.specs.Tables.{names, describes, overlaps, touches, having, Apply, ApplyAll, Treatment};
-ghost use Rattle.of10_flow.specs.Outside.{SharesHeader, HasEachPairOnce, HaveSameLists, MayBeChosen, Cleans, IsSplit, ArePieces, TouchAlike, Follows};
+ghost use Rattle.of10_flow.specs.Tables.{names_entry, describes, overlaps, touches, having, Apply, ApplyAll, Treatment};
+ghost use Rattle.of10_flow.specs.Outside.{SharesHeader, HasEachPairOnce, HaveSameLists, MayBeChosen, Cleans, IsSplit, IsSplitTable, TouchAlike, FollowsByPieces};
 
 /// A flow-mod names the entries of its match and priority, describes those of which its match has all headers,
 /// and those overlap it that have its priority and share a header with it.
 pub fn tests_are_of_headers()
-    ensures named { (m : FlowMod) (e : Entry) → IsTrue (names m e) ↔ ((e.pattern ≡ m.pattern) × (e.priority ≡ m.priority)) }
+    ensures named { (m : FlowMod) (e : Entry) → IsTrue (names_entry m e) ↔ ((e.pattern ≡ m.pattern) × (e.priority ≡ m.priority)) }
     ensures described { (m : FlowMod) (e : Entry) → IsNormal m.pattern → IsNormal e.pattern → IsTrue (describes m e) ↔ Includes m.pattern e.pattern }
     ensures overlapping { (m : FlowMod) (e : Entry) → IsNormal m.pattern → IsNormal e.pattern → IsTrue (overlaps m e) ↔ ((e.priority ≡ m.priority) × SharesHeader e.pattern m.pattern) }
 {}
@@ -61,5 +61,5 @@ pub fn pieces_are_treated_as_the_whole()
 /// Where the entries of a table are the pieces of another one's, they still are after a flow-mod of that one
 /// and the flow-mods that follow it on the pieces.
 pub fn pieces_stay_pieces()
-    ensures { (pieces : Pattern → List Pattern) (whole split : List Entry) → ArePieces pieces whole split → (m : FlowMod) (ms : List FlowMod) → TouchAlike pieces whole m ms → Follows pieces whole split m ms → ArePieces pieces (Apply whole m) (ApplyAll split ms) }
+    ensures { (pieces : Pattern → List Pattern) (whole split : List Entry) → IsSplitTable pieces whole split → (m : FlowMod) (ms : List FlowMod) → TouchAlike pieces whole m ms → FollowsByPieces pieces whole split m ms → IsSplitTable pieces (Apply whole m) (ApplyAll split ms) }
 {}

@@ -38,7 +38,7 @@ unfoldable pub read_controller : List ℕ → Result FromController Unread
 read_controller bytes = read_as said.Hello read_typed bytes
 
 -- a call gives what is read, or want of memory in the place of a message or of a fault
-abbrev pub Gives : Result FromController MessageFault → Result FromController Unread → Type 0
-Gives (Ok message) said_so = said_so ≡ Ok message
-Gives (Err (faults.Unread fault)) said_so = said_so ≡ Err fault
-Gives (Err faults.Memory) said_so = Unit {0}
+abbrev pub GivesMessage : Result FromController MessageFault → Result FromController Unread → Type 0
+GivesMessage (Ok message) said_so = said_so ≡ Ok message
+GivesMessage (Err (faults.Unread fault)) said_so = said_so ≡ Err fault
+GivesMessage (Err faults.Memory) said_so = Unit {0}

@@ -7,8 +7,8 @@ abbrev pub version_of : List ℕ → ℕ
 version_of message = (head_of message).version
 
 -- the type of a message
-abbrev pub kind_of : List ℕ → ℕ
-kind_of message = (head_of message).kind
+abbrev pub message_kind : List ℕ → ℕ
+message_kind message = (head_of message).kind
 
 -- the transaction id, which an answer repeats
 abbrev pub xid_of : List ℕ → ℕ
@@ -16,4 +16,4 @@ xid_of message = (head_of message).xid
 
 -- a message of a type
 abbrev pub is_kind : ℕ → List ℕ → Bool
-is_kind kind message = kind_of message == kind
+is_kind kind message = message_kind message == kind

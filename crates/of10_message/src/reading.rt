@@ -10,9 +10,9 @@ ghost use Rattle.of10_flow.specs.PacketOuts.{read_packet_out};
 ghost use Rattle.of10_flow.specs.FlowMods.{read_flow_mod};
 ghost use Rattle.of10_stats.specs.Requests.{read_request};
 ghost use Rattle.of10_message.specs.declared.controller.FromController.TheVariants as said;
-ghost use Rattle.of10_message.specs.Heads.{version_of, is_kind};
-ghost use Rattle.of10_message.specs.Forms.{sized, formed, read_hello};
-ghost use Rattle.of10_message.specs.Controller.{Gives, read_typed, read_controller};
+ghost use Rattle.of10_message.specs.Heads.{version_of};
+ghost use Rattle.of10_message.specs.Forms.{sized, formed};
+ghost use Rattle.of10_message.specs.Controller.{GivesMessage, read_typed, read_controller};
 
 use crate::controller::FromController;
 use crate::fault::{MessageFault, Unread};
@@ -34,7 +34,7 @@ fn sized(
     message: FromController,
     frame: &Frame,
 ) -> Result<FromController, MessageFault>
-    ensures { Gives result (sized size message frame.now) }
+    ensures { GivesMessage result (sized size message frame.now) }
 {
     let found = frame.as_slice().len();
     if found == size {
@@ -46,7 +46,7 @@ fn sized(
 
 fn packet_out(alloc: Global, frame: &Frame) -> Result<FromController, MessageFault>
     requires { IsOf PACKET_OUT frame.now }
-    ensures { Gives result (formed said.PacketOut (read_packet_out frame.now)) }
+    ensures { GivesMessage result (formed said.PacketOut (read_packet_out frame.now)) }
 {
     match PacketOut::decode(alloc, frame) {
         Ok(message) => Ok(FromController::PacketOut(message)),
@@ -57,7 +57,7 @@ fn packet_out(alloc: Global, frame: &Frame) -> Result<FromController, MessageFau
 
 fn flow_mod(alloc: Global, frame: &Frame) -> Result<FromController, MessageFault>
     requires { IsOf FLOW_MOD frame.now }
-    ensures { Gives result (formed said.FlowMod (read_flow_mod frame.now)) }
+    ensures { GivesMessage result (formed said.FlowMod (read_flow_mod frame.now)) }
 {
     match FlowMod::decode(alloc, frame) {
         Ok(message) => Ok(FromController::FlowMod(message)),
@@ -68,7 +68,7 @@ fn flow_mod(alloc: Global, frame: &Frame) -> Result<FromController, MessageFault
 
 fn stats_request(frame: &Frame) -> Result<FromController, MessageFault>
     requires { IsOf STATS_REQUEST frame.now }
-    ensures { Gives result (formed said.StatsRequest (read_request frame.now)) }
+    ensures { GivesMessage result (formed said.StatsRequest (read_request frame.now)) }
 {
     match StatsRequest::decode(frame) {
         Ok(message) => Ok(FromController::StatsRequest(message)),
@@ -77,7 +77,7 @@ fn stats_request(frame: &Frame) -> Result<FromController, MessageFault>
 }
 
 fn config(frame: &Frame) -> Result<FromController, MessageFault>
-    ensures { Gives result (formed said.SetConfig (read_config frame.now)) }
+    ensures { GivesMessage result (formed said.SetConfig (read_config frame.now)) }
 {
     match SwitchConfig::decode(frame) {
         Ok(config) => Ok(FromController::SetConfig(config)),
@@ -86,7 +86,7 @@ fn config(frame: &Frame) -> Result<FromController, MessageFault>
 }
 
 fn queues_request(frame: &Frame) -> Result<FromController, MessageFault>
-    ensures { Gives result (formed said.QueueGetConfigRequest (read_queues_request frame.now)) }
+    ensures { GivesMessage result (formed said.QueueGetConfigRequest (read_queues_request frame.now)) }
 {
     match QueuesQuestion::decode(frame) {
         Ok(question) => Ok(FromController::QueueGetConfigRequest(question)),
@@ -99,7 +99,7 @@ fn queues_request(frame: &Frame) -> Result<FromController, MessageFault>
 fn typed(alloc: Global, frame: &Frame) -> Result<FromController, MessageFault>
     requires version { version_of frame.now ≡ 1 }
     requires length { is_bad frame.now ≡ false }
-    ensures { Gives result (read_typed frame.now) }
+    ensures { GivesMessage result (read_typed frame.now) }
 {
     let _bytes = frame.as_slice();
     match frame.head().kind {
@@ -124,7 +124,7 @@ fn typed(alloc: Global, frame: &Frame) -> Result<FromController, MessageFault>
 /// actions of flow-mods and packet-outs, and for the packet of the latter.
 #[tactic(auto, unfolding(crate::specs::Controller::read_controller))]
 pub fn read_controller(alloc: Global, frame: &Frame) -> Result<FromController, MessageFault>
-    ensures { Gives result (read_controller frame.now) }
+    ensures { GivesMessage result (read_controller frame.now) }
 {
     let head = frame.head();
     if frame.bad_length() {

@@ -11,11 +11,11 @@ use Rattle.of10_ctl.specs.Kinds.{IsOf}
 use Rattle.of10_ctl.proofs.Reading.{IsOf-message}
 use Rattle.of10_stats.specs.declared.request.StatsRequest.{StatsRequest}
 use Rattle.of10_stats.specs.declared.request.StatsRequest.TheVariants.{Desc, Flow, Aggregate, Table, Port, Queue}
-use Rattle.of10_stats.specs.Requests.{IsRequest, kind_of, request_body, body_size, spell_request, request_of, read_request}
+use Rattle.of10_stats.specs.Requests.{IsRequest, statistics_kind, request_body, body_size, spell_request, request_of, read_request}
 use Rattle.of10_stats.proofs.Written.{length-request_body}
 
 -- no body has more than 44 bytes
-small_body : (r : StatsRequest) → body_size (kind_of r) ≤ 44
+small_body : (r : StatsRequest) → body_size (statistics_kind r) ≤ 44
 small_body Desc = omega arith
 small_body (Flow pattern table out_port) = omega arith
 small_body (Aggregate pattern table out_port) = omega arith
@@ -27,9 +27,9 @@ pub IsOf-request : (r : StatsRequest) (xid : ℕ) → IsOf STATS_REQUEST (spell_
 unfolding spell_request
 IsOf-request r xid =
     let long = length-request_body r in
-    IsOf-message 16 xid (big_bytes 2 (kind_of r) ++ big_bytes 2 0 ++ request_body r) (omega (arith, long, small_body r))
+    IsOf-message 16 xid (big_bytes 2 (statistics_kind r) ++ big_bytes 2 0 ++ request_body r) (omega (arith, long, small_body r))
 
-length-request : (r : StatsRequest) (xid : ℕ) → length (spell_request r xid) ≡ 12 + body_size (kind_of r)
+length-request : (r : StatsRequest) (xid : ℕ) → length (spell_request r xid) ≡ 12 + body_size (statistics_kind r)
 unfolding spell_request
 length-request r xid = let long = length-request_body r in omega (arith, long)
 
@@ -43,7 +43,7 @@ known bytes kind is few long =
     let whole : eqb (length bytes) (12 + body_size kind) ≡ true = eq-eqb (length bytes) (12 + body_size kind) long in
     rw (is, some, standard, listed, whole) refl
 
-kind-request : (r : StatsRequest) (xid : ℕ) → number_at (spell_request r xid) 8 2 ≡ kind_of r
+kind-request : (r : StatsRequest) (xid : ℕ) → number_at (spell_request r xid) 8 2 ≡ statistics_kind r
 unfolding spell_request
 kind-request Desc xid = refl
 kind-request (Flow pattern table out_port) xid = refl
@@ -52,7 +52,7 @@ kind-request Table xid = refl
 kind-request (Port port) xid = refl
 kind-request (Queue port queue) xid = refl
 
-few_kinds : (r : StatsRequest) → kind_of r ≤ 5
+few_kinds : (r : StatsRequest) → statistics_kind r ≤ 5
 few_kinds Desc = omega arith
 few_kinds (Flow pattern table out_port) = omega arith
 few_kinds (Aggregate pattern table out_port) = omega arith
@@ -61,7 +61,7 @@ few_kinds (Port port) = omega arith
 few_kinds (Queue port queue) = omega arith
 
 -- what a message of its kind asks
-asked_again : (r : StatsRequest) (xid : ℕ) → IsRequest r → request_of (kind_of r) (spell_request r xid) ≡ r
+asked_again : (r : StatsRequest) (xid : ℕ) → IsRequest r → request_of (statistics_kind r) (spell_request r xid) ≡ r
 unfolding spell_request request_of Spell
 asked_again Desc xid h = refl
 asked_again (Flow pattern table out_port) xid h =
@@ -84,4 +84,4 @@ asked_again (Queue port queue) xid h =
 
 pub request_again : (r : StatsRequest) (xid : ℕ) → IsRequest r → read_request (spell_request r xid) ≡ Ok r
 request_again r xid h =
-    known (spell_request r xid) (kind_of r) (kind-request r xid) (few_kinds r) (length-request r xid) ∙ ap (λ (q : StatsRequest). Ok q) (asked_again r xid h)
+    known (spell_request r xid) (statistics_kind r) (kind-request r xid) (few_kinds r) (length-request r xid) ∙ ap (λ (q : StatsRequest). Ok q) (asked_again r xid h)

@@ -6,7 +6,7 @@ use Rattle.std.proofs.lemmas.List.{length-take-le}
 use Rattle.byteorder.specs.Numbers.{big_from-take}
 use Rattle.of10_model.specs.Normal.{number_at}
 use Rattle.of10_model.proofs.Results.{either}
-use Rattle.of10_stats.specs.Replies.{flow_length, fixed_length, length_of, IsEntry, IsPortEntry, within, entry_size_of}
+use Rattle.of10_stats.specs.Replies.{flow_length, fixed_length, length_of, IsEntry, IsPortEntry, within_room, entry_size_of}
 
 -- no entry is shorter than 24 bytes
 abbrev IsLong : Option ℕ → Type 0
@@ -37,7 +37,7 @@ same_length kind n bytes h =
 
 -- ---- a size that is there
 
-within_some : (room n : ℕ) (o : Option ℕ) → within room o ≡ Some n → (o ≡ Some n) × (n ≤ room)
+within_some : (room n : ℕ) (o : Option ℕ) → within_room room o ≡ Some n → (o ≡ Some n) × (n ≤ room)
 within_some room n None e = absurd cc
 within_some room n (Some size) e = held (leb size room) refl e
   where
@@ -45,10 +45,10 @@ within_some room n (Some size) e = held (leb size room) refl e
     held true t e = let h = leb-true size room t in let same : size ≡ n = cc in (e, omega (arith, h, same))
     held false t e = absurd cc
 
-some_within : (room n : ℕ) (o : Option ℕ) → o ≡ Some n → n ≤ room → within room o ≡ Some n
-some_within room n o e h = ap (within room) e ∙ held
+some_within : (room n : ℕ) (o : Option ℕ) → o ≡ Some n → n ≤ room → within_room room o ≡ Some n
+some_within room n o e h = ap (within_room room) e ∙ held
   where
-    held : within room (Some n) ≡ Some n
+    held : within_room room (Some n) ≡ Some n
     held = rw (le-leb n room h) refl
 
 -- the size is that of the one well-formed entry
@@ -70,7 +70,7 @@ there_entry kind n rest h entry =
 pub none_shorter : (kind : ℕ) (rest : List ℕ) → length rest < 24 → entry_size_of kind rest ≡ None
 none_shorter kind rest h = none (length_of kind rest) (long kind rest)
   where
-    none : (o : Option ℕ) → IsLong o → within (length rest) o ≡ None
+    none : (o : Option ℕ) → IsLong o → within_room (length rest) o ≡ None
     none None g = refl
     none (Some n) g = rw (lt-leb n (length rest) (omega arith)) refl
 

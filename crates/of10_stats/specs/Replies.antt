@@ -38,13 +38,13 @@ abbrev pub IsEntry : ℕ → List ℕ → Type 0
 IsEntry kind entry = length_of kind entry ≡ Some (length entry)
 
 -- a size, where there is room for it (this proxy's own rule)
-abbrev pub within : ℕ → Option ℕ → Option ℕ
-within room None = None
-within room (Some size) = if leb size room then Some size else None
+abbrev pub within_room : ℕ → Option ℕ → Option ℕ
+within_room room None = None
+within_room room (Some size) = if leb size room then Some size else None
 
 -- the size of the well-formed entry that begins the bytes, where it is whole (section 5.3.5)
 abbrev pub entry_size_of : ℕ → List ℕ → Option ℕ
-entry_size_of kind rest = within (length rest) (length_of kind rest)
+entry_size_of kind rest = within_room (length rest) (length_of kind rest)
 
 -- what this proxy reads of a flow entry: its match, and how many packets and bytes it had (section 5.3.5)
 abbrev pub flow_of : List ℕ → Pattern × ℕ × ℕ

@@ -24,13 +24,13 @@ IsRequest (Queue port queue) = (port < 2 ^ 16) × (queue < 2 ^ 32)
 -- ---- spelling
 
 -- the number of each type of statistics (section 5.3.5)
-abbrev pub kind_of : StatsRequest → ℕ
-kind_of Desc = 0
-kind_of (Flow pattern table out_port) = 1
-kind_of (Aggregate pattern table out_port) = 2
-kind_of Table = 3
-kind_of (Port port) = 4
-kind_of (Queue port queue) = 5
+abbrev pub statistics_kind : StatsRequest → ℕ
+statistics_kind Desc = 0
+statistics_kind (Flow pattern table out_port) = 1
+statistics_kind (Aggregate pattern table out_port) = 2
+statistics_kind Table = 3
+statistics_kind (Port port) = 4
+statistics_kind (Queue port queue) = 5
 
 -- what a request for flow entries asks, padding zero (section 5.3.5)
 abbrev pub flow_body : Pattern → ℕ → ℕ → List ℕ
@@ -47,7 +47,7 @@ request_body (Queue port queue) = big_bytes 2 port ++ padding 2 ++ big_bytes 4 q
 
 -- the message: its type of statistics, no flags, and what it asks (section 5.3.5)
 unfoldable pub spell_request : StatsRequest → ℕ → List ℕ
-spell_request r xid = message_of STATS_REQUEST xid (big_bytes 2 (kind_of r) ++ big_bytes 2 0 ++ request_body r)
+spell_request r xid = message_of STATS_REQUEST xid (big_bytes 2 (statistics_kind r) ++ big_bytes 2 0 ++ request_body r)
 
 -- ---- reading
 

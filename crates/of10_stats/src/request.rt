@@ -2,7 +2,7 @@ ghost use Rattle.std.specs.Prelude.{◌≡◌, ◌+◌, ◌≤◌, ◌++◌, IfO
 ghost use Rattle.of10_action.specs.Reading.{Reads};
 ghost use Rattle.of10_ctl.specs.declared.kind.TheConstants.{STATS_REQUEST};
 ghost use Rattle.of10_ctl.specs.Kinds.{IsOf};
-ghost use Rattle.of10_stats.specs.Requests.{IsRequest, body_size, flow_body, kind_of, read_request, request_body, request_of, spell_request};
+ghost use Rattle.of10_stats.specs.Requests.{IsRequest, body_size, flow_body, statistics_kind, read_request, request_body, request_of, spell_request};
 
 use crate::protocol::{AGGREGATE, DESC, FLOW, PORT, QUEUE, TABLE, VENDOR};
 use of10_action::WireFault;
@@ -144,7 +144,7 @@ impl StatsRequest {
 
     /// Its type of statistics.
     pub fn kind(&self) -> u16
-        ensures { result ≡ kind_of self.now }
+        ensures { result ≡ statistics_kind self.now }
     {
         match self {
             StatsRequest::Desc => DESC,

@@ -32,5 +32,5 @@ said_by views.BarrierReply = BarrierReply
 said_by (views.QueueGetConfigReply queues) = QueueGetConfigReply (queues_of_view queues)
 
 -- a call that takes no memory answers what is read
-abbrev pub Reads : Result FromSwitch Unread → Result SwitchMessage Unread → Type 0
-Reads called read = Answers (λ fault told. told ≡ Err fault) said_by called read
+abbrev pub ReadsAsSaid : Result FromSwitch Unread → Result SwitchMessage Unread → Type 0
+ReadsAsSaid called read = Answers (λ fault told. told ≡ Err fault) said_by called read

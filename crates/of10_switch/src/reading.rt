@@ -15,7 +15,7 @@ ghost use Rattle.of10_message.specs.Heads.{version_of};
 ghost use Rattle.of10_message.specs.Forms.{sized, formed};
 ghost use Rattle.of10_message.specs.Errors.{read_error};
 ghost use Rattle.of10_switch.specs.Messages as said;
-ghost use Rattle.of10_switch.specs.Views.{said_by, Reads};
+ghost use Rattle.of10_switch.specs.Views.{said_by, ReadsAsSaid};
 ghost use Rattle.of10_switch.specs.Ranges.{IsSaid};
 
 use crate::features::FeaturesView;
@@ -34,7 +34,7 @@ use of10_stats::part;
 
 fn error(frame: &Frame) -> Result<FromSwitch<'_>, Unread>
     requires { IsOf ERROR frame.now }
-    ensures exact { Reads result (formed said.Error (read_error frame.now)) }
+    ensures exact { ReadsAsSaid result (formed said.Error (read_error frame.now)) }
     ensures range { IfOk result (λ m. IsSaid (said_by m)) }
 {
     match ErrorView::decode(frame) {
@@ -45,7 +45,7 @@ fn error(frame: &Frame) -> Result<FromSwitch<'_>, Unread>
 
 fn features(frame: &Frame) -> Result<FromSwitch<'_>, Unread>
     requires { IsOf FEATURES_REPLY frame.now }
-    ensures exact { Reads result (formed said.FeaturesReply (read_features frame.now)) }
+    ensures exact { ReadsAsSaid result (formed said.FeaturesReply (read_features frame.now)) }
     ensures range { IfOk result (λ m. IsSaid (said_by m)) }
 {
     match FeaturesView::decode(frame) {
@@ -55,7 +55,7 @@ fn features(frame: &Frame) -> Result<FromSwitch<'_>, Unread>
 }
 
 fn config(frame: &Frame) -> Result<FromSwitch<'_>, Unread>
-    ensures exact { Reads result (formed said.GetConfigReply (read_config frame.now)) }
+    ensures exact { ReadsAsSaid result (formed said.GetConfigReply (read_config frame.now)) }
     ensures range { IfOk result (λ m. IsSaid (said_by m)) }
 {
     match SwitchConfig::decode(frame) {
@@ -66,7 +66,7 @@ fn config(frame: &Frame) -> Result<FromSwitch<'_>, Unread>
 
 fn packet_in(frame: &Frame) -> Result<FromSwitch<'_>, Unread>
     requires { IsOf PACKET_IN frame.now }
-    ensures exact { Reads result (formed said.PacketIn (read_packet_in frame.now)) }
+    ensures exact { ReadsAsSaid result (formed said.PacketIn (read_packet_in frame.now)) }
     ensures range { IfOk result (λ m. IsSaid (said_by m)) }
 {
     match PacketInView::decode(frame) {
@@ -77,7 +77,7 @@ fn packet_in(frame: &Frame) -> Result<FromSwitch<'_>, Unread>
 
 fn flow_removed(frame: &Frame) -> Result<FromSwitch<'_>, Unread>
     requires { IsOf FLOW_REMOVED frame.now }
-    ensures exact { Reads result (formed said.FlowRemoved (read_flow_removed frame.now)) }
+    ensures exact { ReadsAsSaid result (formed said.FlowRemoved (read_flow_removed frame.now)) }
     ensures range { IfOk result (λ m. IsSaid (said_by m)) }
 {
     match FlowRemoved::decode(frame) {
@@ -90,7 +90,7 @@ fn flow_removed(frame: &Frame) -> Result<FromSwitch<'_>, Unread>
 
 fn port_status(frame: &Frame) -> Result<FromSwitch<'_>, Unread>
     requires { IsOf PORT_STATUS frame.now }
-    ensures exact { Reads result (formed said.PortStatus (read_port_status frame.now)) }
+    ensures exact { ReadsAsSaid result (formed said.PortStatus (read_port_status frame.now)) }
     ensures range { IfOk result (λ m. IsSaid (said_by m)) }
 {
     match PortStatus::decode(frame) {
@@ -101,7 +101,7 @@ fn port_status(frame: &Frame) -> Result<FromSwitch<'_>, Unread>
 
 fn statistics(frame: &Frame) -> Result<FromSwitch<'_>, Unread>
     requires { IsOf STATS_REPLY frame.now }
-    ensures exact { Reads result (formed (said.part_with frame.now) (part_of frame.now)) }
+    ensures exact { ReadsAsSaid result (formed (said.part_with frame.now) (part_of frame.now)) }
     ensures range { IfOk result (λ m. IsSaid (said_by m)) }
 {
     match part(frame) {
@@ -111,7 +111,7 @@ fn statistics(frame: &Frame) -> Result<FromSwitch<'_>, Unread>
 }
 
 fn barrier(frame: &Frame) -> Result<FromSwitch<'_>, Unread>
-    ensures exact { Reads result (sized 8 said.BarrierReply frame.now) }
+    ensures exact { ReadsAsSaid result (sized 8 said.BarrierReply frame.now) }
     ensures range { IfOk result (λ m. IsSaid (said_by m)) }
 {
     if is_bare(frame) {
@@ -123,7 +123,7 @@ fn barrier(frame: &Frame) -> Result<FromSwitch<'_>, Unread>
 
 fn queues(frame: &Frame) -> Result<FromSwitch<'_>, Unread>
     requires { IsOf QUEUE_GET_CONFIG_REPLY frame.now }
-    ensures exact { Reads result (formed said.QueueGetConfigReply (read_queues frame.now)) }
+    ensures exact { ReadsAsSaid result (formed said.QueueGetConfigReply (read_queues frame.now)) }
     ensures range { IfOk result (λ m. IsSaid (said_by m)) }
 {
     match QueuesView::decode(frame) {
@@ -137,7 +137,7 @@ fn queues(frame: &Frame) -> Result<FromSwitch<'_>, Unread>
 fn sent(frame: &Frame) -> Result<FromSwitch<'_>, Unread>
     requires version { version_of frame.now ≡ 1 }
     requires length { is_bad frame.now ≡ false }
-    ensures exact { Reads result (said.read_sent frame.now) }
+    ensures exact { ReadsAsSaid result (said.read_sent frame.now) }
     ensures range { IfOk result (λ m. IsSaid (said_by m)) }
 {
     let _bytes = frame.as_slice();
@@ -162,7 +162,7 @@ fn sent(frame: &Frame) -> Result<FromSwitch<'_>, Unread>
 /// where it lies.
 #[tactic(auto, unfolding(crate::specs::Messages::read_switch))]
 pub fn read_switch(frame: &Frame) -> Result<FromSwitch<'_>, Unread>
-    ensures exact { Reads result (said.read_switch frame.now) }
+    ensures exact { ReadsAsSaid result (said.read_switch frame.now) }
     ensures range { IfOk result (λ m. IsSaid (said_by m)) }
 {
     let head = frame.head();

@@ -1,7 +1,7 @@
 -- An index into which the elements of a list are put one after the other, each at its place, finds the first that passes.
-use Rattle.std.proofs.Common.{◌≡◌, ℕ, suc, inl, inr, ◌+◌, ◌<◌, ◌||◌, Bool, true, false, cond, if◌then◌else◌, List, [], ◌∷◌, ◌++◌, length, get_or, take, min, All, is_some, find, slice_get, Option, Some, None, option_and_then, refl, sym, ap, ◌∙◌, arith}
+use Rattle.std.proofs.Common.{◌≡◌, ℕ, suc, inl, inr, ◌+◌, ◌<◌, ◌||◌, Bool, true, false, cond, List, [], ◌∷◌, ◌++◌, length, get_or, take, min, All, is_some, find, slice_get, Option, Some, None, option_and_then, refl, sym, ap, ◌∙◌, arith}
 use Rattle.std.specs.List.{position, position_or_len, position_from, list_any}
-use Rattle.std.proofs.lemmas.Bool.{true≢false, cases_lt, lt-ltb, le-ltb}
+use Rattle.std.proofs.lemmas.Bool.{cases_lt, lt-ltb, le-ltb}
 use Rattle.std.proofs.lemmas.List.{take_more, length-take-le}
 use Rattle.std.proofs.lemmas.List.Elements.{All-head, All-tail}
 use Rattle.std.proofs.lemmas.List.Folds.{find_at}
@@ -10,8 +10,7 @@ use Rattle.std.proofs.lemmas.Iterator.Adapters.{position_from-zero}
 use Rattle.of10_model.specs.declared.pattern.Pattern.{Pattern}
 use Rattle.of10_model.specs.Inclusion.{includes_of}
 use Rattle.pattern_index.specs.declared.index.PatternIndex.{PatternIndex}
-use Rattle.pattern_index.specs.Groups.{lesser}
-use Rattle.pattern_index.specs.Places.{Kept, least_place, StandsFor, FindsFirst}
+use Rattle.pattern_index.specs.Places.{PlacedPattern, StandsFor, FindsFirst}
 use Rattle.pattern_index.proofs.Least.{with, one_more}
 
 -- ---- the first of a list
@@ -82,7 +81,7 @@ finds_none ask test index stands = record { kept = []; stands = stands; firsts =
 -- an element that is put behind those before it
 pub finds_put : {A Q : Type 0} (ask : Q → Pattern) (test : A → Q → Bool) (xs : List A) (i : ℕ) (x : A) (m : Pattern) (old new : PatternIndex) → i < length xs → x ≡ get_or xs i x
     → ((q : Q) → includes_of m (ask q) ≡ test x q)
-    → ((kept : List Kept) → StandsFor kept old → StandsFor (record { pattern = m; place = i } ∷ kept) new)
+    → ((kept : List PlacedPattern) → StandsFor kept old → StandsFor (record { pattern = m; place = i } ∷ kept) new)
     → FindsFirst ask test (take i xs) old → FindsFirst ask test (take (i + 1) xs) new
 finds_put ask test xs i x m old new lt at agree put before = record {
   kept = record { pattern = m; place = i } ∷ before.kept;

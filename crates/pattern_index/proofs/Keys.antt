@@ -11,7 +11,7 @@ use Rattle.of10_model.specs.Header.{Header}
 use Rattle.of10_model.specs.Normal.{IsPrefix, IsInRange}
 use Rattle.of10_model.specs.Exact.{exact_of}
 use Rattle.of10_model.specs.Inclusion.{covers, covers_prefix, includes_of}
-use Rattle.pattern_index.specs.Keys.{bits_of, shape_of, picked, leading, key_of, field_cmp, key_cmp}
+use Rattle.pattern_index.specs.Keys.{bits_of, shape_of, picked, leading_key, key_of, field_cmp, key_cmp}
 
 -- ---- fields
 
@@ -23,18 +23,18 @@ field_tied None d = refl
 field_tied (Some v) None = refl
 field_tied (Some v) (Some w) = same_number v w
 
-own_bits : (p : Prefix) → leading (Some p.bits) (Some p) ≡ Some (p.value / 2 ^ (32 - p.bits))
+own_bits : (p : Prefix) → leading_key (Some p.bits) (Some p) ≡ Some (p.value / 2 ^ (32 - p.bits))
 own_bits p = rw (le-leb p.bits p.bits (omega arith)) refl
 
 by_bits : (x y : ℕ) (b : Bool) → is_eq (field_cmp (Some x) (if b then Some y else None)) ≡ (b && (y == x))
 by_bits x y true = same_number x y
 by_bits x y false = refl
 
-prefix_tied : (c d : Option Prefix) → is_eq (field_cmp (leading (bits_of c) c) (leading (bits_of c) d)) ≡ covers_prefix c d
+prefix_tied : (c d : Option Prefix) → is_eq (field_cmp (leading_key (bits_of c) c) (leading_key (bits_of c) d)) ≡ covers_prefix c d
 prefix_tied None d = refl
 prefix_tied (Some p) None = ap (λ o. is_eq (field_cmp o None)) (own_bits p)
 prefix_tied (Some p) (Some q) =
-    ap (λ o. is_eq (field_cmp o (leading (Some p.bits) (Some q)))) (own_bits p)
+    ap (λ o. is_eq (field_cmp o (leading_key (Some p.bits) (Some q)))) (own_bits p)
     ∙ by_bits (p.value / 2 ^ (32 - p.bits)) (q.value / 2 ^ (32 - p.bits)) (leb p.bits q.bits)
 
 -- ---- keys

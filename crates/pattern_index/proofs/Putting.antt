@@ -13,7 +13,7 @@ use Rattle.of10_model.specs.Inclusion.{includes_of}
 use Rattle.pattern_index.specs.declared.shape.Shape.{Shape}
 use Rattle.pattern_index.specs.declared.key.Key.{Key}
 use Rattle.pattern_index.specs.Keys.{shape_of, key_of, field_cmp, key_cmp}
-use Rattle.pattern_index.specs.Groups.{lesser}
+use Rattle.pattern_index.specs.Groups.{lesser_place}
 use Rattle.pattern_index.proofs.Keys.{key_tied}
 
 -- ---- keys that are one
@@ -58,22 +58,22 @@ same_keys a b e =
 
 -- ---- what is found where a pattern was put
 
-put_at : (b : Bool) (least place : ℕ) (own there : Option ℕ) → (b ≡ true → own ≡ there) → Some least ≡ lesser (Some place) own
-    → cond b (Some least) there ≡ (if b then lesser (Some place) there else there)
-put_at true least place own there same e = e ∙ ap (lesser (Some place)) (same refl)
+put_at : (b : Bool) (least place : ℕ) (own there : Option ℕ) → (b ≡ true → own ≡ there) → Some least ≡ lesser_place (Some place) own
+    → cond b (Some least) there ≡ (if b then lesser_place (Some place) there else there)
+put_at true least place own there same e = e ∙ ap (lesser_place (Some place)) (same refl)
 put_at false least place own there same e = refl
 
 own_key : (r m : Pattern) (shape : Shape) (key : Key) → shape ≡ shape_of r → key ≡ key_of shape r → is_at (key_cmp key) (key_of shape m) ≡ includes_of r m
 own_key r m shape key is_shape is_key =
     ap (λ k. is_eq (key_cmp k (key_of shape m))) is_key ∙ ap (λ s. is_eq (key_cmp (key_of s r) (key_of s m))) is_shape ∙ key_tied r m
 
-pub put_in : (r : Pattern) (place least : ℕ) (shape : Shape) (key : Key) (old new : BTreeMap Key ℕ) → shape ≡ shape_of r → key ≡ key_of shape r → Some least ≡ lesser (Some place) (get key_cmp old key)
+pub put_in : (r : Pattern) (place least : ℕ) (shape : Shape) (key : Key) (old new : BTreeMap Key ℕ) → shape ≡ shape_of r → key ≡ key_of shape r → Some least ≡ lesser_place (Some place) (get key_cmp old key)
     → ((q : Key) → get key_cmp new q ≡ cond (is_at (key_cmp key) q) (Some least) (get key_cmp old q))
-    → (m : Pattern) → get key_cmp new (key_of shape m) ≡ (if includes_of r m then lesser (Some place) (get key_cmp old (key_of shape m)) else get key_cmp old (key_of shape m))
+    → (m : Pattern) → get key_cmp new (key_of shape m) ≡ (if includes_of r m then lesser_place (Some place) (get key_cmp old (key_of shape m)) else get key_cmp old (key_of shape m))
 put_in r place least shape key old new is_shape is_key is_least updated m =
     updated (key_of shape m)
     ∙ put_at (is_at (key_cmp key) (key_of shape m)) least place (get key_cmp old key) (get key_cmp old (key_of shape m)) (λ tied. ap (get key_cmp old) (same_keys key (key_of shape m) tied)) is_least
-    ∙ ap (λ b. if b then lesser (Some place) (get key_cmp old (key_of shape m)) else get key_cmp old (key_of shape m)) (own_key r m shape key is_shape is_key)
+    ∙ ap (λ b. if b then lesser_place (Some place) (get key_cmp old (key_of shape m)) else get key_cmp old (key_of shape m)) (own_key r m shape key is_shape is_key)
 
 -- nothing is found in an empty map
 pub put_first : (r : Pattern) (place : ℕ) (shape : Shape) (key : Key) (old new : BTreeMap Key ℕ) → shape ≡ shape_of r → key ≡ key_of shape r → old.entries ≡ []

@@ -11,18 +11,18 @@ abbrev pub finds : Group → Pattern → Option ℕ
 finds group m = get key_cmp group.places (key_of group.shape m)
 
 -- the lesser of two places, of which either may be missing
-abbrev pub lesser : Option ℕ → Option ℕ → Option ℕ
-lesser None b = b
-lesser (Some x) None = Some x
-lesser (Some x) (Some y) = Some (min x y)
+abbrev pub lesser_place : Option ℕ → Option ℕ → Option ℕ
+lesser_place None b = b
+lesser_place (Some x) None = Some x
+lesser_place (Some x) (Some y) = Some (min x y)
 
 -- the least place that any group has for a match
 abbrev pub least_of : List Group → Pattern → Option ℕ
-least_of groups m = fold (λ least group. lesser least (finds group m)) None groups
+least_of groups m = fold (λ least group. lesser_place least (finds group m)) None groups
 
 -- a group that had these places, or none, and in which a pattern was put
 abbrev pub HasPut : Pattern → ℕ → (Pattern → Option ℕ) → Group → Type 0
-HasPut r place before after = (m : Pattern) → finds after m ≡ (if includes_of r m then lesser (Some place) (before m) else before m)
+HasPut r place before after = (m : Pattern) → finds after m ≡ (if includes_of r m then lesser_place (Some place) (before m) else before m)
 
 -- groups in one of which a pattern was put, or which got a group of it alone
 abbrev pub HavePut : Pattern → ℕ → List Group → List Group → Type 0

@@ -36,16 +36,16 @@ picked true constraint = constraint
 picked false constraint = None
 
 -- so many leading bits of an address, where a match gives as many
-abbrev pub leading : Option ℕ → Option Prefix → Option ℕ
-leading None prefix = None
-leading (Some bits) None = None
-leading (Some bits) (Some p) = if leb bits p.bits then Some (p.value / 2 ^ (32 - bits)) else None
+abbrev pub leading_key : Option ℕ → Option Prefix → Option ℕ
+leading_key None prefix = None
+leading_key (Some bits) None = None
+leading_key (Some bits) (Some p) = if leb bits p.bits then Some (p.value / 2 ^ (32 - bits)) else None
 
 -- the constraints of a match on the fields of a shape
 unfoldable pub key_of : Shape → Pattern → Key
 key_of s m = record {
-  nw_dst = leading s.nw_dst m.nw_dst;
-  nw_src = leading s.nw_src m.nw_src;
+  nw_dst = leading_key s.nw_dst m.nw_dst;
+  nw_src = leading_key s.nw_src m.nw_src;
   tp_dst = picked s.tp_dst m.tp_dst;
   tp_src = picked s.tp_src m.tp_src;
   dl_dst = picked s.dl_dst m.dl_dst;

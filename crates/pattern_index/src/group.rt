@@ -3,7 +3,7 @@
 ghost use Rattle.std.specs.Prelude.{◌≡◌, ◌<◌, length, None, Some, IfOk, IfSome, OnOk};
 ghost use Rattle.std.specs.List.{HoldsAt};
 ghost use Rattle.pattern_index.specs.Keys.{shape_of};
-ghost use Rattle.pattern_index.specs.Groups.{finds, least_of, lesser, HasPut, HavePut};
+ghost use Rattle.pattern_index.specs.Groups.{finds, least_of, lesser_place, HasPut, HavePut};
 
 use crate::key::{Key, key_of};
 use crate::shape::{Shape, is_same_shape, shape_of};
@@ -21,7 +21,7 @@ pub(crate) struct Group {
 
 /// The lesser of a place and of one that may be kept already.
 fn no_later(kept: Option<u16>, place: u16) -> u16
-    ensures { Some result ≡ lesser (Some place) kept }
+    ensures { Some result ≡ lesser_place (Some place) kept }
 {
     match kept {
         Some(kept) => place.min(kept),
@@ -90,7 +90,7 @@ pub(crate) fn put(
 }
 
 fn lesser(a: Option<u16>, b: Option<u16>) -> Option<u16>
-    ensures { result ≡ lesser a b }
+    ensures { result ≡ lesser_place a b }
 {
     match (a, b) {
         (None, other) => other,

@@ -1,5 +1,5 @@
 ghost use Rattle.std.specs.Prelude.{◌≡◌, List, [], ◌∷◌, OnOk};
-ghost use Rattle.pattern_index.specs.Places.{Kept, StandsFor, least_place};
+ghost use Rattle.pattern_index.specs.Places.{PlacedPattern, StandsFor, least_place};
 
 use crate::group::{Group, least_of, put};
 use of10_model::Pattern;
@@ -23,14 +23,14 @@ impl PatternIndex {
 
     /// Puts one more pattern, with its place.
     pub fn put(&mut self, alloc: Global, m: &Pattern, place: u16) -> Result<(), AllocError>
-        ensures { OnOk result ((kept : List Kept) → StandsFor kept self.old → StandsFor (record { pattern = m.now; place = place } ∷ kept) self.new) }
+        ensures { OnOk result ((kept : List PlacedPattern) → StandsFor kept self.old → StandsFor (record { pattern = m.now; place = place } ∷ kept) self.new) }
     {
         put(alloc, &mut self.groups, m, place)
     }
 
     /// The least place of the patterns that include the match.
     pub fn least(&self, m: &Pattern) -> Option<u16>
-        ensures { (kept : List Kept) → StandsFor kept self.now → result ≡ least_place kept m.now }
+        ensures { (kept : List PlacedPattern) → StandsFor kept self.now → result ≡ least_place kept m.now }
     {
         least_of(&self.groups, m)
     }

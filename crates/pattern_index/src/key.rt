@@ -1,7 +1,7 @@
 //! A match cut to the fields that a shape has.
 
 ghost use Rattle.std.specs.Prelude.{◌≡◌, ◌/◌, ◌^◌, ◌-◌};
-ghost use Rattle.pattern_index.specs.Keys.{picked, leading, key_of};
+ghost use Rattle.pattern_index.specs.Keys.{picked, leading_key, key_of};
 
 use crate::shape::Shape;
 use of10_model::{Pattern, Prefix};
@@ -51,7 +51,7 @@ fn leading_bits(address: u32, bits: u8) -> u64
 }
 
 fn leading(bits: Option<u8>, prefix: Option<Prefix>) -> Option<u64>
-    ensures { result ≡ leading bits prefix }
+    ensures { result ≡ leading_key bits prefix }
 {
     match (bits, prefix) {
         (Some(bits), Some(prefix)) if bits <= prefix.bits => {

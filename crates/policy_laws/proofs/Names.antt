@@ -15,10 +15,10 @@ use Rattle.flowspace.specs.declared.fault.Field.TheVariants.{DlVlanPcp, NwTos, N
 use Rattle.flowspace.specs.Rules.{first_improper}
 use Rattle.policy_text.specs.declared.fault.ReadFault.{ReadFault}
 use Rattle.policy_text.specs.declared.fault.ReadFault.TheVariants.{Improper, Refused}
-use Rattle.policy_text.specs.Rules.{slot_of, named, writer_of, slots_of, are_different, no_improper, proper, RuleText, rule_from}
+use Rattle.policy_text.specs.Rules.{slot_of, slot_named, writer_slot, slots_of, are_different, no_improper, proper, RuleText, rule_from}
 use Rattle.policy_text.proofs.Sound.{rule_with}
 use Rattle.policy_laws.proofs.Readers.{named_is, is_itself, later}
-use Rattle.policy_laws.specs.Readers.{with_writer, names_in, NamesNoSlice, NamesSlices, NamesTwice}
+use Rattle.policy_laws.specs.Readers.{with_writer, names_of_rule, NamesNoSlice, NamesSlices, NamesTwice}
 
 -- ---- names and slots
 
@@ -28,7 +28,7 @@ Slots slices names slots = map (slot_of slices) names ≡ map Some slots
 slots_back : (slices : List Slice) (index : ℕ) (names : List (List ℕ)) (slots : List ℕ) → slots_of slices index names ≡ Ok slots → Slots slices names slots
 slots_back slices index [] slots e = ap (map Some) (ok_is [] slots e)
 slots_back slices index (name ∷ names) slots e =
-    let a = bind_ok (named index (slot_of slices name)) _ slots e in
+    let a = bind_ok (slot_named index (slot_of slices name)) _ slots e in
     let b = bind_ok (slots_of slices index names) _ slots a.2 in
     let made = ok_is (a.0 ∷ b.0) slots b.2 in
     rw (named_is index (slot_of slices name) a.0 a.1, slots_back slices index names b.0 b.1) (ap (map Some) made)
@@ -40,7 +40,7 @@ slots_there slices index (name ∷ names) [] e = absurd cc
 slots_there slices index (name ∷ names) (slot ∷ slots) e =
     let first : slot_of slices name ≡ Some slot = cc in
     let others : Slots slices names slots = cc in
-    bind_is (named index (slot_of slices name)) _ slot _ (ap (named index) first) (bind_is (slots_of slices index names) _ slots _ (slots_there slices index names slots others) refl)
+    bind_is (slot_named index (slot_of slices name)) _ slot _ (ap (slot_named index) first) (bind_is (slots_of slices index names) _ slots _ (slots_there slices index names slots others) refl)
 
 pub slots_are : (slices : List Slice) (index : ℕ) (names : List (List ℕ)) (slots : List ℕ) → (slots_of slices index names ≡ Ok slots) ↔ Slots slices names slots
 slots_are slices index names slots = (slots_back slices index names slots, slots_there slices index names slots)
@@ -52,7 +52,7 @@ unknown index = Refused (UnknownSlice index)
 
 -- a name is a slice's, or it is refused
 abbrev NameIs : ℕ → Option ℕ → Type 0
-NameIs index o = ((o ≡ None) × (named index o ≡ Err (unknown index))) ⊎ ((slot : ℕ) × (o ≢ None) × (named index o ≡ Ok slot))
+NameIs index o = ((o ≡ None) × (slot_named index o ≡ Err (unknown index))) ⊎ ((slot : ℕ) × (o ≢ None) × (slot_named index o ≡ Ok slot))
 
 name_is : (index : ℕ) (o : Option ℕ) → NameIs index o
 name_is index None = inl (refl, refl)
@@ -77,53 +77,53 @@ readers_are : (slices : List Slice) (index : ℕ) (names : List (List ℕ)) → 
 readers_are slices index [] = inr ([], λ k d lt. absurd (omega (arith, lt)), refl)
 readers_are slices index (name ∷ names) =
     elim (name_is index (slot_of slices name)) [
-      | inl here ↦ inl ((0, name, omega arith, refl, here.0), bind_fails (named index (slot_of slices name)) _ (unknown index) here.1)
+      | inl here ↦ inl ((0, name, omega arith, refl, here.0), bind_fails (slot_named index (slot_of slices name)) _ (unknown index) here.1)
       | inr known ↦ elim (readers_are slices index names) [
         | inl there ↦ inl (
           later (IsNoSlice slices) name names there.0,
-          bind_is (named index (slot_of slices name)) _ known.0 _ known.2 (bind_fails (slots_of slices index names) _ (unknown index) there.1),
+          bind_is (slot_named index (slot_of slices name)) _ known.0 _ known.2 (bind_fails (slots_of slices index names) _ (unknown index) there.1),
         )
         | inr all ↦ inr (
           known.0 ∷ all.0,
           one_more slices name names known.1 all.1,
-          bind_is (named index (slot_of slices name)) _ known.0 _ known.2 (bind_is (slots_of slices index names) _ all.0 _ all.2 refl),
+          bind_is (slot_named index (slot_of slices name)) _ known.0 _ known.2 (bind_is (slots_of slices index names) _ all.0 _ all.2 refl),
         )
       ]
     ]
 
 abbrev WriterIs : List Slice → ℕ → Option (List ℕ) → List (List ℕ) → Type 0
-WriterIs slices index write names = (NamesNoSlice slices (with_writer write names) × (writer_of slices index write ≡ Err (unknown index)))
-    ⊎ ((writer : Option ℕ) × (writer_of slices index write ≡ Ok writer) × (NamesSlices slices names → NamesSlices slices (with_writer write names)) × (NamesNoSlice slices names → NamesNoSlice slices (with_writer write names)))
+WriterIs slices index write names = (NamesNoSlice slices (with_writer write names) × (writer_slot slices index write ≡ Err (unknown index)))
+    ⊎ ((writer : Option ℕ) × (writer_slot slices index write ≡ Ok writer) × (NamesSlices slices names → NamesSlices slices (with_writer write names)) × (NamesNoSlice slices names → NamesNoSlice slices (with_writer write names)))
 
 writer_is : (slices : List Slice) (index : ℕ) (write : Option (List ℕ)) (names : List (List ℕ)) → WriterIs slices index write names
 writer_is slices index None names = inr (None, refl, λ h. h, λ h. h)
 writer_is slices index (Some name) names =
     elim (name_is index (slot_of slices name)) [
-      | inl here ↦ inl ((0, name, omega arith, refl, here.0), bind_fails (named index (slot_of slices name)) _ (unknown index) here.1)
-      | inr known ↦ inr (Some (known.0 % 256), bind_is (named index (slot_of slices name)) _ known.0 _ known.2 refl, one_more slices name names known.1, later (IsNoSlice slices) name names)
+      | inl here ↦ inl ((0, name, omega arith, refl, here.0), bind_fails (slot_named index (slot_of slices name)) _ (unknown index) here.1)
+      | inr known ↦ inr (Some (known.0 % 256), bind_is (slot_named index (slot_of slices name)) _ known.0 _ known.2 refl, one_more slices name names known.1, later (IsNoSlice slices) name names)
     ]
 
 -- a rule: one of its names is of no slice, or all are slices' and the rule is what its slots make of it
 abbrev RuleIs : List Slice → ℕ → RuleText → Type 0
-RuleIs slices index said = (NamesNoSlice slices (names_in said) × (rule_from slices index said ≡ Err (unknown index)))
-    ⊎ ((writer : Option ℕ) × (slots : List ℕ) × NamesSlices slices (names_in said) × (slots_of slices index said.read ≡ Ok slots) × (rule_from slices index said ≡ (proper index slots said.pattern >>= λ fits. Ok (rule_with said writer slots))))
+RuleIs slices index said = (NamesNoSlice slices (names_of_rule said) × (rule_from slices index said ≡ Err (unknown index)))
+    ⊎ ((writer : Option ℕ) × (slots : List ℕ) × NamesSlices slices (names_of_rule said) × (slots_of slices index said.read ≡ Ok slots) × (rule_from slices index said ≡ (proper index slots said.pattern >>= λ fits. Ok (rule_with said writer slots))))
 
 rule_is : (slices : List Slice) (index : ℕ) (said : RuleText) → RuleIs slices index said
 unfolding rule_from
 rule_is slices index said =
     elim (writer_is slices index said.write said.read) [
-      | inl missing ↦ inl (missing.0, bind_fails (writer_of slices index said.write) _ (unknown index) missing.1)
+      | inl missing ↦ inl (missing.0, bind_fails (writer_slot slices index said.write) _ (unknown index) missing.1)
       | inr writer ↦ elim (readers_are slices index said.read) [
         | inl missing ↦ inl (
           writer.3 missing.0,
-          bind_is (writer_of slices index said.write) _ writer.0 _ writer.1 (bind_fails (slots_of slices index said.read) _ (unknown index) missing.1),
+          bind_is (writer_slot slices index said.write) _ writer.0 _ writer.1 (bind_fails (slots_of slices index said.read) _ (unknown index) missing.1),
         )
         | inr readers ↦ inr (
           writer.0,
           readers.0,
           writer.2 readers.1,
           readers.2,
-          bind_is (writer_of slices index said.write) _ writer.0 _ writer.1 (bind_is (slots_of slices index said.read) _ readers.0 _ readers.2 refl),
+          bind_is (writer_slot slices index said.write) _ writer.0 _ writer.1 (bind_is (slots_of slices index said.read) _ readers.0 _ readers.2 refl),
         )
       ]
     ]
@@ -132,13 +132,13 @@ fault_is_improper : {A : Type 0} (index : ℕ) (o : Option Field) (x : A) (fault
 fault_is_improper index None x fault e = absurd cc
 fault_is_improper index (Some field) x fault e = (field, refl, cc)
 
-pub missing_name : (slices : List Slice) (index : ℕ) (said : RuleText) → (rule_from slices index said ≡ Err (unknown index)) ↔ NamesNoSlice slices (names_in said)
+pub missing_name : (slices : List Slice) (index : ℕ) (said : RuleText) → (rule_from slices index said ≡ Err (unknown index)) ↔ NamesNoSlice slices (names_of_rule said)
 missing_name slices index said =
     elim (rule_is slices index said) [
       | inl missing ↦ (λ e. missing.0, λ h. missing.1)
       | inr known ↦ (
         λ e. absurd (let f = fault_is_improper index _ (rule_with said known.0 known.1) (unknown index) (sym known.4 ∙ e) in let same = f.2 in cc),
-        λ h. absurd (apart slices (names_in said) known.2 h),
+        λ h. absurd (apart slices (names_of_rule said) known.2 h),
       )
     ]
 
@@ -214,10 +214,10 @@ read_is_twice : (b : Bool) (o : Option Field) → o ≢ Some Read → cond b o (
 read_is_twice true o other e = absurd (other e)
 read_is_twice false o other e = refl
 
-pub repeated_name : (slices : List Slice) (index : ℕ) (said : RuleText) → (rule_from slices index said ≡ Err (Improper index Read)) ↔ (NamesSlices slices (names_in said) × NamesTwice slices said.read)
+pub repeated_name : (slices : List Slice) (index : ℕ) (said : RuleText) → (rule_from slices index said ≡ Err (Improper index Read)) ↔ (NamesSlices slices (names_of_rule said) × NamesTwice slices said.read)
 repeated_name slices index said =
     elim (rule_is slices index said) [
-      | inl missing ↦ (λ e. absurd (let same = sym missing.1 ∙ e in cc), λ h. absurd (apart slices (names_in said) h.0 missing.0))
+      | inl missing ↦ (λ e. absurd (let same = sym missing.1 ∙ e in cc), λ h. absurd (apart slices (names_of_rule said) h.0 missing.0))
       | inr known ↦
           let slots = slots_back slices index said.read known.1 known.3 in (
             λ e.

@@ -11,7 +11,7 @@ use Rattle.of10_model.proofs.Results.{bind_ok, ok_is}
 use Rattle.flowspace.specs.declared.rules.Rule.{Rule}
 use Rattle.flowspace.specs.declared.slices.Slice.{Slice}
 use Rattle.policy_laws.specs.Readers.{IsNamedSlot}
-use Rattle.policy_text.specs.Rules.{slot_of, named, slots_of, bits_below, RuleText, rule_from}
+use Rattle.policy_text.specs.Rules.{slot_of, slot_named, slots_of, bits_below, RuleText, rule_from}
 use Rattle.policy_text.proofs.Sound.{rule_from_parts}
 
 -- ---- bits
@@ -49,7 +49,7 @@ bits_are (suc n) k slots lt =
 
 -- ---- names
 
-pub named_is : (index : ℕ) (o : Option ℕ) (slot : ℕ) → named index o ≡ Ok slot → o ≡ Some slot
+pub named_is : (index : ℕ) (o : Option ℕ) (slot : ℕ) → slot_named index o ≡ Ok slot → o ≡ Some slot
 named_is index None slot e = absurd cc
 named_is index (Some x) slot e = ap Some (ok_is x slot e)
 
@@ -73,7 +73,7 @@ slots_named slices index [] slots k e =
     let none = ok_is [] slots e in
     (λ h. absurd (true≢false (sym h ∙ ap (list_any (nat_eq k)) (sym none))), λ h. absurd (omega (arith, h.2)))
 slots_named slices index (name ∷ names) slots k e =
-    let a = bind_ok (named index (slot_of slices name)) _ slots e in
+    let a = bind_ok (slot_named index (slot_of slices name)) _ slots e in
     let b = bind_ok (slots_of slices index names) _ slots a.2 in
     let made = ok_is (a.0 ∷ b.0) slots b.2 in
     let first = named_is index (slot_of slices name) a.0 a.1 in
@@ -92,5 +92,5 @@ pub readers_named : (slices : List Slice) (index : ℕ) (t : RuleText) (r : Rule
 readers_named slices index t r k e lt =
     let parts = rule_from_parts slices index t r e in
     let same : bit r.readers k ≡ list_any (nat_eq k) parts.1 = ap (λ (rule : Rule). bit rule.readers k) (sym parts.4) ∙ bits_are 32 k parts.1 lt in
-    let named = slots_named slices index t.read parts.1 k parts.2 in
-    (λ h. named.0 (sym same ∙ h), λ h. same ∙ named.1 h)
+    let both = slots_named slices index t.read parts.1 k parts.2 in
+    (λ h. both.0 (sym same ∙ h), λ h. same ∙ both.1 h)

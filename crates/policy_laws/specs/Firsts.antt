@@ -7,21 +7,21 @@ use Rattle.policy_text.specs.declared.fault.Part.TheVariants.{Rule}
 use Rattle.policy_text.specs.declared.fault.ReadFault.{ReadFault}
 use Rattle.policy_text.specs.declared.fault.ReadFault.TheVariants.{NotToml, Missing, BadValue, UnknownKey, Improper, Refused, Memory}
 use Rattle.policy_text.specs.Places.{field_key}
-use Rattle.policy_text.specs.Reading.{is_known}
+use Rattle.policy_text.specs.Reading.{is_known_key}
 use Rattle.policy_text.specs.Keys.{IsKey, IsLeastUnknown, is_needed, has_form}
 
 -- ---- items in order
 
 -- there is neither an item nor a value, or the value is what the item at this index is read as
-abbrev pub IsReadAs : {A : Type 0} → Option Data → Option A → (Data → Result A ReadFault) → Type 0
-IsReadAs None None read = ⊤
-IsReadAs None (Some x) read = ⊥
-IsReadAs (Some d) None read = ⊥
-IsReadAs (Some d) (Some x) read = read d ≡ Ok x
+abbrev pub IsItemReadAs : {A : Type 0} → Option Data → Option A → (Data → Result A ReadFault) → Type 0
+IsItemReadAs None None read = ⊤
+IsItemReadAs None (Some x) read = ⊥
+IsItemReadAs (Some d) None read = ⊥
+IsItemReadAs (Some d) (Some x) read = read d ≡ Ok x
 
 -- the values are what the items are read as, each at its index
 abbrev pub AreReadAs : {A : Type 0} → (ℕ → Data → Result A ReadFault) → Items → List A → Type 0
-AreReadAs read items xs = (i : ℕ) → IsReadAs (get_item i items) (slice_get xs i) (read i)
+AreReadAs read items xs = (i : ℕ) → IsItemReadAs (get_item i items) (slice_get xs i) (read i)
 
 -- some item, read at its index, has this fault, and each item before it is read
 pub record IsFirstRefused {A : Type 0} (read : ℕ → Data → Result A ReadFault) (items : Items) (fault : ReadFault) : Type 0 where
@@ -41,7 +41,7 @@ HasBadValue part members key = (d : Data) × (get_member key members ≡ Some d)
 abbrev pub StandsIn : Part → ℕ → Members → ReadFault → Type 0
 StandsIn part index _ NotToml = ⊥
 StandsIn part index members (Missing at) = (at.part ≡ part) × (at.index ≡ index) × (is_needed part at.key ≡ true) × (IsKey members at.key → ⊥)
-StandsIn part index members (BadValue at) = (at.part ≡ part) × (at.index ≡ index) × (is_known part at.key ≡ true) × HasBadValue part members at.key
+StandsIn part index members (BadValue at) = (at.part ≡ part) × (at.index ≡ index) × (is_known_key part at.key ≡ true) × HasBadValue part members at.key
 StandsIn part index members (UnknownKey at) = (at.part ≡ part) × (at.index ≡ index) × IsLeastUnknown part members at.key
 StandsIn part index members (Improper rule field) = (part ≡ Rule) × (rule ≡ index) × IsKey members (field_key field)
 StandsIn part index members (Refused fault) = (part ≡ Rule) × (fault ≡ UnknownSlice index) × (IsKey members (codes "write") ⊎ IsKey members (codes "read"))

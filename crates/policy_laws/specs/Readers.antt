@@ -14,8 +14,8 @@ with_writer None readers = readers
 with_writer (Some writer) readers = writer ∷ readers
 
 -- the names in a rule
-abbrev pub names_in : RuleText → List (List ℕ)
-names_in said = with_writer said.write said.read
+abbrev pub names_of_rule : RuleText → List (List ℕ)
+names_of_rule said = with_writer said.write said.read
 
 -- some of the names is that of no slice
 abbrev pub NamesNoSlice : List Slice → List (List ℕ) → Type 0

@@ -13,8 +13,8 @@ ghost use Rattle.flowspace.specs.declared.fault.Field.TheVariants.{Read};
 ghost use Rattle.policy_text.specs.declared.fault.ReadFault.TheVariants.{Improper, Refused, UnknownKey};
 ghost use Rattle.policy_text.specs.Keys.{AreKnown, IsLeastUnknown};
 ghost use Rattle.policy_laws.specs.Firsts.{AreReadAs, IsFirstRefused, StandsIn};
-ghost use Rattle.policy_text.specs.Reading.{SectionView, place_of, known_keys};
-ghost use Rattle.policy_laws.specs.Readers.{IsNamedSlot, NamesNoSlice, NamesSlices, NamesTwice, names_in};
+ghost use Rattle.policy_text.specs.Reading.{SectionView, key_place, known_keys};
+ghost use Rattle.policy_laws.specs.Readers.{IsNamedSlot, NamesNoSlice, NamesSlices, NamesTwice, names_of_rule};
 ghost use Rattle.policy_text.specs.Rules.{bits_below, RuleText, rule_from, rule_of, rules_from, slot_of, slots_of};
 ghost use Rattle.policy_text.specs.Slices.{slice_of, slices_from};
 
@@ -36,7 +36,7 @@ pub fn refused_rule_is_the_first()
 /// which there is no other.
 pub fn named_key_is_the_least_unknown()
     ensures known { (this : SectionView) → (known_keys this ≡ Ok tt) ↔ AreKnown this.part this.members }
-    ensures unknown { (this : SectionView) (key : List ℕ) → (known_keys this ≡ Err (UnknownKey (place_of this key))) ↔ IsLeastUnknown this.part this.members key }
+    ensures unknown { (this : SectionView) (key : List ℕ) → (known_keys this ≡ Err (UnknownKey (key_place this key))) ↔ IsLeastUnknown this.part this.members key }
 {}
 
 /// A fault that the table of a slice or of a rule has names this table, with its index, and a key: one
@@ -62,6 +62,6 @@ pub fn readers_are_the_named_slots()
 /// where all its names are slices' and two under `read` are of one slot.
 pub fn names_are_of_slices()
     ensures slots { (slices : List Slice) (index : ℕ) (names : List (List ℕ)) (slots : List ℕ) → (slots_of slices index names ≡ Ok slots) ↔ (map (slot_of slices) names ≡ map Some slots) }
-    ensures missing { (slices : List Slice) (index : ℕ) (said : RuleText) → (rule_from slices index said ≡ Err (Refused (UnknownSlice index))) ↔ NamesNoSlice slices (names_in said) }
-    ensures repeated { (slices : List Slice) (index : ℕ) (said : RuleText) → (rule_from slices index said ≡ Err (Improper index Read)) ↔ (NamesSlices slices (names_in said) × NamesTwice slices said.read) }
+    ensures missing { (slices : List Slice) (index : ℕ) (said : RuleText) → (rule_from slices index said ≡ Err (Refused (UnknownSlice index))) ↔ NamesNoSlice slices (names_of_rule said) }
+    ensures repeated { (slices : List Slice) (index : ℕ) (said : RuleText) → (rule_from slices index said ≡ Err (Improper index Read)) ↔ (NamesSlices slices (names_of_rule said) × NamesTwice slices said.read) }
 {}

@@ -14,9 +14,9 @@ use Rattle.policy_text.specs.declared.values.Texts.TheVariants.{Name, Controller
 use Rattle.of10_model.specs.Results.{◌>>=◌}
 use Rattle.policy_text.specs.Keys.{IsKey, IsLeastUnknown, is_needed, has_form}
 use Rattle.policy_text.specs.Places.{field_key}
-use Rattle.policy_text.specs.Reading.{SectionView, place_of, is_known, least, unknown_keys, no_unknown, known_keys, formed, demanded, allowed, required, optional, number, numeral, addresses, text, text_list}
-use Rattle.policy_text.specs.Slices.{slice_section, slice_in}
-use Rattle.policy_text.specs.Rules.{link_in, pattern_in, slot_of, named, writer_of, slots_of, are_different, no_improper, proper, RuleText, names_under, rule_text_in, rule_from, rule_section, rule_in}
+use Rattle.policy_text.specs.Reading.{SectionView, key_place, is_known_key, least_text, unknown_keys, no_unknown, known_keys, value_formed, demanded, allowed, required, optional, number, numeral, addresses, text, text_list}
+use Rattle.policy_text.specs.Slices.{slice_section, slice_of_table}
+use Rattle.policy_text.specs.Rules.{link_in, pattern_in, slot_of, slot_named, writer_slot, slots_of, are_different, no_improper, proper, RuleText, names_under, rule_text_in, rule_from, rule_section, rule_in}
 use Rattle.policy_text.proofs.Keys.{not_there, IsFor, for_any, TextThere, text_there, same_slots_there, improper_there}
 use Rattle.policy_text.proofs.LeastUnknown.{IsNamed, named as named_least}
 
@@ -34,31 +34,31 @@ bind_has_after P (Err fault) f own more = own
 
 -- a fault of the value under a key, where it isn't of this form, is of this kind
 abbrev pub OfValue : (ReadFault → Type 0) → SectionView → List ℕ → (Data → Bool) → Type 0
-OfValue P this key form = (d : Data) → get_member key this.members ≡ Some d → form d ≡ false → P (BadValue (place_of this key))
+OfValue P this key form = (d : Data) → get_member key this.members ≡ Some d → form d ≡ false → P (BadValue (key_place this key))
 
 -- a fault for want of a key is of this kind
 abbrev pub OfMissing : (ReadFault → Type 0) → SectionView → List ℕ → Type 0
-OfMissing P this key = (IsKey this.members key → ⊥) → P (Missing (place_of this key))
+OfMissing P this key = (IsKey this.members key → ⊥) → P (Missing (key_place this key))
 
 -- each fault of a table's keys is of this kind
 pub record OfKeys (P : ReadFault → Type 0) (this : SectionView) : Type 0 where
   pub needed : (key : List ℕ) → is_needed this.part key ≡ true → OfMissing P this key
-  pub known : (key : List ℕ) → is_known this.part key ≡ true → OfValue P this key (has_form this.part key)
-  pub unknown : (key : List ℕ) → IsLeastUnknown this.part this.members key → P (UnknownKey (place_of this key))
+  pub known : (key : List ℕ) → is_known_key this.part key ≡ true → OfValue P this key (has_form this.part key)
+  pub unknown : (key : List ℕ) → IsLeastUnknown this.part this.members key → P (UnknownKey (key_place this key))
 
-formed_has : (P : ReadFault → Type 0) {A : Type 0} (at : Place) (o : Option A) → (is_some o ≡ false → P (BadValue at)) → Has P (formed at o)
+formed_has : (P : ReadFault → Type 0) {A : Type 0} (at : Place) (o : Option A) → (is_some o ≡ false → P (BadValue at)) → Has P (value_formed at o)
 formed_has P at None bad = bad refl
 formed_has P at (Some x) bad = tt
 
 demanded_has : (P : ReadFault → Type 0) {A : Type 0} (read : Data → Option A) (this : SectionView) (key : List ℕ) (o : Option Data) → get_member key this.members ≡ o → OfMissing P this key → OfValue P this key (λ d. is_some (read d))
-    → Has P (demanded read (place_of this key) o)
+    → Has P (demanded read (key_place this key) o)
 demanded_has P read this key None e m h = m (not_there key this.members e)
-demanded_has P read this key (Some d) e m h = formed_has P (place_of this key) (read d) (h d e)
+demanded_has P read this key (Some d) e m h = formed_has P (key_place this key) (read d) (h d e)
 
 allowed_has : (P : ReadFault → Type 0) {A : Type 0} (read : Data → Option A) (this : SectionView) (key : List ℕ) (o : Option Data) → get_member key this.members ≡ o → OfValue P this key (λ d. is_some (read d))
-    → Has P (allowed read (place_of this key) o)
+    → Has P (allowed read (key_place this key) o)
 allowed_has P read this key None e h = tt
-allowed_has P read this key (Some d) e h = bind_has P (formed (place_of this key) (read d)) (λ x. Ok (Some x)) (formed_has P (place_of this key) (read d) (h d e)) (λ x. tt)
+allowed_has P read this key (Some d) e h = bind_has P (value_formed (key_place this key) (read d)) (λ x. Ok (Some x)) (formed_has P (key_place this key) (read d) (h d e)) (λ x. tt)
 
 pub required_has : (P : ReadFault → Type 0) {A : Type 0} (read : Data → Option A) (this : SectionView) (key : List ℕ) → OfMissing P this key → OfValue P this key (λ d. is_some (read d)) → Has P (required read this key)
 required_has P read this key m h = demanded_has P read this key (get_member key this.members) refl m h
@@ -71,12 +71,12 @@ no_unknown_has P this None n h = tt
 no_unknown_has P this (Some key) n h = h.unknown key n
 
 pub known_has : (P : ReadFault → Type 0) (this : SectionView) → OfKeys P this → Has P (known_keys this)
-known_has P this h = no_unknown_has P this (least (unknown_keys this.part this.members)) (named_least this.part this.members) h
+known_has P this h = no_unknown_has P this (least_text (unknown_keys this.part this.members)) (named_least this.part this.members) h
 
 -- ---- slices
 
-pub slice_has : (P : ReadFault → Type 0) (index : ℕ) (ms : Members) → OfKeys P (slice_section index ms) → Has P (slice_in (slice_section index ms))
-unfolding slice_in
+pub slice_has : (P : ReadFault → Type 0) (index : ℕ) (ms : Members) → OfKeys P (slice_section index ms) → Has P (slice_of_table (slice_section index ms))
+unfolding slice_of_table
 slice_has P index ms h =
     let this = slice_section index ms in
     bind_has P (known_keys this) _ (known_has P this h) (λ _.
@@ -127,18 +127,18 @@ pub record OfRule (P : ReadFault → Type 0) (index : ℕ) (ms : Members) : Type
   pub no_slice : IsKey ms (codes "write") ⊎ IsKey ms (codes "read") → P (Refused (UnknownSlice index))
   pub improper : (field : Field) → IsKey ms (field_key field) → P (Improper index field)
 
-named_has : (P : ReadFault → Type 0) (index : ℕ) (o : Option ℕ) → P (Refused (UnknownSlice index)) → Has P (named index o)
+named_has : (P : ReadFault → Type 0) (index : ℕ) (o : Option ℕ) → P (Refused (UnknownSlice index)) → Has P (slot_named index o)
 named_has P index None no_slice = no_slice
 named_has P index (Some slot) no_slice = tt
 
-writer_has : (P : ReadFault → Type 0) (slices : List Slice) (index : ℕ) (ms : Members) (o : Option (List ℕ)) → OfRule P index ms → (is_some o ≡ true → IsKey ms (codes "write")) → Has P (writer_of slices index o)
+writer_has : (P : ReadFault → Type 0) (slices : List Slice) (index : ℕ) (ms : Members) (o : Option (List ℕ)) → OfRule P index ms → (is_some o ≡ true → IsKey ms (codes "write")) → Has P (writer_slot slices index o)
 writer_has P slices index ms None h there = tt
-writer_has P slices index ms (Some name) h there = bind_has P (named index (slot_of slices name)) _ (named_has P index (slot_of slices name) (h.no_slice (inl (there refl)))) (λ _. tt)
+writer_has P slices index ms (Some name) h there = bind_has P (slot_named index (slot_of slices name)) _ (named_has P index (slot_of slices name) (h.no_slice (inl (there refl)))) (λ _. tt)
 
 slots_has : (P : ReadFault → Type 0) (slices : List Slice) (index : ℕ) (ms : Members) (names : List (List ℕ)) → OfRule P index ms → IsFor names (IsKey ms (codes "read")) → Has P (slots_of slices index names)
 slots_has P slices index ms [] h there = tt
 slots_has P slices index ms (name ∷ names) h there =
-    bind_has P (named index (slot_of slices name)) _ (named_has P index (slot_of slices name) (h.no_slice (inr there))) (λ _.
+    bind_has P (slot_named index (slot_of slices name)) _ (named_has P index (slot_of slices name) (h.no_slice (inr there))) (λ _.
     bind_has P (slots_of slices index names) _ (slots_has P slices index ms names h (for_any names (IsKey ms (codes "read")) there)) (λ _. tt))
 
 no_improper_has : (P : ReadFault → Type 0) (index : ℕ) (ms : Members) (o : Option Field) → OfRule P index ms → IfSome o (λ field. IsKey ms (field_key field)) → Has P (no_improper index o)
@@ -152,7 +152,7 @@ either_there ms false o other same fields = same refl
 from_has : (P : ReadFault → Type 0) (slices : List Slice) (index : ℕ) (ms : Members) (t : RuleText) → OfRule P index ms → TextThere ms t → Has P (rule_from slices index t)
 unfolding rule_from
 from_has P slices index ms t h there =
-    bind_has P (writer_of slices index t.write) _ (writer_has P slices index ms t.write h there.write) (λ _.
+    bind_has P (writer_slot slices index t.write) _ (writer_has P slices index ms t.write h there.write) (λ _.
     bind_has_after P (slots_of slices index t.read) _ (slots_has P slices index ms t.read h there.read) (λ slots e.
     bind_has P (proper index slots t.pattern) _
     (no_improper_has P index ms _ h (either_there ms (are_different slots) (first_improper t.pattern) _ (λ same. same_slots_there slices index t.read slots (IsKey ms (codes "read")) e same there.read) (improper_there ms t.pattern there.pattern)))

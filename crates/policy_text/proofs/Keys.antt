@@ -17,7 +17,7 @@ use Rattle.policy_text.specs.declared.values.Numbers.TheVariants.{UpTo, Service}
 use Rattle.policy_text.specs.declared.values.Texts.TheVariants.{Any}
 use Rattle.policy_text.specs.Keys.{IsKey}
 use Rattle.policy_text.specs.Places.{field_key}
-use Rattle.policy_text.specs.Reading.{SectionView, place_of, allowed, optional, number, addresses, text, text_list}
+use Rattle.policy_text.specs.Reading.{SectionView, key_place, allowed, optional, number, addresses, text, text_list}
 use Rattle.policy_text.specs.Rules.{slots_of, are_different, RuleText, names_under, rule_text_in}
 use Rattle.policy_text.proofs.RuleParts.{PatternRead, pattern_read, rule_read}
 
@@ -52,7 +52,7 @@ not_there key (member other d rest) e (inr there) = not_there key rest (none_aft
 
 -- ---- a key under which a value was read is there
 
-allowed_there : {A : Type 0} (read : Data → Option A) (this : SectionView) (key : List ℕ) (o : Option Data) (y : Option A) → get_member key this.members ≡ o → allowed read (place_of this key) o ≡ Ok y → is_some y ≡ true → IsKey this.members key
+allowed_there : {A : Type 0} (read : Data → Option A) (this : SectionView) (key : List ℕ) (o : Option Data) (y : Option A) → get_member key this.members ≡ o → allowed read (key_place this key) o ≡ Ok y → is_some y ≡ true → IsKey this.members key
 allowed_there read this key None y at e some = let same = ok_is None y e in absurd cc
 allowed_there read this key (Some d) y at e some = is_there key this.members d at
 

@@ -14,7 +14,7 @@ use Rattle.policy_text.specs.declared.fault.Place.{Place}
 use Rattle.policy_text.specs.declared.fault.ReadFault.{ReadFault}
 use Rattle.policy_text.specs.declared.fault.ReadFault.TheVariants.{UnknownKey}
 use Rattle.policy_text.specs.Keys.{IsKey, AreKnown, IsLeastUnknown}
-use Rattle.policy_text.specs.Reading.{SectionView, place_of, is_known, unknown_keys, lesser, least, no_unknown, known_keys}
+use Rattle.policy_text.specs.Reading.{SectionView, key_place, is_known_key, unknown_keys, lesser_text, least_text, no_unknown, known_keys}
 
 abbrev below : List ℕ → List ℕ → Bool
 below a b = is_lt (slice_cmp nat_cmp a b)
@@ -38,22 +38,22 @@ abbrev pub IsNamed : Part → Members → Option (List ℕ) → Type 0
 IsNamed part ms None = AreKnown part ms
 IsNamed part ms (Some key) = IsLeastUnknown part ms key
 
-known_in_front : (part : Part) (key : List ℕ) (rest : Members) → is_known part key ≡ true → AreKnown part rest → (other : List ℕ) → (key ≡ other) ⊎ IsKey rest other → is_known part other ≡ true
-known_in_front part key rest known more other (inl e) = ap (is_known part) (sym e) ∙ known
+known_in_front : (part : Part) (key : List ℕ) (rest : Members) → is_known_key part key ≡ true → AreKnown part rest → (other : List ℕ) → (key ≡ other) ⊎ IsKey rest other → is_known_key part other ≡ true
+known_in_front part key rest known more other (inl e) = ap (is_known_key part) (sym e) ∙ known
 known_in_front part key rest known more other (inr there) = more other there
 
-named_known : (part : Part) (key : List ℕ) (d : Data) (rest : Members) (o : Option (List ℕ)) → is_known part key ≡ true → IsNamed part rest o → IsNamed part (member key d rest) o
+named_known : (part : Part) (key : List ℕ) (d : Data) (rest : Members) (o : Option (List ℕ)) → is_known_key part key ≡ true → IsNamed part rest o → IsNamed part (member key d rest) o
 named_known part key d rest None known n = λ other there. known_in_front part key rest known n other there
 named_known part key d rest (Some least_key) known n = record {
   is_there = inr n.is_there;
   unknown = n.unknown;
   least = λ other there unknown. elim there [
-    | inl e ↦ absurd (true≢false (sym known ∙ ap (is_known part) e ∙ unknown))
+    | inl e ↦ absurd (true≢false (sym known ∙ ap (is_known_key part) e ∙ unknown))
     | inr more ↦ n.least other more unknown
   ];
 }
 
-in_front : (part : Part) (key : List ℕ) (d : Data) (rest : Members) → is_known part key ≡ false → ((other : List ℕ) → IsKey rest other → is_known part other ≡ false → below other key ≡ false) → IsLeastUnknown part (member key d rest) key
+in_front : (part : Part) (key : List ℕ) (d : Data) (rest : Members) → is_known_key part key ≡ false → ((other : List ℕ) → IsKey rest other → is_known_key part other ≡ false → below other key ≡ false) → IsLeastUnknown part (member key d rest) key
 in_front part key d rest unknown h = record {
   is_there = inl refl;
   unknown = unknown;
@@ -73,7 +73,7 @@ further_on part key d rest least_key n less = record {
   ];
 }
 
-named_unknown : (part : Part) (key : List ℕ) (d : Data) (rest : Members) (o : Option (List ℕ)) → is_known part key ≡ false → IsNamed part rest o → IsLeastUnknown part (member key d rest) (lesser key o)
+named_unknown : (part : Part) (key : List ℕ) (d : Data) (rest : Members) (o : Option (List ℕ)) → is_known_key part key ≡ false → IsNamed part rest o → IsLeastUnknown part (member key d rest) (lesser_text key o)
 named_unknown part key d rest None unknown n =
     in_front part key d rest unknown (λ other there other_unknown. absurd (true≢false (sym (n other there) ∙ other_unknown)))
 named_unknown part key d rest (Some least_key) unknown n =
@@ -82,16 +82,16 @@ named_unknown part key d rest (Some least_key) unknown n =
       | inr not_less ↦ rw not_less (in_front part key d rest unknown (λ other there other_unknown. ranks.chain other least_key key (n.least other there other_unknown) not_less))
     ]
 
-pub named : (part : Part) (ms : Members) → IsNamed part ms (least (unknown_keys part ms))
+pub named : (part : Part) (ms : Members) → IsNamed part ms (least_text (unknown_keys part ms))
 named part no_members = λ key there. absurd there
 named part (member key d rest) =
-    elim (cases_Bool (is_known part key)) [
-      | inl known ↦ rw known (named_known part key d rest (least (unknown_keys part rest)) known (named part rest))
-      | inr unknown ↦ rw unknown (named_unknown part key d rest (least (unknown_keys part rest)) unknown (named part rest))
+    elim (cases_Bool (is_known_key part key)) [
+      | inl known ↦ rw known (named_known part key d rest (least_text (unknown_keys part rest)) known (named part rest))
+      | inr unknown ↦ rw unknown (named_unknown part key d rest (least_text (unknown_keys part rest)) unknown (named part rest))
     ]
 
 abbrev at_fault : SectionView → List ℕ → Result (Unit {0}) ReadFault
-at_fault this key = Err (UnknownKey (place_of this key))
+at_fault this key = Err (UnknownKey (key_place this key))
 
 abbrev unknown_key : Place → Result (Unit {0}) ReadFault
 unknown_key at = Err (UnknownKey at)
@@ -100,7 +100,7 @@ same_place : (a b : Place) → unknown_key a ≡ unknown_key b → a ≡ b
 same_place a b e = cc
 
 same_key : (this : SectionView) (a b : List ℕ) → at_fault this a ≡ at_fault this b → a ≡ b
-same_key this a b e = ap (λ (at : Place). at.key) (same_place (place_of this a) (place_of this b) e)
+same_key this a b e = ap (λ (at : Place). at.key) (same_place (key_place this a) (key_place this b) e)
 
 known_at : (this : SectionView) (o : Option (List ℕ)) → IsNamed this.part this.members o → (no_unknown this o ≡ Ok tt) ↔ AreKnown this.part this.members
 known_at this None n = (λ e. n, λ h. refl)
@@ -114,7 +114,7 @@ unknown_at this (Some other) key n = (
 )
 
 pub all_known : (this : SectionView) → (known_keys this ≡ Ok tt) ↔ AreKnown this.part this.members
-all_known this = known_at this (least (unknown_keys this.part this.members)) (named this.part this.members)
+all_known this = known_at this (least_text (unknown_keys this.part this.members)) (named this.part this.members)
 
-pub least_is_named : (this : SectionView) (key : List ℕ) → (known_keys this ≡ Err (UnknownKey (place_of this key))) ↔ IsLeastUnknown this.part this.members key
-least_is_named this key = unknown_at this (least (unknown_keys this.part this.members)) key (named this.part this.members)
+pub least_is_named : (this : SectionView) (key : List ℕ) → (known_keys this ≡ Err (UnknownKey (key_place this key))) ↔ IsLeastUnknown this.part this.members key
+least_is_named this key = unknown_at this (least_text (unknown_keys this.part this.members)) key (named this.part this.members)

@@ -10,7 +10,7 @@ use Rattle.toml.proofs.NodeLaws.{same_key-self, get_node-insert}
 use Rattle.toml.proofs.Turns.{at_key_new}
 use Rattle.toml.proofs.ReadLines.{run}
 use Rattle.policy_text.specs.declared.fault.Part.{Part}
-use Rattle.policy_text.specs.Reading.{is_known, unknown_keys}
+use Rattle.policy_text.specs.Reading.{is_known_key, unknown_keys}
 use Rattle.policy_text.specs.Printing.{Entry}
 use Rattle.policy_text.proofs.Keys.{equal_is}
 
@@ -77,10 +77,10 @@ known_head : (b : Bool) (key : List ℕ) (rest : List (List ℕ)) → cond b res
 known_head true key rest e = (refl, e)
 known_head false key rest e = absurd cc
 
-unknown_insert : (part : Part) (key : List ℕ) (x : Node) (ns : Nodes) → is_known part key ≡ true → unknown_keys part (close ns) ≡ [] → unknown_keys part (close (insert key x ns)) ≡ []
+unknown_insert : (part : Part) (key : List ℕ) (x : Node) (ns : Nodes) → is_known_key part key ≡ true → unknown_keys part (close ns) ≡ [] → unknown_keys part (close (insert key x ns)) ≡ []
 unknown_insert part key x no_nodes known none = rw known refl
 unknown_insert part key x (node l y ns) known none =
-    let (known_l, rest) = known_head (is_known part l) l (unknown_keys part (close ns)) none in
+    let (known_l, rest) = known_head (is_known_key part l) l (unknown_keys part (close ns)) none in
     elim (three (slice_cmp nat_cmp key l)) [
       | inl less ↦ rw (less, known, known_l) rest
       | inr more ↦ elim more [
@@ -166,15 +166,15 @@ get_entry key entries apart =
 -- each key is one that such a table may have
 abbrev pub all_known : Part → List Entry → Bool
 all_known part [] = true
-all_known part (entry ∷ rest) = is_known part entry.0 && all_known part rest
+all_known part (entry ∷ rest) = is_known_key part entry.0 && all_known part rest
 
 known_filled : (part : Part) (entries : List Entry) (ns : Nodes) → all_known part entries ≡ true → unknown_keys part (close ns) ≡ [] → unknown_keys part (close (filled entries ns)) ≡ []
 known_filled part [] ns known none = none
 known_filled part ((key, None) ∷ rest) ns known none =
-    let (here, more) = and_parts (is_known part key) (all_known part rest) known in
+    let (here, more) = and_parts (is_known_key part key) (all_known part rest) known in
     known_filled part rest ns more none
 known_filled part ((key, Some d) ∷ rest) ns known none =
-    let (here, more) = and_parts (is_known part key) (all_known part rest) known in
+    let (here, more) = and_parts (is_known_key part key) (all_known part rest) known in
     known_filled part rest (insert key (value d) ns) more (unknown_insert part key (value d) ns here none)
 
 pub known_entries : (part : Part) (entries : List Entry) → all_known part entries ≡ true → unknown_keys part (members_from entries) ≡ []

@@ -22,7 +22,7 @@ use Rattle.policy_text.specs.Slices.{slices_from}
 use Rattle.policy_text.specs.Rules.{rules_from}
 use Rattle.policy_text.specs.Documents.{top, parts_in, document_of, parts_of, loaded, policy_of}
 use Rattle.address_text.specs.Texts.{hex_text, hardware_text, prefix_text}
-use Rattle.policy_text.specs.Printing.{Entry, unless_default, slice_entries, number_value, text_value, name_at, names_in, names, own_entries, link_entries, network_entries, items_text, entry_text, entries_text, slice_text, rule_text, slices_text, rules_text, text_of, IsHeld}
+use Rattle.policy_text.specs.Printing.{Entry, unless_default, slice_entries, number_value, text_value, slice_name, names_in, names_array, entries_beside, link_entries, network_entries, items_text, entry_text, entries_text, slice_text, rule_text, slices_text, rules_text, text_of, IsRuleInRange}
 use Rattle.of10_model.proofs.Results.{bind_is}
 use Rattle.policy_text.proofs.PrintedNodes.{table_of, EachApart}
 use Rattle.policy_text.proofs.PrintedLines.{IsWritten, AreWritten, EachWritten, tables_text, document_text, said, parsed}
@@ -68,7 +68,7 @@ dateless : (texts : List (List ℕ)) → items_have_valid_dates (items_of (map s
 dateless [] = refl
 dateless (s ∷ texts) = dateless texts
 
-names_written : (texts : List (List ℕ)) → IfSome (names texts) IsWritten
+names_written : (texts : List (List ℕ)) → IfSome (names_array texts) IsWritten
 names_written [] = tt
 names_written (s ∷ texts) =
     let items = items_of (map string (s ∷ texts)) in
@@ -103,7 +103,7 @@ slice_written s plain = (
   ),
 )
 
-rule_written : (slices : List Slice) (r : Rule) → IsHeld r → AreWritten (rule_entries slices r)
+rule_written : (slices : List Slice) (r : Rule) → IsRuleInRange r → AreWritten (rule_entries slices r)
 unfolding key_text
 rule_written slices r held =
     let m = r.pattern in
@@ -115,7 +115,7 @@ rule_written slices r held =
         number_written r.priority (omega (arith, held.priority)),
         (
           refl,
-          texts_written (option_and_then (name_at slices) r.writer),
+          texts_written (option_and_then (slice_name slices) r.writer),
           (
             refl,
             names_written (names_in r.readers slices),
@@ -173,7 +173,7 @@ slices_written : (slices : List Slice) → AllByRecursion IsPlainSlice slices �
 slices_written [] plain = tt
 slices_written (s ∷ rest) plain = (slice_written s plain.0, slices_written rest plain.1)
 
-rules_written : (slices : List Slice) (rules : List Rule) → AllByRecursion IsHeld rules → EachWritten (map (rule_entries slices) rules)
+rules_written : (slices : List Slice) (rules : List Rule) → AllByRecursion IsRuleInRange rules → EachWritten (map (rule_entries slices) rules)
 rules_written slices [] held = tt
 rules_written slices (r ∷ rest) held = (rule_written slices r held.0, rules_written slices rest held.1)
 
@@ -201,7 +201,7 @@ slices_tables (s ∷ rest) =
 rule_table : (slices : List Slice) (r : Rule) → rule_text slices r ≡ codes "\n[[rule]]\n" ++ entries_text (rule_entries slices r)
 unfolding rule_text
 rule_table slices r =
-    let own = own_entries slices r in
+    let own = entries_beside slices r in
     let link = link_entries r.pattern in
     let network = network_entries r.pattern in
     ap (λ t. codes "\n[[rule]]\n" ++ t) (sym (entries_text-append own (link ++ network) ∙ ap (λ t. entries_text own ++ t) (entries_text-append link network)))
@@ -254,12 +254,12 @@ parts_back slice rest (rule ∷ others) plain known each =
 
 -- ---- the policy
 
-printable : (slices : List Slice) (rules : List Rule) → AllByRecursion IsPlainRule rules → AllByRecursion IsHeld rules → AllByRecursion (λ r. IfSome r.writer (λ w. w < length slices)) rules
+printable : (slices : List Slice) (rules : List Rule) → AllByRecursion IsPlainRule rules → AllByRecursion IsRuleInRange rules → AllByRecursion (λ r. IfSome r.writer (λ w. w < length slices)) rules
     → AllByRecursion (λ r. r.readers < 2 ^ length slices) rules → AllByRecursion (IsPrintable slices) rules
 printable slices [] a b c d = tt
 printable slices (r ∷ rest) a b c d = (record { plain = a.0; held = b.0; writer = c.0; readers = d.0 }, printable slices rest a.1 b.1 c.1 d.1)
 
-read_parts : (slices : List Slice) (rules : List Rule) → IsPolicy slices rules → AllByRecursion IsHeld rules
+read_parts : (slices : List Slice) (rules : List Rule) → IsPolicy slices rules → AllByRecursion IsRuleInRange rules
     → parts_of (parse_document (document_text (map slice_entries slices) (map (rule_entries slices) rules))) ≡ Ok (record { slices = slices; rules = rules })
 read_parts [] rules policy held = absurd (omega (arith, policy.proper.some_slice))
 read_parts (slice ∷ rest) rules policy held =
@@ -274,11 +274,11 @@ read_parts (slice ∷ rest) rules policy held =
 document_is : (text : List ℕ) → IsUtf8 text → document_of text ≡ parse_document text
 document_is text utf8 = rw (is_utf8-from_IsUtf8 text utf8) refl
 
-held_normal : (rules : List Rule) → AllByRecursion IsHeld rules → AllByRecursion (λ r. IsNormal r.pattern) rules
+held_normal : (rules : List Rule) → AllByRecursion IsRuleInRange rules → AllByRecursion (λ r. IsNormal r.pattern) rules
 held_normal [] held = tt
 held_normal (r ∷ rest) held = (held.0.normal, held_normal rest held.1)
 
-pub printed : (p : PolicyView) → IsPolicy p.slices p.rules → AllByRecursion IsHeld p.rules → IsUtf8 (text_of p) → policy_of (document_of (text_of p)) ≡ Ok p
+pub printed : (p : PolicyView) → IsPolicy p.slices p.rules → AllByRecursion IsRuleInRange p.rules → IsUtf8 (text_of p) → policy_of (document_of (text_of p)) ≡ Ok p
 printed p policy held utf8 =
     let proper = policy.proper in
     let read : parts_of (document_of (text_of p)) ≡ Ok p = ap parts_of (document_is (text_of p) utf8 ∙ ap parse_document (text_is p)) ∙ read_parts p.slices p.rules policy held in

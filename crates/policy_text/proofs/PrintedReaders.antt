@@ -11,8 +11,8 @@ use Rattle.std.proofs.lemmas.Bool.Decides.{nat_tests}
 use Rattle.std.proofs.lemmas.List.Sums.{position_or_len_is}
 use Rattle.std.proofs.lemmas.Nat.{mod-pow-add}
 use Rattle.flowspace.specs.declared.slices.Slice.{Slice}
-use Rattle.policy_text.specs.Rules.{slot_of, named, slots_of, are_different, bits_below}
-use Rattle.policy_text.specs.Printing.{name_at, names_in}
+use Rattle.policy_text.specs.Rules.{slot_of, slot_named, slots_of, are_different, bits_below}
+use Rattle.policy_text.specs.Printing.{slice_name, names_in}
 use Rattle.of10_model.specs.Normal.{bit}
 use Rattle.of10_model.proofs.Results.{bind_is}
 
@@ -42,7 +42,7 @@ slot_back slices i d differ within =
     (λ k before. bytes_eq-apart (get_or slices k d).name name (differ k i d before within))
     (bytes_eq-itself name)
 
-pub name_at_back : (slices : List Slice) (i : ℕ) (d : Slice) → i < length slices → name_at slices i ≡ Some (get_or slices i d).name
+pub name_at_back : (slices : List Slice) (i : ℕ) (d : Slice) → i < length slices → slice_name slices i ≡ Some (get_or slices i d).name
 name_at_back [] i d within = absurd (omega (arith, within))
 name_at_back (s ∷ slices) zero d within = refl
 name_at_back (s ∷ slices) (suc i) d within = name_at_back slices i d (omega (arith, within))
@@ -66,7 +66,7 @@ slots_back slices index slot bits (s ∷ rest) stand =
     let later : StandAt slices (suc slot) rest = λ j d lt. stand (suc j) d (omega (arith, lt)) ∙ ap Some (let same : slot + suc j ≡ suc slot + j = omega arith in same) in
     let others = slots_back slices index (suc slot) (bits / 2) rest later in
     elim (cases_Bool (bits % 2 == 1)) [
-      | inl set ↦ rw set (bind_is (named index (slot_of slices s.name)) _ slot _ (ap (named index) here) (bind_is (slots_of slices index (names_in (bits / 2) rest)) _ (slots_in (suc slot) (bits / 2) rest) _ others refl))
+      | inl set ↦ rw set (bind_is (slot_named index (slot_of slices s.name)) _ slot _ (ap (slot_named index) here) (bind_is (slots_of slices index (names_in (bits / 2) rest)) _ (slots_in (suc slot) (bits / 2) rest) _ others refl))
       | inr clear ↦ rw clear others
     ]
 

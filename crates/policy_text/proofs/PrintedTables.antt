@@ -23,11 +23,11 @@ use Rattle.policy_text.specs.declared.values.Numerals.TheVariants.{Datapath, Har
 use Rattle.policy_text.specs.declared.values.Texts.TheVariants.{Name, Controller, Any}
 use Rattle.of10_model.specs.Results.{◌>>=◌}
 use Rattle.of10_model.proofs.Results.{bind_is}
-use Rattle.policy_text.specs.Reading.{SectionView, place_of, least, no_unknown, known_keys, formed, demanded, allowed, required, optional, when, is_number, number, is_text, text, each_text, text_list, numeral, addresses, reads}
-use Rattle.policy_text.specs.Slices.{slice_in, slice_of, slices_from}
-use Rattle.policy_text.specs.Rules.{link_in, pattern_in, slot_of, named, writer_of, are_different, bits_below, no_improper, proper, RuleText, names_under, rule_text_in, rule_from, rule_in, rule_of, rules_from}
+use Rattle.policy_text.specs.Reading.{SectionView, key_place, least_text, no_unknown, known_keys, value_formed, demanded, allowed, required, optional, when, is_allowed_number, number, is_text, text, each_text, text_list, numeral, addresses, reads}
+use Rattle.policy_text.specs.Slices.{slice_of_table, slice_of, slices_from}
+use Rattle.policy_text.specs.Rules.{link_in, pattern_in, slot_of, slot_named, writer_slot, are_different, bits_below, no_improper, proper, RuleText, names_under, rule_text_in, rule_from, rule_in, rule_of, rules_from}
 use Rattle.address_text.specs.Texts.{hex_text, hardware_text, prefix_text}
-use Rattle.policy_text.specs.Printing.{Entry, unless_default, slice_entries, number_value, text_value, name_at, names_in, names, own_entries, link_entries, network_entries, IsHeld}
+use Rattle.policy_text.specs.Printing.{Entry, unless_default, slice_entries, number_value, text_value, slice_name, names_in, names_array, entries_beside, link_entries, network_entries, IsRuleInRange}
 use Rattle.policy_text.proofs.Sound.{rule_from_is}
 use Rattle.policy_text.proofs.PrintedNodes.{are_apart, found, members_from, get_entry, all_known, known_entries, table_of}
 use Rattle.policy_text.proofs.PrintedReaders.{slot_back, name_at_back, readers_back}
@@ -40,25 +40,25 @@ abbrev of_entries : Part → ℕ → List Entry → SectionView
 of_entries kind index entries = record { part = kind; index = index; members = members_from entries }
 
 known_back : (kind : Part) (index : ℕ) (entries : List Entry) → all_known kind entries ≡ true → known_keys (of_entries kind index entries) ≡ Ok tt
-known_back kind index entries known = ap (λ keys. no_unknown (of_entries kind index entries) (least keys)) (known_entries kind entries known)
+known_back kind index entries known = ap (λ keys. no_unknown (of_entries kind index entries) (least_text keys)) (known_entries kind entries known)
 
 optional_back : {A : Type 0} (kind : Part) (index : ℕ) (entries : List Entry) (read : Data → Option A) (key : List ℕ) (r : Result (Option A) ReadFault) → are_apart entries ≡ true
-    → allowed read (place_of (of_entries kind index entries) key) (found key entries) ≡ r → optional read (of_entries kind index entries) key ≡ r
-optional_back kind index entries read key r apart e = ap (allowed read (place_of (of_entries kind index entries) key)) (get_entry key entries apart) ∙ e
+    → allowed read (key_place (of_entries kind index entries) key) (found key entries) ≡ r → optional read (of_entries kind index entries) key ≡ r
+optional_back kind index entries read key r apart e = ap (allowed read (key_place (of_entries kind index entries) key)) (get_entry key entries apart) ∙ e
 
 required_back : {A : Type 0} (kind : Part) (index : ℕ) (entries : List Entry) (read : Data → Option A) (key : List ℕ) (r : Result A ReadFault) → are_apart entries ≡ true
-    → demanded read (place_of (of_entries kind index entries) key) (found key entries) ≡ r → required read (of_entries kind index entries) key ≡ r
-required_back kind index entries read key r apart e = ap (demanded read (place_of (of_entries kind index entries) key)) (get_entry key entries apart) ∙ e
+    → demanded read (key_place (of_entries kind index entries) key) (found key entries) ≡ r → required read (of_entries kind index entries) key ≡ r
+required_back kind index entries read key r apart e = ap (demanded read (key_place (of_entries kind index entries) key)) (get_entry key entries apart) ∙ e
 
 -- ---- one value
 
-formed_back : {A : Type 0} (at : Place) (o : Option A) (x : A) → o ≡ Some x → formed at o ≡ Ok x
-formed_back at o x e = ap (formed at) e
+formed_back : {A : Type 0} (at : Place) (o : Option A) (x : A) → o ≡ Some x → value_formed at o ≡ Ok x
+formed_back at o x e = ap (value_formed at) e
 
 when_back : {A : Type 0} (b : Bool) (x : A) → b ≡ true → when b x ≡ Some x
 when_back b x e = rw e refl
 
-number_back : (numbers : Numbers) (at : Place) (o : Option ℕ) → IfSome o (λ n. is_number numbers n ≡ true) → allowed (number numbers) at (number_value o) ≡ Ok o
+number_back : (numbers : Numbers) (at : Place) (o : Option ℕ) → IfSome o (λ n. is_allowed_number numbers n ≡ true) → allowed (number numbers) at (number_value o) ≡ Ok o
 number_back numbers at None h = refl
 number_back numbers at (Some n) h = rw h refl
 
@@ -72,7 +72,7 @@ record DefaultBack (numbers : Numbers) (at : Place) (default n : ℕ) : Type 0 w
   pub is : allowed (number numbers) at (unless_default default n) ≡ Ok read
   pub value : unwrap_or read default ≡ n
 
-default_back : (numbers : Numbers) (at : Place) (default n : ℕ) → is_number numbers n ≡ true → DefaultBack numbers at default n
+default_back : (numbers : Numbers) (at : Place) (default n : ℕ) → is_allowed_number numbers n ≡ true → DefaultBack numbers at default n
 default_back numbers at default n allows =
     elim (cases_Bool (n == default)) [
       | inl same ↦ record { read = None; is = rw same refl; value = sym (eqb-true n default same) }
@@ -81,7 +81,7 @@ default_back numbers at default n allows =
 
 -- ---- slices
 
-between : (low high n : ℕ) → low ≤ n → n ≤ high → is_number (Between low high) n ≡ true
+between : (low high n : ℕ) → low ≤ n → n ≤ high → is_allowed_number (Between low high) n ≡ true
 between low high n a b = rw (le-leb low n a, le-leb n high b) refl
 
 name_is : (s : Slice) → IsPlainSlice s → is_text Name s.name ≡ true
@@ -94,14 +94,14 @@ slice_same : (s : Slice) (rate burst quota : ℕ) → rate ≡ s.rate → burst 
     → (let t : Slice = record { name = s.name; controller = s.controller; rate = rate; burst = burst; quota = quota } in t) ≡ s
 slice_same s rate burst quota a b c = rw (a, b, c) refl
 
-slice_back : (index : ℕ) (s : Slice) → IsPlainSlice s → slice_in (of_entries part.Slice index (slice_entries s)) ≡ Ok s
-unfolding slice_in
+slice_back : (index : ℕ) (s : Slice) → IsPlainSlice s → slice_of_table (of_entries part.Slice index (slice_entries s)) ≡ Ok s
+unfolding slice_of_table
 slice_back index s plain =
     let entries = slice_entries s in
     let this = of_entries part.Slice index entries in
-    let rate = default_back (Between 1 1000000) (place_of this (codes "rate")) 1000 s.rate (between 1 1000000 s.rate plain.rate_some plain.rate_limit) in
-    let burst = default_back (Between 1 1000000) (place_of this (codes "burst")) 1000 s.burst (between 1 1000000 s.burst plain.burst_some plain.burst_limit) in
-    let quota = default_back (UpTo 4096) (place_of this (codes "quota")) 1024 s.quota (le-leb s.quota 4096 plain.quota_limit) in
+    let rate = default_back (Between 1 1000000) (key_place this (codes "rate")) 1000 s.rate (between 1 1000000 s.rate plain.rate_some plain.rate_limit) in
+    let burst = default_back (Between 1 1000000) (key_place this (codes "burst")) 1000 s.burst (between 1 1000000 s.burst plain.burst_some plain.burst_limit) in
+    let quota = default_back (UpTo 4096) (key_place this (codes "quota")) 1024 s.quota (le-leb s.quota 4096 plain.quota_limit) in
     bind_is (known_keys this) _ tt _ (known_back part.Slice index entries refl)
     (bind_is (required (text Name) this (codes "name")) _ s.name _ (required_back part.Slice index entries (text Name) (codes "name") (Ok s.name) refl (formed_back _ _ s.name (when_back (is_text Name s.name) s.name (name_is s plain))))
     (bind_is (required (text Controller) this (codes "controller")) _ s.controller _ (required_back part.Slice index entries (text Controller) (codes "controller") (Ok s.controller) refl (formed_back _ _ s.controller (when_back (is_text Controller s.controller) s.controller (controller_is s plain))))
@@ -114,22 +114,22 @@ slice_back index s plain =
 
 -- all entries of a rule
 abbrev pub rule_entries : List Slice → Rule → List Entry
-rule_entries slices r = own_entries slices r ++ (link_entries r.pattern ++ network_entries r.pattern)
+rule_entries slices r = entries_beside slices r ++ (link_entries r.pattern ++ network_entries r.pattern)
 
-port_allowed : (o : Option ℕ) → IfSome o IsInPort → IfSome o (λ n. is_number InPort n ≡ true)
+port_allowed : (o : Option ℕ) → IfSome o IsInPort → IfSome o (λ n. is_allowed_number InPort n ≡ true)
 port_allowed None h = tt
 port_allowed (Some n) h = is_in_port-IsInPort n h
 
-vlan_allowed : (o : Option ℕ) → IfSome o IsVlan → IfSome o (λ n. is_number Vlan n ≡ true)
+vlan_allowed : (o : Option ℕ) → IfSome o IsVlan → IfSome o (λ n. is_allowed_number Vlan n ≡ true)
 vlan_allowed None h = tt
 vlan_allowed (Some n) (inl low) = rw (le-leb n 4095 low) refl
 vlan_allowed (Some n) (inr mark) = rw mark refl
 
-below_allowed : (high limit : ℕ) → limit ≡ suc high → (o : Option ℕ) → IsBelow limit o → IfSome o (λ n. is_number (UpTo high) n ≡ true)
+below_allowed : (high limit : ℕ) → limit ≡ suc high → (o : Option ℕ) → IsBelow limit o → IfSome o (λ n. is_allowed_number (UpTo high) n ≡ true)
 below_allowed high limit e None h = tt
 below_allowed high limit e (Some n) h = le-leb n high (omega (arith, h, e))
 
-service_allowed : (o : Option ℕ) → IsService o → IfSome o (λ n. is_number Service n ≡ true)
+service_allowed : (o : Option ℕ) → IsService o → IfSome o (λ n. is_allowed_number Service n ≡ true)
 service_allowed None h = tt
 service_allowed (Some n) h =
     let few : n ≤ 252 = omega (arith, h.0, h.1) in
@@ -147,20 +147,20 @@ switch_allowed : (o : Option ℕ) → IfSome o (λ n. n < 2 ^ 64) → IfSome o (
 switch_allowed None h = tt
 switch_allowed (Some n) h = datapath_back n h
 
-module _ (slices : List Slice) (index : ℕ) (r : Rule) (plain : IsPlainRule r) (held : IsHeld r) where
+module _ (slices : List Slice) (index : ℕ) (r : Rule) (plain : IsPlainRule r) (held : IsRuleInRange r) where
   entries : List Entry
   entries = rule_entries slices r
 
   this : SectionView
   this = of_entries part.Rule index entries
 
-  number_read : (numbers : Numbers) (key : List ℕ) (o : Option ℕ) → found key entries ≡ number_value o → IfSome o (λ n. is_number numbers n ≡ true) → optional (number numbers) this key ≡ Ok o
+  number_read : (numbers : Numbers) (key : List ℕ) (o : Option ℕ) → found key entries ≡ number_value o → IfSome o (λ n. is_allowed_number numbers n ≡ true) → optional (number numbers) this key ≡ Ok o
   unfolding this entries
-  number_read numbers key o at h = optional_back part.Rule index (rule_entries slices r) (number numbers) key (Ok o) refl (ap (allowed (number numbers) (place_of this key)) at ∙ number_back numbers (place_of this key) o h)
+  number_read numbers key o at h = optional_back part.Rule index (rule_entries slices r) (number numbers) key (Ok o) refl (ap (allowed (number numbers) (key_place this key)) at ∙ number_back numbers (key_place this key) o h)
 
   text_read : {A : Type 0} (read : Data → Option A) (spell : A → List ℕ) (key : List ℕ) (o : Option A) → found key entries ≡ text_value (option_map spell o) → IfSome o (λ x. read (string (spell x)) ≡ Some x) → optional read this key ≡ Ok o
   unfolding this entries
-  text_read read spell key o at h = optional_back part.Rule index (rule_entries slices r) read key (Ok o) refl (ap (allowed read (place_of this key)) at ∙ text_back read spell (place_of this key) o h)
+  text_read read spell key o at h = optional_back part.Rule index (rule_entries slices r) read key (Ok o) refl (ap (allowed read (key_place this key)) at ∙ text_back read spell (key_place this key) o h)
 
   link_read : link_in this ≡ Ok (record { in_port = r.pattern.in_port; dl_src = r.pattern.dl_src; dl_dst = r.pattern.dl_dst; dl_vlan = r.pattern.dl_vlan; dl_vlan_pcp = r.pattern.dl_vlan_pcp; dl_type = r.pattern.dl_type })
   unfolding link_in entries
@@ -193,14 +193,14 @@ each_back : (texts : List (List ℕ)) → each_text (items_of (map string texts)
 each_back [] = refl
 each_back (s ∷ texts) = rw (each_back texts) refl
 
-names_back : (at : Place) (texts : List (List ℕ)) → (allowed text_list at (names texts) >>= (λ o. Ok (unwrap_or o []))) ≡ Ok texts
+names_back : (at : Place) (texts : List (List ℕ)) → (allowed text_list at (names_array texts) >>= (λ o. Ok (unwrap_or o []))) ≡ Ok texts
 names_back at [] = refl
 names_back at (s ∷ texts) = rw (each_back texts) refl
 
-names_read : (kind : Part) (index : ℕ) (entries : List Entry) (key : List ℕ) (texts : List (List ℕ)) → are_apart entries ≡ true → found key entries ≡ names texts → names_under (of_entries kind index entries) key ≡ Ok texts
+names_read : (kind : Part) (index : ℕ) (entries : List Entry) (key : List ℕ) (texts : List (List ℕ)) → are_apart entries ≡ true → found key entries ≡ names_array texts → names_under (of_entries kind index entries) key ≡ Ok texts
 names_read kind index entries key texts apart at =
     let this = of_entries kind index entries in
-    ap (λ d. allowed text_list (place_of this key) d >>= (λ o. Ok (unwrap_or o []))) (get_entry key entries apart ∙ at) ∙ names_back (place_of this key) texts
+    ap (λ d. allowed text_list (key_place this key) d >>= (λ o. Ok (unwrap_or o []))) (get_entry key entries apart ∙ at) ∙ names_back (key_place this key) texts
 
 any_back : (at : Place) (o : Option (List ℕ)) → allowed (text Any) at (text_value o) ≡ Ok o
 any_back at None = refl
@@ -211,15 +211,15 @@ pub record AreNamed (slices : List Slice) : Type 0 where
   pub few : length slices ≤ 32
   pub differ : AllPairs (λ s t. s.name ≢ t.name) slices
 
-writer_back : (slices : List Slice) (index : ℕ) (o : Option ℕ) → AreNamed slices → IfSome o (λ w. w < length slices) → writer_of slices index (option_and_then (name_at slices) o) ≡ Ok o
+writer_back : (slices : List Slice) (index : ℕ) (o : Option ℕ) → AreNamed slices → IfSome o (λ w. w < length slices) → writer_slot slices index (option_and_then (slice_name slices) o) ≡ Ok o
 writer_back slices index None known h = refl
 writer_back [] index (Some w) known h = absurd (omega (arith, h))
 writer_back (s ∷ rest) index (Some w) known h =
     let slices = s ∷ rest in
     let name = (get_or slices w s).name in
     let small : w % 256 ≡ w = omega (arith, h, known.few) in
-    let here : named index (slot_of slices name) ≡ Ok w = ap (named index) (slot_back slices w s known.differ h) in
-    ap (writer_of slices index) (name_at_back slices w s h) ∙ bind_is (named index (slot_of slices name)) _ w _ here (ap (λ x. Ok (Some x)) small)
+    let here : slot_named index (slot_of slices name) ≡ Ok w = ap (slot_named index) (slot_back slices w s known.differ h) in
+    ap (writer_slot slices index) (name_at_back slices w s h) ∙ bind_is (slot_named index (slot_of slices name)) _ w _ here (ap (λ x. Ok (Some x)) small)
 
 -- ---- no improper field
 
@@ -228,27 +228,27 @@ proper_back index slots r plain different = rw different (ap (no_improper index)
 
 -- ---- the rule
 
-rule_text_read : (slices : List Slice) (index : ℕ) (r : Rule) → IsPlainRule r → IsHeld r
-    → rule_text_in (of_entries part.Rule index (rule_entries slices r)) ≡ Ok (record { switch = r.switch; priority = r.priority; write = option_and_then (name_at slices) r.writer; read = names_in r.readers slices; pattern = r.pattern })
+rule_text_read : (slices : List Slice) (index : ℕ) (r : Rule) → IsPlainRule r → IsRuleInRange r
+    → rule_text_in (of_entries part.Rule index (rule_entries slices r)) ≡ Ok (record { switch = r.switch; priority = r.priority; write = option_and_then (slice_name slices) r.writer; read = names_in r.readers slices; pattern = r.pattern })
 unfolding rule_text_in this entries
 rule_text_read slices index r plain held =
     let all = rule_entries slices r in
     let at = of_entries part.Rule index all in
     bind_is (known_keys at) _ tt _ (known_back part.Rule index all refl)
-    (bind_is (optional (numeral Datapath) at (codes "switch")) _ r.switch _ (optional_back part.Rule index all (numeral Datapath) (codes "switch") (Ok r.switch) refl (text_back (numeral Datapath) (hex_text 16) (place_of at (codes "switch")) r.switch (switch_allowed r.switch held.switch)))
-    (bind_is (required (number (UpTo 0xffffffff)) at (codes "priority")) _ r.priority _ (required_back part.Rule index all (number (UpTo 0xffffffff)) (codes "priority") (Ok r.priority) refl (formed_back _ _ r.priority (when_back (is_number (UpTo 0xffffffff) r.priority) r.priority (le-leb r.priority 0xffffffff (omega (arith, held.priority))))))
-    (bind_is (optional (text Any) at (codes "write")) _ (option_and_then (name_at slices) r.writer) _ (optional_back part.Rule index all (text Any) (codes "write") (Ok (option_and_then (name_at slices) r.writer)) refl (any_back (place_of at (codes "write")) (option_and_then (name_at slices) r.writer)))
+    (bind_is (optional (numeral Datapath) at (codes "switch")) _ r.switch _ (optional_back part.Rule index all (numeral Datapath) (codes "switch") (Ok r.switch) refl (text_back (numeral Datapath) (hex_text 16) (key_place at (codes "switch")) r.switch (switch_allowed r.switch held.switch)))
+    (bind_is (required (number (UpTo 0xffffffff)) at (codes "priority")) _ r.priority _ (required_back part.Rule index all (number (UpTo 0xffffffff)) (codes "priority") (Ok r.priority) refl (formed_back _ _ r.priority (when_back (is_allowed_number (UpTo 0xffffffff) r.priority) r.priority (le-leb r.priority 0xffffffff (omega (arith, held.priority))))))
+    (bind_is (optional (text Any) at (codes "write")) _ (option_and_then (slice_name slices) r.writer) _ (optional_back part.Rule index all (text Any) (codes "write") (Ok (option_and_then (slice_name slices) r.writer)) refl (any_back (key_place at (codes "write")) (option_and_then (slice_name slices) r.writer)))
     (bind_is (names_under at (codes "read")) _ (names_in r.readers slices) _ (names_read part.Rule index all (codes "read") (names_in r.readers slices) refl refl)
     (bind_is (pattern_in at) _ r.pattern _ (pattern_read slices index r plain held) refl)))))
 
 rule_same : (r : Rule) (readers : ℕ) → readers ≡ r.readers → (let q : Rule = record { switch = r.switch; priority = r.priority; pattern = r.pattern; writer = r.writer; readers = readers } in q) ≡ r
 rule_same r readers e = rw e refl
 
-rule_back : (slices : List Slice) (index : ℕ) (r : Rule) → AreNamed slices → IsPlainRule r → IsHeld r → IfSome r.writer (λ w. w < length slices) → r.readers < 2 ^ length slices
+rule_back : (slices : List Slice) (index : ℕ) (r : Rule) → AreNamed slices → IsPlainRule r → IsRuleInRange r → IfSome r.writer (λ w. w < length slices) → r.readers < 2 ^ length slices
     → rule_in slices (of_entries part.Rule index (rule_entries slices r)) ≡ Ok r
 rule_back slices index r known plain held writer readers =
     let at = of_entries part.Rule index (rule_entries slices r) in
-    let said : RuleText = record { switch = r.switch; priority = r.priority; write = option_and_then (name_at slices) r.writer; read = names_in r.readers slices; pattern = r.pattern } in
+    let said : RuleText = record { switch = r.switch; priority = r.priority; write = option_and_then (slice_name slices) r.writer; read = names_in r.readers slices; pattern = r.pattern } in
     let back = readers_back slices index r.readers known.differ known.few readers in
     bind_is (rule_text_in at) (rule_from slices index) said _ (rule_text_read slices index r plain held)
     (rule_from_is slices index said r.writer back.slots tt (writer_back slices index r.writer known writer) back.found (proper_back index back.slots r plain back.different)
@@ -269,7 +269,7 @@ slices_back = reads_back slice_of slice_entries IsPlainSlice slice_back
 -- what holds of a rule that is printed
 pub record IsPrintable (slices : List Slice) (r : Rule) : Type 0 where
   pub plain : IsPlainRule r
-  pub held : IsHeld r
+  pub held : IsRuleInRange r
   pub writer : IfSome r.writer (λ w. w < length slices)
   pub readers : r.readers < 2 ^ length slices
 

@@ -8,7 +8,7 @@ use Rattle.policy_text.specs.declared.fault.ReadFault.{ReadFault}
 use Rattle.policy_text.specs.declared.fault.ReadFault.TheVariants.{NotToml, Missing, BadValue, UnknownKey, Improper, Refused, Memory}
 use Rattle.policy_text.specs.declared.values.Numbers.TheVariants.{Between}
 use Rattle.policy_text.specs.Keys.{has_form}
-use Rattle.policy_text.specs.Reading.{Gives, SectionView, known_keys, required, optional, number, tables, some_tables}
+use Rattle.policy_text.specs.Reading.{GivesAsText, SectionView, known_keys, required, optional, number, tables, some_tables}
 use Rattle.policy_text.specs.Slices.{slice_section, slice_of, slices_from}
 use Rattle.policy_text.specs.Rules.{rule_section, rule_of, rules_from}
 use Rattle.policy_text.specs.Documents.{parts_in}
@@ -59,7 +59,7 @@ parts_own this =
     bind_has IsOwn (slices_from 0 items) _ (reads_has IsOwn slice_of slice_of_own 0 items) (λ slices.
     bind_has IsOwn (rules_from slices 0 (unwrap_or others no_items)) _ (reads_has IsOwn (rule_of slices) (rule_of_own slices) 0 (unwrap_or others no_items)) (λ _. tt))))))
 
-given_own : {X : Type 0} (view : X → PolicyView) (r : Result X ReadFault) (read : Result PolicyView ReadFault) → Gives view r read → HasOwn read → HasOwn r
+given_own : {X : Type 0} (view : X → PolicyView) (r : Result X ReadFault) (read : Result PolicyView ReadFault) → GivesAsText view r read → HasOwn read → HasOwn r
 given_own view (Ok x) read given own = tt
 given_own view (Err NotToml) read given own = λ e. absurd cc
 given_own view (Err (Missing at)) read given own = λ e. absurd cc
@@ -70,5 +70,5 @@ given_own view (Err (Refused fault)) read given own = rw given at own
 given_own view (Err Memory) read given own = λ e. absurd cc
 
 -- what a call answers by a table's parts is no refusal for want of memory
-pub refused_own : {X : Type 0} (view : X → PolicyView) (r : Result X ReadFault) (this : SectionView) → Gives view r (parts_in this) → IfErr r (λ fault. fault ≢ Refused policy.Memory)
+pub refused_own : {X : Type 0} (view : X → PolicyView) (r : Result X ReadFault) (this : SectionView) → GivesAsText view r (parts_in this) → IfErr r (λ fault. fault ≢ Refused policy.Memory)
 refused_own view r this given = given_own view r (parts_in this) given (parts_own this)

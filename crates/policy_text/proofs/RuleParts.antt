@@ -6,7 +6,7 @@ use Rattle.policy_text.specs.declared.values.Numbers.TheVariants.{UpTo, InPort, 
 use Rattle.policy_text.specs.declared.values.Numerals.TheVariants.{Datapath, Hardware}
 use Rattle.policy_text.specs.declared.values.Texts.TheVariants.{Any}
 use Rattle.policy_text.specs.Reading.{SectionView, known_keys, required, optional, number, numeral, addresses, text}
-use Rattle.policy_text.specs.Rules.{LinkView, link_in, joined, pattern_in, RuleText, names_under, rule_text_in}
+use Rattle.policy_text.specs.Rules.{LinkView, link_in, joined_pattern, pattern_in, RuleText, names_under, rule_text_in}
 
 -- ---- the match
 
@@ -56,7 +56,7 @@ pattern_read this m e =
     let d = bind_ok (optional addresses this (codes "nw_dst")) _ m c.2 in
     let f = bind_ok (optional (number (UpTo 0xffff)) this (codes "tp_src")) _ m d.2 in
     let g = bind_ok (optional (number (UpTo 0xffff)) this (codes "tp_dst")) _ m f.2 in
-    let made : Pattern = joined link.0 a.0 b.0 c.0 d.0 f.0 g.0 in
+    let made : Pattern = joined_pattern link.0 a.0 b.0 c.0 d.0 f.0 g.0 in
     let read = link_read this link.0 link.1 in
     subst (PatternRead this) (ok_is made m g.2) (record {
       in_port = read.in_port;

@@ -17,8 +17,8 @@ use Rattle.flowspace.proofs.Naming.{name_parts, controller_parts}
 use Rattle.policy_text.specs.declared.values.Numbers.TheVariants.{UpTo, Between}
 use Rattle.policy_text.specs.declared.values.Texts.TheVariants.{Name, Controller}
 use Rattle.policy_text.specs.Reading.{SectionView, known_keys, required, optional, number, is_text, text, tables, some_tables}
-use Rattle.policy_text.specs.Slices.{slice_section, slice_in, slice_of, slices_from}
-use Rattle.policy_text.specs.Rules.{are_different, bits_below, writer_of, slots_of, no_improper, proper, RuleText, rule_text_in, rule_from, rule_section, rule_in, rule_of, rules_from}
+use Rattle.policy_text.specs.Slices.{slice_section, slice_of_table, slice_of, slices_from}
+use Rattle.policy_text.specs.Rules.{are_different, bits_below, writer_slot, slots_of, no_improper, proper, RuleText, rule_text_in, rule_from, rule_section, rule_in, rule_of, rules_from}
 use Rattle.policy_text.specs.Documents.{top, parts_in, parts_of, ArePlain}
 use Rattle.std.proofs.lemmas.Option.{cond_some}
 use Rattle.of10_model.proofs.Results.{bind_ok, bind_is, ok_is}
@@ -46,8 +46,8 @@ quota_read this key o e =
     (optional_holds (λ n. n ≤ 4096) (number (UpTo 4096)) (λ d n r. leb-true _ _ (number_is (UpTo 4096) d n r)) this key o e)
     (omega arith)
 
-slice_sound : (this : SectionView) (s : Slice) → slice_in this ≡ Ok s → IsPlainSlice s
-unfolding slice_in
+slice_sound : (this : SectionView) (s : Slice) → slice_of_table this ≡ Ok s → IsPlainSlice s
+unfolding slice_of_table
 slice_sound this s e =
     let k = bind_ok (known_keys this) _ s e in
     let a = bind_ok (required (text Name) this (codes "name")) _ s k.2 in
@@ -109,18 +109,18 @@ abbrev pub rule_with : RuleText → Option ℕ → List ℕ → Rule
 rule_with t writer slots = record { switch = t.switch; priority = t.priority; pattern = t.pattern; writer = writer; readers = bits_below 32 slots }
 
 -- the rule of what a table says, from its parts
-pub rule_from_is : (slices : List Slice) (index : ℕ) (t : RuleText) (writer : Option ℕ) (slots : List ℕ) (u : Unit {0}) → writer_of slices index t.write ≡ Ok writer → slots_of slices index t.read ≡ Ok slots
+pub rule_from_is : (slices : List Slice) (index : ℕ) (t : RuleText) (writer : Option ℕ) (slots : List ℕ) (u : Unit {0}) → writer_slot slices index t.write ≡ Ok writer → slots_of slices index t.read ≡ Ok slots
     → proper index slots t.pattern ≡ Ok u → rule_from slices index t ≡ Ok (rule_with t writer slots)
 unfolding rule_from
 rule_from_is slices index t writer slots u a b c =
-    bind_is (writer_of slices index t.write) _ writer _ a (bind_is (slots_of slices index t.read) _ slots _ b (bind_is (proper index slots t.pattern) _ u _ c refl))
+    bind_is (writer_slot slices index t.write) _ writer _ a (bind_is (slots_of slices index t.read) _ slots _ b (bind_is (proper index slots t.pattern) _ u _ c refl))
 
 -- the parts that a rule was made from
 pub rule_from_parts : (slices : List Slice) (index : ℕ) (t : RuleText) (r : Rule) → rule_from slices index t ≡ Ok r
     → (writer : Option ℕ) × (slots : List ℕ) × (slots_of slices index t.read ≡ Ok slots) × (first_improper t.pattern ≡ None) × (rule_with t writer slots ≡ r)
 unfolding rule_from
 rule_from_parts slices index t r e =
-    let a = bind_ok (writer_of slices index t.write) _ r e in
+    let a = bind_ok (writer_slot slices index t.write) _ r e in
     let b = bind_ok (slots_of slices index t.read) _ r a.2 in
     let c = bind_ok (proper index b.0 t.pattern) _ r b.2 in
     (a.0, b.0, b.1, proper_is index b.0 t.pattern c.0 c.1, ok_is (rule_with t a.0 b.0) r c.2)

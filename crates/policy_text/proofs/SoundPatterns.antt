@@ -13,7 +13,7 @@ use Rattle.flowspace.proofs.Improper.{meaningful}
 use Rattle.flowspace.proofs.Owning.{IsInPort-is_in_port}
 use Rattle.policy_text.specs.declared.values.Numbers.TheVariants.{UpTo, InPort, Vlan, Service}
 use Rattle.policy_text.specs.declared.values.Numerals.TheVariants.{Hardware}
-use Rattle.policy_text.specs.Reading.{SectionView, optional, is_number, number, numeral, addresses}
+use Rattle.policy_text.specs.Reading.{SectionView, optional, is_allowed_number, number, numeral, addresses}
 use Rattle.policy_text.specs.Rules.{pattern_in}
 use Rattle.policy_text.proofs.RuleParts.{pattern_read}
 use Rattle.policy_text.proofs.Steps.{optional_holds, number_is}
@@ -38,10 +38,10 @@ addresses_range (datetime x) p e = absurd cc
 addresses_range (array x) p e = absurd cc
 addresses_range (table x) p e = absurd cc
 
-vlan_is : (n : ℕ) → is_number Vlan n ≡ true → IsVlan n
+vlan_is : (n : ℕ) → is_allowed_number Vlan n ≡ true → IsVlan n
 vlan_is n e = elim (or_cases (leb n 4095) (n == 0xffff) e) [ inl low ↦ inl (leb-true _ _ low) | inr mark ↦ inr (eqb-true _ _ mark) ]
 
-service_is : (n : ℕ) → is_number Service n ≡ true → IsService (Some n)
+service_is : (n : ℕ) → is_allowed_number Service n ≡ true → IsService (Some n)
 service_is n e =
     let (few, whole) = and_parts (nat_le n 252) (n % 4 == 0) e in
     let small = leb-true _ _ few in
@@ -67,7 +67,7 @@ prefixes : (o : Option Prefix) → IfSome o (λ p. IsPrefix (Some p)) → IsPref
 prefixes None h = tt
 prefixes (Some p) h = h
 
-up_to : (high limit n : ℕ) → high < limit → is_number (UpTo high) n ≡ true → n < limit
+up_to : (high limit n : ℕ) → high < limit → is_allowed_number (UpTo high) n ≡ true → n < limit
 up_to high limit n lt e = let le = leb-true _ _ e in omega (arith, lt, le)
 
 -- ---- what is read

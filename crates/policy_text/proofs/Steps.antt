@@ -6,9 +6,9 @@ use Rattle.policy_text.specs.declared.fault.Place.{Place}
 use Rattle.policy_text.specs.declared.values.Numbers.{Numbers}
 use Rattle.policy_text.specs.declared.values.Texts.{Texts}
 use Rattle.of10_model.proofs.Results.{bind_ok, ok_is}
-use Rattle.policy_text.specs.Reading.{SectionView, place_of, formed, demanded, allowed, required, optional, is_number, number, is_text, text}
+use Rattle.policy_text.specs.Reading.{SectionView, key_place, value_formed, demanded, allowed, required, optional, is_allowed_number, number, is_text, text}
 
-formed_some : {A : Type 0} (at : Place) (o : Option A) (x : A) → formed at o ≡ Ok x → o ≡ Some x
+formed_some : {A : Type 0} (at : Place) (o : Option A) (x : A) → value_formed at o ≡ Ok x → o ≡ Some x
 formed_some at None x e = absurd cc
 formed_some at (Some y) x e = ap Some (ok_is y x e)
 
@@ -16,24 +16,24 @@ formed_some at (Some y) x e = ap Some (ok_is y x e)
 allowed_holds : {A : Type 0} (P : A → Type 0) (read : Data → Option A) → ((d : Data) (x : A) → read d ≡ Some x → P x) → (at : Place) (o : Option Data) (y : Option A) → allowed read at o ≡ Ok y → IfSome y P
 allowed_holds P read h at None y e = subst (λ z. IfSome z P) (ok_is None y e) tt
 allowed_holds P read h at (Some d) y e =
-    let a = bind_ok (formed at (read d)) (λ x. Ok (Some x)) y e in
+    let a = bind_ok (value_formed at (read d)) (λ x. Ok (Some x)) y e in
     subst (λ z. IfSome z P) (ok_is (Some a.0) y a.2) (h d a.0 (formed_some at (read d) a.0 a.1))
 
 pub optional_holds : {A : Type 0} (P : A → Type 0) (read : Data → Option A) → ((d : Data) (x : A) → read d ≡ Some x → P x) → (this : SectionView) (key : List ℕ) (y : Option A) → optional read this key ≡ Ok y → IfSome y P
-optional_holds P read h this key y e = allowed_holds P read h (place_of this key) (get_member key this.members) y e
+optional_holds P read h this key y e = allowed_holds P read h (key_place this key) (get_member key this.members) y e
 
 demanded_holds : {A : Type 0} (P : A → Type 0) (read : Data → Option A) → ((d : Data) (x : A) → read d ≡ Some x → P x) → (at : Place) (o : Option Data) (y : A) → demanded read at o ≡ Ok y → P y
 demanded_holds P read h at None y e = absurd cc
 demanded_holds P read h at (Some d) y e = h d y (formed_some at (read d) y e)
 
 pub required_holds : {A : Type 0} (P : A → Type 0) (read : Data → Option A) → ((d : Data) (x : A) → read d ≡ Some x → P x) → (this : SectionView) (key : List ℕ) (y : A) → required read this key ≡ Ok y → P y
-required_holds P read h this key y e = demanded_holds P read h (place_of this key) (get_member key this.members) y e
+required_holds P read h this key y e = demanded_holds P read h (key_place this key) (get_member key this.members) y e
 
 -- the numbers and the texts that are read
-pub number_is : (numbers : Numbers) (d : Data) (n : ℕ) → number numbers d ≡ Some n → is_number numbers n ≡ true
+pub number_is : (numbers : Numbers) (d : Data) (n : ℕ) → number numbers d ≡ Some n → is_allowed_number numbers n ≡ true
 number_is numbers (integer (pos x)) n e =
-    let w = cond_some (is_number numbers x) x n e in
-    subst (λ y. is_number numbers y ≡ true) w.1 w.0
+    let w = cond_some (is_allowed_number numbers x) x n e in
+    subst (λ y. is_allowed_number numbers y ≡ true) w.1 w.0
 number_is numbers (integer (negsuc x)) n e = absurd cc
 number_is numbers (string x) n e = absurd cc
 number_is numbers (float x) n e = absurd cc

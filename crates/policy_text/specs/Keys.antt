@@ -9,7 +9,7 @@ use Rattle.policy_text.specs.declared.values.Numbers.TheVariants as numbers
 use Rattle.policy_text.specs.declared.values.Numbers.TheVariants.{UpTo, Between, Vlan, Service}
 use Rattle.policy_text.specs.declared.values.Numerals.TheVariants.{Datapath, Hardware}
 use Rattle.policy_text.specs.declared.values.Texts.TheVariants.{Name, Controller, Any}
-use Rattle.policy_text.specs.Reading.{is_known, number, numeral, addresses, text, text_list, tables, some_tables}
+use Rattle.policy_text.specs.Reading.{is_known_key, number, numeral, addresses, text, text_list, tables, some_tables}
 
 -- ---- keys
 
@@ -20,13 +20,13 @@ IsKey (member k d rest) key = (k ≡ key) ⊎ IsKey rest key
 
 -- each key is one that such a table may have
 abbrev pub AreKnown : Part → Members → Type 0
-AreKnown part members = (key : List ℕ) → IsKey members key → is_known part key ≡ true
+AreKnown part members = (key : List ℕ) → IsKey members key → is_known_key part key ≡ true
 
 -- a key that such a table may not have, and no such key is below it, byte by byte
 pub record IsLeastUnknown (part : Part) (members : Members) (key : List ℕ) : Type 0 where
   pub is_there : IsKey members key
-  pub unknown : is_known part key ≡ false
-  pub least : (other : List ℕ) → IsKey members other → is_known part other ≡ false → is_lt (slice_cmp nat_cmp other key) ≡ false
+  pub unknown : is_known_key part key ≡ false
+  pub least : (other : List ℕ) → IsKey members other → is_known_key part other ≡ false → is_lt (slice_cmp nat_cmp other key) ≡ false
 
 -- ---- keys that are needed, and forms
 

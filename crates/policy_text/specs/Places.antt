@@ -13,8 +13,8 @@ part_text Slice index = (codes "slice." ++ decimal index) ++ codes "."
 part_text Rule index = (codes "rule." ++ decimal index) ++ codes "."
 
 -- the key behind it
-abbrev pub place_text : Place → List ℕ
-place_text place = part_text place.part place.index ++ place.key
+abbrev pub key_path_text : Place → List ℕ
+key_path_text place = part_text place.part place.index ++ place.key
 
 -- the key under which a rule's field stands
 abbrev pub field_key : Field → List ℕ

@@ -28,8 +28,8 @@ slice_entries s =
     ∷ (codes "burst", unless_default 1000 s.burst) ∷ (codes "quota", unless_default 1024 s.quota) ∷ []
 
 -- the name of the slice at a slot
-abbrev pub name_at : List Slice → ℕ → Option (List ℕ)
-name_at slices slot = option_map (λ s. s.name) (slice_get slices slot)
+abbrev pub slice_name : List Slice → ℕ → Option (List ℕ)
+slice_name slices slot = option_map (λ s. s.name) (slice_get slices slot)
 
 -- the names of the slices whose bits are set, the lowest bit first
 abbrev pub names_in : ℕ → List Slice → List (List ℕ)
@@ -37,9 +37,9 @@ names_in bits [] = []
 names_in bits (s ∷ rest) = if bits % 2 == 1 then s.name ∷ names_in (bits / 2) rest else names_in (bits / 2) rest
 
 -- an array of names, where there are any
-abbrev pub names : List (List ℕ) → Option Data
-names [] = None
-names (name ∷ rest) = Some (array (items_of (map string (name ∷ rest))))
+abbrev pub names_array : List (List ℕ) → Option Data
+names_array [] = None
+names_array (name ∷ rest) = Some (array (items_of (map string (name ∷ rest))))
 
 -- a number, where there is one
 abbrev pub number_value : Option ℕ → Option Data
@@ -50,10 +50,10 @@ abbrev pub text_value : Option (List ℕ) → Option Data
 text_value o = option_map (λ s. string s) o
 
 -- a rule's keys beside those of its match; its slices stand there by name
-abbrev pub own_entries : List Slice → Rule → List Entry
-own_entries slices r =
+abbrev pub entries_beside : List Slice → Rule → List Entry
+entries_beside slices r =
     (codes "switch", text_value (option_map (hex_text 16) r.switch)) ∷ (codes "priority", Some (integer (pos r.priority)))
-    ∷ (codes "write", text_value (option_and_then (name_at slices) r.writer)) ∷ (codes "read", names (names_in r.readers slices)) ∷ []
+    ∷ (codes "write", text_value (option_and_then (slice_name slices) r.writer)) ∷ (codes "read", names_array (names_in r.readers slices)) ∷ []
 
 -- the keys of a match's constraints on the link
 abbrev pub link_entries : Pattern → List Entry
@@ -99,7 +99,7 @@ slice_text s = codes "\n[[slice]]\n" ++ entries_text (slice_entries s)
 
 -- a rule's table, under its header
 unfoldable pub rule_text : List Slice → Rule → List ℕ
-rule_text slices r = codes "\n[[rule]]\n" ++ (entries_text (own_entries slices r) ++ (entries_text (link_entries r.pattern) ++ entries_text (network_entries r.pattern)))
+rule_text slices r = codes "\n[[rule]]\n" ++ (entries_text (entries_beside slices r) ++ (entries_text (link_entries r.pattern) ++ entries_text (network_entries r.pattern)))
 
 -- the tables of the slices in turn
 abbrev pub slices_text : List Slice → List ℕ
@@ -116,7 +116,7 @@ unfoldable pub text_of : PolicyView → List ℕ
 text_of p = codes "version = 1\n" ++ (slices_text p.slices ++ rules_text p.slices p.rules)
 
 -- what holds of each rule beside being plain: its match is normal, and its numbers have 64 and 32 bits
-pub record IsHeld (r : Rule) : Type 0 where
+pub record IsRuleInRange (r : Rule) : Type 0 where
   pub normal : IsNormal r.pattern
   pub switch : IfSome r.switch (λ n. n < 2 ^ 64)
   pub priority : r.priority < 2 ^ 32

@@ -23,18 +23,18 @@ use Rattle.policy_text.specs.declared.values.Texts.{Texts}
 use Rattle.policy_text.specs.declared.values.Texts.TheVariants.{Name, Controller, Any}
 
 -- a call fails as a reading does, or for want of memory
-abbrev pub Fails : {Y : Type 0} → ReadFault → Result Y ReadFault → Type 0
-Fails NotToml read = read ≡ Err NotToml
-Fails (Missing at) read = read ≡ Err (Missing at)
-Fails (BadValue at) read = read ≡ Err (BadValue at)
-Fails (UnknownKey at) read = read ≡ Err (UnknownKey at)
-Fails (Improper rule field) read = read ≡ Err (Improper rule field)
-Fails (Refused fault) read = read ≡ Err (Refused fault)
-Fails Memory read = Unit {0}
+abbrev pub FailsAsText : {Y : Type 0} → ReadFault → Result Y ReadFault → Type 0
+FailsAsText NotToml read = read ≡ Err NotToml
+FailsAsText (Missing at) read = read ≡ Err (Missing at)
+FailsAsText (BadValue at) read = read ≡ Err (BadValue at)
+FailsAsText (UnknownKey at) read = read ≡ Err (UnknownKey at)
+FailsAsText (Improper rule field) read = read ≡ Err (Improper rule field)
+FailsAsText (Refused fault) read = read ≡ Err (Refused fault)
+FailsAsText Memory read = Unit {0}
 
 -- a call answers what a reading gives, its value seen by view, unless memory ran out
-abbrev pub Gives : {X Y : Type 0} → (X → Y) → Result X ReadFault → Result Y ReadFault → Type 0
-Gives view called read = Answers Fails view called read
+abbrev pub GivesAsText : {X Y : Type 0} → (X → Y) → Result X ReadFault → Result Y ReadFault → Type 0
+GivesAsText view called read = Answers FailsAsText view called read
 
 -- ---- tables and their keys
 
@@ -45,8 +45,8 @@ pub record SectionView : Type 0 where
   pub members : Members
 
 -- a key of the table
-abbrev pub place_of : SectionView → List ℕ → Place
-place_of this key = record { part = this.part; index = this.index; key = key }
+abbrev pub key_place : SectionView → List ℕ → Place
+key_place this key = record { part = this.part; index = this.index; key = key }
 
 -- the keys of the whole text's table
 abbrev pub is_top_key : List ℕ → Bool
@@ -77,59 +77,59 @@ is_rule_key key =
     || is_link_key key || is_network_key key
 
 -- a key that such a table may have
-abbrev pub is_known : Part → List ℕ → Bool
-is_known Top key = is_top_key key
-is_known Slice key = is_slice_key key
-is_known Rule key = is_rule_key key
+abbrev pub is_known_key : Part → List ℕ → Bool
+is_known_key Top key = is_top_key key
+is_known_key Slice key = is_slice_key key
+is_known_key Rule key = is_rule_key key
 
 -- the keys that such a table may not have
 abbrev pub unknown_keys : Part → Members → List (List ℕ)
 unknown_keys part no_members = []
-unknown_keys part (member key d rest) = if is_known part key then unknown_keys part rest else key ∷ unknown_keys part rest
+unknown_keys part (member key d rest) = if is_known_key part key then unknown_keys part rest else key ∷ unknown_keys part rest
 
 -- the lesser of two texts, byte by byte
-abbrev pub lesser : List ℕ → Option (List ℕ) → List ℕ
-lesser text None = text
-lesser text (Some other) = if is_lt (slice_cmp nat_cmp other text) then other else text
+abbrev pub lesser_text : List ℕ → Option (List ℕ) → List ℕ
+lesser_text text None = text
+lesser_text text (Some other) = if is_lt (slice_cmp nat_cmp other text) then other else text
 
 -- the least of some texts
-abbrev pub least : List (List ℕ) → Option (List ℕ)
-least [] = None
-least (text ∷ rest) = Some (lesser text (least rest))
+abbrev pub least_text : List (List ℕ) → Option (List ℕ)
+least_text [] = None
+least_text (text ∷ rest) = Some (lesser_text text (least_text rest))
 
 -- there is no unknown key, or this one is at fault
 abbrev pub no_unknown : SectionView → Option (List ℕ) → Result (Unit {0}) ReadFault
 no_unknown this None = Ok tt
-no_unknown this (Some key) = Err (UnknownKey (place_of this key))
+no_unknown this (Some key) = Err (UnknownKey (key_place this key))
 
 -- the least unknown key of a table is at fault
 abbrev pub known_keys : SectionView → Result (Unit {0}) ReadFault
-known_keys this = no_unknown this (least (unknown_keys this.part this.members))
+known_keys this = no_unknown this (least_text (unknown_keys this.part this.members))
 
 -- ---- values under keys
 
 -- what read makes of a value, which must be of its form
-abbrev pub formed : {A : Type 0} → Place → Option A → Result A ReadFault
-formed at None = Err (BadValue at)
-formed at (Some x) = Ok x
+abbrev pub value_formed : {A : Type 0} → Place → Option A → Result A ReadFault
+value_formed at None = Err (BadValue at)
+value_formed at (Some x) = Ok x
 
 -- what read makes of a value that must be there
 abbrev pub demanded : {A : Type 0} → (Data → Option A) → Place → Option Data → Result A ReadFault
 demanded read at None = Err (Missing at)
-demanded read at (Some d) = formed at (read d)
+demanded read at (Some d) = value_formed at (read d)
 
 -- what read makes of a value that may be missing
 abbrev pub allowed : {A : Type 0} → (Data → Option A) → Place → Option Data → Result (Option A) ReadFault
 allowed read at None = Ok None
-allowed read at (Some d) = formed at (read d) >>= (λ x. Ok (Some x))
+allowed read at (Some d) = value_formed at (read d) >>= (λ x. Ok (Some x))
 
 -- what stands under a key that must be there
 abbrev pub required : {A : Type 0} → (Data → Option A) → SectionView → List ℕ → Result A ReadFault
-required read this key = demanded read (place_of this key) (get_member key this.members)
+required read this key = demanded read (key_place this key) (get_member key this.members)
 
 -- what stands under a key that may be missing
 abbrev pub optional : {A : Type 0} → (Data → Option A) → SectionView → List ℕ → Result (Option A) ReadFault
-optional read this key = allowed read (place_of this key) (get_member key this.members)
+optional read this key = allowed read (key_place this key) (get_member key this.members)
 
 -- ---- the forms of values
 
@@ -138,12 +138,12 @@ abbrev pub when : {A : Type 0} → Bool → A → Option A
 when b x = if b then Some x else None
 
 -- the numbers that a field may have
-abbrev pub is_number : Numbers → ℕ → Bool
-is_number (UpTo high) n = nat_le n high
-is_number (Between low high) n = nat_le low n && nat_le n high
-is_number InPort n = is_in_port n
-is_number Vlan n = is_vlan n
-is_number Service n = nat_le n 252 && n % 4 == 0
+abbrev pub is_allowed_number : Numbers → ℕ → Bool
+is_allowed_number (UpTo high) n = nat_le n high
+is_allowed_number (Between low high) n = nat_le low n && nat_le n high
+is_allowed_number InPort n = is_in_port n
+is_allowed_number Vlan n = is_vlan n
+is_allowed_number Service n = nat_le n 252 && n % 4 == 0
 
 -- the greatest of them
 abbrev pub greatest : Numbers → ℕ
@@ -155,7 +155,7 @@ greatest Service = 252
 
 -- an integer that is one of them
 abbrev pub number : Numbers → Data → Option ℕ
-number numbers (integer (pos n)) = when (is_number numbers n) n
+number numbers (integer (pos n)) = when (is_allowed_number numbers n) n
 number numbers d = None
 
 -- the texts that a field may have

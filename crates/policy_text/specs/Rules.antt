@@ -42,8 +42,8 @@ link_in this = do
   Ok (record { in_port = in_port; dl_src = dl_src; dl_dst = dl_dst; dl_vlan = dl_vlan; dl_vlan_pcp = dl_vlan_pcp; dl_type = dl_type })
 
 -- the constraints of a rule's table, those on the link first
-abbrev pub joined : LinkView → Option ℕ → Option ℕ → Option Prefix → Option Prefix → Option ℕ → Option ℕ → Pattern
-joined link nw_tos nw_proto nw_src nw_dst tp_src tp_dst = record {
+abbrev pub joined_pattern : LinkView → Option ℕ → Option ℕ → Option Prefix → Option Prefix → Option ℕ → Option ℕ → Pattern
+joined_pattern link nw_tos nw_proto nw_src nw_dst tp_src tp_dst = record {
   in_port = link.in_port;
   dl_src = link.dl_src;
   dl_dst = link.dl_dst;
@@ -68,7 +68,7 @@ pattern_in this = do
   nw_dst ← optional addresses this (codes "nw_dst")
   tp_src ← optional (number (UpTo 0xffff)) this (codes "tp_src")
   tp_dst ← optional (number (UpTo 0xffff)) this (codes "tp_dst")
-  Ok (joined link nw_tos nw_proto nw_src nw_dst tp_src tp_dst)
+  Ok (joined_pattern link nw_tos nw_proto nw_src nw_dst tp_src tp_dst)
 
 -- ---- the names
 
@@ -77,21 +77,21 @@ abbrev pub slot_of : List Slice → List ℕ → Option ℕ
 slot_of slices name = position (λ s. bytes_eq s.name name) slices
 
 -- a slot that a rule names must be there
-abbrev pub named : ℕ → Option ℕ → Result ℕ ReadFault
-named index None = Err (Refused (UnknownSlice index))
-named index (Some slot) = Ok slot
+abbrev pub slot_named : ℕ → Option ℕ → Result ℕ ReadFault
+slot_named index None = Err (Refused (UnknownSlice index))
+slot_named index (Some slot) = Ok slot
 
 -- the slot of the writer, where one is named, in eight bits. All rules are read before the slices are counted, and a slot
 -- that has more bits is among so many slices that the policy is refused.
-abbrev pub writer_of : List Slice → ℕ → Option (List ℕ) → Result (Option ℕ) ReadFault
-writer_of slices index None = Ok None
-writer_of slices index (Some name) = named index (slot_of slices name) >>= (λ slot. Ok (Some (slot % 256)))
+abbrev pub writer_slot : List Slice → ℕ → Option (List ℕ) → Result (Option ℕ) ReadFault
+writer_slot slices index None = Ok None
+writer_slot slices index (Some name) = slot_named index (slot_of slices name) >>= (λ slot. Ok (Some (slot % 256)))
 
 -- the slots of the readers
 abbrev pub slots_of : List Slice → ℕ → List (List ℕ) → Result (List ℕ) ReadFault
 slots_of slices index [] = Ok []
 slots_of slices index (name ∷ rest) = do
-  slot ← named index (slot_of slices name)
+  slot ← slot_named index (slot_of slices name)
   others ← slots_of slices index rest
   Ok (slot ∷ others)
 
@@ -146,7 +146,7 @@ rule_text_in this = do
 -- the same with slots for names
 unfoldable pub rule_from : List Slice → ℕ → RuleText → Result Rule ReadFault
 rule_from slices index said = do
-  writer ← writer_of slices index said.write
+  writer ← writer_slot slices index said.write
   slots ← slots_of slices index said.read
   fits ← proper index slots said.pattern
   Ok (record { switch = said.switch; priority = said.priority; pattern = said.pattern; writer = writer; readers = bits_below 32 slots })

@@ -14,8 +14,8 @@ abbrev pub slice_section : ℕ → Members → SectionView
 slice_section index members = record { part = part.Slice; index = index; members = members }
 
 -- the slice of a table
-unfoldable pub slice_in : SectionView → Result Slice ReadFault
-slice_in this = do
+unfoldable pub slice_of_table : SectionView → Result Slice ReadFault
+slice_of_table this = do
   known ← known_keys this
   name ← required (text Name) this (codes "name")
   controller ← required (text Controller) this (codes "controller")
@@ -26,7 +26,7 @@ slice_in this = do
 
 -- the slice of an item; one that is no table is a fault of the array
 abbrev pub slice_of : ℕ → Data → Result Slice ReadFault
-slice_of index d = as_table (λ members. slice_in (slice_section index members)) (codes "slice") d
+slice_of index d = as_table (λ members. slice_of_table (slice_section index members)) (codes "slice") d
 
 -- the slices of the items from an index on
 abbrev pub slices_from : ℕ → Items → Result (List Slice) ReadFault

@@ -5,7 +5,7 @@ ghost use Rattle.toml.specs.Data.{no_items};
 ghost use Rattle.toml.specs.View.{items_view, table_view};
 ghost use Rattle.flowspace.specs.Loading.{load_of};
 ghost use Rattle.policy_text.specs.Documents.{ArePlain, document_of, loaded, parts_in, parts_of, policy_of, top};
-ghost use Rattle.policy_text.specs.Reading.{Gives};
+ghost use Rattle.policy_text.specs.Reading.{GivesAsText};
 ghost use Rattle.policy_text.specs.Rules.{rules_from};
 ghost use Rattle.policy_text.specs.Views.{parts_view, section};
 
@@ -31,7 +31,7 @@ fn rules_under<'a>(
     slices: &'a [Slice],
     tables: Option<&'a [Value]>,
 ) -> Result<Vec<Rule>, ReadFault>
-    ensures { Gives (λ v. v.items) result (rules_from slices.now 0 (unwrap_or (option_map (λ v. items_view v.now) tables.entry) no_items)) }
+    ensures { GivesAsText (λ v. v.items) result (rules_from slices.now 0 (unwrap_or (option_map (λ v. items_view v.now) tables.entry) no_items)) }
 {
     match tables {
         Some(tables) => rules(alloc, &Names::of(alloc, slices)?, tables),
@@ -41,7 +41,7 @@ fn rules_under<'a>(
 
 #[tactic(auto, unfolding(crate::specs::Documents::parts_in))]
 fn parts_in(table: &Section<'_>) -> Result<Parts, ReadFault>
-    ensures { Gives parts_view result (parts_in (section table.now)) }
+    ensures { GivesAsText parts_view result (parts_in (section table.now)) }
 {
     table.required_number(Numbers::Between(1, 1), "version")?;
     table.known_keys()?;
@@ -53,7 +53,7 @@ fn parts_in(table: &Section<'_>) -> Result<Parts, ReadFault>
 }
 
 fn parts_of(alloc: Global, table: &Table) -> Result<Parts, ReadFault>
-    ensures exact { Gives parts_view result (parts_in (top (table_view table.now))) }
+    ensures exact { GivesAsText parts_view result (parts_in (top (table_view table.now))) }
     ensures refused { IfErr result (λ fault. fault ≢ ReadFault.Refused PolicyFault.Memory) }
 {
     parts_in(&Section {
@@ -65,7 +65,7 @@ fn parts_of(alloc: Global, table: &Table) -> Result<Parts, ReadFault>
 }
 
 fn parts_said(alloc: Global, bytes: &[u8]) -> Result<Parts, ReadFault>
-    ensures exact { Gives parts_view result (parts_of (document_of bytes.now)) }
+    ensures exact { GivesAsText parts_view result (parts_of (document_of bytes.now)) }
     ensures refused { IfErr result (λ fault. fault ≢ ReadFault.Refused PolicyFault.Memory) }
 {
     match toml::table_from_slice(alloc, bytes) {
@@ -82,7 +82,7 @@ fn parts_said(alloc: Global, bytes: &[u8]) -> Result<Parts, ReadFault>
 
 fn loaded(alloc: Global, parts: Parts) -> Result<Policy, ReadFault>
     requires { ArePlain (parts_view parts) }
-    ensures exact { Gives (λ p. p) result (loaded (load_of parts.slices.items parts.rules.items)) }
+    ensures exact { GivesAsText (λ p. p) result (loaded (load_of parts.slices.items parts.rules.items)) }
     ensures refused { IfErr result (λ fault. fault ≢ ReadFault.Refused PolicyFault.Memory) }
 {
     match Policy::load(alloc, parts.slices, parts.rules) {
@@ -109,7 +109,7 @@ fn loaded(alloc: Global, parts: Parts) -> Result<Policy, ReadFault>
 /// `switch` is 16 hex digits, `dl_src` and `dl_dst` are six pairs of hex digits with `:` between
 /// them, all in lower case; `nw_src` and `nw_dst` are `a.b.c.d` or `a.b.c.d/n`.
 pub fn read(alloc: Global, bytes: &[u8]) -> Result<Policy, ReadFault>
-    ensures exact { Gives (λ p. p) result (policy_of (document_of bytes.now)) }
+    ensures exact { GivesAsText (λ p. p) result (policy_of (document_of bytes.now)) }
     ensures refused { IfErr result (λ fault. fault ≢ ReadFault.Refused PolicyFault.Memory) }
 {
     let parts = parts_said(alloc, bytes)?;

@@ -1,7 +1,7 @@
 //! What can be wrong with a text, and where.
 
 ghost use Rattle.std.specs.Prelude.{◌≡◌, Some};
-ghost use Rattle.policy_text.specs.Places.{place_text};
+ghost use Rattle.policy_text.specs.Places.{key_path_text};
 ghost use Rattle.policy_text.specs.declared.fault.ReadFault.TheVariants.{Memory};
 
 use flowspace::{Field, PolicyFault, Text};
@@ -28,7 +28,7 @@ pub struct Place {
 
 /// `version`, `slice.0.name`, `rule.3.nw_src`.
 impl fmt::Display for Place {
-    ghost output = { λ place. Some (place_text place) };
+    ghost output = { λ place. Some (key_path_text place) };
 
     fn fmt<W: fmt::Write>(&self, f: &mut fmt::Formatter<W>) -> fmt::Result {
         let key = self.key.as_str();

@@ -2,8 +2,8 @@
 
 ghost use Rattle.std.specs.Prelude.{◌≡◌, IfOk, map, nat_eq, option_map};
 ghost use Rattle.std.specs.List.{list_any};
-ghost use Rattle.policy_text.specs.Reading.{Gives};
-ghost use Rattle.policy_text.specs.Rules.{are_different, bits_below, named, slot_of, slots_of, writer_of};
+ghost use Rattle.policy_text.specs.Reading.{GivesAsText};
+ghost use Rattle.policy_text.specs.Rules.{are_different, bits_below, slot_named, slot_of, slots_of, writer_slot};
 
 use crate::fault::ReadFault;
 use flowspace::{PolicyFault, Slice};
@@ -56,7 +56,7 @@ impl<'a> Names<'a> {
 }
 
 fn named_slot<'a>(names: &Names<'a>, index: u64, name: &'a str) -> Result<usize, ReadFault>
-    ensures { Gives (λ slot. slot) result (named index (slot_of names.now name.now)) }
+    ensures { GivesAsText (λ slot. slot) result (slot_named index (slot_of names.now name.now)) }
 {
     match names.slot_of(name) {
         Some(slot) => Ok(slot),
@@ -70,7 +70,7 @@ pub fn writer<'a>(
     index: u64,
     name: Option<&'a str>,
 ) -> Result<Option<u8>, ReadFault>
-    ensures { Gives (λ w. w) result (writer_of names.now index (option_map (λ s. s.now) name.entry)) }
+    ensures { GivesAsText (λ w. w) result (writer_slot names.now index (option_map (λ s. s.now) name.entry)) }
 {
     match name {
         None => Ok(None),
@@ -88,7 +88,7 @@ pub fn slots<'a>(
     index: u64,
     readers: &[&'a str],
 ) -> Result<Vec<usize>, ReadFault>
-    ensures { Gives (λ v. v.items) result (slots_of names.now index (map (λ s. s.now) readers.now)) }
+    ensures { GivesAsText (λ v. v.items) result (slots_of names.now index (map (λ s. s.now) readers.now)) }
 {
     let mut slots = Vec::new(alloc);
     let mut rest = readers;

@@ -1,6 +1,6 @@
 //! The match of a rule.
 
-ghost use Rattle.policy_text.specs.Reading.{Gives};
+ghost use Rattle.policy_text.specs.Reading.{GivesAsText};
 ghost use Rattle.policy_text.specs.Rules.{link_in, pattern_in};
 ghost use Rattle.policy_text.specs.Views.{link_view, section};
 
@@ -22,7 +22,7 @@ struct Link {
 
 #[tactic(auto, unfolding(crate::specs::Rules::link_in))]
 fn link_in(table: &Section<'_>) -> Result<Link, ReadFault>
-    ensures { Gives link_view result (link_in (section table.now)) }
+    ensures { GivesAsText link_view result (link_in (section table.now)) }
 {
     Ok(Link {
         in_port: table.number16(Numbers::InPort, "in_port")?,
@@ -37,7 +37,7 @@ fn link_in(table: &Section<'_>) -> Result<Link, ReadFault>
 /// The constraints of a rule's table.
 #[tactic(auto, unfolding(crate::specs::Rules::pattern_in))]
 pub fn pattern_in(table: &Section<'_>) -> Result<Pattern, ReadFault>
-    ensures { Gives (λ m. m) result (pattern_in (section table.now)) }
+    ensures { GivesAsText (λ m. m) result (pattern_in (section table.now)) }
 {
     let link = link_in(table)?;
     Ok(Pattern {

@@ -9,7 +9,7 @@ ghost use Rattle.address_text.specs.Texts.{hardware_text, hex_text, prefix_text}
 ghost use Rattle.of10_model.specs.Normal.{bit};
 ghost use Rattle.flowspace.specs.Policies.{IsPolicy};
 ghost use Rattle.policy_text.specs.Documents.{document_of, policy_of};
-ghost use Rattle.policy_text.specs.Printing.{IsHeld, entries_text, entry_text, items_text, link_entries, name_at, names, names_in, network_entries, number_value, own_entries, rule_text, rules_text, slice_text, slices_text, text_of, text_value, unless_default};
+ghost use Rattle.policy_text.specs.Printing.{IsRuleInRange, entries_text, entry_text, items_text, link_entries, slice_name, names_array, names_in, network_entries, number_value, entries_beside, rule_text, rules_text, slice_text, slices_text, text_of, text_value, unless_default};
 
 use crate::slices::{BURST, QUOTA, RATE};
 use address_text::{datapath_text, hardware_text, prefix_text};
@@ -87,7 +87,7 @@ fn put_list(out: &mut String, texts: &[&str]) -> Result<(), AllocError>
 
 #[tactic(auto, unfolding(crate::specs::Printing::entry_text))]
 fn put_names(out: &mut String, key: &str, texts: &[&str]) -> Result<(), AllocError>
-    ensures { OnOk result (string_bytes out.new ≡ string_bytes out.old ++ entry_text (key.now, names (map (λ s. s.now) texts.now))) }
+    ensures { OnOk result (string_bytes out.new ≡ string_bytes out.old ++ entry_text (key.now, names_array (map (λ s. s.now) texts.now))) }
 {
     match texts {
         [] => Ok(()),
@@ -170,7 +170,7 @@ fn put_slice(out: &mut String, slice: &Slice) -> Result<(), AllocError>
 }
 
 fn name_at(slices: &[Slice], slot: Option<u8>) -> Option<&str>
-    ensures { option_map (λ s. s.now) result ≡ option_and_then (name_at slices.now) slot }
+    ensures { option_map (λ s. s.now) result ≡ option_and_then (slice_name slices.now) slot }
 {
     match slices.get(usize::from(slot?)) {
         Some(slice) => Some(slice.name.as_str()),
@@ -201,7 +201,7 @@ fn names_in(alloc: Global, bits: u32, slices: &[Slice]) -> Result<Vec<&str>, All
 }
 
 fn put_own(out: &mut String, alloc: Global, slices: &[Slice], rule: &Rule) -> Result<(), AllocError>
-    ensures text { OnOk result (string_bytes out.new ≡ string_bytes out.old ++ entries_text (own_entries slices.now rule.now)) }
+    ensures text { OnOk result (string_bytes out.new ≡ string_bytes out.old ++ entries_text (entries_beside slices.now rule.now)) }
     ensures switch { OnOk result (IfSome rule.now.switch (λ n. n < 2 ^ 64)) }
     ensures priority { OnOk result (rule.now.priority < 2 ^ 32) }
 {
@@ -245,7 +245,7 @@ fn put_rule(
     rule: &Rule,
 ) -> Result<(), AllocError>
     ensures text { OnOk result (string_bytes out.new ≡ string_bytes out.old ++ rule_text slices.now rule.now) }
-    ensures held { OnOk result (IsHeld rule.now) }
+    ensures held { OnOk result (IsRuleInRange rule.now) }
 {
     out.push_str("\n[[rule]]\n")?;
     put_own(out, alloc, slices, rule)?;
@@ -272,7 +272,7 @@ fn put_rules(
     rules: &[Rule],
 ) -> Result<(), AllocError>
     ensures text { OnOk result (string_bytes out.new ≡ string_bytes out.old ++ rules_text slices.now rules.now) }
-    ensures held { OnOk result (AllByRecursion IsHeld rules.now) }
+    ensures held { OnOk result (AllByRecursion IsRuleInRange rules.now) }
 {
     let mut rest = rules;
     while let [rule, after @ ..] = rest {
@@ -285,7 +285,7 @@ fn put_rules(
 #[tactic(auto, unfolding(crate::specs::Printing::text_of))]
 fn text_of(alloc: Global, policy: &Policy) -> Result<String, AllocError>
     ensures text { IfOk result (λ s. string_bytes s ≡ text_of policy.now) }
-    ensures held { IfOk result (λ _. AllByRecursion IsHeld policy.now.rules) }
+    ensures held { IfOk result (λ _. AllByRecursion IsRuleInRange policy.now.rules) }
     ensures policy { IfOk result (λ _. IsPolicy policy.now.slices policy.now.rules) }
 {
     let mut text = String::from_str(alloc, "version = 1\n")?;

@@ -3,7 +3,7 @@
 ghost use Rattle.std.specs.Prelude.{map};
 ghost use Rattle.toml.specs.View.{items_view, view};
 ghost use Rattle.of10_model.specs.Normal.{IsInRange};
-ghost use Rattle.policy_text.specs.Reading.{Gives};
+ghost use Rattle.policy_text.specs.Reading.{GivesAsText};
 ghost use Rattle.policy_text.specs.Rules.{names_under, proper, rule_from, rule_in, rule_of, rule_text_in, rules_from};
 ghost use Rattle.policy_text.specs.Views.{rule_text_view, section};
 
@@ -29,7 +29,7 @@ struct RuleText<'a> {
 }
 
 fn names_under<'a>(table: &Section<'a>, key: &str) -> Result<Vec<&'a str>, ReadFault>
-    ensures { Gives (λ v. map (λ s. s.now) v.items) result (names_under (section table.now) key.now) }
+    ensures { GivesAsText (λ v. map (λ s. s.now) v.items) result (names_under (section table.now) key.now) }
 {
     match table.text_list(key)? {
         Some(names) => Ok(names),
@@ -39,7 +39,7 @@ fn names_under<'a>(table: &Section<'a>, key: &str) -> Result<Vec<&'a str>, ReadF
 
 #[tactic(auto, unfolding(crate::specs::Rules::rule_text_in))]
 fn rule_text_in<'a>(table: &Section<'a>) -> Result<RuleText<'a>, ReadFault>
-    ensures { Gives rule_text_view result (rule_text_in (section table.now)) }
+    ensures { GivesAsText rule_text_view result (rule_text_in (section table.now)) }
 {
     table.known_keys()?;
     let switch = table.numeral(Numerals::Datapath, "switch")?;
@@ -57,7 +57,7 @@ fn rule_text_in<'a>(table: &Section<'a>) -> Result<RuleText<'a>, ReadFault>
 }
 
 fn proper(alloc: Global, index: u64, slots: &[usize], pattern: &Pattern) -> Result<(), ReadFault>
-    ensures { Gives (λ u. u) result (proper index slots.now pattern.now) }
+    ensures { GivesAsText (λ u. u) result (proper index slots.now pattern.now) }
 {
     if !are_different(alloc, slots)? {
         return Err(ReadFault::Improper(index, Field::Read));
@@ -76,7 +76,7 @@ fn rule_from<'a>(
     text: &RuleText<'a>,
 ) -> Result<Rule, ReadFault>
     requires { IsInRange text.now.pattern }
-    ensures { Gives (λ r. r) result (rule_from names.now index (rule_text_view text.now)) }
+    ensures { GivesAsText (λ r. r) result (rule_from names.now index (rule_text_view text.now)) }
 {
     let writer = writer(names, index, text.write)?;
     let slots = slots(alloc, names, index, &text.read)?;
@@ -91,7 +91,7 @@ fn rule_from<'a>(
 }
 
 fn rule_in<'a>(names: &Names<'a>, table: &Section<'a>) -> Result<Rule, ReadFault>
-    ensures { Gives (λ r. r) result (rule_in names.now (section table.now)) }
+    ensures { GivesAsText (λ r. r) result (rule_in names.now (section table.now)) }
 {
     let text = rule_text_in(table)?;
     rule_from(table.alloc, names, table.index, &text)
@@ -103,7 +103,7 @@ fn rule_of<'a>(
     index: u64,
     value: &'a Value,
 ) -> Result<Rule, ReadFault>
-    ensures { Gives (λ r. r) result (rule_of names.now index (view value.now)) }
+    ensures { GivesAsText (λ r. r) result (rule_of names.now index (view value.now)) }
 {
     rule_in(
         names,
@@ -117,7 +117,7 @@ pub fn rules<'a>(
     names: &Names<'a>,
     values: &'a [Value],
 ) -> Result<Vec<Rule>, ReadFault>
-    ensures { Gives (λ v. v.items) result (rules_from names.now 0 (items_view values.now)) }
+    ensures { GivesAsText (λ v. v.items) result (rules_from names.now 0 (items_view values.now)) }
 {
     let mut rules = Vec::new(alloc);
     for (index, value) in values.iter().enumerate() {

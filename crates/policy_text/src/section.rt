@@ -3,7 +3,7 @@
 ghost use Rattle.std.specs.Prelude.{◌≡◌, ◌<◌, ◌≤◌, ◌^◌, ◌⊎◌, Some, None, IfOk, IfErr, IfSome, map, option_map};
 ghost use Rattle.toml.specs.Data.{as_table, get_member};
 ghost use Rattle.toml.specs.View.{items_view, view, table_view};
-ghost use Rattle.policy_text.specs.Reading.{Gives, addresses, greatest, is_known, is_link_key, is_network_key, known_keys, least, number, numeral, optional, place_of, required, some_tables, tables, text, text_list, unknown_keys};
+ghost use Rattle.policy_text.specs.Reading.{GivesAsText, addresses, greatest, is_known_key, is_link_key, is_network_key, known_keys, least_text, number, numeral, optional, key_place, required, some_tables, tables, text, text_list, unknown_keys};
 ghost use Rattle.policy_text.specs.Views.{section};
 
 use crate::fault::{Part, Place, ReadFault};
@@ -53,7 +53,7 @@ fn is_network_key(key: &str) -> bool
 }
 
 fn is_known(part: Part, key: &str) -> bool
-    ensures { result ≡ is_known part key.now }
+    ensures { result ≡ is_known_key part key.now }
 {
     match part {
         Part::Top => key == "version" || key == "slice" || key == "rule",
@@ -76,7 +76,7 @@ fn is_known(part: Part, key: &str) -> bool
 }
 
 fn least_unknown(part: Part, table: &Table) -> Option<&str>
-    ensures { option_map (λ key. key.now) result ≡ least (unknown_keys part (table_view table.now)) }
+    ensures { option_map (λ key. key.now) result ≡ least_text (unknown_keys part (table_view table.now)) }
 {
     for (key, _value) in table.iter() {
         if !is_known(part, key.as_str()) {
@@ -115,7 +115,7 @@ impl<'a> Section<'a> {
     }
 
     fn place(&self, key: &str) -> Result<Place, AllocError>
-        ensures { IfOk result (λ p. p ≡ place_of (section self.now) key.now) }
+        ensures { IfOk result (λ p. p ≡ key_place (section self.now) key.now) }
     {
         Ok(Place {
             part: self.part,
@@ -126,7 +126,7 @@ impl<'a> Section<'a> {
 
     /// Refuses the least key that such a table may not have.
     pub fn known_keys(&self) -> Result<(), ReadFault>
-        ensures { Gives (λ u. u) result (known_keys (section self.now)) }
+        ensures { GivesAsText (λ u. u) result (known_keys (section self.now)) }
     {
         match least_unknown(self.part, self.table) {
             Some(key) => Err(ReadFault::UnknownKey(self.place(key)?)),
@@ -137,7 +137,7 @@ impl<'a> Section<'a> {
     /// What was read of the value under a key, which must be of its form where it is there.
     fn good<T>(&self, key: &str, read: Option<Option<T>>) -> Result<Option<T>, ReadFault>
         ensures value { IfOk result (λ o. option_map (λ x. Some x) o ≡ read) }
-        ensures fault { IfErr result (λ fault. (read ≡ Some None) × ((fault ≡ ReadFault.Memory) ⊎ (fault ≡ ReadFault.BadValue (place_of (section self.now) key.now)))) }
+        ensures fault { IfErr result (λ fault. (read ≡ Some None) × ((fault ≡ ReadFault.Memory) ⊎ (fault ≡ ReadFault.BadValue (key_place (section self.now) key.now)))) }
     {
         match read {
             None => Ok(None),
@@ -149,7 +149,7 @@ impl<'a> Section<'a> {
     /// What was read under a key that must be there.
     fn needed<T>(&self, key: &str, read: Option<T>) -> Result<T, ReadFault>
         ensures value { IfOk result (λ x. read ≡ Some x) }
-        ensures fault { IfErr result (λ fault. (read ≡ None) × ((fault ≡ ReadFault.Memory) ⊎ (fault ≡ ReadFault.Missing (place_of (section self.now) key.now)))) }
+        ensures fault { IfErr result (λ fault. (read ≡ None) × ((fault ≡ ReadFault.Memory) ⊎ (fault ≡ ReadFault.Missing (key_place (section self.now) key.now)))) }
     {
         match read {
             None => Err(ReadFault::Missing(self.place(key)?)),
@@ -159,7 +159,7 @@ impl<'a> Section<'a> {
 
     /// The number under a key that must be there.
     pub fn required_number(&self, numbers: Numbers, key: &str) -> Result<u32, ReadFault>
-        ensures value { Gives (λ n. n) result (required (number numbers) (section self.now) key.now) }
+        ensures value { GivesAsText (λ n. n) result (required (number numbers) (section self.now) key.now) }
         ensures limit { IfOk result (λ n. n ≤ greatest numbers) }
     {
         let read = member_of(self.table, key).map(|value| number(numbers, value));
@@ -168,7 +168,7 @@ impl<'a> Section<'a> {
 
     /// The number under a key.
     pub fn number(&self, numbers: Numbers, key: &str) -> Result<Option<u32>, ReadFault>
-        ensures value { Gives (λ n. n) result (optional (number numbers) (section self.now) key.now) }
+        ensures value { GivesAsText (λ n. n) result (optional (number numbers) (section self.now) key.now) }
         ensures limit { IfOk result (λ o. IfSome o (λ n. n ≤ greatest numbers)) }
     {
         let read = member_of(self.table, key).map(|value| number(numbers, value));
@@ -178,7 +178,7 @@ impl<'a> Section<'a> {
     /// The number of 16 bits under a key.
     pub fn number16(&self, numbers: Numbers, key: &str) -> Result<Option<u16>, ReadFault>
         requires { greatest numbers < 2 ^ 16 }
-        ensures value { Gives (λ n. n) result (optional (number numbers) (section self.now) key.now) }
+        ensures value { GivesAsText (λ n. n) result (optional (number numbers) (section self.now) key.now) }
     {
         match self.number(numbers, key)? {
             None => Ok(None),
@@ -189,7 +189,7 @@ impl<'a> Section<'a> {
     /// The number of 8 bits under a key.
     pub fn number8(&self, numbers: Numbers, key: &str) -> Result<Option<u8>, ReadFault>
         requires { greatest numbers < 2 ^ 8 }
-        ensures value { Gives (λ n. n) result (optional (number numbers) (section self.now) key.now) }
+        ensures value { GivesAsText (λ n. n) result (optional (number numbers) (section self.now) key.now) }
     {
         match self.number(numbers, key)? {
             None => Ok(None),
@@ -199,7 +199,7 @@ impl<'a> Section<'a> {
 
     /// The number that is written as a text under a key.
     pub fn numeral(&self, kind: Numerals, key: &str) -> Result<Option<u64>, ReadFault>
-        ensures { Gives (λ n. n) result (optional (numeral kind) (section self.now) key.now) }
+        ensures { GivesAsText (λ n. n) result (optional (numeral kind) (section self.now) key.now) }
     {
         let read = member_of(self.table, key).map(|value| numeral(kind, value));
         self.good(key, read)
@@ -207,7 +207,7 @@ impl<'a> Section<'a> {
 
     /// The addresses under a key.
     pub fn addresses(&self, key: &str) -> Result<Option<Prefix>, ReadFault>
-        ensures { Gives (λ p. p) result (optional addresses (section self.now) key.now) }
+        ensures { GivesAsText (λ p. p) result (optional addresses (section self.now) key.now) }
     {
         let read = member_of(self.table, key).map(|value| addresses(value));
         self.good(key, read)
@@ -215,7 +215,7 @@ impl<'a> Section<'a> {
 
     /// The text under a key that must be there.
     pub fn required_text(&self, texts: Texts, key: &str) -> Result<&'a str, ReadFault>
-        ensures { Gives (λ s. s.now) result (required (text texts) (section self.now) key.now) }
+        ensures { GivesAsText (λ s. s.now) result (required (text texts) (section self.now) key.now) }
     {
         let read = member_of(self.table, key).map(|value| text(texts, value));
         self.needed(key, self.good(key, read)?)
@@ -223,7 +223,7 @@ impl<'a> Section<'a> {
 
     /// The text under a key.
     pub fn text(&self, texts: Texts, key: &str) -> Result<Option<&'a str>, ReadFault>
-        ensures { Gives (option_map (λ s. s.now)) result (optional (text texts) (section self.now) key.now) }
+        ensures { GivesAsText (option_map (λ s. s.now)) result (optional (text texts) (section self.now) key.now) }
     {
         let read = member_of(self.table, key).map(|value| text(texts, value));
         self.good(key, read)
@@ -231,7 +231,7 @@ impl<'a> Section<'a> {
 
     /// The texts of the array under a key.
     pub fn text_list(&self, key: &str) -> Result<Option<Vec<&'a str>>, ReadFault>
-        ensures { Gives (option_map (λ v. map (λ s. s.now) v.items)) result (optional text_list (section self.now) key.now) }
+        ensures { GivesAsText (option_map (λ v. map (λ s. s.now) v.items)) result (optional text_list (section self.now) key.now) }
     {
         match member_of(self.table, key) {
             None => Ok(None),
@@ -241,7 +241,7 @@ impl<'a> Section<'a> {
 
     /// The tables of the array under a key.
     pub fn tables(&self, key: &str) -> Result<Option<&'a [Value]>, ReadFault>
-        ensures { Gives (option_map (λ v. items_view v.now)) result (optional tables (section self.now) key.now) }
+        ensures { GivesAsText (option_map (λ v. items_view v.now)) result (optional tables (section self.now) key.now) }
     {
         let read = member_of(self.table, key).map(|value| tables(value));
         self.good(key, read)
@@ -249,7 +249,7 @@ impl<'a> Section<'a> {
 
     /// The tables, one or more, of the array under a key that must be there.
     pub fn required_tables(&self, key: &str) -> Result<&'a [Value], ReadFault>
-        ensures { Gives (λ v. items_view v.now) result (required some_tables (section self.now) key.now) }
+        ensures { GivesAsText (λ v. items_view v.now) result (required some_tables (section self.now) key.now) }
     {
         let read = member_of(self.table, key).map(|value| some_tables(value));
         self.needed(key, self.good(key, read)?)

@@ -1,8 +1,8 @@
 //! The slices that a text says.
 
 ghost use Rattle.toml.specs.View.{items_view, view};
-ghost use Rattle.policy_text.specs.Reading.{Gives};
-ghost use Rattle.policy_text.specs.Slices.{slice_in, slice_of, slices_from};
+ghost use Rattle.policy_text.specs.Reading.{GivesAsText};
+ghost use Rattle.policy_text.specs.Slices.{slice_of_table, slice_of, slices_from};
 ghost use Rattle.policy_text.specs.Views.{section};
 
 use crate::fault::{Part, ReadFault};
@@ -19,9 +19,9 @@ pub const BURST: u32 = 1000;
 
 pub const QUOTA: u32 = 1024;
 
-#[tactic(auto, unfolding(crate::specs::Slices::slice_in))]
+#[tactic(auto, unfolding(crate::specs::Slices::slice_of_table))]
 fn slice_in(table: &Section<'_>) -> Result<Slice, ReadFault>
-    ensures { Gives (λ s. s) result (slice_in (section table.now)) }
+    ensures { GivesAsText (λ s. s) result (slice_of_table (section table.now)) }
 {
     table.known_keys()?;
     let name = table.required_text(Texts::Name, "name")?;
@@ -39,14 +39,14 @@ fn slice_in(table: &Section<'_>) -> Result<Slice, ReadFault>
 }
 
 fn slice_of(alloc: Global, index: u64, value: &Value) -> Result<Slice, ReadFault>
-    ensures { Gives (λ s. s) result (slice_of index (view value.now)) }
+    ensures { GivesAsText (λ s. s) result (slice_of index (view value.now)) }
 {
     slice_in(&Section::of(alloc, "slice", Part::Slice, index, value)?)
 }
 
 /// The slices of the items.
 pub fn slices(alloc: Global, values: &[Value]) -> Result<Vec<Slice>, ReadFault>
-    ensures { Gives (λ v. v.items) result (slices_from 0 (items_view values.now)) }
+    ensures { GivesAsText (λ v. v.items) result (slices_from 0 (items_view values.now)) }
 {
     let mut slices = Vec::new(alloc);
     for (index, value) in values.iter().enumerate() {

@@ -3,7 +3,7 @@
 ghost use Rattle.std.specs.Prelude.{◌≡◌, ◌≤◌, true, IfOk, IfSome, map, option_map};
 ghost use Rattle.toml.specs.Text.{are_tables, has_items};
 ghost use Rattle.toml.specs.View.{items_view, view};
-ghost use Rattle.policy_text.specs.Reading.{addresses, each_text, greatest, is_number, is_text, number, numeral, numeral_of, some_tables, tables, text, text_list};
+ghost use Rattle.policy_text.specs.Reading.{addresses, each_text, greatest, is_allowed_number, is_text, number, numeral, numeral_of, some_tables, tables, text, text_list};
 
 use address_text::{datapath_id, hardware_address, prefix};
 use flowspace::{is_controller, is_in_port, is_name, is_vlan};
@@ -45,7 +45,7 @@ pub enum Texts {
 }
 
 fn is_number(numbers: Numbers, n: u32) -> bool
-    ensures value { result ≡ is_number numbers n }
+    ensures value { result ≡ is_allowed_number numbers n }
     ensures limit { result ≡ true → n ≤ greatest numbers }
 {
     match numbers {

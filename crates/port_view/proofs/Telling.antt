@@ -12,7 +12,7 @@ use Rattle.port_view.specs.declared.answer.Kept.{Kept as Answer}
 use Rattle.port_view.specs.declared.answer.Kept.TheVariants.{Kept, Ignored, TooManyPorts}
 use Rattle.flowspace.specs.Owners.{is_in_port}
 use Rattle.port_view.specs.KnownPorts.{is_of_number, port_of, with_port, without_port, with_told, first_known, kept_of, is_kept, changed_plainly, known_of}
-use Rattle.port_view.specs.Told.{kept_statuses, told_first, told_by, told_last}
+use Rattle.port_view.specs.Told.{kept_statuses, told_first, port_it_tells, told_last}
 use Rattle.port_view.proofs.Cutting.{by_number, by_reason}
 use Rattle.port_view.proofs.Knowing.{by_kept}
 use Rattle.port_view.proofs.Finding.{or_none, find-put_same, find-put_other, find-out_same, find-out_other}
@@ -85,8 +85,8 @@ port_of-first number ports = elim (cases_Bool (is_in_port number)) [
 
 -- ---- the statuses
 
-port_of-changed_same : (status : PortStatus) (known : List (List ℕ)) → port_of (port_number status.port) (changed_plainly status known) ≡ told_by status
-port_of-changed_same status known = by_reason (λ now. port_of (port_number status.port) now ≡ told_by status) status known
+port_of-changed_same : (status : PortStatus) (known : List (List ℕ)) → port_of (port_number status.port) (changed_plainly status known) ≡ port_it_tells status
+port_of-changed_same status known = by_reason (λ now. port_of (port_number status.port) now ≡ port_it_tells status) status known
     (λ is. rw (eq-eqb status.reason 1 is) (port_of-without_same (port_number status.port) known))
     (λ isnt. rw (ne_eqb status.reason 1 isnt) (port_of-with_same status.port known))
 
@@ -114,7 +114,7 @@ kept_statuses-not features status earlier isnt = rw (is_kept-not features status
 
 -- what the statuses tell of a number
 abbrev told_in : ℕ → Features → List PortStatus → Option (List ℕ)
-told_in number features kept = option_map_or told_by (find (λ status. is_of_number number status.port) kept) (told_first number features.ports)
+told_in number features kept = option_map_or port_it_tells (find (λ status. is_of_number number status.port) kept) (told_first number features.ports)
 
 told_last-not_kept : (number : ℕ) (features : Features) (status : PortStatus) (earlier : List PortStatus) → kept_of status (known_of features earlier) ≢ Kept
     → told_last number features (status ∷ earlier) ≡ told_last number features earlier
@@ -122,7 +122,7 @@ unfolding told_last
 told_last-not_kept number features status earlier isnt = ap (told_in number features) (kept_statuses-not features status earlier isnt)
 
 told_last-same : (number : ℕ) (features : Features) (status : PortStatus) (earlier : List PortStatus) → kept_of status (known_of features earlier) ≡ Kept
-    → port_number status.port ≡ number → told_last number features (status ∷ earlier) ≡ told_by status
+    → port_number status.port ≡ number → told_last number features (status ∷ earlier) ≡ port_it_tells status
 unfolding told_last
 told_last-same number features status earlier is same =
     ap (told_in number features) (kept_statuses-kept features status earlier is) ∙ rw (eq-eqb (port_number status.port) number same) refl

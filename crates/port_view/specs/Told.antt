@@ -16,10 +16,10 @@ abbrev pub told_first : ℕ → List (List ℕ) → Option (List ℕ)
 told_first number ports = if is_in_port number then find (is_of_number number) (reverse ports) else None
 
 -- the port that a kept status tells of, none where it deletes it
-abbrev pub told_by : PortStatus → Option (List ℕ)
-told_by status = if status.reason == 1 then None else Some status.port
+abbrev pub port_it_tells : PortStatus → Option (List ℕ)
+port_it_tells status = if status.reason == 1 then None else Some status.port
 
 -- the port of a number as it was told last: by the newest kept status of that number, else by the FEATURES_REPLY
 unfoldable pub told_last : ℕ → Features → List PortStatus → Option (List ℕ)
 told_last number features statuses =
-    option_map_or told_by (find (λ status. is_of_number number status.port) (kept_statuses features statuses)) (told_first number features.ports)
+    option_map_or port_it_tells (find (λ status. is_of_number number status.port) (kept_statuses features statuses)) (told_first number features.ports)

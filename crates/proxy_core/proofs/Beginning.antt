@@ -25,7 +25,7 @@ use Rattle.slice_words.specs.Standing.{SliceStands}
 use Rattle.desk_words.specs.declared.event.Event.TheVariants.{SwitchMsg}
 use Rattle.desk_words.specs.declared.phase.Phase.{Phase}
 use Rattle.desk_words.specs.declared.phase.Phase.TheVariants.{Begun}
-use Rattle.desk_words.specs.Openings.{ends_switch, features_said, features_told, opening_after, known_after, rules_of, Switch, switch_after}
+use Rattle.desk_words.specs.Openings.{ends_switch, features_said, features_told, opening_after, known_after, rules_of, KnownSwitch, switch_after}
 use Rattle.desk_words.specs.Histories.{is_slot, settings_at, own_features, Side, side_start, items_of, phase_items, opening_items, with_shown}
 use Rattle.desk_words.specs.Sent.{echo_said, echo_for}
 use Rattle.desk_words.specs.Operations.{slice_limit}
@@ -85,18 +85,18 @@ first_stands slice s slot features state same rate burst fresh = record {
   burst = fresh.burst ∙ sym burst;
 }
 
-opens_now : (switch : Switch) (message : List ℕ) (features : Features) → switch.phase ≡ Begun → switch.features ≡ None → features_told message ≡ Some features
+opens_now : (switch : KnownSwitch) (message : List ℕ) (features : Features) → switch.phase ≡ Begun → switch.features ≡ None → features_told message ≡ Some features
     → opening_after switch.phase switch.features (SwitchMsg message) ≡ Some features
 opens_now switch message features begun none told = ap₂ (λ (phase : Phase) (t : Option Features). opening_after phase t (SwitchMsg message)) begun none ∙ told
 
-shown_first : (p : PolicyView) (slot : ℕ) (switch : Switch) (side : Side) (moment : ℕ) (message : List ℕ) (features : Features) → switch.phase ≡ Begun → features_told message ≡ Some features → is_slot p slot ≡ true
+shown_first : (p : PolicyView) (slot : ℕ) (switch : KnownSwitch) (side : Side) (moment : ℕ) (message : List ℕ) (features : Features) → switch.phase ≡ Begun → features_told message ≡ Some features → is_slot p slot ≡ true
     → items_of p slot switch side (told_at moment message) ≡ Told (own_features (settings_at p slot (Some features)) features) ∷ []
 shown_first p slot switch side moment message features begun told here =
     ap₂ (λ (b : Bool) (phase : Phase). if b then phase_items p slot switch side (told_at moment message) phase else []) here begun
     ∙ ap (opening_items p slot) told
 
 -- one slot of the session
-slot_begins : (p : PolicyView) (switch : Switch) (sides : ℕ → Side) (qs : ℕ → Queue) (moment : ℕ) (message : List ℕ) (features : Features) (slot : ℕ) (slice : Slice) (state : SliceState) (queue : Kept)
+slot_begins : (p : PolicyView) (switch : KnownSwitch) (sides : ℕ → Side) (qs : ℕ → Queue) (moment : ℕ) (message : List ℕ) (features : Features) (slot : ℕ) (slice : Slice) (state : SliceState) (queue : Kept)
     → switch.phase ≡ Begun → switch.features ≡ None → features_told message ≡ Some features → sides slot ≡ side_start → qs slot ≡ no_messages
     → slice_get p.slices slot ≡ Some slice → IsFreshState slot slice state → QueueStands slice_limit no_messages queue
     → SlotStands p slot (switch_after switch (SwitchMsg message)) (sides_after p switch sides (told_at moment message) slot) (queues_after p switch sides qs (told_at moment message) slot) state queue
@@ -120,7 +120,7 @@ slot_begins p switch sides qs moment message features slot slice state queue beg
           waits;
     }
 
-pub session_begins : (p : PolicyView) (switch : Switch) (sides : ℕ → Side) (qs : ℕ → Queue) (moment : ℕ) (message : List ℕ) (features : Features) (session : Session)
+pub session_begins : (p : PolicyView) (switch : KnownSwitch) (sides : ℕ → Side) (qs : ℕ → Queue) (moment : ℕ) (message : List ℕ) (features : Features) (session : Session)
     → Coherent p switch sides → Opens p switch sides qs None → switch.phase ≡ Begun → features_told message ≡ Some features → Begins p features session
     → SessionStands p (switch_after switch (SwitchMsg message)) (sides_after p switch sides (told_at moment message)) (queues_after p switch sides qs (told_at moment message)) session
 session_begins p switch sides qs moment message features session fit opens begun told b =

@@ -8,7 +8,7 @@ use Rattle.flowspace.specs.declared.slices.Slice.{Slice}
 use Rattle.flowspace.specs.Policies.{PolicyView}
 use Rattle.outbox.specs.Queues.{Queue, no_messages, push, push_all, Kept, QueueStands}
 use Rattle.desk_words.specs.declared.event.Timed.{Timed}
-use Rattle.desk_words.specs.Openings.{Switch}
+use Rattle.desk_words.specs.Openings.{KnownSwitch}
 use Rattle.desk_words.specs.Histories.{Side}
 use Rattle.desk_words.specs.Sent.{sent_with}
 use Rattle.switch_side.specs.Dispatches.{addressed, sent_to_all}
@@ -206,7 +206,7 @@ slot_others other slot (message ∷ later) far = slot_first other slot message (
 further : (a b : ℕ) → a ≤ b → a ≢ b → a + 1 ≤ b
 further a b low far = elim (cases_lt a b) [ inl less ↦ omega arith | inr more ↦ absurd (far (omega arith)) ]
 
-slot_behind : (p : PolicyView) (switch : Switch) (sides : ℕ → Side) (timed : Timed) (from slot : ℕ) (slices : List Slice) → slot < from
+slot_behind : (p : PolicyView) (switch : KnownSwitch) (sides : ℕ → Side) (timed : Timed) (from slot : ℕ) (slices : List Slice) → slot < from
     → of_slot slot (sent_to_all p switch sides timed from slices) ≡ []
 slot_behind p switch sides timed from slot [] less = refl
 slot_behind p switch sides timed from slot (slice ∷ others) less =
@@ -214,14 +214,14 @@ slot_behind p switch sides timed from slot (slice ∷ others) less =
     ∙ ap₂ (λ (a b : List (List ℕ)). a ++ b) (slot_others from slot (sent_with p from switch (sides from) timed) (λ e. absurd (omega (arith, e))))
     (slot_behind p switch sides timed (from + 1) slot others (omega arith))
 
-slot_here : (p : PolicyView) (switch : Switch) (sides : ℕ → Side) (timed : Timed) (from : ℕ) (slice : Slice) (others : List Slice)
+slot_here : (p : PolicyView) (switch : KnownSwitch) (sides : ℕ → Side) (timed : Timed) (from : ℕ) (slice : Slice) (others : List Slice)
     → of_slot from (sent_to_all p switch sides timed from (slice ∷ others)) ≡ sent_with p from switch (sides from) timed
 slot_here p switch sides timed from slice others =
     slot_append from (addressed from (sent_with p from switch (sides from) timed)) (sent_to_all p switch sides timed (from + 1) others)
     ∙ ap₂ (λ (a b : List (List ℕ)). a ++ b) (slot_own from (sent_with p from switch (sides from) timed)) (slot_behind p switch sides timed (from + 1) from others (omega arith))
     ∙ append-nil _
 
-pub slot_sent : (p : PolicyView) (switch : Switch) (sides : ℕ → Side) (timed : Timed) (from slot : ℕ) (slices : List Slice) → from ≤ slot → slot < from + length slices
+pub slot_sent : (p : PolicyView) (switch : KnownSwitch) (sides : ℕ → Side) (timed : Timed) (from slot : ℕ) (slices : List Slice) → from ≤ slot → slot < from + length slices
     → of_slot slot (sent_to_all p switch sides timed from slices) ≡ sent_with p slot switch (sides slot) timed
 slot_sent p switch sides timed from slot [] low high = absurd (omega arith)
 slot_sent p switch sides timed from slot (slice ∷ others) low high = elim (cases_Bool (from == slot)) [

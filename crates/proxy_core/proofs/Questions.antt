@@ -6,7 +6,7 @@ use Rattle.flowspace.specs.Policies.{PolicyView}
 use Rattle.outbox.specs.Queues.{Queue, no_messages, Kept}
 use Rattle.slice_words.specs.Items.{is_up}
 use Rattle.desk_words.specs.declared.answer.Dest.TheVariants.{Switch, Slice}
-use Rattle.desk_words.specs.Openings.{Switch as Known, switch_of, phase_of}
+use Rattle.desk_words.specs.Openings.{KnownSwitch as Known, switch_of, phase_of}
 use Rattle.desk_words.specs.Histories.{is_slot, Side, side_of, is_open}
 use Rattle.desk_words.specs.Verdicts.{is_ended}
 use Rattle.desk_words.specs.Operations.{Operation, events_of, queue_of}

@@ -13,7 +13,7 @@ use Rattle.desk_words.specs.declared.answer.Dest.TheVariants.{Switch, Slice}
 use Rattle.desk_words.specs.declared.answer.Taken.{Taken}
 use Rattle.desk_words.specs.declared.answer.Taken.TheVariants as takens
 use Rattle.desk_words.specs.declared.answer.Taken.TheVariants.{Message, Nothing, Choked, NotOpen}
-use Rattle.desk_words.specs.Openings.{Switch as Known}
+use Rattle.desk_words.specs.Openings.{KnownSwitch as Known}
 use Rattle.desk_words.specs.Histories.{is_slot, settings_at, Side, is_open}
 use Rattle.desk_words.specs.Verdicts.{is_ended}
 use Rattle.desk_words.specs.Operations.{slice_limit, lane_limit, why_none}

@@ -13,7 +13,7 @@ use Rattle.desk_words.specs.declared.event.Event.TheVariants.{SwitchMsg}
 use Rattle.desk_words.specs.declared.answer.Taken.{Taken}
 use Rattle.desk_words.specs.declared.answer.Taken.TheVariants.{Choked, Nothing, Ended}
 use Rattle.desk_words.specs.declared.phase.Phase.TheVariants.{Opened}
-use Rattle.desk_words.specs.Openings.{ends_switch, Switch, switch_after}
+use Rattle.desk_words.specs.Openings.{ends_switch, KnownSwitch, switch_after}
 use Rattle.desk_words.specs.Histories.{Side}
 use Rattle.desk_words.specs.Sent.{echo_for}
 use Rattle.desk_words.specs.Operations.{slice_limit}
@@ -60,7 +60,7 @@ silence_at slot session =
 -- ---- a message of the switch
 
 -- a message of the switch was carried out, or has a bad length and so nothing changed yet
-abbrev pub CarriedOut : PolicyView → Switch → (ℕ → Side) → (ℕ → Queue) → ℕ → List ℕ → Bool → Session → Kept → Session → Kept → Type 0
+abbrev pub CarriedOut : PolicyView → KnownSwitch → (ℕ → Side) → (ℕ → Queue) → ℕ → List ℕ → Bool → Session → Kept → Session → Kept → Type 0
 CarriedOut policy switch sides queues moment message true old lane new new_lane =
     (ends_switch message ≡ false)
     × SessionStands policy (switch_after switch (SwitchMsg message)) (sides_after policy switch sides (told_at moment message)) (queues_after policy switch sides queues (told_at moment message)) new
@@ -70,12 +70,12 @@ CarriedOut policy switch sides queues moment message false old lane new new_lane
 -- what a session that has told what it is makes of a message of the switch
 abbrev pub Carries : ℕ → List ℕ → Bool → Session → Kept → Session → Kept → Type 0
 Carries moment message on old lane new new_lane =
-    (policy : PolicyView) (switch : Switch) (sides : ℕ → Side) (queues : ℕ → Queue) → switch.phase ≡ Opened → AllNumbered policy switch sides → SessionStands policy switch sides queues old
+    (policy : PolicyView) (switch : KnownSwitch) (sides : ℕ → Side) (queues : ℕ → Queue) → switch.phase ≡ Opened → AllNumbered policy switch sides → SessionStands policy switch sides queues old
     → CarriedOut policy switch sides queues moment message on old lane new new_lane
 
 -- what a session stood for it stands for still
 abbrev pub StandsOn : Session → Session → Type 0
-StandsOn old new = (policy : PolicyView) (switch : Switch) (sides : ℕ → Side) (queues : ℕ → Queue) → SessionStands policy switch sides queues old → SessionStands policy switch sides queues new
+StandsOn old new = (policy : PolicyView) (switch : KnownSwitch) (sides : ℕ → Side) (queues : ℕ → Queue) → SessionStands policy switch sides queues old → SessionStands policy switch sides queues new
 
 -- ---- the opening
 

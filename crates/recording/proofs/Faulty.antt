@@ -9,7 +9,7 @@ use Rattle.of10_model.proofs.Ranges.{number_at-lt}
 use Rattle.recording.specs.declared.item.Item.{Item}
 use Rattle.recording.specs.declared.fault.RecordingFault.{RecordingFault}
 use Rattle.recording.specs.declared.fault.RecordingFault.TheVariants.{Torn, Bad, NotOpen, Memory}
-use Rattle.recording.specs.Recordings.{Told, told_at, spell, head_spelling, item_at, is_formed, fits, record_at}
+use Rattle.recording.specs.Recordings.{Told, placed_record, record_bytes, head_spelling, item_at, is_formed, fits, record_at}
 use Rattle.recording.specs.Faults.{HasForm, HasNoForm, IsCutOff, IsUnfit, IsFaultAt}
 use Rattle.recording.proofs.Told.{number_first, number_behind, spell_length, kind_again, switch_again, slot_again, zero_again, size_again, small, head_again, with_rest}
 use Rattle.recording.proofs.Untold.{AreBytes, head_spelled, zero_formed, size_at, told_spelled}
@@ -24,17 +24,17 @@ head_same xs ys e k n m is le =
     sym (number_take xs k n m le) ∙ ap (λ l. number_at l k n) (ap (λ s. take s xs) is ∙ e ∙ ap (λ s. take s ys) (sym is)) ∙ number_take ys k n m le
 
 -- bytes that begin as a record of the form say its head
-head_told : (slices : ℕ) (front rest : List ℕ) (t : Told) → is_formed slices 0 (told_at (length front) t) ≡ true → take 16 rest ≡ take 16 (spell t)
+head_told : (slices : ℕ) (front rest : List ℕ) (t : Told) → is_formed slices 0 (placed_record (length front) t) ≡ true → take 16 rest ≡ take 16 (record_bytes t)
     → (is_formed slices (number_at (front ++ rest) (length front + 3) 1) (item_at (front ++ rest) (length front)) ≡ true) × ((item_at (front ++ rest) (length front)).size ≡ length t.bytes)
 unfolding item_at
 head_told slices front rest t formed e =
-    let few : length t.bytes < 2 ^ 32 = small slices 0 (told_at (length front) t) formed in
-    let same : take 16 rest ≡ take 16 (spell t ++ []) = e ∙ ap (take 16) (sym (append-nil (spell t))) in
-    let kind : number_at rest 0 1 ≡ t.kind = head_same rest (spell t ++ []) same 0 1 16 refl (omega arith) ∙ kind_again t [] in
-    let switch : number_at rest 1 1 ≡ t.switch = head_same rest (spell t ++ []) same 1 1 15 refl (omega arith) ∙ switch_again t [] in
-    let slot : number_at rest 2 1 ≡ t.slot = head_same rest (spell t ++ []) same 2 1 14 refl (omega arith) ∙ slot_again t [] in
-    let none : number_at rest 3 1 ≡ 0 = head_same rest (spell t ++ []) same 3 1 13 refl (omega arith) ∙ zero_again [] [] t in
-    let size : number_at rest 4 4 ≡ length t.bytes = head_same rest (spell t ++ []) same 4 4 12 refl (omega arith) ∙ size_again t [] few in (
+    let few : length t.bytes < 2 ^ 32 = small slices 0 (placed_record (length front) t) formed in
+    let same : take 16 rest ≡ take 16 (record_bytes t ++ []) = e ∙ ap (take 16) (sym (append-nil (record_bytes t))) in
+    let kind : number_at rest 0 1 ≡ t.kind = head_same rest (record_bytes t ++ []) same 0 1 16 refl (omega arith) ∙ kind_again t [] in
+    let switch : number_at rest 1 1 ≡ t.switch = head_same rest (record_bytes t ++ []) same 1 1 15 refl (omega arith) ∙ switch_again t [] in
+    let slot : number_at rest 2 1 ≡ t.slot = head_same rest (record_bytes t ++ []) same 2 1 14 refl (omega arith) ∙ slot_again t [] in
+    let none : number_at rest 3 1 ≡ 0 = head_same rest (record_bytes t ++ []) same 3 1 13 refl (omega arith) ∙ zero_again [] [] t in
+    let size : number_at rest 4 4 ≡ length t.bytes = head_same rest (record_bytes t ++ []) same 4 4 12 refl (omega arith) ∙ size_again t [] few in (
       rw (number_first front rest 1, number_behind front rest 1 1, number_behind front rest 2 1, number_behind front rest 3 1, number_behind front rest 4 4, kind, switch, slot, none, size) formed,
       number_behind front rest 4 4 ∙ size,
     )
@@ -46,14 +46,14 @@ told_with xs body = record { kind = number_at xs 0 1; switch = number_at xs 1 1;
 abbrev head_of : List ℕ → List ℕ
 head_of xs = head_spelling (number_at xs 0 1) (number_at xs 1 1) (number_at xs 2 1) (number_at xs 4 4) (number_at xs 8 8)
 
-spell_with : (xs body : List ℕ) → length body ≡ number_at xs 4 4 → spell (told_with xs body) ≡ head_of xs ++ body
+spell_with : (xs body : List ℕ) → length body ≡ number_at xs 4 4 → record_bytes (told_with xs body) ≡ head_of xs ++ body
 spell_with xs body is = rw is refl
 
 length-head_of : (xs : List ℕ) → length (head_of xs) ≡ 16
 unfolding head_spelling
 length-head_of xs = refl
 
-item_with : (front rest body : List ℕ) → length body ≡ number_at rest 4 4 → item_at (front ++ rest) (length front) ≡ told_at (length front) (told_with rest body)
+item_with : (front rest body : List ℕ) → length body ≡ number_at rest 4 4 → item_at (front ++ rest) (length front) ≡ placed_record (length front) (told_with rest body)
 unfolding item_at
 item_with front rest body is = rw (number_first front rest 1, number_behind front rest 1 1, number_behind front rest 2 1, number_behind front rest 8 8, number_behind front rest 4 4, is) refl
 
@@ -63,7 +63,7 @@ form_with : (slices : ℕ) (front rest body : List ℕ) → AreBytes rest → le
 form_with slices front rest body bytes is formed =
     let zero_and = zero_formed slices (number_at (front ++ rest) (length front + 3) 1) (item_at (front ++ rest) (length front)) formed in
     let none : number_at rest 3 1 ≡ 0 = rw (number_behind front rest 3 1) at zero_and.0 in
-    let head : is_formed slices 0 (told_at (length front) (told_with rest body)) ≡ true = rw (item_with front rest body is) at zero_and.1 in
+    let head : is_formed slices 0 (placed_record (length front) (told_with rest body)) ≡ true = rw (item_with front rest body is) at zero_and.1 in
     (none, (head, number_at-lt rest 8 8 bytes))
 
 -- ---- what is wrong
@@ -140,7 +140,7 @@ unfolding record_at
 cut_torn slices front rest before long c =
     let left : ℕ = length (front ++ rest) - length front in
     let count = length-append front rest in
-    let same : take 16 rest ≡ take 16 (spell c.told) = sym (ap (take 16) c.begun ∙ take-append-le 16 rest c.missing long) in
+    let same : take 16 rest ≡ take 16 (record_bytes c.told) = sym (ap (take 16) c.begun ∙ take-append-le 16 rest c.missing long) in
     let head = head_told slices front rest c.told c.formed.0 same in
     let whole = ap length c.begun in
     let lack : left - 16 < length c.told.bytes = omega (arith, count, long, whole, length-append rest c.missing, spell_length c.told, c.some) in
@@ -155,19 +155,19 @@ form_bad slices front rest before bytes none =
     let is : length body ≡ size = length-replicate size 0 in
     let bad : is_formed slices (number_at (front ++ rest) (length front + 3) 1) (item_at (front ++ rest) (length front)) ≡ false = false_from_ne_true _ (λ formed.
     let form = form_with slices front rest body bytes is formed in
-    let begun : take 16 rest ≡ take 16 (spell (told_with rest body)) =
+    let begun : take 16 rest ≡ take 16 (record_bytes (told_with rest body)) =
     ap (take 16) (sym (head_spelled rest bytes none.0 form.0)) ∙ take-append-le 16 (head_of rest) (drop 16 rest) (omega (arith, length-head_of rest))
     ∙ sym (ap (take 16) (spell_with rest body is) ∙ take-append-le 16 (head_of rest) body (omega (arith, length-head_of rest))) in
     none.1 (told_with rest body) form.1 begun) in
     rw (le-ltb left 16 (omega (arith, length-append front rest, none.0)), bad) refl
 
-shut : (slices : ℕ) (front later : List ℕ) (before : List Item) (t : Told) → HasForm slices (length front) t → fits before (told_at (length front) t) ≡ false
-    → record_at slices (front ++ (spell t ++ later)) before (length front) ≡ Err (NotOpen (length front))
+shut : (slices : ℕ) (front later : List ℕ) (before : List Item) (t : Told) → HasForm slices (length front) t → fits before (placed_record (length front) t) ≡ false
+    → record_at slices (front ++ (record_bytes t ++ later)) before (length front) ≡ Err (NotOpen (length front))
 unfolding record_at
 shut slices front later before t form closed =
-    let bytes : List ℕ = front ++ (spell t ++ later) in
+    let bytes : List ℕ = front ++ (record_bytes t ++ later) in
     let long = with_rest front later t in
-    rw (head_again front later t (small slices 0 (told_at (length front) t) form.0) form.1, zero_again front later t, form.0, closed, le-ltb (length bytes - length front) 16 (omega (arith, long)), le-ltb (length bytes - length front - 16) (length t.bytes) (omega (arith, long))) refl
+    rw (head_again front later t (small slices 0 (placed_record (length front) t) form.0) form.1, zero_again front later t, form.0, closed, le-ltb (length bytes - length front) 16 (omega (arith, long)), le-ltb (length bytes - length front - 16) (length t.bytes) (omega (arith, long))) refl
 
 unfit_shut : (slices : ℕ) (front rest : List ℕ) (before : List Item) → IsUnfit slices before (length front) rest → record_at slices (front ++ rest) before (length front) ≡ Err (NotOpen (length front))
 unfit_shut slices front rest before u =

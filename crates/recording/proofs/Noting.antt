@@ -4,7 +4,7 @@ use Rattle.std.proofs.lemmas.Bool.Decides.{eqb_tells}
 use Rattle.std.proofs.lemmas.List.{get_or-set_same, get_or-set_other, get_or-replicate, length-set, length-replicate}
 use Rattle.recording.specs.declared.item.Item.{Item}
 use Rattle.recording.specs.Recordings.{is_switch_open, is_slice_open}
-use Rattle.recording.specs.Standing.{Stands}
+use Rattle.recording.specs.Standing.{TableStands}
 
 -- ---- a place of a list after one of its places is written
 
@@ -43,8 +43,8 @@ through rows k s t u h (inl e) = rw e.0 (rw (← e.1) (written (get_or rows k []
 through rows k s t u h (inr e) = rw e.0 refl
 
 -- a SLICE_UP
-pub slice_goes_up : (switches : List Bool) (slices : List (List Bool)) (before : List Item) (r : Item) → Stands switches slices before → r.kind ≡ 3 → r.switch < 16 → r.slot < 256
-    → Stands switches (set slices r.switch (set (get_or slices r.switch []) r.slot true)) (r ∷ before)
+pub slice_goes_up : (switches : List Bool) (slices : List (List Bool)) (before : List Item) (r : Item) → TableStands switches slices before → r.kind ≡ 3 → r.switch < 16 → r.slot < 256
+    → TableStands switches (set slices r.switch (set (get_or slices r.switch []) r.slot true)) (r ∷ before)
 slice_goes_up switches slices before r st k hs ht =
     let row : List Bool = set (get_or slices r.switch []) r.slot true in
     let inside : r.switch < length slices = rw st.slices_are hs in
@@ -72,8 +72,8 @@ slices_went_down r before s t row true k g e h = rw (k, e) (get_or-replicate 256
 slices_went_down r before s t row false k g e h = rw e h
 
 -- a SWITCH_DOWN
-pub switch_goes_down : (switches : List Bool) (slices : List (List Bool)) (before : List Item) (r : Item) → Stands switches slices before → r.kind ≡ 2 → r.switch < 16
-    → Stands (set switches r.switch false) (set slices r.switch (replicate 256 false)) (r ∷ before)
+pub switch_goes_down : (switches : List Bool) (slices : List (List Bool)) (before : List Item) (r : Item) → TableStands switches slices before → r.kind ≡ 2 → r.switch < 16
+    → TableStands (set switches r.switch false) (set slices r.switch (replicate 256 false)) (r ∷ before)
 switch_goes_down switches slices before r st k hs =
     let inside : r.switch < length slices = rw st.slices_are hs in
     record {
@@ -90,7 +90,7 @@ switch_goes_down switches slices before r st k hs =
 
 -- ---- nobody is up
 
-pub nobody_is_up : (row : List Bool) → row ≡ replicate 256 false → Stands (replicate 16 false) (replicate 16 row) []
+pub nobody_is_up : (row : List Bool) → row ≡ replicate 256 false → TableStands (replicate 16 false) (replicate 16 row) []
 nobody_is_up row e = record {
   switches_are = refl;
   slices_are = refl;

@@ -12,8 +12,8 @@ use Rattle.of10_model.proofs.Results.{bind_err, others_wrong}
 use Rattle.recording.specs.declared.item.Item.{Item}
 use Rattle.recording.specs.declared.fault.RecordingFault.{RecordingFault}
 use Rattle.recording.specs.declared.fault.RecordingFault.TheVariants.{Torn, Bad}
-use Rattle.recording.specs.Recordings.{Told, HasMoment, told_at, all_told, may_be_told, recording, spell, magic, is_formed, fits, record_at, items_from, read_items}
-use Rattle.recording.specs.Faults.{IsFaultAt, IsFirstFault, IsRefused}
+use Rattle.recording.specs.Recordings.{Told, HasMoment, placed_record, all_told, may_be_told, recording, record_bytes, magic, is_formed, fits, record_at, items_from, read_items}
+use Rattle.recording.specs.Faults.{IsFaultAt, IsFirstRecordingFault, IsRefused}
 use Rattle.recording.proofs.Told.{spell_length, record_again, with_rest}
 use Rattle.recording.proofs.Untold.{AreBytes, bytes_of, bytes-behind, Begins, begins, length-begins}
 use Rattle.recording.proofs.Faulty.{or_else, fault_found, fault_answered}
@@ -39,11 +39,11 @@ begun_or P false r f fault e stops goes = let is : f ≡ fault = cc in subst P i
 pub newest_first : {A : Type 0} (r : A) (items before : List A) → reverse (r ∷ items) ++ before ≡ reverse items ++ (r ∷ before)
 newest_first r items before = ap (λ l. l ++ before) (reverse-append (r ∷ []) items) ∙ append_assoc (reverse items) (r ∷ []) before
 
-behind_one : (front : List ℕ) (t : Told) (told : List Told) → front ++ flat_map spell (t ∷ told) ≡ (front ++ spell t) ++ flat_map spell told
-behind_one front t told = ap (λ l. front ++ l) (flat_map-cons spell t told) ∙ sym (append_assoc front (spell t) (flat_map spell told))
+behind_one : (front : List ℕ) (t : Told) (told : List Told) → front ++ flat_map record_bytes (t ∷ told) ≡ (front ++ record_bytes t) ++ flat_map record_bytes told
+behind_one front t told = ap (λ l. front ++ l) (flat_map-cons record_bytes t told) ∙ sym (append_assoc front (record_bytes t) (flat_map record_bytes told))
 
-next_place : (front : List ℕ) (t : Told) → length (front ++ spell t) ≡ length front + 16 + length t.bytes
-next_place front t = omega (arith, length-append front (spell t), spell_length t)
+next_place : (front : List ℕ) (t : Told) → length (front ++ record_bytes t) ≡ length front + 16 + length t.bytes
+next_place front t = omega (arith, length-append front (record_bytes t), spell_length t)
 
 -- records that are told, and then something wrong
 record Stops (slices : ℕ) (front more : List ℕ) (before : List Item) (fault : RecordingFault) : Type 0 where
@@ -51,9 +51,9 @@ record Stops (slices : ℕ) (front more : List ℕ) (before : List Item) (fault 
   moments : All HasMoment told
   right : may_be_told slices before (all_told (length front) told) ≡ true
   rest : List ℕ
-  splits : more ≡ flat_map spell told ++ rest
+  splits : more ≡ flat_map record_bytes told ++ rest
   some : 1 ≤ length rest
-  wrong : IsFaultAt slices (reverse (all_told (length front) told) ++ before) (length (front ++ flat_map spell told)) rest fault
+  wrong : IsFaultAt slices (reverse (all_told (length front) told) ++ before) (length (front ++ flat_map record_bytes told)) rest fault
 
 -- ---- what stops a reading
 
@@ -69,29 +69,29 @@ stops_here slices front more before fault some wrong = record {
   wrong = rw (append-nil front) wrong;
 }
 
-stops_later : (slices : ℕ) (front more : List ℕ) (before : List Item) (r : Item) (fault : RecordingFault) (b : Begins slices front more before r) → Stops slices (front ++ spell b.told) b.rest (r ∷ before) fault → Stops slices front more before fault
+stops_later : (slices : ℕ) (front more : List ℕ) (before : List Item) (r : Item) (fault : RecordingFault) (b : Begins slices front more before r) → Stops slices (front ++ record_bytes b.told) b.rest (r ∷ before) fault → Stops slices front more before fault
 unfolding all_told may_be_told
 stops_later slices front more before r fault b s =
     let t : Told = b.told in
     let at : ℕ = length front in
     let next : ℕ = at + 16 + length t.bytes in
     let later : List Item = all_told next s.told in
-    let place : length (front ++ spell t) ≡ next = next_place front t in
+    let place : length (front ++ record_bytes t) ≡ next = next_place front t in
     let P : ℕ → Item → Type 0 = λ p i. may_be_told slices (i ∷ before) (all_told p s.told) ≡ true in
-    let right : P next (told_at at t) = subst (λ i. P next i) b.is_told (subst (λ p. P p r) place s.right) in
+    let right : P next (placed_record at t) = subst (λ i. P next i) b.is_told (subst (λ p. P p r) place s.right) in
     let W : ℕ → Item → List ℕ → Type 0 = λ p i l. IsFaultAt slices (reverse (all_told p s.told) ++ (i ∷ before)) (length l) s.rest fault in
-    let wrong : W next (told_at at t) (front ++ flat_map spell (t ∷ s.told)) =
-    subst (λ l. W next (told_at at t) l) (sym (behind_one front t s.told)) (subst (λ i. W next i ((front ++ spell t) ++ flat_map spell s.told)) b.is_told (subst (λ p. W p r ((front ++ spell t) ++ flat_map spell s.told)) place s.wrong)) in
-    let formed : is_formed slices 0 (told_at at t) ≡ true = rw b.is_told at b.formed in
-    let fit : fits before (told_at at t) ≡ true = rw b.is_told at b.fit in
+    let wrong : W next (placed_record at t) (front ++ flat_map record_bytes (t ∷ s.told)) =
+    subst (λ l. W next (placed_record at t) l) (sym (behind_one front t s.told)) (subst (λ i. W next i ((front ++ record_bytes t) ++ flat_map record_bytes s.told)) b.is_told (subst (λ p. W p r ((front ++ record_bytes t) ++ flat_map record_bytes s.told)) place s.wrong)) in
+    let formed : is_formed slices 0 (placed_record at t) ≡ true = rw b.is_told at b.formed in
+    let fit : fits before (placed_record at t) ≡ true = rw b.is_told at b.fit in
     record {
       told = t ∷ s.told;
       moments = All-cons HasMoment t s.told b.moment s.moments;
       right = rw (formed, fit) right;
       rest = s.rest;
-      splits = b.spelled ∙ ap (λ l. spell t ++ l) s.splits ∙ sym (ap (λ l. l ++ s.rest) (flat_map-cons spell t s.told) ∙ append_assoc (spell t) (flat_map spell s.told) s.rest);
+      splits = b.spelled ∙ ap (λ l. record_bytes t ++ l) s.splits ∙ sym (ap (λ l. l ++ s.rest) (flat_map-cons record_bytes t s.told) ∙ append_assoc (record_bytes t) (flat_map record_bytes s.told) s.rest);
       some = s.some;
-      wrong = subst (λ items. IsFaultAt slices items (length (front ++ flat_map spell (t ∷ s.told))) s.rest fault) (sym (newest_first (told_at at t) later before)) wrong;
+      wrong = subst (λ items. IsFaultAt slices items (length (front ++ flat_map record_bytes (t ∷ s.told))) s.rest fault) (sym (newest_first (placed_record at t) later before)) wrong;
     }
 
 walk_stops : (n slices : ℕ) (front more : List ℕ) (before : List Item) (fault : RecordingFault) → AreBytes more → length more ≤ n → items_from n slices (front ++ more) before (length front) ≡ Err fault → Stops slices front more before fault
@@ -105,12 +105,12 @@ walk_stops (suc n) slices front (m ∷ ms) before fault bytes h e =
     let go = sym (reads_more n slices all before place (omega (arith, long))) ∙ e in
     let later : (r : Item) → record_at slices all before place ≡ Ok r → (items_from n slices all (r ∷ before) (r.from + r.size) >>= λ others. Ok (r ∷ others)) ≡ Err fault → Stops slices front more before fault = λ r read on.
     let b = begins slices front more before r bytes read in
-    let front' : List ℕ = front ++ spell b.told in
-    let grouped : front' ++ b.rest ≡ all = append_assoc front (spell b.told) b.rest ∙ ap (λ l. front ++ l) (sym b.spelled) in
+    let front' : List ℕ = front ++ record_bytes b.told in
+    let grouped : front' ++ b.rest ≡ all = append_assoc front (record_bytes b.told) b.rest ∙ ap (λ l. front ++ l) (sym b.spelled) in
     let behind : length front' ≡ r.from + r.size = length-begins slices front more before r b in
-    let few : length b.rest ≤ n = omega (arith, ap length b.spelled, length-append (spell b.told) b.rest, spell_length b.told, h) in
+    let few : length b.rest ≤ n = omega (arith, ap length b.spelled, length-append (record_bytes b.told) b.rest, spell_length b.told, h) in
     let inner : items_from n slices all (r ∷ before) (r.from + r.size) ≡ Err fault = others_wrong (items_from n slices all (r ∷ before) (r.from + r.size)) r fault on in
-    stops_later slices front more before r fault b (walk_stops n slices front' b.rest (r ∷ before) fault (bytes-behind more (spell b.told) b.rest bytes b.spelled) few (rw (grouped, behind) inner)) in
+    stops_later slices front more before r fault b (walk_stops n slices front' b.rest (r ∷ before) fault (bytes-behind more (record_bytes b.told) b.rest bytes b.spelled) few (rw (grouped, behind) inner)) in
     elim (bind_err (record_at slices all before place) (λ r. items_from n slices all (r ∷ before) (r.from + r.size) >>= λ others. Ok (r ∷ others)) fault go) [
       | inl wrong ↦ stops_here slices front more before fault (omega arith) (fault_found slices front more before fault bytes wrong)
       | inr right ↦ later right.0 right.1 right.2
@@ -118,28 +118,28 @@ walk_stops (suc n) slices front (m ∷ ms) before fault bytes h e =
 
 -- ---- and what stops it is answered
 
-walk_refused : (told : List Told) (n slices : ℕ) (front rest : List ℕ) (before : List Item) (fault : RecordingFault) → AreBytes rest → 1 ≤ length rest → length (flat_map spell told ++ rest) ≤ n → All HasMoment told
-    → may_be_told slices before (all_told (length front) told) ≡ true → IsFaultAt slices (reverse (all_told (length front) told) ++ before) (length (front ++ flat_map spell told)) rest fault
-    → items_from n slices (front ++ (flat_map spell told ++ rest)) before (length front) ≡ Err fault
+walk_refused : (told : List Told) (n slices : ℕ) (front rest : List ℕ) (before : List Item) (fault : RecordingFault) → AreBytes rest → 1 ≤ length rest → length (flat_map record_bytes told ++ rest) ≤ n → All HasMoment told
+    → may_be_told slices before (all_told (length front) told) ≡ true → IsFaultAt slices (reverse (all_told (length front) told) ++ before) (length (front ++ flat_map record_bytes told)) rest fault
+    → items_from n slices (front ++ (flat_map record_bytes told ++ rest)) before (length front) ≡ Err fault
 unfolding all_told may_be_told
-walk_refused told zero slices front rest before fault bytes some h m right wrong = absurd (omega (arith, length-append (flat_map spell told) rest, some, h))
+walk_refused told zero slices front rest before fault bytes some h m right wrong = absurd (omega (arith, length-append (flat_map record_bytes told) rest, some, h))
 walk_refused [] (suc n) slices front rest before fault bytes some h m right wrong =
     let at_front : IsFaultAt slices before (length front) rest fault = rw (append-nil front) at wrong in
     reads_more n slices (front ++ rest) before (length front) (let long = length-append front rest in omega (arith, long, some))
     ∙ ap (λ (x : Result Item RecordingFault). x >>= λ r. items_from n slices (front ++ rest) (r ∷ before) (r.from + r.size) >>= λ others. Ok (r ∷ others)) (fault_answered slices front rest before fault bytes at_front)
 walk_refused (t ∷ told) (suc n) slices front rest before fault bytes some h m right wrong =
-    let body : List ℕ = flat_map spell told in
+    let body : List ℕ = flat_map record_bytes told in
     let place : ℕ = length front in
-    let r : Item = told_at place t in
+    let r : Item = placed_record place t in
     let next : ℕ = place + 16 + length t.bytes in
-    let front' : List ℕ = front ++ spell t in
+    let front' : List ℕ = front ++ record_bytes t in
     let here : length front' ≡ next = next_place front t in
     let parts = and_parts (is_formed slices 0 r && fits before r) (may_be_told slices (r ∷ before) (all_told next told)) right in
     let head = and_parts (is_formed slices 0 r) (fits before r) parts.0 in
-    let split : flat_map spell (t ∷ told) ++ rest ≡ spell t ++ (body ++ rest) = ap (λ l. l ++ rest) (flat_map-cons spell t told) ∙ append_assoc (spell t) body rest in
-    let all : List ℕ = front ++ (spell t ++ (body ++ rest)) in
-    let grouped : front' ++ (body ++ rest) ≡ all = append_assoc front (spell t) (body ++ rest) in
-    let few : length (body ++ rest) ≤ n = omega (arith, ap length split, length-append (spell t) (body ++ rest), spell_length t, h) in
+    let split : flat_map record_bytes (t ∷ told) ++ rest ≡ record_bytes t ++ (body ++ rest) = ap (λ l. l ++ rest) (flat_map-cons record_bytes t told) ∙ append_assoc (record_bytes t) body rest in
+    let all : List ℕ = front ++ (record_bytes t ++ (body ++ rest)) in
+    let grouped : front' ++ (body ++ rest) ≡ all = append_assoc front (record_bytes t) (body ++ rest) in
+    let few : length (body ++ rest) ≤ n = omega (arith, ap length split, length-append (record_bytes t) (body ++ rest), spell_length t, h) in
     let W : List Item → List ℕ → Type 0 = λ items l. IsFaultAt slices items (length l) rest fault in
     let later : W (reverse (all_told next told) ++ (r ∷ before)) (front' ++ body) =
     subst (λ items. W items (front' ++ body)) (newest_first r (all_told next told) before) (subst (λ l. W (reverse (r ∷ all_told next told) ++ before) l) (behind_one front t told) wrong) in
@@ -161,7 +161,7 @@ unfolding read_items
 read_fault slices bytes fault range e =
     let more : List ℕ = drop 8 bytes in
     let all_bytes : AreBytes bytes = bytes_of bytes range in
-    let behind_magic : take 8 bytes ≡ magic → items_from (length bytes) slices bytes [] 8 ≡ Err fault → IsFirstFault slices bytes fault = λ front on.
+    let behind_magic : take 8 bytes ≡ magic → items_from (length bytes) slices bytes [] 8 ≡ Err fault → IsFirstRecordingFault slices bytes fault = λ front on.
     let whole : magic ++ more ≡ bytes = rw front at (take-append-drop 8 bytes) in
     let s = walk_stops (length bytes) slices magic more [] fault (bytes-drop bytes 8 all_bytes) (omega (arith, length-drop 8 bytes)) (rw whole on) in
     record {
@@ -169,7 +169,7 @@ read_fault slices bytes fault range e =
       moments = s.moments;
       right = s.right;
       rest = s.rest;
-      splits = sym whole ∙ ap (λ l. magic ++ l) s.splits ∙ sym (append_assoc magic (flat_map spell s.told) s.rest);
+      splits = sym whole ∙ ap (λ l. magic ++ l) s.splits ∙ sym (append_assoc magic (flat_map record_bytes s.told) s.rest);
       more = s.some;
       wrong = subst (λ items. IsFaultAt slices items (length (recording s.told)) s.rest fault) (append-nil (reverse (all_told 8 s.told))) s.wrong;
     } in
@@ -179,12 +179,12 @@ read_fault slices bytes fault range e =
     (λ b. inr (inl (ltb-false _ _ a, (λ same. absurd (let h = (bytes_eq-Decides (take 8 bytes) magic).1 same in cc)), refl)))
     (λ b e2. inr (inr (behind_magic ((bytes_eq-Decides (take 8 bytes) magic).0 b) e2))))
 
-refused_first : (slices : ℕ) (bytes : List ℕ) (fault : RecordingFault) → AreBytes bytes → IsFirstFault slices bytes fault → read_items slices bytes ≡ Err fault
+refused_first : (slices : ℕ) (bytes : List ℕ) (fault : RecordingFault) → AreBytes bytes → IsFirstRecordingFault slices bytes fault → read_items slices bytes ≡ Err fault
 unfolding read_items
 refused_first slices bytes fault range f =
-    let more : List ℕ = flat_map spell f.told ++ f.rest in
-    let split : bytes ≡ magic ++ more = f.splits ∙ append_assoc magic (flat_map spell f.told) f.rest in
-    let wrong : IsFaultAt slices (reverse (all_told 8 f.told) ++ []) (length (magic ++ flat_map spell f.told)) f.rest fault = rw (append-nil (reverse (all_told 8 f.told))) f.wrong in
+    let more : List ℕ = flat_map record_bytes f.told ++ f.rest in
+    let split : bytes ≡ magic ++ more = f.splits ∙ append_assoc magic (flat_map record_bytes f.told) f.rest in
+    let wrong : IsFaultAt slices (reverse (all_told 8 f.told) ++ []) (length (magic ++ flat_map record_bytes f.told)) f.rest fault = rw (append-nil (reverse (all_told 8 f.told))) f.wrong in
     let rest_bytes : AreBytes f.rest = bytes-behind bytes (recording f.told) f.rest range f.splits in
     let walked : items_from (length (magic ++ more)) slices (magic ++ more) [] 8 ≡ Err fault =
     walk_refused f.told (length (magic ++ more)) slices magic f.rest [] fault rest_bytes f.more (omega (arith, length-append magic more)) f.moments f.right wrong in

@@ -14,7 +14,7 @@ use Rattle.of10_model.proofs.Ranges.{bytes-drop, number_at-lt}
 use Rattle.of10_model.proofs.Results.{ok_is, passed, met, bind_ok}
 use Rattle.recording.specs.declared.item.Item.{Item}
 use Rattle.recording.specs.declared.fault.RecordingFault.TheVariants.{Torn, Bad, NotOpen}
-use Rattle.recording.specs.Recordings.{Told, HasMoment, told_at, all_told, may_be_told, recording, spell, magic, head_spelling, item_at, byte_limit, is_formed, fits, record_at, items_from, read_items}
+use Rattle.recording.specs.Recordings.{Told, HasMoment, placed_record, all_told, may_be_told, recording, record_bytes, magic, head_spelling, item_at, byte_limit, is_formed, fits, record_at, items_from, read_items}
 use Rattle.recording.proofs.Forms.{ended, past}
 use Rattle.recording.proofs.Told.{number_first, number_behind, spell_length}
 
@@ -107,13 +107,13 @@ told_of xs size = record { kind = number_at xs 0 1; switch = number_at xs 1 1; s
 pub record Begins (slices : ℕ) (front more : List ℕ) (before : List Item) (r : Item) : Type 0 where
   pub told : Told
   pub rest : List ℕ
-  pub spelled : more ≡ spell told ++ rest
-  pub is_told : r ≡ told_at (length front) told
+  pub spelled : more ≡ record_bytes told ++ rest
+  pub is_told : r ≡ placed_record (length front) told
   pub moment : HasMoment told
   pub formed : is_formed slices 0 r ≡ true
   pub fit : fits before r ≡ true
 
-item_told : (front more : List ℕ) (size : ℕ) → number_at more 4 4 ≡ size → size + 16 ≤ length more → item_at (front ++ more) (length front) ≡ told_at (length front) (told_of more size)
+item_told : (front more : List ℕ) (size : ℕ) → number_at more 4 4 ≡ size → size + 16 ≤ length more → item_at (front ++ more) (length front) ≡ placed_record (length front) (told_of more size)
 unfolding item_at
 item_told front more size is long =
     let left : length (drop 16 more) ≡ length more - 16 = length-drop 16 more in
@@ -126,7 +126,7 @@ zero_formed slices reserved r e =
     let none : reserved ≡ 0 = eqb-true reserved 0 (and_parts _ (reserved == 0) whole.0).1 in
     (none, rw none at e)
 
-pub told_spelled : (more : List ℕ) (size : ℕ) → AreBytes more → number_at more 4 4 ≡ size → size + 16 ≤ length more → number_at more 3 1 ≡ 0 → more ≡ spell (told_of more size) ++ drop size (drop 16 more)
+pub told_spelled : (more : List ℕ) (size : ℕ) → AreBytes more → number_at more 4 4 ≡ size → size + 16 ≤ length more → number_at more 3 1 ≡ 0 → more ≡ record_bytes (told_of more size) ++ drop size (drop 16 more)
 told_spelled more size bytes is long none =
     let left : length (drop 16 more) ≡ length more - 16 = length-drop 16 more in
     let taken : length (take size (drop 16 more)) ≡ size = length-take-le size (drop 16 more) (omega arith) in
@@ -163,18 +163,18 @@ begins slices front more before r bytes e =
       fit = rw is at (not-false _ d.0);
     }
 
-pub length-begins : (slices : ℕ) (front more : List ℕ) (before : List Item) (r : Item) (b : Begins slices front more before r) → length (front ++ spell b.told) ≡ r.from + r.size
+pub length-begins : (slices : ℕ) (front more : List ℕ) (before : List Item) (r : Item) (b : Begins slices front more before r) → length (front ++ record_bytes b.told) ≡ r.from + r.size
 length-begins slices front more before r b =
     let from_is : r.from ≡ length front + 16 = ap (λ i. i.from) b.is_told in
     let size_is : r.size ≡ length b.told.bytes = ap (λ i. i.size) b.is_told in
-    omega (arith, length-append front (spell b.told), spell_length b.told, from_is, size_is)
+    omega (arith, length-append front (record_bytes b.told), spell_length b.told, from_is, size_is)
 
 -- ---- all records
 
 -- the bytes spell what the records tell
 record AreTold (slices : ℕ) (front more : List ℕ) (before items : List Item) : Type 0 where
   told : List Told
-  spelled : more ≡ flat_map spell told
+  spelled : more ≡ flat_map record_bytes told
   are_told : items ≡ all_told (length front) told
   moments : All HasMoment told
   fit : may_be_told slices before items ≡ true
@@ -189,13 +189,13 @@ none_told slices front before items e = record {
   fit = rw e refl;
 }
 
-one_more : (slices : ℕ) (front more : List ℕ) (before : List Item) (r : Item) (others : List Item) (b : Begins slices front more before r) → AreTold slices (front ++ spell b.told) b.rest (r ∷ before) others → AreTold slices front more before (r ∷ others)
+one_more : (slices : ℕ) (front more : List ℕ) (before : List Item) (r : Item) (others : List Item) (b : Begins slices front more before r) → AreTold slices (front ++ record_bytes b.told) b.rest (r ∷ before) others → AreTold slices front more before (r ∷ others)
 unfolding all_told may_be_told
 one_more slices front more before r others b a =
-    let behind : length (front ++ spell b.told) ≡ length front + 16 + length b.told.bytes = omega (arith, length-append front (spell b.told), spell_length b.told) in
+    let behind : length (front ++ record_bytes b.told) ≡ length front + 16 + length b.told.bytes = omega (arith, length-append front (record_bytes b.told), spell_length b.told) in
     record {
       told = b.told ∷ a.told;
-      spelled = b.spelled ∙ ap (λ l. spell b.told ++ l) a.spelled ∙ sym (flat_map-cons spell b.told a.told);
+      spelled = b.spelled ∙ ap (λ l. record_bytes b.told ++ l) a.spelled ∙ sym (flat_map-cons record_bytes b.told a.told);
       are_told = rw (← b.is_told, ← behind, ← a.are_told) refl;
       moments = All-cons HasMoment b.told a.told b.moment a.moments;
       fit = rw (b.formed, b.fit) a.fit;
@@ -223,11 +223,11 @@ walk_back (suc n) slices front (m ∷ ms) before items bytes h e =
     let s = step_back n slices (front ++ more) before (length front) items (omega (arith, long)) e in
     let r = s.0 in
     let b = begins slices front more before r bytes s.2 in
-    let front' : List ℕ = front ++ spell b.told in
-    let grouped : front' ++ b.rest ≡ front ++ more = append_assoc front (spell b.told) b.rest ∙ ap (λ l. front ++ l) (sym b.spelled) in
+    let front' : List ℕ = front ++ record_bytes b.told in
+    let grouped : front' ++ b.rest ≡ front ++ more = append_assoc front (record_bytes b.told) b.rest ∙ ap (λ l. front ++ l) (sym b.spelled) in
     let behind : length front' ≡ r.from + r.size = length-begins slices front more before r b in
-    let few : length b.rest ≤ n = omega (arith, ap length b.spelled, length-append (spell b.told) b.rest, spell_length b.told, h) in
-    let rest_bytes : AreBytes b.rest = bytes-behind more (spell b.told) b.rest bytes b.spelled in
+    let few : length b.rest ≤ n = omega (arith, ap length b.spelled, length-append (record_bytes b.told) b.rest, spell_length b.told, h) in
+    let rest_bytes : AreBytes b.rest = bytes-behind more (record_bytes b.told) b.rest bytes b.spelled in
     let P : List ℕ → ℕ → Type 0 = λ all at. items_from n slices all (r ∷ before) at ≡ Ok s.1 in
     let later = walk_back n slices front' b.rest (r ∷ before) s.1 rest_bytes few (rw (grouped, behind) s.3) in
     rw (← s.4) (one_more slices front more before r s.1 b later)

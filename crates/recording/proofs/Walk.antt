@@ -8,7 +8,7 @@ use Rattle.of10_model.proofs.Results.{ok_is, passed, same_bind, unless, with_fro
 use Rattle.recording.specs.declared.item.Item.{Item}
 use Rattle.recording.specs.declared.fault.RecordingFault.{RecordingFault}
 use Rattle.recording.specs.declared.fault.RecordingFault.TheVariants.{Torn, Bad, NotOpen, Memory}
-use Rattle.recording.specs.Recordings.{Fails, HasFirst, item_at, is_formed, fits, record_at, items_from}
+use Rattle.recording.specs.Recordings.{FailsAsRecording, HasFirst, item_at, is_formed, fits, record_at, items_from}
 use Rattle.recording.proofs.Forms.{ended}
 
 -- what a record that is read has: its bytes begin behind its head and lie in the file
@@ -62,14 +62,14 @@ pub ends_so : (slices : ℕ) (bytes : List ℕ) (front : List Item) (at : ℕ) (
 ends_so slices bytes front at fault total h e so_far =
     sym so_far ∙ ap (with_front front) (reads_on slices bytes (reverse front) at h ∙ ap (λ (x : Result Item RecordingFault). x >>= λ q. items_from (length bytes) slices bytes (q ∷ reverse front) (q.from + q.size) >>= λ others. Ok (q ∷ others)) e)
 
-fails : {A : Type 0} (fault : RecordingFault) (read : Result A RecordingFault) → read ≡ Err fault → Fails fault read
+fails : {A : Type 0} (fault : RecordingFault) (read : Result A RecordingFault) → read ≡ Err fault → FailsAsRecording fault read
 fails (Torn at) read e = e
 fails (Bad at) read e = e
 fails (NotOpen at) read e = e
 fails Memory read e = tt
 
 pub ends : (slices : ℕ) (bytes : List ℕ) (front : List Item) (at : ℕ) (fault : RecordingFault) (total : Result (List Item) RecordingFault) → at < length bytes → record_at slices bytes (reverse front) at ≡ Err fault
-    → with_front front (items_from (length bytes) slices bytes (reverse front) at) ≡ total → Fails fault total
+    → with_front front (items_from (length bytes) slices bytes (reverse front) at) ≡ total → FailsAsRecording fault total
 ends slices bytes front at fault total h e so_far =
     fails fault total (ends_so slices bytes front at fault total h e so_far)
 

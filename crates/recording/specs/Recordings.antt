@@ -9,15 +9,15 @@ use Rattle.recording.specs.declared.fault.RecordingFault.{RecordingFault}
 use Rattle.recording.specs.declared.fault.RecordingFault.TheVariants.{Torn, Bad, NotOpen, Memory}
 
 -- a call fails as a reading does, or for want of memory
-abbrev pub Fails : {X : Type 0} → RecordingFault → Result X RecordingFault → Type 0
-Fails Memory read = Unit {0}
-Fails (Torn at) read = read ≡ Err (Torn at)
-Fails (Bad at) read = read ≡ Err (Bad at)
-Fails (NotOpen at) read = read ≡ Err (NotOpen at)
+abbrev pub FailsAsRecording : {X : Type 0} → RecordingFault → Result X RecordingFault → Type 0
+FailsAsRecording Memory read = Unit {0}
+FailsAsRecording (Torn at) read = read ≡ Err (Torn at)
+FailsAsRecording (Bad at) read = read ≡ Err (Bad at)
+FailsAsRecording (NotOpen at) read = read ≡ Err (NotOpen at)
 
 -- a call answers what a reading gives, its value seen by view, unless memory ran out
-abbrev pub Gives : {X Y : Type 0} → (X → Y) → Result X RecordingFault → Result Y RecordingFault → Type 0
-Gives view called read = Answers Fails view called read
+abbrev pub GivesAsRecording : {X Y : Type 0} → (X → Y) → Result X RecordingFault → Result Y RecordingFault → Type 0
+GivesAsRecording view called read = Answers FailsAsRecording view called read
 
 -- ---- the kinds of records
 
@@ -50,8 +50,8 @@ unfoldable pub head_spelling : ℕ → ℕ → ℕ → ℕ → ℕ → List ℕ
 head_spelling kind switch slot size moment = (kind ∷ switch ∷ slot ∷ 0 ∷ []) ++ big_bytes 4 size ++ big_bytes 8 moment
 
 -- a record: its head and its bytes
-abbrev pub spelling : ℕ → ℕ → ℕ → ℕ → List ℕ → List ℕ
-spelling kind switch slot moment bytes = head_spelling kind switch slot (length bytes) moment ++ bytes
+abbrev pub record_spelling : ℕ → ℕ → ℕ → ℕ → List ℕ → List ℕ
+record_spelling kind switch slot moment bytes = head_spelling kind switch slot (length bytes) moment ++ bytes
 
 -- what the head of 16 bytes at a place says, and the place behind it
 unfoldable pub item_at : List ℕ → ℕ → Item
@@ -159,13 +159,13 @@ pub record Told : Type 0 where
   pub bytes : List ℕ
 
 -- the record at a place that tells it
-abbrev pub told_at : ℕ → Told → Item
-told_at at t = record { kind = t.kind; switch = t.switch; slot = t.slot; moment = t.moment; from = at + 16; size = length t.bytes }
+abbrev pub placed_record : ℕ → Told → Item
+placed_record at t = record { kind = t.kind; switch = t.switch; slot = t.slot; moment = t.moment; from = at + 16; size = length t.bytes }
 
 -- records one behind the other, from a place on
 unfoldable pub all_told : ℕ → List Told → List Item
 all_told at [] = []
-all_told at (t ∷ others) = told_at at t ∷ all_told (at + 16 + length t.bytes) others
+all_told at (t ∷ others) = placed_record at t ∷ all_told (at + 16 + length t.bytes) others
 
 -- each has the form and fits those before it
 unfoldable pub may_be_told : ℕ → List Item → List Item → Bool
@@ -173,8 +173,8 @@ may_be_told slices before [] = true
 may_be_told slices before (r ∷ others) = is_formed slices 0 r && fits before r && may_be_told slices (r ∷ before) others
 
 -- a record's bytes
-abbrev pub spell : Told → List ℕ
-spell t = spelling t.kind t.switch t.slot t.moment t.bytes
+abbrev pub record_bytes : Told → List ℕ
+record_bytes t = record_spelling t.kind t.switch t.slot t.moment t.bytes
 
 -- a moment takes eight bytes
 abbrev pub HasMoment : Told → Type 0
@@ -182,4 +182,4 @@ HasMoment t = t.moment < 2 ^ 64
 
 -- the file that tells the records
 abbrev pub recording : List Told → List ℕ
-recording told = magic ++ flat_map spell told
+recording told = magic ++ flat_map record_bytes told

@@ -2,8 +2,8 @@ ghost use Rattle.std.specs.Prelude.{◌≡◌, ◌≢◌, ◌+◌, ◌≤◌, Li
 ghost use Rattle.std.specs.List.{All};
 ghost use Rattle.recording.specs.declared.item.Item.{Item};
 ghost use Rattle.recording.specs.declared.fault.RecordingFault.TheVariants.{Memory};
-ghost use Rattle.recording.specs.Recordings.{Gives, IsItem, HasFirst, IsBegun, item_at, byte_limit, is_formed, record_at, read_items, items_from};
-ghost use Rattle.recording.specs.Standing.{Stands};
+ghost use Rattle.recording.specs.Recordings.{GivesAsRecording, IsItem, HasFirst, IsBegun, item_at, byte_limit, is_formed, record_at, read_items, items_from};
+ghost use Rattle.recording.specs.Standing.{TableStands};
 
 use crate::fault::RecordingFault;
 use crate::item::{
@@ -60,7 +60,7 @@ fn has_form(slices: u8, reserved: u8, item: &Item) -> bool
 #[tactic(auto, unfolding(crate::specs::Recordings::record_at))]
 fn record(slices: u8, bytes: &[u8], ups: &Ups, at: usize) -> Result<Item, RecordingFault>
     requires { at ≤ length bytes.now }
-    ensures value { (before : List Item) → Stands ups.now.switches ups.now.slices before → result ≡ record_at slices bytes.now before at }
+    ensures value { (before : List Item) → TableStands ups.now.switches ups.now.slices before → result ≡ record_at slices bytes.now before at }
     ensures item { IfOk result (IsItem slices bytes.now) }
     ensures from { IfOk result (λ i. i.from ≡ at + 16) }
     ensures memory { result ≢ Err Memory }
@@ -85,7 +85,7 @@ fn record(slices: u8, bytes: &[u8], ups: &Ups, at: usize) -> Result<Item, Record
 // The records behind the bytes that begin a recording.
 fn records(alloc: Global, bytes: &[u8], slices: u8) -> Result<Vec<Item>, RecordingFault>
     requires { 8 ≤ length bytes.now }
-    ensures exact { Gives (λ v. v.items) result (items_from (length bytes.now) slices bytes.now [] 8) }
+    ensures exact { GivesAsRecording (λ v. v.items) result (items_from (length bytes.now) slices bytes.now [] 8) }
     ensures within { IfOk result (λ v. All (IsItem slices bytes.now) v.items) }
     ensures memory { result ≡ Err Memory → HasFirst slices bytes.now }
 {
@@ -109,7 +109,7 @@ fn records(alloc: Global, bytes: &[u8], slices: u8) -> Result<Vec<Item>, Recordi
 /// record that can't come by who is up. Memory is taken for records that are read alone.
 #[tactic(auto, unfolding(crate::specs::Recordings::read_items))]
 pub fn items(alloc: Global, bytes: &[u8], slices: u8) -> Result<Vec<Item>, RecordingFault>
-    ensures exact { Gives (λ v. v.items) result (read_items slices bytes.now) }
+    ensures exact { GivesAsRecording (λ v. v.items) result (read_items slices bytes.now) }
     ensures within { IfOk result (λ v. All (IsItem slices bytes.now) v.items) }
     ensures memory { result ≡ Err Memory → IsBegun slices bytes.now }
 {

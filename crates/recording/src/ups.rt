@@ -3,7 +3,7 @@
 ghost use Rattle.std.specs.Prelude.{◌≡◌, ◌<◌, false, replicate, List, [], ◌∷◌};
 ghost use Rattle.recording.specs.declared.item.Item.{Item};
 ghost use Rattle.recording.specs.Recordings.{fits};
-ghost use Rattle.recording.specs.Standing.{Stands};
+ghost use Rattle.recording.specs.Standing.{TableStands};
 
 use crate::item::{Item, SLICE_DOWN, SLICE_UP, SWITCH_BYTES, SWITCH_DOWN, SWITCH_UP, SWITCHES};
 
@@ -26,7 +26,7 @@ pub(crate) struct Ups {
 impl Ups {
     /// Nobody is up.
     pub(crate) fn new() -> Ups
-        ensures { Stands result.switches result.slices [] }
+        ensures { TableStands result.switches result.slices [] }
     {
         Ups {
             switches: [false; SWITCHES],
@@ -37,7 +37,7 @@ impl Ups {
     /// Whether the record may come next.
     pub(crate) fn admits(&self, item: &Item) -> bool
         requires { item.now.switch < 16 }
-        ensures { (before : List Item) → Stands self.now.switches self.now.slices before → result ≡ fits before item.now }
+        ensures { (before : List Item) → TableStands self.now.switches self.now.slices before → result ≡ fits before item.now }
     {
         let switch = self.switches[usize::from(item.switch)];
         let slice = self.slices[usize::from(item.switch)][usize::from(item.slot)];
@@ -52,7 +52,7 @@ impl Ups {
     /// Takes note of a record.
     pub(crate) fn note(&mut self, item: &Item)
         requires { item.now.switch < 16 }
-        ensures { (before : List Item) → Stands self.old.switches self.old.slices before → Stands self.new.switches self.new.slices (item.now ∷ before) }
+        ensures { (before : List Item) → TableStands self.old.switches self.old.slices before → TableStands self.new.switches self.new.slices (item.now ∷ before) }
     {
         let switch = usize::from(item.switch);
         let slot = usize::from(item.slot);

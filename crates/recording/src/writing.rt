@@ -1,5 +1,5 @@
 ghost use Rattle.std.specs.Prelude.{◌≡◌, ◌<◌, ◌≤◌, ◌++◌, OnOk, OnErr, length, take};
-ghost use Rattle.recording.specs.Recordings.{magic, head_spelling, spelling};
+ghost use Rattle.recording.specs.Recordings.{magic, head_spelling, record_spelling};
 
 use crate::item::MAGIC;
 use of10_model::wire::{put_u32, put_u64};
@@ -40,7 +40,7 @@ fn put_item(
     bytes: &[u8],
 ) -> Result<(), AllocError>
     requires { length bytes.now ≤ 16777216 }
-    ensures ok { OnOk result (out.new.items ≡ out.old.items ++ spelling kind switch slot moment bytes.now) }
+    ensures ok { OnOk result (out.new.items ≡ out.old.items ++ record_spelling kind switch slot moment bytes.now) }
     ensures err { OnErr result (take (length out.old.items) out.new.items ≡ out.old.items) }
 {
     put_head(out, kind, switch, slot, bytes.len() as u32, moment)?;
@@ -60,7 +60,7 @@ pub fn add_item(
     requires switch { switch < 16 }
     requires slot { slot < 32 }
     requires size { length bytes.now ≤ 16777216 }
-    ensures ok { OnOk result (out.new.items ≡ out.old.items ++ spelling kind switch slot moment bytes.now) }
+    ensures ok { OnOk result (out.new.items ≡ out.old.items ++ record_spelling kind switch slot moment bytes.now) }
     ensures err { OnErr result (out.new.items ≡ out.old.items) }
 {
     let start = out.len();

@@ -8,14 +8,14 @@ use Rattle.of10_stats.specs.declared.protocol.TheConstants.{FLOW}
 use Rattle.of10_stats.specs.Replies.{IsEntry}
 use Rattle.stats_filter.specs.Keeping.{entries_in}
 use Rattle.stats_filter.specs.Replies.{page_size}
-use Rattle.stats_filter.specs.Laws.{AreSmall}
+use Rattle.stats_filter.specs.Laws.{FitPages}
 use Rattle.stats_filter.proofs.Rows.{entries_in-concat}
 
 pub record IsRow (bytes : List ℕ) : Type 0 where
   pub entries : List (List ℕ)
   pub joined : bytes ≡ concat entries
   pub each : All (IsEntry FLOW) entries
-  pub small : AreSmall entries
+  pub small : FitPages entries
 
 pub no_row : IsRow []
 no_row = record { entries = []; joined = refl; each = All-nil (IsEntry FLOW); small = All-nil (λ (entry : List ℕ). length entry ≤ page_size) }
@@ -31,5 +31,5 @@ row_more bytes entry row is fits = record {
   small = All-push (λ (e : List ℕ). length e ≤ page_size) row.entries entry row.small fits;
 }
 
-pub row_small : (bytes : List ℕ) → IsRow bytes → AreSmall (entries_in FLOW bytes)
-row_small bytes row = subst AreSmall (sym (ap (entries_in FLOW) row.joined ∙ entries_in-concat FLOW row.entries row.each)) row.small
+pub row_small : (bytes : List ℕ) → IsRow bytes → FitPages (entries_in FLOW bytes)
+row_small bytes row = subst FitPages (sym (ap (entries_in FLOW) row.joined ∙ entries_in-concat FLOW row.entries row.each)) row.small

@@ -7,7 +7,7 @@ use Rattle.of10_model.specs.Normal.{IsNormal}
 use Rattle.of10_model.specs.Inclusion.{includes_of}
 use Rattle.of10_model.specs.Exact.{exact_of}
 use Rattle.pattern_index.specs.declared.index.PatternIndex.{PatternIndex}
-use Rattle.pattern_index.specs.Places.{Kept, least_place, StandsFor}
+use Rattle.pattern_index.specs.Places.{PlacedPattern, least_place, StandsFor}
 use Rattle.pattern_index.proofs.Keys.{includes_exact}
 use Rattle.pattern_index.proofs.Firsts.{finds_none, finds_put, finds_same, place_of_find}
 use Rattle.flowspace.specs.declared.rules.Rule.{Rule}
@@ -17,7 +17,7 @@ use Rattle.rule_index.specs.Indexes.{IsIndex}
 
 -- one more pattern stands in an index
 abbrev pub GetsOne : Pattern → ℕ → PatternIndex → PatternIndex → Type 0
-GetsOne m place old new = (kept : List Kept) → StandsFor kept old → StandsFor (record { pattern = m; place = place } ∷ kept) new
+GetsOne m place old new = (kept : List PlacedPattern) → StandsFor kept old → StandsFor (record { pattern = m; place = place } ∷ kept) new
 
 pub index_none : (all written : PatternIndex) → StandsFor [] all → StandsFor [] written → IsIndex [] all written
 index_none all written stands stands_too = record {
@@ -48,13 +48,13 @@ index_same rules i r all all_new written lt at normal is_out put index = record 
 -- ---- look-ups
 
 pub index_first : (rules : List Rule) (all written : PatternIndex) (h : Header) (q : Pattern) (r : Option ℕ) → IsIndex rules all written → q ≡ exact_of h
-    → ((kept : List Kept) → StandsFor kept all → r ≡ least_place kept q) → r ≡ first_of rules h
+    → ((kept : List PlacedPattern) → StandsFor kept all → r ≡ least_place kept q) → r ≡ first_of rules h
 index_first rules all written h q r index is least =
     least index.in_all.kept index.in_all.stands ∙ ap (least_place index.in_all.kept) is ∙ index.in_all.firsts h
 
 -- the writer of the rule at the place, if there is one, is the owner
 pub index_owner : (rules : List Rule) (all written : PatternIndex) (m q : Pattern) (r place : Option ℕ) → IsIndex rules all written → q ≡ m
-    → ((kept : List Kept) → StandsFor kept written → r ≡ least_place kept q) → r ≡ place
+    → ((kept : List PlacedPattern) → StandsFor kept written → r ≡ least_place kept q) → r ≡ place
     → option_and_then (λ (rule : Rule). rule.writer) (option_and_then (slice_get rules) place) ≡ owner_of_match rules m
 index_owner rules all written m q r place index is least e =
     ap (λ (o : Option ℕ). option_and_then (λ (rule : Rule). rule.writer) (option_and_then (slice_get rules) o))

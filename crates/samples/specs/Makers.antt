@@ -14,8 +14,8 @@ prefix_of net bits =
     if bits == 0 then None else Some (leading_bits net (32 - (32 - bits)))
 
 -- IPv4 where a network or a TCP port is given
-abbrev pub kind_of : Option Prefix → Option ℕ → Option ℕ
-kind_of net tcp = if is_some net || is_some tcp then Some 0x0800 else None
+abbrev pub kind_for : Option Prefix → Option ℕ → Option ℕ
+kind_for net tcp = if is_some net || is_some tcp then Some 0x0800 else None
 
 -- TCP where a port is given
 abbrev pub protocol_of : Option ℕ → Option ℕ
@@ -28,7 +28,7 @@ pattern_of in_port net tcp = record {
   dl_dst = None;
   dl_vlan = None;
   dl_vlan_pcp = None;
-  dl_type = kind_of net tcp;
+  dl_type = kind_for net tcp;
   nw_tos = None;
   nw_proto = protocol_of tcp;
   nw_src = None;
@@ -41,16 +41,16 @@ abbrev pub packets_of : Packets → Pattern
 packets_of p = pattern_of p.in_port (prefix_of p.net p.bits) p.tcp
 
 -- the slice of a name
-abbrev pub slice_of : List ℕ → Slice
-slice_of name = record { name = name; controller = codes "192.0.2.1:6633"; rate = 1000; burst = 1000; quota = 1024 }
+abbrev pub slice_called : List ℕ → Slice
+slice_called name = record { name = name; controller = codes "192.0.2.1:6633"; rate = 1000; burst = 1000; quota = 1024 }
 
 abbrev pub alice_and_bob : List Slice
-alice_and_bob = slice_of (codes "alice") ∷ slice_of (codes "bob") ∷ []
+alice_and_bob = slice_called (codes "alice") ∷ slice_called (codes "bob") ∷ []
 
 -- a port's number and 46 zeros
-abbrev pub port_of : ℕ → List ℕ
-port_of number = big_bytes 2 number ++ replicate 46 0
+abbrev pub port_numbered : ℕ → List ℕ
+port_numbered number = big_bytes 2 number ++ replicate 46 0
 
 -- the switch 0xa1 with these ports
-abbrev pub switch_of : List (List ℕ) → Features
-switch_of ports = record { datapath = 0xa1; buffers = 256; tables = 1; capabilities = 0; actions = 0xfff; ports = ports }
+abbrev pub switch_with : List (List ℕ) → Features
+switch_with ports = record { datapath = 0xa1; buffers = 256; tables = 1; capabilities = 0; actions = 0xfff; ports = ports }

@@ -2,7 +2,7 @@
 
 ghost use Rattle.std.specs.Prelude.{◌≡◌, None, Some};
 ghost use Rattle.of10_model.specs.Normal.{IsPrefix};
-ghost use Rattle.samples.specs.Makers.{kind_of, packets_of, pattern_of, prefix_of, protocol_of};
+ghost use Rattle.samples.specs.Makers.{kind_for, packets_of, pattern_of, prefix_of, protocol_of};
 
 use of10_match::{Header12, Match};
 use of10_model::{Pattern, Prefix};
@@ -38,7 +38,7 @@ fn prefix(net: u32, bits: u8) -> Option<Prefix>
 }
 
 fn kind(net: Option<Prefix>, tcp: Option<u16>) -> Option<u16>
-    ensures { result ≡ kind_of net tcp }
+    ensures { result ≡ kind_for net tcp }
 {
     if net.is_some() || tcp.is_some() {
         Some(0x0800)

@@ -1,10 +1,10 @@
 //! Slices, rules and policies.
 
 ghost use Rattle.std.specs.Prelude.{◌≡◌, ◌⊎◌, All, IfErr, IfOk, IsTrue, None, Some, length};
-ghost use Rattle.flowspace.specs.Loading.{Gives, fault_of, load_of};
+ghost use Rattle.flowspace.specs.Loading.{GivesPolicy, fault_of, load_of};
 ghost use Rattle.flowspace.specs.Order.{rules_on};
 ghost use Rattle.flowspace.specs.declared.fault.PolicyFault.TheVariants.{Memory};
-ghost use Rattle.samples.specs.Makers.{alice_and_bob, slice_of};
+ghost use Rattle.samples.specs.Makers.{alice_and_bob, slice_called};
 ghost use Rattle.flowspace.specs.Slices.{IsPlainSlice};
 ghost use Rattle.flowspace.specs.Rules.{IsPlainRule};
 
@@ -31,7 +31,7 @@ pub fn rule(priority: u32, pattern: &Match, writer: u8, readers: u32) -> Rule
 /// A slice of this name.
 pub fn slice(alloc: Global, name: &str) -> Result<Slice, AllocError>
     ensures plain { IfOk result IsPlainSlice }
-    ensures value { IfOk result (λ s. s ≡ slice_of name.now) }
+    ensures value { IfOk result (λ s. s ≡ slice_called name.now) }
 {
     let slice = Slice {
         name: Text::of(alloc, name)?,
@@ -78,7 +78,7 @@ pub fn plain_rules(alloc: Global, rules: &[Rule]) -> Result<Vec<Rule>, AllocErro
 
 /// What loading these rules for the two slices answers.
 pub fn policy(alloc: Global, rules: &[Rule]) -> Result<Policy, PolicyFault>
-    ensures value { Gives result (load_of alice_and_bob rules.now) }
+    ensures value { GivesPolicy result (load_of alice_and_bob rules.now) }
     ensures slices { IfOk result (λ p. length p.slices ≡ 2) }
     ensures rules { IfOk result (λ p. p.rules ≡ rules.now) }
 {

@@ -3,7 +3,7 @@
 ghost use Rattle.std.specs.Prelude.{◌≡◌, IfOk, [], ◌∷◌};
 ghost use Rattle.of10_port.specs.Ports.{port_number};
 ghost use Rattle.of10_port.specs.declared.protocol.TheConstants.{LOCAL};
-ghost use Rattle.samples.specs.Makers.{port_of, switch_of};
+ghost use Rattle.samples.specs.Makers.{port_numbered, switch_with};
 
 use of10_model::wire::set_u16;
 use of10_port::protocol::LOCAL;
@@ -12,7 +12,7 @@ use std::alloc::{AllocError, Global};
 
 /// A port of this number, whose other bytes are zero.
 pub fn port(number: u16) -> Port
-    ensures value { result ≡ port_of number }
+    ensures value { result ≡ port_numbered number }
     ensures number { port_number result ≡ number }
 {
     let mut raw = [0; 48];
@@ -22,7 +22,7 @@ pub fn port(number: u16) -> Port
 
 /// The features of a switch with these ports.
 pub fn features(alloc: Global, ports: &[Port]) -> Result<Features, AllocError>
-    ensures { IfOk result (λ f. f ≡ switch_of ports.now) }
+    ensures { IfOk result (λ f. f ≡ switch_with ports.now) }
 {
     Ok(Features {
         datapath: 0xa1,
@@ -36,7 +36,7 @@ pub fn features(alloc: Global, ports: &[Port]) -> Result<Features, AllocError>
 
 /// The features of a switch with three ports and its own.
 pub fn three_ports(alloc: Global) -> Result<Features, AllocError>
-    ensures { IfOk result (λ f. f ≡ switch_of (port_of 1 ∷ port_of 2 ∷ port_of 3 ∷ port_of LOCAL ∷ [])) }
+    ensures { IfOk result (λ f. f ≡ switch_with (port_numbered 1 ∷ port_numbered 2 ∷ port_numbered 3 ∷ port_numbered LOCAL ∷ [])) }
 {
     features(alloc, &[port(1), port(2), port(3), port(LOCAL)])
 }

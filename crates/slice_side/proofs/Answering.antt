@@ -6,13 +6,13 @@ use Rattle.of10_message.specs.declared.controller.FromController.TheVariants as 
 use Rattle.of10_message.specs.declared.fault.Unread.{Unread}
 use Rattle.of10_message.specs.declared.fault.MessageFault.{MessageFault}
 use Rattle.of10_message.specs.declared.fault.MessageFault.TheVariants as faults
-use Rattle.of10_message.specs.Controller.{Gives, read_controller}
+use Rattle.of10_message.specs.Controller.{GivesMessage, read_controller}
 use Rattle.flowspace.specs.Policies.{SwitchView}
 use Rattle.port_view.specs.SlicePorts.{ports_of_slice, features_with}
 use Rattle.flow_book.specs.declared.state.SliceState.{SliceState}
 use Rattle.slice_words.specs.Messages.{Reading, asks_switch}
 use Rattle.slice_words.specs.Items.{Settings, Sight, Item, Msg, is_up}
-use Rattle.slice_words.specs.Pasts.{Answer, Past, silence}
+use Rattle.slice_words.specs.Pasts.{Answer, Past, no_answer}
 use Rattle.slice_words.specs.Answers.{unread_answer, rated_answer, read_answer, message_answer}
 use Rattle.slice_words.specs.Alone.{answer_to}
 use Rattle.slice_words.specs.Standing.{SliceStands, past_of}
@@ -39,7 +39,7 @@ pub reaction_of : (s : Settings) (sight : Sight) (message : List ℕ) (moment : 
     → Follows s sight message read (answer_read s sight.view moment message read) moment r → IsReaction s sight (Msg message moment) r
 reaction_of s sight message moment r read up is follows =
     let same : answer_read s sight.view moment message read ≡ answer_to s sight.view (Msg message moment) =
-    ap (answer_read s sight.view moment message) (sym is) ∙ ap (λ (b : Bool). if b then message_answer s sight.view (past_of s sight.view) moment message else silence) (sym up) in
+    ap (answer_read s sight.view moment message) (sym is) ∙ ap (λ (b : Bool). if b then message_answer s sight.view (past_of s sight.view) moment message else no_answer) (sym up) in
     let so = subst (λ (a : Answer). Follows s sight message (read_controller message) a moment r) same (subst (λ (k : Reading). Follows s sight message k (answer_read s sight.view moment message read) moment r) (sym is) follows) in
     record { to_slice = so.to_slice; to_switch = so.to_switch; close = so.close; change = (up, so.change) }
 
@@ -61,5 +61,5 @@ asked_answer s view past moment message said.GetConfigRequest is = absurd (true�
 asked_answer s view past moment message (said.SetConfig config) is = absurd (true≢false (sym is))
 asked_answer s view past moment message said.PortMod is = absurd (true≢false (sym is))
 
-pub unread_is : (fault : MessageFault) (found : Unread) (read : Reading) → fault ≡ faults.Unread found → Gives (Err fault) read → read ≡ Err found
-unread_is fault found read is gives = subst (λ (f : MessageFault). Gives (Err f) read) is gives
+pub unread_is : (fault : MessageFault) (found : Unread) (read : Reading) → fault ≡ faults.Unread found → GivesMessage (Err fault) read → read ≡ Err found
+unread_is fault found read is gives = subst (λ (f : MessageFault). GivesMessage (Err f) read) is gives

@@ -8,9 +8,9 @@ use Rattle.rate_bucket.specs.Rates.{Bucket, BucketStands}
 use Rattle.flow_book.specs.Books.{BookCall, Added, Book, BookStands}
 use Rattle.flow_book.specs.declared.state.SliceState.{SliceState}
 use Rattle.slice_words.specs.Messages.{Reading, ends_connection, is_dismissing, length_wanted, length_set, asks_switch, is_question, kind_asked, asked_of}
-use Rattle.slice_words.specs.Items.{Settings, Sight, Item, Msg, is_up, latest}
+use Rattle.slice_words.specs.Items.{Settings, Sight, Item, Msg, is_up, latest_moment}
 use Rattle.buffer_map.specs.declared.held.Held.{Held}
-use Rattle.slice_words.specs.Pasts.{Outgoing, Answer, Past, view_in, is_any, silence}
+use Rattle.slice_words.specs.Pasts.{Outgoing, Answer, Past, view_in, is_any, no_answer}
 use Rattle.slice_words.specs.Buffers.{HeldPacket, is_named, held_packets}
 use Rattle.slice_words.specs.Calls.{request_calls, collection_calls, questions, bookings, book_calls}
 use Rattle.slice_words.specs.Statistics.{begun}
@@ -28,7 +28,7 @@ use Rattle.xid_map.specs.declared.asked.Asked.{Asked}
 use Rattle.stats_filter.specs.Asking.{type_sent}
 use Rattle.slice_side.specs.declared.change.Change.TheVariants.{Heard, Set, Dismissed, Rated, Modified, SentOut, Inquired}
 use Rattle.slice_side.specs.declared.change.Modification.{Modification}
-use Rattle.slice_side.specs.Reactions.{kept, is_used, Uses, is_inquiry, IsChange, with_item}
+use Rattle.slice_side.specs.Reactions.{without_physical, is_used_up, Uses, is_inquiry, IsChange, with_item}
 use Rattle.slice_side.specs.Requesting.{IsRequested}
 
 -- ---- readings
@@ -97,7 +97,7 @@ unasked s view past moment message none =
       asks_queues = λ queues read own. absurd (true≢false (ap asks_switch (sym read) ∙ none));
     })
 
-by_up : (up : Bool) (a : Answer) → a.to_switch ≡ [] → (if up then a else silence).to_switch ≡ []
+by_up : (up : Bool) (a : Answer) → a.to_switch ≡ [] → (if up then a else no_answer).to_switch ≡ []
 by_up true a none = none
 by_up false a none = refl
 
@@ -135,12 +135,12 @@ held_with ends a held = if ends then [] else filter (λ packet. not (is_named pa
 
 -- a state with these changes belongs to what the slice sees with the message
 pub record Changed (s : Settings) (sight : Sight) (message : List ℕ) (moment : ℕ) (ends asks sends : Bool) (set : Option ℕ) (old new : SliceState) : Type 0 where
-  pub moment_is : new.moment ≡ max moment (latest sight.view)
+  pub moment_is : new.moment ≡ max moment (latest_moment sight.view)
   pub up_is : new.up ≡ (if ends then false else is_up sight.view)
   pub length_is : new.miss_send_len ≡ (if ends then 128 else unwrap_or set old.miss_send_len)
   pub requests : RequestsStand s.slot (requests_made ends sends message (request_calls s (past_of s sight.view))) new.xids
   pub collections : CollectionsStand (collections_made ends sends (issued (request_calls s (past_of s sight.view))) message (collection_calls s (past_of s sight.view))) new.collections
-  pub bucket : BucketStands (questions_made asks (max moment (latest sight.view)) (questions (past_of s sight.view))) new.bucket
+  pub bucket : BucketStands (questions_made asks (max moment (latest_moment sight.view)) (questions (past_of s sight.view))) new.bucket
   pub rate : new.bucket.rate ≡ old.bucket.rate
   pub burst : new.bucket.burst ≡ old.bucket.burst
   pub book : BookStands (bookings_made sends s (issued (request_calls s (past_of s sight.view))) message (book_calls s (past_of s sight.view))) new.book
@@ -148,9 +148,9 @@ pub record Changed (s : Settings) (sight : Sight) (message : List ℕ) (moment :
   pub held : new.buffers.held ≡ map (held_as sight.came) (held_with ends (answer_to s sight.view (Msg message moment)) (held_packets (past_of s sight.view)))
 
 questions_with : (s : Settings) (view : List Item) (message : List ℕ) (moment : ℕ) (asks : Bool) → (is_up view && is_question message) ≡ asks
-    → questions (past_of s (Msg message moment ∷ view)) ≡ questions_made asks (max moment (latest view)) (questions (past_of s view))
+    → questions (past_of s (Msg message moment ∷ view)) ≡ questions_made asks (max moment (latest_moment view)) (questions (past_of s view))
 questions_with s view message moment asks is =
-    ap (λ (items : List Item). if is_up items && is_question message then max moment (latest items) ∷ questions (past_of s view) else questions (past_of s view)) (view_in-played (answer s) view)
+    ap (λ (items : List Item). if is_up items && is_question message then max moment (latest_moment items) ∷ questions (past_of s view) else questions (past_of s view)) (view_in-played (answer s) view)
     ∙ rw is refl
 
 pub stands_with : (s : Settings) (sight : Sight) (message : List ℕ) (moment : ℕ) (ends asks sends : Bool) (set : Option ℕ) (old new : SliceState)
@@ -187,12 +187,12 @@ held_still s sight message moment held none are =
 
 -- where messages are sent on, all but the one that they use up
 held_used : (came : List ℕ) (used : Option ℕ) (packets : List HeldPacket) (messages : List Outgoing) (old new : List Held) → Uses used packets messages → old ≡ map (held_as came) packets
-    → new ≡ filter (λ packet. not (is_used used (kept packet))) old → new ≡ map (held_as came) (filter (λ packet. not (is_named packet.ordinal messages)) packets)
+    → new ≡ filter (λ packet. not (is_used_up used (without_physical packet))) old → new ≡ map (held_as came) (filter (λ packet. not (is_named packet.ordinal messages)) packets)
 held_used came used packets messages old new uses are is =
     is
-    ∙ ap (filter (λ (packet : Held). not (is_used used (kept packet)))) are
-    ∙ filter_of_map (λ (packet : Held). not (is_used used (kept packet))) (λ (packet : HeldPacket). not (is_used used packet)) (held_as came) packets (λ k d within. refl)
-    ∙ ap (map (held_as came)) (filter_same (λ (packet : HeldPacket). not (is_used used packet)) (λ (packet : HeldPacket). not (is_named packet.ordinal messages)) packets (λ k d within. sym (ap not (uses k d within))))
+    ∙ ap (filter (λ (packet : Held). not (is_used_up used (without_physical packet)))) are
+    ∙ filter_of_map (λ (packet : Held). not (is_used_up used (without_physical packet))) (λ (packet : HeldPacket). not (is_used_up used packet)) (held_as came) packets (λ k d within. refl)
+    ∙ ap (map (held_as came)) (filter_same (λ (packet : HeldPacket). not (is_used_up used packet)) (λ (packet : HeldPacket). not (is_named packet.ordinal messages)) packets (λ k d within. sym (ap not (uses k d within))))
 
 -- ---- the changes, one after the other
 
@@ -269,7 +269,7 @@ pub rated : (s : Settings) (sight : Sight) (item : Item) (t m : ℕ) (old : Slic
 rated s sight (Msg message moment) t m old bucket at asks stands is =
     let facts = is.1 in
     let plain = question_is_plain (read_controller message) facts.0 in
-    let now : m ≡ max moment (latest sight.view) = at ∙ ap₂ max facts.2 stands.moment in
+    let now : m ≡ max moment (latest_moment sight.view) = at ∙ ap₂ max facts.2 stands.moment in
     stands_with s sight message moment false true false None old (record old { moment = m; bucket = bucket })
     (record { ending = plain.0; asking = both_true (is_up sight.view) (is_question message) is.0 facts.0; sending = facts.1; setting = plain.1 })
     stands
@@ -304,7 +304,7 @@ module _ (s : Settings) (sight : Sight) (message : List ℕ) (at : ℕ) (asked :
       → SliceStands s (with_item (Msg message at) sight) (record new { book = book; collections = collections })
   requested book collections made stands up asking sent same uses booked collected =
       let plain = question_is_plain (read_controller message) asking in
-      let now : new.moment ≡ max at (latest sight.view) = made.moment ∙ ap (max at) stands.moment in
+      let now : new.moment ≡ max at (latest_moment sight.view) = made.moment ∙ ap (max at) stands.moment in
       let calls = request_calls s (past_of s sight.view) in
       stands_with s sight message at false true true None old (record new { book = book; collections = collections })
       (record { ending = plain.0; asking = both_true (is_up sight.view) (is_question message) up asking; sending = sent; setting = plain.1 })

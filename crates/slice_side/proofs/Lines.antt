@@ -10,7 +10,7 @@ use Rattle.of10_flow.specs.Tables.{is_delete}
 use Rattle.of10_flow.specs.declared.protocol.TheConstants.{NO_BUFFER}
 use Rattle.of10_model.specs.declared.pattern.Pattern.{Pattern}
 use Rattle.of10_action.specs.declared.action.Action.{Action}
-use Rattle.flowmod_expand.specs.Messages.{are_too_large, flow_messages, Gives}
+use Rattle.flowmod_expand.specs.Messages.{are_too_large, flow_messages, GivesMessages}
 use Rattle.flowmod_expand.specs.declared.fault.BuildFault.{BuildFault}
 use Rattle.flowmod_expand.specs.declared.fault.BuildFault.TheVariants.{TooLarge}
 use Rattle.slice_words.specs.FlowMods.{Ground, first_refusal, list_given, permitted_on, entry_not_permitted, bad_command, first_some, wrong_command, emergency, buffer_not_held, outside_flowspace, forbidden_action, first_forbidden, too_large, is_too_long, pieces_on, lists_on, sent_on, flow_mods_on, is_packet_in, unknown_buffer, overlapping, over_quota, flow_mod_fault, too_many_actions, bad_action, refused_where}
@@ -18,7 +18,7 @@ use Rattle.slice_words.specs.Alone.{rendered}
 use Rattle.slice_words.proofs.Forwarding.{rendered_sent, same_large}
 use Rattle.flow_book.specs.declared.state.SliceState.{SliceState}
 use Rattle.slice_words.specs.Buffers.{HeldPacket}
-use Rattle.slice_side.specs.Reactions.{kept}
+use Rattle.slice_side.specs.Reactions.{without_physical}
 use Rattle.slice_side.proofs.Packets.{HaveCome, kept_for, carrier_come}
 use Rattle.slice_side.specs.Checking.{not_held_in, flow_mods_from, PassesEarly, HasLists, IsListing, IsListed}
 use Rattle.slice_side.specs.declared.pieces.Listing.{Listing}
@@ -45,7 +45,7 @@ module _ (g : Ground) (m : FlowMod) where
   from_space = outside_flowspace g m ∷ forbidden_action g m ∷ too_large g m ∷ overlapping g m ∷ over_quota g m ∷ []
 
   -- the packets of the state are those that the slice holds
-  pub early_here : (state : SliceState) → g.held ≡ map kept state.buffers.held
+  pub early_here : (state : SliceState) → g.held ≡ map without_physical state.buffers.held
       → first_some (wrong_command m ∷ emergency m ∷ refused_where (not_held_in state m) unknown_buffer ∷ []) ≡ first_some (wrong_command m ∷ emergency m ∷ buffer_not_held g m ∷ [])
   early_here state same =
       ap (λ (packet : Option HeldPacket). first_some (wrong_command m ∷ emergency m ∷ refused_where (not (is_delete m) && not (m.buffer == NO_BUFFER) && not (is_packet_in m.pattern packet)) unknown_buffer ∷ []))
@@ -100,7 +100,7 @@ module _ (g : Ground) (m : FlowMod) where
       ∙ ap₂ (λ (ps : List Pattern) (ls : List (List Action)). flow_messages m g.xid ps ls buffer) same has.1
 
   -- under the numbers with which packets came they are those that the slice has sent on
-  pub rendered_from : (came : List ℕ) (state : SliceState) → HaveCome came state.buffers.held → g.held ≡ map kept state.buffers.held → map spell_flow_mod (flow_mods_from state g m) ≡ map (rendered came) (sent_on g m)
+  pub rendered_from : (came : List ℕ) (state : SliceState) → HaveCome came state.buffers.held → g.held ≡ map without_physical state.buffers.held → map spell_flow_mod (flow_mods_from state g m) ≡ map (rendered came) (sent_on g m)
   rendered_from came state come same =
       ap (flow_messages m g.xid (pieces_on g m) (lists_on g m)) (carrier_come came state g m (pieces_on g m) come same) ∙ sym (rendered_sent came g m)
 
@@ -156,5 +156,5 @@ command_known g m none = elim (leb_tells 5 m.command) [
 ]
 
 -- messages that are told to be too large are
-pub large_told : {A : Type 0} (view : A → List (List ℕ)) (fault : BuildFault) (messages : List (List ℕ)) → fault ≡ TooLarge → Gives view (Err fault) messages → are_too_large messages ≡ true
-large_told view fault messages is told = subst (λ (f : BuildFault). Gives view (Err f) messages) is told
+pub large_told : {A : Type 0} (view : A → List (List ℕ)) (fault : BuildFault) (messages : List (List ℕ)) → fault ≡ TooLarge → GivesMessages view (Err fault) messages → are_too_large messages ≡ true
+large_told view fault messages is told = subst (λ (f : BuildFault). GivesMessages view (Err f) messages) is told

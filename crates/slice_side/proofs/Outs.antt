@@ -28,7 +28,7 @@ use Rattle.slice_words.specs.PacketOuts.{packet_not_permitted, is_buffered_out, 
 use Rattle.slice_words.specs.Alone.{rendered}
 use Rattle.slice_words.specs.Standing.{held_as}
 use Rattle.slice_words.proofs.LoneRules.{same_port, any_alone}
-use Rattle.slice_side.specs.Reactions.{kept, ground_at}
+use Rattle.slice_side.specs.Reactions.{without_physical, ground_at}
 use Rattle.slice_side.specs.Checking.{packet_in, number_in, packet_out_from, early, MayBeSent}
 use Rattle.slice_side.proofs.Lines.{before, behind}
 use Rattle.slice_side.proofs.Packets.{HaveCome, kept_packet, come_packet}
@@ -92,30 +92,30 @@ module _ (g : Ground) (m : PacketOut) where
   rendered_out came (Some packet) actions = refl
 
   -- as it is sent, with the switch's number of the packet that it names
-  pub out_sent : (state : SliceState) (actions : List Action) (out : PacketOut) → g.held ≡ map kept state.buffers.held → permitted_out g m ≡ Ok actions
-      → out ≡ record (sent_out_with (option_map kept (packet_in state m.buffer)) g m actions) { buffer = number_in (packet_in state m.buffer) } → out ≡ packet_out_from state g m
+  pub out_sent : (state : SliceState) (actions : List Action) (out : PacketOut) → g.held ≡ map without_physical state.buffers.held → permitted_out g m ≡ Ok actions
+      → out ≡ record (sent_out_with (option_map without_physical (packet_in state m.buffer)) g m actions) { buffer = number_in (packet_in state m.buffer) } → out ≡ packet_out_from state g m
   out_sent state actions out same is built =
       built
       ∙ ap (λ (packet : Option HeldPacket). record (sent_out_with packet g m actions) { buffer = number_in (packet_in state m.buffer) }) (kept_packet state g m.buffer same)
       ∙ ap (λ (permitted : Result (List Action) ℕ). record (sent_out_with (packet_at g m.buffer) g m (list_given permitted)) { buffer = number_in (packet_in state m.buffer) }) (sym is)
 
   -- under the numbers with which packets came it is the one that the slice has sent on
-  pub out_rendered : (came : List ℕ) (state : SliceState) → HaveCome came state.buffers.held → g.held ≡ map kept state.buffers.held → spell_packet_out (packet_out_from state g m) ∷ [] ≡ map (rendered came) (sent_out g m)
+  pub out_rendered : (came : List ℕ) (state : SliceState) → HaveCome came state.buffers.held → g.held ≡ map without_physical state.buffers.held → spell_packet_out (packet_out_from state g m) ∷ [] ≡ map (rendered came) (sent_out g m)
   out_rendered came state come same =
       ap (λ (held : Option Held). spell_packet_out (record (packet_out_on g m) { buffer = number_in held }) ∷ []) (come_packet came state g m.buffer come same)
       ∙ rendered_out came (packet_at g m.buffer) (list_given (permitted_out g m))
 
-  number_of_kept : (packet : Option Held) → option_map (λ (held : Held). m.buffer) packet ≡ option_map (λ (held : HeldPacket). m.buffer) (option_map kept packet)
+  number_of_kept : (packet : Option Held) → option_map (λ (held : Held). m.buffer) packet ≡ option_map (λ (held : HeldPacket). m.buffer) (option_map without_physical packet)
   number_of_kept None = refl
   number_of_kept (Some held) = refl
 
   -- it is used up by the number that the packet-out names it by
-  pub out_used : (state : SliceState) → g.held ≡ map kept state.buffers.held → option_map (λ (held : Held). m.buffer) (packet_in state m.buffer) ≡ option_map (λ (packet : HeldPacket). m.buffer) (packet_at g m.buffer)
+  pub out_used : (state : SliceState) → g.held ≡ map without_physical state.buffers.held → option_map (λ (held : Held). m.buffer) (packet_in state m.buffer) ≡ option_map (λ (packet : HeldPacket). m.buffer) (packet_at g m.buffer)
   out_used state same = number_of_kept (packet_in state m.buffer) ∙ ap (option_map (λ (packet : HeldPacket). m.buffer)) (kept_packet state g m.buffer same)
 
 -- ---- the tests by the rules of the switch
 
-none_kept : (packet : Option Held) → is_none packet ≡ is_none (option_map kept packet)
+none_kept : (packet : Option Held) → is_none packet ≡ is_none (option_map without_physical packet)
 none_kept None = refl
 none_kept (Some held) = refl
 
@@ -130,7 +130,7 @@ pub early_same : (rules : List Rule) (slot quota xid : ℕ) (known : List (List 
 early_same rules slot quota xid known state m packet a b c is names comes carries =
     let g = ground_at rules slot known quota xid state in
     early_is g m a b c
-    (names ∙ ap (λ (none : Bool). is_buffered_out m && none) (none_kept packet ∙ ap (λ (p : Option Held). is_none (option_map kept p)) is ∙ ap is_none (kept_packet state g m.buffer refl)))
+    (names ∙ ap (λ (none : Bool). is_buffered_out m && none) (none_kept packet ∙ ap (λ (p : Option Held). is_none (option_map without_physical p)) is ∙ ap is_none (kept_packet state g m.buffer refl)))
     (comes ∙ ap (λ (own : Bool). not (is_buffered_out m) && not (own || m.in_port == NONE || m.in_port == CONTROLLER)) (sym (same_port slot rules m.in_port)))
     (carries ∙ ap (λ (own : Bool). not (is_buffered_out m) && not (is_probe m) && not own)
     (sym (any_alone slot (λ pattern. has (any_in_port pattern) (carried_header m)) rules) ∙ lone_any slot (λ pattern. has (any_in_port pattern) (carried_header m)) (writes_of rules slot)))

@@ -24,10 +24,10 @@ use Rattle.flow_book.specs.declared.state.SliceState.{SliceState}
 use Rattle.slice_words.specs.Messages.{Reading}
 use Rattle.slice_words.specs.Questions.{is_port_on, may_ask}
 use Rattle.slice_words.specs.PacketOuts.{permitted_out, packet_out_on, names_no_packet, comes_by_another, carries_another, packet_out_fault}
-use Rattle.slice_side.specs.Reactions.{kept, ground_at}
+use Rattle.slice_side.specs.Reactions.{without_physical, ground_at}
 use Rattle.slice_side.specs.declared.packet_outs.PacketOutcome.{PacketOutcome}
 use Rattle.slice_side.specs.declared.packet_outs.PacketOutcome.TheVariants as packet_outcome
-use Rattle.slice_words.specs.FlowMods.{Ground, pieces_on, first_refusal, list_given, is_too_long, first_forbidden, lists_on, first_some, packet_at, packet_of, is_packet_in, place_of, carrier_of, wrong_command, emergency, buffer_not_held, outside_flowspace, flow_mod_fault}
+use Rattle.slice_words.specs.FlowMods.{Ground, pieces_on, first_refusal, list_given, is_too_long, first_forbidden, lists_on, first_some, packet_at, named_packet, is_packet_in, piece_place, carrier_of, wrong_command, emergency, buffer_not_held, outside_flowspace, flow_mod_fault}
 use Rattle.slice_side.specs.declared.pieces.Checked.{Checked}
 use Rattle.slice_side.specs.declared.pieces.Checked.TheVariants as checked
 use Rattle.slice_side.specs.declared.pieces.Listing.{Listing}
@@ -42,17 +42,17 @@ abbrev pub packet_in : SliceState → ℕ → Option Held
 packet_in state buffer = if buffer == NO_BUFFER then None else held_under buffer state.buffers.held
 
 -- the packet that a flow-mod names; a delete's number is disregarded
-abbrev pub packet_for : SliceState → FlowMod → Option Held
-packet_for state m = if is_delete m then None else packet_in state m.buffer
+abbrev pub held_for : SliceState → FlowMod → Option Held
+held_for state m = if is_delete m then None else packet_in state m.buffer
 
 -- a flow-mod names a packet that the state doesn't hold, or whose header isn't in its match; a delete's number is disregarded
 abbrev pub not_held_in : SliceState → FlowMod → Bool
-not_held_in state m = not (is_delete m) && not (m.buffer == NO_BUFFER) && not (is_packet_in m.pattern (option_map kept (packet_for state m)))
+not_held_in state m = not (is_delete m) && not (m.buffer == NO_BUFFER) && not (is_packet_in m.pattern (option_map without_physical (held_for state m)))
 
 -- the place of the first piece that has a packet's header, and the switch's number of the packet
 abbrev pub carrier_in : Option Held → List Pattern → Option (ℕ × ℕ)
 carrier_in None pieces = None
-carrier_in (Some packet) pieces = option_map (λ place. (place, packet.physical)) (place_of packet.header pieces)
+carrier_in (Some packet) pieces = option_map (λ place. (place, packet.physical)) (piece_place packet.header pieces)
 
 -- the switch's number of a packet, where there is one
 abbrev pub number_in : Option Held → ℕ
@@ -63,7 +63,7 @@ number_in (Some packet) = packet.physical
 
 -- the flow-mods for the pieces of a match: the first whose piece has the header of the packet that is named carries the switch's number for it
 abbrev pub flow_mods_from : SliceState → Ground → FlowMod → List FlowMod
-flow_mods_from state g m = piece_messages 0 m g.xid (pieces_on g m) (lists_on g m) (carrier_in (packet_for state m) (pieces_on g m))
+flow_mods_from state g m = piece_messages 0 m g.xid (pieces_on g m) (lists_on g m) (carrier_in (held_for state m) (pieces_on g m))
 
 -- the packet-out that is sent, with the switch's number for the packet that is named
 abbrev pub packet_out_from : SliceState → Ground → PacketOut → PacketOut
@@ -142,7 +142,7 @@ abbrev pub IsOutcome : SliceState → Ground → FlowMod → Outcome → Type 0
 IsOutcome state g m (outcome.Refused class code) = flow_mod_fault g m ≡ Some (class, code)
 IsOutcome state g m (outcome.Sent frames pieces used) =
     (flow_mod_fault g m ≡ None) × (frames.items ≡ map spell_flow_mod (flow_mods_from state g m)) × (pieces.items ≡ pieces_on g m)
-    × (used ≡ option_map (λ own. m.buffer) (carrier_of (packet_of g m) (pieces_on g m)))
+    × (used ≡ option_map (λ own. m.buffer) (carrier_of (named_packet g m) (pieces_on g m)))
 
 -- the pieces of one that is sent on differ, and are few
 abbrev pub HasDistinctPieces : Outcome → Type 0

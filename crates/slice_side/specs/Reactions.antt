@@ -50,8 +50,8 @@ pub record Shown (view : List Item) (rules : List Rule) (known : List (List ℕ)
   pub same : features_with opening (known_ports view) ≡ features_with features (ports_of_slice rules slot known)
 
 -- a packet that is held, without the switch's number for it
-abbrev pub kept : Held → HeldPacket
-kept packet = record { ordinal = packet.ordinal; header = packet.header }
+abbrev pub without_physical : Held → HeldPacket
+without_physical packet = record { ordinal = packet.ordinal; header = packet.header }
 
 -- what flow-mods and packet-outs are answered by, by the rules of the switch, its ports, and the slice's state
 abbrev pub ground_at : List Rule → ℕ → List (List ℕ) → ℕ → ℕ → SliceState → Ground
@@ -59,7 +59,7 @@ ground_at rules slot known quota xid state = record {
   slot = slot;
   patterns = writes_of rules slot;
   ports = ports_of_slice rules slot known;
-  held = map kept state.buffers.held;
+  held = map without_physical state.buffers.held;
   booked = state.book.booked;
   quota = quota;
   xid = xid;
@@ -72,13 +72,13 @@ with_item item sight = record { view = item ∷ sight.view; came = sight.came }
 -- ---- changes
 
 -- a packet has the number that is used up, where one is
-abbrev pub is_used : Option ℕ → HeldPacket → Bool
-is_used None packet = false
-is_used (Some number) packet = packet.ordinal % 2 ^ 24 == number
+abbrev pub is_used_up : Option ℕ → HeldPacket → Bool
+is_used_up None packet = false
+is_used_up (Some number) packet = packet.ordinal % 2 ^ 24 == number
 
 -- of the packets that are held these messages name the one that is used up, and no other
 abbrev pub Uses : Option ℕ → List HeldPacket → List Outgoing → Type 0
-Uses used held messages = All (λ packet. is_named packet.ordinal messages ≡ is_used used packet) held
+Uses used held messages = All (λ packet. is_named packet.ordinal messages ≡ is_used_up used packet) held
 
 -- a flow-mod of a slice with these write rules, which holds these packets, is sent on: it is remembered with its first bytes, booked piece by piece, and uses up the packet that its messages name
 pub record IsModification (patterns : List Pattern) (held : List HeldPacket) (message : List ℕ) (read : Reading) (a : Answer) (moment : ℕ) (m : Modification) : Type 0 where
@@ -153,9 +153,9 @@ pub record IsReaction (s : Settings) (sight : Sight) (item : Item) (r : Reaction
 -- ---- room
 
 -- the pieces of a change differ, and are few
-abbrev pub IsSound : Change → Type 0
-IsSound (Modified m) = AllPairs (λ a b. a ≢ b) m.pieces.items × (length m.pieces.items ≤ 256)
-IsSound change = Unit {0}
+abbrev pub IsSoundChange : Change → Type 0
+IsSoundChange (Modified m) = AllPairs (λ a b. a ≢ b) m.pieces.items × (length m.pieces.items ≤ 256)
+IsSoundChange change = Unit {0}
 
 -- there is room for a change: in the numbers of requests for one more, and in the book for the newcomers of a flow-mod
 abbrev pub HasRoom : Change → SliceState → Type 0

@@ -1,5 +1,5 @@
 ghost use Rattle.std.specs.Prelude.{◌≡◌, [], ◌∷◌, false, IfOk};
-ghost use Rattle.slice_side.specs.Reactions.{IsSound};
+ghost use Rattle.slice_side.specs.Reactions.{IsSoundChange};
 
 use crate::change::Change;
 use of10_ctl::Frame;
@@ -21,8 +21,8 @@ pub struct Reaction {
 impl Reaction {
     /// Nothing is sent.
     pub(crate) fn silent(alloc: Global, change: Change) -> Reaction
-        requires { IsSound change }
-        ensures sound { IsSound result.change }
+        requires { IsSoundChange change }
+        ensures sound { IsSoundChange result.change }
         ensures to_slice { result.to_slice.items ≡ [] }
         ensures to_switch { result.to_switch.items ≡ [] }
         ensures change { result.change ≡ change }
@@ -42,8 +42,8 @@ impl Reaction {
         reply: Frame,
         change: Change,
     ) -> Result<Reaction, AllocError>
-        requires { IsSound change }
-        ensures sound { IfOk result (λ r. IsSound r.change) }
+        requires { IsSoundChange change }
+        ensures sound { IfOk result (λ r. IsSoundChange r.change) }
         ensures to_slice { IfOk result (λ r. r.to_slice.items ≡ reply ∷ []) }
         ensures to_switch { IfOk result (λ r. r.to_switch.items ≡ []) }
         ensures change { IfOk result (λ r. r.change ≡ change) }
@@ -56,8 +56,8 @@ impl Reaction {
 
     /// Messages are sent on to the switch.
     pub(crate) fn forwarding(alloc: Global, to_switch: Vec<Frame>, change: Change) -> Reaction
-        requires { IsSound change }
-        ensures sound { IsSound result.change }
+        requires { IsSoundChange change }
+        ensures sound { IsSoundChange result.change }
         ensures to_slice { result.to_slice.items ≡ [] }
         ensures to_switch { result.to_switch.items ≡ to_switch.items }
         ensures change { result.change ≡ change }
@@ -77,8 +77,8 @@ impl Reaction {
         message: Frame,
         change: Change,
     ) -> Result<Reaction, AllocError>
-        requires { IsSound change }
-        ensures sound { IfOk result (λ r. IsSound r.change) }
+        requires { IsSoundChange change }
+        ensures sound { IfOk result (λ r. IsSoundChange r.change) }
         ensures to_slice { IfOk result (λ r. r.to_slice.items ≡ []) }
         ensures to_switch { IfOk result (λ r. r.to_switch.items ≡ message ∷ []) }
         ensures change { IfOk result (λ r. r.change ≡ change) }

@@ -5,7 +5,7 @@ ghost use Rattle.slice_words.specs.Items.{Settings, Sight, Item, Up, Down, Msg};
 ghost use Rattle.slice_words.specs.Statistics.{begun};
 ghost use Rattle.slice_words.specs.Standing.{SliceStands};
 ghost use Rattle.slice_side.specs.declared.change.Change.TheVariants.{Modified, Inquired};
-ghost use Rattle.slice_side.specs.Reactions.{kept, is_used, IsChange, IsSound, HasRoom, with_item};
+ghost use Rattle.slice_side.specs.Reactions.{without_physical, is_used_up, IsChange, IsSoundChange, HasRoom, with_item};
 ghost use Rattle.slice_side.specs.Requesting.{IsRequested};
 
 use crate::change::{Change, Modification};
@@ -50,7 +50,7 @@ pub fn go_down(state: &mut SliceState)
 /// Uses up the packet of the number, where there is one.
 fn use_up(buffers: &mut BufferMap, used: Option<u32>)
     ensures given { buffers.new.given ≡ buffers.old.given }
-    ensures held { buffers.new.held ≡ filter (λ packet. not (is_used used (kept packet))) buffers.old.held }
+    ensures held { buffers.new.held ≡ filter (λ packet. not (is_used_up used (without_physical packet))) buffers.old.held }
 {
     match used {
         None => {}
@@ -107,7 +107,7 @@ fn inquire(state: &mut SliceState, moment: u64, asked: Asked)
 
 /// Makes the change in the slice's state. Takes no memory.
 pub fn apply(state: &mut SliceState, change: Change)
-    requires sound { IsSound change }
+    requires sound { IsSoundChange change }
     requires room { HasRoom change state.old }
     ensures { (s : Settings) (sight : Sight) (item : Item) → SliceStands s sight state.old → IsChange s sight item change → SliceStands s (with_item item sight) state.new }
 {

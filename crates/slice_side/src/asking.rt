@@ -9,7 +9,7 @@ ghost use Rattle.slice_words.specs.FlowMods.{ground_of};
 ghost use Rattle.slice_words.specs.Questions.{may_ask, barrier_asked};
 ghost use Rattle.slice_words.specs.Answers.{statistics_answer, queues_answer};
 ghost use Rattle.stats_filter.specs.Asking.{asked_as};
-ghost use Rattle.slice_side.specs.Reactions.{Sees, Follows, IsSound, ground_at};
+ghost use Rattle.slice_side.specs.Reactions.{Sees, Follows, IsSoundChange, ground_at};
 ghost use Rattle.slice_side.specs.Checking.{AreSentOn};
 
 use crate::answered::Reaction;
@@ -63,7 +63,7 @@ pub(crate) fn statistics(
     frame: &Frame,
     moment: u64,
 ) -> Result<Reaction, AllocError>
-    ensures sound { IfOk result (λ r. IsSound r.change) }
+    ensures sound { IfOk result (λ r. IsSoundChange r.change) }
     ensures sent { IfOk result (λ r. AreSentOn around.now.policy.now.rules around.now.slot around.now.ports.now around.now.state.now (Ok (said.StatsRequest request.now)) r.to_switch.items) }
     ensures follows { (s : Settings) (sight : Sight) → SliceStands s sight around.now.state.now → Sees s sight.view around.now.policy.now around.now.ports.now around.now.features.now around.now.slot → IfOk result (Follows s sight frame.now (Ok (said.StatsRequest request.now)) (statistics_answer (ground_of s sight.view (past_of s sight.view)) request.now frame.now) moment) }
 {
@@ -97,7 +97,7 @@ pub(crate) fn barrier(
     frame: &Frame,
     moment: u64,
 ) -> Result<Reaction, AllocError>
-    ensures sound { IfOk result (λ r. IsSound r.change) }
+    ensures sound { IfOk result (λ r. IsSoundChange r.change) }
     ensures sent { IfOk result (λ r. AreSentOn around.now.policy.now.rules around.now.slot around.now.ports.now around.now.state.now (Ok said.BarrierRequest) r.to_switch.items) }
     ensures follows { (s : Settings) (sight : Sight) → SliceStands s sight around.now.state.now → Sees s sight.view around.now.policy.now around.now.ports.now around.now.features.now around.now.slot → IfOk result (Follows s sight frame.now (Ok said.BarrierRequest) (barrier_asked (ground_of s sight.view (past_of s sight.view))) moment) }
 {
@@ -116,7 +116,7 @@ pub(crate) fn queues(
     frame: &Frame,
     moment: u64,
 ) -> Result<Reaction, AllocError>
-    ensures sound { IfOk result (λ r. IsSound r.change) }
+    ensures sound { IfOk result (λ r. IsSoundChange r.change) }
     ensures sent { IfOk result (λ r. AreSentOn around.now.policy.now.rules around.now.slot around.now.ports.now around.now.state.now (Ok (said.QueueGetConfigRequest question.now)) r.to_switch.items) }
     ensures follows { (s : Settings) (sight : Sight) → SliceStands s sight around.now.state.now → Sees s sight.view around.now.policy.now around.now.ports.now around.now.features.now around.now.slot → IfOk result (Follows s sight frame.now (Ok (said.QueueGetConfigRequest question.now)) (queues_answer (ground_of s sight.view (past_of s sight.view)) question.now frame.now) moment) }
 {

@@ -5,10 +5,10 @@ ghost use Rattle.std.specs.Prelude.{ℕ, ◌≡◌, ◌≢◌, ◌≤◌, ◌<�
 ghost use Rattle.of10_flow.specs.declared.protocol.TheConstants.{CHECK_OVERLAP, EMERG};
 ghost use Rattle.of10_flow.specs.Tables.{is_delete, has_flag};
 ghost use Rattle.slice_words.specs.FlowMods.{Ground, pieces_on, first_some, is_packet_in, wrong_command, emergency, refused_where, unknown_buffer, overlapping, over_quota};
-ghost use Rattle.slice_side.specs.Reactions.{kept, ground_at};
+ghost use Rattle.slice_side.specs.Reactions.{without_physical, ground_at};
 ghost use Rattle.flowmod_expand.specs.Pieces.{pieces_of};
 ghost use Rattle.flow_book.specs.Books.{overlaps_in};
-ghost use Rattle.slice_side.specs.Checking.{packet_for, not_held_in, IsListed, PassesEarly, IsOutcome, HasDistinctPieces, HasLists};
+ghost use Rattle.slice_side.specs.Checking.{held_for, not_held_in, IsListed, PassesEarly, IsOutcome, HasDistinctPieces, HasLists};
 
 use crate::held::{carrier, packet_at};
 use crate::pieces::{Listing, list_pieces, no_actions};
@@ -50,7 +50,7 @@ fn is_delete(m: &FlowMod) -> bool
 
 /// The packet that the flow-mod names; a delete's number is disregarded.
 fn packet_for(state: &SliceState, m: &FlowMod) -> Option<Held>
-    ensures { result ≡ packet_for state.now m.now }
+    ensures { result ≡ held_for state.now m.now }
 {
     if is_delete(m) {
         return None;
@@ -60,7 +60,7 @@ fn packet_for(state: &SliceState, m: &FlowMod) -> Option<Held>
 
 /// Whether its match has the header of the packet that it names.
 fn has_packet(state: &SliceState, m: &FlowMod) -> bool
-    ensures { result ≡ is_packet_in m.now.pattern (option_map kept (packet_for state.now m.now)) }
+    ensures { result ≡ is_packet_in m.now.pattern (option_map without_physical (held_for state.now m.now)) }
 {
     match packet_for(state, m) {
         Some(packet) => m.pattern.matches(&packet.header),

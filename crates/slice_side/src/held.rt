@@ -1,7 +1,7 @@
 //! The packets that a slice holds.
 
 ghost use Rattle.std.specs.Prelude.{◌≡◌, ◌<◌, ◌≤◌, length, IfSome};
-ghost use Rattle.slice_words.specs.FlowMods.{place_of};
+ghost use Rattle.slice_words.specs.FlowMods.{piece_place};
 ghost use Rattle.slice_side.specs.Checking.{packet_in, carrier_in};
 
 use buffer_map::Held;
@@ -21,7 +21,7 @@ pub(crate) fn packet_at(state: &SliceState, buffer: u32) -> Option<Held>
 
 /// The place of the first piece that has the header.
 fn place_of(pieces: &[Match], header: &Header12) -> Option<usize>
-    ensures { result ≡ place_of header.now pieces.now }
+    ensures { result ≡ piece_place header.now pieces.now }
 {
     pieces.iter().position(|piece| piece.matches(header))
 }

@@ -10,7 +10,7 @@ ghost use Rattle.flowspace.specs.Owners.{has_port};
 ghost use Rattle.flowspace.specs.Rules.{is_written_by};
 ghost use Rattle.slice_words.specs.PacketOuts.{is_buffered_out, carried_header, is_probe, marked, origin_with, permitted_out, sent_out_with, packet_out_size};
 ghost use Rattle.slice_words.specs.FlowMods.{first_some};
-ghost use Rattle.slice_side.specs.Reactions.{kept, ground_at};
+ghost use Rattle.slice_side.specs.Reactions.{without_physical, ground_at};
 ghost use Rattle.slice_side.specs.Checking.{packet_in, number_in, IsChecked, early, MayBeSent, IsPacketOutcome};
 
 use crate::held::packet_at;
@@ -127,7 +127,7 @@ fn early_fault(around: &Around<'_>, m: &PacketOut, packet: &Option<Held>) -> Opt
 
 /// What its actions are applied to.
 fn origin_of(m: &PacketOut, packet: &Option<Held>) -> Origin
-    ensures { result ≡ origin_with (option_map kept packet.now) m.now }
+    ensures { result ≡ origin_with (option_map without_physical packet.now) m.now }
 {
     match packet {
         Some(packet) => Origin::Packet(packet.header),
@@ -188,7 +188,7 @@ fn packet_out_for(
     packet: &Option<Held>,
     actions: Actions,
 ) -> Result<PacketOut, AllocError>
-    ensures { (quota : ℕ) → IfOk result (λ out. out ≡ record (sent_out_with (option_map kept packet.now) (ground_at around.now.policy.now.rules around.now.slot around.now.ports.now quota xid around.now.state.now) m.now actions) { buffer = number_in packet.now }) }
+    ensures { (quota : ℕ) → IfOk result (λ out. out ≡ record (sent_out_with (option_map without_physical packet.now) (ground_at around.now.policy.now.rules around.now.slot around.now.ports.now quota xid around.now.state.now) m.now actions) { buffer = number_in packet.now }) }
 {
     match packet {
         Some(packet) => Ok(PacketOut {

@@ -9,7 +9,7 @@ ghost use Rattle.slice_words.specs.Items.{Settings, Sight};
 ghost use Rattle.slice_words.specs.Standing.{SliceStands, past_of};
 ghost use Rattle.slice_words.specs.FlowMods.{ground_of};
 ghost use Rattle.slice_words.specs.Answers.{flow_mod_answer, packet_out_answer, rated_answer};
-ghost use Rattle.slice_side.specs.Reactions.{Sees, Follows, IsSound};
+ghost use Rattle.slice_side.specs.Reactions.{Sees, Follows, IsSoundChange};
 ghost use Rattle.slice_side.specs.Checking.{AreSentOn};
 
 use crate::answered::Reaction;
@@ -57,7 +57,7 @@ fn flow_mod(
     frame: &Frame,
     moment: u64,
 ) -> Result<Reaction, AllocError>
-    ensures sound { IfOk result (λ r. IsSound r.change) }
+    ensures sound { IfOk result (λ r. IsSoundChange r.change) }
     ensures sent { IfOk result (λ r. AreSentOn around.now.policy.now.rules around.now.slot around.now.ports.now around.now.state.now (Ok (said.FlowMod m.now)) r.to_switch.items) }
     ensures follows { (s : Settings) (sight : Sight) → SliceStands s sight around.now.state.now → Sees s sight.view around.now.policy.now around.now.ports.now around.now.features.now around.now.slot → IfOk result (Follows s sight frame.now (Ok (said.FlowMod m.now)) (flow_mod_answer (ground_of s sight.view (past_of s sight.view)) m.now frame.now) moment) }
 {
@@ -93,7 +93,7 @@ fn packet_out(
     frame: &Frame,
     moment: u64,
 ) -> Result<Reaction, AllocError>
-    ensures sound { IfOk result (λ r. IsSound r.change) }
+    ensures sound { IfOk result (λ r. IsSoundChange r.change) }
     ensures sent { IfOk result (λ r. AreSentOn around.now.policy.now.rules around.now.slot around.now.ports.now around.now.state.now (Ok (said.PacketOut m.now)) r.to_switch.items) }
     ensures follows { (s : Settings) (sight : Sight) → SliceStands s sight around.now.state.now → Sees s sight.view around.now.policy.now around.now.ports.now around.now.features.now around.now.slot → IfOk result (Follows s sight frame.now (Ok (said.PacketOut m.now)) (packet_out_answer (ground_of s sight.view (past_of s sight.view)) m.now frame.now) moment) }
 {
@@ -123,7 +123,7 @@ pub(crate) fn question(
     moment: u64,
 ) -> Result<Reaction, AllocError>
     requires { asks_switch (Ok message.now) ≡ true }
-    ensures sound { IfOk result (λ r. IsSound r.change) }
+    ensures sound { IfOk result (λ r. IsSoundChange r.change) }
     ensures sent { IfOk result (λ r. AreSentOn around.now.policy.now.rules around.now.slot around.now.ports.now around.now.state.now (Ok message.now) r.to_switch.items) }
     ensures follows { (s : Settings) (sight : Sight) → SliceStands s sight around.now.state.now → Sees s sight.view around.now.policy.now around.now.ports.now around.now.features.now around.now.slot → IfOk result (Follows s sight frame.now (Ok message.now) (rated_answer s sight.view (past_of s sight.view) moment message.now frame.now) moment) }
 {

@@ -3,7 +3,7 @@ ghost use Rattle.of10_message.specs.Controller.{read_controller};
 ghost use Rattle.slice_words.specs.Messages.{asks_switch};
 ghost use Rattle.slice_words.specs.Items.{Settings, Sight, Msg};
 ghost use Rattle.slice_words.specs.Standing.{SliceStands};
-ghost use Rattle.slice_side.specs.Reactions.{Sees, IsReaction, IsSound};
+ghost use Rattle.slice_side.specs.Reactions.{Sees, IsReaction, IsSoundChange};
 ghost use Rattle.slice_side.specs.Checking.{AreSentOn};
 
 use crate::answered::Reaction;
@@ -47,7 +47,7 @@ pub fn react(
 ) -> Result<Reaction, AllocError>
     ensures reaction { (s : Settings) (sight : Sight) → SliceStands s sight state.now → Sees s sight.view policy.now ports.now features.now slot → IfOk result (IsReaction s sight (Msg frame.now moment)) }
     ensures sent { IfOk result (λ r. AreSentOn policy.now.rules slot ports.now state.now (read_controller frame.now) r.to_switch.items) }
-    ensures sound { IfOk result (λ r. IsSound r.change) }
+    ensures sound { IfOk result (λ r. IsSoundChange r.change) }
 {
     let around = Around {
         policy,

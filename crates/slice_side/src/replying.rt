@@ -10,7 +10,7 @@ ghost use Rattle.of10_port.specs.Features.{spell_features};
 ghost use Rattle.of10_message.specs.Heads.{xid_of};
 ghost use Rattle.port_view.specs.SlicePorts.{ports_of_slice, features_with};
 ghost use Rattle.slice_side.specs.declared.change.Change.TheVariants.{Heard, Dismissed};
-ghost use Rattle.slice_side.specs.Reactions.{Shown, Follows, IsSound};
+ghost use Rattle.slice_side.specs.Reactions.{Shown, Follows, IsSoundChange};
 
 use crate::answered::Reaction;
 use crate::change::Change;
@@ -66,8 +66,8 @@ pub(crate) fn refused(
     frame: &Frame,
     change: Change,
 ) -> Result<Reaction, AllocError>
-    requires { IsSound change }
-    ensures sound { IfOk result (λ r. IsSound r.change) }
+    requires { IsSoundChange change }
+    ensures sound { IfOk result (λ r. IsSoundChange r.change) }
     ensures to_slice { IfOk result (λ r. r.to_slice.items ≡ error_for (class, code) frame.now ∷ []) }
     ensures to_switch { IfOk result (λ r. r.to_switch.items ≡ []) }
     ensures change { IfOk result (λ r. r.change ≡ change) }
@@ -79,7 +79,7 @@ pub(crate) fn refused(
 
 /// A message that ends its connection, with what is said last.
 fn dismissed(alloc: Global, reply: Frame, moment: u64) -> Result<Reaction, AllocError>
-    ensures sound { IfOk result (λ r. IsSound r.change) }
+    ensures sound { IfOk result (λ r. IsSoundChange r.change) }
     ensures to_slice { IfOk result (λ r. r.to_slice.items ≡ reply ∷ []) }
     ensures to_switch { IfOk result (λ r. r.to_switch.items ≡ []) }
     ensures change { IfOk result (λ r. r.change ≡ Dismissed moment) }
@@ -99,7 +99,7 @@ pub(crate) fn unread(
     frame: &Frame,
     moment: u64,
 ) -> Result<Reaction, AllocError>
-    ensures sound { IfOk result (λ r. IsSound r.change) }
+    ensures sound { IfOk result (λ r. IsSoundChange r.change) }
     ensures nothing { IfOk result (λ r. r.to_switch.items ≡ []) }
     ensures follows { (s : Settings) (sight : Sight) → IfOk result (Follows s sight frame.now (Err fault) (unread_answer fault frame.now) moment) }
 {
@@ -152,7 +152,7 @@ fn setting(
     frame: &Frame,
     moment: u64,
 ) -> Result<Reaction, AllocError>
-    ensures sound { IfOk result (λ r. IsSound r.change) }
+    ensures sound { IfOk result (λ r. IsSoundChange r.change) }
     ensures nothing { IfOk result (λ r. r.to_switch.items ≡ []) }
     ensures follows { (s : Settings) (sight : Sight) → IfOk result (Follows s sight frame.now (Ok (said.SetConfig config.now)) (setting_answer config.now frame.now) moment) }
 {
@@ -177,7 +177,7 @@ fn setting(
 
 /// A message that is answered and changes nothing else.
 fn replied(alloc: Global, reply: Frame, moment: u64) -> Result<Reaction, AllocError>
-    ensures sound { IfOk result (λ r. IsSound r.change) }
+    ensures sound { IfOk result (λ r. IsSoundChange r.change) }
     ensures to_slice { IfOk result (λ r. r.to_slice.items ≡ reply ∷ []) }
     ensures to_switch { IfOk result (λ r. r.to_switch.items ≡ []) }
     ensures change { IfOk result (λ r. r.change ≡ Heard moment) }
@@ -207,7 +207,7 @@ pub(crate) fn local(
     moment: u64,
 ) -> Result<Reaction, AllocError>
     requires { asks_switch (Ok message.now) ≡ false }
-    ensures sound { IfOk result (λ r. IsSound r.change) }
+    ensures sound { IfOk result (λ r. IsSoundChange r.change) }
     ensures nothing { IfOk result (λ r. r.to_switch.items ≡ []) }
     ensures follows { (s : Settings) (sight : Sight) (past : List Past) → Shown sight.view around.now.policy.now.rules around.now.ports.now around.now.features.now around.now.slot around.now.state.now.miss_send_len → IfOk result (Follows s sight frame.now (Ok message.now) (read_answer s sight.view past moment message.now frame.now) moment) }
 {

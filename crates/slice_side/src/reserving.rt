@@ -3,7 +3,7 @@ ghost use Rattle.flow_book.specs.Books.{newcomers_in};
 ghost use Rattle.slice_words.specs.Items.{Settings, Sight};
 ghost use Rattle.slice_words.specs.Standing.{SliceStands};
 ghost use Rattle.slice_side.specs.declared.change.Change.TheVariants.{Modified};
-ghost use Rattle.slice_side.specs.Reactions.{IsSound, HasRoom};
+ghost use Rattle.slice_side.specs.Reactions.{IsSoundChange, HasRoom};
 
 use crate::change::{Change, Modification};
 use flow_book::SliceState;
@@ -41,7 +41,7 @@ fn reserve_request(state: &SliceState) -> Result<(), AllocError>
 /// Makes the room that `apply` of the change needs. What the state stands for stays as it is; so it does
 /// where there is no memory.
 pub fn reserve(state: &mut SliceState, change: &Change) -> Result<(), AllocError>
-    requires { IsSound change.now }
+    requires { IsSoundChange change.now }
     ensures stands { (s : Settings) (sight : Sight) → SliceStands s sight state.old → SliceStands s sight state.new }
     ensures room { OnOk result (HasRoom change.now state.new) }
 {

@@ -18,7 +18,7 @@ use Rattle.stats_filter.specs.Asking.{question_for}
 use Rattle.stats_filter.specs.Replies.{table_reply}
 use Rattle.slice_words.specs.Messages.{Reading, ends_connection, is_dismissing}
 use Rattle.slice_words.specs.Items.{Settings, Item, miss_send_len, features_in, known_ports}
-use Rattle.slice_words.specs.Pasts.{Answer, Past, silence, told as answered, dismissal, forwarded}
+use Rattle.slice_words.specs.Pasts.{Answer, Past, no_answer, told as answered, dismissal, forwarded}
 use Rattle.slice_words.specs.FlowMods.{ground_of, flow_mod_fault, sent_on}
 use Rattle.slice_words.specs.PacketOuts.{packet_out_fault, sent_out}
 use Rattle.slice_words.specs.Questions.{is_port_on, may_ask, asking, statistics_asked, barrier_asked, queues_asked}
@@ -28,7 +28,7 @@ use Rattle.slice_words.specs.Answers.{error_for, refused, refusal_of, no_common_
 pub record HoldsOfEach (P : Bool → Answer → Type 0) (s : Settings) (view : List Item) (past : List Past) (message : List ℕ) : Type 0 where
   pub bad : P true (dismissal (error_for bad_length message ∷ []))
   pub old : P true (dismissal (error_of (xid_of message) no_common_version.0 no_common_version.1 [] ∷ []))
-  pub nothing : P false silence
+  pub nothing : P false no_answer
   pub refuses : (fault : ℕ × ℕ) → P false (refused fault message)
   pub echoes : P false (answered (echo_reply_to message ∷ []))
   pub tells_features : (features : Features) → P false (answered (spell_features (features_with features (known_ports view)) (xid_of message) ∷ []))
@@ -41,7 +41,7 @@ pub record HoldsOfEach (P : Bool → Answer → Type 0) (s : Settings) (view : L
   pub asks_queues : (queues : QueuesQuestion) → read_controller message ≡ Ok (said.QueueGetConfigRequest queues) → is_port_on (ground_of s view past) queues.port ≡ true → P false (queues_asked (ground_of s view past) queues)
 
 features_holds : (P : Bool → Answer → Type 0) (s : Settings) (view : List Item) (past : List Past) (message : List ℕ) (found : Option Features) → HoldsOfEach P s view past message
-    → P false (elim found [ None ↦ silence | Some features ↦ answered (spell_features (features_with features (known_ports view)) (xid_of message) ∷ []) ])
+    → P false (elim found [ None ↦ no_answer | Some features ↦ answered (spell_features (features_with features (known_ports view)) (xid_of message) ∷ []) ])
 features_holds P s view past message None each = each.nothing
 features_holds P s view past message (Some features) each = each.tells_features features
 

@@ -14,13 +14,13 @@ use Rattle.xid_map.specs.declared.asked.Issued.{Issued}
 use Rattle.xid_map.specs.declared.asked.AskKind.{AskKind}
 use Rattle.xid_map.specs.declared.asked.AskKind.TheVariants as kinds
 use Rattle.xid_map.specs.Requests.{RequestCall, Issue, MarkError, MarkDone, Forget, issued, physical_of, found}
-use Rattle.xid_map.specs.Collections.{CollectionCall, Start, Add, Sum, Finish, EndAll, is_among, collecting, begins, since, added, joined, gathered}
+use Rattle.xid_map.specs.Collections.{CollectionCall, Start, Add, Sum, Finish, EndAll, is_among, collecting, begins, since, added, joined_entries, gathered}
 use Rattle.xid_map.proofs.Finding.{IsFound-found}
 use Rattle.xid_map.proofs.Gathering.{IsLongestRun-kept}
 use Rattle.stats_filter.specs.Asking.{type_sent}
 use Rattle.stats_filter.specs.Keeping.{entries_in}
 use Rattle.stats_filter.specs.Replies.{page_size}
-use Rattle.stats_filter.specs.Laws.{AreSmall}
+use Rattle.stats_filter.specs.Laws.{FitPages}
 use Rattle.stats_filter.proofs.Rows.{entries_in-concat}
 use Rattle.of10_message.specs.Controller.{read_controller}
 use Rattle.slice_words.specs.Messages.{is_dismissing, kind_asked}
@@ -214,8 +214,8 @@ record IsRow (P : List ℕ → Type 0) (bytes : List ℕ) : Type 0 where
   split : bytes ≡ concat row
   each : All P row
 
-row_joined : (P : List ℕ → Type 0) (entries : List (List ℕ)) → All P entries → IsRow P (joined entries)
-unfolding joined
+row_joined : (P : List ℕ → Type 0) (entries : List (List ℕ)) → All P entries → IsRow P (joined_entries entries)
+unfolding joined_entries
 row_joined P [] all = record { row = []; split = refl; each = All-nil P }
 row_joined P (entry ∷ earlier) all =
     let before = row_joined P earlier (All-tail P entry earlier all) in
@@ -237,12 +237,12 @@ row_gathered P number calls all =
 
 -- a view's entries that are whole fit the pages of the reply to the request that collects them
 pub fit-gathered : (s : Settings) (view : List Item) (x : ℕ) (request : Issued) (kind : ℕ) → All IsWholeEntry view → request_for s x (request_calls s (past_of s view)) ≡ Some request → type_sent request.asked.kind ≡ Some kind
-    → AreSmall (entries_in kind (gathered request.number (collection_calls s (past_of s view))).entries)
+    → FitPages (entries_in kind (gathered request.number (collection_calls s (past_of s view))).entries)
 fit-gathered s view x request kind whole is sent =
     let requests = request_calls s (past_of s view) in
     let calls = collection_calls s (past_of s view) in
     let own = row_gathered (IsOwn requests request.number) request.number calls (own_in s view whole request.number) in
     let at = sent_found s.slot (physical_of s.slot x) requests request kind is sent in
     let each : All (IsEntry kind) own.row = All-weaker (IsOwn requests request.number) (IsEntry kind) (λ entry one. subst (λ k. IsEntry k entry) (same_Some one.kind kind (sym one.sent ∙ at)) one.whole) own.row own.each in
-    let small : AreSmall own.row = All-weaker (IsOwn requests request.number) (λ entry. length entry ≤ page_size) (λ entry one. one.fits) own.row own.each in
-    subst AreSmall (sym (ap (entries_in kind) own.split ∙ entries_in-concat kind own.row each)) small
+    let small : FitPages own.row = All-weaker (IsOwn requests request.number) (λ entry. length entry ≤ page_size) (λ entry one. one.fits) own.row own.each in
+    subst FitPages (sym (ap (entries_in kind) own.split ∙ entries_in-concat kind own.row each)) small

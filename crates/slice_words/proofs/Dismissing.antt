@@ -2,7 +2,7 @@
 use Rattle.std.proofs.Common.{◌≡◌, ℕ, ◌&&◌, Bool, true, false, if◌then◌else◌, List, refl}
 use Rattle.slice_words.specs.Messages.{is_dismissing}
 use Rattle.slice_words.specs.Items.{Settings, Item, Opened, Up, Down, Msg, Lost, Handed, Removed, Status, Fault, Barrier, Queues, Entry, Last, End, is_up}
-use Rattle.slice_words.specs.Pasts.{Answer, Past, silence}
+use Rattle.slice_words.specs.Pasts.{Answer, Past, no_answer}
 use Rattle.slice_words.specs.Answers.{answer, message_answer}
 use Rattle.slice_words.specs.Alone.{played}
 use Rattle.slice_words.specs.Laws.{EndsExactly}
@@ -27,7 +27,7 @@ message_ends s view past moment message =
     })
 
 -- what isn't asked for ends nothing, and while the slice is up the answer says
-by_up : (up : Bool) (a : Answer) (ends_ : Bool) → a.dismissed ≡ ends_ → (if up then a else silence).dismissed ≡ (up && ends_)
+by_up : (up : Bool) (a : Answer) (ends_ : Bool) → a.dismissed ≡ ends_ → (if up then a else no_answer).dismissed ≡ (up && ends_)
 by_up true a ends_ is = is
 by_up false a ends_ is = refl
 

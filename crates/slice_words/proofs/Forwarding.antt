@@ -15,30 +15,30 @@ use Rattle.flowmod_expand.specs.Messages.{buffer_at, piece_message, piece_messag
 use Rattle.flowmod_expand.proofs.Walks.{spell_size}
 use Rattle.slice_words.specs.Pasts.{Modifies}
 use Rattle.slice_words.specs.Buffers.{HeldPacket}
-use Rattle.slice_words.specs.FlowMods.{Ground, pieces_on, packet_at, packet_of, naming, carrier_of, sent_on, first_some, refused_where, wrong_command, emergency, buffer_not_held, outside_flowspace, forbidden_action, is_too_long, lists_on, flow_mods_on, too_large, too_many_actions, overlapping, over_quota, flow_mod_fault}
+use Rattle.slice_words.specs.FlowMods.{Ground, pieces_on, packet_at, named_packet, naming, carrier_of, sent_on, first_some, refused_where, wrong_command, emergency, buffer_not_held, outside_flowspace, forbidden_action, is_too_long, lists_on, flow_mods_on, too_large, too_many_actions, overlapping, over_quota, flow_mod_fault}
 use Rattle.slice_words.specs.PacketOuts.{names_no_packet, comes_by_another, carries_another, forbidden_out, out_too_large, packet_out_on, packet_out_size, permitted_out, packet_out_fault}
 use Rattle.slice_words.specs.FlowMods.{list_given}
-use Rattle.slice_words.specs.Alone.{number_of, rendered}
+use Rattle.slice_words.specs.Alone.{number_it_came_with, rendered}
 
 -- ---- the switch's number of the packet
 
 -- the place that carries a packet, with the switch's number of it
 abbrev pub numbered : List ℕ → Option (ℕ × ℕ) → Option (ℕ × ℕ)
-numbered came carrier = option_map (λ own. (own.0, number_of came own.1)) carrier
+numbered came carrier = option_map (λ own. (own.0, number_it_came_with came own.1)) carrier
 
 -- the flow-mods that are sent, with the switch's number where one carries a packet
 abbrev pub flow_mods_numbered : List ℕ → Ground → FlowMod → List FlowMod
-flow_mods_numbered came g m = piece_messages 0 m g.xid (pieces_on g m) (lists_on g m) (numbered came (carrier_of (packet_of g m) (pieces_on g m)))
+flow_mods_numbered came g m = piece_messages 0 m g.xid (pieces_on g m) (lists_on g m) (numbered came (carrier_of (named_packet g m) (pieces_on g m)))
 
 -- one message of a flow-mod that may carry a packet
 rendered_one : (came : List ℕ) (own : ℕ × ℕ) (place : ℕ) (m : FlowMod) (xid : ℕ) (piece : Pattern) (actions : List Action) (here : Bool) → (own.0 == place) ≡ here → is_delete m ≡ false
-    → rendered came (Modifies (piece_message m xid piece actions NO_BUFFER) (if own.0 == place then Some own.1 else None)) ≡ spell_flow_mod (piece_message m xid piece actions (if own.0 == place then number_of came own.1 else NO_BUFFER))
+    → rendered came (Modifies (piece_message m xid piece actions NO_BUFFER) (if own.0 == place then Some own.1 else None)) ≡ spell_flow_mod (piece_message m xid piece actions (if own.0 == place then number_it_came_with came own.1 else NO_BUFFER))
 unfolding piece_message
 rendered_one came own place m xid piece actions true is keeps = rw (is, keeps) refl
 rendered_one came own place m xid piece actions false is keeps = rw is refl
 
 rendered_from : (came : List ℕ) (own : ℕ × ℕ) (place : ℕ) (m : FlowMod) (xid : ℕ) (pieces : List Pattern) (lists : List (List Action)) → is_delete m ≡ false
-    → map (rendered came) (naming (Some own) place (piece_messages place m xid pieces lists None)) ≡ map spell_flow_mod (piece_messages place m xid pieces lists (Some (own.0, number_of came own.1)))
+    → map (rendered came) (naming (Some own) place (piece_messages place m xid pieces lists None)) ≡ map spell_flow_mod (piece_messages place m xid pieces lists (Some (own.0, number_it_came_with came own.1)))
 rendered_from came own place m xid [] lists keeps = refl
 rendered_from came own place m xid (piece ∷ pieces) [] keeps = refl
 rendered_from came own place m xid (piece ∷ pieces) (actions ∷ lists) keeps =
@@ -62,7 +62,7 @@ kept_by false packet pieces some = refl
 
 pub rendered_sent : (came : List ℕ) (g : Ground) (m : FlowMod) → map (rendered came) (sent_on g m) ≡ map spell_flow_mod (flow_mods_numbered came g m)
 rendered_sent came g m =
-    rendered_by came m g.xid (pieces_on g m) (lists_on g m) (carrier_of (packet_of g m) (pieces_on g m))
+    rendered_by came m g.xid (pieces_on g m) (lists_on g m) (carrier_of (named_packet g m) (pieces_on g m))
     (kept_by (is_delete m) (packet_at g m.buffer) (pieces_on g m))
 
 -- ---- sizes
@@ -125,7 +125,7 @@ not_large g m none =
 -- so do they with the switch's number in the place of none
 pub not_large_numbered : (came : List ℕ) (g : Ground) (m : FlowMod) → flow_mod_fault g m ≡ None → are_too_large (map spell_flow_mod (flow_mods_numbered came g m)) ≡ false
 not_large_numbered came g m none =
-    same_large m g.xid (pieces_on g m) (lists_on g m) (numbered came (carrier_of (packet_of g m) (pieces_on g m))) None ∙ not_large g m none
+    same_large m g.xid (pieces_on g m) (lists_on g m) (numbered came (carrier_of (named_packet g m) (pieces_on g m))) None ∙ not_large g m none
 
 -- a packet-out that is sent on fits, too
 pub out_not_large : (g : Ground) (m : PacketOut) → packet_out_fault g m ≡ None → nat_lt 65535 (packet_out_size (packet_out_on g m)) ≡ false

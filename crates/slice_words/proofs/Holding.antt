@@ -11,7 +11,7 @@ use Rattle.slice_words.specs.Items.{Item, Opened, Up, Down, Msg, Lost, Handed, R
 use Rattle.slice_words.specs.Pasts.{Answer, Past, view_in}
 use Rattle.slice_words.specs.FlowMods.{naming}
 use Rattle.slice_words.specs.Alone.{Answering, played}
-use Rattle.slice_words.specs.Buffers.{HeldPacket, packet_header, is_named, is_recent, held_after, held_packets, held_under}
+use Rattle.slice_words.specs.Buffers.{HeldPacket, packet_header, is_named, is_recent_packet, held_after, held_packets, packet_under}
 
 -- ---- lists
 
@@ -66,20 +66,20 @@ found_holds P p (y ∷ ys) x all is = elim (cases_Bool (p y)) [
 abbrev pub IsRecent : ℕ → HeldPacket → Type 0
 IsRecent count packet = (packet.ordinal < count) × (count ≤ packet.ordinal + 256)
 
-recent_more : (count : ℕ) (packet : HeldPacket) → IsRecent count packet → is_recent (count + 1) packet ≡ true → IsRecent (count + 1) packet
+recent_more : (count : ℕ) (packet : HeldPacket) → IsRecent count packet → is_recent_packet (count + 1) packet ≡ true → IsRecent (count + 1) packet
 recent_more count packet before is = elim (leb_tells (count + 1) (packet.ordinal + 256)) [
   | inl holds ↦ (omega (arith, before.0), holds.1)
   | inr fails ↦ absurd (true≢false (sym is ∙ fails.0))
 ]
 
 recent_given : (count : ℕ) (given : Bool) (packet : Packet) (held : List HeldPacket) → All (IsRecent count) held
-    → All (IsRecent (if given then count + 1 else count)) (if given then record { ordinal = count; header = packet_header packet } ∷ filter (is_recent (count + 1)) held else held)
+    → All (IsRecent (if given then count + 1 else count)) (if given then record { ordinal = count; header = packet_header packet } ∷ filter (is_recent_packet (count + 1)) held else held)
 recent_given count false packet held all = all
 recent_given count true packet held all =
-    All-cons (IsRecent (count + 1)) (record { ordinal = count; header = packet_header packet }) (filter (is_recent (count + 1)) held) (omega arith, omega arith)
-    (λ k d within. recent_more count (get_or (filter (is_recent (count + 1)) held) k d)
-    (All-filter (is_recent (count + 1)) (IsRecent count) held all k d within)
-    (filter_passes (is_recent (count + 1)) held k d within))
+    All-cons (IsRecent (count + 1)) (record { ordinal = count; header = packet_header packet }) (filter (is_recent_packet (count + 1)) held) (omega arith, omega arith)
+    (λ k d within. recent_more count (get_or (filter (is_recent_packet (count + 1)) held) k d)
+    (All-filter (is_recent_packet (count + 1)) (IsRecent count) held all k d within)
+    (filter_passes (is_recent_packet (count + 1)) held k d within))
 
 recent_kept : (count : ℕ) (dropped : Bool) (p : HeldPacket → Bool) (held : List HeldPacket) → All (IsRecent count) held → All (IsRecent count) (if dropped then [] else filter p held)
 recent_kept count true p held all = All-nil (IsRecent count)
@@ -114,7 +114,7 @@ pub one_of_number : (count : ℕ) (a b : HeldPacket) → IsRecent count a → Is
 one_of_number count a b of_a of_b same = omega (arith, of_a.0, of_a.1, of_b.0, of_b.1, same)
 
 -- of the packets that are held the one that is found under a number is the one that has it
-pub number_tells : (count number : ℕ) (held : List HeldPacket) (packet : HeldPacket) → All (IsRecent count) held → held_under number held ≡ Some packet
+pub number_tells : (count number : ℕ) (held : List HeldPacket) (packet : HeldPacket) → All (IsRecent count) held → packet_under number held ≡ Some packet
     → All (λ other. (other.ordinal % 16777216 == number) ≡ (other.ordinal == packet.ordinal)) held
 number_tells count number held packet all is =
     let this = found_holds (IsRecent count) (λ other. other.ordinal % 16777216 == number) held packet all is in

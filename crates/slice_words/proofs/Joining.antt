@@ -3,7 +3,7 @@ use Rattle.std.proofs.Common.{◌≡◌, Bool, true, false, List, [], ◌∷◌,
 use Rattle.std.specs.List.{filter}
 use Rattle.slice_words.specs.Items.{Settings, Item, Opened, Up, Down, Msg, Lost, Handed, Removed, Status, Fault, Barrier, Queues, Entry, Last, End, is_up, is_forgetting}
 use Rattle.slice_words.specs.Messages.{is_dismissing}
-use Rattle.slice_words.specs.Pasts.{Answer, silence}
+use Rattle.slice_words.specs.Pasts.{Answer, no_answer}
 use Rattle.slice_words.specs.Alone.{answer_to, alone, sent_for}
 use Rattle.slice_words.specs.Laws.{AreJoined, is_coming, IsSilentWhileDown, is_last_up, IsUpByTheLast}
 
@@ -12,7 +12,7 @@ joined s view [] = sym (append-nil (alone s view))
 joined s view (item ∷ items) = joined s (item ∷ view) items ∙ append_assoc (alone s view) (answer_to s view item).to_slice (sent_for s (item ∷ view) items)
 
 -- the rest is not asked for where the slice isn't up
-unasked : (up : Bool) (a : Answer) → up ≡ false → (if up then a else silence) ≡ silence
+unasked : (up : Bool) (a : Answer) → up ≡ false → (if up then a else no_answer) ≡ no_answer
 unasked up a down = rw down refl
 
 pub silent : (s : Settings) (view : List Item) (item : Item) → IsSilentWhileDown s view item

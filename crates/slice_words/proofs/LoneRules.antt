@@ -12,8 +12,8 @@ use Rattle.of10_action.specs.declared.action.Action.{Action}
 use Rattle.of10_action.specs.declared.action.Action.TheVariants.{Output, Enqueue}
 use Rattle.action_check.specs.declared.origin.Origin.{Origin}
 use Rattle.action_check.specs.declared.origin.Origin.TheVariants.{Piece, Packet, Probe}
-use Rattle.action_check.specs.ActionRules.{port_of, has_way_back, is_own_way, is_other_way, has_way, counted, may_go, code_of}
-use Rattle.action_check.specs.Origins.{after}
+use Rattle.action_check.specs.ActionRules.{port_sent_to, has_way_back, is_own_way, is_other_way, has_way, counted_at, may_go, code_of}
+use Rattle.action_check.specs.Origins.{image_after}
 use Rattle.action_check.specs.Permitted.{first_code, permitted, expanded}
 use Rattle.flowspace.specs.declared.rules.Rule.{Rule}
 use Rattle.flowspace.specs.Rules.{is_written_by}
@@ -72,8 +72,8 @@ module _ (slot : ℕ) where
   same_way rules image _ = refl
 
   same_go : (rules : List Rule) (image : Origin) (port : ℕ) → may_go (alone rules) slot image port ≡ may_go rules slot image port
-  same_go rules (Piece cover) port = any_alone (λ m. includes_of (counted port m) cover) rules
-  same_go rules (Packet h) port = any_alone (λ m. has (counted port m) h) rules
+  same_go rules (Piece cover) port = any_alone (λ m. includes_of (counted_at port m) cover) rules
+  same_go rules (Packet h) port = any_alone (λ m. has (counted_at port m) h) rules
   same_go rules (Probe in_port) port = refl
 
   abbrev cover_at : List Rule → Origin → Option ℕ → Bool
@@ -85,11 +85,11 @@ module _ (slot : ℕ) where
 
   same_code : (rules : List Rule) (image : Origin) (action : Action) → code_of (alone rules) slot image action ≡ code_of rules slot image action
   unfolding code_of
-  same_code rules image action = rw (same_way rules image action, same_cover rules image (port_of action)) refl
+  same_code rules image action = rw (same_way rules image action, same_cover rules image (port_sent_to action)) refl
 
   same_first : (rules : List Rule) (image : Origin) (actions : List Action) → first_code (alone rules) slot image actions ≡ first_code rules slot image actions
   same_first rules image [] = refl
-  same_first rules image (action ∷ others) = rw (same_code rules image action, same_first rules (after image action) others) refl
+  same_first rules image (action ∷ others) = rw (same_code rules image action, same_first rules (image_after image action) others) refl
 
   abbrev permitted_by : List Action → Option ℕ → Result (List Action) ℕ
   permitted_by list code = elim code [ None ↦ Ok list | Some found ↦ Err found ]

@@ -43,13 +43,13 @@ put_for s view (item ∷ items) = (answer_to s view item).to_switch ++ put_for s
 -- ---- the switch's own numbers
 
 -- the number with which a slice's k-th buffered packet came, among the numbers of all, newest first; none where there is no such packet
-abbrev pub number_of : List ℕ → ℕ → ℕ
-number_of came k = get_or (reverse came) k NO_BUFFER
+abbrev pub number_it_came_with : List ℕ → ℕ → ℕ
+number_it_came_with came k = get_or (reverse came) k NO_BUFFER
 
 -- the bytes of a message, with the switch's own number for the packet that it names
 abbrev pub rendered : List ℕ → Outgoing → List ℕ
 rendered came (Modifies m None) = spell_flow_mod m
-rendered came (Modifies m (Some k)) = spell_flow_mod (record m { buffer = number_of came k })
+rendered came (Modifies m (Some k)) = spell_flow_mod (record m { buffer = number_it_came_with came k })
 rendered came (SendsOut m None) = spell_packet_out m
-rendered came (SendsOut m (Some k)) = spell_packet_out (record m { buffer = number_of came k })
+rendered came (SendsOut m (Some k)) = spell_packet_out (record m { buffer = number_it_came_with came k })
 rendered came (Asks message) = message

@@ -27,8 +27,8 @@ use Rattle.xid_map.specs.declared.asked.Issued.{Issued}
 use Rattle.flow_book.specs.declared.booked.Booked.{Booked}
 use Rattle.flow_book.specs.Books.{booking}
 use Rattle.slice_words.specs.Messages.{quoted}
-use Rattle.slice_words.specs.Items.{Settings, Share, Writer, Reader, Probe, Packet, Item, Up, Msg, Handed, Removed, Status, Fault, Barrier, Queues, Last, is_up, miss_send_len, latest, buffered_count, features_in, known_ports}
-use Rattle.slice_words.specs.Pasts.{Answer, Past, silence, told, dismissal, forwarded}
+use Rattle.slice_words.specs.Items.{Settings, Share, Writer, Reader, Probe, Packet, Item, Up, Msg, Handed, Removed, Status, Fault, Barrier, Queues, Last, is_up, miss_send_len, latest_moment, buffered_count, features_in, known_ports}
+use Rattle.slice_words.specs.Pasts.{Answer, Past, no_answer, told, dismissal, forwarded}
 use Rattle.slice_words.specs.Statistics.{barrier_told, queues_told, statistics_told}
 use Rattle.slice_words.specs.Calls.{questions, request_calls, request_for, collection_calls, book_calls}
 use Rattle.slice_words.specs.FlowMods.{Ground, ground_of, flow_mod_fault, sent_on}
@@ -87,7 +87,7 @@ unread_answer fault message = refused (refusal_of fault) message
 
 -- the reply to FEATURES_REQUEST: the switch with one table, no more buffers than a slice may hold, and the slice's own ports (section 5.3.1)
 abbrev pub features_answer : List Item → List ℕ → Answer
-features_answer view message = elim (features_in view) [ None ↦ silence | Some features ↦ told (spell_features (features_with features (known_ports view)) (xid_of message) ∷ []) ]
+features_answer view message = elim (features_in view) [ None ↦ no_answer | Some features ↦ told (spell_features (features_with features (known_ports view)) (xid_of message) ∷ []) ]
 
 -- the reply to GET_CONFIG_REQUEST: no flags, and what the controller set (section 5.3.2)
 abbrev pub config_reply : ℕ → List ℕ → List ℕ
@@ -95,7 +95,7 @@ config_reply length_set message = spell_config_reply (xid_of message) (record { 
 
 -- SET_CONFIG is taken where it asks for fragments to be handled as usual (section 5.3.2)
 abbrev pub setting_answer : SwitchConfig → List ℕ → Answer
-setting_answer config message = if config.flags == 0 then silence else refused not_permitted message
+setting_answer config message = if config.flags == 0 then no_answer else refused not_permitted message
 
 -- a flow-mod is refused by the first line that applies, or sent on piece by piece (section 5.3.3)
 abbrev pub flow_mod_answer : Ground → FlowMod → List ℕ → Answer
@@ -120,11 +120,11 @@ forwarded_answer s view past (said.FlowMod m) message = flow_mod_answer (ground_
 forwarded_answer s view past (said.StatsRequest request) message = statistics_answer (ground_of s view past) request message
 forwarded_answer s view past said.BarrierRequest message = barrier_asked (ground_of s view past)
 forwarded_answer s view past (said.QueueGetConfigRequest queues) message = queues_answer (ground_of s view past) queues message
-forwarded_answer s view past other message = silence
+forwarded_answer s view past other message = no_answer
 
 -- a message that is to be sent on keeps the rate: its moment is the greatest of the slice's moments so far
 abbrev pub keeps_rate : Settings → List Item → List Past → ℕ → Bool
-keeps_rate s view past moment = is_accepted s.rate s.burst (questions past) (max moment (latest view))
+keeps_rate s view past moment = is_accepted s.rate s.burst (questions past) (max moment (latest_moment view))
 
 -- it is refused where it doesn't
 abbrev pub rated_answer : Settings → List Item → List Past → ℕ → FromController → List ℕ → Answer
@@ -132,10 +132,10 @@ rated_answer s view past moment asked message = if keeps_rate s view past moment
 
 -- a message that is read: this proxy answers echoes (section 5.5), features and configuration itself; vendors' messages and changes of ports are left out; what else asks something of the switch is sent on
 unfoldable pub read_answer : Settings → List Item → List Past → ℕ → FromController → List ℕ → Answer
-read_answer s view past moment said.Hello message = silence
-read_answer s view past moment said.Error message = silence
+read_answer s view past moment said.Hello message = no_answer
+read_answer s view past moment said.Error message = no_answer
 read_answer s view past moment said.EchoRequest message = told (echo_reply_to message ∷ [])
-read_answer s view past moment said.EchoReply message = silence
+read_answer s view past moment said.EchoReply message = no_answer
 read_answer s view past moment said.Vendor message = refused bad_vendor message
 read_answer s view past moment said.FeaturesRequest message = features_answer view message
 read_answer s view past moment said.GetConfigRequest message = told (config_reply (miss_send_len view) message ∷ [])
@@ -182,7 +182,7 @@ error_told (Some request) class code = if request.failed then [] else error_of r
 
 -- what follows for a slice that is up
 abbrev pub answer_up : Settings → List Item → List Past → Item → Answer
-answer_up s view past Up = silence
+answer_up s view past Up = no_answer
 answer_up s view past (Msg message moment) = message_answer s view past moment message
 answer_up s view past (Handed packet) = told (packet_told view packet packet.share ∷ [])
 answer_up s view past (Removed entry) = told (removal_told (booking entry.pattern entry.priority (book_calls s past)) entry)
@@ -191,9 +191,9 @@ answer_up s view past (Fault x class code pair) = told (error_told (request_for 
 answer_up s view past (Barrier x) = told (barrier_told (request_for s x (request_calls s past)))
 answer_up s view past (Queues x body) = told (queues_told (request_for s x (request_calls s past)) body)
 answer_up s view past (Last x kind) = told (statistics_told (request_for s x (request_calls s past)) kind (collection_calls s past))
-answer_up s view past item = silence
+answer_up s view past item = no_answer
 
 -- an up is greeted (section 5.5); of anything else nothing follows while the slice isn't up
 abbrev pub answer : Settings → List Item → List Past → Item → Answer
 answer s view past Up = told (message_of HELLO 0 [] ∷ [])
-answer s view past item = if is_up view then answer_up s view past item else silence
+answer s view past item = if is_up view then answer_up s view past item else no_answer

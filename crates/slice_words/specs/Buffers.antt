@@ -28,8 +28,8 @@ abbrev pub is_named : ℕ → List Outgoing → Bool
 is_named ordinal messages = list_any (λ message. is_value ordinal (packet_named message)) messages
 
 -- of so many packets it is among the last 256
-abbrev pub is_recent : ℕ → HeldPacket → Bool
-is_recent count packet = leb count (packet.ordinal + 256)
+abbrev pub is_recent_packet : ℕ → HeldPacket → Bool
+is_recent_packet count packet = leb count (packet.ordinal + 256)
 
 -- the packets that are held after an item, and what followed from it, where these were before and the slice was given so many: a buffered packet that is handed up takes the place of the one 256 before it; one is lost; a connection that comes or ends drops all; and what is sent on uses those that it names
 abbrev pub held_after : ℕ → Item → Answer → List HeldPacket → List HeldPacket
@@ -38,7 +38,7 @@ held_after count Down answer held = []
 held_after count (Msg message moment) answer held = if is_dismissing message then [] else filter (λ packet. not (is_named packet.ordinal answer.to_switch)) held
 held_after count (Lost k) answer held = filter (λ packet. not (packet.ordinal == k)) held
 held_after count (Handed packet) answer held =
-    if is_buffered packet.share then record { ordinal = count; header = packet_header packet } ∷ filter (is_recent (count + 1)) held else held
+    if is_buffered packet.share then record { ordinal = count; header = packet_header packet } ∷ filter (is_recent_packet (count + 1)) held else held
 held_after count item answer held = held
 
 -- the packets that the slice holds, the newest first
@@ -47,5 +47,5 @@ held_packets [] = []
 held_packets (p ∷ past) = held_after (buffered_count (view_in past)) p.item p.answer (held_packets past)
 
 -- the one of a number: how many were given before it, in 24 bits
-abbrev pub held_under : ℕ → List HeldPacket → Option HeldPacket
-held_under number held = find (λ packet. packet.ordinal % 2 ^ 24 == number) held
+abbrev pub packet_under : ℕ → List HeldPacket → Option HeldPacket
+packet_under number held = find (λ packet. packet.ordinal % 2 ^ 24 == number) held

@@ -12,7 +12,7 @@ use Rattle.xid_map.specs.Collections.{CollectionCall, EndAll}
 use Rattle.flow_book.specs.Books.{BookCall}
 use Rattle.flow_book.specs.Books as books
 use Rattle.slice_words.specs.Messages.{Reading, is_dismissing, is_question, kind_asked, asked_of}
-use Rattle.slice_words.specs.Items.{Settings, Item, Up, Down, Msg, Removed, Fault, Barrier, Queues, Entry, Last, is_up, latest}
+use Rattle.slice_words.specs.Items.{Settings, Item, Up, Down, Msg, Removed, Fault, Barrier, Queues, Entry, Last, is_up, latest_moment}
 use Rattle.slice_words.specs.Pasts.{Answer, Past, view_in, is_any}
 use Rattle.slice_words.specs.Statistics.{begun, entry_kept, finished}
 
@@ -77,7 +77,7 @@ asks_rate item before = false
 -- the moments at which the rate was asked for a message: each is the greatest of the slice's moments so far
 abbrev pub questions : List Past → List ℕ
 questions [] = []
-questions (p ∷ past) = if asks_rate p.item (view_in past) then latest (p.item ∷ view_in past) ∷ questions past else questions past
+questions (p ∷ past) = if asks_rate p.item (view_in past) then latest_moment (p.item ∷ view_in past) ∷ questions past else questions past
 
 -- ---- the book
 

@@ -21,7 +21,7 @@ use Rattle.port_view.specs.SlicePorts.{flooded}
 use Rattle.xid_map.specs.Requests.{issued, physical_of}
 use Rattle.slice_words.specs.Items.{Settings, Item, lone_rules, known_ports}
 use Rattle.slice_words.specs.Pasts.{Outgoing, Modifies, Past}
-use Rattle.slice_words.specs.Buffers.{HeldPacket, held_packets, held_under}
+use Rattle.slice_words.specs.Buffers.{HeldPacket, held_packets, packet_under}
 use Rattle.slice_words.specs.Calls.{request_calls, book_calls}
 
 -- ---- what flow-mods and packet-outs are answered by
@@ -81,11 +81,11 @@ lists_on g m = map (λ piece. if is_delete m then [] else list_given (permitted_
 
 -- the packet that the slice holds under a number, where a message has one
 abbrev pub packet_at : Ground → ℕ → Option HeldPacket
-packet_at g buffer = if buffer == NO_BUFFER then None else held_under buffer g.held
+packet_at g buffer = if buffer == NO_BUFFER then None else packet_under buffer g.held
 
 -- the packet that a flow-mod names; a delete's number is disregarded
-abbrev pub packet_of : Ground → FlowMod → Option HeldPacket
-packet_of g m = if is_delete m then None else packet_at g m.buffer
+abbrev pub named_packet : Ground → FlowMod → Option HeldPacket
+named_packet g m = if is_delete m then None else packet_at g m.buffer
 
 -- ---- what is sent on
 
@@ -94,8 +94,8 @@ abbrev pub flow_mods_on : Ground → FlowMod → List FlowMod
 flow_mods_on g m = piece_messages 0 m g.xid (pieces_on g m) (lists_on g m) None
 
 -- the place of the first piece that has a packet's header
-abbrev pub place_of : Header → List Pattern → Option ℕ
-place_of header pieces = position (λ piece. has piece header) pieces
+abbrev pub piece_place : Header → List Pattern → Option ℕ
+piece_place header pieces = position (λ piece. has piece header) pieces
 
 -- flow-mods for the switch, counted from a place on: the one at a place names a packet, the others none
 abbrev pub naming : Option (ℕ × ℕ) → ℕ → List FlowMod → List Outgoing
@@ -105,11 +105,11 @@ naming carrier place (m ∷ others) = Modifies m (elim carrier [ None ↦ None |
 -- the place of the first piece that has the header of the packet that is named, and the packet
 abbrev pub carrier_of : Option HeldPacket → List Pattern → Option (ℕ × ℕ)
 carrier_of None pieces = None
-carrier_of (Some packet) pieces = option_map (λ place. (place, packet.ordinal)) (place_of packet.header pieces)
+carrier_of (Some packet) pieces = option_map (λ place. (place, packet.ordinal)) (piece_place packet.header pieces)
 
 -- the flow-mods for the switch: that of the first piece which has the packet's header names the packet
 abbrev pub sent_on : Ground → FlowMod → List Outgoing
-sent_on g m = naming (carrier_of (packet_of g m) (pieces_on g m)) 0 (flow_mods_on g m)
+sent_on g m = naming (carrier_of (named_packet g m) (pieces_on g m)) 0 (flow_mods_on g m)
 
 -- ---- refusals (section 5.4.4): class and code
 
@@ -162,7 +162,7 @@ is_packet_in m (Some packet) = has m packet.header
 
 -- it names a packet that isn't held, or whose header isn't in its match; a delete's number is disregarded
 abbrev pub buffer_not_held : Ground → FlowMod → Option (ℕ × ℕ)
-buffer_not_held g m = refused_where (not (is_delete m) && not (m.buffer == NO_BUFFER) && not (is_packet_in m.pattern (packet_of g m))) unknown_buffer
+buffer_not_held g m = refused_where (not (is_delete m) && not (m.buffer == NO_BUFFER) && not (is_packet_in m.pattern (named_packet g m))) unknown_buffer
 
 -- the slice may write nothing of the match; a delete then deletes nothing
 abbrev pub outside_flowspace : Ground → FlowMod → Option (ℕ × ℕ)

@@ -128,8 +128,8 @@ abbrev pub moments : List Item → List ℕ
 moments view = filter_map moment_of view
 
 -- the greatest of them
-abbrev pub latest : List Item → ℕ
-latest view = greatest (moments view)
+abbrev pub latest_moment : List Item → ℕ
+latest_moment view = greatest (moments view)
 
 -- a share of a packet that the slice may use by number
 abbrev pub is_buffered : Share → Bool

@@ -4,9 +4,9 @@ use Rattle.std.specs.List.{list_any}
 use Rattle.flowspace.specs.declared.slices.Slice.{Slice}
 use Rattle.flowspace.specs.declared.rules.Rule.{Rule}
 use Rattle.flowmod_expand.specs.Pieces.{writes_of}
-use Rattle.slice_words.specs.Items.{Settings, settings_of, Item, Up, Msg, is_up, miss_send_len, moments, latest, is_forgetting}
+use Rattle.slice_words.specs.Items.{Settings, settings_of, Item, Up, Msg, is_up, miss_send_len, moments, latest_moment, is_forgetting}
 use Rattle.slice_words.specs.Messages.{is_dismissing, length_set}
-use Rattle.slice_words.specs.Pasts.{silence}
+use Rattle.slice_words.specs.Pasts.{no_answer}
 use Rattle.slice_words.specs.Alone.{answer_to, alone, with_items, sent_for}
 
 -- rules with which a slice writes the same matches, in rule order, give it the same settings, whatever their priorities are, whoever reads, and whatever others write
@@ -24,7 +24,7 @@ is_coming item = false
 
 -- nothing follows from an item other than an up while the slice isn't up
 abbrev pub IsSilentWhileDown : Settings → List Item → Item → Type 0
-IsSilentWhileDown s view item = is_up view ≡ false → is_coming item ≡ false → answer_to s view item ≡ silence
+IsSilentWhileDown s view item = is_up view ≡ false → is_coming item ≡ false → answer_to s view item ≡ no_answer
 
 -- the newest item of these that says so is an up
 abbrev pub is_last_up : List Item → Bool
@@ -69,8 +69,8 @@ IsNeverSet view = list_any is_set view ≡ false → miss_send_len view ≡ 128
 
 -- the latest moment of a view is at least each of its moments
 abbrev pub IsAtLeastEach : List Item → Type 0
-IsAtLeastEach view = All (λ moment. moment ≤ latest view) (moments view)
+IsAtLeastEach view = All (λ moment. moment ≤ latest_moment view) (moments view)
 
 -- it is one of them, or zero where there is none
 abbrev pub IsOneOrZero : List Item → Type 0
-IsOneOrZero view = Contains (moments view) (latest view) ⊎ ((moments view ≡ []) × (latest view ≡ 0))
+IsOneOrZero view = Contains (moments view) (latest_moment view) ⊎ ((moments view ≡ []) × (latest_moment view ≡ 0))

@@ -30,8 +30,8 @@ abbrev pub is_any : {A : Type 0} → List A → Bool
 is_any xs = leb 1 (length xs)
 
 -- nothing follows
-abbrev pub silence : Answer
-silence = record { to_slice = []; to_switch = []; dismissed = false }
+abbrev pub no_answer : Answer
+no_answer = record { to_slice = []; to_switch = []; dismissed = false }
 
 -- messages to the slice and nothing else
 abbrev pub told : List (List ℕ) → Answer

@@ -6,11 +6,11 @@ use Rattle.buffer_map.specs.declared.held.Held.{Held}
 use Rattle.rate_bucket.specs.Rates.{BucketStands}
 use Rattle.flow_book.specs.Books.{BookStands}
 use Rattle.flow_book.specs.declared.state.SliceState.{SliceState}
-use Rattle.slice_words.specs.Items.{Settings, Sight, Item, is_up, miss_send_len, latest, buffered_count}
+use Rattle.slice_words.specs.Items.{Settings, Sight, Item, is_up, miss_send_len, latest_moment, buffered_count}
 use Rattle.slice_words.specs.Pasts.{Past}
 use Rattle.slice_words.specs.Answers.{answer}
 use Rattle.slice_words.specs.Buffers.{HeldPacket, held_packets}
-use Rattle.slice_words.specs.Alone.{played, number_of}
+use Rattle.slice_words.specs.Alone.{played, number_it_came_with}
 use Rattle.slice_words.specs.Calls.{request_calls, collection_calls, questions, book_calls}
 
 -- a view with the answers of the slice
@@ -19,13 +19,13 @@ past_of s view = played (answer s) view
 
 -- a packet that is held, with the switch's number for it
 abbrev pub held_as : List ℕ → HeldPacket → Held
-held_as came packet = record { ordinal = packet.ordinal; physical = number_of came packet.ordinal; header = packet.header }
+held_as came packet = record { ordinal = packet.ordinal; physical = number_it_came_with came packet.ordinal; header = packet.header }
 
 -- each part has the calls that the view makes of it, the packets that are held are those of the view under the numbers with which they came, and the rest says what the look-ups in the view say
 pub record SliceStands (s : Settings) (sight : Sight) (state : SliceState) : Type 0 where
   pub up : state.up ≡ is_up sight.view
   pub miss_send_len : state.miss_send_len ≡ miss_send_len sight.view
-  pub moment : state.moment ≡ latest sight.view
+  pub moment : state.moment ≡ latest_moment sight.view
   pub requests : RequestsStand s.slot (request_calls s (past_of s sight.view)) state.xids
   pub collections : CollectionsStand (collection_calls s (past_of s sight.view)) state.collections
   pub given : state.buffers.given ≡ buffered_count sight.view

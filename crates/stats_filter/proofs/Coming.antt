@@ -10,9 +10,9 @@ use Rattle.flowspace.specs.declared.rules.Rule.{Rule}
 use Rattle.xid_map.specs.declared.asked.AskKind.{AskKind}
 use Rattle.xid_map.specs.declared.asked.AskKind.TheVariants as kinds
 use Rattle.stats_filter.specs.Asking.{type_sent}
-use Rattle.stats_filter.specs.Keeping.{entries_in, is_own_entry, is_kept, MayCome}
+use Rattle.stats_filter.specs.Keeping.{entries_in, is_own_entry, is_kept_entry, MayCome}
 use Rattle.stats_filter.specs.Replies.{page_size}
-use Rattle.stats_filter.specs.Laws.{AreSmall}
+use Rattle.stats_filter.specs.Laws.{FitPages}
 use Rattle.stats_filter.proofs.Rows.{AreInFront-entries_in, bytes_of_entries}
 
 -- ---- the type
@@ -30,8 +30,8 @@ known_type kinds.Port kind e = let is : kind ≡ 4 = cc in omega (arith, is)
 known_type kinds.Queue kind e = let is : kind ≡ 5 = cc in omega (arith, is)
 
 -- what is kept of a type that is sent for is what is a slice's own
-pub is_kept-type_sent : (rules : List Rule) (slot : ℕ) (asked : AskKind) (kind : ℕ) (entry : List ℕ) → type_sent asked ≡ Some kind → is_kept rules slot asked entry ≡ is_own_entry rules slot kind entry
-is_kept-type_sent rules slot asked kind entry e = rw (e, is_kept) refl
+pub is_kept-type_sent : (rules : List Rule) (slot : ℕ) (asked : AskKind) (kind : ℕ) (entry : List ℕ) → type_sent asked ≡ Some kind → is_kept_entry rules slot asked entry ≡ is_own_entry rules slot kind entry
+is_kept-type_sent rules slot asked kind entry e = rw (e, is_kept_entry) refl
 
 -- ---- entries of a reply
 
@@ -58,5 +58,5 @@ small_row (entry ∷ later) most le =
     All-cons (λ (e : List ℕ). length e ≤ most) entry later (omega (arith, both)) (small_row later most (omega (arith, both)))
 
 -- what came in one message fits a page
-pub small_entries : (kind : ℕ) (bytes : List ℕ) → length bytes ≤ page_size → AreSmall (entries_in kind bytes)
+pub small_entries : (kind : ℕ) (bytes : List ℕ) → length bytes ≤ page_size → FitPages (entries_in kind bytes)
 small_entries kind bytes fits = let within = bytes_of_entries kind bytes in small_row (entries_in kind bytes) page_size (omega arith)

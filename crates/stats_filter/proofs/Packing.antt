@@ -4,8 +4,8 @@ use Rattle.std.specs.List.{concat, flat_map}
 use Rattle.std.proofs.lemmas.Bool.{cases_lt}
 use Rattle.std.proofs.lemmas.List.{length-append, append_assoc, append-nil}
 use Rattle.std.proofs.lemmas.List.Elements.{All-nil, All-cons, All-head, All-tail}
-use Rattle.stats_filter.specs.Replies.{page_size, placed, pages}
-use Rattle.stats_filter.specs.Laws.{AreSmall, HasNoPlace, AreFull, ArePages}
+use Rattle.stats_filter.specs.Replies.{page_size, paged, pages}
+use Rattle.stats_filter.specs.Laws.{FitPages, HasNoPlace, AreFull, ArePages}
 use Rattle.stats_filter.proofs.Paging.{placed_none, placed_here, placed_next}
 
 -- an entry has no more bytes than a page
@@ -32,9 +32,9 @@ pub record PlacedRows (filled : ℕ) (entries : List (List ℕ)) : Type 0 where
   pub row : List (List ℕ)
   pub later : List (List (List ℕ))
   pub order : row ++ flat_map (λ next. next) later ≡ entries
-  pub here : concat row ≡ (placed filled entries).0
-  pub behind : map concat later ≡ (placed filled entries).1
-  pub small : AreSmall entries → filled ≤ page_size → (filled + length (concat row) ≤ page_size) × AreSmall (map concat later)
+  pub here : concat row ≡ (paged filled entries).0
+  pub behind : map concat later ≡ (paged filled entries).1
+  pub small : FitPages entries → filled ≤ page_size → (filled + length (concat row) ≤ page_size) × FitPages (map concat later)
   pub full : FullBehind (filled + length (concat row)) later
 
 no_rows : (filled : ℕ) → PlacedRows filled []
@@ -71,7 +71,7 @@ row_next filled entry entries over rows =
       here = ap (λ (p : List ℕ × List (List ℕ)). p.0) (sym (placed_next filled entry entries over));
       behind =
           ap (λ bytes. (entry ++ bytes) ∷ map concat rows.later) rows.here
-          ∙ ap (λ others. (entry ++ (placed (length entry) entries).0) ∷ others) rows.behind
+          ∙ ap (λ others. (entry ++ (paged (length entry) entries).0) ∷ others) rows.behind
           ∙ ap (λ (p : List ℕ × List (List ℕ)). p.1) (sym (placed_next filled entry entries over));
       small = λ all start.
           let both = rows.small (All-tail IsSmall entry entries all) (All-head IsSmall entry entries all) in
@@ -87,17 +87,17 @@ rows_of filled (entry ∷ entries) =
       | inr fits ↦ row_more filled entry entries fits (rows_of (filled + length entry) entries)
     ]
 
-pub ArePages-pages : (entries : List (List ℕ)) → AreSmall entries → ArePages entries (pages entries)
+pub ArePages-pages : (entries : List (List ℕ)) → FitPages entries → ArePages entries (pages entries)
 ArePages-pages entries all =
     let rows = rows_of 0 entries in
     let small = rows.small all (omega arith) in
-    let joined : map concat (rows.row ∷ rows.later) ≡ pages entries = ap (λ first. first ∷ map concat rows.later) rows.here ∙ ap (λ others. (placed 0 entries).0 ∷ others) rows.behind in
+    let joined : map concat (rows.row ∷ rows.later) ≡ pages entries = ap (λ first. first ∷ map concat rows.later) rows.here ∙ ap (λ others. (paged 0 entries).0 ∷ others) rows.behind in
     record {
       rows = rows.row ∷ rows.later;
       order = rows.order;
       joined = joined;
       some = omega arith;
-      small = subst AreSmall joined (All-cons IsSmall (concat rows.row) (map concat rows.later) (omega (arith, small.0)) small.1);
+      small = subst FitPages joined (All-cons IsSmall (concat rows.row) (map concat rows.later) (omega (arith, small.0)) small.1);
       full = full_rows rows.row rows.later (rw zero-add at rows.full);
     }
 
@@ -105,18 +105,18 @@ ArePages-pages entries all =
 
 -- entries that fit together stand on the page
 placed_row : (row : List (List ℕ)) (tail : List (List ℕ)) (filled : ℕ) → filled + length (concat row) ≤ page_size
-    → placed filled (row ++ tail) ≡ (concat row ++ (placed (filled + length (concat row)) tail).0, (placed (filled + length (concat row)) tail).1)
-placed_row [] tail filled fits = ap (λ (n : ℕ). placed n tail) (omega arith)
+    → paged filled (row ++ tail) ≡ (concat row ++ (paged (filled + length (concat row)) tail).0, (paged (filled + length (concat row)) tail).1)
+placed_row [] tail filled fits = ap (λ (n : ℕ). paged n tail) (omega arith)
 placed_row (entry ∷ row) tail filled fits =
     let size = length-append entry (concat row) in
     let total : (filled + length entry) + length (concat row) ≡ filled + length (entry ++ concat row) = omega (arith, size) in
     placed_here filled entry (row ++ tail) (omega (arith, size))
     ∙ ap (λ (p : List ℕ × List (List ℕ)). (entry ++ p.0, p.1)) (placed_row row tail (filled + length entry) (omega (arith, size)))
-    ∙ ap (λ (n : ℕ). (entry ++ (concat row ++ (placed n tail).0), (placed n tail).1)) total
-    ∙ ap (λ bytes. (bytes, (placed (filled + length (entry ++ concat row)) tail).1)) (sym (append_assoc entry (concat row) (placed (filled + length (entry ++ concat row)) tail).0))
+    ∙ ap (λ (n : ℕ). (entry ++ (concat row ++ (paged n tail).0), (paged n tail).1)) total
+    ∙ ap (λ bytes. (bytes, (paged (filled + length (entry ++ concat row)) tail).1)) (sym (append_assoc entry (concat row) (paged (filled + length (entry ++ concat row)) tail).0))
 
-placed_rows : (later : List (List (List ℕ))) (row : List (List ℕ)) (filled : ℕ) → filled + length (concat row) ≤ page_size → AreSmall (map concat later) → FullBehind (filled + length (concat row)) later
-    → placed filled (row ++ flat_map (λ next. next) later) ≡ (concat row, map concat later)
+placed_rows : (later : List (List (List ℕ))) (row : List (List ℕ)) (filled : ℕ) → filled + length (concat row) ≤ page_size → FitPages (map concat later) → FullBehind (filled + length (concat row)) later
+    → paged filled (row ++ flat_map (λ next. next) later) ≡ (concat row, map concat later)
 placed_rows [] row filled fits small full =
     placed_row row [] filled fits
     ∙ ap (λ (p : List ℕ × List (List ℕ)). (concat row ++ p.0, p.1)) (placed_none (filled + length (concat row)))
@@ -129,13 +129,13 @@ placed_rows ((entry ∷ next) ∷ later) row filled fits small full =
     let tail = next ++ flat_map (λ n. n) later in
     placed_row row (entry ∷ tail) filled fits
     ∙ ap (λ (p : List ℕ × List (List ℕ)). (concat row ++ p.0, p.1)) (placed_next (filled + length (concat row)) entry tail full.0)
-    ∙ ap (λ bytes. (bytes, (entry ++ (placed (length entry) tail).0) ∷ (placed (length entry) tail).1)) (append-nil (concat row))
+    ∙ ap (λ bytes. (bytes, (entry ++ (paged (length entry) tail).0) ∷ (paged (length entry) tail).1)) (append-nil (concat row))
     ∙ ap (λ (p : List ℕ × List (List ℕ)). (concat row, (entry ++ p.0) ∷ p.1)) (placed_rows later next (length entry) (omega (arith, size, first)) others (rw size at full.1))
 
-pages_rows : (entries ps : List (List ℕ)) (rows : List (List (List ℕ))) → flat_map (λ row. row) rows ≡ entries → map concat rows ≡ ps → 1 ≤ length rows → AreSmall ps → AreFull rows → pages entries ≡ ps
+pages_rows : (entries ps : List (List ℕ)) (rows : List (List (List ℕ))) → flat_map (λ row. row) rows ≡ entries → map concat rows ≡ ps → 1 ≤ length rows → FitPages ps → AreFull rows → pages entries ≡ ps
 pages_rows entries ps [] order joined some small full = absurd (omega arith)
 pages_rows entries ps (row ∷ later) order joined some small full =
-    let all : AreSmall (concat row ∷ map concat later) = subst AreSmall (sym joined) small in
+    let all : FitPages (concat row ∷ map concat later) = subst FitPages (sym joined) small in
     let first = All-head IsSmall (concat row) (map concat later) all in
     ap pages (sym order)
     ∙ ap (λ (p : List ℕ × List (List ℕ)). p.0 ∷ p.1)

@@ -8,34 +8,34 @@ use Rattle.of10_stats.specs.Replies.{entry_size_of}
 use Rattle.xid_map.specs.declared.asked.AskKind.{AskKind}
 use Rattle.stats_filter.specs.Asking.{type_sent}
 use Rattle.stats_filter.specs.Keeping.{entries_in}
-use Rattle.stats_filter.specs.Replies.{page_size, placed, pages, later_pages, reply_with, replies_with, replies_of, replies_for}
-use Rattle.stats_filter.specs.Laws.{AreSmall}
+use Rattle.stats_filter.specs.Replies.{page_size, paged, pages, later_pages, reply_with, replies_with, replies_of, replies_for}
+use Rattle.stats_filter.specs.Laws.{FitPages}
 use Rattle.stats_filter.proofs.Rows.{entry_begins, first_entry, no_entries}
 
 -- ---- one entry
 
-pub placed_none : (filled : ℕ) → placed filled [] ≡ ([], [])
-unfolding placed
+pub placed_none : (filled : ℕ) → paged filled [] ≡ ([], [])
+unfolding paged
 placed_none filled = refl
 
 -- an entry that fits stands on the page
 pub placed_here : (filled : ℕ) (entry : List ℕ) (later : List (List ℕ)) → filled + length entry ≤ page_size
-    → placed filled (entry ∷ later) ≡ (entry ++ (placed (filled + length entry) later).0, (placed (filled + length entry) later).1)
-unfolding placed
+    → paged filled (entry ∷ later) ≡ (entry ++ (paged (filled + length entry) later).0, (paged (filled + length entry) later).1)
+unfolding paged
 placed_here filled entry later fits = rw (le-leb (filled + length entry) page_size fits) refl
 
 -- one that doesn't begins the next page
 pub placed_next : (filled : ℕ) (entry : List ℕ) (later : List (List ℕ)) → page_size < filled + length entry
-    → placed filled (entry ∷ later) ≡ ([], (entry ++ (placed (length entry) later).0) ∷ (placed (length entry) later).1)
-unfolding placed
+    → paged filled (entry ∷ later) ≡ ([], (entry ++ (paged (length entry) later).0) ∷ (paged (length entry) later).1)
+unfolding paged
 placed_next filled entry later over = rw (lt-leb (filled + length entry) page_size over) refl
 
 -- and so one that doesn't begins the pages of the entries from it on
-pub placed_over : (filled : ℕ) (entry : List ℕ) (later : List (List ℕ)) → page_size < filled + length entry → length entry ≤ page_size → placed filled (entry ∷ later) ≡ ([], pages (entry ∷ later))
+pub placed_over : (filled : ℕ) (entry : List ℕ) (later : List (List ℕ)) → page_size < filled + length entry → length entry ≤ page_size → paged filled (entry ∷ later) ≡ ([], pages (entry ∷ later))
 placed_over filled entry later over small =
     placed_next filled entry later over
     ∙ ap (λ (p : List ℕ × List (List ℕ)). ([], p.0 ∷ p.1))
-    (ap (λ (n : ℕ). (entry ++ (placed n later).0, (placed n later).1)) (sym (zero-add (length entry))) ∙ sym (placed_here 0 entry later (omega arith)))
+    (ap (λ (n : ℕ). (entry ++ (paged n later).0, (paged n later).1)) (sym (zero-add (length entry))) ∙ sym (placed_here 0 entry later (omega arith)))
 
 -- ---- while a page is filled
 
@@ -49,15 +49,15 @@ size_from kind entries end o e =
 pub record IsFilled (kind : ℕ) (entries : List ℕ) (end : ℕ) : Type 0 where
   pub within : end ≤ length entries
   pub small : end ≤ page_size
-  pub placed_on : pages (entries_in kind entries) ≡ (take end entries ++ (placed end (entries_in kind (drop end entries))).0) ∷ (placed end (entries_in kind (drop end entries))).1
-  pub later : AreSmall (entries_in kind (drop end entries))
+  pub placed_on : pages (entries_in kind entries) ≡ (take end entries ++ (paged end (entries_in kind (drop end entries))).0) ∷ (paged end (entries_in kind (drop end entries))).1
+  pub later : FitPages (entries_in kind (drop end entries))
 
 -- the first page ends there
 pub record IsPageEnd (kind : ℕ) (entries : List ℕ) (end : ℕ) : Type 0 where
   pub page : pages (entries_in kind entries) ≡ take end entries ∷ later_pages (entries_in kind (drop end entries))
   pub goes_on : IsSome (entry_size_of kind (drop end entries)) → 0 < end
 
-pub not_filled : (kind : ℕ) (entries : List ℕ) → AreSmall (entries_in kind entries) → IsFilled kind entries 0
+pub not_filled : (kind : ℕ) (entries : List ℕ) → FitPages (entries_in kind entries) → IsFilled kind entries 0
 not_filled kind entries small = record {
   within = omega arith;
   small = omega arith;
@@ -66,9 +66,9 @@ not_filled kind entries small = record {
 }
 
 -- the entry that comes next
-small_next : (kind size : ℕ) (rest : List ℕ) → AreSmall (entries_in kind rest) → entry_size_of kind rest ≡ Some size → (size ≤ page_size) × AreSmall (entries_in kind (drop size rest))
+small_next : (kind size : ℕ) (rest : List ℕ) → FitPages (entries_in kind rest) → entry_size_of kind rest ≡ Some size → (size ≤ page_size) × FitPages (entries_in kind (drop size rest))
 small_next kind size rest small e =
-    let both : AreSmall (take size rest ∷ entries_in kind (drop size rest)) = subst AreSmall (first_entry kind size rest e) small in
+    let both : FitPages (take size rest ∷ entries_in kind (drop size rest)) = subst FitPages (first_entry kind size rest e) small in
     let long = length-take-le size rest (entry_begins kind size rest e).1 in
     let head = All-head (λ (entry : List ℕ). length entry ≤ page_size) (take size rest) (entries_in kind (drop size rest)) both in
     (omega arith, All-tail (λ (entry : List ℕ). length entry ≤ page_size) (take size rest) (entries_in kind (drop size rest)) both)
@@ -87,14 +87,14 @@ filled_more kind size entries end filled e fits =
       placed_on =
           filled.placed_on
           ∙ ap (λ (p : List ℕ × List (List ℕ)). (take end entries ++ p.0) ∷ p.1)
-          (ap (placed end) (first_entry kind size rest e)
+          (ap (paged end) (first_entry kind size rest e)
           ∙ placed_here end (take size rest) (entries_in kind (drop size rest)) (omega arith)
-          ∙ ap (λ (n : ℕ). (take size rest ++ (placed (end + n) (entries_in kind (drop size rest))).0, (placed (end + n) (entries_in kind (drop size rest))).1)) long
-          ∙ ap (λ (bytes : List ℕ). (take size rest ++ (placed (end + size) (entries_in kind bytes)).0, (placed (end + size) (entries_in kind bytes)).1)) (drop-drop size end entries))
-          ∙ ap (λ (front : List ℕ). front ∷ (placed (end + size) (entries_in kind (drop (end + size) entries))).1)
-          (sym (append_assoc (take end entries) (take size rest) (placed (end + size) (entries_in kind (drop (end + size) entries))).0)
-          ∙ ap (λ (front : List ℕ). front ++ (placed (end + size) (entries_in kind (drop (end + size) entries))).0) (sym (take-add end size entries)));
-      later = subst (λ bytes. AreSmall (entries_in kind bytes)) (drop-drop size end entries) next.1;
+          ∙ ap (λ (n : ℕ). (take size rest ++ (paged (end + n) (entries_in kind (drop size rest))).0, (paged (end + n) (entries_in kind (drop size rest))).1)) long
+          ∙ ap (λ (bytes : List ℕ). (take size rest ++ (paged (end + size) (entries_in kind bytes)).0, (paged (end + size) (entries_in kind bytes)).1)) (drop-drop size end entries))
+          ∙ ap (λ (front : List ℕ). front ∷ (paged (end + size) (entries_in kind (drop (end + size) entries))).1)
+          (sym (append_assoc (take end entries) (take size rest) (paged (end + size) (entries_in kind (drop (end + size) entries))).0)
+          ∙ ap (λ (front : List ℕ). front ++ (paged (end + size) (entries_in kind (drop (end + size) entries))).0) (sym (take-add end size entries)));
+      later = subst (λ bytes. FitPages (entries_in kind bytes)) (drop-drop size end entries) next.1;
     }
 
 pub filled_up : (kind size : ℕ) (entries : List ℕ) (end : ℕ) → IsFilled kind entries end → entry_size_of kind (drop end entries) ≡ Some size → page_size < end + size → IsPageEnd kind entries end
@@ -107,7 +107,7 @@ filled_up kind size entries end filled e over =
       page =
           filled.placed_on
           ∙ ap (λ (p : List ℕ × List (List ℕ)). (take end entries ++ p.0) ∷ p.1)
-          (ap (placed end) (first_entry kind size rest e) ∙ placed_over end (take size rest) (entries_in kind (drop size rest)) (omega arith) (omega (arith, next.0)))
+          (ap (paged end) (first_entry kind size rest e) ∙ placed_over end (take size rest) (entries_in kind (drop size rest)) (omega arith) (omega (arith, next.0)))
           ∙ ap (λ (front : List ℕ). front ∷ pages (take size rest ∷ entries_in kind (drop size rest))) (append-nil (take end entries))
           ∙ ap (λ (found : List (List ℕ)). take end entries ∷ later_pages found) (sym (first_entry kind size rest e));
       goes_on = λ some. omega (arith, next.0);
@@ -117,7 +117,7 @@ pub filled_last : (kind : ℕ) (entries : List ℕ) (end : ℕ) → IsFilled kin
 filled_last kind entries end filled e = record {
   page =
       filled.placed_on
-      ∙ ap (λ (p : List ℕ × List (List ℕ)). (take end entries ++ p.0) ∷ p.1) (ap (placed end) (no_entries kind (drop end entries) e) ∙ placed_none end)
+      ∙ ap (λ (p : List ℕ × List (List ℕ)). (take end entries ++ p.0) ∷ p.1) (ap (paged end) (no_entries kind (drop end entries) e) ∙ placed_none end)
       ∙ ap (λ (front : List ℕ). front ∷ []) (append-nil (take end entries))
       ∙ ap (λ (found : List (List ℕ)). take end entries ∷ later_pages found) (sym (no_entries kind (drop end entries) e));
   goes_on = λ some. let none : IsSome {T = ℕ} None = subst IsSome e some in absurd (cc);
@@ -128,9 +128,9 @@ filled_last kind entries end filled e = record {
 -- these replies are made, and those with the rest of the entries follow
 pub record IsReplied (kind xid : ℕ) (entries rest : List ℕ) (made : List (List ℕ)) : Type 0 where
   pub all : made ++ replies_with kind xid (pages (entries_in kind rest)) ≡ replies_of kind entries xid
-  pub small : AreSmall (entries_in kind rest)
+  pub small : FitPages (entries_in kind rest)
 
-pub none_replied : (kind xid : ℕ) (entries : List ℕ) → AreSmall (entries_in kind entries) → IsReplied kind xid entries entries []
+pub none_replied : (kind xid : ℕ) (entries : List ℕ) → FitPages (entries_in kind entries) → IsReplied kind xid entries entries []
 unfolding replies_of
 none_replied kind xid entries small = record { all = refl; small = small }
 
@@ -154,7 +154,7 @@ pub record IsNext (kind xid : ℕ) (rest page later : List ℕ) (more : Bool) (r
   pub more_is : more ≡ is_some (entry_size_of kind later)
   pub reply_is : reply ≡ reply_with kind more xid page
   pub first : pages (entries_in kind rest) ≡ take end rest ∷ later_pages (entries_in kind (drop end rest))
-  pub small : AreSmall (entries_in kind (drop end rest))
+  pub small : FitPages (entries_in kind (drop end rest))
 
 next_replied : (kind xid : ℕ) (rest page later : List ℕ) (more : Bool) (reply : List ℕ) → IsNext kind xid rest page later more reply
     → replies_with kind xid (pages (entries_in kind rest)) ≡ reply ∷ (if more then replies_with kind xid (pages (entries_in kind later)) else [])

@@ -4,7 +4,7 @@ use Rattle.of10_ctl.specs.declared.kind.TheConstants.{STATS_REQUEST}
 use Rattle.of10_ctl.specs.Kinds.{IsOf}
 use Rattle.of10_stats.specs.declared.request.StatsRequest.{StatsRequest}
 use Rattle.of10_stats.specs.declared.request.StatsRequest.TheVariants.{Desc, Flow, Aggregate, Table, Port, Queue}
-use Rattle.of10_stats.specs.Requests.{IsRequest, body_size, kind_of, spell_request, read_request}
+use Rattle.of10_stats.specs.Requests.{IsRequest, body_size, statistics_kind, spell_request, read_request}
 use Rattle.of10_stats.proofs.Written.{length-request_body}
 use Rattle.of10_stats.proofs.Again.{IsOf-request, request_again}
 use Rattle.stats_filter.specs.Asking.{asked_as, question_for}
@@ -29,7 +29,7 @@ question_again request sent xid message is sends asks =
     let spelled = question_is request sent xid message sends asks in
     (subst (IsOf STATS_REQUEST) (sym spelled) (IsOf-request sent xid), ap read_request spelled ∙ request_again sent xid (asked_in_range request sent is sends))
 
-short_body : (r : StatsRequest) → body_size (kind_of r) ≤ 44
+short_body : (r : StatsRequest) → body_size (statistics_kind r) ≤ 44
 short_body Desc = omega arith
 short_body (Flow pattern table out_port) = omega arith
 short_body (Aggregate pattern table out_port) = omega arith

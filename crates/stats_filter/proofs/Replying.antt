@@ -16,8 +16,8 @@ use Rattle.of10_stats.specs.Replies.{IsEntry, part_of}
 use Rattle.xid_map.specs.declared.asked.AskKind.{AskKind}
 use Rattle.stats_filter.specs.Asking.{type_sent}
 use Rattle.stats_filter.specs.Keeping.{entries_in}
-use Rattle.stats_filter.specs.Replies.{page_size, placed, pages, reply_with, replies_with, replies_of, replies_for}
-use Rattle.stats_filter.specs.Laws.{AreSmall, IsReply, AreReplies}
+use Rattle.stats_filter.specs.Replies.{page_size, paged, pages, reply_with, replies_with, replies_of, replies_for}
+use Rattle.stats_filter.specs.Laws.{FitPages, IsReplyPage, AreReplies}
 use Rattle.stats_filter.proofs.Rows.{AreInFront-entries_in, bytes_of_entries, count_of_entries, entries_in-concat}
 use Rattle.stats_filter.proofs.Paging.{placed_none, placed_here, placed_next, replies_for-type_sent}
 use Rattle.stats_filter.proofs.Packing.{rows_of, ArePages-pages}
@@ -35,7 +35,7 @@ part-reply kind xid false page fits =
     let is : number_at bytes 8 2 ≡ kind = big_number-reads_back 2 kind (big_bytes 2 0 ++ page) fits in
     rw (le-ltb (length bytes) 12 (omega arith), is) refl
 
-pub IsReply-reply : (kind xid : ℕ) (more : Bool) (page : List ℕ) → kind < 2 ^ 16 → xid < 2 ^ 32 → length page ≤ page_size → IsReply kind xid more page (reply_with kind more xid page)
+pub IsReply-reply : (kind xid : ℕ) (more : Bool) (page : List ℕ) → kind < 2 ^ 16 → xid < 2 ^ 32 → length page ≤ page_size → IsReplyPage kind xid more page (reply_with kind more xid page)
 IsReply-reply kind xid more page kind_fits xid_fits small =
     let flags = big_bytes 2 (if more then 1 else 0) in
     record {
@@ -47,7 +47,7 @@ IsReply-reply kind xid more page kind_fits xid_fits small =
 
 -- ---- a reply for each page
 
-pub AreReplies-replies : (kind xid : ℕ) (ps : List (List ℕ)) → kind < 2 ^ 16 → xid < 2 ^ 32 → AreSmall ps → AreReplies kind xid ps (replies_with kind xid ps)
+pub AreReplies-replies : (kind xid : ℕ) (ps : List (List ℕ)) → kind < 2 ^ 16 → xid < 2 ^ 32 → FitPages ps → AreReplies kind xid ps (replies_with kind xid ps)
 AreReplies-replies kind xid [] kind_fits xid_fits small = tt
 AreReplies-replies kind xid (page ∷ []) kind_fits xid_fits small = (IsReply-reply kind xid false page kind_fits xid_fits (All-head (λ (p : List ℕ). length p ≤ page_size) page [] small), tt)
 AreReplies-replies kind xid (page ∷ next ∷ later) kind_fits xid_fits small = (
@@ -55,7 +55,7 @@ AreReplies-replies kind xid (page ∷ next ∷ later) kind_fits xid_fits small =
   AreReplies-replies kind xid (next ∷ later) kind_fits xid_fits (All-tail (λ (p : List ℕ). length p ≤ page_size) page (next ∷ later) small),
 )
 
-pub replies-pages : (kind xid : ℕ) (bytes : List ℕ) → kind < 2 ^ 16 → xid < 2 ^ 32 → AreSmall (entries_in kind bytes) → AreReplies kind xid (pages (entries_in kind bytes)) (replies_of kind bytes xid)
+pub replies-pages : (kind xid : ℕ) (bytes : List ℕ) → kind < 2 ^ 16 → xid < 2 ^ 32 → FitPages (entries_in kind bytes) → AreReplies kind xid (pages (entries_in kind bytes)) (replies_of kind bytes xid)
 unfolding replies_of
 replies-pages kind xid bytes kind_fits xid_fits small =
     AreReplies-replies kind xid (pages (entries_in kind bytes)) kind_fits xid_fits (ArePages-pages (entries_in kind bytes) small).small
@@ -102,7 +102,7 @@ replies-entries kind xid bytes =
 
 -- ---- how many, and how long
 
-short_replies : (kind xid : ℕ) (ps : List (List ℕ)) → AreSmall ps → All (λ reply. length reply ≤ 65535) (replies_with kind xid ps)
+short_replies : (kind xid : ℕ) (ps : List (List ℕ)) → FitPages ps → All (λ reply. length reply ≤ 65535) (replies_with kind xid ps)
 short_replies kind xid [] small = All-nil (λ (reply : List ℕ). length reply ≤ 65535)
 short_replies kind xid (page ∷ []) small =
     let first = All-head (λ (p : List ℕ). length p ≤ page_size) page [] small in
@@ -130,7 +130,7 @@ size_replies kind xid (page ∷ next ∷ later) =
     )
 
 -- every page but the first begins with an entry
-count_placed : (filled : ℕ) (entries : List (List ℕ)) → length (placed filled entries).1 ≤ length entries
+count_placed : (filled : ℕ) (entries : List (List ℕ)) → length (paged filled entries).1 ≤ length entries
 count_placed filled [] = let none = ap (λ (p : List ℕ × List (List ℕ)). length p.1) (placed_none filled) in omega (arith, none)
 count_placed filled (entry ∷ entries) =
     elim (cases_lt page_size (filled + length entry)) [
@@ -178,7 +178,7 @@ count-replies_of kind xid bytes =
     omega arith
 
 -- each of them is short
-pub short-replies_of : (kind xid : ℕ) (bytes : List ℕ) → AreSmall (entries_in kind bytes) → All (λ reply. length reply ≤ 65535) (replies_of kind bytes xid)
+pub short-replies_of : (kind xid : ℕ) (bytes : List ℕ) → FitPages (entries_in kind bytes) → All (λ reply. length reply ≤ 65535) (replies_of kind bytes xid)
 unfolding replies_of
 short-replies_of kind xid bytes small = short_replies kind xid (pages (entries_in kind bytes)) (ArePages-pages (entries_in kind bytes) small).small
 
@@ -191,7 +191,7 @@ size-replies_for asked bytes xid = by_type (type_sent asked) refl
     by_type None e = rw (e, replies_for) (omega arith)
     by_type (Some kind) e = rw (replies_for-type_sent asked kind xid bytes (sym e)) (size-replies_of kind xid bytes)
 
-pub short-replies_for : (asked : AskKind) (bytes : List ℕ) (xid : ℕ) → ((kind : ℕ) → type_sent asked ≡ Some kind → AreSmall (entries_in kind bytes)) → All (λ reply. length reply ≤ 65535) (replies_for asked bytes xid)
+pub short-replies_for : (asked : AskKind) (bytes : List ℕ) (xid : ℕ) → ((kind : ℕ) → type_sent asked ≡ Some kind → FitPages (entries_in kind bytes)) → All (λ reply. length reply ≤ 65535) (replies_for asked bytes xid)
 short-replies_for asked bytes xid small = by_type (type_sent asked) refl
   where
     by_type : (o : Option ℕ) → type_sent asked ≡ o → All (λ reply. length reply ≤ 65535) (replies_for asked bytes xid)

@@ -37,8 +37,8 @@ is_own_entry rules slot kind entry =
     else true
 
 -- the same of an entry that came for a request of a kind
-abbrev pub is_kept : List Rule → ℕ → AskKind → List ℕ → Bool
-is_kept rules slot asked entry = elim (type_sent asked) [ None ↦ false | Some kind ↦ is_own_entry rules slot kind entry ]
+abbrev pub is_kept_entry : List Rule → ℕ → AskKind → List ℕ → Bool
+is_kept_entry rules slot asked entry = elim (type_sent asked) [ None ↦ false | Some kind ↦ is_own_entry rules slot kind entry ]
 
 -- an entry may come for a request of a kind: it is a well-formed one of the type that is sent for it
 abbrev pub MayCome : AskKind → List ℕ → Type 0

@@ -19,8 +19,8 @@ pub record AreInFront (kind : ℕ) (bytes : List ℕ) (entries : List (List ℕ)
 -- ---- pages
 
 -- each of these, entries or pages, has at most the bytes of a page
-abbrev pub AreSmall : List (List ℕ) → Type 0
-AreSmall entries = All (λ entry. length entry ≤ page_size) entries
+abbrev pub FitPages : List (List ℕ) → Type 0
+FitPages entries = All (λ entry. length entry ≤ page_size) entries
 
 -- behind so many bytes on a page the first of these entries has no place there
 abbrev pub HasNoPlace : ℕ → List (List ℕ) → Type 0
@@ -39,13 +39,13 @@ pub record ArePages (entries pages : List (List ℕ)) : Type 0 where
   pub order : flat_map (λ row. row) rows ≡ entries
   pub joined : map concat rows ≡ pages
   pub some : 1 ≤ length rows
-  pub small : AreSmall pages
+  pub small : FitPages pages
   pub full : AreFull rows
 
 -- ---- replies
 
 -- a reply of a type of statistics under a transaction id with these entries, behind which more replies come or none
-pub record IsReply (kind xid : ℕ) (more : Bool) (page reply : List ℕ) : Type 0 where
+pub record IsReplyPage (kind xid : ℕ) (more : Bool) (page reply : List ℕ) : Type 0 where
   pub message : IsOf STATS_REPLY reply
   pub under : number_at reply 4 4 ≡ xid
   pub part : part_of reply ≡ Ok (record { kind = kind; more = more; from = 12 })
@@ -61,4 +61,4 @@ abbrev pub AreReplies : ℕ → ℕ → List (List ℕ) → List (List ℕ) → 
 AreReplies kind xid [] [] = Unit {0}
 AreReplies kind xid [] (reply ∷ replies) = ⊥
 AreReplies kind xid (page ∷ later) [] = ⊥
-AreReplies kind xid (page ∷ later) (reply ∷ replies) = IsReply kind xid (are_some later) page reply × AreReplies kind xid later replies
+AreReplies kind xid (page ∷ later) (reply ∷ replies) = IsReplyPage kind xid (are_some later) page reply × AreReplies kind xid later replies

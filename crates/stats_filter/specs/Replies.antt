@@ -16,16 +16,16 @@ abbrev pub page_size : ℕ
 page_size = 65523
 
 -- entries behind so many bytes of a page: those that the page still takes, and the pages after it. An entry goes where the one before it stands, or where it doesn't fit there begins a page
-unfoldable pub placed : ℕ → List (List ℕ) → List ℕ × List (List ℕ)
-placed filled [] = ([], [])
-placed filled (entry ∷ later) =
+unfoldable pub paged : ℕ → List (List ℕ) → List ℕ × List (List ℕ)
+paged filled [] = ([], [])
+paged filled (entry ∷ later) =
     if leb (filled + length entry) page_size
-    then (entry ++ (placed (filled + length entry) later).0, (placed (filled + length entry) later).1)
-    else ([], (entry ++ (placed (length entry) later).0) ∷ (placed (length entry) later).1)
+    then (entry ++ (paged (filled + length entry) later).0, (paged (filled + length entry) later).1)
+    else ([], (entry ++ (paged (length entry) later).0) ∷ (paged (length entry) later).1)
 
 -- whole entries in their order, as many on each page as fit; one page at least
 abbrev pub pages : List (List ℕ) → List (List ℕ)
-pages entries = (placed 0 entries).0 ∷ (placed 0 entries).1
+pages entries = (paged 0 entries).0 ∷ (paged 0 entries).1
 
 -- the pages of the entries behind a page: none where there are no more
 abbrev pub later_pages : List (List ℕ) → List (List ℕ)

@@ -6,7 +6,7 @@ ghost use Rattle.of10_stats.specs.Replies.{entry_size_of};
 ghost use Rattle.stats_filter.specs.Asking.{type_sent};
 ghost use Rattle.stats_filter.specs.Keeping.{entries_in};
 ghost use Rattle.stats_filter.specs.Replies.{pages, later_pages, reply_with, replies_for, sum_reply, table_reply};
-ghost use Rattle.stats_filter.specs.Laws.{AreSmall};
+ghost use Rattle.stats_filter.specs.Laws.{FitPages};
 
 use crate::asking::type_sent;
 use of10_ctl::kind::STATS_REPLY;
@@ -35,12 +35,12 @@ fn reply(alloc: Global, kind: u16, more: bool, xid: u32, body: &[u8]) -> Result<
 /// How many bytes of the entries, which stand one behind another, the first page takes: whole entries, as many
 /// as fit.
 fn page_end(kind: u16, entries: &[u8]) -> usize
-    requires { AreSmall (entries_in kind entries.now) }
+    requires { FitPages (entries_in kind entries.now) }
     ensures within { result ≤ length entries.now }
     ensures small { result ≤ 65523 }
     ensures page { pages (entries_in kind entries.now) ≡ take result entries.now ∷ later_pages (entries_in kind (drop result entries.now)) }
     ensures goes_on { IsSome (entry_size_of kind (drop result entries.now)) → 0 < result }
-    ensures later { AreSmall (entries_in kind (drop result entries.now)) }
+    ensures later { FitPages (entries_in kind (drop result entries.now)) }
 {
     let mut end = 0;
     while let Some(size) = entry_size(kind, &entries[end..]) {

@@ -5,7 +5,7 @@ ghost use Rattle.of10_stats.specs.declared.protocol.TheConstants.{FLOW};
 ghost use Rattle.of10_stats.specs.Replies.{IsEntry, IsPortEntry};
 ghost use Rattle.of10_model.specs.Normal.{number_at, match_at};
 ghost use Rattle.flowspace.specs.Owners.{has_port};
-ghost use Rattle.stats_filter.specs.Keeping.{lies_within, is_kept, MayCome};
+ghost use Rattle.stats_filter.specs.Keeping.{lies_within, is_kept_entry, MayCome};
 
 use flowspace::SwitchPolicy;
 use match_meet::includes;
@@ -47,7 +47,7 @@ fn keeps_port(policy: &SwitchPolicy, slot: u8, entry: &[u8]) -> bool
 #[tactic(auto, unfolding(crate::specs::Keeping::is_own_entry))]
 pub fn keep(policy: &SwitchPolicy, slot: u8, kind: AskKind, entry: &[u8]) -> bool
     requires { MayCome kind entry.now }
-    ensures { result ≡ is_kept policy.now.rules slot kind entry.now }
+    ensures { result ≡ is_kept_entry policy.now.rules slot kind entry.now }
 {
     match kind {
         AskKind::Flow | AskKind::Aggregate => keeps_flow(policy, slot, entry),

@@ -16,7 +16,7 @@ ghost use Rattle.flowspace.specs.Owners.{HasPort, Owns};
 ghost use Rattle.stats_filter.specs.Asking.{asked_as, question_for};
 ghost use Rattle.stats_filter.specs.Keeping.{entries_in, is_own_entry};
 ghost use Rattle.stats_filter.specs.Replies.{pages, replies_of};
-ghost use Rattle.stats_filter.specs.Laws.{AreInFront, ArePages, AreReplies, AreSmall};
+ghost use Rattle.stats_filter.specs.Laws.{AreInFront, ArePages, AreReplies, FitPages};
 
 /// The entries in bytes are those well-formed ones that stand one behind another in front, where no further
 /// one follows. So entries that stand one behind another alone are found as they are.
@@ -34,13 +34,13 @@ pub fn question_is_read_again()
 /// rows of whole entries, each but the last as full as can be.
 pub fn pages_are_full_rows()
     ensures bytes { (entries : List (List ℕ)) → concat (pages entries) ≡ concat entries }
-    ensures rows { (entries rows : List (List ℕ)) → AreSmall entries → (pages entries ≡ rows) ↔ ArePages entries rows }
+    ensures rows { (entries rows : List (List ℕ)) → FitPages entries → (pages entries ≡ rows) ↔ ArePages entries rows }
 {}
 
 /// There is a reply for each page, and more come behind all but the last. What is read of the replies, one
 /// after another, are the entries.
 pub fn replies_have_the_pages()
-    ensures pages { (kind xid : ℕ) (bytes : List ℕ) → kind < 2 ^ 16 → xid < 2 ^ 32 → AreSmall (entries_in kind bytes) → AreReplies kind xid (pages (entries_in kind bytes)) (replies_of kind bytes xid) }
+    ensures pages { (kind xid : ℕ) (bytes : List ℕ) → kind < 2 ^ 16 → xid < 2 ^ 32 → FitPages (entries_in kind bytes) → AreReplies kind xid (pages (entries_in kind bytes)) (replies_of kind bytes xid) }
     ensures again { (kind xid : ℕ) (bytes : List ℕ) → flat_map (λ reply. entries_in kind (drop 12 reply)) (replies_of kind bytes xid) ≡ entries_in kind bytes }
 {}
 

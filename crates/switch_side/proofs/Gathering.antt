@@ -7,7 +7,7 @@ use Rattle.std.proofs.lemmas.Bool.{cases_Bool, eqb-false, lt-leb}
 use Rattle.xid_map.specs.declared.asked.AskKind.{AskKind}
 use Rattle.xid_map.specs.declared.asked.AskKind.TheVariants as kinds
 use Rattle.xid_map.specs.declared.asked.Issued.{Issued}
-use Rattle.xid_map.specs.Collections.{CollectionCall, Add, Sum, Finish, Gathered, gathered, is_among, collecting, collection_of, entries_of, sums_of, room_of, Collected, HasRoom, CollectionsStand}
+use Rattle.xid_map.specs.Collections.{CollectionCall, Add, Sum, Finish, Gathered, gathered, is_among, collecting, collection_of, entries_of, sums_of, room_of, Collected, HasRoomToCollect, CollectionsStand}
 use Rattle.xid_map.proofs.Gathering.{gathered-finish, gathered-add_other, gathered-sum_other, with_entry, gathered-add, gathered-sum}
 use Rattle.of10_stats.specs.declared.protocol.TheConstants.{FLOW}
 use Rattle.of10_stats.specs.Replies.{flow_of, entry_size_of}
@@ -26,7 +26,7 @@ less a b None room = tt
 less a b (Some c) room = omega (arith, room)
 
 -- where there is room for more bytes there is for some of them
-pub less_space : (number a b : ℕ) (all : List Collected) → HasRoom number (a + b) all → HasRoom number b all
+pub less_space : (number a b : ℕ) (all : List Collected) → HasRoomToCollect number (a + b) all → HasRoomToCollect number b all
 less_space number a b all room = less a b (find (λ c. c.gathered.number == number) all) room
 
 -- ---- a request that is finished
@@ -75,24 +75,24 @@ entries_finished kind number (entry ∷ later) before all stands =
 
 -- while entries of a type come one after another there is room for those that are left, and the calls of all are those of these after the calls of others
 pub record AreComing (kind : AskKind) (number sent : ℕ) (all rest : List ℕ) (old new : List Collected) : Type 0 where
-  pub room : HasRoom number (length rest) new
+  pub room : HasRoomToCollect number (length rest) new
   pub way : (calls : List CollectionCall) → CollectionsStand calls old
       → (now : List CollectionCall) × CollectionsStand now new × (entry_calls kind number (entries_in sent rest) now ≡ entry_calls kind number (entries_in sent all) calls)
 
-pub first_coming : (kind : AskKind) (number sent : ℕ) (all : List ℕ) (old : List Collected) → HasRoom number (length all) old → AreComing kind number sent all all old old
+pub first_coming : (kind : AskKind) (number sent : ℕ) (all : List ℕ) (old : List Collected) → HasRoomToCollect number (length all) old → AreComing kind number sent all all old old
 first_coming kind number sent all old room = record { room = room; way = λ calls stands. (calls, stands, refl) }
 
-pub room_ahead : (kind : AskKind) (number sent : ℕ) (all rest entry later : List ℕ) (old mid : List Collected) → AreComing kind number sent all rest old mid → IsAhead sent rest entry later → HasRoom number (length entry) mid
+pub room_ahead : (kind : AskKind) (number sent : ℕ) (all rest entry later : List ℕ) (old mid : List Collected) → AreComing kind number sent all rest old mid → IsAhead sent rest entry later → HasRoomToCollect number (length entry) mid
 room_ahead kind number sent all rest entry later old mid coming ahead =
     less_space number (length later) (length entry) mid
-    (subst (λ (n : ℕ). HasRoom number n mid) (ahead_length sent rest entry later ahead ∙ add_comm (length entry) (length later)) coming.room)
+    (subst (λ (n : ℕ). HasRoomToCollect number n mid) (ahead_length sent rest entry later ahead ∙ add_comm (length entry) (length later)) coming.room)
 
 pub next_coming : (kind : AskKind) (number sent : ℕ) (all rest entry later : List ℕ) (old mid new : List Collected) → AreComing kind number sent all rest old mid → IsAhead sent rest entry later
     → ((calls : List CollectionCall) → CollectionsStand calls mid → CollectionsStand (entry_call kind number entry ∷ calls) new)
-    → ((more : ℕ) → HasRoom number (length entry + more) mid → HasRoom number more new)
+    → ((more : ℕ) → HasRoomToCollect number (length entry + more) mid → HasRoomToCollect number more new)
     → AreComing kind number sent all later old new
 next_coming kind number sent all rest entry later old mid new coming ahead stands room = record {
-  room = room (length later) (subst (λ (n : ℕ). HasRoom number n mid) (ahead_length sent rest entry later ahead) coming.room);
+  room = room (length later) (subst (λ (n : ℕ). HasRoomToCollect number n mid) (ahead_length sent rest entry later ahead) coming.room);
   way = λ calls begun.
       let before = coming.way calls begun in (
         entry_call kind number entry ∷ before.0,

@@ -14,11 +14,11 @@ use Rattle.flowspace.specs.Policies.{PolicyView}
 use Rattle.flow_book.specs.declared.state.SliceState.{SliceState}
 use Rattle.slice_words.specs.Items.{Settings, Sight, Item, Writer, Reader, Probe, is_up, is_buffered, buffered_count}
 use Rattle.slice_words.specs.Buffers.{HeldPacket, held_packets}
-use Rattle.slice_words.specs.Alone.{number_of}
+use Rattle.slice_words.specs.Alone.{number_it_came_with}
 use Rattle.slice_words.specs.Standing.{past_of}
 use Rattle.desk_words.specs.declared.phase.Phase.TheVariants.{Opened}
 use Rattle.desk_words.specs.declared.event.Event.TheVariants.{SwitchMsg}
-use Rattle.desk_words.specs.Openings.{rules_of, Switch}
+use Rattle.desk_words.specs.Openings.{rules_of, KnownSwitch}
 use Rattle.desk_words.specs.Histories.{is_slot, settings_at, items_of, Side, holder, handed, header_in, number_given, number_told, marked_slot, shares_of, packet_items, packet_in_items}
 use Rattle.desk_words.specs.Numbers.{AreNumbered}
 use Rattle.desk_words.proofs.Numbering.{lost_of}
@@ -26,7 +26,7 @@ use Rattle.switch_side.specs.declared.change.Change.{Change}
 use Rattle.switch_side.specs.declared.change.Change.TheVariants.{Lost, Given}
 use Rattle.switch_side.specs.declared.audience.Audience.TheVariants.{Prober}
 use Rattle.switch_side.specs.Audiences.{named_by, audience_of, writes}
-use Rattle.switch_side.specs.Changes.{is_lost, IsLost, IsChange, changes_for, SlotChanges}
+use Rattle.switch_side.specs.Changes.{is_lost, IsLost, IsChangeOfItems, changes_for, SlotChanges}
 use Rattle.switch_side.specs.Dispatches.{AllStand, AllNumbered, AreChanges, told_at}
 use Rattle.switch_side.specs.Carrying.{change_for, changes_from, packet_changes}
 use Rattle.switch_side.proofs.Making.{first_for}
@@ -37,16 +37,16 @@ use Rattle.switch_side.proofs.Told.{has_item}
 -- ---- what is lost
 
 not_lost : (s : Settings) (side : Side) (physical : ℕ) (packet : HeldPacket) (found : Option ℕ) → AreNumbered s side → holder physical side.numbered ≡ found
-    → (number_of side.sight.came packet.ordinal == physical) ≡ false → is_lost found packet ≡ false
+    → (number_it_came_with side.sight.came packet.ordinal == physical) ≡ false → is_lost found packet ≡ false
 not_lost s side physical packet None n is other = refl
 not_lost s side physical packet (Some k) n is other = elim (eqb_tells packet.ordinal k) [
-  | inl same ↦ absurd (true≢false (sym (eq-eqb (number_of side.sight.came packet.ordinal) physical (ap (number_of side.sight.came) same.1 ∙ n.came physical k is)) ∙ other))
+  | inl same ↦ absurd (true≢false (sym (eq-eqb (number_it_came_with side.sight.came packet.ordinal) physical (ap (number_it_came_with side.sight.came) same.1 ∙ n.came physical k is)) ∙ other))
   | inr apart ↦ apart.0
 ]
 
-by_number : (s : Settings) (side : Side) (physical : ℕ) (packet : HeldPacket) → AreNumbered s side → holder (number_of side.sight.came packet.ordinal) side.numbered ≡ Some packet.ordinal
-    → (number_of side.sight.came packet.ordinal == physical) ≡ is_lost (holder physical side.numbered) packet
-by_number s side physical packet n at = elim (eqb_tells (number_of side.sight.came packet.ordinal) physical) [
+by_number : (s : Settings) (side : Side) (physical : ℕ) (packet : HeldPacket) → AreNumbered s side → holder (number_it_came_with side.sight.came packet.ordinal) side.numbered ≡ Some packet.ordinal
+    → (number_it_came_with side.sight.came packet.ordinal == physical) ≡ is_lost (holder physical side.numbered) packet
+by_number s side physical packet n at = elim (eqb_tells (number_it_came_with side.sight.came packet.ordinal) physical) [
   | inl same ↦
       same.0
       ∙ sym (ap (λ (found : Option ℕ). is_lost found packet) (ap (λ (q : ℕ). holder q side.numbered) (sym same.1) ∙ at) ∙ eq-eqb packet.ordinal packet.ordinal refl)
@@ -70,7 +70,7 @@ probe_none false = refl
 
 module _ (s : Settings) (sight : Sight) (physical : ℕ) (packet : PacketIn) (lost : Option ℕ) (only : IsLost s sight physical lost) (counted : length sight.came ≡ buffered_count sight.view) where
   named_change : (writes reads kept : Bool) → kept ≡ true
-      → IsChange s (Some physical) sight (lost_of lost ++ map (λ share. handed share packet) ((if writes then Writer kept ∷ [] else []) ++ (if reads then Reader ∷ [] else [])))
+      → IsChangeOfItems s (Some physical) sight (lost_of lost ++ map (λ share. handed share packet) ((if writes then Writer kept ∷ [] else []) ++ (if reads then Reader ∷ [] else [])))
       (if writes then Given physical (header_in packet) else Lost physical)
   named_change true reads kept is = (
     refl,
@@ -88,7 +88,7 @@ module _ (s : Settings) (sight : Sight) (physical : ℕ) (packet : PacketIn) (lo
   named_change false reads kept is = (refl, record { lost = lost; shares = if reads then Reader ∷ [] else []; packet = packet; shown = refl; only = only; none_given = reader_none reads })
 
   up_change : (slot : ℕ) (kept : Bool) (marked : Option ℕ) (first : Option Rule) → kept ≡ true
-      → IsChange s (Some physical) sight
+      → IsChangeOfItems s (Some physical) sight
       (lost_of lost ++ map (λ share. handed share packet) (elim marked [
         | None ↦ (if is_value slot (option_and_then (λ rule. rule.writer) first) then Writer kept ∷ [] else [])
             ++ (if bit (unwrap_or (option_map (λ rule. rule.readers) first) 0) slot then Reader ∷ [] else [])
@@ -100,17 +100,17 @@ module _ (s : Settings) (sight : Sight) (physical : ℕ) (packet : PacketIn) (lo
   up_change slot kept (Some other) first is = (refl, record { lost = lost; shares = if other == slot then Probe ∷ [] else []; packet = packet; shown = refl; only = only; none_given = probe_none (other == slot) })
 
   by_up : (policy : PolicyView) (rules : List Rule) (slot : ℕ) (up : Bool) → is_some (number_given packet) ≡ true
-      → IsChange s (Some physical) sight (lost_of lost ++ (if up then map (λ share. handed share packet) (shares_of policy rules slot packet) else []))
+      → IsChangeOfItems s (Some physical) sight (lost_of lost ++ (if up then map (λ share. handed share packet) (shares_of policy rules slot packet) else []))
       (change_for (audience_of (length policy.slices) rules packet) physical (header_in packet) slot up)
   by_up policy rules slot true is = up_change slot (is_some (number_given packet)) (marked_slot policy packet) (first_rule rules (header_in packet)) is
   by_up policy rules slot false is = (refl, record { lost = lost; shares = []; packet = packet; shown = refl; only = only; none_given = refl })
 
 packet_change : (s : Settings) (policy : PolicyView) (rules : List Rule) (slot : ℕ) (side : Side) (packet : PacketIn) (physical : ℕ) (up : Bool) → number_given packet ≡ Some physical → AreNumbered s side → up ≡ is_up side.sight.view
-    → IsChange s (Some physical) side.sight (packet_in_items policy rules slot side packet) (change_for (audience_of (length policy.slices) rules packet) physical (header_in packet) slot up)
+    → IsChangeOfItems s (Some physical) side.sight (packet_in_items policy rules slot side packet) (change_for (audience_of (length policy.slices) rules packet) physical (header_in packet) slot up)
 packet_change s policy rules slot side packet physical up given n is =
-    subst (λ (found : Option ℕ). IsChange s (Some physical) side.sight (lost_of found ++ packet_items policy rules slot side.sight.view packet) (change_for (audience_of (length policy.slices) rules packet) physical (header_in packet) slot up))
+    subst (λ (found : Option ℕ). IsChangeOfItems s (Some physical) side.sight (lost_of found ++ packet_items policy rules slot side.sight.view packet) (change_for (audience_of (length policy.slices) rules packet) physical (header_in packet) slot up))
     (sym (ap (option_and_then (λ number. holder number side.numbered)) given))
-    (subst (λ (here : Bool). IsChange s (Some physical) side.sight (lost_of (holder physical side.numbered) ++ packet_items policy rules slot side.sight.view packet) (change_for (audience_of (length policy.slices) rules packet) physical (header_in packet) slot here))
+    (subst (λ (here : Bool). IsChangeOfItems s (Some physical) side.sight (lost_of (holder physical side.numbered) ++ packet_items policy rules slot side.sight.view packet) (change_for (audience_of (length policy.slices) rules packet) physical (header_in packet) slot here))
     (sym is)
     (by_up s side.sight physical packet (holder physical side.numbered) (lost_only s side physical n) n.count policy rules slot (is_up side.sight.view) (ap is_some given)))
 
@@ -192,7 +192,7 @@ module _ (policy : PolicyView) (rules : List Rule) (states : List SliceState) (s
   none_kept_past packet true past = refl
   none_kept_past packet false past = none_past (change_for (audience_of (length policy.slices) rules packet) packet.buffer (header_in packet)) states 0 slot (omega (arith, past))
 
-module _ (p : PolicyView) (switch : Switch) (sides : ℕ → Side) (moment : ℕ) (message : List ℕ) (states : List SliceState)
+module _ (p : PolicyView) (switch : KnownSwitch) (sides : ℕ → Side) (moment : ℕ) (message : List ℕ) (states : List SliceState)
     (opened : switch.phase ≡ Opened) (same : length states ≡ length p.slices) (stand : AllStand p switch sides states) (numbered : AllNumbered p switch sides)
     (packet : PacketIn) (is : read_switch message ≡ Ok (says.PacketIn packet)) where
   abbrev changed : ℕ → Option ℕ → List Item → List Change → Type 0

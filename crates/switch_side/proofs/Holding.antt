@@ -9,9 +9,9 @@ use Rattle.buffer_map.specs.Buffers as buffers
 use Rattle.flow_book.specs.declared.state.SliceState.{SliceState}
 use Rattle.slice_words.specs.Items.{Settings, Sight, Share, Writer, Item, Lost, is_buffered, buffered_count}
 use Rattle.slice_words.specs.Pasts.{view_in}
-use Rattle.slice_words.specs.Buffers.{HeldPacket, is_recent, held_packets}
+use Rattle.slice_words.specs.Buffers.{HeldPacket, is_recent_packet, held_packets}
 use Rattle.slice_words.specs.Answers.{answer}
-use Rattle.slice_words.specs.Alone.{with_items, number_of}
+use Rattle.slice_words.specs.Alone.{with_items, number_it_came_with}
 use Rattle.slice_words.specs.Standing.{SliceStands, past_of, held_as}
 use Rattle.slice_words.proofs.Holding.{filter_of_map, filter_all, IsRecent, recent, view_in-played}
 use Rattle.desk_words.specs.Histories.{header_in, handed, is_any_given}
@@ -73,12 +73,12 @@ held_packet ordinal physical header = record { ordinal = ordinal; physical = phy
 
 -- the numbers of those that were held before stay
 older : (s : Settings) (view : List Item) (came : List ℕ) (physical count : ℕ) → buffered_count (view_in (past_of s view)) ≡ length came
-    → map (held_as came) (filter (is_recent count) (held_in s view)) ≡ map (held_as (physical ∷ came)) (filter (is_recent count) (held_in s view))
+    → map (held_as came) (filter (is_recent_packet count) (held_in s view)) ≡ map (held_as (physical ∷ came)) (filter (is_recent_packet count) (held_in s view))
 older s view came physical count counted =
-    map_same (held_as came) (held_as (physical ∷ came)) (filter (is_recent count) (held_in s view))
+    map_same (held_as came) (held_as (physical ∷ came)) (filter (is_recent_packet count) (held_in s view))
     (λ k d within.
-    let packet = get_or (filter (is_recent count) (held_in s view)) k d in
-    let young = All-filter (is_recent count) (IsRecent (buffered_count (view_in (past_of s view)))) (held_in s view) (recent (past_of s view)) k d within in
+    let packet = get_or (filter (is_recent_packet count) (held_in s view)) k d in
+    let young = All-filter (is_recent_packet count) (IsRecent (buffered_count (view_in (past_of s view)))) (held_in s view) (recent (past_of s view)) k d within in
     ap (λ n. held_packet packet.ordinal n packet.header) (sym (number_earlier physical came packet.ordinal (omega (arith, young.0, counted)))))
 
 -- the state after a packet that is given by number
@@ -90,14 +90,14 @@ gift_handed s sight old new physical header packet same stands counted is given 
     let own = buffered_count (view_in (past_of s sight.view)) in
     let view_count : own ≡ buffered_count sight.view = ap buffered_count (view_in-played (answer s) sight.view) in
     let count : old.buffers.given ≡ own = stands.given ∙ sym view_count in
-    let newest : number_of (physical ∷ sight.came) own ≡ physical = ap (number_of (physical ∷ sight.came)) (view_count ∙ sym counted) ∙ number_newest physical sight.came in
+    let newest : number_it_came_with (physical ∷ sight.came) own ≡ physical = ap (number_it_came_with (physical ∷ sight.came)) (view_count ∙ sym counted) ∙ number_newest physical sight.came in
     stands_again s sight (record { view = handed (Writer true) packet ∷ sight.view; came = physical ∷ sight.came }) old new (same_handed s sight.view (Writer true) packet) same stands
     (given ∙ ap (λ n. n + 1) stands.given)
     (held
     ∙ ap₂ (λ (first : Held) (rest : List Held). first ∷ rest)
-    (ap (λ n. held_packet n physical header) count ∙ ap (λ n. held_packet own n header) (sym newest) ∙ ap (held_packet own (number_of (physical ∷ sight.came) own)) (sym is))
+    (ap (λ n. held_packet n physical header) count ∙ ap (λ n. held_packet own n header) (sym newest) ∙ ap (held_packet own (number_it_came_with (physical ∷ sight.came) own)) (sym is))
     (ap₂ (λ (n : ℕ) (all : List Held). filter (buffers.is_recent (n + 1)) all) count stands.held
-    ∙ filter_of_map (buffers.is_recent (own + 1)) (is_recent (own + 1)) (held_as sight.came) (held_in s sight.view) (λ k d within. refl)
+    ∙ filter_of_map (buffers.is_recent (own + 1)) (is_recent_packet (own + 1)) (held_as sight.came) (held_in s sight.view) (λ k d within. refl)
     ∙ older s sight.view sight.came physical (own + 1) (view_count ∙ sym counted)))
 
 lost_count : (lost : Option ℕ) (view : List Item) → buffered_count (with_items (lost_of lost) view) ≡ buffered_count view

@@ -19,11 +19,11 @@ use Rattle.slice_words.specs.Items.{Settings, Sight, Item, Removed, Fault, Entry
 use Rattle.slice_words.specs.Statistics.{finished}
 use Rattle.slice_words.specs.Calls.{error_marks, failure, request_calls, collection_calls, book_calls}
 use Rattle.slice_words.specs.Standing.{SliceStands, past_of}
-use Rattle.desk_words.specs.Openings.{Switch}
+use Rattle.desk_words.specs.Openings.{KnownSwitch}
 use Rattle.desk_words.specs.Histories.{settings_at, items_of, number_told, Side}
 use Rattle.desk_words.specs.declared.event.Event.TheVariants.{SwitchMsg}
 use Rattle.switch_side.specs.declared.change.Change.{Change}
-use Rattle.switch_side.specs.Changes.{seen_with, side_after, IsRemoval, IsFailure, IsAnswer, IsMore, IsEnd, IsChange, changes_for, SlotChanges, IsMade, IsMadeAt, HasRoom, HasRoomAt, HaveRoom, StandOn}
+use Rattle.switch_side.specs.Changes.{seen_with, side_after, IsRemoval, IsFailure, IsAnswer, IsMore, IsEnd, IsChangeOfItems, changes_for, SlotChanges, IsMade, IsMadeAt, StateHasRoom, StateHasRoomAt, StatesHaveRoom, StandOn}
 use Rattle.switch_side.specs.Collecting.{entry_calls, calls_with}
 use Rattle.switch_side.specs.Dispatches.{AllStand, AreChanges, told_at}
 use Rattle.switch_side.proofs.Gathering.{calls_by, entries_finished}
@@ -124,7 +124,7 @@ released_book request number pattern priority pair calls new is same stands = rw
 -- a slice's state while changes are made: its own is made, or it is still to be made
 abbrev pub IsOnTheWay : Settings → Option ℕ → Sight → List Item → List Change → SliceState → Type 0
 IsOnTheWay s number sight items [] state = SliceStands s (seen_with number items sight) state
-IsOnTheWay s number sight items (change ∷ []) state = SliceStands s sight state × IsChange s number sight items change
+IsOnTheWay s number sight items (change ∷ []) state = SliceStands s sight state × IsChangeOfItems s number sight items change
 IsOnTheWay s number sight items (change ∷ other ∷ others) state = ⊥
 
 begins : (s : Settings) (number : Option ℕ) (sight : Sight) (items : List Item) (listed : List Change) (state : SliceState) → SliceStands s sight state → SlotChanges s number sight items listed
@@ -135,21 +135,21 @@ begins s number sight items (change ∷ other ∷ others) state stands is = is
 
 -- the next change is the slice's own
 steps : (s : Settings) (number : Option ℕ) (sight : Sight) (items : List Item) (change : Change) (later : List Change) (old new : SliceState) → IsOnTheWay s number sight items (change ∷ later) old
-    → (SliceStands s sight old → IsChange s number sight items change → SliceStands s (seen_with number items sight) new) → IsOnTheWay s number sight items later new
+    → (SliceStands s sight old → IsChangeOfItems s number sight items change → SliceStands s (seen_with number items sight) new) → IsOnTheWay s number sight items later new
 steps s number sight items change [] old new (stands, is) made = made stands is
 steps s number sight items change (other ∷ others) old new none made = absurd none
 
 -- the states while changes are made
-abbrev pub AllOnTheWay : PolicyView → Switch → (ℕ → Side) → ℕ → List ℕ → List (ℕ × Change) → List SliceState → Type 0
+abbrev pub AllOnTheWay : PolicyView → KnownSwitch → (ℕ → Side) → ℕ → List ℕ → List (ℕ × Change) → List SliceState → Type 0
 AllOnTheWay p switch sides moment message listed states =
     (slot : ℕ) (state : SliceState) → slice_get states slot ≡ Some state
     → IsOnTheWay (settings_at p slot switch.features) (number_told switch.phase (SwitchMsg message)) (sides slot).sight (items_of p slot switch (sides slot) (told_at moment message)) (changes_for slot listed) state
 
-pub all_begin : (p : PolicyView) (switch : Switch) (sides : ℕ → Side) (moment : ℕ) (message : List ℕ) (listed : List (ℕ × Change)) (states : List SliceState)
+pub all_begin : (p : PolicyView) (switch : KnownSwitch) (sides : ℕ → Side) (moment : ℕ) (message : List ℕ) (listed : List (ℕ × Change)) (states : List SliceState)
     → AllStand p switch sides states → AreChanges p switch sides moment message listed → AllOnTheWay p switch sides moment message listed states
 all_begin p switch sides moment message listed states stand are = λ slot state there. begins _ _ _ (items_of p slot switch (sides slot) (told_at moment message)) (changes_for slot listed) state (stand slot state there) (are slot)
 
-pub all_end : (p : PolicyView) (switch : Switch) (sides : ℕ → Side) (moment : ℕ) (message : List ℕ) (states : List SliceState)
+pub all_end : (p : PolicyView) (switch : KnownSwitch) (sides : ℕ → Side) (moment : ℕ) (message : List ℕ) (states : List SliceState)
     → AllOnTheWay p switch sides moment message [] states → AllStand p switch (λ slot. side_after p slot switch (sides slot) (told_at moment message)) states
 all_end p switch sides moment message states way = way
 
@@ -168,7 +168,7 @@ some_before old new slot after None count there is =
     let item = has_item old slot (omega (arith, under, count)) in
     absurd (true≢false (sym (ap is_some (sym is ∙ item.1))))
 
-module _ (p : PolicyView) (switch : Switch) (sides : ℕ → Side) (moment : ℕ) (message : List ℕ) where
+module _ (p : PolicyView) (switch : KnownSwitch) (sides : ℕ → Side) (moment : ℕ) (message : List ℕ) where
   abbrev way : ℕ → List Change → SliceState → Type 0
   way slot listed state = IsOnTheWay (settings_at p slot switch.features) (number_told switch.phase (SwitchMsg message)) (sides slot).sight (items_of p slot switch (sides slot) (told_at moment message)) listed state
 
@@ -221,11 +221,11 @@ none_made states slot change past = record {
 -- ---- room
 
 -- the first change has room at its slot
-pub first_room : (slot : ℕ) (change : Change) (later : List (ℕ × Change)) (states : List SliceState) → HaveRoom ((slot, change) ∷ later) states → HasRoomAt slot change states
+pub first_room : (slot : ℕ) (change : Change) (later : List (ℕ × Change)) (states : List SliceState) → StatesHaveRoom ((slot, change) ∷ later) states → StateHasRoomAt slot change states
 first_room slot change later states room = room.rooms 0 (slot, change) refl
 
 -- and once it is made the others have
-pub later_room : (slot : ℕ) (change : Change) (later : List (ℕ × Change)) (old new : List SliceState) → HaveRoom ((slot, change) ∷ later) old → IsMadeAt slot change old new → HaveRoom later new
+pub later_room : (slot : ℕ) (change : Change) (later : List (ℕ × Change)) (old new : List SliceState) → StatesHaveRoom ((slot, change) ∷ later) old → IsMadeAt slot change old new → StatesHaveRoom later new
 later_room slot change later old new room made = record {
   apart = λ i j one other less at_one at_other. room.apart (suc i) (suc j) one other (omega arith) at_one at_other;
   rooms = λ i one at state there.
@@ -233,7 +233,7 @@ later_room slot change later old new room made = record {
       room.rooms (suc i) one at state (sym (made.others one.0 (ne_eqb slot one.0 (λ same. absurd (omega (arith, behind, same))))) ∙ there);
 }
 
-pub none_room : (states : List SliceState) → HaveRoom [] states
+pub none_room : (states : List SliceState) → StatesHaveRoom [] states
 none_room states = record {
   apart = λ i j one other less at_one at_other. absurd (true≢false (sym (ap is_some at_one)));
   rooms = λ i one at. absurd (true≢false (sym (ap is_some at)));
@@ -241,11 +241,11 @@ none_room states = record {
 
 -- ---- room that is made
 
-pub past_room : (place : ℕ) (change : Change) (states : List SliceState) → length states ≤ place → HasRoomAt place change states
+pub past_room : (place : ℕ) (change : Change) (states : List SliceState) → length states ≤ place → StateHasRoomAt place change states
 past_room place change states past state there = absurd (omega (arith, slice_get_within states place state there, past))
 
-pub set_room : (place : ℕ) (change : Change) (states : List SliceState) (old new : SliceState) → slice_get states place ≡ Some old → HasRoom change new → HasRoomAt place change (set states place new)
-set_room place change states old new there room state is = subst (HasRoom change) (same_some new state (sym (get_own states place old new there) ∙ is)) room
+pub set_room : (place : ℕ) (change : Change) (states : List SliceState) (old new : SliceState) → slice_get states place ≡ Some old → StateHasRoom change new → StateHasRoomAt place change (set states place new)
+set_room place change states old new there room state is = subst (StateHasRoom change) (same_some new state (sym (get_own states place old new there) ∙ is)) room
 
 pub set_others : (place : ℕ) (states : List SliceState) (new : SliceState) (other : ℕ) → (place == other) ≡ false → slice_get (set states place new) other ≡ slice_get states other
 set_others place states new other isnt = get_other states place other new (λ same. true≢false (sym (eq-eqb place other same) ∙ isnt))
@@ -282,7 +282,7 @@ stand_then old mid new one other = record {
 pub record MakesRoom (listed : List (ℕ × Change)) (count next : ℕ) (old states : List SliceState) : Type 0 where
   pub stands : StandOn old states
   pub apart : (i j : ℕ) (one other : ℕ × Change) → i < j → j < count → slice_get listed i ≡ Some one → slice_get listed j ≡ Some other → one.0 < other.0
-  pub rooms : (i : ℕ) (one : ℕ × Change) → i < count → slice_get listed i ≡ Some one → HasRoomAt one.0 one.1 states
+  pub rooms : (i : ℕ) (one : ℕ × Change) → i < count → slice_get listed i ≡ Some one → StateHasRoomAt one.0 one.1 states
   pub below : (i : ℕ) (one : ℕ × Change) → i < count → slice_get listed i ≡ Some one → one.0 < next
 
 pub room_first : (listed : List (ℕ × Change)) (states : List SliceState) → MakesRoom listed 0 0 states states
@@ -298,7 +298,7 @@ nearer a b less far = omega (arith, less, far)
 
 module _ (listed : List (ℕ × Change)) (count next : ℕ) (old mid new : List SliceState) (slot : ℕ) (change : Change) (made : MakesRoom listed count next old mid)
     (here : slice_get listed count ≡ Some (slot, change)) (above : next ≤ slot) (stand : StandOn mid new) where
-  pub room_more : HasRoomAt slot change new → ((other : ℕ) → (slot == other) ≡ false → slice_get new other ≡ slice_get mid other) → MakesRoom listed (count + 1) (slot + 1) old new
+  pub room_more : StateHasRoomAt slot change new → ((other : ℕ) → (slot == other) ≡ false → slice_get new other ≡ slice_get mid other) → MakesRoom listed (count + 1) (slot + 1) old new
   room_more room others = record {
     stands = stand_then old mid new made.stands stand;
     apart = λ i j one other less under at_one at_other. apart_by i j one other less under at_one at_other (j == count) refl;
@@ -322,13 +322,13 @@ module _ (listed : List (ℕ × Change)) (count next : ℕ) (old mid new : List 
           subst (λ (pair : ℕ × Change). one.0 < pair.0) (last j other at_other is) (omega (arith, low, above))
       apart_by i j one other less under at_one at_other false isnt = made.apart i j one other less (before j under isnt) at_one at_other
 
-      rooms_by : (i : ℕ) (one : ℕ × Change) → i < count + 1 → slice_get listed i ≡ Some one → (is : Bool) → (i == count) ≡ is → HasRoomAt one.0 one.1 new
-      rooms_by i one under at true is = subst (λ (pair : ℕ × Change). HasRoomAt pair.0 pair.1 new) (last i one at is) room
+      rooms_by : (i : ℕ) (one : ℕ × Change) → i < count + 1 → slice_get listed i ≡ Some one → (is : Bool) → (i == count) ≡ is → StateHasRoomAt one.0 one.1 new
+      rooms_by i one under at true is = subst (λ (pair : ℕ × Change). StateHasRoomAt pair.0 pair.1 new) (last i one at is) room
       rooms_by i one under at false isnt =
           let low = made.below i one (before i under isnt) at in
           λ state there. made.rooms i one (before i under isnt) at state (sym (others one.0 (ne_eqb slot one.0 (λ same. absurd (omega (arith, low, above, same))))) ∙ there)
 
-pub room_all : (listed : List (ℕ × Change)) (count next : ℕ) (old states : List SliceState) → MakesRoom listed count next old states → length listed ≤ count → HaveRoom listed states
+pub room_all : (listed : List (ℕ × Change)) (count next : ℕ) (old states : List SliceState) → MakesRoom listed count next old states → length listed ≤ count → StatesHaveRoom listed states
 room_all listed count next old states made done = record {
   apart = λ i j one other less at_one at_other. made.apart i j one other less (let under = slice_get_within listed j other at_other in omega (arith, under, done)) at_one at_other;
   rooms = λ i one at. made.rooms i one (let under = slice_get_within listed i one at in omega (arith, under, done)) at;

@@ -9,10 +9,10 @@ use Rattle.xid_map.specs.declared.asked.Issued.{Issued}
 use Rattle.xid_map.specs.Requests.{RequestCall, MarkDone}
 use Rattle.xid_map.specs.Collections.{CollectionCall, Finish, Gathered, gathered, is_among, collecting}
 use Rattle.stats_filter.specs.Asking.{type_sent}
-use Rattle.stats_filter.specs.Replies.{placed, reply_with, replies_with, replies_of}
+use Rattle.stats_filter.specs.Replies.{paged, reply_with, replies_with, replies_of}
 use Rattle.stats_filter.specs.Keeping.{entries_in}
 use Rattle.slice_words.specs.Items.{Settings, Item, Barrier, Queues, Entry, Last, is_up}
-use Rattle.slice_words.specs.Pasts.{Answer, is_any, told, silence}
+use Rattle.slice_words.specs.Pasts.{Answer, is_any, told, no_answer}
 use Rattle.slice_words.specs.Statistics.{collects, entry_call, entry_kept, finished, collected_replies, statistics_told}
 use Rattle.slice_words.specs.Alone.{answer_to, with_items, sent_for}
 use Rattle.slice_words.specs.Calls.{request_for, reply_marks, request_calls, collection_calls, book_calls}
@@ -148,7 +148,7 @@ module _ (s : Settings) (x sent : ℕ) where
   told_none None calls closed = refl
   told_none (Some request) calls closed = rw closed refl
 
-  up_none : (up : Bool) (messages : List (List ℕ)) → messages ≡ [] → (if up then told messages else silence).to_slice ≡ []
+  up_none : (up : Bool) (messages : List (List ℕ)) → messages ≡ [] → (if up then told messages else no_answer).to_slice ≡ []
   up_none true messages none = none
   up_none false messages none = refl
 
@@ -214,7 +214,7 @@ some_replies kind xid page (next ∷ later) = some_more (reply_with kind true xi
 
 some_of : (kind xid : ℕ) (entries : List ℕ) → is_any (replies_of kind entries xid) ≡ true
 unfolding replies_of
-some_of kind xid entries = some_replies kind xid (placed 0 (entries_in kind entries)).0 (placed 0 (entries_in kind entries)).1
+some_of kind xid entries = some_replies kind xid (paged 0 (entries_in kind entries)).0 (paged 0 (entries_in kind entries)).1
 
 some_told : (asked : AskKind) (sent : ℕ) (g : Gathered) (xid : ℕ) → type_sent asked ≡ Some sent → is_any (collected_replies asked g xid) ≡ true
 some_told kinds.FlowMod sent g xid is = absurd (true≢false (sym (ap is_some is)))

@@ -19,13 +19,13 @@ use Rattle.xid_map.specs.Collections.{CollectionsStand}
 use Rattle.buffer_map.specs.Buffers.{Buffers}
 use Rattle.flow_book.specs.Books.{BookStands}
 use Rattle.flow_book.specs.declared.state.SliceState.{SliceState}
-use Rattle.slice_words.specs.Items.{Settings, is_own_port, Share, Item, Lost, Status, Fault, End, Sight, is_up, miss_send_len, latest, is_buffered, buffered_count}
+use Rattle.slice_words.specs.Items.{Settings, is_own_port, Share, Item, Lost, Status, Fault, End, Sight, is_up, miss_send_len, latest_moment, is_buffered, buffered_count}
 use Rattle.slice_words.specs.Alone.{with_items}
 use Rattle.slice_words.specs.Buffers.{held_packets}
 use Rattle.slice_words.specs.Statistics.{finished}
 use Rattle.slice_words.specs.Calls.{request_for, error_marks, failure, request_calls, collection_calls, questions, book_calls}
 use Rattle.slice_words.specs.Standing.{SliceStands, past_of, held_as}
-use Rattle.desk_words.specs.Openings.{Switch}
+use Rattle.desk_words.specs.Openings.{KnownSwitch}
 use Rattle.desk_words.specs.Histories.{settings_at, handed, packet_said, said_items, Side}
 use Rattle.switch_side.specs.Changes.{seen_with}
 use Rattle.switch_side.proofs.MessageTypes.{is_for_one}
@@ -36,7 +36,7 @@ use Rattle.switch_side.proofs.MessageTypes.{is_for_one}
 pub record SameParts (s : Settings) (before after : List Item) : Type 0 where
   pub up : is_up after ≡ is_up before
   pub miss_send_len : miss_send_len after ≡ miss_send_len before
-  pub moment : latest after ≡ latest before
+  pub moment : latest_moment after ≡ latest_moment before
   pub requests : request_calls s (past_of s after) ≡ request_calls s (past_of s before)
   pub collections : collection_calls s (past_of s after) ≡ collection_calls s (past_of s before)
   pub asked : questions (past_of s after) ≡ questions (past_of s before)
@@ -83,7 +83,7 @@ passing s before after state parts given held stands = stands_again s before aft
 pub record SameRest (s : Settings) (before after : List Item) : Type 0 where
   pub up : is_up after ≡ is_up before
   pub miss_send_len : miss_send_len after ≡ miss_send_len before
-  pub moment : latest after ≡ latest before
+  pub moment : latest_moment after ≡ latest_moment before
   pub asked : questions (past_of s after) ≡ questions (past_of s before)
   pub given : buffered_count after ≡ buffered_count before
   pub held : held_packets (past_of s after) ≡ held_packets (past_of s before)
@@ -175,7 +175,7 @@ either : (s : Settings) (sight : Sight) (state : SliceState) (b : Bool) (some ot
 either s sight state b some others one other = cond_both b some others (λ items. SliceStands s (seen_with None items sight) state) (λ is. one) (λ isnt. other)
 
 -- a message that tells of no packet, and is not for one slice at most
-pub said_stands : (p : PolicyView) (slot : ℕ) (switch : Switch) (side : Side) (xid : ℕ) (said : Result SwitchMessage Unread) (state : SliceState) → packet_said said ≡ None → is_for_one said ≡ false
+pub said_stands : (p : PolicyView) (slot : ℕ) (switch : KnownSwitch) (side : Side) (xid : ℕ) (said : Result SwitchMessage Unread) (state : SliceState) → packet_said said ≡ None → is_for_one said ≡ false
     → SliceStands (settings_at p slot switch.features) side.sight state
     → SliceStands (settings_at p slot switch.features) (seen_with None (said_items p slot switch side xid said) side.sight) state
 said_stands p slot switch side xid (Err BadLength) state none all stands = end_stands (settings_at p slot switch.features) side.sight state stands

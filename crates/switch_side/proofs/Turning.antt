@@ -6,12 +6,12 @@ use Rattle.flowspace.specs.Policies.{PolicyView}
 use Rattle.slice_words.specs.Items.{Settings, Sight, Item}
 use Rattle.slice_words.specs.Alone.{sent_for}
 use Rattle.desk_words.specs.declared.event.Timed.{Timed}
-use Rattle.desk_words.specs.Openings.{Switch}
+use Rattle.desk_words.specs.Openings.{KnownSwitch}
 use Rattle.desk_words.specs.Histories.{is_slot, settings_at, Side, items_of, number_told}
 use Rattle.desk_words.specs.declared.event.Event.TheVariants.{SwitchMsg}
 use Rattle.desk_words.specs.Sent.{sent_with}
 use Rattle.switch_side.specs.declared.change.Change.{Change}
-use Rattle.switch_side.specs.Changes.{changes_for, IsChange, SlotChanges}
+use Rattle.switch_side.specs.Changes.{changes_for, IsChangeOfItems, SlotChanges}
 use Rattle.switch_side.specs.Dispatches.{addressed, sent_to_all, told_at, AreChanges}
 use Rattle.switch_side.specs.Carrying.{Turn, turn_told, turn_changes}
 use Rattle.switch_side.proofs.MessageTypes.{items_none}
@@ -34,7 +34,7 @@ IsWithin p (Some turn) = turn.slot < length p.slices
 
 -- ---- what is sent
 
-module _ (p : PolicyView) (switch : Switch) (sides : ℕ → Side) (timed : Timed) where
+module _ (p : PolicyView) (switch : KnownSwitch) (sides : ℕ → Side) (timed : Timed) where
   abbrev to : ℕ → List (List ℕ)
   to k = sent_with p k switch (sides k) timed
 
@@ -70,12 +70,12 @@ changes_by false slot k change isnt = rw isnt refl
 -- what follows from items for a slice: nothing, or this turn
 abbrev pub FollowsFrom : Settings → Sight → List Item → Option Turn → Type 0
 FollowsFrom s sight items None = (sent_for s sight.view items ≡ []) × SlotChanges s None sight items []
-FollowsFrom s sight items (Some turn) = (sent_for s sight.view items ≡ turn.messages) × IsChange s None sight items turn.change
+FollowsFrom s sight items (Some turn) = (sent_for s sight.view items ≡ turn.messages) × IsChangeOfItems s None sight items turn.change
 
 pub nothing_follows : (s : Settings) (sight : Sight) → FollowsFrom s sight [] None
 nothing_follows s sight = (refl, λ state stands. stands)
 
-module _ (p : PolicyView) (switch : Switch) (sides : ℕ → Side) (moment : ℕ) (message : List ℕ) where
+module _ (p : PolicyView) (switch : KnownSwitch) (sides : ℕ → Side) (moment : ℕ) (message : List ℕ) where
   abbrev items : ℕ → List Item
   items slot = items_of p slot switch (sides slot) (told_at moment message)
 

@@ -12,8 +12,8 @@ use Rattle.of10_stats.specs.Replies.{IsEntry, entry_size_of}
 use Rattle.of10_stats.proofs.Sizes.{entry_there}
 use Rattle.xid_map.specs.declared.asked.AskKind.{AskKind}
 use Rattle.stats_filter.specs.Asking.{type_sent}
-use Rattle.stats_filter.specs.Keeping.{entries_at, entries_in, is_own_entry, is_kept}
-use Rattle.stats_filter.specs.Laws.{AreSmall}
+use Rattle.stats_filter.specs.Keeping.{entries_at, entries_in, is_own_entry, is_kept_entry}
+use Rattle.stats_filter.specs.Laws.{FitPages}
 use Rattle.stats_filter.specs.Replies.{page_size}
 use Rattle.stats_filter.proofs.Rows.{first_entry, no_entries, entry_begins, entries_in-concat}
 use Rattle.switch_side.specs.Collecting.{kept_within, with_flow, with_flows}
@@ -51,11 +51,11 @@ kept_more : (own : Bool) (kept entry others : List ℕ) → (if own then kept ++
 kept_more true kept entry others = append_assoc kept entry others
 kept_more false kept entry others = refl
 
-is_kept-own : (rules : List Rule) (slot kind : ℕ) (asked : AskKind) (entry : List ℕ) → type_sent asked ≡ Some kind → is_kept rules slot asked entry ≡ is_own_entry rules slot kind entry
-is_kept-own rules slot kind asked entry is = rw (is_kept, is) refl
+is_kept-own : (rules : List Rule) (slot kind : ℕ) (asked : AskKind) (entry : List ℕ) → type_sent asked ≡ Some kind → is_kept_entry rules slot asked entry ≡ is_own_entry rules slot kind entry
+is_kept-own rules slot kind asked entry is = rw (is_kept_entry, is) refl
 
 -- one entry further, which is kept or not
-pub kept_step : (rules : List Rule) (slot kind : ℕ) (asked : AskKind) (rest entry later whole kept new : List ℕ) (own : Bool) → type_sent asked ≡ Some kind → IsAhead kind rest entry later → own ≡ is_kept rules slot asked entry
+pub kept_step : (rules : List Rule) (slot kind : ℕ) (asked : AskKind) (rest entry later whole kept new : List ℕ) (own : Bool) → type_sent asked ≡ Some kind → IsAhead kind rest entry later → own ≡ is_kept_entry rules slot asked entry
     → kept ++ concat (kept_entries rules slot kind rest) ≡ whole → new ≡ (if own then kept ++ entry else kept) → new ++ concat (kept_entries rules slot kind later) ≡ whole
 kept_step rules slot kind asked rest entry later whole kept new own sent ahead is before now =
     ap (λ (front : List ℕ). front ++ concat (kept_entries rules slot kind later)) now
@@ -136,12 +136,12 @@ room_done kind room entries end at none =
 
 -- ---- entries that have place in a reply, and sums
 
-pub small_first : (kind : ℕ) (rest entry later : List ℕ) → IsAhead kind rest entry later → length entry ≤ page_size → AreSmall (entries_in kind later) → AreSmall (entries_in kind rest)
+pub small_first : (kind : ℕ) (rest entry later : List ℕ) → IsAhead kind rest entry later → length entry ≤ page_size → FitPages (entries_in kind later) → FitPages (entries_in kind rest)
 small_first kind rest entry later ahead fits others =
-    subst AreSmall (sym (ahead_first kind rest entry later ahead)) (All-cons (λ e. length e ≤ page_size) entry (entries_in kind later) fits others)
+    subst FitPages (sym (ahead_first kind rest entry later ahead)) (All-cons (λ e. length e ≤ page_size) entry (entries_in kind later) fits others)
 
-pub small_none : (kind : ℕ) (rest : List ℕ) → None ≡ entry_size_of kind rest → AreSmall (entries_in kind rest)
-small_none kind rest none = subst AreSmall (sym (no_entries kind rest (sym none))) (All-nil (λ e. length e ≤ page_size))
+pub small_none : (kind : ℕ) (rest : List ℕ) → None ≡ entry_size_of kind rest → FitPages (entries_in kind rest)
+small_none kind rest none = subst FitPages (sym (no_entries kind rest (sym none))) (All-nil (λ e. length e ≤ page_size))
 
 pub flows_first : (rest entry later : List ℕ) (sums : ℕ × ℕ × ℕ) → IsAhead FLOW rest entry later → with_flows (entries_in FLOW rest) sums ≡ with_flows (entries_in FLOW later) (with_flow entry sums)
 flows_first rest entry later sums ahead = ap (λ (flows : List (List ℕ)). with_flows flows sums) (ahead_first FLOW rest entry later ahead)

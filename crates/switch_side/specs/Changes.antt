@@ -15,11 +15,11 @@ use Rattle.slice_words.specs.Items.{Settings, Sight, Share, Writer, Item, Lost, 
 use Rattle.slice_words.specs.Pasts.{is_any}
 use Rattle.slice_words.specs.Statistics.{collects}
 use Rattle.slice_words.specs.Buffers.{HeldPacket, held_packets}
-use Rattle.slice_words.specs.Alone.{answer_to, with_items, number_of}
+use Rattle.slice_words.specs.Alone.{answer_to, with_items, number_it_came_with}
 use Rattle.slice_words.specs.Calls.{request_for, request_calls, collection_calls}
 use Rattle.slice_words.specs.Standing.{SliceStands, past_of}
 use Rattle.desk_words.specs.declared.event.Timed.{Timed}
-use Rattle.desk_words.specs.Openings.{Switch}
+use Rattle.desk_words.specs.Openings.{KnownSwitch}
 use Rattle.desk_words.specs.Histories.{Side, header_in, handed, items_of, came_with, with_shown}
 use Rattle.switch_side.specs.declared.change.Change.{Change}
 use Rattle.switch_side.specs.declared.change.Change.TheVariants as changes
@@ -29,7 +29,7 @@ abbrev pub seen_with : Option ℕ → List Item → Sight → Sight
 seen_with number items sight = record { view = with_items items sight.view; came = came_with number items sight.came }
 
 -- what a slice sees after an event
-abbrev pub side_after : PolicyView → ℕ → Switch → Side → Timed → Side
+abbrev pub side_after : PolicyView → ℕ → KnownSwitch → Side → Timed → Side
 side_after p slot switch side timed = with_shown switch.phase timed (items_of p slot switch side timed) side
 
 -- ---- one change
@@ -102,7 +102,7 @@ is_lost (Some k) packet = packet.ordinal == k
 
 -- of the packets that a slice holds the lost one, and no other, came with this number
 abbrev pub IsLost : Settings → Sight → ℕ → Option ℕ → Type 0
-IsLost s sight physical lost = All (λ packet. (number_of sight.came packet.ordinal == physical) ≡ is_lost lost packet) (held_packets (past_of s sight.view))
+IsLost s sight physical lost = All (λ packet. (number_it_came_with sight.came packet.ordinal == physical) ≡ is_lost lost packet) (held_packets (past_of s sight.view))
 
 -- the switch keeps another packet under a number, and the slice may not use that one by number
 pub record IsLoss (s : Settings) (sight : Sight) (items : List Item) (physical : ℕ) : Type 0 where
@@ -125,14 +125,14 @@ pub record IsGift (s : Settings) (sight : Sight) (items : List Item) (physical :
   pub counted : length sight.came ≡ buffered_count sight.view
 
 -- the change that items of an event ask for after what a slice sees, where the event hands up a packet with this number, or without one
-abbrev pub IsChange : Settings → Option ℕ → Sight → List Item → Change → Type 0
-IsChange s number sight items (changes.Released pattern priority) = (number ≡ None) × IsRemoval items pattern priority
-IsChange s number sight items (changes.Failed request pair) = (number ≡ None) × IsFailure s sight items request pair
-IsChange s number sight items (changes.Replied request) = (number ≡ None) × IsAnswer s sight items request
-IsChange s number sight items (changes.Collected request kind entries) = (number ≡ None) × IsMore s sight items request kind entries
-IsChange s number sight items (changes.Finished request) = (number ≡ None) × IsEnd s sight items request
-IsChange s number sight items (changes.Lost physical) = (number ≡ Some physical) × IsLoss s sight items physical
-IsChange s number sight items (changes.Given physical header) = (number ≡ Some physical) × IsGift s sight items physical header
+abbrev pub IsChangeOfItems : Settings → Option ℕ → Sight → List Item → Change → Type 0
+IsChangeOfItems s number sight items (changes.Released pattern priority) = (number ≡ None) × IsRemoval items pattern priority
+IsChangeOfItems s number sight items (changes.Failed request pair) = (number ≡ None) × IsFailure s sight items request pair
+IsChangeOfItems s number sight items (changes.Replied request) = (number ≡ None) × IsAnswer s sight items request
+IsChangeOfItems s number sight items (changes.Collected request kind entries) = (number ≡ None) × IsMore s sight items request kind entries
+IsChangeOfItems s number sight items (changes.Finished request) = (number ≡ None) × IsEnd s sight items request
+IsChangeOfItems s number sight items (changes.Lost physical) = (number ≡ Some physical) × IsLoss s sight items physical
+IsChangeOfItems s number sight items (changes.Given physical header) = (number ≡ Some physical) × IsGift s sight items physical header
 
 -- ---- the changes of one slice
 
@@ -143,7 +143,7 @@ changes_for slot listed = map (λ c. c.1) (filter (λ c. c.0 == slot) listed)
 -- what items change after what a slice sees: nothing, so that each state that belonged to it before does so after; or this
 abbrev pub SlotChanges : Settings → Option ℕ → Sight → List Item → List Change → Type 0
 SlotChanges s number sight items [] = (state : SliceState) → SliceStands s sight state → SliceStands s (seen_with number items sight) state
-SlotChanges s number sight items (change ∷ []) = IsChange s number sight items change
+SlotChanges s number sight items (change ∷ []) = IsChangeOfItems s number sight items change
 SlotChanges s number sight items (change ∷ other ∷ others) = ⊥
 
 -- ---- changes that are made
@@ -151,7 +151,7 @@ SlotChanges s number sight items (change ∷ other ∷ others) = ⊥
 -- a change is made in a state: one that belonged to what a slice saw before belongs to what it sees after
 abbrev pub IsMade : Change → SliceState → SliceState → Type 0
 IsMade change old new =
-    (s : Settings) (number : Option ℕ) (sight : Sight) (items : List Item) → SliceStands s sight old → IsChange s number sight items change → SliceStands s (seen_with number items sight) new
+    (s : Settings) (number : Option ℕ) (sight : Sight) (items : List Item) → SliceStands s sight old → IsChangeOfItems s number sight items change → SliceStands s (seen_with number items sight) new
 
 -- it is made in the state at a slot, if there is one, and in no other
 pub record IsMadeAt (slot : ℕ) (change : Change) (old new : List SliceState) : Type 0 where
@@ -162,19 +162,19 @@ pub record IsMadeAt (slot : ℕ) (change : Change) (old new : List SliceState) :
 -- ---- the room for changes
 
 -- a slice's state has room for a change: for one packet more, of which it is given fewer than a desk sees events, and for entries that are collected
-abbrev pub HasRoom : Change → SliceState → Type 0
-HasRoom (changes.Given physical header) state = state.buffers.given < 2 ^ 62
-HasRoom (changes.Collected number kind entries) state = collections.HasRoom number (length entries) state.collections
-HasRoom change state = Unit {0}
+abbrev pub StateHasRoom : Change → SliceState → Type 0
+StateHasRoom (changes.Given physical header) state = state.buffers.given < 2 ^ 62
+StateHasRoom (changes.Collected number kind entries) state = collections.HasRoomToCollect number (length entries) state.collections
+StateHasRoom change state = Unit {0}
 
 -- so has the state at a slot, if there is one
-abbrev pub HasRoomAt : ℕ → Change → List SliceState → Type 0
-HasRoomAt slot change states = (state : SliceState) → slice_get states slot ≡ Some state → HasRoom change state
+abbrev pub StateHasRoomAt : ℕ → Change → List SliceState → Type 0
+StateHasRoomAt slot change states = (state : SliceState) → slice_get states slot ≡ Some state → StateHasRoom change state
 
 -- the slots of changes ascend, so that no slot has two, and each state has room for the change at its slot
-pub record HaveRoom (listed : List (ℕ × Change)) (states : List SliceState) : Type 0 where
+pub record StatesHaveRoom (listed : List (ℕ × Change)) (states : List SliceState) : Type 0 where
   pub apart : (i j : ℕ) (one other : ℕ × Change) → i < j → slice_get listed i ≡ Some one → slice_get listed j ≡ Some other → one.0 < other.0
-  pub rooms : (i : ℕ) (one : ℕ × Change) → slice_get listed i ≡ Some one → HasRoomAt one.0 one.1 states
+  pub rooms : (i : ℕ) (one : ℕ × Change) → slice_get listed i ≡ Some one → StateHasRoomAt one.0 one.1 states
 
 -- each state belongs to all that it belonged to before
 pub record StandOn (old new : List SliceState) : Type 0 where

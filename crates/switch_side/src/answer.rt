@@ -5,7 +5,7 @@ ghost use Rattle.of10_switch.specs.Messages.{read_switch};
 ghost use Rattle.of10_switch.specs.Views.{said_by};
 ghost use Rattle.of10_switch.specs.Ranges.{IsSaid};
 ghost use Rattle.flowspace.specs.Policies.{PolicyView};
-ghost use Rattle.desk_words.specs.Openings.{Switch};
+ghost use Rattle.desk_words.specs.Openings.{KnownSwitch};
 ghost use Rattle.desk_words.specs.Histories.{Side};
 ghost use Rattle.switch_side.specs.Dispatches.{Surrounds, AllStand, AllNumbered, IsDispatch};
 ghost use Rattle.switch_side.specs.Carrying.{carried, telling, Called, AllCalled, carried_with, carried_for};
@@ -104,7 +104,7 @@ pub fn react(
 ) -> Result<Dispatch, AllocError>
     requires count { length states.now ≡ length policy.now.slices }
     requires index { index.now ≡ policy.now.rules }
-    ensures dispatch { (p : PolicyView) (switch : Switch) (sides : ℕ → Side) (moment : ℕ) → Surrounds p switch policy.now ports.now → AllStand p switch sides states.now → AllNumbered p switch sides → IfOk result (IsDispatch p switch sides moment frame.now) }
+    ensures dispatch { (p : PolicyView) (switch : KnownSwitch) (sides : ℕ → Side) (moment : ℕ) → Surrounds p switch policy.now ports.now → AllStand p switch sides states.now → AllNumbered p switch sides → IfOk result (IsDispatch p switch sides moment frame.now) }
 {
     // A policy has at most 32 slices.
     let _slices = policy.slices();

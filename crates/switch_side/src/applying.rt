@@ -5,10 +5,10 @@ ghost use Rattle.flow_book.specs.Books.{BookCall, BookStands};
 ghost use Rattle.flow_book.specs.Books as books;
 ghost use Rattle.slice_words.specs.Items.{Settings, Sight};
 ghost use Rattle.slice_words.specs.Standing.{SliceStands};
-ghost use Rattle.desk_words.specs.Openings.{Switch};
+ghost use Rattle.desk_words.specs.Openings.{KnownSwitch};
 ghost use Rattle.desk_words.specs.Histories.{Side};
 ghost use Rattle.switch_side.specs.declared.change.Change.TheVariants.{Failed, Collected, Finished, Given};
-ghost use Rattle.switch_side.specs.Changes.{IsMade, IsMadeAt, HasRoom, HasRoomAt, HaveRoom, StandOn, side_after};
+ghost use Rattle.switch_side.specs.Changes.{IsMade, IsMadeAt, StateHasRoom, StateHasRoomAt, StatesHaveRoom, StandOn, side_after};
 ghost use Rattle.switch_side.specs.Dispatches.{AllStand, AreChanges, told_at};
 
 use crate::change::Change;
@@ -23,7 +23,7 @@ const GIVEN: u64 = 1 << 62;
 
 /// Takes memory for so many more bytes of what the request of the number collects.
 fn make_space(state: &mut SliceState, number: u64, bytes: usize) -> Result<(), AllocError>
-    ensures room { OnOk result (collections.HasRoom number bytes state.new.collections) }
+    ensures room { OnOk result (collections.HasRoomToCollect number bytes state.new.collections) }
     ensures stands { (s : Settings) (sight : Sight) → SliceStands s sight state.old → SliceStands s sight state.new }
 {
     match u32::try_from(bytes) {
@@ -34,7 +34,7 @@ fn make_space(state: &mut SliceState, number: u64, bytes: usize) -> Result<(), A
 
 /// Makes the room that a change needs in the slice's state.
 fn make_room(state: &mut SliceState, change: &Change) -> Result<(), AllocError>
-    ensures room { OnOk result (HasRoom change.now state.new) }
+    ensures room { OnOk result (StateHasRoom change.now state.new) }
     ensures stands { (s : Settings) (sight : Sight) → SliceStands s sight state.old → SliceStands s sight state.new }
 {
     match change {
@@ -55,7 +55,7 @@ fn make_room(state: &mut SliceState, change: &Change) -> Result<(), AllocError>
 
 /// The same in the state at a place, if there is one.
 fn make_room_at(states: &mut [SliceState], place: usize, change: &Change) -> Result<(), AllocError>
-    ensures room { OnOk result (HasRoomAt place change.now states.new) }
+    ensures room { OnOk result (StateHasRoomAt place change.now states.new) }
     ensures stands { StandOn states.old states.new }
     ensures others { (other : ℕ) → (place == other) ≡ false → slice_get states.new other ≡ slice_get states.old other }
 {
@@ -69,7 +69,7 @@ fn make_room_at(states: &mut [SliceState], place: usize, change: &Change) -> Res
 /// there is none is answered as want of memory, and so are changes whose slots don't ascend.
 pub fn reserve(states: &mut [SliceState], changes: &[(u8, Change)]) -> Result<(), AllocError>
     ensures stands { StandOn states.old states.new }
-    ensures room { OnOk result (HaveRoom changes.now states.new) }
+    ensures room { OnOk result (StatesHaveRoom changes.now states.new) }
 {
     let mut next = 0;
     for (slot, change) in changes {
@@ -104,7 +104,7 @@ fn fail(state: &mut SliceState, number: u64, pair: Option<(Match, u16)>)
 
 /// What was held under the number is lost, and the packet that came under it is held.
 fn give(state: &mut SliceState, physical: u32, header: Header12)
-    requires { HasRoom (Given physical header) state.old }
+    requires { StateHasRoom (Given physical header) state.old }
     ensures { IsMade (Given physical header) state.old state.new }
 {
     state.buffers.lose(physical);
@@ -113,7 +113,7 @@ fn give(state: &mut SliceState, physical: u32, header: Header12)
 
 /// The entries came for the request of the number, which collects them.
 fn collect(state: &mut SliceState, number: u64, kind: AskKind, entries: &[u8])
-    requires { HasRoom (Collected number kind entries.now) state.old }
+    requires { StateHasRoom (Collected number kind entries.now) state.old }
     ensures { IsMade (Collected number kind entries.now) state.old state.new }
 {
     add_all(&mut state.collections, number, kind, entries);
@@ -129,7 +129,7 @@ fn finish(state: &mut SliceState, number: u64)
 
 /// Makes the change in the slice's state. Takes no memory.
 pub fn apply(state: &mut SliceState, change: Change)
-    requires { HasRoom change state.old }
+    requires { StateHasRoom change state.old }
     ensures { IsMade change state.old state.new }
 {
     match change {
@@ -151,7 +151,7 @@ pub fn apply(state: &mut SliceState, change: Change)
 
 /// Makes the change in the state of a slot, if there is one.
 fn apply_at(states: &mut Vec<SliceState>, slot: u8, change: Change)
-    requires { HasRoomAt slot change states.old.items }
+    requires { StateHasRoomAt slot change states.old.items }
     ensures { IsMadeAt slot change states.old.items states.new.items }
 {
     let place = usize::from(slot);
@@ -162,8 +162,8 @@ fn apply_at(states: &mut Vec<SliceState>, slot: u8, change: Change)
 
 /// Makes the changes of a message of the switch, each in the state of its slot. Takes no memory.
 pub fn apply_all(states: &mut Vec<SliceState>, changes: Vec<(u8, Change)>)
-    requires { HaveRoom changes.items states.old.items }
-    ensures stands { (p : PolicyView) (switch : Switch) (sides : ℕ → Side) (moment : ℕ) (message : List ℕ) → AllStand p switch sides states.old.items → AreChanges p switch sides moment message changes.items → AllStand p switch (λ slot. side_after p slot switch (sides slot) (told_at moment message)) states.new.items }
+    requires { StatesHaveRoom changes.items states.old.items }
+    ensures stands { (p : PolicyView) (switch : KnownSwitch) (sides : ℕ → Side) (moment : ℕ) (message : List ℕ) → AllStand p switch sides states.old.items → AreChanges p switch sides moment message changes.items → AllStand p switch (λ slot. side_after p slot switch (sides slot) (told_at moment message)) states.new.items }
     ensures count { length states.new.items ≡ length states.old.items }
 {
     for (slot, change) in changes {

@@ -1,7 +1,7 @@
 //! How entries of statistics come to what a request collects (OpenFlow 1.0.0, section 5.3.5).
 
 ghost use Rattle.std.specs.Prelude.{ℕ, ◌≡◌, ◌+◌, ◌∷◌, List, length};
-ghost use Rattle.xid_map.specs.Collections.{CollectionCall, HasRoom, CollectionsStand};
+ghost use Rattle.xid_map.specs.Collections.{CollectionCall, HasRoomToCollect, CollectionsStand};
 ghost use Rattle.stats_filter.specs.Keeping.{MayCome};
 ghost use Rattle.slice_words.specs.Statistics.{entry_call};
 ghost use Rattle.switch_side.specs.Collecting.{calls_with};
@@ -14,9 +14,9 @@ use xid_map::{AskKind, Collections};
 /// bytes do.
 fn add(collections: &mut Collections, number: u64, kind: AskKind, entry: &[u8])
     requires entry { MayCome kind entry.now }
-    requires room { HasRoom number (length entry.now) collections.old }
+    requires room { HasRoomToCollect number (length entry.now) collections.old }
     ensures stands { (calls : List CollectionCall) → CollectionsStand calls collections.old → CollectionsStand (entry_call kind number entry.now ∷ calls) collections.new }
-    ensures room { (more : ℕ) → HasRoom number (length entry.now + more) collections.old → HasRoom number more collections.new }
+    ensures room { (more : ℕ) → HasRoomToCollect number (length entry.now + more) collections.old → HasRoomToCollect number more collections.new }
 {
     match kind {
         AskKind::Aggregate => {
@@ -29,7 +29,7 @@ fn add(collections: &mut Collections, number: u64, kind: AskKind, entry: &[u8])
 
 /// Entries come, which stand one behind another, to what the request of a kind collects. Takes no memory.
 pub(crate) fn add_all(collections: &mut Collections, number: u64, kind: AskKind, entries: &[u8])
-    requires { HasRoom number (length entries.now) collections.old }
+    requires { HasRoomToCollect number (length entries.now) collections.old }
     ensures { (calls : List CollectionCall) → CollectionsStand calls collections.old → CollectionsStand (calls_with kind number entries.now calls) collections.new }
 {
     let Some(sent) = type_sent(kind) else {

@@ -7,7 +7,7 @@ ghost use Rattle.xid_map.specs.Collections.{CollectionCall, CollectionsStand, is
 ghost use Rattle.stats_filter.specs.Asking.{type_sent};
 ghost use Rattle.stats_filter.specs.Keeping.{entries_in};
 ghost use Rattle.stats_filter.specs.Replies.{replies_for};
-ghost use Rattle.stats_filter.specs.Laws.{AreSmall};
+ghost use Rattle.stats_filter.specs.Laws.{FitPages};
 ghost use Rattle.slice_words.specs.Statistics.{collected_replies};
 ghost use Rattle.switch_side.specs.Collecting.{calls_with, kept_within, with_kept, with_flow, with_flows, sums_in, sums_told};
 
@@ -59,7 +59,7 @@ fn with_last(
 
 /// Whether each of the entries, which stand one behind another, has place in one reply.
 fn are_small(kind: u16, entries: &[u8]) -> bool
-    ensures { result ≡ true → AreSmall (entries_in kind entries.now) }
+    ensures { result ≡ true → FitPages (entries_in kind entries.now) }
 {
     let mut rest = entries;
     while let Some(size) = entry_size(kind, rest) {

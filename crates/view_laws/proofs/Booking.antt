@@ -28,7 +28,7 @@ use Rattle.slice_words.specs.Calls.{request_for, bookings, failure, booked_by, b
 use Rattle.slice_words.specs.Alone.{answer_to}
 use Rattle.slice_words.specs.Standing.{past_of}
 use Rattle.view_laws.specs.Requests.{is_request, next_number}
-use Rattle.view_laws.specs.Bookings.{booking_after, IsBooked, BooksPiece, IsBookedBy, Books, Releases, IsLastBooked, IsFirstBooked}
+use Rattle.view_laws.specs.Bookings.{booking_after, IsBooked, CommandBooks, IsBookedBy, ItemBooks, ItemReleases, IsLastBookedIn, IsFirstBookedIn}
 use Rattle.view_laws.proofs.Making.{Making, made_over, all-append, all-one, made_by, none_acts, none_does}
 use Rattle.view_laws.proofs.Requesting.{requests_after, issued-requests}
 use Rattle.view_laws.proofs.Remembering.{remembered-found, found-remembered}
@@ -120,12 +120,12 @@ includes_none piece booked none pattern priority within = elim (cases_Bool (incl
       (rw any.3 (subst (λ (m : Pattern). includes_of piece m ≡ true) (sym same) includes))))
 ]
 
-piece_called : (s : Settings) (command : ℕ) (piece : Pattern) (priority : ℕ) (view : List Item) → BooksPiece s command piece priority view → calls.BooksPiece command piece priority (book_after s view)
+piece_called : (s : Settings) (command : ℕ) (piece : Pattern) (priority : ℕ) (view : List Item) → CommandBooks s command piece priority view → calls.BooksPiece command piece priority (book_after s view)
 piece_called s command piece priority view (inl add) = inl add
 piece_called s command piece priority view (inr (inl modify)) = inr (inl (modify.0, included_false piece (book (book_after s view)) modify.1))
 piece_called s command piece priority view (inr (inr strict)) = inr (inr (strict.0, booked_false s piece priority view strict.1))
 
-called_piece : (s : Settings) (command : ℕ) (piece : Pattern) (priority : ℕ) (view : List Item) → calls.BooksPiece command piece priority (book_after s view) → BooksPiece s command piece priority view
+called_piece : (s : Settings) (command : ℕ) (piece : Pattern) (priority : ℕ) (view : List Item) → calls.BooksPiece command piece priority (book_after s view) → CommandBooks s command piece priority view
 called_piece s command piece priority view (inl add) = inl add
 called_piece s command piece priority view (inr (inl modify)) = inr (inl (modify.0, includes_none piece (book (book_after s view)) modify.1))
 called_piece s command piece priority view (inr (inr strict)) = inr (inr (strict.0, λ within. both_ways (is_booked piece priority (book (book_after s view))) strict.1 within))
@@ -239,7 +239,7 @@ module _ (s : Settings) (pattern : Pattern) (priority : ℕ) where
   adding_books view item c h b =
       called_by view h.message h.moment h.m (next_number s view) h.read h.asks (subst (λ (d : BookCall). calls.Books pattern priority d (book_after s view)) h.is_call b)
 
-  books_called : (item : Item) (view : List Item) → Books s pattern priority item view → (c : BookCall) × (book_given s view item ≡ c ∷ []) × calls.Books pattern priority c (book_after s view)
+  books_called : (item : Item) (view : List Item) → ItemBooks s pattern priority item view → (c : BookCall) × (book_given s view item ≡ c ∷ []) × calls.Books pattern priority c (book_after s view)
   books_called (Msg message moment) view h =
       (adding_of s h.0 (next_number s view), sent_adds s view message moment h.0 h.1.read h.1.asks, by_called view message moment h.0 (next_number s view) h.1)
   books_called (Removed entry) view h = absurd h
@@ -256,10 +256,10 @@ module _ (s : Settings) (pattern : Pattern) (priority : ℕ) where
   books_called (Last x kind) view h = absurd h
   books_called End view h = absurd h
 
-  called_books : (item : Item) (view : List Item) (c : BookCall) → book_given s view item ≡ c ∷ [] → calls.Books pattern priority c (book_after s view) → Books s pattern priority item view
+  called_books : (item : Item) (view : List Item) (c : BookCall) → book_given s view item ≡ c ∷ [] → calls.Books pattern priority c (book_after s view) → ItemBooks s pattern priority item view
   called_books item view (books.Added command pieces at_priority wish number) is b =
       let h = adding_from s view item command pieces at_priority wish number is in
-      subst (λ (i : Item). Books s pattern priority i view) (sym h.is_message) (h.m, adding_books view item (books.Added command pieces at_priority wish number) h b)
+      subst (λ (i : Item). ItemBooks s pattern priority i view) (sym h.is_message) (h.m, adding_books view item (books.Added command pieces at_priority wish number) h b)
   called_books item view (books.Removed other at_priority) is b = absurd b
   called_books item view (books.Failed number other at_priority) is b = absurd b
 
@@ -269,7 +269,7 @@ module _ (s : Settings) (pattern : Pattern) (priority : ℕ) where
   failure_of None request pair is = cc
   failure_of (Some other) request pair is = (let same : other ≡ request = cc in ap (λ (r : Issued). books.Failed r.number pair.0 pair.1 ∷ []) same)
 
-  releases_called : (item : Item) (view : List Item) → Releases s pattern priority item view → (c : BookCall) × (book_given s view item ≡ c ∷ []) × calls.Releases pattern priority c (book_after s view)
+  releases_called : (item : Item) (view : List Item) → ItemReleases s pattern priority item view → (c : BookCall) × (book_given s view item ≡ c ∷ []) × calls.Releases pattern priority c (book_after s view)
   releases_called (Removed entry) view h = (books.Removed entry.pattern entry.priority, refl, h)
   releases_called (Fault x class code (Some pair)) view h =
       let request = h.2.0 in (
@@ -293,7 +293,7 @@ module _ (s : Settings) (pattern : Pattern) (priority : ℕ) where
 
   -- an error that makes a call which releases the pair
   failure_releases : (x class code : ℕ) (view : List Item) (found_one : Option Issued) (pair : Option (Pattern × ℕ)) (c : BookCall) → request_for s x (requests_after s view) ≡ found_one
-      → failure found_one pair ≡ c ∷ [] → calls.Releases pattern priority c (book_after s view) → Releases s pattern priority (Fault x class code pair) view
+      → failure found_one pair ≡ c ∷ [] → calls.Releases pattern priority c (book_after s view) → ItemReleases s pattern priority (Fault x class code pair) view
   failure_releases x class code view None pair c at is r = cc
   failure_releases x class code view (Some request) None c at is r = cc
   failure_releases x class code view (Some request) (Some pair) c at is r =
@@ -301,7 +301,7 @@ module _ (s : Settings) (pattern : Pattern) (priority : ℕ) where
       let h : calls.Releases pattern priority (books.Failed request.number pair.0 pair.1) (book_after s view) = subst (λ (d : BookCall). calls.Releases pattern priority d (book_after s view)) same r in
       (h.0, h.1, (request, found-remembered s view x request at, h.2))
 
-  called_releases : (item : Item) (view : List Item) (c : BookCall) → book_given s view item ≡ c ∷ [] → calls.Releases pattern priority c (book_after s view) → Releases s pattern priority item view
+  called_releases : (item : Item) (view : List Item) (c : BookCall) → book_given s view item ≡ c ∷ [] → calls.Releases pattern priority c (book_after s view) → ItemReleases s pattern priority item view
   called_releases (Msg message moment) view c is r =
       let h = message_adds s view message moment c is in
       absurd (subst (λ (d : BookCall). calls.Releases pattern priority d (book_after s view)) h.is_call r)
@@ -380,7 +380,7 @@ module _ (s : Settings) (pattern : Pattern) (priority : ℕ) where
   number_of : (m : FlowMod) (n command : ℕ) (pieces : List Pattern) (wish : Bool) (number : ℕ) → books.Added command pieces priority wish number ≡ adding_of s m n → n ≡ number
   number_of m n command pieces wish number e = cc
 
-  last_from : (wish : Bool) (view : List Item) → calls.IsLastBooked pattern priority wish (book_after s view) → IsLastBooked s pattern priority wish view
+  last_from : (wish : Bool) (view : List Item) → calls.IsLastBooked pattern priority wish (book_after s view) → IsLastBookedIn s pattern priority wish view
   last_from wish view h =
       let c = books.Added h.command h.pieces priority wish h.number in
       let b = booking_from view h.later h.command h.pieces priority wish h.number h.earlier h.split h.books in
@@ -393,11 +393,11 @@ module _ (s : Settings) (pattern : Pattern) (priority : ℕ) where
         split = b.split;
         books = b.is_booked_by;
         wishes = wish_of b.m (next_number s b.earlier) h.command h.pieces wish h.number b.is_call;
-        not_booked = none_later (calls.Books pattern priority) (Books s pattern priority) books_called view h.later c h.earlier b h.not_booked;
-        not_released = none_later (calls.Releases pattern priority) (Releases s pattern priority) releases_called view h.later c h.earlier b h.not_released;
+        not_booked = none_later (calls.Books pattern priority) (ItemBooks s pattern priority) books_called view h.later c h.earlier b h.not_booked;
+        not_released = none_later (calls.Releases pattern priority) (ItemReleases s pattern priority) releases_called view h.later c h.earlier b h.not_released;
       }
 
-  first_from : (number : ℕ) (view : List Item) → calls.IsFirstBooked pattern priority number (book_after s view) → IsFirstBooked s pattern priority number view
+  first_from : (number : ℕ) (view : List Item) → calls.IsFirstBooked pattern priority number (book_after s view) → IsFirstBookedIn s pattern priority number view
   first_from number view h =
       let c = books.Added h.command h.pieces priority h.wish number in
       let b = booking_from view h.later h.command h.pieces priority h.wish number h.earlier h.split h.books in
@@ -411,12 +411,12 @@ module _ (s : Settings) (pattern : Pattern) (priority : ℕ) where
         books = b.is_booked_by;
         numbered = number_of b.m (next_number s b.earlier) h.command h.pieces h.wish number b.is_call;
         unbooked = both_ways (is_booked pattern priority (book (book_after s b.earlier))) (subst (λ (l : List BookCall). is_booked pattern priority (book l) ≡ false) b.before h.unbooked);
-        not_released = none_later (calls.Releases pattern priority) (Releases s pattern priority) releases_called view h.later c h.earlier b h.not_released;
+        not_released = none_later (calls.Releases pattern priority) (ItemReleases s pattern priority) releases_called view h.later c h.earlier b h.not_released;
       }
 
   -- ---- from the items to the calls
 
-  last_called : (wish : Bool) (view : List Item) → IsLastBooked s pattern priority wish view → calls.IsLastBooked pattern priority wish (book_after s view)
+  last_called : (wish : Bool) (view : List Item) → IsLastBookedIn s pattern priority wish view → calls.IsLastBooked pattern priority wish (book_after s view)
   last_called wish view h =
       let base = Msg h.message h.moment ∷ h.earlier in
       let over = made_over BookCall (book_given s) (book_after s) (book_made s) h.later base in
@@ -435,23 +435,23 @@ module _ (s : Settings) (pattern : Pattern) (priority : ℕ) where
         split = ap (book_after s) h.split ∙ all-append BookCall (book_given s) (book_after s) (book_made s) h.later base ∙ ap (λ (l : List BookCall). over ++ l) based;
         books = subst (λ (c : BookCall). calls.Books pattern priority c (book_after s h.earlier)) call (by_called h.earlier h.message h.moment h.m number h.books);
         not_booked = subst (λ (l : List BookCall). NoneOf (calls.Books pattern priority) over l) based
-            (none_does BookCall (book_given s) (book_after s) (book_made s) (calls.Books pattern priority) (Books s pattern priority) called_books h.later base h.not_booked);
+            (none_does BookCall (book_given s) (book_after s) (book_made s) (calls.Books pattern priority) (ItemBooks s pattern priority) called_books h.later base h.not_booked);
         not_released = subst (λ (l : List BookCall). NoneOf (calls.Releases pattern priority) over l) based
-            (none_does BookCall (book_given s) (book_after s) (book_made s) (calls.Releases pattern priority) (Releases s pattern priority) called_releases h.later base h.not_released);
+            (none_does BookCall (book_given s) (book_after s) (book_made s) (calls.Releases pattern priority) (ItemReleases s pattern priority) called_releases h.later base h.not_released);
       }
 
   -- ---- the laws
 
-  pub booked-last : IsNormal pattern → (view : List Item) → IsBooked s pattern priority view → (wish : Bool) × IsLastBooked s pattern priority wish view
+  pub booked-last : IsNormal pattern → (view : List Item) → IsBooked s pattern priority view → (wish : Bool) × IsLastBookedIn s pattern priority wish view
   booked-last n view within =
       let f = found (is_pair pattern priority) (book (book_after s view)) within in
       (f.value.asked, last_from f.value.asked view (history pattern priority n (book_after s view) f.value f.is).0)
 
-  pub last-booked : (wish : Bool) (view : List Item) → IsLastBooked s pattern priority wish view → IsBooked s pattern priority view
+  pub last-booked : (wish : Bool) (view : List Item) → IsLastBookedIn s pattern priority wish view → IsBooked s pattern priority view
   last-booked wish view h = last_is_booked pattern priority wish (book_after s view) (last_called wish view h)
 
-  pub booking-last : IsNormal pattern → (view : List Item) (b : BookedPair) → booking_after s pattern priority view ≡ Some b → IsLastBooked s pattern priority b.asked view
+  pub booking-last : IsNormal pattern → (view : List Item) (b : BookedPair) → booking_after s pattern priority view ≡ Some b → IsLastBookedIn s pattern priority b.asked view
   booking-last n view b is = last_from b.asked view (history pattern priority n (book_after s view) b is).0
 
-  pub booking-first : IsNormal pattern → (view : List Item) (b : BookedPair) → booking_after s pattern priority view ≡ Some b → IsFirstBooked s pattern priority b.number view
+  pub booking-first : IsNormal pattern → (view : List Item) (b : BookedPair) → booking_after s pattern priority view ≡ Some b → IsFirstBookedIn s pattern priority b.number view
   booking-first n view b is = first_from b.number view (history pattern priority n (book_after s view) b is).1

@@ -8,7 +8,7 @@ use Rattle.byteorder.specs.Numbers.{big_from-bytes}
 use Rattle.of10_ctl.specs.declared.kind.TheConstants.{STATS_REQUEST, BARRIER_REQUEST, QUEUE_GET_CONFIG_REQUEST}
 use Rattle.of10_ctl.specs.Frames.{message_of}
 use Rattle.of10_stats.specs.declared.request.StatsRequest.{StatsRequest}
-use Rattle.of10_stats.specs.Requests.{kind_of, request_body, spell_request}
+use Rattle.of10_stats.specs.Requests.{statistics_kind, request_body, spell_request}
 use Rattle.of10_message.specs.Heads.{xid_of}
 use Rattle.stats_filter.specs.Asking.{asked_as}
 use Rattle.of10_model.specs.declared.pattern.Pattern.{Pattern}
@@ -17,9 +17,9 @@ use Rattle.of10_flow.specs.declared.packet_out.PacketOut.{PacketOut}
 use Rattle.flowmod_expand.specs.Messages.{piece_message, piece_messages, buffer_at}
 use Rattle.xid_map.specs.Requests.{physical_of, issued}
 use Rattle.slice_words.specs.Items.{Settings, Item, Opened, Up, Down, Msg, Lost, Handed, Removed, Status, Fault, Barrier, Queues, Entry, Last, End, is_up}
-use Rattle.slice_words.specs.Pasts.{Answer, Past, Outgoing, Modifies, SendsOut, Asks, silence}
+use Rattle.slice_words.specs.Pasts.{Answer, Past, Outgoing, Modifies, SendsOut, Asks, no_answer}
 use Rattle.slice_words.specs.Buffers.{HeldPacket}
-use Rattle.slice_words.specs.FlowMods.{Ground, ground_of, list_given, packet_at, packet_of, naming, carrier_of, flow_mods_on, pieces_on, lists_on, sent_on}
+use Rattle.slice_words.specs.FlowMods.{Ground, ground_of, list_given, packet_at, named_packet, naming, carrier_of, flow_mods_on, pieces_on, lists_on, sent_on}
 use Rattle.slice_words.specs.PacketOuts.{permitted_out, sent_out_with, packet_out_on, sent_out}
 use Rattle.slice_words.specs.Questions.{asking}
 use Rattle.slice_words.specs.Answers.{message_answer}
@@ -50,7 +50,7 @@ naming_under xid carrier place (m ∷ others) each =
     (naming_under xid carrier (place + 1) others (All-tail (λ (sent : FlowMod). sent.xid ≡ xid) m others each))
 
 on_under : (g : Ground) (m : FlowMod) → All (IsUnder g.xid) (sent_on g m)
-on_under g m = naming_under g.xid (carrier_of (packet_of g m) (pieces_on g m)) 0 (flow_mods_on g m) (each_under 0 m g.xid (pieces_on g m) (lists_on g m) None)
+on_under g m = naming_under g.xid (carrier_of (named_packet g m) (pieces_on g m)) 0 (flow_mods_on g m) (each_under 0 m g.xid (pieces_on g m) (lists_on g m) None)
 
 out_with_under : (packet : Option HeldPacket) (g : Ground) (m : PacketOut) (actions : List Action) → (sent_out_with packet g m actions).xid ≡ g.xid
 out_with_under None g m actions = refl
@@ -65,7 +65,7 @@ xid-message kind xid body = big_from-bytes 4 xid body
 
 xid-request : (request : StatsRequest) (xid : ℕ) → xid_of (spell_request request xid) ≡ xid % 4294967296
 unfolding spell_request
-xid-request request xid = xid-message STATS_REQUEST xid (big_bytes 2 (kind_of request) ++ big_bytes 2 0 ++ request_body request)
+xid-request request xid = xid-message STATS_REQUEST xid (big_bytes 2 (statistics_kind request) ++ big_bytes 2 0 ++ request_body request)
 
 asking_under : (xid : ℕ) (question : List ℕ) → xid_of question ≡ xid % 4294967296 → All (IsUnder xid) (asking question).to_switch
 asking_under xid question is = All-cons (IsUnder xid) (Asks question) [] is (All-nil (IsUnder xid))
@@ -95,7 +95,7 @@ message_under s view past moment message =
       asks_queues = λ queues read own. asking_under (ground_of s view past).xid _ (xid-message QUEUE_GET_CONFIG_REQUEST (ground_of s view past).xid queues.body);
     })
 
-while_up : (up : Bool) (xid : ℕ) (a : Answer) → All (IsUnder xid) a.to_switch → All (IsUnder xid) (if up then a else silence).to_switch
+while_up : (up : Bool) (xid : ℕ) (a : Answer) → All (IsUnder xid) a.to_switch → All (IsUnder xid) (if up then a else no_answer).to_switch
 while_up true xid a under = under
 while_up false xid a under = All-nil (IsUnder xid)
 

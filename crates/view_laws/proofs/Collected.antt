@@ -12,7 +12,7 @@ use Rattle.xid_map.specs.Collections.{CollectionCall, Start, Finish, EndAll}
 use Rattle.stats_filter.specs.Asking.{question_for}
 use Rattle.slice_words.specs.Messages.{Reading, is_dismissing, kind_asked}
 use Rattle.slice_words.specs.Items.{Settings, Item, Opened, Up, Down, Msg, Lost, Handed, Removed, Status, Fault, Barrier, Queues, Entry, Last, End, is_up}
-use Rattle.slice_words.specs.Pasts.{Answer, Past, silence, is_any}
+use Rattle.slice_words.specs.Pasts.{Answer, Past, no_answer, is_any}
 use Rattle.slice_words.specs.Statistics.{asks_statistics, collects, begun, entry_call, entry_kept, finished}
 use Rattle.slice_words.specs.Calls.{request_for, collected_by, collection_calls}
 use Rattle.slice_words.specs.FlowMods.{ground_of}
@@ -129,7 +129,7 @@ table_puts_nothing s view past moment message is =
     not_table (statistics.Port port) question read asks = true≢false (sym is ∙ ap asks_table read)
     not_table (statistics.Queue port queue) question read asks = true≢false (sym is ∙ ap asks_table read)
 
-while_up : (up : Bool) (a : Answer) → a.to_switch ≡ [] → is_any (if up then a else silence).to_switch ≡ false
+while_up : (up : Bool) (a : Answer) → a.to_switch ≡ [] → is_any (if up then a else no_answer).to_switch ≡ false
 while_up true a nothing = ap is_any nothing
 while_up false a nothing = refl
 

@@ -18,7 +18,7 @@ use Rattle.xid_map.specs.declared.asked.AskKind.TheVariants as kinds
 use Rattle.xid_map.specs.declared.asked.Asked.{Asked}
 use Rattle.xid_map.specs.declared.asked.Issued.{Issued}
 use Rattle.xid_map.specs.Requests.{issued}
-use Rattle.xid_map.specs.Collections.{CollectionCall, Start, Add, Sum, Finish, EndAll, is_among, collecting, begins, since, added, summed, joined, kept, Gathered, gathered}
+use Rattle.xid_map.specs.Collections.{CollectionCall, Start, Add, Sum, Finish, EndAll, is_among, collecting, begins, since, added, summed, joined_entries, kept_run, Gathered, gathered}
 use Rattle.xid_map.specs.Laws.{NoneOf}
 use Rattle.xid_map.proofs.Gathering.{since-goes_on}
 use Rattle.xid_map.proofs.Standing.{begins_not}
@@ -30,7 +30,7 @@ use Rattle.slice_words.specs.Statistics.{asks_statistics, collects, begun, entry
 use Rattle.slice_words.specs.Calls.{request_for}
 use Rattle.slice_words.specs.Alone.{answer_to}
 use Rattle.view_laws.specs.Requests.{is_request, requests_in, next_number, remembered_for, IsRemembered}
-use Rattle.view_laws.specs.Collecting.{Collects, IsFor, IsStatistics, Ends, IsCollecting}
+use Rattle.view_laws.specs.Collecting.{Collects, IsFor, IsStatistics, ItemEndsCollecting, IsCollectingIn}
 use Rattle.view_laws.specs.Gathering.{gathered_after, is_for, entry_for, entries_for, IsLongestPrefix, IsGatheredOf}
 use Rattle.view_laws.proofs.Requesting.{requests_after, requests-later, request-place}
 use Rattle.view_laws.proofs.Remembering.{remembered-found, found-remembered}
@@ -44,8 +44,8 @@ abbrev turned : List (List ℕ) → List (List ℕ)
 turned [] = []
 turned (entry ∷ earlier) = turned earlier ++ (entry ∷ [])
 
-joined-turned : (entries : List (List ℕ)) → joined entries ≡ concat (turned entries)
-unfolding joined
+joined-turned : (entries : List (List ℕ)) → joined_entries entries ≡ concat (turned entries)
+unfolding joined_entries
 joined-turned [] = refl
 joined-turned (entry ∷ earlier) =
     ap (λ (bytes : List ℕ). bytes ++ entry) (joined-turned earlier)
@@ -53,7 +53,7 @@ joined-turned (entry ∷ earlier) =
     ∙ sym (concat-append (turned earlier) (entry ∷ []))
 
 -- with an entry more the bytes pass the limit: so they do with all, and with as many as before
-longer : (entry : List ℕ) (earlier : List (List ℕ)) (count : ℕ) → 524288 < length (joined (entry ∷ earlier))
+longer : (entry : List ℕ) (earlier : List (List ℕ)) (count : ℕ) → 524288 < length (joined_entries (entry ∷ earlier))
     → ((more : ℕ) → count < more → more ≤ length (turned earlier) → 524288 < length (concat (take more (turned earlier))))
     → (more : ℕ) → count < more → more ≤ length (turned earlier ++ (entry ∷ [])) → 524288 < length (concat (take more (turned earlier ++ (entry ∷ []))))
 longer entry earlier count all rest more later few = elim (cases_lt (length (turned earlier)) more) [
@@ -66,18 +66,18 @@ longer entry earlier count all rest more later few = elim (cases_lt (length (tur
       subst (λ (entries : List (List ℕ)). 524288 < length (concat entries)) (sym (take-append-le more (turned earlier) (entry ∷ []) within)) (rest more later within)
 ]
 
-kept-longest : (entries : List (List ℕ)) → IsLongestPrefix (turned entries) (kept entries)
-unfolding kept joined
+kept-longest : (entries : List (List ℕ)) → IsLongestPrefix (turned entries) (kept_run entries)
+unfolding kept_run joined_entries
 kept-longest [] = record { count = 0; some = omega arith; is_prefix = refl; within = omega arith; longest = λ more later few. absurd (omega (arith, later, few)) }
 kept-longest (entry ∷ earlier) =
     let before = kept-longest earlier in
     let entries = turned earlier ++ (entry ∷ []) in
-    elim (cases_Bool (nat_le (length (joined earlier ++ entry)) 524288)) [
+    elim (cases_Bool (nat_le (length (joined_entries earlier ++ entry)) 524288)) [
       | inl fits ↦ rw fits (record {
         count = length entries;
         some = omega arith;
         is_prefix = joined-turned (entry ∷ earlier) ∙ ap concat (sym (take-length entries));
-        within = leb-true (length (joined earlier ++ entry)) 524288 fits;
+        within = leb-true (length (joined_entries earlier ++ entry)) 524288 fits;
         longest = λ more later few. absurd (omega (arith, later, few));
       })
       | inr passes ↦ rw passes (record {
@@ -85,7 +85,7 @@ kept-longest (entry ∷ earlier) =
         some = omega (arith, before.some, length-append (turned earlier) (entry ∷ []));
         is_prefix = before.is_prefix ∙ ap concat (sym (take-append-le before.count (turned earlier) (entry ∷ []) before.some));
         within = before.within;
-        longest = longer entry earlier before.count (leb-false (length (joined earlier ++ entry)) 524288 passes) before.longest;
+        longest = longer entry earlier before.count (leb-false (length (joined_entries earlier ++ entry)) 524288 passes) before.longest;
       })
     ]
 
@@ -373,7 +373,7 @@ module _ (s : Settings) (number : ℕ) (message : List ℕ) (moment : ℕ) (earl
   item_more later (Queues x body) own entries is within h = quiet_more [] own entries (quiet_none number) h
   item_more later End own entries is within h = quiet_more [] own entries (quiet_none number) h
 
-  collects_after : (later : List Item) → NoneOf (Ends s number) later base → Collects s number (later ++ base)
+  collects_after : (later : List Item) → NoneOf (ItemEndsCollecting s number) later base → Collects s number (later ++ base)
   collects_after later none = collects-IsCollecting s (later ++ base) number (record {
     later = later;
     message = message;
@@ -397,7 +397,7 @@ module _ (s : Settings) (number : ℕ) (message : List ℕ) (moment : ℕ) (earl
       let nothing : entries_for s number asked base ≡ [] = append-nil (entries_for s number asked earlier) ∙ none_before s earlier number asked (omega (arith, numbered)) in
       rw (started, since_begun number calls out, nothing) none_first
 
-  pub held_through : (later : List Item) → NoneOf (Ends s number) later base → HoldsOf (since number (collections_after s (later ++ base))) (entries_for s number asked (later ++ base))
+  pub held_through : (later : List Item) → NoneOf (ItemEndsCollecting s number) later base → HoldsOf (since number (collections_after s (later ++ base))) (entries_for s number asked (later ++ base))
   held_through [] none = at_first
   held_through (item ∷ later) none =
       let view = later ++ base in
@@ -415,9 +415,9 @@ gathered_sums number calls entries h = (ap (λ (n : ℕ). n % 2 ^ 64) h.0, ap (�
 
 gathered_entries : (number : ℕ) (calls : List CollectionCall) (entries : List (List ℕ)) → turned (added number (since number calls)) ≡ entries → IsLongestPrefix entries (gathered number calls).entries
 unfolding gathered
-gathered_entries number calls entries is = subst (λ (es : List (List ℕ)). IsLongestPrefix es (kept (added number (since number calls)))) is (kept-longest (added number (since number calls)))
+gathered_entries number calls entries is = subst (λ (es : List (List ℕ)). IsLongestPrefix es (kept_run (added number (since number calls)))) is (kept-longest (added number (since number calls)))
 
-gathered_so : (s : Settings) (view : List Item) (number : ℕ) (h : IsCollecting s number view) (asked : AskKind) → asked ≡ kind_asked (read_controller h.message)
+gathered_so : (s : Settings) (view : List Item) (number : ℕ) (h : IsCollectingIn s number view) (asked : AskKind) → asked ≡ kind_asked (read_controller h.message)
     → ((Holds : List (List ℕ) → List (ℕ × ℕ) → List (List ℕ) → Type 0) → IsKeptBy number asked Holds → Holds (added number (since number (collections_after s view))) (summed number (since number (collections_after s view))) (entries_for s number asked view))
     → IsGatheredOf asked (entries_for s number asked view) (gathered_after s number view)
 gathered_so s view number h asked is holds = elim (cases_kind asked) [
@@ -429,7 +429,7 @@ gathered_so s view number h asked is holds = elim (cases_kind asked) [
       (gathered_entries number (collections_after s view) (entries_for s number asked view) (holds AreThese (these_kept number asked single)))
 ]
 
-pub collecting-gathered : (s : Settings) (view : List Item) (number : ℕ) (h : IsCollecting s number view)
+pub collecting-gathered : (s : Settings) (view : List Item) (number : ℕ) (h : IsCollectingIn s number view)
     → IsGatheredOf (kind_asked (read_controller h.message)) (entries_for s number (kind_asked (read_controller h.message)) view) (gathered_after s number view)
 collecting-gathered s view number h =
     let asked = kind_asked (read_controller h.message) in

@@ -9,11 +9,11 @@ use Rattle.slice_words.specs.Messages.{is_dismissing}
 use Rattle.slice_words.specs.Items.{Settings, Share, Writer, Reader, Probe, Packet, Item, Opened, Up, Down, Msg, Lost, Handed, Removed, Status, Fault, Barrier, Queues, Entry, Last, End, is_forgetting, is_buffered, buffered_count}
 use Rattle.slice_words.specs.Pasts.{view_in}
 use Rattle.slice_words.specs.Answers.{answer}
-use Rattle.slice_words.specs.Buffers.{HeldPacket, packet_header, is_named, is_recent, held_after}
+use Rattle.slice_words.specs.Buffers.{HeldPacket, packet_header, is_named, is_recent_packet, held_after}
 use Rattle.slice_words.specs.Alone.{answer_to}
 use Rattle.slice_words.specs.Standing.{past_of}
 use Rattle.slice_words.proofs.Holding.{IsRecent, recent, found_holds, one_of_number, view_in-played}
-use Rattle.view_laws.specs.Packets.{held_in, held_at, is_loss_of, is_use_of, is_used, IsHeld}
+use Rattle.view_laws.specs.Packets.{held_in, held_at, is_loss_of, is_use_of, is_used, IsHeldIn}
 
 -- ---- what a list and a filter contain
 
@@ -159,7 +159,7 @@ given_or_left s view (Lost k) held c =
     inr (kept.1, record { not_forgotten = refl; not_lost = untrue (held.ordinal == k) kept.0; not_used = refl })
 given_or_left s view (Handed packet) held c =
     let own : HeldPacket = record { ordinal = buffered_count view; header = packet_header packet } in
-    elim (after_packet (is_buffered packet.share) own (is_recent (buffered_count view + 1)) (held_in s view) held c) [
+    elim (after_packet (is_buffered packet.share) own (is_recent_packet (buffered_count view + 1)) (held_in s view) held c) [
       | inl here ↦ inl (record {
         packet = packet;
         is_item = refl;
@@ -186,7 +186,7 @@ is_late s view held c =
     subst (λ (items : List Item). IsRecent (buffered_count items) held) (view_in-played (answer s) view)
     (All-contains (IsRecent (buffered_count (view_in (past_of s view)))) (held_in s view) held (recent (past_of s view)) c)
 
-pub contained-IsHeld : (s : Settings) (view : List Item) (held : HeldPacket) → Contains (held_in s view) held → IsHeld s view held
+pub contained-IsHeld : (s : Settings) (view : List Item) (held : HeldPacket) → Contains (held_in s view) held → IsHeldIn s view held
 contained-IsHeld s [] held c = absurd (omega (arith, c.1))
 contained-IsHeld s (item ∷ view) held c = elim (given_or_left s view item held (subst (λ (packets : List HeldPacket). Contains packets held) (held_next s item view) c)) [
   | inl here ↦ record {
@@ -228,9 +228,9 @@ through_message true p packets held goes_on stays c = absurd (true≢false goes_
 through_message false p packets held goes_on stays c = contains_filter p packets held c stays
 
 through_packet : (given : Bool) (own : HeldPacket) (count : ℕ) (packets : List HeldPacket) (held : HeldPacket) → (if given then count + 1 else count) ≤ held.ordinal + 256 → Contains packets held
-    → Contains (if given then own ∷ filter (is_recent (count + 1)) packets else packets) held
+    → Contains (if given then own ∷ filter (is_recent_packet (count + 1)) packets else packets) held
 through_packet true own count packets held late c =
-    contains_later own (filter (is_recent (count + 1)) packets) held (contains_filter (is_recent (count + 1)) packets held c (le-leb (count + 1) (held.ordinal + 256) late))
+    contains_later own (filter (is_recent_packet (count + 1)) packets) held (contains_filter (is_recent_packet (count + 1)) packets held c (le-leb (count + 1) (held.ordinal + 256) late))
 through_packet false own count packets held late c = c
 
 stays_held : (s : Settings) (view : List Item) (item : Item) (held : HeldPacket) → is_forgetting item ≡ false → is_loss_of held.ordinal item ≡ false → is_use_of s held.ordinal view item ≡ false
@@ -262,7 +262,7 @@ module _ (s : Settings) (packet : Packet) (earlier : List Item) (held : HeldPack
   held_through [] kept there unused late =
       let own : HeldPacket = record { ordinal = buffered_count earlier; header = packet_header packet } in
       subst (λ (packets : List HeldPacket). Contains packets held) (sym (held_next s (Handed packet) earlier))
-      (just_given (is_buffered packet.share) own (filter (is_recent (buffered_count earlier + 1)) (held_in s earlier)) (held_in s earlier) held (ap is_buffered given) (as_held held own counted header))
+      (just_given (is_buffered packet.share) own (filter (is_recent_packet (buffered_count earlier + 1)) (held_in s earlier)) (held_in s earlier) held (ap is_buffered given) (as_held held own counted header))
   held_through (item ∷ later) kept there unused late =
       let view = later ++ (Handed packet ∷ earlier) in
       let goes_on = or_parts (is_forgetting item) (list_any is_forgetting later) kept in
@@ -272,7 +272,7 @@ module _ (s : Settings) (packet : Packet) (earlier : List Item) (held : HeldPack
       (stays_held s view item held goes_on.0 not_lost.0 not_used.0 late
       (held_through later goes_on.1 not_lost.1 not_used.1 (omega (arith, late, count_more item view))))
 
-pub IsHeld-contained : (s : Settings) (view : List Item) (held : HeldPacket) → IsHeld s view held → Contains (held_in s view) held
+pub IsHeld-contained : (s : Settings) (view : List Item) (held : HeldPacket) → IsHeldIn s view held → Contains (held_in s view) held
 IsHeld-contained s view held h =
     subst (λ (v : List Item). Contains (held_in s v) held) (sym h.split)
     (held_through s h.packet h.earlier held h.given h.counted h.header h.later h.not_forgotten h.not_lost h.not_used
@@ -294,7 +294,7 @@ same_packet (item ∷ later) one earlier (item' ∷ before) other behind e first
     let rest : later ++ (Handed one ∷ earlier) ≡ before ++ (Handed other ∷ behind) = cc in
     same_packet later one earlier before other behind rest first second same
 
-same_held : (s : Settings) (view : List Item) (one other : HeldPacket) → IsHeld s view one → IsHeld s view other → one.ordinal ≡ other.ordinal → one ≡ other
+same_held : (s : Settings) (view : List Item) (one other : HeldPacket) → IsHeldIn s view one → IsHeldIn s view other → one.ordinal ≡ other.ordinal → one ≡ other
 same_held s view one other h k same =
     let packet = same_packet h.later h.packet h.earlier k.later k.packet k.earlier (sym h.split ∙ k.split) (ap is_buffered h.given) (ap is_buffered k.given) (sym h.counted ∙ same ∙ k.counted) in
     as_held other one (sym same) (k.header ∙ ap packet_header (sym packet) ∙ sym h.header)
@@ -302,12 +302,12 @@ same_held s view one other h k same =
 numbered : (held : HeldPacket) (number : ℕ) → (held.ordinal % 2 ^ 24 == number) ≡ true → held.ordinal % 2 ^ 24 ≡ number
 numbered held number is = elim (eqb_tells (held.ordinal % 2 ^ 24) number) [ inl holds ↦ holds.1 | inr fails ↦ absurd (true≢false (sym is ∙ fails.0)) ]
 
-pub found-IsHeld : (s : Settings) (view : List Item) (number : ℕ) (held : HeldPacket) → held_at s view number ≡ Some held → IsHeld s view held × (held.ordinal % 2 ^ 24 ≡ number)
+pub found-IsHeld : (s : Settings) (view : List Item) (number : ℕ) (held : HeldPacket) → held_at s view number ≡ Some held → IsHeldIn s view held × (held.ordinal % 2 ^ 24 ≡ number)
 found-IsHeld s view number held is =
     let this = found_holds (Contains (held_in s view)) (λ (packet : HeldPacket). packet.ordinal % 2 ^ 24 == number) (held_in s view) held (All-contains_itself (held_in s view)) is in
     (contained-IsHeld s view held this.0, numbered held number this.1)
 
-pub IsHeld-found : (s : Settings) (view : List Item) (number : ℕ) (held : HeldPacket) → IsHeld s view held × (held.ordinal % 2 ^ 24 ≡ number) → held_at s view number ≡ Some held
+pub IsHeld-found : (s : Settings) (view : List Item) (number : ℕ) (held : HeldPacket) → IsHeldIn s view held × (held.ordinal % 2 ^ 24 ≡ number) → held_at s view number ≡ Some held
 IsHeld-found s view number held (h, own) =
     let there = IsHeld-contained s view held h in
     find_only (λ (packet : HeldPacket). packet.ordinal % 2 ^ 24 == number) (held_in s view) held there (eq-eqb (held.ordinal % 2 ^ 24) number own)

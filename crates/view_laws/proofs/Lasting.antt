@@ -22,7 +22,7 @@ use Rattle.slice_words.specs.Statistics.{asks_statistics, collects, entry_call, 
 use Rattle.slice_words.specs.Calls.{request_for}
 use Rattle.slice_words.specs.Alone.{answer_to}
 use Rattle.view_laws.specs.Requests.{is_request, requests_in, next_number}
-use Rattle.view_laws.specs.Collecting.{Collects, IsStatistics, Ends, IsCollecting}
+use Rattle.view_laws.specs.Collecting.{Collects, IsStatistics, ItemEndsCollecting, IsCollectingIn}
 use Rattle.view_laws.proofs.Making.{made_over, all-one, made_by, none_acts}
 use Rattle.view_laws.proofs.Requesting.{requests_after}
 use Rattle.view_laws.proofs.Remembering.{remembered-found, found-remembered}
@@ -161,7 +161,7 @@ ends_all true puts number kind is = refl
 ends_all false puts number kind is = absurd (true≢false (sym is))
 
 -- an item that ends it makes a call that does
-ends_called : (s : Settings) (number : ℕ) (item : Item) (view : List Item) → Ends s number item view → (c : CollectionCall) × (collections_given s view item ≡ c ∷ []) × calls.Ends number c (collections_after s view)
+ends_called : (s : Settings) (number : ℕ) (item : Item) (view : List Item) → ItemEndsCollecting s number item view → (c : CollectionCall) × (collections_given s view item ≡ c ∷ []) × calls.EndsCollecting number c (collections_after s view)
 ends_called s number Up view is = (EndAll, refl, tt)
 ends_called s number Down view is = (EndAll, refl, tt)
 ends_called s number (Msg message moment) view (inl ending) =
@@ -208,7 +208,7 @@ message_is : (dismissing puts : Bool) (number : ℕ) (kind : AskKind) (c : Colle
 message_is true puts number kind c is = inl refl
 message_is false puts number kind c is = inr (begun_is puts (asks_statistics kind) number c is)
 
-entry_ends_nothing : (kind : AskKind) (of number : ℕ) (entry : List ℕ) (these : List CollectionCall) → calls.Ends number (entry_call kind of entry) these → ⊥
+entry_ends_nothing : (kind : AskKind) (of number : ℕ) (entry : List ℕ) (these : List CollectionCall) → calls.EndsCollecting number (entry_call kind of entry) these → ⊥
 entry_ends_nothing kinds.FlowMod of number entry these is = is
 entry_ends_nothing kinds.PacketOut of number entry these is = is
 entry_ends_nothing kinds.Barrier of number entry these is = is
@@ -219,18 +219,18 @@ entry_ends_nothing kinds.Aggregate of number entry these is = is
 entry_ends_nothing kinds.Port of number entry these is = is
 entry_ends_nothing kinds.Queue of number entry these is = is
 
-kept_ends_nothing : (found : Option Issued) (kind number : ℕ) (entry : List ℕ) (these : List CollectionCall) (c : CollectionCall) → entry_kept found kind entry these ≡ c ∷ [] → calls.Ends number c these → ⊥
+kept_ends_nothing : (found : Option Issued) (kind number : ℕ) (entry : List ℕ) (these : List CollectionCall) (c : CollectionCall) → entry_kept found kind entry these ≡ c ∷ [] → calls.EndsCollecting number c these → ⊥
 kept_ends_nothing None kind number entry these c is ends_ = cc
 kept_ends_nothing (Some request) kind number entry these c is ends_ = by_test (collects request kind these) is
   where
     by_test : (b : Bool) → (if b then entry_call request.asked.kind request.number entry ∷ [] else []) ≡ c ∷ [] → ⊥
     by_test true same =
         let call : c ≡ entry_call request.asked.kind request.number entry = cc in
-        entry_ends_nothing request.asked.kind request.number number entry these (subst (λ (k : CollectionCall). calls.Ends number k these) call ends_)
+        entry_ends_nothing request.asked.kind request.number number entry these (subst (λ (k : CollectionCall). calls.EndsCollecting number k these) call ends_)
     by_test false same = cc
 
 -- of a request that collects, a call that ends it is made by an item that does
-called_ends : (s : Settings) (number : ℕ) (item : Item) (view : List Item) (c : CollectionCall) → collections_given s view item ≡ c ∷ [] → Collects s number view → calls.Ends number c (collections_after s view) → Ends s number item view
+called_ends : (s : Settings) (number : ℕ) (item : Item) (view : List Item) (c : CollectionCall) → collections_given s view item ≡ c ∷ [] → Collects s number view → calls.EndsCollecting number c (collections_after s view) → ItemEndsCollecting s number item view
 called_ends s number Up view c is own ends_ = tt
 called_ends s number Down view c is own ends_ = tt
 called_ends s number (Msg message moment) view c is own ends_ =
@@ -239,7 +239,7 @@ called_ends s number (Msg message moment) view c is own ends_ =
       | inl dismissing ↦ inl dismissing
       | inr (puts, asks, starts) ↦
           let asked = statistics_read (read_controller message) asks in
-          let ends_now = subst (λ (k : CollectionCall). calls.Ends number k (collections_after s view)) starts ends_ in
+          let ends_now = subst (λ (k : CollectionCall). calls.EndsCollecting number k (collections_after s view)) starts ends_ in
           inr (record { request = asked.0; read = asked.1; asks = puts }, record { collects = own; eight = ends_now.1; is_first = least ends_now.2 })
     ]
   where
@@ -250,10 +250,10 @@ called_ends s number (Msg message moment) view c is own ends_ =
     ]
 called_ends s number (Fault x class code pair) view c is own ends_ =
     let this = finished_is true (request_for s x (requests_after s view)) c is in
-    (this.1.0, found-remembered s view x this.1.0 this.1.1, subst (λ (k : CollectionCall). calls.Ends number k (collections_after s view)) this.1.2 ends_)
+    (this.1.0, found-remembered s view x this.1.0 this.1.1, subst (λ (k : CollectionCall). calls.EndsCollecting number k (collections_after s view)) this.1.2 ends_)
 called_ends s number (Last x kind) view c is own ends_ =
     let this = finished_is (is_any (answer_to s view (Last x kind)).to_slice) (request_for s x (requests_after s view)) c is in
-    (this.0, (this.1.0, found-remembered s view x this.1.0 this.1.1, subst (λ (k : CollectionCall). calls.Ends number k (collections_after s view)) this.1.2 ends_))
+    (this.0, (this.1.0, found-remembered s view x this.1.0 this.1.1, subst (λ (k : CollectionCall). calls.EndsCollecting number k (collections_after s view)) this.1.2 ends_))
 called_ends s number (Entry x kind entry) view c is own ends_ = absurd (kept_ends_nothing (request_for s x (requests_after s view)) kind number entry (collections_after s view) c is ends_)
 called_ends s number (Opened features) view c is own ends_ = cc
 called_ends s number (Lost k) view c is own ends_ = cc
@@ -267,7 +267,7 @@ called_ends s number End view c is own ends_ = cc
 -- ---- from the message on
 
 -- a request that collects goes on with a call that doesn't end it
-call_goes_on : (number : ℕ) (c : CollectionCall) (these : List CollectionCall) → (calls.Ends number c these → ⊥) → is_among number (collecting these) ≡ true → is_among number (collecting (c ∷ these)) ≡ true
+call_goes_on : (number : ℕ) (c : CollectionCall) (these : List CollectionCall) → (calls.EndsCollecting number c these → ⊥) → is_among number (collecting these) ≡ true → is_among number (collecting (c ∷ these)) ≡ true
 call_goes_on number c these not_ended own =
     let h = IsCollecting-collecting number these own in
     collecting-IsCollecting number (c ∷ these) (record {
@@ -275,10 +275,10 @@ call_goes_on number c these not_ended own =
       earlier = h.earlier;
       split = ap (λ (rest : List CollectionCall). c ∷ rest) h.split;
       began = h.began;
-      not_ended = (subst (λ (l : List CollectionCall). calls.Ends number c l → ⊥) h.split not_ended, h.not_ended);
+      not_ended = (subst (λ (l : List CollectionCall). calls.EndsCollecting number c l → ⊥) h.split not_ended, h.not_ended);
     })
 
-item_goes_on : (s : Settings) (number : ℕ) (item : Item) (view : List Item) → (Ends s number item view → ⊥) → Collects s number view → Collects s number (item ∷ view)
+item_goes_on : (s : Settings) (number : ℕ) (item : Item) (view : List Item) → (ItemEndsCollecting s number item view → ⊥) → Collects s number view → Collects s number (item ∷ view)
 item_goes_on s number item view not_ended own = elim (collection_one s view item) [
   | inl nothing ↦ subst (λ (these : List CollectionCall). is_among number (collecting (these ++ collections_after s view)) ≡ true) (sym nothing) own
   | inr (c, is) ↦
@@ -306,15 +306,15 @@ begins_there s earlier message moment asks =
       not_ended = tt;
     }))
 
-pub collects-IsCollecting : (s : Settings) (view : List Item) (number : ℕ) → IsCollecting s number view → Collects s number view
+pub collects-IsCollecting : (s : Settings) (view : List Item) (number : ℕ) → IsCollectingIn s number view → Collects s number view
 collects-IsCollecting s view number h =
     subst (λ (v : List Item). Collects s number v) (sym h.split)
-    (kept_through (Ends s number) (Collects s number) (item_goes_on s number) h.later (Msg h.message h.moment ∷ h.earlier) h.not_ended
+    (kept_through (ItemEndsCollecting s number) (Collects s number) (item_goes_on s number) h.later (Msg h.message h.moment ∷ h.earlier) h.not_ended
     (subst (λ (n : ℕ). Collects s n (Msg h.message h.moment ∷ h.earlier)) (sym h.numbered) (begins_there s h.earlier h.message h.moment h.asks)))
 
 -- ---- back to it
 
-pub IsCollecting-collects : (s : Settings) (view : List Item) (number : ℕ) → Collects s number view → IsCollecting s number view
+pub IsCollecting-collects : (s : Settings) (view : List Item) (number : ℕ) → Collects s number view → IsCollectingIn s number view
 IsCollecting-collects s view number own =
     let h = IsCollecting-collecting number (collections_after s view) own in
     let m = made_by CollectionCall (collections_given s) (collections_after s) (collections_made s) view h.later (Start number) h.earlier h.split in
@@ -323,8 +323,8 @@ IsCollecting-collects s view number own =
     let over = made_over CollectionCall (collections_given s) (collections_after s) (collections_made s) m.later base in
     let same : Start number ∷ h.earlier ≡ collections_after s base =
     ap (λ (these : List CollectionCall). Start number ∷ these) m.before ∙ sym (all-one CollectionCall (collections_given s) (collections_after s) (collections_made s) m.item m.earlier (Start number) m.makes) in
-    let none : NoneOf (calls.Ends number) over (collections_after s base) =
-    subst (λ (l : List CollectionCall). NoneOf (calls.Ends number) over l) same (subst (λ (l : List CollectionCall). NoneOf (calls.Ends number) l (Start number ∷ h.earlier)) m.after h.not_ended) in
+    let none : NoneOf (calls.EndsCollecting number) over (collections_after s base) =
+    subst (λ (l : List CollectionCall). NoneOf (calls.EndsCollecting number) over l) same (subst (λ (l : List CollectionCall). NoneOf (calls.EndsCollecting number) l (Start number ∷ h.earlier)) m.after h.not_ended) in
     record {
       later = m.later;
       message = w.message;
@@ -333,6 +333,6 @@ IsCollecting-collects s view number own =
       split = m.split ∙ ap (λ (item : Item). m.later ++ (item ∷ m.earlier)) w.is_message;
       asks = w.asks;
       numbered = w.numbered;
-      not_ended = subst (λ (item : Item). NoneOf (Ends s number) m.later (item ∷ m.earlier)) w.is_message
-          (none_acts CollectionCall (collections_given s) (collections_after s) (collections_made s) (calls.Ends number) (Ends s number) (ends_called s number) m.later base none);
+      not_ended = subst (λ (item : Item). NoneOf (ItemEndsCollecting s number) m.later (item ∷ m.earlier)) w.is_message
+          (none_acts CollectionCall (collections_given s) (collections_after s) (collections_made s) (calls.EndsCollecting number) (ItemEndsCollecting s number) (ends_called s number) m.later base none);
     }

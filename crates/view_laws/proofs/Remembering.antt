@@ -9,7 +9,7 @@ use Rattle.of10_message.specs.Controller.{read_controller}
 use Rattle.xid_map.specs.declared.asked.Asked.{Asked}
 use Rattle.xid_map.specs.declared.asked.Issued.{Issued}
 use Rattle.xid_map.specs.Requests.{RequestCall, Issue, MarkError, MarkDone, Forget, issued, physical_of, found}
-use Rattle.xid_map.specs.Laws.{IsFound}
+use Rattle.xid_map.specs.Laws.{IsFoundRequest}
 use Rattle.xid_map.proofs.Finding.{IsFound-found, found-IsFound}
 use Rattle.slice_words.specs.Messages.{is_dismissing, asked_of}
 use Rattle.slice_words.specs.Items.{Settings, Item, Opened, Up, Down, Msg, Lost, Handed, Removed, Status, Fault, Barrier, Queues, Entry, Last, End, is_forgetting}
@@ -50,7 +50,7 @@ count_behind calls later asked earlier split = ap issued split ∙ issued-append
 -- ---- a call more
 
 -- another request comes, and the one that is found is still among the last
-issued_more : (slot physical : ℕ) (calls : List RequestCall) (asked : Asked) (r : Issued) → issued calls + 1 ≤ r.number + 4096 → IsFound slot physical calls r → IsFound slot physical (Issue asked ∷ calls) r
+issued_more : (slot physical : ℕ) (calls : List RequestCall) (asked : Asked) (r : Issued) → issued calls + 1 ≤ r.number + 4096 → IsFoundRequest slot physical calls r → IsFoundRequest slot physical (Issue asked ∷ calls) r
 issued_more slot physical calls asked r within h = record {
   later = Issue asked ∷ h.later;
   earlier = h.earlier;
@@ -64,7 +64,7 @@ issued_more slot physical calls asked r within h = record {
 }
 
 -- an error comes for another request
-marked_other : (slot physical : ℕ) (calls : List RequestCall) (number : ℕ) (r : Issued) → number ≢ r.number → IsFound slot physical calls r → IsFound slot physical (MarkError number ∷ calls) r
+marked_other : (slot physical : ℕ) (calls : List RequestCall) (number : ℕ) (r : Issued) → number ≢ r.number → IsFoundRequest slot physical calls r → IsFoundRequest slot physical (MarkError number ∷ calls) r
 marked_other slot physical calls number r other h = record {
   later = MarkError number ∷ h.later;
   earlier = h.earlier;
@@ -78,7 +78,7 @@ marked_other slot physical calls number r other h = record {
 }
 
 -- and for this one
-marked_itself : (slot physical : ℕ) (calls : List RequestCall) (r : Issued) → IsFound slot physical calls r → IsFound slot physical (MarkError r.number ∷ calls) (record r { failed = true })
+marked_itself : (slot physical : ℕ) (calls : List RequestCall) (r : Issued) → IsFoundRequest slot physical calls r → IsFoundRequest slot physical (MarkError r.number ∷ calls) (record r { failed = true })
 marked_itself slot physical calls r h = record {
   later = MarkError r.number ∷ h.later;
   earlier = h.earlier;
@@ -92,7 +92,7 @@ marked_itself slot physical calls r h = record {
 }
 
 -- a reply comes for another request
-done_other : (slot physical : ℕ) (calls : List RequestCall) (number : ℕ) (r : Issued) → number ≢ r.number → IsFound slot physical calls r → IsFound slot physical (MarkDone number ∷ calls) r
+done_other : (slot physical : ℕ) (calls : List RequestCall) (number : ℕ) (r : Issued) → number ≢ r.number → IsFoundRequest slot physical calls r → IsFoundRequest slot physical (MarkDone number ∷ calls) r
 done_other slot physical calls number r other h = record {
   later = MarkDone number ∷ h.later;
   earlier = h.earlier;
@@ -106,7 +106,7 @@ done_other slot physical calls number r other h = record {
 }
 
 -- and for this one
-done_itself : (slot physical : ℕ) (calls : List RequestCall) (r : Issued) → IsFound slot physical calls r → IsFound slot physical (MarkDone r.number ∷ calls) (record r { done = true })
+done_itself : (slot physical : ℕ) (calls : List RequestCall) (r : Issued) → IsFoundRequest slot physical calls r → IsFoundRequest slot physical (MarkDone r.number ∷ calls) (record r { done = true })
 done_itself slot physical calls r h = record {
   later = MarkDone r.number ∷ h.later;
   earlier = h.earlier;
@@ -129,34 +129,34 @@ low_same slot number x e = ap (λ (low : ℕ). slot * 16777216 + low) e
 
 -- a message that ends no connection
 message_more : (slot physical : ℕ) (calls : List RequestCall) (dismissing puts : Bool) (asked : Asked) (r : Issued) → dismissing ≡ false
-    → issued ((if dismissing then Forget ∷ [] else if puts then Issue asked ∷ [] else []) ++ calls) ≤ r.number + 4096 → IsFound slot physical calls r
-    → IsFound slot physical ((if dismissing then Forget ∷ [] else if puts then Issue asked ∷ [] else []) ++ calls) r
+    → issued ((if dismissing then Forget ∷ [] else if puts then Issue asked ∷ [] else []) ++ calls) ≤ r.number + 4096 → IsFoundRequest slot physical calls r
+    → IsFoundRequest slot physical ((if dismissing then Forget ∷ [] else if puts then Issue asked ∷ [] else []) ++ calls) r
 message_more slot physical calls true puts asked r goes_on within h = absurd (true≢false goes_on)
 message_more slot physical calls false true asked r goes_on within h = issued_more slot physical calls asked r within h
 message_more slot physical calls false false asked r goes_on within h = h
 
 -- an error under other bits is for another request, or for none
 error_other : (slot x y : ℕ) (calls : List RequestCall) (found_one : Option Issued) (r : Issued) → found slot (physical_of slot y) calls ≡ found_one → (y % 16777216 ≢ x % 16777216)
-    → IsFound slot (physical_of slot x) calls r → IsFound slot (physical_of slot x) (error_marks found_one ++ calls) r
+    → IsFoundRequest slot (physical_of slot x) calls r → IsFoundRequest slot (physical_of slot x) (error_marks found_one ++ calls) r
 error_other slot x y calls None r is apart h = h
 error_other slot x y calls (Some other) r is apart h =
     let there = IsFound-found slot (physical_of slot y) calls other is in
     marked_other slot (physical_of slot x) calls other.number r
     (λ same. apart (sym (same_low slot other.number y there.seen) ∙ ap (λ (n : ℕ). n % 16777216) same ∙ same_low slot r.number x h.seen)) h
 
-error_itself : (slot x : ℕ) (calls : List RequestCall) (found_one : Option Issued) (r : Issued) → found_one ≡ Some r → IsFound slot (physical_of slot x) calls r
-    → IsFound slot (physical_of slot x) (error_marks found_one ++ calls) (record r { failed = true })
+error_itself : (slot x : ℕ) (calls : List RequestCall) (found_one : Option Issued) (r : Issued) → found_one ≡ Some r → IsFoundRequest slot (physical_of slot x) calls r
+    → IsFoundRequest slot (physical_of slot x) (error_marks found_one ++ calls) (record r { failed = true })
 error_itself slot x calls None r is h = cc
 error_itself slot x calls (Some other) r is h =
     let same : other ≡ r = cc in
-    subst (λ (o : Issued). IsFound slot (physical_of slot x) (MarkError o.number ∷ calls) (record r { failed = true })) (sym same) (marked_itself slot (physical_of slot x) calls r h)
+    subst (λ (o : Issued). IsFoundRequest slot (physical_of slot x) (MarkError o.number ∷ calls) (record r { failed = true })) (sym same) (marked_itself slot (physical_of slot x) calls r h)
 
 -- the request as it is after an error, if it was for it
 abbrev with_fault : Bool → Issued → Issued
 with_fault now r = record r { failed = now || r.failed }
 
-error_more : (slot x y : ℕ) (calls : List RequestCall) (r : Issued) → IsFound slot (physical_of slot x) calls r
-    → IsFound slot (physical_of slot x) (error_marks (found slot (physical_of slot y) calls) ++ calls) (with_fault (y % 16777216 == x % 16777216) r)
+error_more : (slot x y : ℕ) (calls : List RequestCall) (r : Issued) → IsFoundRequest slot (physical_of slot x) calls r
+    → IsFoundRequest slot (physical_of slot x) (error_marks (found slot (physical_of slot y) calls) ++ calls) (with_fault (y % 16777216 == x % 16777216) r)
 error_more slot x y calls r h = elim (eqb_tells (y % 16777216) (x % 16777216)) [
   | inl this ↦
       let there : found slot (physical_of slot y) calls ≡ Some r = ap (λ (physical : ℕ). found slot physical calls) (low_same slot y x this.1) ∙ found-IsFound slot (physical_of slot x) calls r h in
@@ -168,7 +168,7 @@ error_more slot x y calls r h = elim (eqb_tells (y % 16777216) (x % 16777216)) [
 
 -- so it is with a reply that the slice is told of
 reply_other : (slot x y : ℕ) (calls : List RequestCall) (a : Answer) (told : Bool) (found_one : Option Issued) (r : Issued) → is_any a.to_slice ≡ told → found slot (physical_of slot y) calls ≡ found_one → (y % 16777216 ≢ x % 16777216)
-    → IsFound slot (physical_of slot x) calls r → IsFound slot (physical_of slot x) (reply_marks a found_one ++ calls) r
+    → IsFoundRequest slot (physical_of slot x) calls r → IsFoundRequest slot (physical_of slot x) (reply_marks a found_one ++ calls) r
 reply_other slot x y calls a told None r any is apart h = h
 reply_other slot x y calls a false (Some other) r any is apart h = rw any h
 reply_other slot x y calls a true (Some other) r any is apart h =
@@ -180,16 +180,16 @@ reply_other slot x y calls a true (Some other) r any is apart h =
 abbrev with_reply : Bool → Issued → Issued
 with_reply now r = record r { done = now || r.done }
 
-reply_itself : (slot x : ℕ) (calls : List RequestCall) (a : Answer) (told : Bool) (found_one : Option Issued) (r : Issued) → is_any a.to_slice ≡ told → found_one ≡ Some r → IsFound slot (physical_of slot x) calls r
-    → IsFound slot (physical_of slot x) (reply_marks a found_one ++ calls) (with_reply told r)
+reply_itself : (slot x : ℕ) (calls : List RequestCall) (a : Answer) (told : Bool) (found_one : Option Issued) (r : Issued) → is_any a.to_slice ≡ told → found_one ≡ Some r → IsFoundRequest slot (physical_of slot x) calls r
+    → IsFoundRequest slot (physical_of slot x) (reply_marks a found_one ++ calls) (with_reply told r)
 reply_itself slot x calls a told None r any is h = cc
 reply_itself slot x calls a false (Some other) r any is h = rw any h
 reply_itself slot x calls a true (Some other) r any is h =
     let same : other ≡ r = cc in
-    rw any (subst (λ (o : Issued). IsFound slot (physical_of slot x) (MarkDone o.number ∷ calls) (record r { done = true })) (sym same) (done_itself slot (physical_of slot x) calls r h))
+    rw any (subst (λ (o : Issued). IsFoundRequest slot (physical_of slot x) (MarkDone o.number ∷ calls) (record r { done = true })) (sym same) (done_itself slot (physical_of slot x) calls r h))
 
-reply_more : (slot x y : ℕ) (calls : List RequestCall) (a : Answer) (r : Issued) → IsFound slot (physical_of slot x) calls r
-    → IsFound slot (physical_of slot x) (reply_marks a (found slot (physical_of slot y) calls) ++ calls) (with_reply (y % 16777216 == x % 16777216 && is_any a.to_slice) r)
+reply_more : (slot x y : ℕ) (calls : List RequestCall) (a : Answer) (r : Issued) → IsFoundRequest slot (physical_of slot x) calls r
+    → IsFoundRequest slot (physical_of slot x) (reply_marks a (found slot (physical_of slot y) calls) ++ calls) (with_reply (y % 16777216 == x % 16777216 && is_any a.to_slice) r)
 reply_more slot x y calls a r h = elim (eqb_tells (y % 16777216) (x % 16777216)) [
   | inl this ↦
       let there : found slot (physical_of slot y) calls ≡ Some r = ap (λ (physical : ℕ). found slot physical calls) (low_same slot y x this.1) ∙ found-IsFound slot (physical_of slot x) calls r h in
@@ -202,7 +202,7 @@ abbrev with_item : Settings → ℕ → List Item → Item → Issued → Issued
 with_item s x view item r = record r { failed = is_fault_for x item || r.failed; done = is_reply_for s x view item || r.done }
 
 item_more : (s : Settings) (x : ℕ) (item : Item) (view : List Item) (r : Issued) → is_forgetting item ≡ false → issued (requests_after s (item ∷ view)) ≤ r.number + 4096
-    → IsFound s.slot (physical_of s.slot x) (requests_after s view) r → IsFound s.slot (physical_of s.slot x) (requests_after s (item ∷ view)) (with_item s x view item r)
+    → IsFoundRequest s.slot (physical_of s.slot x) (requests_after s view) r → IsFoundRequest s.slot (physical_of s.slot x) (requests_after s (item ∷ view)) (with_item s x view item r)
 item_more s x Up view r goes_on within h = absurd (true≢false goes_on)
 item_more s x Down view r goes_on within h = absurd (true≢false goes_on)
 item_more s x (Msg message moment) view r goes_on within h =
@@ -236,7 +236,7 @@ one_more true item items = omega arith
 one_more false item items = omega arith
 
 just_asked : (s : Settings) (x : ℕ) (message : List ℕ) (moment : ℕ) (earlier : List Item) → is_request s earlier (Msg message moment) ≡ true → next_number s earlier % 16777216 ≡ x % 16777216
-    → IsFound s.slot (physical_of s.slot x) (requests_after s (Msg message moment ∷ earlier)) (as_asked s x [] message moment earlier)
+    → IsFoundRequest s.slot (physical_of s.slot x) (requests_after s (Msg message moment ∷ earlier)) (as_asked s x [] message moment earlier)
 just_asked s x message moment earlier asks low = record {
   later = [];
   earlier = requests_after s earlier;
@@ -251,7 +251,7 @@ just_asked s x message moment earlier asks low = record {
 
 found_through : (s : Settings) (x : ℕ) (later : List Item) (message : List ℕ) (moment : ℕ) (earlier : List Item) → is_request s earlier (Msg message moment) ≡ true
     → next_number s earlier % 16777216 ≡ x % 16777216 → list_any is_forgetting later ≡ false → next_number s (later ++ (Msg message moment ∷ earlier)) ≤ next_number s earlier + 4096
-    → IsFound s.slot (physical_of s.slot x) (requests_after s (later ++ (Msg message moment ∷ earlier))) (as_asked s x later message moment earlier)
+    → IsFoundRequest s.slot (physical_of s.slot x) (requests_after s (later ++ (Msg message moment ∷ earlier))) (as_asked s x later message moment earlier)
 found_through s x [] message moment earlier asks low kept recent = just_asked s x message moment earlier asks low
 found_through s x (item ∷ later) message moment earlier asks low kept recent =
     let view = later ++ (Msg message moment ∷ earlier) in

@@ -10,7 +10,7 @@ use Rattle.xid_map.specs.declared.asked.Issued.{Issued}
 use Rattle.xid_map.specs.Requests.{RequestCall, Issue, MarkError, MarkDone, Forget, issued}
 use Rattle.slice_words.specs.Messages.{Reading, ends_connection, is_dismissing, asked_of}
 use Rattle.slice_words.specs.Items.{Settings, Item, Opened, Up, Down, Msg, Lost, Handed, Removed, Status, Fault, Barrier, Queues, Entry, Last, End, is_up, is_forgetting}
-use Rattle.slice_words.specs.Pasts.{Answer, Past, Outgoing, silence, is_any}
+use Rattle.slice_words.specs.Pasts.{Answer, Past, Outgoing, no_answer, is_any}
 use Rattle.slice_words.specs.Calls.{request_for, error_marks, reply_marks, requests_by, request_calls}
 use Rattle.slice_words.specs.Answers.{unread_answer, read_answer}
 use Rattle.slice_words.specs.Alone.{answer_to}
@@ -37,7 +37,7 @@ unread_puts_nothing s view past moment message (Err BadVersion) ends_ = absurd (
 unread_puts_nothing s view past moment message (Err BadType) ends_ = absurd (true≢false (sym ends_))
 unread_puts_nothing s view past moment message (Err (BadForm fault)) ends_ = absurd (true≢false (sym ends_))
 
-while_up : (up : Bool) (a : Answer) → a.to_switch ≡ [] → (if up then a else silence).to_switch ≡ []
+while_up : (up : Bool) (a : Answer) → a.to_switch ≡ [] → (if up then a else no_answer).to_switch ≡ []
 while_up true a nothing = nothing
 while_up false a nothing = refl
 

@@ -10,7 +10,7 @@ use Rattle.xid_map.specs.Collections.{CollectionCall, is_among, collecting, gath
 use Rattle.stats_filter.specs.Asking.{type_sent}
 use Rattle.slice_words.specs.Messages.{is_dismissing, kind_asked}
 use Rattle.slice_words.specs.Items.{Settings, Item, Opened, Up, Down, Msg, Lost, Handed, Removed, Status, Fault, Barrier, Queues, Entry, Last, End, is_up, is_forgetting}
-use Rattle.slice_words.specs.Pasts.{Answer, silence, told, is_any}
+use Rattle.slice_words.specs.Pasts.{Answer, no_answer, told, is_any}
 use Rattle.slice_words.specs.Statistics.{collects, collected_replies, statistics_told}
 use Rattle.slice_words.specs.Answers.{message_answer}
 use Rattle.slice_words.specs.Alone.{answer_to}
@@ -25,7 +25,7 @@ use Rattle.view_laws.proofs.Gathering.{message_of_number, collecting-gathered}
 
 -- ---- a slice whose request is remembered is up
 
-up_by_answer : (up : Bool) (a : Answer) → is_any (if up then a else silence).to_switch ≡ true → up ≡ true
+up_by_answer : (up : Bool) (a : Answer) → is_any (if up then a else no_answer).to_switch ≡ true → up ≡ true
 up_by_answer true a some = refl
 up_by_answer false a some = absurd (true≢false (sym some))
 
@@ -69,7 +69,7 @@ remembered_up s view x request h =
 
 -- ---- what it is told
 
-told_up : (up : Bool) (messages : List (List ℕ)) → up ≡ true → (if up then told messages else silence).to_slice ≡ messages
+told_up : (up : Bool) (messages : List (List ℕ)) → up ≡ true → (if up then told messages else no_answer).to_slice ≡ messages
 told_up up messages is = rw is refl
 
 told_of : (found : Option Issued) (request : Issued) (kind : ℕ) (before : List CollectionCall) → found ≡ Some request → collects request kind before ≡ true
@@ -113,7 +113,7 @@ told_none s view x kind (Some request) is none = elim (cases_Bool (collects requ
   | inr not ↦ rw not refl
 ]
 
-silent_or_none : (up : Bool) (messages : List (List ℕ)) → messages ≡ [] → (if up then told messages else silence).to_slice ≡ []
+silent_or_none : (up : Bool) (messages : List (List ℕ)) → messages ≡ [] → (if up then told messages else no_answer).to_slice ≡ []
 silent_or_none true messages none = none
 silent_or_none false messages none = refl
 

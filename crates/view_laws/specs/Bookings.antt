@@ -38,8 +38,8 @@ abbrev pub IncludesNoBooked : Settings → Pattern → List Item → Type 0
 IncludesNoBooked s piece view = (pattern : Pattern) (priority : ℕ) → IsBooked s pattern priority view → includes_of piece pattern ≡ false
 
 -- a command books a piece: ADD any, MODIFY one that includes no match booked before, and MODIFY_STRICT one whose pair wasn't booked before
-abbrev pub BooksPiece : Settings → ℕ → Pattern → ℕ → List Item → Type 0
-BooksPiece s command piece priority view =
+abbrev pub CommandBooks : Settings → ℕ → Pattern → ℕ → List Item → Type 0
+CommandBooks s command piece priority view =
     (command ≡ ADD) ⊎ (((command ≡ MODIFY) × IncludesNoBooked s piece view) ⊎ ((command ≡ MODIFY_STRICT) × (IsBooked s piece priority view → ⊥)))
 
 -- a message after a view is this flow-mod, is sent on, and books the pair as one of its pieces
@@ -48,24 +48,24 @@ pub record IsBookedBy (s : Settings) (pattern : Pattern) (priority : ℕ) (m : F
   pub asks : is_request s view (Msg message moment) ≡ true
   pub at_priority : m.priority ≡ priority
   pub among : Contains (pieces_within s.patterns m.pattern) pattern
-  pub piece : BooksPiece s m.command pattern priority view
+  pub piece : CommandBooks s m.command pattern priority view
 
 -- an item after a view books the pair: no other than such a message does
-abbrev pub Books : Settings → Pattern → ℕ → Item → List Item → Type 0
-Books s pattern priority (Msg message moment) view = (m : FlowMod) × IsBookedBy s pattern priority m message moment view
-Books s pattern priority item view = ⊥
+abbrev pub ItemBooks : Settings → Pattern → ℕ → Item → List Item → Type 0
+ItemBooks s pattern priority (Msg message moment) view = (m : FlowMod) × IsBookedBy s pattern priority m message moment view
+ItemBooks s pattern priority item view = ⊥
 
 -- an item after a view releases the pair: its entry is gone, or an error names it, and the request that is remembered for that is the one that booked it first
-abbrev pub Releases : Settings → Pattern → ℕ → Item → List Item → Type 0
-Releases s pattern priority (Removed entry) view = (entry.pattern ≡ pattern) × (entry.priority ≡ priority)
-Releases s pattern priority (Fault x class code (Some pair)) view =
+abbrev pub ItemReleases : Settings → Pattern → ℕ → Item → List Item → Type 0
+ItemReleases s pattern priority (Removed entry) view = (entry.pattern ≡ pattern) × (entry.priority ≡ priority)
+ItemReleases s pattern priority (Fault x class code (Some pair)) view =
     (pair.0 ≡ pattern) × (pair.1 ≡ priority) × ((request : Issued) × IsRemembered s view x request × IsOfRequest s pattern priority request.number view)
-Releases s pattern priority item view = ⊥
+ItemReleases s pattern priority item view = ⊥
 
 -- ---- what is booked
 
 -- of the items that book or release the pair the last one books it, and it asks so, by SEND_FLOW_REM, to be told of its removal
-pub record IsLastBooked (s : Settings) (pattern : Pattern) (priority : ℕ) (wish : Bool) (view : List Item) : Type 0 where
+pub record IsLastBookedIn (s : Settings) (pattern : Pattern) (priority : ℕ) (wish : Bool) (view : List Item) : Type 0 where
   pub later : List Item
   pub message : List ℕ
   pub moment : ℕ
@@ -74,11 +74,11 @@ pub record IsLastBooked (s : Settings) (pattern : Pattern) (priority : ℕ) (wis
   pub split : view ≡ later ++ (Msg message moment ∷ earlier)
   pub books : IsBookedBy s pattern priority m message moment earlier
   pub wishes : has_flag SEND_FLOW_REM m ≡ wish
-  pub not_booked : NoneOf (Books s pattern priority) later (Msg message moment ∷ earlier)
-  pub not_released : NoneOf (Releases s pattern priority) later (Msg message moment ∷ earlier)
+  pub not_booked : NoneOf (ItemBooks s pattern priority) later (Msg message moment ∷ earlier)
+  pub not_released : NoneOf (ItemReleases s pattern priority) later (Msg message moment ∷ earlier)
 
 -- the request of this number booked the pair first since it was last released: before it the pair wasn't booked, and no later item releases it
-pub record IsFirstBooked (s : Settings) (pattern : Pattern) (priority : ℕ) (number : ℕ) (view : List Item) : Type 0 where
+pub record IsFirstBookedIn (s : Settings) (pattern : Pattern) (priority : ℕ) (number : ℕ) (view : List Item) : Type 0 where
   pub later : List Item
   pub message : List ℕ
   pub moment : ℕ
@@ -88,4 +88,4 @@ pub record IsFirstBooked (s : Settings) (pattern : Pattern) (priority : ℕ) (nu
   pub books : IsBookedBy s pattern priority m message moment earlier
   pub numbered : next_number s earlier ≡ number
   pub unbooked : IsBooked s pattern priority earlier → ⊥
-  pub not_released : NoneOf (Releases s pattern priority) later (Msg message moment ∷ earlier)
+  pub not_released : NoneOf (ItemReleases s pattern priority) later (Msg message moment ∷ earlier)

@@ -43,18 +43,18 @@ pub record IsFirstOfEight (s : Settings) (number : ℕ) (view : List Item) : Typ
   pub is_first : (other : ℕ) → Collects s other view → number ≤ other
 
 -- an item after a view ends what a request collects: it is forgotten; an error comes for it; the slice is told of the last part of its reply; or another request for statistics is made while eight collect, of which it was made first
-abbrev pub Ends : Settings → ℕ → Item → List Item → Type 0
-Ends s number Up view = Unit {0}
-Ends s number Down view = Unit {0}
-Ends s number (Msg message moment) view = (is_dismissing message ≡ true) ⊎ (IsStatistics s message moment view × IsFirstOfEight s number view)
-Ends s number (Fault x class code pair) view = IsFor s x number view
-Ends s number (Last x kind) view = (is_any (answer_to s view (Last x kind)).to_slice ≡ true) × IsFor s x number view
-Ends s number item view = ⊥
+abbrev pub ItemEndsCollecting : Settings → ℕ → Item → List Item → Type 0
+ItemEndsCollecting s number Up view = Unit {0}
+ItemEndsCollecting s number Down view = Unit {0}
+ItemEndsCollecting s number (Msg message moment) view = (is_dismissing message ≡ true) ⊎ (IsStatistics s message moment view × IsFirstOfEight s number view)
+ItemEndsCollecting s number (Fault x class code pair) view = IsFor s x number view
+ItemEndsCollecting s number (Last x kind) view = (is_any (answer_to s view (Last x kind)).to_slice ≡ true) × IsFor s x number view
+ItemEndsCollecting s number item view = ⊥
 
 -- ---- which collect
 
 -- the request is a message of the view for statistics, and its number is how many requests came before it; no later item ended what it collects
-pub record IsCollecting (s : Settings) (number : ℕ) (view : List Item) : Type 0 where
+pub record IsCollectingIn (s : Settings) (number : ℕ) (view : List Item) : Type 0 where
   pub later : List Item
   pub message : List ℕ
   pub moment : ℕ
@@ -62,4 +62,4 @@ pub record IsCollecting (s : Settings) (number : ℕ) (view : List Item) : Type 
   pub split : view ≡ later ++ (Msg message moment ∷ earlier)
   pub asks : IsStatistics s message moment earlier
   pub numbered : number ≡ next_number s earlier
-  pub not_ended : NoneOf (Ends s number) later (Msg message moment ∷ earlier)
+  pub not_ended : NoneOf (ItemEndsCollecting s number) later (Msg message moment ∷ earlier)

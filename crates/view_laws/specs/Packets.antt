@@ -2,7 +2,7 @@
 use Rattle.std.specs.Prelude.{ℕ, ◌≡◌, ◌≤◌, ◌+◌, ◌==◌, ◌||◌, Bool, true, false, List, [], ◌∷◌, ◌++◌, Option}
 use Rattle.std.specs.List.{list_any}
 use Rattle.slice_words.specs.Items.{Settings, Writer, Packet, Item, Msg, Lost, Handed, is_forgetting, buffered_count}
-use Rattle.slice_words.specs.Buffers.{HeldPacket, packet_header, is_named, held_packets, held_under}
+use Rattle.slice_words.specs.Buffers.{HeldPacket, packet_header, is_named, held_packets, packet_under}
 use Rattle.slice_words.specs.Alone.{answer_to}
 use Rattle.slice_words.specs.Standing.{past_of}
 
@@ -14,7 +14,7 @@ held_in s view = held_packets (past_of s view)
 
 -- the one that it holds under a number
 abbrev pub held_at : Settings → List Item → ℕ → Option HeldPacket
-held_at s view number = held_under number (held_in s view)
+held_at s view number = packet_under number (held_in s view)
 
 -- ---- what ends that a packet is held
 
@@ -36,7 +36,7 @@ is_used s ordinal (item ∷ later) earlier = is_use_of s ordinal (later ++ earli
 -- ---- which packets are held
 
 -- the packet was handed up to the slice as its writer, and the switch had buffered it; its ordinal is how many such packets came before it. It is among the last 256 of them; no later item forgets; and since then the switch didn't use its number for another packet, and no message of the slice used it
-pub record IsHeld (s : Settings) (view : List Item) (held : HeldPacket) : Type 0 where
+pub record IsHeldIn (s : Settings) (view : List Item) (held : HeldPacket) : Type 0 where
   pub later : List Item
   pub packet : Packet
   pub earlier : List Item

@@ -1,7 +1,7 @@
 -- Which moments count for a slice's rate, in words of its view. Views have the newest item first. All of this is this proxy's own rule.
 use Rattle.std.specs.Prelude.{ℕ, ◌&&◌, Bool, false, if◌then◌else◌, List, [], ◌∷◌}
 use Rattle.slice_words.specs.Messages.{is_question}
-use Rattle.slice_words.specs.Items.{Settings, Item, Msg, is_up, latest}
+use Rattle.slice_words.specs.Items.{Settings, Item, Msg, is_up, latest_moment}
 use Rattle.slice_words.specs.Answers.{keeps_rate}
 use Rattle.slice_words.specs.Standing.{past_of}
 
@@ -11,6 +11,6 @@ passes_rate s view (Msg message moment) = (is_up view && is_question message) &&
 passes_rate s view item = false
 
 -- the moments that count, newest first: of each message that passed the greatest moment of the messages up to it
-abbrev pub counted : Settings → List Item → List ℕ
-counted s [] = []
-counted s (item ∷ view) = if passes_rate s view item then latest (item ∷ view) ∷ counted s view else counted s view
+abbrev pub counted_moments : Settings → List Item → List ℕ
+counted_moments s [] = []
+counted_moments s (item ∷ view) = if passes_rate s view item then latest_moment (item ∷ view) ∷ counted_moments s view else counted_moments s view

@@ -12,18 +12,18 @@ ghost use Rattle.xid_map.specs.declared.asked.Issued.{Issued};
 ghost use Rattle.xid_map.specs.Requests.{issued};
 ghost use Rattle.flow_book.specs.declared.booked.Booked.{Booked};
 ghost use Rattle.slice_words.specs.Messages.{Reading, kind_asked, asked_of, quoted};
-ghost use Rattle.slice_words.specs.Items.{Settings, Item, Msg, Last, latest};
+ghost use Rattle.slice_words.specs.Items.{Settings, Item, Msg, Last, latest_moment};
 ghost use Rattle.slice_words.specs.Buffers.{HeldPacket};
 ghost use Rattle.slice_words.specs.Alone.{answer_to};
 ghost use Rattle.slice_words.specs.Calls.{request_calls, questions};
 ghost use Rattle.slice_words.specs.Answers.{keeps_rate};
 ghost use Rattle.slice_words.specs.Standing.{past_of};
 ghost use Rattle.view_laws.specs.Requests.{is_request, requests_in, next_number, IsUnder, remembered_for, IsRemembered};
-ghost use Rattle.view_laws.specs.Collecting.{Collects, IsFor, IsCollecting};
+ghost use Rattle.view_laws.specs.Collecting.{Collects, IsFor, IsCollectingIn};
 ghost use Rattle.view_laws.specs.Gathering.{gathered_after, is_for, entries_for, IsGatheredOf, CollectsFor, AreRepliesOver};
-ghost use Rattle.view_laws.specs.Bookings.{booking_after, IsBooked, IsLastBooked, IsFirstBooked};
-ghost use Rattle.view_laws.specs.Packets.{held_in, held_at, IsHeld};
-ghost use Rattle.view_laws.specs.Rates.{counted};
+ghost use Rattle.view_laws.specs.Bookings.{booking_after, IsBooked, IsLastBookedIn, IsFirstBookedIn};
+ghost use Rattle.view_laws.specs.Packets.{held_in, held_at, IsHeldIn};
+ghost use Rattle.view_laws.specs.Rates.{counted_moments};
 
 /// As many requests were issued as messages put something for the switch; and the n-th of these, from 0 and
 /// the oldest first, is the one before which n were issued. All that a message has sent to the switch has the
@@ -48,7 +48,7 @@ pub fn request_is_remembered_among_the_last()
 /// came for it, the slice was told of the last part of its reply, or another was made while eight collected, of
 /// which it was the first.
 pub fn request_collects_until_an_item_ends_it()
-    ensures { (s : Settings) (view : List Item) (number : ℕ) → Collects s number view ↔ IsCollecting s number view }
+    ensures { (s : Settings) (view : List Item) (number : ℕ) → Collects s number view ↔ IsCollectingIn s number view }
 {}
 
 /// What a request that collects has gathered is of the entries that came for it, of the type of statistics that
@@ -56,7 +56,7 @@ pub fn request_collects_until_an_item_ends_it()
 /// within 524,288 bytes. An entry comes for the request that is remembered for its transaction id, and so none
 /// comes for a request before that is made.
 pub fn request_gathers_what_comes_for_it()
-    ensures gathered { (s : Settings) (view : List Item) (number : ℕ) (made : IsCollecting s number view) → let asked = kind_asked (read_controller made.message) in IsGatheredOf asked (entries_for s number asked view) (gathered_after s number view) }
+    ensures gathered { (s : Settings) (view : List Item) (number : ℕ) (made : IsCollectingIn s number view) → let asked = kind_asked (read_controller made.message) in IsGatheredOf asked (entries_for s number asked view) (gathered_after s number view) }
     ensures comes { (s : Settings) (x number : ℕ) (view : List Item) → IsTrue (is_for s x number view) ↔ IsFor s x number view }
     ensures since { (s : Settings) (view : List Item) (number : ℕ) (asked : AskKind) → next_number s view ≤ number → entries_for s number asked view ≡ [] }
 {}
@@ -71,14 +71,14 @@ pub fn slice_is_told_what_was_gathered()
 
 /// A pair is booked exactly where the last item that books or releases it books it.
 pub fn pair_is_booked_by_the_last_item()
-    ensures { (s : Settings) (view : List Item) (pattern : Pattern) (priority : ℕ) → IsNormal pattern → IsBooked s pattern priority view ↔ ((wish : Bool) × IsLastBooked s pattern priority wish view) }
+    ensures { (s : Settings) (view : List Item) (pattern : Pattern) (priority : ℕ) → IsNormal pattern → IsBooked s pattern priority view ↔ ((wish : Bool) × IsLastBookedIn s pattern priority wish view) }
 {}
 
 /// A booked pair asks to be told of its removal as the last item asked that booked it, and it is of the
 /// request that booked it first since it was last released.
 pub fn booked_pair_is_as_its_items_say()
-    ensures asked { (s : Settings) (view : List Item) (pattern : Pattern) (priority : ℕ) (b : Booked) → IsNormal pattern → booking_after s pattern priority view ≡ Some b → IsLastBooked s pattern priority b.asked view }
-    ensures number { (s : Settings) (view : List Item) (pattern : Pattern) (priority : ℕ) (b : Booked) → IsNormal pattern → booking_after s pattern priority view ≡ Some b → IsFirstBooked s pattern priority b.number view }
+    ensures asked { (s : Settings) (view : List Item) (pattern : Pattern) (priority : ℕ) (b : Booked) → IsNormal pattern → booking_after s pattern priority view ≡ Some b → IsLastBookedIn s pattern priority b.asked view }
+    ensures number { (s : Settings) (view : List Item) (pattern : Pattern) (priority : ℕ) (b : Booked) → IsNormal pattern → booking_after s pattern priority view ≡ Some b → IsFirstBookedIn s pattern priority b.number view }
 {}
 
 /// A slice holds a packet exactly where it was handed up to it as its writer and the switch had buffered it, it
@@ -86,13 +86,13 @@ pub fn booked_pair_is_as_its_items_say()
 /// no message of the slice used it. The one that is found under a number is the held one whose ordinal has
 /// these low 24 bits.
 pub fn packet_is_held_until_an_item_ends_it()
-    ensures held { (s : Settings) (view : List Item) (held : HeldPacket) → Contains (held_in s view) held ↔ IsHeld s view held }
-    ensures number { (s : Settings) (view : List Item) (number : ℕ) (held : HeldPacket) → (held_at s view number ≡ Some held) ↔ (IsHeld s view held × (held.ordinal % 2 ^ 24 ≡ number)) }
+    ensures held { (s : Settings) (view : List Item) (held : HeldPacket) → Contains (held_in s view) held ↔ IsHeldIn s view held }
+    ensures number { (s : Settings) (view : List Item) (number : ℕ) (held : HeldPacket) → (held_at s view number ≡ Some held) ↔ (IsHeldIn s view held × (held.ordinal % 2 ^ 24 ≡ number)) }
 {}
 
 /// The moments that count for the rate are those of the messages that passed it, each the greatest moment up
 /// to it: one that was refused doesn't count. A message keeps the rate where its moment conforms with them.
 pub fn moments_count_where_messages_pass()
-    ensures count { (s : Settings) (view : List Item) → accepted s.rate s.burst (questions (past_of s view)) ≡ counted s view }
-    ensures keeps { (s : Settings) (view : List Item) (message : List ℕ) (moment : ℕ) → IsTrue (keeps_rate s view (past_of s view) moment) ↔ Conforms s.rate s.burst (counted s view) (latest (Msg message moment ∷ view)) }
+    ensures count { (s : Settings) (view : List Item) → accepted s.rate s.burst (questions (past_of s view)) ≡ counted_moments s view }
+    ensures keeps { (s : Settings) (view : List Item) (message : List ℕ) (moment : ℕ) → IsTrue (keeps_rate s view (past_of s view) moment) ↔ Conforms s.rate s.burst (counted_moments s view) (latest_moment (Msg message moment ∷ view)) }
 {}

@@ -5,7 +5,7 @@ use Rattle.std.proofs.lemmas.Bool.{cases_Bool, both_ways, eq-eqb, ne_eqb, or_par
 use Rattle.std.proofs.lemmas.Bool.Decides.{eqb_tells}
 use Rattle.std.proofs.lemmas.List.{length-take}
 use Rattle.xid_map.specs.Collections.{CollectionCall, Start, Add, Sum, Finish, EndAll, is_among, collecting, begins, since}
-use Rattle.xid_map.specs.Laws.{Ends, NoneOf, IsCollecting, others_started, IsStarted}
+use Rattle.xid_map.specs.Laws.{EndsCollecting, NoneOf, IsCollecting, others_started, IsStarted}
 use Rattle.xid_map.proofs.Gathering.{since-goes_on}
 use Rattle.xid_map.proofs.Standing.{begins_not}
 
@@ -214,7 +214,7 @@ taken_is_newer (suc count) number calls (m ∷ n ∷ ns) full order within = eli
 -- ---- call by call
 
 -- a request that collects goes on with a call that doesn't end it
-goes_on : (number : ℕ) (call : CollectionCall) (earlier : List CollectionCall) → (Ends number call earlier → ⊥) → is_among number (collecting earlier) ≡ true
+goes_on : (number : ℕ) (call : CollectionCall) (earlier : List CollectionCall) → (EndsCollecting number call earlier → ⊥) → is_among number (collecting earlier) ≡ true
     → is_among number (collecting (call ∷ earlier)) ≡ true
 unfolding collecting
 goes_on number (Start other) earlier not_ended within = elim (cases_Bool (is_among other (collecting earlier))) [
@@ -244,11 +244,11 @@ begun number earlier out = rw out (among_here number (take 7 (collecting earlier
 pub collecting-IsCollecting : (number : ℕ) (calls : List CollectionCall) → IsCollecting number calls → is_among number (collecting calls) ≡ true
 collecting-IsCollecting number calls h =
     subst (λ l. is_among number (collecting l) ≡ true) (sym h.split)
-    (kept_through (Ends number) (λ calls. is_among number (collecting calls) ≡ true) (goes_on number) h.later (Start number ∷ h.earlier) h.not_ended (begun number h.earlier h.began))
+    (kept_through (EndsCollecting number) (λ calls. is_among number (collecting calls) ≡ true) (goes_on number) h.later (Start number ∷ h.earlier) h.not_ended (begun number h.earlier h.began))
 
 -- a request that collects with a call, and collected before, isn't ended by it
 not_ended_by : (number : ℕ) (call : CollectionCall) (earlier : List CollectionCall) → is_among number (collecting earlier) ≡ true → is_among number (collecting (call ∷ earlier)) ≡ true
-    → Ends number call earlier → ⊥
+    → EndsCollecting number call earlier → ⊥
 unfolding collecting
 not_ended_by number (Start other) earlier before after ends =
     let within : is_among number (other ∷ take 7 (collecting earlier)) ≡ true = rw ends.0 at after in
@@ -299,7 +299,7 @@ IsCollecting-collecting number (call ∷ earlier) within = elim (collected numbe
         earlier = h.earlier;
         split = ap (λ rest. call ∷ rest) h.split;
         began = h.began;
-        not_ended = (subst (λ l. Ends number call l → ⊥) h.split (not_ended_by number call earlier before within), h.not_ended);
+        not_ended = (subst (λ l. EndsCollecting number call l → ⊥) h.split (not_ended_by number call earlier before within), h.not_ended);
       }
   | inr begins_now ↦ record {
     later = [];

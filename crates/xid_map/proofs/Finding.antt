@@ -8,8 +8,8 @@ use Rattle.std.proofs.lemmas.List.{length-map}
 use Rattle.std.proofs.lemmas.Option.{slice_get_within}
 use Rattle.xid_map.specs.declared.asked.Asked.{Asked}
 use Rattle.xid_map.specs.declared.asked.Issued.{Issued}
-use Rattle.xid_map.specs.Requests.{RequestCall, Issue, MarkError, MarkDone, Forget, issued, marked, with_error, with_reply, requests, remembered, physical_of, found}
-use Rattle.xid_map.specs.Laws.{IsFound}
+use Rattle.xid_map.specs.Requests.{RequestCall, Issue, MarkError, MarkDone, Forget, issued, with_mark, with_error, with_reply, requests, remembered, physical_of, found}
+use Rattle.xid_map.specs.Laws.{IsFoundRequest}
 use Rattle.xid_map.proofs.Numbering.{behind, found-get, found-elsewhere}
 
 -- ---- calls among calls
@@ -80,9 +80,9 @@ issued_at (Issue asked ∷ earlier) zero within = record {
 issued_at (Issue asked ∷ earlier) (suc place) within =
     one_more (Issue asked) earlier place (suc place) (λ e. cc) (λ later e. omega (arith, e)) (issued_at earlier place (omega arith))
 issued_at (MarkError number ∷ earlier) place within =
-    one_more (MarkError number) earlier place place (λ e. cc) (λ later e. e) (issued_at earlier place (rw (length-map (requests earlier) (marked with_error number)) at within))
+    one_more (MarkError number) earlier place place (λ e. cc) (λ later e. e) (issued_at earlier place (rw (length-map (requests earlier) (with_mark with_error number)) at within))
 issued_at (MarkDone number ∷ earlier) place within =
-    one_more (MarkDone number) earlier place place (λ e. cc) (λ later e. e) (issued_at earlier place (rw (length-map (requests earlier) (marked with_reply number)) at within))
+    one_more (MarkDone number) earlier place place (λ e. cc) (λ later e. e) (issued_at earlier place (rw (length-map (requests earlier) (with_mark with_reply number)) at within))
 issued_at (Forget ∷ earlier) place within = absurd (omega arith)
 
 get_map : (f : Issued → Issued) (xs : List Issued) (place : ℕ) (x : Issued) → slice_get xs place ≡ Some x → slice_get (map f xs) place ≡ Some (f x)
@@ -134,7 +134,7 @@ standing (MarkError number ∷ later) asked earlier kept =
     let h = standing later asked earlier (λ c. kept (Contains-append_right (MarkError number ∷ []) later Forget c)) in
     record {
       request = record h.request { failed = h.request.number == number || h.request.failed };
-      here = get_map (marked with_error number) _ (issued later) h.request h.here ∙ ap (λ r. Some r) (error_set (h.request.number == number) h.request);
+      here = get_map (with_mark with_error number) _ (issued later) h.request h.here ∙ ap (λ r. Some r) (error_set (h.request.number == number) h.request);
       same_number = h.same_number;
       same_asked = h.same_asked;
       failed = told_marked MarkError h.request.number number later h.request.failed (λ e. cc) h.failed;
@@ -144,7 +144,7 @@ standing (MarkDone number ∷ later) asked earlier kept =
     let h = standing later asked earlier (λ c. kept (Contains-append_right (MarkDone number ∷ []) later Forget c)) in
     record {
       request = record h.request { done = h.request.number == number || h.request.done };
-      here = get_map (marked with_reply number) _ (issued later) h.request h.here ∙ ap (λ r. Some r) (reply_set (h.request.number == number) h.request);
+      here = get_map (with_mark with_reply number) _ (issued later) h.request h.here ∙ ap (λ r. Some r) (reply_set (h.request.number == number) h.request);
       same_number = h.same_number;
       same_asked = h.same_asked;
       failed = told_more h.request.failed (MarkDone number) later (MarkError h.request.number) (λ e. cc) h.failed;
@@ -176,7 +176,7 @@ find_passes test (y ∷ ys) x e = elim (cases_Bool (test y)) [
 
 -- the request at a place, in words of the calls
 found_there : (slot physical place : ℕ) (calls : List RequestCall) (request : Issued) → slice_get (requests calls) place ≡ Some request → place < 4096
-    → physical_of slot request.number ≡ physical → IsFound slot physical calls request
+    → physical_of slot request.number ≡ physical → IsFoundRequest slot physical calls request
 found_there slot physical place calls request at recent seen =
     let w = issued_at calls place (slice_get_within (requests calls) place request at) in
     let s = standing w.later w.asked w.earlier w.not_forgotten in
@@ -184,7 +184,7 @@ found_there slot physical place calls request at recent seen =
     subst (λ l. slice_get (requests l) place ≡ Some s.request) (sym w.split) (subst (λ k. slice_get (requests (w.later ++ (Issue w.asked ∷ w.earlier))) k ≡ Some s.request) w.behind_others s.here) in
     let both : Some s.request ≡ Some request = sym there ∙ at in
     let same : s.request ≡ request = cc in
-    subst (IsFound slot physical calls) same (record {
+    subst (IsFoundRequest slot physical calls) same (record {
       later = w.later;
       earlier = w.earlier;
       split = w.split ∙ ap (λ asked. w.later ++ (Issue asked ∷ w.earlier)) (sym s.same_asked);
@@ -196,7 +196,7 @@ found_there slot physical place calls request at recent seen =
       done = s.done;
     })
 
-pub IsFound-found : (slot physical : ℕ) (calls : List RequestCall) (request : Issued) → found slot physical calls ≡ Some request → IsFound slot physical calls request
+pub IsFound-found : (slot physical : ℕ) (calls : List RequestCall) (request : Issued) → found slot physical calls ≡ Some request → IsFoundRequest slot physical calls request
 unfolding found remembered
 IsFound-found slot physical calls request e = elim (eqb_tells (physical / 16777216) slot) [
   | inr elsewhere ↦ let none = found-elsewhere slot physical calls elsewhere.1 in cc
@@ -212,7 +212,7 @@ behind_later earlier later recent = omega arith
 same_request : (a b : Issued) → a.number ≡ b.number → a.asked ≡ b.asked → a.failed ≡ b.failed → a.done ≡ b.done → a ≡ b
 same_request a b number asked failed done = rw (number, asked, failed, done) refl
 
-pub found-IsFound : (slot physical : ℕ) (calls : List RequestCall) (request : Issued) → IsFound slot physical calls request → found slot physical calls ≡ Some request
+pub found-IsFound : (slot physical : ℕ) (calls : List RequestCall) (request : Issued) → IsFoundRequest slot physical calls request → found slot physical calls ≡ Some request
 unfolding remembered
 found-IsFound slot physical calls request h =
     let s = standing h.later request.asked h.earlier h.not_forgotten in

@@ -4,7 +4,7 @@ use Rattle.std.specs.Prelude.{nat_le, sum_by}
 use Rattle.std.proofs.lemmas.Bool.{cases_Bool, eq-eqb, ne_eqb, leb-true, leb-false, le-leb, lt-leb}
 use Rattle.std.proofs.lemmas.List.{append-nil}
 use Rattle.std.proofs.lemmas.List.Sums.{sum_by-cons}
-use Rattle.xid_map.specs.Collections.{CollectionCall, Start, Add, Sum, Finish, is_among, collecting, begins, since, added, summed, joined, kept, IsLongestRun, Gathered, gathered}
+use Rattle.xid_map.specs.Collections.{CollectionCall, Start, Add, Sum, Finish, is_among, collecting, begins, since, added, summed, joined_entries, kept_run, IsLongestRun, Gathered, gathered}
 
 -- ---- one request
 
@@ -15,7 +15,7 @@ gathered-number number calls = refl
 -- what a request has collected after the call with which it begins
 pub gathered-begin : (number : ℕ) (calls : List CollectionCall) → is_among number (collecting calls) ≡ false
     → gathered number (Start number ∷ calls) ≡ record { number = number; entries = []; room = 524288; packets = 0; bytes = 0; flows = 0 }
-unfolding gathered since added summed joined kept
+unfolding gathered since added summed joined_entries kept_run
 gathered-begin number calls out = rw (eq-eqb number number refl, out) refl
 
 -- a call that begins no collection of the request comes to the others since it began
@@ -48,8 +48,8 @@ gathered-sum_other other number packets bytes calls apart =
     rw (since-goes_on number (Sum other packets bytes) calls refl, ne_eqb other number (λ e. apart (sym e))) refl
 
 -- entries within the limit are all kept
-kept_all : (entries : List (List ℕ)) → length (joined entries) ≤ 524288 → kept entries ≡ joined entries
-unfolding kept joined
+kept_all : (entries : List (List ℕ)) → length (joined_entries entries) ≤ 524288 → kept_run entries ≡ joined_entries entries
+unfolding kept_run joined_entries
 kept_all [] within = refl
 kept_all (entry ∷ earlier) within = rw (le-leb _ _ within) refl
 
@@ -58,34 +58,34 @@ empty [] le = refl
 empty (x ∷ xs) le = absurd (omega arith)
 
 -- one more entry is kept where there is room for it
-kept_more : (entry : List ℕ) (earlier : List (List ℕ)) → length entry ≤ 524288 - length (joined earlier)
-    → kept (entry ∷ earlier) ≡ kept earlier ++ entry
-unfolding kept joined
-kept_more entry earlier fits = elim (cases_Bool (nat_le (length (joined earlier)) 524288)) [
+kept_more : (entry : List ℕ) (earlier : List (List ℕ)) → length entry ≤ 524288 - length (joined_entries earlier)
+    → kept_run (entry ∷ earlier) ≡ kept_run earlier ++ entry
+unfolding kept_run joined_entries
+kept_more entry earlier fits = elim (cases_Bool (nat_le (length (joined_entries earlier)) 524288)) [
   | inl within ↦ let room = leb-true _ _ within in
-      rw (le-leb (length (joined earlier ++ entry)) 524288 (omega (arith, length-append (joined earlier) entry)), kept_all earlier room) refl
+      rw (le-leb (length (joined_entries earlier ++ entry)) 524288 (omega (arith, length-append (joined_entries earlier) entry)), kept_all earlier room) refl
   | inr past ↦ let full = leb-false _ _ past in
       let none : entry ≡ [] = empty entry (omega arith) in
-      rw (lt-leb (length (joined earlier ++ entry)) 524288 (omega (arith, length-append (joined earlier) entry)), none)
-      (sym (append-nil (kept earlier)))
+      rw (lt-leb (length (joined_entries earlier ++ entry)) 524288 (omega (arith, length-append (joined_entries earlier) entry)), none)
+      (sym (append-nil (kept_run earlier)))
 ]
 
 -- where there is not, it is left out
-kept_less : (entry : List ℕ) (earlier : List (List ℕ)) → 524288 - length (joined earlier) < length entry
-    → kept (entry ∷ earlier) ≡ kept earlier
-unfolding kept joined
+kept_less : (entry : List ℕ) (earlier : List (List ℕ)) → 524288 - length (joined_entries earlier) < length entry
+    → kept_run (entry ∷ earlier) ≡ kept_run earlier
+unfolding kept_run joined_entries
 kept_less entry earlier passes =
-    rw (lt-leb (length (joined earlier ++ entry)) 524288 (omega (arith, length-append (joined earlier) entry))) refl
+    rw (lt-leb (length (joined_entries earlier ++ entry)) 524288 (omega (arith, length-append (joined_entries earlier) entry))) refl
 
-longer : (entry : List ℕ) (earlier : List (List ℕ)) (count : ℕ) → 524288 < length (joined (entry ∷ earlier))
-    → ((fewer : ℕ) → fewer < count → 524288 < length (joined (drop fewer earlier)))
-    → (fewer : ℕ) → fewer < suc count → 524288 < length (joined (drop fewer (entry ∷ earlier)))
+longer : (entry : List ℕ) (earlier : List (List ℕ)) (count : ℕ) → 524288 < length (joined_entries (entry ∷ earlier))
+    → ((fewer : ℕ) → fewer < count → 524288 < length (joined_entries (drop fewer earlier)))
+    → (fewer : ℕ) → fewer < suc count → 524288 < length (joined_entries (drop fewer (entry ∷ earlier)))
 longer entry earlier count all rest zero lt = all
 longer entry earlier count all rest (suc fewer) lt = rest fewer (omega arith)
 
 -- what is kept is the longest run
-pub IsLongestRun-kept : (entries : List (List ℕ)) → IsLongestRun entries (kept entries)
-unfolding kept joined
+pub IsLongestRun-kept : (entries : List (List ℕ)) → IsLongestRun entries (kept_run entries)
+unfolding kept_run joined_entries
 IsLongestRun-kept [] = record {
   left_out = 0;
   run = refl;
@@ -94,31 +94,31 @@ IsLongestRun-kept [] = record {
 }
 IsLongestRun-kept (entry ∷ earlier) =
     let before = IsLongestRun-kept earlier in
-    elim (cases_Bool (nat_le (length (joined earlier ++ entry)) 524288)) [
+    elim (cases_Bool (nat_le (length (joined_entries earlier ++ entry)) 524288)) [
       | inl fits ↦ rw fits (record {
         left_out = 0;
         run = refl;
-        within = leb-true (length (joined earlier ++ entry)) 524288 fits;
+        within = leb-true (length (joined_entries earlier ++ entry)) 524288 fits;
         longest = λ fewer lt. absurd (omega arith);
       })
       | inr passes ↦ rw passes (record {
         left_out = suc before.left_out;
         run = before.run;
         within = before.within;
-        longest = longer entry earlier before.left_out (leb-false (length (joined earlier ++ entry)) 524288 passes) before.longest;
+        longest = longer entry earlier before.left_out (leb-false (length (joined_entries earlier ++ entry)) 524288 passes) before.longest;
       })
     ]
 
 -- how much room an entry leaves
-room_more : (entry : List ℕ) (earlier : List (List ℕ)) → length entry ≤ 524288 - length (joined earlier)
-    → 524288 - length (joined (entry ∷ earlier)) ≡ 524288 - length (joined earlier) - length entry
-unfolding joined
-room_more entry earlier fits = omega (arith, length-append (joined earlier) entry)
+room_more : (entry : List ℕ) (earlier : List (List ℕ)) → length entry ≤ 524288 - length (joined_entries earlier)
+    → 524288 - length (joined_entries (entry ∷ earlier)) ≡ 524288 - length (joined_entries earlier) - length entry
+unfolding joined_entries
+room_more entry earlier fits = omega (arith, length-append (joined_entries earlier) entry)
 
-room_less : (entry : List ℕ) (earlier : List (List ℕ)) → 524288 - length (joined earlier) < length entry
-    → 524288 - length (joined (entry ∷ earlier)) ≡ 0
-unfolding joined
-room_less entry earlier passes = omega (arith, length-append (joined earlier) entry)
+room_less : (entry : List ℕ) (earlier : List (List ℕ)) → 524288 - length (joined_entries earlier) < length entry
+    → 524288 - length (joined_entries (entry ∷ earlier)) ≡ 0
+unfolding joined_entries
+room_less entry earlier passes = omega (arith, length-append (joined_entries earlier) entry)
 
 -- what an entry makes of a collection: it is appended where there is room, and else no more is kept
 abbrev pub with_entry : List ℕ → Gathered → Gathered
@@ -136,7 +136,7 @@ pub gathered-add : (number : ℕ) (entry : List ℕ) (calls : List CollectionCal
 unfolding gathered added summed
 gathered-add number entry calls =
     let own : List CollectionCall = since number calls in
-    elim (cases_Bool (nat_le (length entry) (524288 - length (joined (added number own))))) [
+    elim (cases_Bool (nat_le (length entry) (524288 - length (joined_entries (added number own))))) [
       | inl fits ↦ let le = leb-true _ _ fits in
           rw (since-goes_on number (Add number entry) calls refl, eq-eqb number number refl, fits, kept_more entry (added number own) le, room_more entry (added number own) le) refl
       | inr passes ↦ let lt = leb-false _ _ passes in

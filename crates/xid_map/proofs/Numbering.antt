@@ -6,7 +6,7 @@ use Rattle.std.proofs.lemmas.List.{length-take, take-map}
 use Rattle.std.proofs.lemmas.Bool.Decides.{eqb_tells}
 use Rattle.xid_map.specs.declared.asked.Asked.{Asked}
 use Rattle.xid_map.specs.declared.asked.Issued.{Issued}
-use Rattle.xid_map.specs.Requests.{RequestCall, Issue, MarkError, MarkDone, Forget, issued, marked, with_error, with_reply, requests, remembered, physical_of, found, Requests, RequestsStand}
+use Rattle.xid_map.specs.Requests.{RequestCall, Issue, MarkError, MarkDone, Forget, issued, with_mark, with_error, with_reply, requests, remembered, physical_of, found, Requests, RequestsStand}
 
 -- of these requests the newest has the number before `next`, and each other the number before
 abbrev pub Numbered : ℕ → List Issued → Type 0
@@ -22,11 +22,11 @@ Numbered-take (suc n) next (x ∷ xs) h = (h.0, Numbered-take n x.number xs h.1)
 abbrev KeepsNumber : (Issued → Issued) → Type 0
 KeepsNumber mark = (x : Issued) → (mark x).number ≡ x.number
 
-marked_number : (mark : Issued → Issued) → KeepsNumber mark → (number : ℕ) (x : Issued) → (marked mark number x).number ≡ x.number
+marked_number : (mark : Issued → Issued) → KeepsNumber mark → (number : ℕ) (x : Issued) → (with_mark mark number x).number ≡ x.number
 marked_number mark keeps number x =
     elim (x.number == number) as (λ b. (if b then mark x else x).number ≡ x.number) [ true ↦ keeps x | false ↦ refl ]
 
-Numbered-marked : (mark : Issued → Issued) → KeepsNumber mark → (number next : ℕ) (xs : List Issued) → Numbered next xs → Numbered next (map (marked mark number) xs)
+Numbered-marked : (mark : Issued → Issued) → KeepsNumber mark → (number next : ℕ) (xs : List Issued) → Numbered next xs → Numbered next (map (with_mark mark number) xs)
 Numbered-marked mark keeps number next [] h = tt
 Numbered-marked mark keeps number next (x ∷ xs) h =
     let same = marked_number mark keeps number x in
@@ -45,7 +45,7 @@ unfolding remembered
 Numbered-remembered calls = Numbered-take 4096 (issued calls) (requests calls) (Numbered-requests calls)
 
 -- a mark on a request that is not there changes none
-unmarked : (mark : Issued → Issued) (number next : ℕ) (xs : List Issued) → Numbered next xs → next ≤ number → map (marked mark number) xs ≡ xs
+unmarked : (mark : Issued → Issued) (number next : ℕ) (xs : List Issued) → Numbered next xs → next ≤ number → map (with_mark mark number) xs ≡ xs
 unmarked mark number next [] h past = refl
 unmarked mark number next (x ∷ xs) h past =
     let other : (x.number == number) ≡ false = ne_eqb x.number number (λ e. omega (arith, h.0)) in
@@ -53,12 +53,12 @@ unmarked mark number next (x ∷ xs) h past =
 
 -- the request of a number stands behind the newer ones
 pub marked_here : (mark : Issued → Issued) (number next k : ℕ) (xs : List Issued) (y : Issued) → Numbered next xs → number + suc k ≡ next
-    → slice_get xs k ≡ Some y → map (marked mark number) xs ≡ slice_set xs k (mark y)
+    → slice_get xs k ≡ Some y → map (with_mark mark number) xs ≡ slice_set xs k (mark y)
 marked_here mark number next k [] y h place at = cc
 marked_here mark number next zero (x ∷ xs) y h place at =
     let this : (x.number == number) ≡ true = eq-eqb x.number number (omega (arith, h.0)) in
     let same : x ≡ y = cc in
-    let rest : map (marked mark number) xs ≡ xs = unmarked mark number x.number xs h.1 (omega (arith, h.0)) in
+    let rest : map (with_mark mark number) xs ≡ xs = unmarked mark number x.number xs h.1 (omega (arith, h.0)) in
     rw (this, rest, same) refl
 marked_here mark number next (suc k) (x ∷ xs) y h place at =
     let other : (x.number == number) ≡ false = ne_eqb x.number number (λ e. omega (arith, h.0)) in
@@ -66,7 +66,7 @@ marked_here mark number next (suc k) (x ∷ xs) y h place at =
 
 -- where nothing stands there, no request has the number
 pub marked_nowhere : (mark : Issued → Issued) (number next k : ℕ) (xs : List Issued) → Numbered next xs → number + suc k ≡ next
-    → slice_get xs k ≡ None → map (marked mark number) xs ≡ xs
+    → slice_get xs k ≡ None → map (with_mark mark number) xs ≡ xs
 marked_nowhere mark number next k [] h place at = refl
 marked_nowhere mark number next zero (x ∷ xs) h place at = cc
 marked_nowhere mark number next (suc k) (x ∷ xs) h place at =
@@ -151,15 +151,15 @@ no_place number issued e = elim (cases_Bool (nat_lt number issued)) [
 
 -- the call sets the mark on the request of the number
 abbrev pub Sets : RequestCall → (Issued → Issued) → ℕ → List RequestCall → Type 0
-Sets call mark number calls = (issued (call ∷ calls) ≡ issued calls) × (requests (call ∷ calls) ≡ map (marked mark number) (requests calls))
+Sets call mark number calls = (issued (call ∷ calls) ≡ issued calls) × (requests (call ∷ calls) ≡ map (with_mark mark number) (requests calls))
 
 stands_marked : (m : Requests) (slot : ℕ) (calls : List RequestCall) (call : RequestCall) (mark : Issued → Issued) (number : ℕ) (kept : List Issued) → Sets call mark number calls
-    → RequestsStand slot calls m → map (marked mark number) m.remembered ≡ kept → RequestsStand slot (call ∷ calls) (record m { remembered = kept })
+    → RequestsStand slot calls m → map (with_mark mark number) m.remembered ≡ kept → RequestsStand slot (call ∷ calls) (record m { remembered = kept })
 unfolding remembered
 stands_marked m slot calls call mark number kept sets s is = record {
   same_slot = s.same_slot;
   same_issued = s.same_issued ∙ sym sets.0;
-  same_remembered = sym is ∙ rw (s.same_remembered, sets.1) (sym (take-map (marked mark number) 4096 (requests calls)));
+  same_remembered = sym is ∙ rw (s.same_remembered, sets.1) (sym (take-map (with_mark mark number) 4096 (requests calls)));
 }
 
 Numbered-stands : (m : Requests) (slot : ℕ) (calls : List RequestCall) → RequestsStand slot calls m → Numbered m.issued m.remembered

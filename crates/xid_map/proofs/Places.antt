@@ -5,7 +5,7 @@ use Rattle.std.specs.List.{position_or_len, AllByRecursion}
 use Rattle.std.proofs.lemmas.Bool.{cases_Bool, eq-eqb, ne_eqb, ltb-true, ltb-false}
 use Rattle.std.proofs.lemmas.Option.{IfSome_then}
 use Rattle.std.proofs.lemmas.Bool.Decides.{eqb_tells}
-use Rattle.xid_map.specs.Collections.{Collected, HasRoom}
+use Rattle.xid_map.specs.Collections.{Collected, HasRoomToCollect}
 
 -- the first collection of the request stands at k
 abbrev pub StandsAt : (number k : ℕ) → List Collected → Type 0
@@ -117,38 +117,38 @@ find_removed other number (suc k) (x ∷ xs) apart at =
 
 -- what is reserved for a request is reserved in its collection
 pub HasRoom-here : (number bytes k : ℕ) (xs : List Collected) (z : Collected) → StandsAt number k xs → z ≡ get_or xs k z
-    → HasRoom number bytes xs → bytes ≤ z.spare
+    → HasRoomToCollect number bytes xs → bytes ≤ z.spare
 HasRoom-here number bytes k xs z at is room = let e = find_here number k xs z at is in rw e at room
 
 pub HasRoom-changed : (number bytes k : ℕ) (xs : List Collected) (y : Collected) → StandsAt number k xs → y.gathered.number ≡ number
-    → bytes ≤ y.spare → HasRoom number bytes (slice_set xs k y)
+    → bytes ≤ y.spare → HasRoomToCollect number bytes (slice_set xs k y)
 HasRoom-changed number bytes k xs y at own room = rw (find_changed number k xs y at own) room
 
 pub HasRoom-other : (other number bytes k : ℕ) (xs : List Collected) (y : Collected) → other ≢ number → StandsAt number k xs → y.gathered.number ≡ number
-    → HasRoom other bytes xs → HasRoom other bytes (slice_set xs k y)
+    → HasRoomToCollect other bytes xs → HasRoomToCollect other bytes (slice_set xs k y)
 HasRoom-other other number bytes k xs y apart at own room = rw (find_other other number k xs y apart at own) room
 
-pub HasRoom-nowhere : (number bytes : ℕ) (xs : List Collected) → Nowhere number xs → HasRoom number bytes xs
+pub HasRoom-nowhere : (number bytes : ℕ) (xs : List Collected) → Nowhere number xs → HasRoomToCollect number bytes xs
 HasRoom-nowhere number bytes xs out = rw (find_nowhere number xs out) tt
 
 -- a collection for which no less memory was taken keeps the room of all
 pub HasRoom-grown : (other number bytes k : ℕ) (xs : List Collected) (z y : Collected) → StandsAt number k xs → z ≡ get_or xs k z
     → y.gathered.number ≡ z.gathered.number → z.spare ≤ y.spare
-    → HasRoom other bytes xs → HasRoom other bytes (slice_set xs k y)
+    → HasRoomToCollect other bytes xs → HasRoomToCollect other bytes (slice_set xs k y)
 HasRoom-grown other number bytes k xs z y at is same spare was =
     let own : y.gathered.number ≡ number = same ∙ number_at number k xs z at is in
     elim (eqb_tells other number) [
-      | inl this ↦ let mine : HasRoom number bytes xs = rw this.1 at was in
+      | inl this ↦ let mine : HasRoomToCollect number bytes xs = rw this.1 at was in
           let le = HasRoom-here number bytes k xs z at is mine in
           rw this.1 (HasRoom-changed number bytes k xs y at own (omega arith))
       | inr apart ↦ HasRoom-other other number bytes k xs y apart.1 at own was
     ]
 
 pub HasRoom-removed : (other number bytes k : ℕ) (xs : List Collected) → other ≢ number → StandsAt number k xs
-    → HasRoom other bytes xs → HasRoom other bytes (take k xs ++ drop (suc k) xs)
+    → HasRoomToCollect other bytes xs → HasRoomToCollect other bytes (take k xs ++ drop (suc k) xs)
 HasRoom-removed other number bytes k xs apart at room = rw (find_removed other number k xs apart at) room
 
 -- with memory for some bytes there is memory for fewer
-pub HasRoom-less : (number fewer bytes : ℕ) (xs : List Collected) → fewer ≤ bytes → HasRoom number bytes xs → HasRoom number fewer xs
+pub HasRoom-less : (number fewer bytes : ℕ) (xs : List Collected) → fewer ≤ bytes → HasRoomToCollect number bytes xs → HasRoomToCollect number fewer xs
 HasRoom-less number fewer bytes xs le room =
     IfSome_then (find (λ c. c.gathered.number == number) xs) room (λ c spare. omega arith)

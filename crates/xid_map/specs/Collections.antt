@@ -57,21 +57,21 @@ summed number (Finish other ∷ earlier) = summed number earlier
 summed number (EndAll ∷ earlier) = summed number earlier
 
 -- entries one after another, the oldest in front
-unfoldable pub joined : List (List ℕ) → List ℕ
-joined [] = []
-joined (entry ∷ earlier) = joined earlier ++ entry
+unfoldable pub joined_entries : List (List ℕ) → List ℕ
+joined_entries [] = []
+joined_entries (entry ∷ earlier) = joined_entries earlier ++ entry
 
 -- of these entries the longest run from the oldest on that is within 524,288 bytes
-unfoldable pub kept : List (List ℕ) → List ℕ
-kept [] = []
-kept (entry ∷ earlier) = if nat_le (length (joined (entry ∷ earlier))) 524288 then joined (entry ∷ earlier) else kept earlier
+unfoldable pub kept_run : List (List ℕ) → List ℕ
+kept_run [] = []
+kept_run (entry ∷ earlier) = if nat_le (length (joined_entries (entry ∷ earlier))) 524288 then joined_entries (entry ∷ earlier) else kept_run earlier
 
 -- the bytes are those of all the entries but some of the newest: of such runs within 524,288 bytes the longest
 pub record IsLongestRun (entries : List (List ℕ)) (bytes : List ℕ) : Type 0 where
   pub left_out : ℕ
-  pub run : bytes ≡ joined (drop left_out entries)
+  pub run : bytes ≡ joined_entries (drop left_out entries)
   pub within : length bytes ≤ 524288
-  pub longest : (fewer : ℕ) → fewer < left_out → 524288 < length (joined (drop fewer entries))
+  pub longest : (fewer : ℕ) → fewer < left_out → 524288 < length (joined_entries (drop fewer entries))
 
 -- what is collected for one request: entries, how many more bytes of them are kept, and the sums of packets, bytes and flows
 pub record Gathered : Type 0 where
@@ -89,8 +89,8 @@ gathered number calls =
     let counts = summed number own in
     record {
       number = number;
-      entries = kept (added number own);
-      room = 524288 - length (joined (added number own));
+      entries = kept_run (added number own);
+      room = 524288 - length (joined_entries (added number own));
       packets = sum_by (λ count. count.0) counts % 2 ^ 64;
       bytes = sum_by (λ count. count.1) counts % 2 ^ 64;
       flows = length counts % 2 ^ 32;
@@ -118,8 +118,8 @@ pub record Collected : Type 0 where
   pub spare : ℕ
 
 -- memory was taken for so many more bytes of the request's entries; a request that doesn't collect needs none
-abbrev pub HasRoom : ℕ → ℕ → List Collected → Type 0
-HasRoom number bytes collections = IfSome (find (λ c. c.gathered.number == number) collections) (λ c. bytes ≤ c.spare)
+abbrev pub HasRoomToCollect : ℕ → ℕ → List Collected → Type 0
+HasRoomToCollect number bytes collections = IfSome (find (λ c. c.gathered.number == number) collections) (λ c. bytes ≤ c.spare)
 
 -- the collections after these calls
 pub record CollectionsStand (calls : List CollectionCall) (collections : List Collected) : Type 0 where

@@ -5,7 +5,7 @@ use Rattle.xid_map.specs.Requests.{RequestCall, Issue, MarkError, MarkDone, Forg
 use Rattle.xid_map.specs.Collections.{CollectionCall, Start, Add, Sum, Finish, EndAll, is_among, collecting, since}
 
 -- the request was issued, its number is how many were issued before it, and the switch sees it under this transaction id; since then nothing was forgotten, fewer than 4,096 others were issued, and its marks are those that were set
-pub record IsFound (slot physical : ℕ) (calls : List RequestCall) (request : Issued) : Type 0 where
+pub record IsFoundRequest (slot physical : ℕ) (calls : List RequestCall) (request : Issued) : Type 0 where
   pub later : List RequestCall
   pub earlier : List RequestCall
   pub split : calls ≡ later ++ (Issue request.asked ∷ earlier)
@@ -21,12 +21,12 @@ abbrev pub IsOldest : ℕ → List CollectionCall → Type 0
 IsOldest number calls = (other : ℕ) → other ≢ number → IsTrue (is_among other (collecting calls)) → length (since other calls) < length (since number calls)
 
 -- a call after these ends what the request collects: it finishes this one or ends all, or it begins another while eight collect, of which this is the oldest
-abbrev pub Ends : ℕ → CollectionCall → List CollectionCall → Type 0
-Ends number (Start other) earlier = (is_among other (collecting earlier) ≡ false) × (length (collecting earlier) ≡ 8) × IsOldest number earlier
-Ends number (Add other entry) earlier = ⊥
-Ends number (Sum other packets bytes) earlier = ⊥
-Ends number (Finish other) earlier = other ≡ number
-Ends number EndAll earlier = Unit {0}
+abbrev pub EndsCollecting : ℕ → CollectionCall → List CollectionCall → Type 0
+EndsCollecting number (Start other) earlier = (is_among other (collecting earlier) ≡ false) × (length (collecting earlier) ≡ 8) × IsOldest number earlier
+EndsCollecting number (Add other entry) earlier = ⊥
+EndsCollecting number (Sum other packets bytes) earlier = ⊥
+EndsCollecting number (Finish other) earlier = other ≡ number
+EndsCollecting number EndAll earlier = Unit {0}
 
 -- none of these calls, which come after earlier ones, does this
 abbrev pub NoneOf : {C : Type 0} → (C → List C → Type 0) → List C → List C → Type 0
@@ -39,7 +39,7 @@ pub record IsCollecting (number : ℕ) (calls : List CollectionCall) : Type 0 wh
   pub earlier : List CollectionCall
   pub split : calls ≡ later ++ (Start number ∷ earlier)
   pub began : is_among number (collecting earlier) ≡ false
-  pub not_ended : NoneOf (Ends number) later (Start number ∷ earlier)
+  pub not_ended : NoneOf (EndsCollecting number) later (Start number ∷ earlier)
 
 -- how many of these calls start another request
 abbrev pub others_started : ℕ → List CollectionCall → ℕ

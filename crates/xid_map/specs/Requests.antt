@@ -20,8 +20,8 @@ issued (MarkDone number ∷ earlier) = issued earlier
 issued (Forget ∷ earlier) = issued earlier
 
 -- a mark is set on the request of one number
-abbrev pub marked : (Issued → Issued) → ℕ → Issued → Issued
-marked mark number request = if request.number == number then mark request else request
+abbrev pub with_mark : (Issued → Issued) → ℕ → Issued → Issued
+with_mark mark number request = if request.number == number then mark request else request
 
 -- the request has failed
 abbrev pub with_error : Issued → Issued
@@ -35,8 +35,8 @@ with_reply request = record request { done = true }
 unfoldable pub requests : List RequestCall → List Issued
 requests [] = []
 requests (Issue asked ∷ earlier) = record { number = issued earlier; asked = asked; failed = false; done = false } ∷ requests earlier
-requests (MarkError number ∷ earlier) = map (marked with_error number) (requests earlier)
-requests (MarkDone number ∷ earlier) = map (marked with_reply number) (requests earlier)
+requests (MarkError number ∷ earlier) = map (with_mark with_error number) (requests earlier)
+requests (MarkDone number ∷ earlier) = map (with_mark with_reply number) (requests earlier)
 requests (Forget ∷ earlier) = []
 
 -- the last 4,096 of them are remembered

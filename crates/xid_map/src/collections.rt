@@ -1,5 +1,5 @@
 ghost use Rattle.std.specs.Prelude.{ℕ, ◌≡◌, ◌≢◌, ◌+◌, ◌<◌, ◌==◌, List, [], ◌∷◌, length, take, vec_capacity, find, position, IfOk, IfSome, IsTrue, OnOk, OnErr, option_map, option_copied};
-ghost use Rattle.xid_map.specs.Collections.{CollectionCall, Start, Add, Sum, Finish, EndAll, is_among, collecting, collection_of, entries_of, sums_of, room_of, HasRoom, CollectionsStand};
+ghost use Rattle.xid_map.specs.Collections.{CollectionCall, Start, Add, Sum, Finish, EndAll, is_among, collecting, collection_of, entries_of, sums_of, room_of, HasRoomToCollect, CollectionsStand};
 
 use crate::collection::Collection;
 use of10_action::Bytes;
@@ -55,7 +55,7 @@ impl Collections {
     #[tactic(auto, unfolding(crate::specs::Collections::collecting))]
     pub fn new(alloc: Global) -> Result<Collections, AllocError>
         ensures stands { IfOk result (λ c. CollectionsStand [] c) }
-        ensures room { IfOk result (λ c. (number bytes : ℕ) → HasRoom number bytes c) }
+        ensures room { IfOk result (λ c. (number bytes : ℕ) → HasRoomToCollect number bytes c) }
     {
         Ok(Collections {
             alloc,
@@ -65,10 +65,10 @@ impl Collections {
 
     /// Takes memory for so many more bytes of the request's entries.
     pub fn reserve(&mut self, number: u64, bytes: u32) -> Result<(), AllocError>
-        ensures room { OnOk result (HasRoom number bytes self.new) }
+        ensures room { OnOk result (HasRoomToCollect number bytes self.new) }
         ensures stands { (calls : List CollectionCall) → CollectionsStand calls self.old → CollectionsStand calls self.new }
-        ensures kept { (other more : ℕ) → HasRoom other more self.old → HasRoom other more self.new }
-        ensures full { OnErr result (¬ HasRoom number bytes self.old) }
+        ensures kept { (other more : ℕ) → HasRoomToCollect other more self.old → HasRoomToCollect other more self.new }
+        ensures full { OnErr result (¬ HasRoomToCollect number bytes self.old) }
     {
         match place_of(&self.all, number) {
             Some(place) => self.all[place].reserve(bytes),
@@ -80,7 +80,7 @@ impl Collections {
     pub fn start(&mut self, number: u64)
         ensures stands { (calls : List CollectionCall) → CollectionsStand calls self.old → CollectionsStand (Start number ∷ calls) self.new }
         ensures again { (calls : List CollectionCall) → CollectionsStand calls self.old → IsTrue (is_among number (collecting calls)) → self.new ≡ self.old }
-        ensures kept { (other more : ℕ) → other ≢ number → HasRoom other more self.old → HasRoom other more self.new }
+        ensures kept { (other more : ℕ) → other ≢ number → HasRoomToCollect other more self.old → HasRoomToCollect other more self.new }
     {
         if place_of(&self.all, number).is_some() {
             return;
@@ -96,10 +96,10 @@ impl Collections {
     /// Adds an entry to what the request collects, or leaves it and all later ones out where they pass the
     /// limit. Nothing changes where it doesn't collect.
     pub fn add(&mut self, number: u64, entry: &[u8])
-        requires { HasRoom number (length entry.now) self.old }
+        requires { HasRoomToCollect number (length entry.now) self.old }
         ensures stands { (calls : List CollectionCall) → CollectionsStand calls self.old → CollectionsStand (Add number entry.now ∷ calls) self.new }
-        ensures room { (more : ℕ) → HasRoom number (length entry.now + more) self.old → HasRoom number more self.new }
-        ensures kept { (other more : ℕ) → other ≢ number → HasRoom other more self.old → HasRoom other more self.new }
+        ensures room { (more : ℕ) → HasRoomToCollect number (length entry.now + more) self.old → HasRoomToCollect number more self.new }
+        ensures kept { (other more : ℕ) → other ≢ number → HasRoomToCollect other more self.old → HasRoomToCollect other more self.new }
     {
         if let Some(place) = place_of(&self.all, number) {
             self.all[place].add(entry);
@@ -110,7 +110,7 @@ impl Collections {
     /// collect.
     pub fn sum(&mut self, number: u64, packets: u64, bytes: u64)
         ensures stands { (calls : List CollectionCall) → CollectionsStand calls self.old → CollectionsStand (Sum number packets bytes ∷ calls) self.new }
-        ensures kept { (other more : ℕ) → HasRoom other more self.old → HasRoom other more self.new }
+        ensures kept { (other more : ℕ) → HasRoomToCollect other more self.old → HasRoomToCollect other more self.new }
     {
         if let Some(place) = place_of(&self.all, number) {
             self.all[place].sum(packets, bytes);
@@ -121,7 +121,7 @@ impl Collections {
     #[tactic(auto, unfolding(crate::specs::Collections::collecting))]
     pub fn forget_all(&mut self)
         ensures stands { (calls : List CollectionCall) → CollectionsStand calls self.old → CollectionsStand (EndAll ∷ calls) self.new }
-        ensures room { (number bytes : ℕ) → HasRoom number bytes self.new }
+        ensures room { (number bytes : ℕ) → HasRoomToCollect number bytes self.new }
     {
         self.all.clear();
     }
@@ -154,7 +154,7 @@ impl Collections {
     pub fn finish(&mut self, number: u64) -> Option<Bytes>
         ensures value { (calls : List CollectionCall) → CollectionsStand calls self.old → result ≡ entries_of number calls }
         ensures stands { (calls : List CollectionCall) → CollectionsStand calls self.old → CollectionsStand (Finish number ∷ calls) self.new }
-        ensures kept { (other more : ℕ) → other ≢ number → HasRoom other more self.old → HasRoom other more self.new }
+        ensures kept { (other more : ℕ) → other ≢ number → HasRoomToCollect other more self.old → HasRoomToCollect other more self.new }
     {
         let place = place_of(&self.all, number)?;
         let collection = self.all.remove(place);

@@ -3,13 +3,13 @@
 ghost use Rattle.std.specs.Prelude.{ℕ, List, ◌≡◌, ◌≢◌, ◌<◌, ◌≤◌, ◌↔◌, IsTrue, AllPairs, Some, length};
 ghost use Rattle.xid_map.specs.declared.asked.Issued.{Issued};
 ghost use Rattle.xid_map.specs.Requests.{RequestCall, physical_of, remembered, found};
-ghost use Rattle.xid_map.specs.Collections.{CollectionCall, is_among, collecting, since, kept, IsLongestRun};
-ghost use Rattle.xid_map.specs.Laws.{IsFound, IsCollecting, IsStarted};
+ghost use Rattle.xid_map.specs.Collections.{CollectionCall, is_among, collecting, since, kept_run, IsLongestRun};
+ghost use Rattle.xid_map.specs.Laws.{IsFoundRequest, IsCollecting, IsStarted};
 
 /// A request is found under a transaction id exactly where it was issued under that one and since then
 /// nothing was forgotten and fewer than 4,096 others were issued; and it has the marks that were set since.
 pub fn request_is_found_among_the_last()
-    ensures { (slot physical : ℕ) (calls : List RequestCall) (request : Issued) → (found slot physical calls ≡ Some request) ↔ IsFound slot physical calls request }
+    ensures { (slot physical : ℕ) (calls : List RequestCall) (request : Issued) → (found slot physical calls ≡ Some request) ↔ IsFoundRequest slot physical calls request }
 {}
 
 /// No two remembered requests have one transaction id.
@@ -38,5 +38,5 @@ pub fn at_most_eight_collect()
 
 /// What is kept of entries is the longest run from the oldest on that is within the limit.
 pub fn kept_is_the_longest_run()
-    ensures { (entries : List (List ℕ)) → IsLongestRun entries (kept entries) }
+    ensures { (entries : List (List ℕ)) → IsLongestRun entries (kept_run entries) }
 {}

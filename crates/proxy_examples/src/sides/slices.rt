@@ -3,7 +3,7 @@
 mod lengths;
 
 ghost use Rattle.std.specs.Prelude.{IfOk};
-ghost use Rattle.slice_side.specs.Reactions.{IsSound};
+ghost use Rattle.slice_side.specs.Reactions.{IsSoundChange};
 
 use super::{push_digits, state};
 use crate::expectations::{expect, expect_eq};
@@ -46,7 +46,7 @@ fn set_up(alloc: Global) -> Result<Bench, Fail> {
 
 impl Bench {
     fn hear(&self, alloc: Global, message: &Frame, moment: u64) -> Result<Reaction, AllocError>
-        ensures { IfOk result (λ reaction. IsSound reaction.change) }
+        ensures { IfOk result (λ reaction. IsSoundChange reaction.change) }
     {
         react(
             alloc,

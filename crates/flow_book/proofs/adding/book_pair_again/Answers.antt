@@ -1,5 +1,5 @@
 use Rattle.std.proofs.Common.{sym, ◌∙◌, subst}
-use Rattle.flow_book.specs.Order.{IsInOrder}
+use Rattle.flow_book.specs.Order.{ArePairsInOrder}
 use Rattle.flow_book.specs.Store.{no_pair}
 use Rattle.flow_book.specs.Adding.{with_asked}
 use Rattle.flow_book.proofs.Places.{set_pair, with_asked-gap, IsInOrder-map, KeepsPairs-with_asked}
@@ -12,7 +12,7 @@ returns-in-Ok-clause-items c =
 
 pub returns-in-Ok-clause-order : goal.returns-in-Ok-clause-order
 returns-in-Ok-clause-order c =
-    subst IsInOrder (sym (returns-in-Ok-clause-items c))
+    subst ArePairsInOrder (sym (returns-in-Ok-clause-items c))
     (IsInOrder-map (with_asked c.args.piece.now c.args.priority c.args.asked) (KeepsPairs-with_asked c.args.piece.now c.args.priority c.args.asked) c.args.entries.now.booked c.requires)
 
 pub returns-in_default-clause-items : goal.returns-in_default-clause-items

@@ -2,7 +2,7 @@ use Rattle.std.proofs.Common.{sym, subst}
 use Rattle.std.specs.Prelude.{IsPermutation, ◌∷◌}
 use Rattle.std.proofs.lemmas.Bool.{both_ways}
 use Rattle.std.proofs.lemmas.List.Sorted.{IsPermutation-insert}
-use Rattle.flow_book.specs.Order.{IsInOrder}
+use Rattle.flow_book.specs.Order.{ArePairsInOrder}
 use Rattle.flow_book.specs.Books.{is_booked}
 use Rattle.flow_book.proofs.Places.{is_booked-at, IsInOrder-insert}
 use Rattle.flow_book.proofs.adding.settle.Goals as goal
@@ -19,5 +19,5 @@ returns-clause-added c =
 
 pub returns-clause-order : goal.returns-clause-order
 returns-clause-order c =
-    subst IsInOrder (sym c.insert.ensures.booked)
+    subst ArePairsInOrder (sym c.insert.ensures.booked)
     (IsInOrder-insert c.args.entries.now.booked c.in-Err.place c.args.entry c.requires.order c.place_for.ensures.normal c.in-Err.ensures.absent)

@@ -1,7 +1,7 @@
 use Rattle.std.proofs.Common.{◌≡◌, ◌∙◌, ◌++◌, ℕ, List, sym, subst, arith, rules, take, length, IfSome}
 use Rattle.std.specs.Prelude.{Option}
 use Rattle.std.proofs.lemmas.Grind.{common_steps}
-use Rattle.fv_base.specs.Told.{IsPrefix}
+use Rattle.fv_base.specs.Told.{IsBeginning}
 use Rattle.fv_base.proofs.Loaded.{begins, ends, goes_on}
 use Rattle.fv_base.proofs.transfer.gather.Goals as goal
 
@@ -30,7 +30,7 @@ loop-count-preserved g c =
     let place : c.len.result ≡ length file.items = omega arith in
     let more : c.extend_from_slice.new.self.items ≡ file.items ++ take n c.read.new.into = grind (arith, common_steps) in
     let before = g.F.Files.contents c.loop-count.files path in
-    let Begun : Option (List ℕ) → Type 0 = λ told. IfSome told (λ bytes. IsPrefix c.extend_from_slice.new.self.items bytes) in
+    let Begun : Option (List ℕ) → Type 0 = λ told. IfSome told (λ bytes. IsBeginning c.extend_from_slice.new.self.items bytes) in
     record {
       within = grind (arith, common_steps);
       begun = subst Begun (sym (c.in-Ok.ensures.same path)) (rw more (goes_on before file.items c.loop-count.buffer c.read.new.into c.len.result n place c.loop-count.invariant.begun c.in-Ok.ensures.given));

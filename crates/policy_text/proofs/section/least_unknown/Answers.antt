@@ -1,7 +1,7 @@
 use Rattle.std.proofs.Common.{◌≡◌, ◌∷◌, ◌∙◌, true, false, refl, sym, ap, arith, string_bytes}
 use Rattle.std.proofs.lemmas.Grind.{common_steps}
 use Rattle.std.specs.List.Sorted.{IsStrictlySortedBy}
-use Rattle.policy_text.specs.Reading.{is_known, least}
+use Rattle.policy_text.specs.Reading.{is_known_key, least_text}
 use Rattle.policy_text.proofs.LeastKey.{least_first}
 use Rattle.policy_text.proofs.section.least_unknown.Goals as goal
 
@@ -15,7 +15,7 @@ unfolding IsStrictlySortedBy
 loop-key-preserved c =
     let left : c.loop-key.key-iterator ≡ (c.in-Some.key.now, c.in-Some._value.now) ∷ c.next.new.self = grind (arith, common_steps) in
     let sorted = rw left at c.loop-key.invariant.0 in
-    let known : is_known c.args.part (string_bytes c.in-Some.key.now) ≡ true = grind (arith, common_steps) in
+    let known : is_known_key c.args.part (string_bytes c.in-Some.key.now) ≡ true = grind (arith, common_steps) in
     (sorted.1, rw known at (rw left at c.loop-key.invariant.1))
 
 pub returns-then-not-is_known : goal.returns-then-not-is_known
@@ -23,11 +23,11 @@ unfolding IsStrictlySortedBy
 returns-then-not-is_known c =
     let left : c.loop-key.key-iterator ≡ (c.in-Some.key.now, c.in-Some._value.now) ∷ c.next.new.self = grind (arith, common_steps) in
     let sorted = rw left at c.loop-key.invariant.0 in
-    let unknown : is_known c.args.part (string_bytes c.in-Some.key.now) ≡ false = grind (arith, common_steps) in
+    let unknown : is_known_key c.args.part (string_bytes c.in-Some.key.now) ≡ false = grind (arith, common_steps) in
     let all = rw unknown at (rw left at c.loop-key.invariant.1) in
-    rw c.as_str-then-not-is_known.ensures.value (sym (ap least (sym all) ∙ least_first c.args.part c.in-Some.key.now c.next.new.self sorted.0))
+    rw c.as_str-then-not-is_known.ensures.value (sym (ap least_text (sym all) ∙ least_first c.args.part c.in-Some.key.now c.next.new.self sorted.0))
 
 pub returns : goal.returns
 returns c =
     let none = c.in-None.ensures.steps.0 in
-    ap least (rw none at c.loop-key.invariant.1)
+    ap least_text (rw none at c.loop-key.invariant.1)

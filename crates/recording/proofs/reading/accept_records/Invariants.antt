@@ -2,12 +2,12 @@ use Rattle.std.proofs.Common.{List, length, ◌-◌, ◌≡◌, ◌≤◌, rever
 use Rattle.of10_model.proofs.Results.{with_front}
 use Rattle.recording.specs.declared.item.Item.{Item}
 use Rattle.recording.specs.Recordings.{items_from}
-use Rattle.recording.specs.Standing.{Stands}
+use Rattle.recording.specs.Standing.{TableStands}
 use Rattle.recording.proofs.reading.accept_records.Given as goal
 
 abbrev pub invariant-loop-at : goal.invariant-loop-at
 invariant-loop-at l = record {
-  so_far : (front : List Item) × (with_front front (items_from (length l.bytes) l.slices l.bytes (reverse front) l.at) ≡ items_from (length l.fn.bytes) l.fn.slices l.fn.bytes [] 8) × Stands l.ups.switches l.ups.slices (reverse front);
+  so_far : (front : List Item) × (with_front front (items_from (length l.bytes) l.slices l.bytes (reverse front) l.at) ≡ items_from (length l.fn.bytes) l.fn.slices l.fn.bytes [] 8) × TableStands l.ups.switches l.ups.slices (reverse front);
   inside : l.at ≤ length l.bytes;
 }
 

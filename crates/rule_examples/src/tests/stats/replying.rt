@@ -3,7 +3,7 @@
 ghost use Rattle.std.specs.Prelude.{◌≤◌, length, IfOk};
 ghost use Rattle.of10_stats.specs.declared.protocol.TheConstants.{FLOW};
 ghost use Rattle.stats_filter.specs.Keeping.{entries_in};
-ghost use Rattle.stats_filter.specs.Laws.{AreSmall};
+ghost use Rattle.stats_filter.specs.Laws.{FitPages};
 
 use crate::expectations::expect_eq;
 use of10_ctl::Frame;
@@ -20,7 +20,7 @@ const ENTRY: [u8; 96] = *b"\0\x60\0\0\0\x38\x20\xff\0\0\0\0\0\0\0\0\0\0\0\0\0\0\
 
 /// That entry so often.
 fn flow_entries(alloc: Global, count: u16) -> Result<Vec<u8>, AllocError>
-    ensures { IfOk result (λ v. AreSmall (entries_in FLOW v.items)) }
+    ensures { IfOk result (λ v. FitPages (entries_in FLOW v.items)) }
 {
     let mut entries = Vec::new(alloc);
     for _ in 0..count {

@@ -3,7 +3,7 @@ use Rattle.of10_flow.specs.FlowMods.{spell_flow_mod}
 use Rattle.flowmod_expand.specs.Messages.{piece_messages}
 use Rattle.slice_words.specs.FlowMods.{pieces_on}
 use Rattle.slice_side.specs.Reactions.{ground_at}
-use Rattle.slice_side.specs.Checking.{packet_for, carrier_in}
+use Rattle.slice_side.specs.Checking.{held_for, carrier_in}
 use Rattle.slice_side.proofs.Lines.{built_large, built_late, built_messages, large_told}
 use Rattle.slice_side.proofs.Packets.{used_same}
 use Rattle.slice_side.proofs.flow_mods.built.Goals as goal
@@ -24,7 +24,7 @@ returns-clause-outcome c passes has =
     let carried = c.carrier-carrier.ensures.value ∙ ap₂ carrier_in c.packet_for.ensures (c.deref.ensures.value ∙ c.requires.pieces) in (
       built_late g c.args.m.now c.deref-2.result.now c.args.lists.now c.carrier-carrier.result _ passes has (c.deref-2.ensures.value ∙ c.requires.pieces) c.in-Ok.ensures.exact.1
           (sym c.in-None.is ∙ c.late_fault.ensures g (c.deref-in-Ok.ensures.value ∙ c.requires.pieces) refl refl),
-      built_messages g c.args.m.now c.deref-2.result.now c.args.lists.now c.carrier-carrier.result (carrier_in (packet_for c.args.around.now.state.now c.args.m.now) (pieces_on g c.args.m.now)) c.in-Ok.frames.items has (c.deref-2.ensures.value ∙ c.requires.pieces) c.in-Ok.ensures.exact.0 carried,
+      built_messages g c.args.m.now c.deref-2.result.now c.args.lists.now c.carrier-carrier.result (carrier_in (held_for c.args.around.now.state.now c.args.m.now) (pieces_on g c.args.m.now)) c.in-Ok.frames.items has (c.deref-2.ensures.value ∙ c.requires.pieces) c.in-Ok.ensures.exact.0 carried,
       c.requires.pieces,
       c.used.ensures ∙ ap (option_map (λ (own : ℕ × ℕ). c.args.m.now.buffer)) carried ∙ used_same c.args.around.now.state.now g c.args.m.now (pieces_on g c.args.m.now) refl,
     )

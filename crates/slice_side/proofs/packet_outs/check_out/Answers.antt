@@ -6,7 +6,7 @@ use Rattle.action_check.specs.Permitted.{permitted}
 use Rattle.slice_words.specs.Buffers.{HeldPacket}
 use Rattle.slice_words.specs.FlowMods.{packet_at}
 use Rattle.slice_words.specs.PacketOuts.{origin_with}
-use Rattle.slice_side.specs.Reactions.{kept, ground_at}
+use Rattle.slice_side.specs.Reactions.{without_physical, ground_at}
 use Rattle.slice_side.specs.Checking.{IsChecked}
 use Rattle.slice_side.proofs.Grounds.{ports_own, permitted_same}
 use Rattle.slice_side.proofs.Packets.{kept_packet}
@@ -23,7 +23,7 @@ returns c quota xid =
     let g = ground_at c.args.around.now.policy.now.rules c.args.around.now.slot c.args.around.now.ports.now quota xid c.args.around.now.state.now in
     subst (λ (list : Result (List Action) ℕ). IfOk c.check_actions.result (IsChecked list))
     (ap₂ (λ (origin : Origin) (actions : List Action). permitted c.args.around.now.policy.now.rules c.args.around.now.slot origin actions c.in_ok-floods.floods.flood.items c.in_ok-floods.floods.all.items)
-    (c.origin_of-origin.ensures ∙ ap (λ (packet : Option HeldPacket). origin_with packet c.args.m.now) (ap (option_map kept) c.requires ∙ kept_packet c.args.around.now.state.now g c.args.m.now.buffer refl))
+    (c.origin_of-origin.ensures ∙ ap (λ (packet : Option HeldPacket). origin_with packet c.args.m.now) (ap (option_map without_physical) c.requires ∙ kept_packet c.args.around.now.state.now g c.args.m.now.buffer refl))
     c.as_slice-actions.ensures.value
     ∙ permitted_same c.args.around.now.policy.now.rules c.args.around.now.slot c.args.around.now.ports.now (origin_with (packet_at g c.args.m.now.buffer) c.args.m.now) c.args.m.now.actions c.in_ok-floods.floods.flood.items c.in_ok-floods.floods.all.items
     (rw c.as_slice-actions.ensures.value at c.in_ok-floods.ensures.flood) (rw c.as_slice-actions.ensures.value at c.in_ok-floods.ensures.all))

@@ -3,7 +3,7 @@ use Rattle.std.specs.Prelude.{vec_len}
 use Rattle.of10_message.specs.declared.controller.FromController.TheVariants as said
 use Rattle.slice_words.specs.Alone.{rendered}
 use Rattle.slice_words.specs.Calls.{request_calls}
-use Rattle.slice_words.specs.FlowMods.{Ground, ground_of, pieces_on, packet_of, carrier_of, sent_on}
+use Rattle.slice_words.specs.FlowMods.{Ground, ground_of, pieces_on, named_packet, carrier_of, sent_on}
 use Rattle.slice_words.specs.Standing.{past_of}
 use Rattle.slice_side.specs.Reactions.{ground_at}
 use Rattle.slice_side.specs.Checking.{IsOutcome}
@@ -50,7 +50,7 @@ returns-else-is_empty-clause-follows c s sight stands sees =
     (ap (λ made. made.priority) c.modification.ensures) (ap (λ made. made.asks) c.modification.ensures) (ap (λ made. made.moment) c.modification.ensures)
     (uses_sent s sight.view (past_of s sight.view) c.args.m.now c.modification.result.used
     (ap (λ made. made.used) c.modification.ensures ∙ o.3
-    ∙ same_but_booked (λ (g : Ground). option_map (λ (own : ℕ × ℕ). c.args.m.now.buffer) (carrier_of (packet_of g c.args.m.now) (pieces_on g c.args.m.now))) (λ g booked. refl) s sight c.args.around.now.state.now c.args.around.now.policy.now c.args.around.now.ports.now c.args.around.now.features.now c.args.around.now.slot c.quota-quota.result c.next-xid.result.1 stands sees quotas xids))
+    ∙ same_but_booked (λ (g : Ground). option_map (λ (own : ℕ × ℕ). c.args.m.now.buffer) (carrier_of (named_packet g c.args.m.now) (pieces_on g c.args.m.now))) (λ g booked. refl) s sight c.args.around.now.state.now c.args.around.now.policy.now c.args.around.now.ports.now c.args.around.now.features.now c.args.around.now.slot c.quota-quota.result c.next-xid.result.1 stands sees quotas xids))
     c.forwarding.ensures.to_slice c.forwarding.ensures.to_switch c.forwarding.ensures.close c.forwarding.ensures.change
 
 pub returns-in-Refused-clause-sent : goal.returns-in-Refused-clause-sent

@@ -1,7 +1,7 @@
 use Rattle.std.proofs.Common.{◌≡◌, ℕ, List, [], length, ap, sym, ◌∙◌, subst, arith}
 use Rattle.std.proofs.lemmas.List.{nil_from_length}
 use Rattle.std.specs.Vec.Iter.{into_iter_items}
-use Rattle.switch_side.specs.Changes.{HaveRoom}
+use Rattle.switch_side.specs.Changes.{StatesHaveRoom}
 use Rattle.switch_side.specs.declared.change.Change.{Change}
 use Rattle.switch_side.proofs.Making.{AllOnTheWay, all_begin, all_end, all_step, first_room, later_room}
 use Rattle.switch_side.proofs.applying.apply_all.Goals as goal
@@ -10,7 +10,7 @@ pub apply_at-requires : goal.apply_at-requires
 apply_at-requires c =
     let at = c.loop-slot in
     first_room c.in-Some.slot c.in-Some.change (into_iter_items c.next.new.self) at.states.items
-    (subst (λ (listed : List (ℕ × Change)). HaveRoom listed at.states.items) c.in-Some.ensures.steps.0 at.invariant.room)
+    (subst (λ (listed : List (ℕ × Change)). StatesHaveRoom listed at.states.items) c.in-Some.ensures.steps.0 at.invariant.room)
 
 pub loop-slot-preserved : goal.loop-slot-preserved
 loop-slot-preserved c =
@@ -22,7 +22,7 @@ loop-slot-preserved c =
     record {
       whole = omega arith;
       room = later_room c.in-Some.slot c.in-Some.change (into_iter_items c.next.new.self) at.states.items c.apply_at.new.states.items
-          (subst (λ (listed : List (ℕ × Change)). HaveRoom listed at.states.items) steps.0 at.invariant.room) c.apply_at.ensures;
+          (subst (λ (listed : List (ℕ × Change)). StatesHaveRoom listed at.states.items) steps.0 at.invariant.room) c.apply_at.ensures;
       count = c.apply_at.ensures.count ∙ at.invariant.count;
       way = λ p switch sides moment message begun.
           all_step p switch sides moment message c.in-Some.slot c.in-Some.change (into_iter_items c.next.new.self) at.states.items c.apply_at.new.states.items c.apply_at.ensures

@@ -1,6 +1,6 @@
 use Rattle.std.proofs.Common.{◌≡◌, ℕ, ◌+◌, ◌==◌, false, slice_get, Some, refl, sym, subst, arith}
 use Rattle.std.proofs.lemmas.Option.{slice_get_read}
-use Rattle.switch_side.specs.Changes.{HasRoomAt}
+use Rattle.switch_side.specs.Changes.{StateHasRoomAt}
 use Rattle.switch_side.proofs.Making.{MakesRoom, stand_then, room_more, room_all}
 use Rattle.switch_side.proofs.applying.reserve.Goals as goal
 
@@ -18,7 +18,7 @@ loop-slot-preserved c =
     let new = c.make_room_at.new.states in
     subst (λ (k : ℕ). MakesRoom c.args.changes.now (at.slot-index + 1) (k + 1) c.args.states.now new) (sym same)
     (room_more c.args.changes.now at.slot-index at.next c.args.states.now mid new pair.0 pair.1 at.invariant here (omega (arith, above, same)) c.make_room_at.ensures.stands
-    (subst (λ (k : ℕ). HasRoomAt k pair.1 new) same c.in_ok-make_room_at.ensures.room)
+    (subst (λ (k : ℕ). StateHasRoomAt k pair.1 new) same c.in_ok-make_room_at.ensures.room)
     (subst (λ (k : ℕ). (other : ℕ) → (k == other) ≡ false → slice_get new other ≡ slice_get mid other) same c.make_room_at.ensures.others))
 
 pub returns-clause-room : goal.returns-clause-room

@@ -1,6 +1,6 @@
 use Rattle.std.proofs.Common.{ap, sym, subst, ◌∙◌, arith, length, not}
 use Rattle.std.proofs.lemmas.List.Edits.{length-remove}
-use Rattle.flow_book.specs.Order.{IsInOrder}
+use Rattle.flow_book.specs.Order.{ArePairsInOrder}
 use Rattle.flow_book.specs.Books.{is_pair}
 use Rattle.flow_book.proofs.Counts.{booking_kept}
 use Rattle.flow_book.proofs.Places.{find_pair-at, find_pair-gap, remove_pair, without-gap, IsInOrder-filter}
@@ -9,7 +9,7 @@ use Rattle.flow_book.proofs.book.FlowBook.removed.Goals as goal
 
 pub invariant_of-self : goal.invariant_of-self
 invariant_of-self c = (
-  subst IsInOrder (sym (c.remove.ensures.booked ∙ remove_pair c.self.inside.entries.booked c.args.pattern.now c.args.priority c.in-Ok.place c.self.invariant.0 c.place_of.ensures.normal c.in-Ok.ensures.found))
+  subst ArePairsInOrder (sym (c.remove.ensures.booked ∙ remove_pair c.self.inside.entries.booked c.args.pattern.now c.args.priority c.in-Ok.place c.self.invariant.0 c.place_of.ensures.normal c.in-Ok.ensures.found))
       (IsInOrder-filter (λ b. not (is_pair c.args.pattern.now c.args.priority b)) c.self.inside.entries.booked c.self.invariant.0),
   omega (arith, c.self.invariant.1, ap length c.remove.ensures.booked, length-remove c.self.inside.entries.booked c.in-Ok.place c.in-Ok.ensures.found.in_range),
   c.self.invariant.2,

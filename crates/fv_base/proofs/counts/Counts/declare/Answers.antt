@@ -1,6 +1,6 @@
 use Rattle.std.proofs.Common.{◌≡◌, ◌∙◌, ◌<◌, ap, refl, arith, length}
 use Rattle.fv_base.specs.declared.counts.Count.{Count}
-use Rattle.fv_base.specs.Counts.{place_of}
+use Rattle.fv_base.specs.Counts.{count_place}
 use Rattle.fv_base.proofs.Raised.{faults_at-added, has_count-added, has_count-again}
 use Rattle.fv_base.proofs.counts.Counts.declare.Goals as goal
 
@@ -8,8 +8,8 @@ pub returns-then-place-len-clause-declared : goal.returns-then-place-len-clause-
 returns-then-place-len-clause-declared c at =
     let entries = c.args.self.now.declared.items in
     let name = c.args.name.now in
-    let place : c.place.result ≡ place_of entries name = c.place.ensures ∙ ap (λ e. place_of e name) c.deref.ensures.value in
-    let there : place_of entries name < length entries = omega arith in
+    let place : c.place.result ≡ count_place entries name = c.place.ensures ∙ ap (λ e. count_place e name) c.deref.ensures.value in
+    let there : count_place entries name < length entries = omega arith in
     has_count-again entries name at there
 
 pub returns-clause-count : goal.returns-clause-count

@@ -1,9 +1,9 @@
 use Rattle.std.proofs.Common.{◌≡◌, [], ◌∷◌, ℕ, List, length, Some, set, slice_get, subst, sym, arith}
 use Rattle.std.proofs.lemmas.Option.{slice_get_read}
 use Rattle.flowspace.specs.Policies.{PolicyView}
-use Rattle.desk_words.specs.Recorded.{told_by, carried}
+use Rattle.desk_words.specs.Recorded.{told_by, bytes_carried}
 use Rattle.fv_report.specs.Players.{scene_of, IsPlaying}
-use Rattle.fv_report.specs.Switches.{IsRecord, AllStand, RecordPlayed, PlaysAt}
+use Rattle.fv_report.specs.Switches.{IsRecord, SwitchesStand, RecordPlayed, PlaysAt}
 use Rattle.fv_report.proofs.Running.{is_record, played_among}
 use Rattle.fv_report.proofs.player.Player.play_item.Goals as goal
 
@@ -12,12 +12,12 @@ play_at-requires g c =
     let item = c.args.item.now in
     let at = (c.begin.ensures.scene []).policy in
     subst (λ (b : List ℕ). IsRecord (length c.begin.new.self.policy.now.slices) item b) (sym c.carried-bytes.ensures)
-    (subst (λ (p : PolicyView). IsRecord (length p.slices) item (carried c.args.file.now item)) (sym at) (is_record (length c.args.self.now.policy.now.slices) c.args.file.now item c.requires.item))
+    (subst (λ (p : PolicyView). IsRecord (length p.slices) item (bytes_carried c.args.file.now item)) (sym at) (is_record (length c.args.self.now.policy.now.slices) c.args.file.now item c.requires.item))
 
 pub returns-clause-plays : goal.returns-clause-plays
 returns-clause-plays g c = λ p number before played stands.
     let item = c.args.item.now in
-    let bytes = carried c.args.file.now item in
+    let bytes = bytes_carried c.args.file.now item in
     let r = told_by item bytes in
     let begun = c.begin.new.self in
     let xs = c.args.switches.now in
@@ -29,5 +29,5 @@ returns-clause-plays g c = λ p number before played stands.
     let there : slice_get xs.items r.switch ≡ Some known = subst (λ (n : ℕ). slice_get xs.items n ≡ Some known) same (slice_get_read xs.items _ c.from.result known ok (omega arith) c.index_mut-known.ensures.value) in
     let at = subst (λ (n : ℕ). IsPlaying (scene_of p n r) begun) played.events (subst (λ (q : PolicyView). IsPlaying (scene_of q c.args.self.now.place.number r) begun) played.policy (c.begin.ensures.scene bytes)) in
     let plays = subst (λ (b : List ℕ). PlaysAt g.T.Teller.Tells (told_by item b) c.play_at.result begun c.play_at.new.self known c.play_at.new.known) c.carried-bytes.ensures c.play_at.ensures in
-    subst (λ (n : ℕ). RecordPlayed g.T.Teller.Tells p number r before (AllStand p (r ∷ before) (set xs.items n c.play_at.new.known)) c.play_at.result c.args.self.now c.play_at.new.self) (sym same)
+    subst (λ (n : ℕ). RecordPlayed g.T.Teller.Tells p number r before (SwitchesStand p (r ∷ before) (set xs.items n c.play_at.new.known)) c.play_at.result c.args.self.now c.play_at.new.self) (sym same)
     (played_among g.T.Teller.Tells p number r before c.play_at.result c.args.self.now begun c.play_at.new.self xs.items known c.play_at.new.known c.begin.ensures.teller at there stands plays)

@@ -7,8 +7,8 @@ use Rattle.live_desk.specs.declared.object.DeskReply.{DeskReply}
 use Rattle.live_desk.specs.declared.object.DeskReply.TheVariants.{Stepped, Took}
 
 -- one step, or one take, whatever policy and operations the desk stands for
-abbrev pub Acts : DeskObject → DeskOp → DeskReply → DeskObject → Type 0
-Acts old (Step timed) (Stepped reply) new = Steps old.desk timed reply new.desk
-Acts old (Take dest) (Took taken) new = Takes old.desk dest taken new.desk
-Acts old (Step timed) (Took taken) new = ⊥
-Acts old (Take dest) (Stepped reply) new = ⊥
+abbrev pub Operates : DeskObject → DeskOp → DeskReply → DeskObject → Type 0
+Operates old (Step timed) (Stepped reply) new = Steps old.desk timed reply new.desk
+Operates old (Take dest) (Took taken) new = Takes old.desk dest taken new.desk
+Operates old (Step timed) (Took taken) new = ⊥
+Operates old (Take dest) (Stepped reply) new = ⊥
