@@ -1,61 +1,140 @@
 ghost use Rattle.std.specs.Prelude.{◌≡◌, None, IfOk};
 
-use crate::devices::{BOB, Device, GREETING, IN, NOTHING, SWITCH, Stream, TO_22, UNANSWERED};
-use crate::ports::{Heard, Port, link};
+use crate::devices::{
+    ALICE, BOB, Device, GREETING, IN, Long, NOTHING, OUT, SWITCH, Stream, TO_22, UNANSWERED,
+};
+use crate::ports::{Heard, Line, Port, TURNS, link};
 use crate::threads::begin;
 use fv_base::{MemoryFiles, MemorySink, Words};
-use fv_live::{Host, Links, MemorySource, MemoryWires, Spawner};
-use live_samples::{ClosureSpawner, FEATURES, POLICY, Still, words};
+use fv_live::{Host, Links, MemoryWires, Spawner};
+use live_samples::{ClosureSpawner, FEATURES, LANE, POLICY, Still, words};
 use live_serve::{Gate, SessionWork, Side, serve};
 use std::alloc::{AllocError, Global};
 use std::collections::VecDeque;
 use std::net::{Net, TcpListener, TcpStream};
+use std::process::Abort;
 use std::sync::Arc;
 use std::sync::atomic::{AtomicU64, Ordering};
 use std::test::Fail;
 use std::thread;
 use std::time::Duration;
 
-/// A switch that tells what it is, then of a packet for bob, and then a message that isn't answered.
-const PACKET_FOR_BOB: Device = Device {
-    says: Stream {
-        first: &[FEATURES, IN, TO_22],
-        last: UNANSWERED,
-        ..NOTHING
-    },
-    ..SWITCH
-};
+/// What a message is held for.
+#[derive(Clone, Copy)]
+enum Until {
+    /// So many works have ended.
+    Ended(u64),
+    /// The switch was sent so many bytes, and no others.
+    SwitchSent(u64),
+    /// Bob was.
+    BobSent(u64),
+    /// The switch stands still.
+    SwitchStands,
+    /// The half of the switch's connection that takes was dropped.
+    SwitchIsDropped,
+}
 
-/// The controller of bob, who has one question, and is sent that packet after the answer.
-const BOB_WITH_PACKET: Device = Device {
-    sent: Stream {
-        first: GREETING,
-        last: &["010300080000000b", IN, TO_22],
-        ..NOTHING
-    },
-    ..BOB
-};
+/// A message by its place in the stream of its side.
+type Place = (Side, u64);
 
-/// How many bytes the switch is to be sent, and bob until he is answered, and in all.
-const TO_SWITCH: u64 = 108;
+/// A switch, and the controllers of alice and bob, where they are there; which messages are held back, and until when;
+/// which message lets a switch go on that stands still; whether the switch's own stream ends only with its connection;
+/// and how many bytes the switch, alice and bob are sent.
+struct Case {
+    switch: Device,
+    alice: Option<Device>,
+    bob: Device,
+    holds: &'static [(Place, &'static [Until])],
+    lets_go: Option<Place>,
+    ends_by_the_proxy: bool,
+    sent: [u64; 3],
+}
 
-const ANSWER_TO_BOB: u64 = 16;
+const ALICES: Side = Side::Slice(0);
 
-const TO_BOB: u64 = 88;
+const BOBS: Side = Side::Slice(1);
 
 /// How many works alice has: a reader and a writer. How many all have.
 const ALICES_WORKS: u64 = 2;
 
 const WORKS: u64 = 6;
 
-/// How often a message that is held is looked at again.
-const TURNS: u32 = 10_000;
+/// All was sent of the case below.
+const ALL_IS_SENT: &[Until] = &[Until::SwitchSent(108), Until::BobSent(88)];
 
-/// How many works have ended, what the switch and bob were sent, and how many messages were held for all turns.
+/// There is no controller at alice's address. Bob has a question, held until her works have ended, and is then sent a
+/// packet, held until he is answered.
+const ALICE_IS_NOT_THERE: Case = Case {
+    switch: Device {
+        says: Stream {
+            first: &[FEATURES, IN, TO_22],
+            last: UNANSWERED,
+            ..NOTHING
+        },
+        ..SWITCH
+    },
+    alice: None,
+    bob: Device {
+        sent: Stream {
+            first: GREETING,
+            last: &["010300080000000b", IN, TO_22],
+            ..NOTHING
+        },
+        ..BOB
+    },
+    holds: &[
+        ((BOBS, 0), &[Until::Ended(ALICES_WORKS)]),
+        ((Side::Switch, 1), &[Until::BobSent(16)]),
+        ((BOBS, 1), ALL_IS_SENT),
+        ((Side::Switch, 2), ALL_IS_SENT),
+    ],
+    lets_go: None,
+    ends_by_the_proxy: false,
+    sent: [108, 0, 88],
+};
+
+/// The switch doesn't take the first of 18 long packets that alice sends out, and goes on once all were sent. It has
+/// nothing more to say, and its connection ends where the proxy ends it.
+const LANE_IS_CHOKED: Case = Case {
+    switch: Device {
+        sent: Stream {
+            first: &LANE,
+            long: Long { count: 17, ..OUT },
+            ..NOTHING
+        },
+        free: 108,
+        ..SWITCH
+    },
+    alice: Some(Device {
+        says: Stream {
+            long: OUT,
+            last: UNANSWERED,
+            ..NOTHING
+        },
+        sent: Stream {
+            first: GREETING,
+            ..NOTHING
+        },
+        ..ALICE
+    }),
+    bob: BOB,
+    holds: &[
+        ((ALICES, 0), &[Until::SwitchSent(108)]),
+        ((ALICES, 1), &[Until::SwitchStands]),
+        ((ALICES, 18), &[Until::SwitchIsDropped]),
+        ((BOBS, 1), &[Until::BobSent(16), Until::SwitchIsDropped]),
+    ],
+    lets_go: Some((ALICES, 18)),
+    ends_by_the_proxy: true,
+    sent: [1_114_203, 8, 16],
+};
+
+/// How many works have ended, what the switch, alice and bob were sent, and how many messages were held for all turns.
 #[derive(Drop)]
 struct Seen {
     ended: Arc<AtomicU64, Global>,
     switch: Arc<Heard, Global>,
+    alice: Arc<Heard, Global>,
     bob: Arc<Heard, Global>,
     held_too_long: AtomicU64,
 }
@@ -65,18 +144,26 @@ impl Seen {
         let seen = Seen {
             ended: Arc::new(alloc, AtomicU64::new(0))?,
             switch: Heard::new(alloc)?,
+            alice: Heard::new(alloc)?,
             bob: Heard::new(alloc)?,
             held_too_long: AtomicU64::new(0),
         };
         Ok(Arc::new(alloc, seen)?)
     }
 
-    fn have_ended(&self, works: u64) -> bool {
-        self.ended.load(Ordering::SeqCst) == works
+    fn has(&self, until: Until) -> bool {
+        match until {
+            Until::Ended(works) => self.ended.load(Ordering::SeqCst) == works,
+            Until::SwitchSent(count) => self.switch.has(count),
+            Until::BobSent(count) => self.bob.has(count),
+            Until::SwitchStands => self.switch.is_standing(),
+            Until::SwitchIsDropped => self.switch.is_dropped(),
+        }
     }
 
-    fn are_all_told(&self) -> bool {
-        self.switch.has(TO_SWITCH) && self.bob.has(TO_BOB)
+    fn are_sent(&self, sent: [u64; 3]) -> bool {
+        let [switch, alice, bob] = sent;
+        self.switch.has(switch) && self.alice.has(alice) && self.bob.has(bob)
     }
 
     fn is_none_held(&self) -> bool {
@@ -84,42 +171,46 @@ impl Seen {
     }
 }
 
-/// Holds bob's question until alice's works have ended, the switch's packet until he is answered, and the last
-/// messages until all was sent.
+/// Holds the messages of a case.
 #[derive(Drop)]
-struct AfterAlice {
+struct CaseGate {
     seen: Arc<Seen, Global>,
+    holds: &'static [(Place, &'static [Until])],
+    lets_go: Option<Place>,
 }
 
-impl Clone for AfterAlice {
-    fn clone(&self) -> Result<AfterAlice, AllocError> {
-        Ok(AfterAlice {
+impl Clone for CaseGate {
+    fn clone(&self) -> Result<CaseGate, AllocError> {
+        Ok(CaseGate {
             seen: Arc::try_clone(&self.seen)?,
+            holds: self.holds,
+            lets_go: self.lets_go,
         })
     }
 }
 
-impl AfterAlice {
-    // Whether the message at this place of a stream may pass now.
-    fn lets(&self, side: Side, count: u64) -> bool {
-        match (side, count) {
-            (Side::Switch, 0) => true,
-            (Side::Slice(1), 0) => self.seen.have_ended(ALICES_WORKS),
-            (Side::Switch, 1) => self.seen.bob.has(ANSWER_TO_BOB),
-            _ => self.seen.are_all_told(),
-        }
+impl CaseGate {
+    // Whether the message at this place may pass now.
+    fn lets(&self, place: Place) -> bool {
+        self.holds
+            .iter()
+            .filter(|(held, _)| *held == place)
+            .all(|(_, until)| until.iter().all(|it| self.seen.has(*it)))
     }
 }
 
-impl Gate for AfterAlice {
+impl Gate for CaseGate {
     fn pass<R: Host + Net<Listener = TcpListener, Stream = TcpStream>>(
         &self,
         rt: &R,
         side: Side,
         count: u64,
     ) {
+        if self.lets_go == Some((side, count)) {
+            self.seen.switch.let_go();
+        }
         for _ in 0..TURNS {
-            if self.lets(side, count) {
+            if self.lets((side, count)) {
                 return;
             }
             thread::sleep(rt, Duration::from_millis(1));
@@ -128,20 +219,28 @@ impl Gate for AfterAlice {
     }
 }
 
-type Ports = MemoryWires<MemorySource, Port>;
+type Ports = MemoryWires<Line, Port>;
 
-type CallWork = SessionWork<Ports, Still, AfterAlice>;
+type CallWork = SessionWork<Ports, Still, CaseGate>;
 
-// A switch, the controller of bob, and none at alice's address.
-fn wires(alloc: Global, seen: &Seen) -> Result<Ports, AllocError>
+// A switch, and the controllers that are there.
+fn wires(rt: HostRuntime, alloc: Global, case: &Case, seen: &Seen) -> Result<Ports, AllocError>
     ensures { IfOk result (λ wires. wires.place ≡ None) }
 {
-    let source = PACKET_FOR_BOB.source(alloc)?;
-    let sink = Port::new(alloc, &PACKET_FOR_BOB, &seen.switch)?;
+    let line = Line::new(rt, alloc, &case.switch)?;
+    let line = if case.ends_by_the_proxy {
+        line.ends_with(&seen.switch)?
+    } else {
+        line
+    };
+    let port = Port::new(rt, alloc, &case.switch, &seen.switch)?;
     let mut connections = VecDeque::new(alloc);
-    connections.push_back((source, sink))?;
+    connections.push_back((line, port))?;
     let mut links = Vec::new(alloc);
-    links.push(link(alloc, live_samples::BOB, &BOB_WITH_PACKET, &seen.bob)?)?;
+    if let Some(alice) = &case.alice {
+        links.push(link(rt, alloc, live_samples::ALICE, alice, &seen.alice)?)?;
+    }
+    links.push(link(rt, alloc, live_samples::BOB, &case.bob, &seen.bob)?)?;
     let links = Arc::new(alloc, Links::new(links, Vec::new(alloc)))?;
     Ok(MemoryWires::new(alloc, connections, Vec::new(alloc), links))
 }
@@ -152,11 +251,16 @@ struct Call {
     words: Words,
     files: MemoryFiles,
     wires: Ports,
-    gate: AfterAlice,
+    gate: CaseGate,
     err: MemorySink,
 }
 
-fn prepared(alloc: Global, seen: &Arc<Seen, Global>) -> Result<Call, AllocError>
+fn prepared(
+    rt: HostRuntime,
+    alloc: Global,
+    case: &Case,
+    seen: &Arc<Seen, Global>,
+) -> Result<Call, AllocError>
     ensures { IfOk result (λ call. call.wires.place ≡ None) }
 {
     let mut files = MemoryFiles::new(alloc);
@@ -164,9 +268,11 @@ fn prepared(alloc: Global, seen: &Arc<Seen, Global>) -> Result<Call, AllocError>
     Ok(Call {
         words: words(alloc, &["serve", "policy", "here", "1"])?,
         files,
-        wires: wires(alloc, seen)?,
-        gate: AfterAlice {
+        wires: wires(rt, alloc, case, seen)?,
+        gate: CaseGate {
             seen: Arc::try_clone(seen)?,
+            holds: case.holds,
+            lets_go: case.lets_go,
         },
         err: MemorySink::new(alloc),
     })
@@ -195,11 +301,13 @@ fn status<R: Host + Net<Listener = TcpListener, Stream = TcpStream>, P: Spawner<
     )
 }
 
-#[test]
-fn controller_that_cannot_be_dialled_stops_no_other(rt: HostRuntime) -> Result<(), Fail> {
-    let alloc = rt.alloc();
+// A whole call, by which each is sent what it is to be sent, and after which all works have ended.
+fn serve_case<
+    R: Host + Net<Listener = TcpListener, Stream = TcpStream> + Abort + Copy + Send + 'static,
+>(rt: R, host: HostRuntime, case: &Case) -> Result<(), Fail> {
+    let alloc = host.alloc();
     let seen = Seen::new(alloc)?;
-    let mut call = prepared(alloc, &seen)?;
+    let mut call = prepared(host, alloc, case, &seen)?;
     let mut spawner = ClosureSpawner::new(
         alloc,
         Vec::new(alloc),
@@ -209,7 +317,17 @@ fn controller_that_cannot_be_dialled_stops_no_other(rt: HostRuntime) -> Result<(
     assert_eq!(rt; status, 0);
     assert!(rt; call.err.as_slice().is_empty());
     assert!(rt; seen.is_none_held());
-    assert!(rt; seen.are_all_told());
-    assert!(rt; seen.have_ended(WORKS));
+    assert!(rt; seen.are_sent(case.sent));
+    assert!(rt; seen.has(Until::Ended(WORKS)));
     Ok(())
+}
+
+#[test]
+fn controller_that_cannot_be_dialled_stops_no_other(rt: HostRuntime) -> Result<(), Fail> {
+    serve_case(rt, rt, &ALICE_IS_NOT_THERE)
+}
+
+#[test]
+fn connection_of_a_switch_that_takes_nothing_is_ended(rt: HostRuntime) -> Result<(), Fail> {
+    serve_case(rt, rt, &LANE_IS_CHOKED)
 }

@@ -25,6 +25,11 @@ pub const TO_22: &str = "0000000000020000000000010800450000280000000040060000\
 0a0000010a000002040000160000000000000000500200000000\
 0000";
 
+/// A packet for TCP port 80.
+pub const TO_80: &str = "0000000000020000000000010800450000280000000040060000\
+0a0000010a000002040000500000000000000000500200000000\
+0000";
+
 /// Messages of one type that are as long as they can be: with the transactions from 0 on, and bodies that begin so
 /// and go on with zeros.
 #[derive(Clone, Copy)]
@@ -33,6 +38,13 @@ pub struct Long {
     pub body: &'static [&'static str],
     pub count: u32,
 }
+
+/// Packets for TCP port 80, to be sent out by port 2.
+pub const OUT: Long = Long {
+    kind: 13,
+    body: &["ffffffffffff00080000000800020000", TO_80],
+    count: 18,
+};
 
 /// The bytes of these digits, long messages, and the bytes of those digits.
 #[derive(Clone, Copy)]

@@ -10,7 +10,7 @@ use std::thread;
 use std::time::Duration;
 
 /// How often a message that is held is looked at again.
-const TURNS: u32 = 200;
+const TURNS: u32 = 1_000;
 
 /// How long each time, in milliseconds.
 const PAUSE: u64 = 50;

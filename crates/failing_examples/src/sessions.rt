@@ -2,8 +2,8 @@ ghost use Rattle.std.specs.Arc.{arc_value};
 ghost use Rattle.turn_desk.specs.Seats.{IsSeatOf, SameDesk};
 
 use crate::devices::{
-    ALICE, BOB, Device, GREETING, IN, Long, NOTHING, SWITCH, Stream, TO_22, Told, UNANSWERED,
-    told_to_all,
+    ALICE, BOB, Device, GREETING, IN, Long, NOTHING, OUT, SWITCH, Stream, TO_22, TO_80, Told,
+    UNANSWERED, told_to_all,
 };
 use crate::expectations::{expect, expect_equal};
 use crate::gate::Hold;
@@ -43,18 +43,7 @@ const ECHO: Long = Long {
     count: 65,
 };
 
-/// Packets for TCP port 80, to be sent out by port 2.
-const OUT: Long = Long {
-    kind: 13,
-    body: &["ffffffffffff00080000000800020000", TO_80],
-    count: 18,
-};
-
 const MORE_THAN_MAY_WAIT: Long = Long { count: 40, ..OUT };
-
-const TO_80: &str = "0000000000020000000000010800450000280000000040060000\
-0a0000010a000002040000500000000000000000500200000000\
-0000";
 
 /// The switch was sent what it is to be sent, and the readers of both slices have ended.
 const SLICES_ARE_OVER: &[Mark] = &[
