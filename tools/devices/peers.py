@@ -21,6 +21,9 @@ class Peer(asyncio.Protocol):
 
     def connection_made(self, transport):
         self.transport = transport
+        # asyncio doesn't ask for it at connections that a server accepts: there small messages would wait for the
+        # other end's acknowledgement of those before, and so for what it sends next.
+        transport.get_extra_info("socket").setsockopt(socket.IPPROTO_TCP, socket.TCP_NODELAY, 1)
 
     def connection_lost(self, error):
         if not self.closed.done():
