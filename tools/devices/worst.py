@@ -1,8 +1,8 @@
 """The others' latency while one slice sends the worst messages, beside that without them.
 
-The slice sends its messages round by round, each with a barrier behind it, and the next once the barrier was answered:
-so it keeps the proxy at work, and has no more under way than one round. At the end it sends in one go what is more than
-may wait for a switch, which reads all the time.
+The slice's controller, a process of its own, sends its messages round by round, each with a barrier behind it, and the
+next once the barrier was answered: so it keeps the proxy at work, and has no more under way than one round. At the end
+it sends in one go what is more than may wait for a switch, which reads all the time.
 """
 
 import asyncio
@@ -11,19 +11,11 @@ import dataclasses
 import statistics
 import struct
 
-from devices.loads import (
-    HEAVY_PORTS,
-    ONE_PORT,
-    SWITCH_PORTS,
-    everything,
-    flows_told,
-    full_book,
-    loads,
-    loads_of_one_port,
-)
-from devices.messages import Kind, number_of_packet_in, numbered_flow_mod, numbered_packet_in, output
+from devices.heavy import LISTS, Heavy
+from devices.loads import HEAVY_PORTS, ONE_PORT, SWITCH_PORTS, flows_told
+from devices.messages import Kind, number_of_packet_in, numbered_flow_mod, numbered_packet_in
 from devices.outcome import Outcome, expect
-from devices.peers import Controller, Link, Peer
+from devices.peers import Controller, Link, Scanning
 from devices.proxy import Proxy, Slice, slice_at
 from devices.site import AMPLE
 from sunworsted import features_reply, message
@@ -37,30 +29,8 @@ PATIENCE = 60
 ROUNDS = 5
 # What the others' latency may grow to, as a multiple.
 RATIO = 2
-# How many bytes begin with a mark.
-SCANNED = 8
 # A burst of small flow-mods in 256 pieces each: 2 MB in all for the switch.
 BURST = 100
-
-
-class Scanning(Peer):
-    """A peer that looks for some marks in all that comes, and not message by message, so that it keeps up."""
-
-    def __init__(self, marks):
-        super().__init__()
-        self.marks = marks
-        self.left = b""
-
-    def data_received(self, data):
-        data = self.left + data
-        for mark, hear in self.marks.items():
-            # Two bytes of which the second is rare are found soonest.
-            at = data.find(mark[:2])
-            while 0 <= at <= len(data) - SCANNED:
-                if data.startswith(mark, at):
-                    hear(data[at : at + SCANNED])
-                at = data.find(mark[:2], at + 1)
-        self.left = data[1 - SCANNED :]
 
 
 class QuickSwitch(Scanning):
@@ -107,32 +77,6 @@ class Answering(Link):
             super().hear(kind, frame)
 
 
-class Heavy(Scanning):
-    """The end of the controller whose messages are the worst; by their length errors are told from what else comes."""
-
-    def __init__(self, controller):
-        super().__init__({b"\x01\x13\0\x08": self.hear_done, b"\0\x4c": self.hear_refusal})
-        self.controller = controller
-        self.is_refused = False
-        self.done = asyncio.Event()
-
-    def connection_made(self, transport):
-        super().connection_made(transport)
-        self.controller.came.put_nowait(self)
-
-    def hear_done(self, _):
-        self.done.set()
-
-    def hear_refusal(self, _):
-        self.is_refused = True
-
-    async def round(self, data):
-        """Sends this, and a barrier that is answered."""
-        self.done.clear()
-        self.send(data + message(Kind.BARRIER_REQUEST, 9, b""))
-        await asyncio.wait_for(self.done.wait(), PATIENCE)
-
-
 @dataclasses.dataclass
 class Latency:
     """Median and 99th of a hundred, in microseconds."""
@@ -146,18 +90,17 @@ class Latency:
 
 
 class Bench:
-    """The peers, once all are connected."""
+    """The peers, once all are connected, and the list of the loads."""
 
-    def __init__(self, proxy, switch, heavy, links):
-        self.proxy, self.switch, self.heavy, self.links = proxy, switch, heavy, links
+    def __init__(self, proxy, switch, heavy, links, name):
+        self.proxy, self.switch, self.heavy, self.links, self.name = proxy, switch, heavy, links, name
         self.turns = self.rounds = 0
-        self.is_sending = False
+        self.is_refused = False
 
-    async def cost(self, load):
+    async def cost(self, place):
         """The processor time that the proxy takes for a round, in milliseconds."""
         before = self.proxy.processor_seconds
-        for _ in range(ROUNDS):
-            await self.heavy.round(load.data)
+        await self.heavy.order("rounds", self.name, place, ROUNDS)
         return (self.proxy.processor_seconds - before) / ROUNDS * 1e3
 
     async def latencies(self):
@@ -176,38 +119,33 @@ class Bench:
             await asyncio.sleep(INTERVAL)
         return switch.times
 
-    async def keep_sending(self, load):
-        while self.is_sending:
-            await self.heavy.round(load.data)
-            self.rounds += 1
-
     @contextlib.asynccontextmanager
-    async def under(self, load):
+    async def under(self, place):
         """The heavy slice sends round by round."""
-        self.is_sending = True
-        sending = asyncio.create_task(self.keep_sending(load))
+        await self.heavy.order("go", self.name, place)
         try:
             yield
         finally:
-            self.is_sending = False
-            await sending
+            rounds, is_refused = map(int, (await self.heavy.order("halt")).split())
+            self.rounds += rounds
+            self.is_refused = bool(is_refused)
 
-    async def compare(self, load):
+    async def compare(self, place):
         """The latencies without the load and with it, block by block in turn; and how many rounds there were."""
         without, beside = [], []
         self.rounds = 0
         for _ in range(BLOCKS):
             without += await self.latencies()
-            async with self.under(load):
+            async with self.under(place):
                 beside += await self.latencies()
         return Latency.of(without), Latency.of(beside), self.rounds
 
-    async def seen_under(self, load, faults):
+    async def seen_under(self, place, faults):
         """What is seen under a load, in some words."""
-        self.heavy.is_refused = False
-        cost = await self.cost(load)
-        without, beside, rounds = await self.compare(load)
-        is_refused = self.heavy.is_refused
+        load = LISTS[self.name]()[place]
+        cost = await self.cost(place)
+        without, beside, rounds = await self.compare(place)
+        is_refused = self.is_refused
         expect(faults, is_refused == load.is_refused, f"{load.name}: refused {is_refused}, and not {load.is_refused}")
         ratio, late = beside.median / without.median, beside.late / without.late
         expect(faults, ratio <= RATIO, f"{load.name}: the median grew {ratio:.1f} times")
@@ -217,9 +155,12 @@ class Bench:
             f"({ratio:.1f}), 99th {without.late:.0f} to {beside.late:.0f} ({late:.1f})"
         )
 
+    async def seen_under_all(self, faults):
+        return [await self.seen_under(place, faults) for place in range(len(LISTS[self.name]()))]
+
     async def burst(self, faults):
         """Sends more at once than may wait for the switch; what becomes of that."""
-        self.heavy.send(everything(output(2)) * BURST)
+        await self.heavy.order("burst", BURST)
         await asyncio.sleep(1)
         if self.switch.is_closed:
             faults.append(f"the switch, which reads all the time, was closed by {BURST} flow-mods of one slice at once")
@@ -228,28 +169,34 @@ class Bench:
 
 
 @contextlib.asynccontextmanager
-async def bench_of(program, fields=""):
-    """A bench whose heavy slice has rules that also say this."""
-    heavy, *others = Controller(0, Heavy), *(Controller(slot, Answering) for slot in range(1, OTHERS + 1))
-    for controller in (heavy, *others):
+async def bench_of(program, name, fields=""):
+    """A bench for a list of loads, whose heavy slice has rules that also say this."""
+    others = [Controller(slot, Answering) for slot in range(1, OTHERS + 1)]
+    for controller in others:
         await controller.listen()
-    slices = [
-        Slice("heavy", heavy.port, HEAVY_PORTS, AMPLE, fields),
-        *(slice_at(each.slot, each, AMPLE) for each in others),
-    ]
-    async with Proxy(program, slices) as proxy:
-        switch = await proxy.connect(QuickSwitch())
-        yield Bench(proxy, switch, await heavy.next_link(), [await each.next_link() for each in others])
+    async with Heavy() as heavy:
+        slices = [
+            Slice("heavy", heavy.port, HEAVY_PORTS, AMPLE, fields),
+            *(slice_at(each.slot, each, AMPLE) for each in others),
+        ]
+        async with Proxy(program, slices) as proxy:
+            switch = await proxy.connect(QuickSwitch())
+            expect_came(await heavy.told())
+            yield Bench(proxy, switch, heavy, [await each.next_link() for each in others], name)
+
+
+def expect_came(told):
+    if told != "came":
+        raise ConnectionError(told)
 
 
 async def run(program):
     faults = []
-    async with bench_of(program, f"in_port = {ONE_PORT}\n") as bench:
-        seen = [await bench.seen_under(load, faults) for load in loads_of_one_port()]
-    async with bench_of(program) as bench:
-        for data in full_book():
-            await bench.heavy.round(data)
-        seen += [await bench.seen_under(load, faults) for load in loads()]
+    async with bench_of(program, "one_port", f"in_port = {ONE_PORT}\n") as bench:
+        seen = await bench.seen_under_all(faults)
+    async with bench_of(program, "all") as bench:
+        await bench.heavy.order("fill")
+        seen += await bench.seen_under_all(faults)
         became = await bench.burst(faults)
     seen.append(f"the switch {became} where {BURST} flow-mods in 256 pieces came at once")
     return Outcome("the others' latency: " + "; ".join(seen), faults)
