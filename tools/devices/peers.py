@@ -23,8 +23,8 @@ class Peer(asyncio.Protocol):
 
     def connection_made(self, transport):
         self.transport = transport
-        # asyncio doesn't ask for it at connections that a server accepts: there small messages would wait for the
-        # other end's acknowledgement of those before, and so for what it sends next.
+        # asyncio asks for it only where the socket names TCP, as those don't that `create_server` of `socket` accepts.
+        # Without it small messages wait for the other end's acknowledgement of those before, so for what it sends next.
         transport.get_extra_info("socket").setsockopt(socket.IPPROTO_TCP, socket.TCP_NODELAY, 1)
 
     def connection_lost(self, error):
