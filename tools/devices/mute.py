@@ -24,12 +24,18 @@ GROWTH = 4_096
 
 
 class Mute(Switch):
-    """A switch that reads until it is prepared, and then never."""
+    """A switch that reads until it is prepared, and then never, until it is to see what became of its connection."""
+
+    is_mute = True
 
     def hear(self, kind, frame):
         super().hear(kind, frame)
-        if self.prepared.done():
+        if self.prepared.done() and self.is_mute:
             self.transport.pause_reading()
+
+    def look(self):
+        self.is_mute = False
+        self.transport.resume_reading()
 
 
 async def send_out(link):
@@ -52,7 +58,7 @@ async def stand_still(switch, links):
     for sender in senders:
         sender.cancel()
         await ended(sender)
-    switch.transport.resume_reading()
+    switch.look()
     await asyncio.wait([switch.closed], timeout=PATIENCE)
     return seconds, switch.is_closed
 
