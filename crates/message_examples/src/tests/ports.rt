@@ -1,167 +1,150 @@
 //! Ports, and the two messages that tell of them.
 
-use crate::expectations::{expect, expect_eq};
-use of10_action::{DecodeFault, WireFault};
-use of10_ctl::kind::{FEATURES_REPLY, PORT_STATUS};
+use crate::expectations::expect_eq;
+use crate::readings::{Form, Row, expect_read};
+use of10_port::Port;
 use of10_port::protocol::NO_FLOOD;
-use of10_port::{Features, Port, PortStatus, Ports};
-use std::alloc::{AllocError, Global};
 use std::test::Fail;
-use wire_samples::message_of;
 
-/// The features of the datapath 0xa1, before its ports; the length is that of four ports.
-const FRONT: &[u8] = b"\x01\x06\x00\xe0\xff\x00\x00\x01\x00\x00\x00\x00\x00\x00\x00\xa1\
-\x00\x00\x01\x00\x01\x00\x00\x00\x00\x00\x00\x00\x00\x00\x0f\xff";
+/// The bytes of a port behind its number, where they are zeros.
+const ZEROS: &str =
+    "00000000000000000000000000000000000000000000000000000000000000000000000000000000000000000000";
 
-/// The change of port 2, before its port: it was modified.
-const CHANGE: &[u8] = b"\x01\x0c\x00\x40\x00\x00\x00\x2a\x02\x00\x00\x00\x00\x00\x00\x00";
+/// The same bytes as they are said, with the end of what a port says.
+const ZEROS_SAID: &str =
+    "0, 0, 0, 0, 0, 0, 0, 0, 0, 0, 0, 0, 0, 0, 0, 0, 0, 0, 0, 0, 0, 0, 0, 0, 0, 0, 0, 0, 0, 0, 0, 0, 0, 0, 0, 0, 0, 0, 0, 0, 0, 0, 0, 0, 0, 0] }";
 
-/// A port of this number, with all else zero.
-fn port_of(number: u16) -> [u8; 48] {
-    let mut raw = [0; 48];
-    raw[0] = (number >> 8) as u8;
-    raw[1] = (number & 0xff) as u8;
-    raw
-}
-
-/// What the bytes are read as, where they are a FEATURES_REPLY.
-fn features_of(
-    alloc: Global,
-    bytes: &[u8],
-) -> Result<Option<Result<Features, DecodeFault>>, AllocError> {
-    Ok(match message_of(alloc, FEATURES_REPLY, bytes)? {
-        Some(frame) => Some(Features::decode(alloc, &frame)),
-        None => None,
-    })
-}
-
-/// What the bytes are read as, where they are a PORT_STATUS.
-fn status_of(
-    alloc: Global,
-    bytes: &[u8],
-) -> Result<Option<Result<PortStatus, WireFault>>, AllocError> {
-    Ok(match message_of(alloc, PORT_STATUS, bytes)? {
-        Some(frame) => Some(PortStatus::decode(&frame)),
-        None => None,
-    })
-}
-
-/// A message of this type and of so many bytes.
-fn blank_message(alloc: Global, kind: u8, length: u16) -> Result<Vec<u8>, AllocError> {
-    let mut bytes = vec![in alloc; 0; usize::from(length)]?;
-    for (at, byte) in [
-        (0, 1),
-        (1, kind),
-        (2, (length >> 8) as u8),
-        (3, (length & 0xff) as u8),
-    ] {
-        if let Some(place) = bytes.get_mut(at) {
-            *place = byte;
-        }
-    }
-    Ok(bytes)
-}
+/// The features of the datapath 0xa1, with four ports.
+const FEATURES: &[Row] = &[(
+    &[
+        "010600e0 ff000001 00000000000000a1 00000100 01 000000 00000000 00000fff",
+        "0001",
+        ZEROS,
+        "0002",
+        ZEROS,
+        "0003",
+        ZEROS,
+        "fffe",
+        ZEROS,
+    ],
+    0,
+    &[
+        "Features { datapath: 161, buffers: 256, tables: 1, capabilities: 0, actions: 4095, ports: Ports { items: [",
+        "Port { raw: [0, 1, ",
+        ZEROS_SAID,
+        ", Port { raw: [0, 2, ",
+        ZEROS_SAID,
+        ", Port { raw: [0, 3, ",
+        ZEROS_SAID,
+        ", Port { raw: [255, 254, ",
+        ZEROS_SAID,
+        "] } } number 1 config 0 number 2 config 0 number 3 config 0 number 65534 config 0",
+    ],
+)];
 
 #[test]
 fn features_are_read_and_written(rt: HostRuntime) -> Result<(), Fail> {
-    let alloc = rt.alloc();
-    let mut message = Vec::from_slice(alloc, FRONT)?;
-    for number in [1, 2, 3, 0xfffe] {
-        message.extend_from_slice(&port_of(number))?;
-    }
-    let Some(Ok(features)) = features_of(alloc, &message)? else {
-        expect!(rt; false, "no features");
-        return Ok(());
-    };
-    expect_eq!(rt; features.datapath, 0xa1);
-    expect_eq!(rt; features.buffers, 256);
-    expect_eq!(rt; features.tables, 1);
-    expect_eq!(rt; features.capabilities, 0);
-    expect_eq!(rt; features.actions, 0xfff);
-    let wanted = [
-        Port::of(port_of(1)),
-        Port::of(port_of(2)),
-        Port::of(port_of(3)),
-        Port::of(port_of(0xfffe)),
-    ];
-    expect_eq!(rt; features.ports.as_slice(), wanted.as_slice());
-    let made = Features {
-        datapath: 0xa1,
-        buffers: 256,
-        tables: 1,
-        capabilities: 0,
-        actions: 0xfff,
-        ports: Ports::of(alloc, &wanted)?,
-    };
-    let written = made.encode(alloc, 0xff000001)?;
-    expect_eq!(rt; written.as_slice(), message.as_slice());
-    Ok(())
+    expect_read(rt.alloc(), Form::Message, FEATURES)
 }
+
+/// Features of zeros, with whole ports and without.
+const LENGTHS_OF_FEATURES: &[Row] = &[
+    (
+        &["01060020"],
+        32,
+        &[
+            "Features { datapath: 0, buffers: 0, tables: 0, capabilities: 0, actions: 0, ports: Ports { items: [",
+            "] } }",
+        ],
+    ),
+    (
+        &["01060050"],
+        80,
+        &[
+            "Features { datapath: 0, buffers: 0, tables: 0, capabilities: 0, actions: 0, ports: Ports { items: [",
+            "Port { raw: [0, 0, ",
+            ZEROS_SAID,
+            "] } } number 0 config 0",
+        ],
+    ),
+    (
+        &["01060080"],
+        128,
+        &[
+            "Features { datapath: 0, buffers: 0, tables: 0, capabilities: 0, actions: 0, ports: Ports { items: [",
+            "Port { raw: [0, 0, ",
+            ZEROS_SAID,
+            ", Port { raw: [0, 0, ",
+            ZEROS_SAID,
+            "] } } number 0 config 0 number 0 config 0",
+        ],
+    ),
+    (&["01060008"], 8, &["Length(8)"]),
+    (&["0106001f"], 31, &["Length(31)"]),
+    (&["01060021"], 33, &["Length(33)"]),
+    (&["0106004f"], 79, &["Length(79)"]),
+    (&["01060051"], 81, &["Length(81)"]),
+];
 
 #[test]
 fn features_have_whole_ports(rt: HostRuntime) -> Result<(), Fail> {
-    let alloc = rt.alloc();
-    for (length, ports) in [
-        (32, Some(0)),
-        (80, Some(1)),
-        (128, Some(2)),
-        (8, None),
-        (31, None),
-        (33, None),
-        (79, None),
-        (81, None),
-    ] {
-        let message = blank_message(alloc, FEATURES_REPLY, length)?;
-        let right = match (features_of(alloc, &message)?, ports) {
-            (Some(Ok(features)), Some(count)) => features.ports.as_slice().len() == count,
-            (Some(Err(fault)), None) => fault == DecodeFault::Wire(WireFault::Length(length)),
-            _ => false,
-        };
-        expect!(rt; right, length);
-    }
-    Ok(())
+    expect_read(rt.alloc(), Form::Message, LENGTHS_OF_FEATURES)
 }
 
 #[test]
 fn a_port_has_a_number_and_a_configuration(rt: HostRuntime) {
-    let mut raw = port_of(7);
+    let mut raw = [0; 48];
+    raw[1] = 7;
     raw[27] = 0x51;
     let port = Port::of(raw);
-    expect_eq!(rt; port.number(), 7);
-    expect_eq!(rt; port.config(), 0x51);
+    expect_eq!(rt; (port.number(), port.config()), (7, 0x51));
     expect_eq!(rt; port.config() & NO_FLOOD, 16);
-    expect_eq!(rt; Port::of(port_of(0xfffe)).config() & NO_FLOOD, 0);
+    raw = [0; 48];
+    raw[0] = 0xff;
+    raw[1] = 0xfe;
+    expect_eq!(rt; Port::of(raw).config() & NO_FLOOD, 0);
 }
+
+/// Port 2 was modified; what stands in the padding doesn't count.
+const CHANGES: &[Row] = &[
+    (
+        &["010c0040 0000002a 02 00000000000000", "0002", ZEROS],
+        0,
+        &[
+            "PortStatus { reason: 2, port: Port { raw: [0, 2, ",
+            ZEROS_SAID,
+            " }",
+        ],
+    ),
+    (
+        &["010c0040 0000002a 02 01000000000000", "0002", ZEROS],
+        0,
+        &[
+            "PortStatus { reason: 2, port: Port { raw: [0, 2, ",
+            ZEROS_SAID,
+            " }",
+            " written as 010c00400000002a02",
+            "00000000000000",
+            "0002",
+            ZEROS,
+        ],
+    ),
+];
 
 #[test]
 fn a_change_is_read_and_written(rt: HostRuntime) -> Result<(), Fail> {
-    let alloc = rt.alloc();
-    let status = PortStatus {
-        reason: 2,
-        port: Port::of(port_of(2)),
-    };
-    let mut message = Vec::from_slice(alloc, CHANGE)?;
-    message.extend_from_slice(&port_of(2))?;
-    expect_eq!(rt; status_of(alloc, &message)?, Some(Ok(status)));
-    let written = status.encode(alloc, 0x2a)?;
-    expect_eq!(rt; written.as_slice(), message.as_slice());
-    // what stands in the padding doesn't count
-    if let Some(pad) = message.get_mut(9) {
-        *pad = 1;
-    }
-    expect_eq!(rt; status_of(alloc, &message)?, Some(Ok(status)));
-    Ok(())
+    expect_read(rt.alloc(), Form::Message, CHANGES)
 }
+
+const LENGTHS_OF_CHANGES: &[Row] = &[
+    (&["010c0008"], 8, &["Length(8)"]),
+    (&["010c0010"], 16, &["Length(16)"]),
+    (&["010c003f"], 63, &["Length(63)"]),
+    (&["010c0041"], 65, &["Length(65)"]),
+    (&["010c0070"], 112, &["Length(112)"]),
+];
 
 #[test]
 fn a_change_has_one_length(rt: HostRuntime) -> Result<(), Fail> {
-    let alloc = rt.alloc();
-    for length in [8, 16, 63, 65, 112] {
-        let message = blank_message(alloc, PORT_STATUS, length)?;
-        expect_eq!(rt;
-            status_of(alloc, &message)?,
-            Some(Err(WireFault::Length(length)))
-        );
-    }
-    Ok(())
+    expect_read(rt.alloc(), Form::Message, LENGTHS_OF_CHANGES)
 }
