@@ -1,7 +1,9 @@
 mod bookings;
 mod buffers;
+mod collections;
 mod ports;
 mod queues;
 mod rates;
 mod recordings;
 mod requests;
+mod tables;

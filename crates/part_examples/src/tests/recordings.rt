@@ -1,5 +1,6 @@
 //! Recordings, spelled out as bytes: their records and their first faults.
 
+use crate::tests::tables::{Part, expect, play, told};
 use recording::*;
 use std::alloc::{AllocError, Global};
 use std::test::Fail;
@@ -50,208 +51,192 @@ fn file_of(alloc: Global, words: &str) -> Result<Vec<u8>, AllocError> {
     bytes(alloc, &pieces)
 }
 
-fn told(alloc: Global, words: &str, slices: u8) -> Result<String, AllocError> {
-    let file = file_of(alloc, words)?;
-    match items(alloc, &file, slices) {
-        Ok(found) => format!(in alloc; "{} records", found.len()),
-        Err(fault) => format!(in alloc; "{fault:?}"),
+/// A policy of so many slices, under which the file of the words is read.
+type Words = (u8, &'static str);
+
+/// What reads files.
+#[derive(Drop)]
+struct Reader {
+    alloc: Global,
+}
+
+impl Part<Words> for Reader {
+    fn answer(&mut self, (slices, words): &Words) -> Result<String, AllocError> {
+        let file = file_of(self.alloc, words)?;
+        match items(self.alloc, &file, *slices) {
+            Ok(found) => told(self.alloc, &found),
+            Err(fault) => told(self.alloc, &fault),
+        }
     }
 }
 
-/// The first row that is told otherwise, with what is told; nothing where none is. Each line is a row, the words
-/// of a file and the fault that is to be found in it, or begins with # and says what the rows below it show.
-fn told_otherwise(alloc: Global, rows: &str, slices: u8) -> Result<String, AllocError> {
-    for row in rows.lines() {
-        if row.starts_with('#') {
-            continue;
-        }
-        let Some((words, wanted)) = row.split_once(" => ") else {
-            return format!(in alloc; "no row: {row}");
-        };
-        let answer = told(alloc, words, slices)?;
-        if answer.as_str() != wanted {
-            return format!(in alloc; "{words}: {answer}");
-        }
-    }
-    Ok(String::new(alloc))
+fn play_files(alloc: Global, rows: &[(Words, &str)]) -> Result<(), Fail> {
+    play(&mut Reader { alloc }, rows)
 }
 
-/// Files under a policy of two slices.
-const FAULT_ROWS: &str = "\
-# The eight bytes that begin the file
-nothing => Torn(0)
-46565245430000 => Torn(0)
-ffffff => Torn(0)
-4656524543000002 => Bad(0)
-0056524543000001 up => Bad(0)
-# Fewer bytes than a head has
-begin 00 => Torn(8)
-begin up 00000000000000000000 => Torn(24)
-begin 060000000000000000000000000000 => Torn(8)
-# The kind, also of a record that is cut off
-begin 06000000000000000000000000000000 => Bad(8)
-begin up 06000000000000030000000000000000 => Bad(24)
-begin up ff000000000000000000000000000000 => Bad(24)
-# The switch
-begin 00100000000000000000000000000000 => Bad(8)
-# The slot: 0 where the record is of no slice, else a slot of the policy
-begin 00000100000000000000000000000000 => Bad(8)
-begin up 01000100000000000000000000000000 => Bad(24)
-begin up 02000100000000000000000000000000 => Bad(24)
-begin up 03000200000000000000000000000000 => Bad(24)
-begin up 04000200000000000000000000000000 => Bad(24)
-begin up 05000200000000000000000000000000 => Bad(24)
-# The fourth byte
-begin 00000001000000000000000000000000 => Bad(8)
-# Bytes where the kind has none, and too many of them
-begin 0000000000000001000000000000000061 => Bad(8)
-begin up 0200000000000001000000000000000061 => Bad(24)
-begin up 0300010000000001000000000000000061 => Bad(24)
-begin up slice 0500010000000001000000000000000061 => Bad(40)
-begin up 01000000010000010000000000000000 => Bad(24)
-begin up slice 04000100010000010000000000000000 => Bad(40)
-# Fewer bytes than the length says, also of a record that doesn't fit
-begin up 01000000010000000000000000000000 => Torn(24)
-begin up 010000000000000300000000000000006162 => Torn(24)
-begin 010000000000000300000000000000006162 => Torn(8)
-# A switch comes where it isn't up, and all else of it where it is
-begin up up => NotOpen(24)
-begin 01000000000000030000000000000000616263 => NotOpen(8)
-begin down => NotOpen(8)
-begin other-up down => NotOpen(24)
-begin up down down => NotOpen(40)
-# A slice comes where it isn't up and its switch is
-begin other-up slice => NotOpen(24)
-begin up slice slice => NotOpen(40)
-# All else of a slice comes where it is up
-begin up slice-talks => NotOpen(24)
-begin up slice-gone => NotOpen(24)
-begin up slice slice-gone slice-talks => NotOpen(56)
-begin up slice 04000000000000000000000000000000 => NotOpen(40)
-# A switch that goes takes its slices with it
-begin up slice down slice-talks => NotOpen(56)
-begin up slice down up slice-talks => NotOpen(72)
-";
+const FAULTS: &[(Words, &str)] = &[
+    // The eight bytes that begin the file
+    ((2, "nothing"), "Torn(0)"),
+    ((2, "46565245430000"), "Torn(0)"),
+    ((2, "ffffff"), "Torn(0)"),
+    ((2, "4656524543000002"), "Bad(0)"),
+    ((2, "0056524543000001 up"), "Bad(0)"),
+    // Fewer bytes than a head has
+    ((2, "begin 00"), "Torn(8)"),
+    ((2, "begin up 00000000000000000000"), "Torn(24)"),
+    ((2, "begin 060000000000000000000000000000"), "Torn(8)"),
+    // The kind, also of a record that is cut off
+    ((2, "begin 06000000000000000000000000000000"), "Bad(8)"),
+    ((2, "begin up 06000000000000030000000000000000"), "Bad(24)"),
+    ((2, "begin up ff000000000000000000000000000000"), "Bad(24)"),
+    // The switch
+    ((2, "begin 00100000000000000000000000000000"), "Bad(8)"),
+    // The slot: 0 where the record is of no slice, else a slot of the policy
+    ((2, "begin 00000100000000000000000000000000"), "Bad(8)"),
+    ((2, "begin up 01000100000000000000000000000000"), "Bad(24)"),
+    ((2, "begin up 02000100000000000000000000000000"), "Bad(24)"),
+    ((2, "begin up 03000200000000000000000000000000"), "Bad(24)"),
+    ((2, "begin up 04000200000000000000000000000000"), "Bad(24)"),
+    ((2, "begin up 05000200000000000000000000000000"), "Bad(24)"),
+    // The fourth byte
+    ((2, "begin 00000001000000000000000000000000"), "Bad(8)"),
+    // Bytes where the kind has none, and too many of them
+    ((2, "begin 0000000000000001000000000000000061"), "Bad(8)"),
+    (
+        (2, "begin up 0200000000000001000000000000000061"),
+        "Bad(24)",
+    ),
+    (
+        (2, "begin up 0300010000000001000000000000000061"),
+        "Bad(24)",
+    ),
+    (
+        (2, "begin up slice 0500010000000001000000000000000061"),
+        "Bad(40)",
+    ),
+    ((2, "begin up 01000000010000010000000000000000"), "Bad(24)"),
+    (
+        (2, "begin up slice 04000100010000010000000000000000"),
+        "Bad(40)",
+    ),
+    // Fewer bytes than the length says, also of a record that doesn't fit
+    ((2, "begin up 01000000010000000000000000000000"), "Torn(24)"),
+    (
+        (2, "begin up 010000000000000300000000000000006162"),
+        "Torn(24)",
+    ),
+    ((2, "begin 010000000000000300000000000000006162"), "Torn(8)"),
+    // A switch comes where it isn't up, and all else of it where it is
+    ((2, "begin up up"), "NotOpen(24)"),
+    (
+        (2, "begin 01000000000000030000000000000000616263"),
+        "NotOpen(8)",
+    ),
+    ((2, "begin down"), "NotOpen(8)"),
+    ((2, "begin other-up down"), "NotOpen(24)"),
+    ((2, "begin up down down"), "NotOpen(40)"),
+    // A slice comes where it isn't up and its switch is
+    ((2, "begin other-up slice"), "NotOpen(24)"),
+    ((2, "begin up slice slice"), "NotOpen(40)"),
+    // All else of a slice comes where it is up
+    ((2, "begin up slice-talks"), "NotOpen(24)"),
+    ((2, "begin up slice-gone"), "NotOpen(24)"),
+    ((2, "begin up slice slice-gone slice-talks"), "NotOpen(56)"),
+    (
+        (2, "begin up slice 04000000000000000000000000000000"),
+        "NotOpen(40)",
+    ),
+    // A switch that goes takes its slices with it
+    ((2, "begin up slice down slice-talks"), "NotOpen(56)"),
+    ((2, "begin up slice down up slice-talks"), "NotOpen(72)"),
+    // A policy of no slices has no slot.
+    ((0, "begin up 03000000000000000000000000000000"), "Bad(24)"),
+];
 
 #[test]
 fn faults_come_in_their_order_and_at_their_place(rt: HostRuntime) -> Result<(), Fail> {
-    let otherwise = told_otherwise(rt.alloc(), FAULT_ROWS, 2)?;
-    assert_eq!(rt; otherwise.as_str(), "");
-    // A policy of no slices has no slot.
-    let row = "begin up 03000000000000000000000000000000 => Bad(24)";
-    let otherwise = told_otherwise(rt.alloc(), row, 0)?;
-    assert_eq!(rt; otherwise.as_str(), "");
-    Ok(())
+    play_files(rt.alloc(), FAULTS)
 }
 
-/// A record of switch 0 and no slice.
-fn of_switch(kind: u8, moment: u64, from: usize, size: usize) -> Item {
-    Item {
-        kind,
-        switch: 0,
-        slot: 0,
-        moment,
-        from,
-        size,
-    }
-}
-
-/// A record of switch 0 and the slice in slot 1, at moment 0.
-fn of_slice(kind: u8, from: usize, size: usize) -> Item {
-    Item {
-        kind,
-        switch: 0,
-        slot: 1,
-        moment: 0,
-        from,
-        size,
-    }
-}
+const RECORDS: &[(Words, &str)] = &[
+    ((2, "begin"), "[]"),
+    (
+        (
+            2,
+            "begin up 01000000000000030102030405060708616263 slice slice-talks slice-gone slice down \
+            up slice 01000000000000000000000000000000",
+        ),
+        "[\
+        Item { kind: 0, switch: 0, slot: 0, moment: 5, from: 24, size: 0 }, \
+        Item { kind: 1, switch: 0, slot: 0, moment: 72623859790382856, from: 40, size: 3 }, \
+        Item { kind: 3, switch: 0, slot: 1, moment: 0, from: 59, size: 0 }, \
+        Item { kind: 4, switch: 0, slot: 1, moment: 0, from: 75, size: 3 }, \
+        Item { kind: 5, switch: 0, slot: 1, moment: 0, from: 94, size: 0 }, \
+        Item { kind: 3, switch: 0, slot: 1, moment: 0, from: 110, size: 0 }, \
+        Item { kind: 2, switch: 0, slot: 0, moment: 9, from: 126, size: 0 }, \
+        Item { kind: 0, switch: 0, slot: 0, moment: 5, from: 142, size: 0 }, \
+        Item { kind: 3, switch: 0, slot: 1, moment: 0, from: 158, size: 0 }, \
+        Item { kind: 1, switch: 0, slot: 0, moment: 0, from: 174, size: 0 }]",
+    ),
+];
 
 #[test]
 fn records_that_fit_are_read(rt: HostRuntime) -> Result<(), Fail> {
-    let alloc = rt.alloc();
-    let file = file_of(alloc, "begin")?;
-    assert!(rt; items(alloc, &file, 2)?.as_slice().is_empty());
-    let file = file_of(
-        alloc,
-        "begin up 01000000000000030102030405060708616263 slice slice-talks slice-gone slice down \
-        up slice 01000000000000000000000000000000",
-    )?;
-    let wanted = [
-        of_switch(SWITCH_UP, 5, 24, 0),
-        of_switch(SWITCH_BYTES, 0x0102_0304_0506_0708, 40, 3),
-        of_slice(SLICE_UP, 59, 0),
-        of_slice(SLICE_BYTES, 75, 3),
-        of_slice(SLICE_DOWN, 94, 0),
-        of_slice(SLICE_UP, 110, 0),
-        of_switch(SWITCH_DOWN, 9, 126, 0),
-        of_switch(SWITCH_UP, 5, 142, 0),
-        of_slice(SLICE_UP, 158, 0),
-        of_switch(SWITCH_BYTES, 0, 174, 0),
-    ];
-    assert_eq!(rt; items(alloc, &file, 2)?.as_slice(), wanted.as_slice());
-    Ok(())
+    play_files(rt.alloc(), RECORDS)
 }
+
+const LAST: &[(Words, &str)] = &[(
+    (
+        255,
+        "begin 000f000000000000ffffffffffffffff 030ffe00000000000000000000000000",
+    ),
+    "[\
+        Item { kind: 0, switch: 15, slot: 0, moment: 18446744073709551615, from: 24, size: 0 }, \
+        Item { kind: 3, switch: 15, slot: 254, moment: 0, from: 40, size: 0 }]",
+)];
 
 #[test]
 fn the_last_switch_and_the_last_slot_are_read(rt: HostRuntime) -> Result<(), Fail> {
-    let alloc = rt.alloc();
-    let file = file_of(
-        alloc,
-        "begin 000f000000000000ffffffffffffffff 030ffe00000000000000000000000000",
-    )?;
-    let switch_up = Item {
-        kind: SWITCH_UP,
-        switch: 15,
-        slot: 0,
-        moment: u64::MAX,
-        from: 24,
-        size: 0,
-    };
-    let slice_up = Item {
-        kind: SLICE_UP,
-        switch: 15,
-        slot: 254,
-        moment: 0,
-        from: 40,
-        size: 0,
-    };
-    let wanted = [switch_up, slice_up];
-    assert_eq!(rt; items(alloc, &file, 255)?.as_slice(), wanted.as_slice());
-    Ok(())
+    play_files(rt.alloc(), LAST)
 }
+
+/// Records, each by its kind, its switch, its slot, its moment and its bytes.
+const ITEMS: &[(u8, u8, u8, u64, &[u8])] = &[
+    (SWITCH_UP, 0, 0, 5, &[]),
+    (SLICE_UP, 0, 1, 0, &[]),
+    (SLICE_BYTES, 0, 1, 0, b"abc"),
+    (SWITCH_BYTES, 15, 31, 0x0102_0304_0506_0708, &[9]),
+];
 
 #[test]
 fn records_are_appended(rt: HostRuntime) -> Result<(), Fail> {
     let alloc = rt.alloc();
     let mut out = Vec::new(alloc);
     begin_recording(&mut out)?;
-    add_item(&mut out, SWITCH_UP, 0, 0, 5, &[])?;
-    add_item(&mut out, SLICE_UP, 0, 1, 0, &[])?;
-    add_item(&mut out, SLICE_BYTES, 0, 1, 0, b"abc")?;
-    add_item(&mut out, SWITCH_BYTES, 15, 31, 0x0102_0304_0506_0708, &[9])?;
-    let wanted = [
-        BEGIN,
-        UP,
-        SLICE,
-        SLICE_TALKS,
-        "010f1f0000000001010203040506070809",
-    ];
-    assert_eq!(rt; out.as_slice(), bytes(alloc, &wanted)?.as_slice());
-    Ok(())
+    for (kind, switch, slot, moment, bytes) in ITEMS {
+        if *switch < 16 && *slot < 32 && bytes.len() < 100 {
+            add_item(&mut out, *kind, *switch, *slot, *moment, bytes)?;
+        }
+    }
+    let wanted = file_of(
+        alloc,
+        "begin up slice slice-talks 010f1f0000000001010203040506070809",
+    )?;
+    let (came, wanted) = (told(alloc, &out)?, told(alloc, &wanted)?);
+    expect(0, &came, &wanted)
 }
+
+const TEXTS: &[(RecordingFault, &str)] = &[
+    (RecordingFault::Torn(24), "torn record at 24"),
+    (RecordingFault::Bad(8), "bad record at 8"),
+    (RecordingFault::NotOpen(40), "not open at 40"),
+];
 
 #[test]
 fn a_fault_tells_its_place(rt: HostRuntime) -> Result<(), Fail> {
-    let alloc = rt.alloc();
-    let texts = [
-        (RecordingFault::Torn(24), "torn record at 24"),
-        (RecordingFault::Bad(8), "bad record at 8"),
-        (RecordingFault::NotOpen(40), "not open at 40"),
-    ];
-    for (fault, text) in &texts {
-        assert_eq!(rt; format!(in alloc; "{fault}")?.as_str(), *text);
+    for (fault, text) in TEXTS {
+        let came = format!(in rt.alloc(); "{fault}")?;
+        expect(0, &came, text)?;
     }
     Ok(())
 }
