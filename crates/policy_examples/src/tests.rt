@@ -1,2 +1,4 @@
+mod given;
 mod policies;
+mod questions;
 mod texts;

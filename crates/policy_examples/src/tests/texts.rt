@@ -1,7 +1,11 @@
+//! Texts, and the policies that they are read as.
+
+use super::given::{Row, SHELL, WEB, expect_text, made, told};
 use flowspace::Policy;
-use of10_model::{Pattern, Prefix};
 use policy_text::read;
+use samples::ANY;
 use std::alloc::Global;
+use std::process::Abort;
 use std::test::Fail;
 
 const SLICES: &str = "version = 1
@@ -12,16 +16,6 @@ controller = \"127.0.0.1:6633\"
 name = \"bob\"
 controller = \"127.0.0.1:6634\"
 ";
-
-// TCP over IPv4 to a port.
-fn tcp_to(port: u16) -> Pattern {
-    Pattern {
-        dl_type: Some(0x0800),
-        nw_proto: Some(6),
-        tp_dst: Some(port),
-        ..Pattern::ANY
-    }
-}
 
 const RULES: &str = "[[rule]]
 priority = 100
@@ -37,75 +31,66 @@ nw_proto = 6
 tp_dst = 22
 ";
 
-fn policy_of(alloc: Global, text: &str) -> Result<Policy, Fail> {
-    Ok(
-        read(alloc, text.as_bytes())
-            .ok()
-            .ok_or("the text is a policy")?,
-    )
+/// The policy of alice, bob and these rules.
+fn policy_with(alloc: Global, rules: &str) -> Result<Policy, Fail> {
+    let text = [SLICES, rules].concat(alloc)?;
+    let policy = read(alloc, text.as_bytes()).ok();
+    Ok(policy.ok_or("the text is a policy")?)
 }
 
-#[test]
-fn two_slices_and_two_rules(rt: HostRuntime) -> Result<(), Fail> {
-    let text = format!(in rt.alloc(); "{SLICES}{RULES}")?;
-    let policy = policy_of(rt.alloc(), text.as_str())?;
-    let slices = [("alice", "127.0.0.1:6633"), ("bob", "127.0.0.1:6634")];
-    assert_eq!(rt; policy.slices().len(), 2);
-    for (slice, (name, controller)) in policy.slices().iter().zip(slices) {
-        assert_eq!(rt; slice.name.as_str(), name);
-        assert_eq!(rt; slice.controller.as_str(), controller);
-        assert_eq!(rt; (slice.rate, slice.burst, slice.quota), (1000, 1000, 1024));
-    }
-    let rules = [(100, tcp_to(80), Some(0)), (50, tcp_to(22), Some(1))];
-    assert_eq!(rt; policy.rules().len(), 2);
-    for (rule, (priority, pattern, writer)) in policy.rules().iter().zip(rules) {
-        assert_eq!(rt; (rule.switch, rule.priority), (None, priority));
-        assert_eq!(rt; (rule.writer, rule.readers), (writer, 0));
-        assert_eq!(rt; *rule.pattern.pattern(), pattern);
-    }
-    let text = format!(in rt.alloc(); "{SLICES}[[rule]]\npriority = 10\nread = ['bob']\n")?;
-    let policy = policy_of(rt.alloc(), text.as_str())?;
-    assert_eq!(rt; policy.rules().len(), 1);
-    for rule in policy.rules() {
-        assert_eq!(rt; (rule.writer, rule.readers), (None, 0b10));
-    }
+/// The text has these rules, and what is told of it is wanted.
+fn expect_rules(
+    rt: &impl Abort,
+    alloc: Global,
+    text: &str,
+    rows: &[Row],
+    wanted: &str,
+) -> Result<(), Fail> {
+    let policy = policy_with(alloc, text)?;
+    let rules = made(alloc, rows)?;
+    let came = told(alloc, &rules, policy.slices(), policy.rules())?;
+    expect_text(rt, rows.len(), came.as_str(), wanted);
     Ok(())
 }
 
 #[test]
-fn every_field(rt: HostRuntime) -> Result<(), Fail> {
-    let text = format!(in rt.alloc();
-        "{SLICES}[[rule]]\nswitch = '00000000000000af'\npriority = 7\nread = ['bob', 'alice']\n\
-        in_port = 65534\ndl_src = '00:00:5e:00:53:01'\ndl_dst = 'ff:00:00:00:00:02'\ndl_vlan = 5\n\
-        dl_vlan_pcp = 6\ndl_type = 2048\nnw_tos = 252\nnw_proto = 1\nnw_src = '10.1.2.3/24'\n\
-        nw_dst = '192.0.2.255'\ntp_src = 8\ntp_dst = 0\n"
+fn two_slices_and_two_rules(rt: HostRuntime) -> Result<(), Fail> {
+    expect_rules(
+        &rt,
+        rt.alloc(),
+        RULES,
+        &[(None, 100, WEB, Some(0), 0), (None, 50, SHELL, Some(1), 0)],
+        "alice 127.0.0.1:6633 1000 1000 1024, bob 127.0.0.1:6634 1000 1000 1024, \
+rules Some(0) Some(1)",
     )?;
-    let policy = policy_of(rt.alloc(), text.as_str())?;
-    let pattern = Pattern {
-        in_port: Some(65534),
-        dl_src: Some(0x0000_5e00_5301),
-        dl_dst: Some(0xff00_0000_0002),
-        dl_vlan: Some(5),
-        dl_vlan_pcp: Some(6),
-        dl_type: Some(0x0800),
-        nw_tos: Some(252),
-        nw_proto: Some(1),
-        nw_src: Some(Prefix {
-            bits: 24,
-            value: 0x0a01_0200,
-        }),
-        nw_dst: Some(Prefix {
-            bits: 32,
-            value: 0xc000_02ff,
-        }),
-        tp_src: Some(8),
-        tp_dst: Some(0),
-    };
-    assert_eq!(rt; policy.rules().len(), 1);
-    for rule in policy.rules() {
-        assert_eq!(rt; (rule.switch, rule.priority), (Some(0xaf), 7));
-        assert_eq!(rt; (rule.writer, rule.readers), (None, 0b11));
-        assert_eq!(rt; *rule.pattern.pattern(), pattern);
-    }
+    expect_rules(
+        &rt,
+        rt.alloc(),
+        "[[rule]]\npriority = 10\nread = ['bob']\n",
+        &[(None, 10, ANY, None, 0b10)],
+        "alice 127.0.0.1:6633 1000 1000 1024, bob 127.0.0.1:6634 1000 1000 1024, rules Some(0)",
+    )
+}
+
+const EVERY_FIELD: &str = "[[rule]]\nswitch = '00000000000000af'\npriority = 7
+read = ['bob', 'alice']\nin_port = 65534\ndl_src = '00:00:5e:00:53:01'
+dl_dst = 'ff:00:00:00:00:02'\ndl_vlan = 5\ndl_vlan_pcp = 6\ndl_type = 2048
+nw_tos = 252\nnw_proto = 1\nnw_src = '10.1.2.3/24'
+nw_dst = '192.0.2.255'\ntp_src = 8\ntp_dst = 0\n";
+
+/// The rule with every field: switch 0xaf, addresses 0x00005e005301 and 0xff0000000002, the network 10.1.2.0/24 and
+/// the address 192.0.2.255, in decimal.
+const EVERY_FIELD_READ: &str = "[Rule { switch: Some(175), priority: 7, pattern: Match { \
+pattern: Pattern { in_port: Some(65534), dl_src: Some(1577079553), dl_dst: Some(280375465082882), \
+dl_vlan: Some(5), dl_vlan_pcp: Some(6), dl_type: Some(2048), nw_tos: Some(252), nw_proto: Some(1), \
+nw_src: Some(Prefix { bits: 24, value: 167838208 }), \
+nw_dst: Some(Prefix { bits: 32, value: 3221226239 }), tp_src: Some(8), tp_dst: Some(0) } }, \
+writer: None, readers: 3 }]";
+
+#[test]
+fn every_field(rt: HostRuntime) -> Result<(), Fail> {
+    let policy = policy_with(rt.alloc(), EVERY_FIELD)?;
+    let came = format!(in rt.alloc(); "{:?}", policy.rules())?;
+    expect_text(&rt, 0, came.as_str(), EVERY_FIELD_READ);
     Ok(())
 }
