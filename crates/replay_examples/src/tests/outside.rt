@@ -1,161 +1,253 @@
-//! Files and sinks in memory, and whole files.
+//! Files and sinks in memory, and whole files. Each test is a table of calls, one after the other at one object, with
+//! what each answers and what is seen behind it; a call that fails answers `None`.
 
-use fv_base::{
-    Failed, Files, LoadFault, MemoryFiles, MemorySink, NeverSink, Sink, load_file, put_all,
-};
+use fv_base::{Files, LoadFault, MemoryFiles, MemorySink, NeverSink, Sink, load_file, put_all};
+use std::alloc::{AllocError, Global};
+use std::process::Abort;
 use std::test::Fail;
 
 const MEBIBYTE: usize = 1_048_576;
 
+/// How bytes are put into a sink.
+#[derive(Clone, Copy)]
+enum Way {
+    /// All of them, in as many calls as that takes.
+    Whole,
+    /// As many as one call takes.
+    Once,
+}
+
+/// A call of a sink: the bytes that are put, how many were taken, and then what the sink has and how many calls
+/// failed.
+type Put = (Way, &'static str, Option<usize>, &'static str, u64);
+
+fn put(sink: &mut MemorySink, way: Way, bytes: &[u8]) -> Option<usize> {
+    match way {
+        Way::Once if !bytes.is_empty() => sink.put(bytes).ok(),
+        _ => put_all(sink, bytes).is_ok().then_some(bytes.len()),
+    }
+}
+
+/// The sink does what the table says.
+fn expect_puts(rt: &impl Abort, sink: &mut MemorySink, table: &[Put]) {
+    for (way, bytes, taken, kept, faults) in table {
+        let came = put(sink, *way, bytes.as_bytes());
+        assert!(rt;
+            came == *taken && sink.as_slice() == kept.as_bytes() && sink.faults() == *faults,
+            "{bytes}"
+        );
+    }
+}
+
+/// A sink that takes at most three bytes at once, and whose calls of these numbers fail.
+fn expect_planned(
+    rt: &impl Abort,
+    alloc: Global,
+    failing: &[u64],
+    table: &[Put],
+) -> Result<(), AllocError> {
+    let failing = Vec::from_slice(alloc, failing)?;
+    let mut sink = MemorySink::with_plan(alloc, 3, failing);
+    expect_puts(rt, &mut sink, table);
+    Ok(())
+}
+
 #[test]
 fn all_bytes_are_put_in_pieces(rt: HostRuntime) -> Result<(), Fail> {
-    let alloc = rt.alloc();
-    let mut sink = MemorySink::with_plan(alloc, 3, Vec::new(alloc));
-    assert_eq!(rt; put_all(&mut sink, b"abcdefgh"), Ok(()));
-    assert_eq!(rt; put_all(&mut sink, b""), Ok(()));
-    assert_eq!(rt; sink.as_slice(), b"abcdefgh".as_slice());
-    assert_eq!(rt; sink.faults(), 0);
-    Ok(())
+    const TABLE: &[Put] = &[
+        (Way::Whole, "abcdefgh", Some(8), "abcdefgh", 0),
+        (Way::Whole, "", Some(0), "abcdefgh", 0),
+    ];
+    Ok(expect_planned(&rt, rt.alloc(), &[], TABLE)?)
 }
 
 #[test]
 fn a_failed_put_leaves_a_prefix(rt: HostRuntime) -> Result<(), Fail> {
-    let alloc = rt.alloc();
-    let mut sink = MemorySink::with_plan(alloc, 3, vec![in alloc; 1]?);
-    assert_eq!(rt; put_all(&mut sink, b"abcdefgh"), Err(Failed));
-    assert_eq!(rt; sink.as_slice(), b"abc".as_slice());
-    assert_eq!(rt; sink.faults(), 1);
-    // the next calls don't fail
-    assert_eq!(rt; put_all(&mut sink, b"xy"), Ok(()));
-    assert_eq!(rt; sink.as_slice(), b"abcxy".as_slice());
-    assert_eq!(rt; sink.faults(), 1);
-    Ok(())
+    // the calls behind the one that fails don't fail
+    const TABLE: &[Put] = &[
+        (Way::Whole, "abcdefgh", None, "abc", 1),
+        (Way::Whole, "xy", Some(2), "abcxy", 1),
+    ];
+    Ok(expect_planned(&rt, rt.alloc(), &[1], TABLE)?)
 }
 
 #[test]
-fn sinks_of_each_kind_take_all(rt: HostRuntime) -> Result<(), Fail> {
-    let mut kept = MemorySink::new(rt.alloc());
-    assert_eq!(rt; put_all(&mut kept, b"abcdefgh"), Ok(()));
-    assert_eq!(rt; kept.as_slice(), b"abcdefgh".as_slice());
+fn a_sink_fails_at_the_calls_of_its_list(rt: HostRuntime) -> Result<(), Fail> {
+    const TABLE: &[Put] = &[
+        (Way::Once, "abcde", Some(3), "abc", 0),
+        (Way::Once, "fgh", None, "abc", 1),
+        (Way::Once, "ij", Some(2), "abcij", 1),
+        (Way::Once, "k", None, "abcij", 2),
+    ];
+    Ok(expect_planned(&rt, rt.alloc(), &[1, 3], TABLE)?)
+}
+
+#[test]
+fn sinks_of_each_kind_take_all(rt: HostRuntime) {
+    const TABLE: &[Put] = &[(Way::Whole, "abcdefgh", Some(8), "abcdefgh", 0)];
+    expect_puts(&rt, &mut MemorySink::new(rt.alloc()), TABLE);
     let mut counted = NeverSink::new();
-    assert_eq!(rt; put_all(&mut counted, b"abcdefgh"), Ok(()));
-    assert_eq!(rt; counted.taken(), 8);
+    let is_put = put_all(&mut counted, b"abcdefgh").is_ok();
+    assert!(rt; is_put && counted.taken() == 8);
+}
+
+/// What is done with files.
+#[derive(Clone, Copy)]
+enum Act {
+    /// A file with this text is added.
+    Add(&'static str),
+    /// It is said that there is no file.
+    ExpectMissing,
+    /// Bytes are read from a place on: how many came, and what then stands in the four bytes that are read into.
+    Read(u64, Option<usize>, &'static [u8; 4]),
+    /// The file is loaded where it is within a limit.
+    Load(u64, Result<&'static str, LoadFault>),
+    Look,
+}
+
+/// What is done with a path, and how many of its reads failed then.
+type Step = (&'static str, Act, u64);
+
+/// Whether the file is loaded as these bytes, or not loaded for this reason.
+fn loads(
+    alloc: Global,
+    files: &mut MemoryFiles,
+    path: &str,
+    limit: u64,
+    wanted: Result<&[u8], LoadFault>,
+) -> Result<bool, AllocError> {
+    match (load_file(alloc, files, path, limit), wanted) {
+        (Err(LoadFault::Memory), _) => Err(AllocError),
+        (Ok(file), Ok(bytes)) => Ok(file.as_slice() == bytes),
+        (Err(fault), Err(other)) => Ok(fault == other),
+        _ => Ok(false),
+    }
+}
+
+/// Whether the files do what is wanted of a path.
+fn acts(
+    alloc: Global,
+    files: &mut MemoryFiles,
+    into: &mut [u8; 4],
+    path: &str,
+    act: Act,
+) -> Result<bool, AllocError> {
+    match act {
+        Act::Add(text) => files.add(path, text.as_bytes())?,
+        Act::ExpectMissing => files.expect_missing(path)?,
+        Act::Read(from, count, bytes) => {
+            let came = files.read(path, from, into).ok();
+            return Ok(came == count && &*into == bytes);
+        }
+        Act::Load(limit, Ok(text)) => {
+            return loads(alloc, files, path, limit, Ok(text.as_bytes()));
+        }
+        Act::Load(limit, Err(fault)) => return loads(alloc, files, path, limit, Err(fault)),
+        Act::Look => {}
+    }
+    Ok(true)
+}
+
+/// The files do what the table says, step by step.
+fn expect_steps(
+    rt: &impl Abort,
+    alloc: Global,
+    files: &mut MemoryFiles,
+    table: &[Step],
+) -> Result<(), AllocError> {
+    let mut into = [0; 4];
+    for (path, act, faults) in table {
+        let is_so = acts(alloc, files, &mut into, path, *act)?;
+        assert!(rt; is_so && files.faults(path) == *faults, "{path}");
+    }
     Ok(())
+}
+
+/// Files of which at most three bytes are read at once, and whose reads of these numbers fail.
+fn expect_planned_files(
+    rt: &impl Abort,
+    alloc: Global,
+    failing: &[u64],
+    table: &[Step],
+) -> Result<(), AllocError> {
+    let failing = Vec::from_slice(alloc, failing)?;
+    let mut files = MemoryFiles::with_plan(alloc, 3, failing);
+    expect_steps(rt, alloc, &mut files, table)
 }
 
 #[test]
 fn files_are_loaded_up_to_the_limit(rt: HostRuntime) -> Result<(), Fail> {
+    const TABLE: &[Step] = &[
+        ("eight", Act::Add("abcdefgh"), 0),
+        ("eight", Act::Add("another"), 0),
+        ("none", Act::Add(""), 0),
+        ("eight", Act::Load(9, Ok("abcdefgh")), 0),
+        ("eight", Act::Load(8, Ok("abcdefgh")), 0),
+        ("eight", Act::Load(7, Err(LoadFault::TooLarge)), 0),
+        ("none", Act::Load(0, Ok("")), 0),
+        ("large", Act::Load(1_048_576, Err(LoadFault::TooLarge)), 0),
+    ];
     let alloc = rt.alloc();
     let large = vec![in alloc; 7; MEBIBYTE + 1]?;
     let mut files = MemoryFiles::new(alloc);
-    files.add("eight", b"abcdefgh")?;
-    files.add("eight", b"another")?;
-    files.add("none", b"")?;
     files.add("large", &large)?;
-    assert!(rt; load_file(alloc, &mut files, "eight", 9)?.as_slice() == b"abcdefgh".as_slice());
-    assert!(rt; load_file(alloc, &mut files, "eight", 8)?.as_slice() == b"abcdefgh".as_slice());
-    assert!(rt;
-        matches!(
-            load_file(alloc, &mut files, "eight", 7),
-            Err(LoadFault::TooLarge)
-        )
-    );
-    assert!(rt; load_file(alloc, &mut files, "none", 0)?.is_empty());
-    assert!(rt; load_file(alloc, &mut files, "large", 268_435_456)?.as_slice() == large.as_slice());
-    assert!(rt;
-        matches!(
-            load_file(alloc, &mut files, "large", 1_048_576),
-            Err(LoadFault::TooLarge)
-        )
-    );
-    assert_eq!(rt; files.faults("eight"), 0);
+    expect_steps(&rt, alloc, &mut files, TABLE)?;
+    let is_whole = loads(alloc, &mut files, "large", 268_435_456, Ok(&large))?;
+    assert!(rt; is_whole);
     Ok(())
 }
 
 #[test]
 fn failed_reads_are_counted_for_their_path(rt: HostRuntime) -> Result<(), Fail> {
-    let alloc = rt.alloc();
-    let mut files = MemoryFiles::with_plan(alloc, 3, vec![in alloc; 1]?);
-    files.add("eight", b"abcdefgh")?;
-    assert!(rt;
-        matches!(
-            load_file(alloc, &mut files, "eight", 8),
-            Err(LoadFault::ReadFault)
-        )
-    );
-    assert_eq!(rt; files.faults("eight"), 1);
-    assert_eq!(rt; files.faults("missing"), 0);
-    assert!(rt;
-        matches!(
-            load_file(alloc, &mut files, "missing", 8),
-            Err(LoadFault::ReadFault)
-        )
-    );
-    assert_eq!(rt; files.faults("missing"), 1);
-    assert!(rt; load_file(alloc, &mut files, "eight", 8)?.as_slice() == b"abcdefgh".as_slice());
-    assert_eq!(rt; files.faults("eight"), 1);
-    Ok(())
-}
-
-#[test]
-fn a_sink_fails_at_the_calls_of_its_list(rt: HostRuntime) -> Result<(), Fail> {
-    let alloc = rt.alloc();
-    let mut sink = MemorySink::with_plan(alloc, 3, vec![in alloc; 1, 3]?);
-    assert_eq!(rt; sink.put(b"abcde"), Ok(3));
-    assert_eq!(rt; sink.put(b"fgh"), Err(Failed));
-    assert_eq!(rt; sink.put(b"ij"), Ok(2));
-    assert_eq!(rt; sink.put(b"k"), Err(Failed));
-    assert_eq!(rt; sink.as_slice(), b"abcij".as_slice());
-    assert_eq!(rt; sink.faults(), 2);
-    Ok(())
+    const TABLE: &[Step] = &[
+        ("eight", Act::Add("abcdefgh"), 0),
+        ("eight", Act::Load(8, Err(LoadFault::ReadFault)), 1),
+        ("missing", Act::Look, 0),
+        ("missing", Act::Load(8, Err(LoadFault::ReadFault)), 1),
+        ("eight", Act::Load(8, Ok("abcdefgh")), 1),
+    ];
+    Ok(expect_planned_files(&rt, rt.alloc(), &[1], TABLE)?)
 }
 
 #[test]
 fn files_fail_at_the_calls_of_their_list(rt: HostRuntime) -> Result<(), Fail> {
-    let alloc = rt.alloc();
-    let mut files = MemoryFiles::with_plan(alloc, 3, vec![in alloc; 1, 3]?);
-    files.add("five", b"abcde")?;
-    let mut into = [0; 4];
-    assert_eq!(rt; files.read("five", 0, &mut into), Ok(3));
-    assert_eq!(rt; into, [b'a', b'b', b'c', 0]);
-    assert_eq!(rt; files.read("five", 3, &mut into), Err(Failed));
-    assert_eq!(rt; into, [b'a', b'b', b'c', 0]);
-    assert_eq!(rt; files.read("five", 3, &mut into), Ok(2));
-    assert_eq!(rt; into, [b'd', b'e', b'c', 0]);
-    assert_eq!(rt; files.read("five", 5, &mut into), Err(Failed));
-    assert_eq!(rt; files.faults("five"), 2);
-    Ok(())
+    const TABLE: &[Step] = &[
+        ("five", Act::Add("abcde"), 0),
+        ("five", Act::Read(0, Some(3), b"abc\0"), 0),
+        ("five", Act::Read(3, None, b"abc\0"), 1),
+        ("five", Act::Read(3, Some(2), b"dec\0"), 1),
+        ("five", Act::Read(5, None, b"dec\0"), 2),
+    ];
+    Ok(expect_planned_files(&rt, rt.alloc(), &[1, 3], TABLE)?)
 }
 
 #[test]
 fn a_declared_missing_path_has_a_count_of_its_own(rt: HostRuntime) -> Result<(), Fail> {
-    let mut files = MemoryFiles::new(rt.alloc());
-    files.expect_missing("declared")?;
-    let mut into = [0; 4];
-    assert_eq!(rt; files.read("declared", 0, &mut into), Err(Failed));
-    assert_eq!(rt; files.faults("declared"), 1);
-    assert_eq!(rt; files.faults("another"), 0);
-    assert_eq!(rt; files.read("another", 0, &mut into), Err(Failed));
-    assert_eq!(rt; files.read("another", 0, &mut into), Err(Failed));
-    assert_eq!(rt; files.faults("declared"), 1);
-    assert_eq!(rt; files.faults("another"), 2);
     // a file that is added later is found, and the count stays
-    files.add("declared", b"ab")?;
-    assert_eq!(rt; files.read("declared", 0, &mut into), Ok(2));
-    assert_eq!(rt; files.faults("declared"), 1);
-    Ok(())
+    const TABLE: &[Step] = &[
+        ("declared", Act::ExpectMissing, 0),
+        ("declared", Act::Read(0, None, &[0; 4]), 1),
+        ("another", Act::Look, 0),
+        ("another", Act::Read(0, None, &[0; 4]), 1),
+        ("another", Act::Read(0, None, &[0; 4]), 2),
+        ("declared", Act::Look, 1),
+        ("declared", Act::Add("ab"), 1),
+        ("declared", Act::Read(0, Some(2), b"ab\0\0"), 1),
+    ];
+    let mut files = MemoryFiles::new(rt.alloc());
+    Ok(expect_steps(&rt, rt.alloc(), &mut files, TABLE)?)
 }
 
 #[test]
 fn load_faults_say_what_is_wrong(rt: HostRuntime) -> Result<(), Fail> {
-    let alloc = rt.alloc();
-    let table = [
+    const TABLE: &[(LoadFault, &str)] = &[
         (LoadFault::ReadFault, "the file can't be read"),
         (LoadFault::TooLarge, "the file is too large"),
         (LoadFault::Memory, "out of memory"),
     ];
-    for (fault, text) in &table {
-        assert_eq!(rt; format!(in alloc; "{fault}")?.as_str(), *text);
+    for (fault, text) in TABLE {
+        let told = format!(in rt.alloc(); "{fault}")?;
+        assert!(rt; told.as_str() == *text, "{told}");
     }
     Ok(())
 }
