@@ -119,7 +119,7 @@ const SOURCE_FAILS: Case = Case {
     ],
 };
 
-/// The second put to alice fails.
+/// The second put to alice fails. Bob asks after that, and is answered.
 const SINK_FAILS: Case = Case {
     devices: [
         SWITCH,
@@ -137,7 +137,8 @@ const SINK_FAILS: Case = Case {
     holds: &[
         (ALICES, 0, &[Mark::Sent(ALICES)]),
         (ALICES, 1, &[Mark::Wrote(ALICES)]),
-        (BOBS, 1, &[Mark::Wrote(ALICES), Mark::Sent(BOBS)]),
+        (BOBS, 0, &[Mark::Wrote(ALICES)]),
+        (BOBS, 1, &[Mark::Sent(BOBS)]),
         (Side::Switch, 1, SLICES_ARE_OVER),
     ],
     may_wait: true,
@@ -153,7 +154,7 @@ const SINK_FAILS: Case = Case {
     ],
 };
 
-/// Alice doesn't take her greeting while she asks 65 long questions.
+/// Alice doesn't take her greeting while she asks 65 long questions. Bob asks after her writer has ended, and is answered.
 const SLICE_IS_CHOKED: Case = Case {
     devices: [
         SWITCH,
@@ -180,7 +181,8 @@ const SLICE_IS_CHOKED: Case = Case {
     holds: &[
         (ALICES, 0, &[Mark::Standing(ALICES)]),
         (ALICES, 65, &[Mark::Wrote(ALICES)]),
-        (BOBS, 1, &[Mark::Wrote(ALICES), Mark::Sent(BOBS)]),
+        (BOBS, 0, &[Mark::Wrote(ALICES)]),
+        (BOBS, 1, &[Mark::Sent(BOBS)]),
         (Side::Switch, 1, SLICES_ARE_OVER),
     ],
     may_wait: true,
