@@ -85,4 +85,5 @@ async def run(program):
                 expect(faults, ended == (WRITE_FAULT, LINE), f"{output}, {packets} packets: {ended}")
                 tried += 1
     outputs = ", ".join(OUTPUTS)
-    return Outcome(f"replay onto {outputs}, short reports and long ones: {tried} times status 5 and its line", faults)
+    seen = f"replay onto {outputs}, short reports and long ones: {tried} times status 5, with its line where it can be put"
+    return Outcome(seen, faults)

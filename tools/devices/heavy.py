@@ -17,12 +17,34 @@ import sys
 
 from devices.loads import everything, full_book, loads, loads_of_one_port
 from devices.messages import Kind, output
-from devices.peers import Controller, Scanning
+from devices.peers import Controller, Peer
 from sunworsted import message
 
 TOOLS = pathlib.Path(__file__).resolve().parent.parent
 PATIENCE = 60
 LISTS = {"all": loads, "one_port": loads_of_one_port}
+# How many bytes of what begins with a mark are handed on.
+SCANNED = 8
+
+
+class Scanning(Peer):
+    """A peer that looks for some marks in all that comes, and not message by message, so that it keeps up."""
+
+    def __init__(self, marks):
+        super().__init__()
+        self.marks = marks
+        self.left = b""
+
+    def data_received(self, data):
+        data = self.left + data
+        for mark, hear in self.marks.items():
+            # Two bytes of which the second is rare are found soonest.
+            at = data.find(mark[:2])
+            while 0 <= at <= len(data) - SCANNED:
+                if data.startswith(mark, at):
+                    hear(data[at : at + SCANNED])
+                at = data.find(mark[:2], at + 1)
+        self.left = data[1 - SCANNED :]
 
 
 class HeavyLink(Scanning):

@@ -6,6 +6,7 @@ from flowvisor_tool.openflow.protocol import FlowModCommand as Command, MessageT
 from sunworsted import message, packet_in, tcp_packet
 
 HEAD = 8
+XID = 4
 NO_BUFFER = 0xFFFFFFFF
 NO_PORT = 0xFFFF
 FIRST_PORT = 1_000
@@ -75,7 +76,12 @@ def number_of_echo(frame):
     return struct.unpack_from(">I", frame, HEAD)[0]
 
 
-def slot_and_number(frame):
-    """The slot and the number of a numbered flow-mod; None of another."""
-    mark, slot, number = struct.unpack_from(">HHI", frame, COOKIE)
+def xid_of(data, at):
+    """The transaction id of the message that begins there."""
+    return struct.unpack_from(">I", data, at + XID)[0]
+
+
+def slot_and_number(data, at=0):
+    """The slot and the number of a numbered flow-mod that begins there; None of another."""
+    mark, slot, number = struct.unpack_from(">HHI", data, at + COOKIE)
     return (slot, number) if mark == COOKIE_MARK else None

@@ -9,8 +9,6 @@ from devices.numbers import Numbers
 from sunworsted import features_reply, message
 
 PORTS = (1, 2, 3)
-# How many bytes of what begins with a mark are handed on.
-SCANNED = 8
 
 
 class Peer(asyncio.Protocol):
@@ -58,26 +56,6 @@ class Peer(asyncio.Protocol):
 
     def hear(self, kind, frame):
         """A message came."""
-
-
-class Scanning(Peer):
-    """A peer that looks for some marks in all that comes, and not message by message, so that it keeps up."""
-
-    def __init__(self, marks):
-        super().__init__()
-        self.marks = marks
-        self.left = b""
-
-    def data_received(self, data):
-        data = self.left + data
-        for mark, hear in self.marks.items():
-            # Two bytes of which the second is rare are found soonest.
-            at = data.find(mark[:2])
-            while 0 <= at <= len(data) - SCANNED:
-                if data.startswith(mark, at):
-                    hear(data[at : at + SCANNED])
-                at = data.find(mark[:2], at + 1)
-        self.left = data[1 - SCANNED :]
 
 
 class Switch(Peer):

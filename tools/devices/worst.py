@@ -9,13 +9,20 @@ import asyncio
 import contextlib
 import dataclasses
 import statistics
-import struct
 
 from devices.heavy import LISTS, Heavy
 from devices.loads import HEAVY_PORTS, ONE_PORT, SWITCH_PORTS, flows_told
-from devices.messages import Kind, number_of_packet_in, numbered_flow_mod, numbered_packet_in
+from devices.messages import (
+    HEAD,
+    Kind,
+    number_of_packet_in,
+    numbered_flow_mod,
+    numbered_packet_in,
+    slot_and_number,
+    xid_of,
+)
 from devices.outcome import Outcome, expect
-from devices.peers import Controller, Link, Scanning
+from devices.peers import Controller, Link, Peer
 from devices.proxy import Proxy, Slice, slice_at
 from devices.site import AMPLE
 from sunworsted import features_reply, message
@@ -33,13 +40,18 @@ RATIO = 2
 BURST = 100
 
 
-class QuickSwitch(Scanning):
-    """A switch with many ports, which is asked for barriers and flows, and sees how long its packet-ins take."""
+class QuickSwitch(Peer):
+    """A switch with many ports, which is asked for barriers and flows, and sees how long its packet-ins take. It goes
+    from message to message without a look at what it doesn't want, so that it keeps up."""
 
     def __init__(self):
-        super().__init__(
-            {b"SW\0": self.hear_answer, b"\x01\x12\0\x08": self.hear_barrier, b"\x01\x10\0\x38": self.hear_question}
-        )
+        super().__init__()
+        self.left = b""
+        self.heard = {
+            Kind.FLOW_MOD: self.hear_flow_mod,
+            Kind.BARRIER_REQUEST: self.hear_barrier,
+            Kind.STATS_REQUEST: self.hear_question,
+        }
         self.flows = flows_told()
         # When the packet-ins were sent that aren't answered yet, and how long the others took.
         self.sent = {}
@@ -49,22 +61,33 @@ class QuickSwitch(Scanning):
         super().connection_made(transport)
         self.send(features_reply(0xFF000001, DATAPATH, SWITCH_PORTS))
 
+    def data_received(self, data):
+        data, at = self.left + data, 0
+        while len(data) - at >= HEAD:
+            size = data[at + 2] << 8 | data[at + 3]
+            if len(data) - at < size:
+                break
+            hear = self.heard.get(data[at + 1])
+            if hear:
+                hear(data, at)
+            at += size
+        self.left = data[at:]
+
     def hand_up(self, slot, number):
         """Sends a packet-in whose answer is waited for."""
         self.sent[slot, number] = asyncio.get_running_loop().time()
         self.send(numbered_packet_in(slot, number))
 
-    def hear_answer(self, cookie):
-        # Other bytes of a message may look like a cookie.
-        began = self.sent.pop(struct.unpack(">HI", cookie[2:]), None)
+    def hear_flow_mod(self, data, at):
+        began = self.sent.pop(slot_and_number(data, at), None)
         if began is not None:
             self.times.append(asyncio.get_running_loop().time() - began)
 
-    def hear_barrier(self, head):
-        self.send(message(Kind.BARRIER_REPLY, int.from_bytes(head[4:]), b""))
+    def hear_barrier(self, data, at):
+        self.send(message(Kind.BARRIER_REPLY, xid_of(data, at), b""))
 
-    def hear_question(self, head):
-        self.send(message(Kind.STATS_REPLY, int.from_bytes(head[4:]), self.flows))
+    def hear_question(self, data, at):
+        self.send(message(Kind.STATS_REPLY, xid_of(data, at), self.flows))
 
 
 class Answering(Link):
