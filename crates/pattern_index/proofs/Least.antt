@@ -5,7 +5,7 @@ use Rattle.of10_model.specs.declared.pattern.Pattern.{Pattern}
 use Rattle.of10_model.specs.Inclusion.{includes_of}
 use Rattle.pattern_index.specs.declared.group.Group.{Group}
 use Rattle.pattern_index.specs.declared.index.PatternIndex.{PatternIndex}
-use Rattle.pattern_index.specs.Groups.{finds, lesser_place, least_of, HavePut}
+use Rattle.pattern_index.specs.Groups.{finds, lesser_place, least_of, HasAsBefore, HavePut, HaveAsBefore}
 use Rattle.pattern_index.specs.Places.{PlacedPattern, least_place, StandsFor}
 
 -- ---- the lesser of two places
@@ -63,6 +63,10 @@ least_put r place old new (inl into) m =
 least_put r place old new (inr pushed) m =
     ap (λ groups. least_of groups m) pushed.2 ∙ fold_push m (includes_of r m) place None old pushed.0 (pushed.1 m)
 
+-- one of the groups has what it had, and the others are as they were
+pub least_kept : (old : List Group) (at : ℕ) (group after : Group) → at < length old → get_or old at group ≡ group → HasAsBefore group after → HaveAsBefore old (set old at after)
+least_kept old at group after lt here kept m = fold_set m false zero None old at group after lt here (kept m)
+
 -- ---- what an index stands for
 
 pub one_more : (r m : Pattern) (place : ℕ) (kept : List PlacedPattern) (b : Bool) → includes_of r m ≡ b → with b place (least_place kept m) ≡ least_place (record { pattern = r; place = place } ∷ kept) m
@@ -74,3 +78,7 @@ stands_more r place old new put kept stands m =
     least_put r place old.groups.items new.groups.items put m
     ∙ ap (with (includes_of r m) place) (stands m)
     ∙ one_more r m place kept (includes_of r m) refl
+
+-- an index whose groups have what they had stands for the same
+pub stands_still : (old new : PatternIndex) → HaveAsBefore old.groups.items new.groups.items → (kept : List PlacedPattern) → StandsFor kept old → StandsFor kept new
+stands_still old new same kept stands m = same m ∙ stands m

@@ -2,3 +2,4 @@ pub mod Keys
 pub mod Putting
 pub mod Least
 pub mod Firsts
+pub mod Outcomes

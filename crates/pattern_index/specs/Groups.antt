@@ -24,8 +24,16 @@ least_of groups m = fold (λ least group. lesser_place least (finds group m)) No
 abbrev pub HasPut : Pattern → ℕ → (Pattern → Option ℕ) → Group → Type 0
 HasPut r place before after = (m : Pattern) → finds after m ≡ (if includes_of r m then lesser_place (Some place) (before m) else before m)
 
+-- a group has for each match what it had
+abbrev pub HasAsBefore : Group → Group → Type 0
+HasAsBefore old new = (m : Pattern) → finds new m ≡ finds old m
+
 -- groups in one of which a pattern was put, or which got a group of it alone
 abbrev pub HavePut : Pattern → ℕ → List Group → List Group → Type 0
 HavePut r place old new =
     ((at : ℕ) × (group : Group) × (after : Group) × (at < length old) × (slice_index_or old at group ≡ group) × HasPut r place (finds group) after × (new ≡ slice_set old at after))
     ⊎ ((after : Group) × HasPut r place (λ m. None) after × (new ≡ old ++ after ∷ []))
+
+-- groups have for each match what they had
+abbrev pub HaveAsBefore : List Group → List Group → Type 0
+HaveAsBefore old new = (m : Pattern) → least_of new m ≡ least_of old m

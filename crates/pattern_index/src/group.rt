@@ -1,9 +1,9 @@
 //! Patterns that constrain the same fields.
 
-ghost use Rattle.std.specs.Prelude.{◌≡◌, ◌<◌, length, None, Some, IfOk, IfSome, OnOk};
+ghost use Rattle.std.specs.Prelude.{◌≡◌, ◌<◌, length, None, Some, IfOk, IfSome, OnOk, OnErr};
 ghost use Rattle.std.specs.List.{HoldsAt};
 ghost use Rattle.pattern_index.specs.Keys.{shape_of};
-ghost use Rattle.pattern_index.specs.Groups.{finds, least_of, lesser_place, HasPut, HavePut};
+ghost use Rattle.pattern_index.specs.Groups.{finds, least_of, lesser_place, HasPut, HasAsBefore, HavePut, HaveAsBefore};
 
 use crate::key::{Key, key_of};
 use crate::shape::{Shape, is_same_shape, shape_of};
@@ -47,10 +47,11 @@ impl Group {
         Ok(Group { shape, places })
     }
 
-    /// Puts a pattern of the group's shape.
+    /// Puts a pattern of the group's shape; at an error the group has for each match what it had.
     fn put(&mut self, m: &Pattern, place: u16) -> Result<(), AllocError>
         requires { self.old.shape ≡ shape_of m.now }
-        ensures { OnOk result (HasPut m.now place (finds self.old) self.new) }
+        ensures put { OnOk result (HasPut m.now place (finds self.old) self.new) }
+        ensures kept { OnErr result (HasAsBefore self.old self.new) }
     {
         let key = key_of(&self.shape, m);
         let least = no_later(self.places.get(&key).copied(), place);
@@ -71,14 +72,16 @@ fn group_of(groups: &[Group], shape: &Shape) -> Option<usize>
     None
 }
 
-/// Puts a pattern into the group of its shape, or a new one.
+/// Puts a pattern into the group of its shape, or a new one; at an error the groups have for
+/// each match what they had.
 pub(crate) fn put(
     alloc: Global,
     groups: &mut Vec<Group>,
     m: &Pattern,
     place: u16,
 ) -> Result<(), AllocError>
-    ensures { OnOk result (HavePut m.now place groups.old.items groups.new.items) }
+    ensures put { OnOk result (HavePut m.now place groups.old.items groups.new.items) }
+    ensures kept { OnErr result (HaveAsBefore groups.old.items groups.new.items) }
 {
     match group_of(groups, &shape_of(m)) {
         Some(at) => groups[at].put(m, place),

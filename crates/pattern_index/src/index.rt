@@ -1,4 +1,4 @@
-ghost use Rattle.std.specs.Prelude.{◌≡◌, List, [], ◌∷◌, OnOk};
+ghost use Rattle.std.specs.Prelude.{◌≡◌, List, [], ◌∷◌, OnOk, OnErr};
 ghost use Rattle.pattern_index.specs.Places.{PlacedPattern, StandsFor, least_place};
 
 use crate::group::{Group, least_of, put};
@@ -21,9 +21,10 @@ impl PatternIndex {
         }
     }
 
-    /// Puts one more pattern, with its place.
+    /// Puts one more pattern, with its place; at an error the index stands for what it stood for.
     pub fn put(&mut self, alloc: Global, m: &Pattern, place: u16) -> Result<(), AllocError>
-        ensures { OnOk result ((kept : List PlacedPattern) → StandsFor kept self.old → StandsFor (record { pattern = m.now; place = place } ∷ kept) self.new) }
+        ensures put { OnOk result ((kept : List PlacedPattern) → StandsFor kept self.old → StandsFor (record { pattern = m.now; place = place } ∷ kept) self.new) }
+        ensures kept { OnErr result ((kept : List PlacedPattern) → StandsFor kept self.old → StandsFor kept self.new) }
     {
         put(alloc, &mut self.groups, m, place)
     }

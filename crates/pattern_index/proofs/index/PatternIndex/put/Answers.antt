@@ -1,10 +1,9 @@
-use Rattle.std.proofs.Common.{Result, Ok, Err, OnOk}
-use Rattle.pattern_index.proofs.Least.{stands_more}
+use Rattle.pattern_index.proofs.Least.{stands_more, stands_still}
+use Rattle.pattern_index.proofs.Outcomes.{on_ok, on_err}
 use Rattle.pattern_index.proofs.index.PatternIndex.put.Goals as goal
 
-on_ok : {A E P Q : Type 0} (r : Result A E) → (P → Q) → OnOk r P → OnOk r Q
-on_ok (Ok x) f p = f p
-on_ok (Err e) f p = tt
+pub returns-clause-put : goal.returns-clause-put
+returns-clause-put c = on_ok c.put.result (stands_more c.args.m.now c.args.place c.args.self.now (record { groups = c.put.new.groups })) c.put.ensures.put
 
-pub returns : goal.returns
-returns c = on_ok c.put.result (stands_more c.args.m.now c.args.place c.args.self.now (record { groups = c.put.new.groups })) c.put.ensures
+pub returns-clause-kept : goal.returns-clause-kept
+returns-clause-kept c = on_err c.put.result (stands_still c.args.self.now (record { groups = c.put.new.groups })) c.put.ensures.kept
