@@ -16,8 +16,8 @@ use Rattle.of10_message.specs.declared.controller.FromController.TheVariants as 
 use Rattle.of10_message.specs.Heads.{xid_of}
 use Rattle.of10_message.specs.Controller.{read_controller}
 use Rattle.of10_config.specs.declared.queues.QueuesQuestion.{QueuesQuestion}
-use Rattle.of10_config.specs.Queues.{port_of_queues, spell_queues_request}
-use Rattle.of10_config.proofs.Again.{question_passed}
+use Rattle.of10_config.specs.Queues.{port_of_queues, question_bytes, spell_queues_request}
+use Rattle.of10_config.proofs.Again.{padding_read}
 use Rattle.of10_message.proofs.Cases.{queues_as_read}
 use Rattle.of10_stats.specs.declared.request.StatsRequest.{StatsRequest}
 use Rattle.of10_stats.specs.Requests.{spell_request}
@@ -45,7 +45,7 @@ use Rattle.of10_model.proofs.Results.{either}
 use Rattle.slice_words.proofs.AnswerKinds.{message_holds}
 use Rattle.slice_words.proofs.Forwarding.{flow_mods_numbered, rendered_sent, not_large_numbered, out_not_large}
 use Rattle.answer_bounds.specs.Bounds.{AreFew, AreSmall}
-use Rattle.answer_bounds.proofs.Messages.{IsShort, few-none, few-one, few-next, small-none, small-few, short-message, short-behind, short-echo, short-request, short-table, short-config, short-error, short-features, short-status, short-packet, short-packet_out, short-removed}
+use Rattle.answer_bounds.proofs.Messages.{IsShort, few-none, few-one, few-next, small-none, small-few, short-message, short-echo, short-request, short-table, short-config, short-error, short-features, short-status, short-packet, short-packet_out, short-removed}
 
 -- ---- what bounds an answer
 
@@ -123,10 +123,11 @@ short_question request xid question is = by_sent (asked_as request) is
 
 -- ---- messages of the controller
 
--- a question for queues is as long as the message with which it came
-short-queues : (xid : ℕ) (message : List ℕ) (queues : QueuesQuestion) → IsShort message → read_controller message ≡ Ok (said.QueueGetConfigRequest queues) → IsShort (spell_queues_request xid queues)
-short-queues xid message queues short read =
-    subst IsShort (sym (question_passed xid message queues (queues_as_read message queues read))) (short-behind QUEUE_GET_CONFIG_REQUEST xid message short)
+-- a question for queues has the port and two bytes of padding
+short-queues : (xid : ℕ) (message : List ℕ) (queues : QueuesQuestion) → read_controller message ≡ Ok (said.QueueGetConfigRequest queues) → IsShort (spell_queues_request xid queues)
+short-queues xid message queues read =
+    let few = padding_read message queues (queues_as_read message queues read) in
+    short-message QUEUE_GET_CONFIG_REQUEST xid (question_bytes queues) (omega (arith, few))
 
 message_size : (s : Settings) (view : List Item) (past : List Past) (moment : ℕ) (message : List ℕ) → IsShort message → HasFewPorts view → IsSmall (message_answer s view past moment message)
 message_size s view past moment message short ports = message_holds (λ (ends : Bool) (a : Answer). IsSmall a) s view past moment message (record {
@@ -142,7 +143,7 @@ message_size s view past moment message short ports = message_holds (λ (ends : 
   tells_table = small_told (table_reply (length (ground_of s view past).booked) s.quota (xid_of message)) (short-table (length (ground_of s view past).booked) s.quota (xid_of message));
   asks_statistics = λ request question read may is. small_asking question (short_question request (ground_of s view past).xid question is);
   asks_barrier = λ read. small_asking (message_of BARRIER_REQUEST (ground_of s view past).xid []) (short-message BARRIER_REQUEST (ground_of s view past).xid [] (omega arith));
-  asks_queues = λ queues read own. small_asking (spell_queues_request (ground_of s view past).xid queues) (short-queues (ground_of s view past).xid message queues short read);
+  asks_queues = λ queues read own. small_asking (spell_queues_request (ground_of s view past).xid queues) (short-queues (ground_of s view past).xid message queues read);
 })
 
 -- ---- packets

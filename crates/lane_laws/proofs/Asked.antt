@@ -1,10 +1,9 @@
 -- Questions for the switch: what a controller's message asks, what is sent for it, and what a switch reads of that.
-use Rattle.std.proofs.Common.{◌≡◌, ◌⊎◌, refl, sym, ◌∙◌, ap, subst, ℕ, ◌+◌, ◌<◌, ◌==◌, ◌||◌, nat_lt, inl, inr, Bool, true, false, if◌then◌else◌, List, [], length, drop, slice_index, eqb-true, Option, Some, None, is_some, option_map, Ok, Err, arith}
+use Rattle.std.proofs.Common.{◌≡◌, ◌⊎◌, refl, sym, ◌∙◌, ap, subst, ℕ, ◌+◌, ◌<◌, ◌^◌, ◌==◌, ◌||◌, nat_lt, inl, inr, Bool, true, false, if◌then◌else◌, List, [], length, drop, slice_index, eqb-true, Option, Some, None, is_some, option_map, Ok, Err, arith}
 use Rattle.std.specs.Prelude.{IsSome}
 use Rattle.std.proofs.Math.Bool.{or-true}
 use Rattle.std.proofs.lemmas.Bool.{or_cases, eq-eqb}
 use Rattle.std.proofs.lemmas.Option.{none-some, same_Some}
-use Rattle.std.proofs.lemmas.List.{length-drop}
 use Rattle.of10_model.specs.Normal.{number_at, match_at}
 use Rattle.of10_model.proofs.Applied.{IsNormal-Norm}
 use Rattle.of10_model.proofs.Ranges.{bytes-drop, number_at-lt}
@@ -21,7 +20,7 @@ use Rattle.of10_stats.specs.Requests.{IsRequest, request_of, read_request, spell
 use Rattle.of10_stats.proofs.Again.{IsOf-request, request_again}
 use Rattle.of10_config.specs.declared.queues.QueuesQuestion.{QueuesQuestion}
 use Rattle.of10_config.specs.Queues.{IsQueuesQuestion, read_queues_request}
-use Rattle.of10_config.proofs.Again.{question_read as queues_told, question_kind}
+use Rattle.of10_config.proofs.Again.{question_read as queues_told, padding_read, question_kind}
 use Rattle.of10_message.specs.declared.controller.FromController.{FromController}
 use Rattle.of10_message.specs.declared.controller.FromController.TheVariants as said
 use Rattle.of10_message.specs.Forms.{formed}
@@ -85,13 +84,12 @@ some_asked : (asked : Option StatsRequest) (xid : ℕ) (question : List ℕ) →
 some_asked None xid question is = absurd cc
 some_asked (Some sent) xid question is = (sent, refl, cc)
 
--- what was read of a message that asks for queues is a question
-question_is : (message : List ℕ) (queues : QueuesQuestion) → read_queues_request message ≡ Ok queues → IsQueuesQuestion queues
-question_is message queues read =
-    let told = queues_told message queues read in
-    let short = length-drop 8 message in
-    let long = told.0 in
-    subst IsQueuesQuestion (sym told.1) (record { front = refl; size = omega (arith, short, long) })
+-- what was read of bytes that ask for queues is a question
+question_is : (message : List ℕ) (queues : QueuesQuestion) → ((k : ℕ) → slice_index message k < 256) → read_queues_request message ≡ Ok queues → IsQueuesQuestion queues
+question_is message queues bytes read = record {
+  port = subst (λ (question : QueuesQuestion). question.port < 2 ^ 16) (sym (queues_told message queues read).1) (number_at-lt (drop 8 message) 0 2 (bytes-drop message 8 bytes));
+  padding = padding_read message queues read;
+}
 
 -- a question asks for a reply
 pub asks_for_reply : (g : Ground) (message question : List ℕ) (asked : FromController) → read_controller message ≡ Ok asked → IsQuestion g asked question → AsksForReply question
@@ -100,7 +98,7 @@ asks_for_reply g message question (said.StatsRequest request) read is =
     inl (subst (IsOf STATS_REQUEST) (sym sent.2) (IsOf-request sent.0 g.xid))
 asks_for_reply g message question said.BarrierRequest read is = inr (inl (subst (IsOf BARRIER_REQUEST) (sym is) (IsOf-message BARRIER_REQUEST g.xid [] (omega arith))))
 asks_for_reply g message question (said.QueueGetConfigRequest queues) read is =
-    inr (inr (subst (IsOf QUEUE_GET_CONFIG_REQUEST) (sym is.1) (question_kind g.xid queues (question_is message queues (queues_as_read message queues read)))))
+    inr (inr (subst (IsOf QUEUE_GET_CONFIG_REQUEST) (sym is.1) (question_kind g.xid queues (padding_read message queues (queues_as_read message queues read)))))
 asks_for_reply g message question _ read is = absurd is
 
 -- ---- what a switch reads of it
@@ -174,7 +172,7 @@ module _ (g : Ground) (rules : List Rule) (slot : ℕ) (on_slot : g.slot ≡ slo
   read_as_question message question (said.QueueGetConfigRequest queues) bytes read is =
       record {
         asked = said.QueueGetConfigRequest queues;
-        read = ap read_controller is.1 ∙ question_read g.xid queues (question_is message queues (queues_as_read message queues read));
+        read = ap read_controller is.1 ∙ question_read g.xid queues (question_is message queues bytes (queues_as_read message queues read));
         may = owned queues.port is.0;
       }
   read_as_question message question _ bytes read is = absurd is

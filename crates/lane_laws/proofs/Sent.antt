@@ -1,5 +1,5 @@
 -- What a message of a slice has sent to the switch after a history.
-use Rattle.std.proofs.Common.{◌≡◌, refl, sym, ◌∙◌, ap, subst, ℕ, ◌+◌, ◌==◌, ◌&&◌, ◌⊎◌, inl, inr, Bool, true, false, true≢false, if◌then◌else◌, List, [], ◌∷◌, length, map, drop, slice_get, get_or, All, append-nil, Option, Some, None, Ok, option_map, arith}
+use Rattle.std.proofs.Common.{◌≡◌, refl, sym, ◌∙◌, ap, subst, ℕ, ◌+◌, ◌<◌, ◌==◌, ◌&&◌, ◌⊎◌, inl, inr, Bool, true, false, true≢false, if◌then◌else◌, List, [], ◌∷◌, length, map, drop, slice_get, get_or, All, append-nil, Option, Some, None, Ok, option_map, arith}
 use Rattle.std.proofs.lemmas.Bool.{cases_Bool, and_parts, eq-eqb, le-ltb}
 use Rattle.std.proofs.lemmas.Bool.Decides.{eqb_tells}
 use Rattle.std.proofs.lemmas.Option.{slice_get_cases}
@@ -303,11 +303,14 @@ module _ (policy : PolicyView) (h : List Timed) (timed : Timed) (slot : ℕ) (me
     pub barrier_sent : IsPermittedQuestion policy slot h timed.moment message said.BarrierRequest → lane_by policy h timed ≡ message_of BARRIER_REQUEST next_xid [] ∷ []
     barrier_sent p = question_lane_whole policy h timed slot message (message_of BARRIER_REQUEST next_xid []) said.BarrierRequest is up p.read p.rate refl
 
-    pub queues_sent : (queues : QueuesQuestion) → IsPermittedQuestion policy slot h timed.moment message (said.QueueGetConfigRequest queues) → lane_by policy h timed ≡ message_of QUEUE_GET_CONFIG_REQUEST next_xid (drop 8 message) ∷ []
+    pub queues_sent : (queues : QueuesQuestion) → IsPermittedQuestion policy slot h timed.moment message (said.QueueGetConfigRequest queues) → lane_by policy h timed ≡ spell_queues_request next_xid queues ∷ []
     queues_sent queues p =
         question_lane_whole policy h timed slot message (spell_queues_request next_xid queues) (said.QueueGetConfigRequest queues) is up p.read p.rate
         (owns (ground_in policy slot h) (rules_in policy h) slot (slot_is policy slot (opening_of h) _ refl) (patterns_are policy slot (opening_of h) (up_here policy slot h (phase_of h) refl up)) queues.port p.may, refl)
-        ∙ ap (λ (sent : List ℕ). sent ∷ []) (question_passed next_xid message queues (queues_as_read message queues p.read))
+
+    pub queues_passed : (queues : QueuesQuestion) → All (λ byte. byte < 256) message → IsPermittedQuestion policy slot h timed.moment message (said.QueueGetConfigRequest queues)
+        → lane_by policy h timed ≡ message_of QUEUE_GET_CONFIG_REQUEST next_xid (drop 8 message) ∷ []
+    queues_passed queues bytes p = queues_sent queues p ∙ ap (λ (sent : List ℕ). sent ∷ []) (question_passed next_xid message queues bytes (queues_as_read message queues p.read))
 
 -- ---- one flow-mod for each piece
 

@@ -9,6 +9,7 @@ ghost use Rattle.of10_flow.specs.FlowMods.{spell_flow_mod, read_flow_mod};
 ghost use Rattle.of10_flow.specs.PacketOuts.{spell_packet_out, read_packet_out};
 ghost use Rattle.of10_ctl.specs.declared.kind.TheConstants.{BARRIER_REQUEST, QUEUE_GET_CONFIG_REQUEST};
 ghost use Rattle.of10_config.specs.declared.queues.QueuesQuestion.{QueuesQuestion};
+ghost use Rattle.of10_config.specs.Queues.{spell_queues_request};
 ghost use Rattle.of10_ctl.specs.Frames.{message_of};
 ghost use Rattle.of10_stats.specs.declared.request.StatsRequest.{StatsRequest};
 ghost use Rattle.of10_stats.specs.Requests.{spell_request};
@@ -109,13 +110,16 @@ pub fn permitted_packet_outs_are_sent()
 {}
 
 /// A question of a slice that is up is sent where it keeps the rate and the slice may ask it: exactly one, under
-/// the transaction id that the slice gets next. Of flows the sum is asked for as the single flows.
+/// the transaction id that the slice gets next. Of flows the sum is asked for as the single flows. A question for
+/// queues that came in bytes is sent with its body as it came.
 pub fn permitted_questions_are_sent()
     ensures statistics { (policy : PolicyView) (h : List Timed) (timed : Timed) (slot : ℕ) (message : List ℕ) (request asked : StatsRequest) → timed.event ≡ SliceMsg slot message → is_slice_up policy slot h ≡ true
         → IsPermittedQuestion policy slot h timed.moment message (said.StatsRequest request) → asked_as request ≡ Some asked → lane_by policy h timed ≡ spell_request asked (ground_in policy slot h).xid ∷ [] }
     ensures barriers { (policy : PolicyView) (h : List Timed) (timed : Timed) (slot : ℕ) (message : List ℕ) → timed.event ≡ SliceMsg slot message → is_slice_up policy slot h ≡ true
         → IsPermittedQuestion policy slot h timed.moment message said.BarrierRequest → lane_by policy h timed ≡ message_of BARRIER_REQUEST (ground_in policy slot h).xid [] ∷ [] }
     ensures queues { (policy : PolicyView) (h : List Timed) (timed : Timed) (slot : ℕ) (message : List ℕ) (queues : QueuesQuestion) → timed.event ≡ SliceMsg slot message → is_slice_up policy slot h ≡ true
+        → IsPermittedQuestion policy slot h timed.moment message (said.QueueGetConfigRequest queues) → lane_by policy h timed ≡ spell_queues_request (ground_in policy slot h).xid queues ∷ [] }
+    ensures bodies { (policy : PolicyView) (h : List Timed) (timed : Timed) (slot : ℕ) (message : List ℕ) (queues : QueuesQuestion) → All (λ byte. byte < 256) message → timed.event ≡ SliceMsg slot message → is_slice_up policy slot h ≡ true
         → IsPermittedQuestion policy slot h timed.moment message (said.QueueGetConfigRequest queues) → lane_by policy h timed ≡ message_of QUEUE_GET_CONFIG_REQUEST (ground_in policy slot h).xid (drop 8 message) ∷ [] }
 {}
 

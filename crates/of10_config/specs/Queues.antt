@@ -1,5 +1,6 @@
 -- Questions for the queues of a port, and replies to them (OpenFlow 1.0.0, section 5.3.4): as they are read, and as they are spelled.
-use Rattle.std.specs.Prelude.{ℕ, ◌≡◌, ◌≤◌, ◌==◌, nat_lt, if◌then◌else◌, List, length, drop, Result, Ok, Err}
+use Rattle.std.specs.Prelude.{ℕ, ◌≡◌, ◌<◌, ◌≤◌, ◌^◌, ◌==◌, nat_lt, if◌then◌else◌, List, ◌++◌, length, drop, Result, Ok, Err}
+use Rattle.byteorder.specs.Endian.{big_bytes}
 use Rattle.of10_model.specs.Normal.{number_at}
 use Rattle.of10_action.specs.declared.fault.WireFault.{WireFault}
 use Rattle.of10_action.specs.declared.fault.WireFault.TheVariants.{Length}
@@ -14,22 +15,26 @@ port_of_queues body = number_at body 0 2
 
 -- ---- questions
 
--- what a body asks: the port with which it begins, and the body whole, which is passed on as it came
+-- what a body asks: the port with which it begins, and the padding behind it, which is passed on as it came
 abbrev pub question_in : List ℕ → QueuesQuestion
-question_in body = record { port = port_of_queues body; body = body }
+question_in body = record { port = port_of_queues body; padding = drop 2 body }
 
 -- a question: a port and two bytes of padding
 pub record IsQueuesQuestion (question : QueuesQuestion) : Type 0 where
-  pub front : question.port ≡ port_of_queues question.body
-  pub size : length question.body ≡ 4
+  pub port : question.port < 2 ^ 16
+  pub padding : length question.padding ≡ 2
 
 -- what the bytes of a question say, or their length where they aren't as many as a question has
 abbrev pub read_queues_request : List ℕ → Result QueuesQuestion WireFault
 read_queues_request bytes = if length bytes == 12 then Ok (question_in (drop 8 bytes)) else Err (Length (length bytes))
 
+-- the body of a question: its port and its padding
+abbrev pub question_bytes : QueuesQuestion → List ℕ
+question_bytes question = big_bytes 2 question.port ++ question.padding
+
 -- which queues a port has
 abbrev pub spell_queues_request : ℕ → QueuesQuestion → List ℕ
-spell_queues_request xid question = message_of QUEUE_GET_CONFIG_REQUEST xid question.body
+spell_queues_request xid question = message_of QUEUE_GET_CONFIG_REQUEST xid (question_bytes question)
 
 -- ---- replies
 

@@ -1,6 +1,7 @@
 //! Laws of the definitions. Each function's contract is the law; its body does nothing.
 
-ghost use Rattle.std.specs.Prelude.{ℕ, ◌≡◌, ◌≤◌, List, length, drop, Ok};
+ghost use Rattle.std.specs.Prelude.{ℕ, ◌≡◌, ◌<◌, ◌≤◌, List, length, drop, Ok};
+ghost use Rattle.std.specs.List.{All};
 ghost use Rattle.of10_ctl.specs.declared.kind.TheConstants.{GET_CONFIG_REPLY, SET_CONFIG, QUEUE_GET_CONFIG_REQUEST, QUEUE_GET_CONFIG_REPLY};
 ghost use Rattle.of10_ctl.specs.Frames.{message_of};
 ghost use Rattle.of10_ctl.specs.Kinds.{IsOf};
@@ -27,9 +28,9 @@ pub fn queues_request_is_read_again()
     ensures kind { (xid : ℕ) (question : QueuesQuestion) → IsQueuesQuestion question → IsOf QUEUE_GET_CONFIG_REQUEST (spell_queues_request xid question) }
 {}
 
-/// A question that was read is passed on with the body with which it came.
+/// A question that was read of bytes is passed on with the body with which it came.
 pub fn queues_request_is_passed_as_it_came()
-    ensures { (xid : ℕ) (message : List ℕ) (question : QueuesQuestion) → read_queues_request message ≡ Ok question → spell_queues_request xid question ≡ message_of QUEUE_GET_CONFIG_REQUEST xid (drop 8 message) }
+    ensures { (xid : ℕ) (message : List ℕ) (question : QueuesQuestion) → All (λ byte. byte < 256) message → read_queues_request message ≡ Ok question → spell_queues_request xid question ≡ message_of QUEUE_GET_CONFIG_REQUEST xid (drop 8 message) }
 {}
 
 /// A reply on queues is read as it was spelled: the port with which its body begins, and the body.

@@ -8,8 +8,8 @@ ghost use Rattle.of10_config.specs.Queues.{IsQueuesQuestion, AreQueues, queues_o
 
 use of10_action::WireFault;
 use of10_ctl::kind::{QUEUE_GET_CONFIG_REPLY, QUEUE_GET_CONFIG_REQUEST};
-use of10_ctl::{Frame, message};
-use of10_model::wire::u16_at;
+use of10_ctl::{Frame, begin, message};
+use of10_model::wire::{put_u16, u16_at};
 use std::alloc::{AllocError, Global};
 
 /// A question for the queues of a port.
@@ -17,8 +17,8 @@ use std::alloc::{AllocError, Global};
 pub struct QueuesQuestion {
     /// The port whose queues are asked for.
     pub port: u16,
-    /// All behind the message's head, which is passed on as it came: the port, and two bytes of padding.
-    pub body: [u8; 4],
+    /// The two bytes behind the port, which are passed on as they came.
+    pub padding: [u8; 2],
 }
 
 impl QueuesQuestion {
@@ -31,11 +31,11 @@ impl QueuesQuestion {
         if bytes.len() != 12 {
             return Err(WireFault::Length(bytes.len() as u16));
         }
-        let mut body = [0; 4];
-        body.copy_from_slice(&bytes[8..]);
+        let mut padding = [0; 2];
+        padding.copy_from_slice(&bytes[10..]);
         Ok(QueuesQuestion {
-            port: u16_at(&body, 0),
-            body,
+            port: u16_at(bytes, 8),
+            padding,
         })
     }
 }
@@ -69,7 +69,7 @@ impl<'a> QueuesView<'a> {
     }
 }
 
-/// QUEUE_GET_CONFIG_REQUEST (OpenFlow 1.0.0, section 5.3.4): the question, as it came.
+/// QUEUE_GET_CONFIG_REQUEST (OpenFlow 1.0.0, section 5.3.4): the question, with its padding as it came.
 pub fn queues_request(
     alloc: Global,
     xid: u32,
@@ -77,7 +77,10 @@ pub fn queues_request(
 ) -> Result<Frame, AllocError>
     ensures { IfOk result (λ f. f ≡ spell_queues_request xid question.now) }
 {
-    message(alloc, QUEUE_GET_CONFIG_REQUEST, xid, &question.body)
+    let mut out = begin(alloc, QUEUE_GET_CONFIG_REQUEST, xid, 4)?;
+    put_u16(&mut out, question.port)?;
+    out.extend_from_slice(&question.padding)?;
+    Ok(Frame::of(out))
 }
 
 /// QUEUE_GET_CONFIG_REPLY (OpenFlow 1.0.0, section 5.3.4), with the body of one that is passed on.

@@ -41,5 +41,5 @@ set_read xid config is =
 pub question_read : (xid : ℕ) (question : QueuesQuestion) → IsQueuesQuestion question → read_controller (spell_queues_request xid question) ≡ Ok (said.QueueGetConfigRequest question)
 question_read xid question is =
     let bytes = spell_queues_request xid question in
-    let of = question_kind xid question is in
+    let of = question_kind xid question is.padding in
     typed_by QUEUE_GET_CONFIG_REQUEST bytes of refl ∙ queues_typed bytes of ∙ ap (formed said.QueueGetConfigRequest) (question_again xid question is)

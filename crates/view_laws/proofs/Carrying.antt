@@ -92,7 +92,7 @@ message_under s view past moment message =
       tells_table = none;
       asks_statistics = λ request question read may is. statistics_under (asked_as request) (ground_of s view past).xid question is;
       asks_barrier = λ read. asking_under (ground_of s view past).xid _ (xid-message BARRIER_REQUEST (ground_of s view past).xid []);
-      asks_queues = λ queues read own. asking_under (ground_of s view past).xid _ (xid-message QUEUE_GET_CONFIG_REQUEST (ground_of s view past).xid queues.body);
+      asks_queues = λ queues read own. asking_under (ground_of s view past).xid _ (xid-message QUEUE_GET_CONFIG_REQUEST (ground_of s view past).xid _);
     })
 
 while_up : (up : Bool) (xid : ℕ) (a : Answer) → All (IsUnder xid) a.to_switch → All (IsUnder xid) (if up then a else no_answer).to_switch

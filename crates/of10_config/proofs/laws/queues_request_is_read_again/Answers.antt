@@ -5,4 +5,4 @@ pub returns-clause-again : goal.returns-clause-again
 returns-clause-again c = question_again
 
 pub returns-clause-kind : goal.returns-clause-kind
-returns-clause-kind c = question_kind
+returns-clause-kind c = λ xid question is. question_kind xid question is.padding
