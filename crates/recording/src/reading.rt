@@ -1,8 +1,8 @@
-ghost use Rattle.std.specs.Prelude.{◌≡◌, ◌≢◌, ◌+◌, ◌≤◌, List, [], length, Ok, Err, IfOk, IfErr, OnOk};
+ghost use Rattle.std.specs.Prelude.{ℕ, ◌≡◌, ◌≢◌, ◌+◌, ◌≤◌, List, [], length, take, Ok, Err, IfOk, IfErr, OnOk};
 ghost use Rattle.std.specs.List.{All};
 ghost use Rattle.recording.specs.declared.item.Item.{Item};
 ghost use Rattle.recording.specs.declared.fault.RecordingFault.TheVariants.{Memory};
-ghost use Rattle.recording.specs.Recordings.{GivesAsRecording, IsItem, HasFirst, IsBegun, item_at, byte_limit, is_formed, record_at, read_items, items_from};
+ghost use Rattle.recording.specs.Recordings.{GivesAsRecording, IsItem, HasFirst, IsBegun, item_at, byte_limit, is_formed, magic, record_at, read_items, items_from};
 ghost use Rattle.recording.specs.Standing.{TableStands};
 
 use crate::fault::RecordingFault;
@@ -104,6 +104,22 @@ fn records(alloc: Global, bytes: &[u8], slices: u8) -> Result<Vec<Item>, Recordi
     Ok(items)
 }
 
+/// Whether the bytes begin as a recording does, or what is wrong with their beginning.
+#[tactic(auto, unfolding(crate::specs::Recordings::read_items))]
+fn check_opening(bytes: &[u8]) -> Result<(), RecordingFault>
+    ensures begun { OnOk result ((8 ≤ length bytes.now) × (take 8 bytes.now ≡ magic)) }
+    ensures refused { IfErr result (λ fault. (slices : ℕ) → read_items slices bytes.now ≡ Err fault) }
+    ensures memory { result ≢ Err Memory }
+{
+    if bytes.len() < 8 {
+        return Err(RecordingFault::Torn(0));
+    }
+    if !bytes.starts_with(&MAGIC) {
+        return Err(RecordingFault::Bad(0));
+    }
+    Ok(())
+}
+
 /// The records of a file, in order, under a policy of so many slices. The first fault is answered, in
 /// this order at each record: a head that is cut off, a head of no form, bytes that are cut off, and a
 /// record that can't come by who is up. Memory is taken for records that are read alone.
@@ -113,13 +129,10 @@ pub fn items(alloc: Global, bytes: &[u8], slices: u8) -> Result<Vec<Item>, Recor
     ensures within { IfOk result (λ v. All (IsItem slices bytes.now) v.items) }
     ensures memory { result ≡ Err Memory → IsBegun slices bytes.now }
 {
-    if bytes.len() < 8 {
-        return Err(RecordingFault::Torn(0));
+    match check_opening(bytes) {
+        Ok(()) => records(alloc, bytes, slices),
+        Err(fault) => Err(fault),
     }
-    if !bytes.starts_with(&MAGIC) {
-        return Err(RecordingFault::Bad(0));
-    }
-    records(alloc, bytes, slices)
 }
 
 // The records behind the bytes that begin a recording, one after the other.
@@ -147,11 +160,8 @@ pub fn accept(bytes: &[u8], slices: u8) -> Result<(), RecordingFault>
     ensures accepted { OnOk result ((items : List Item) × (read_items slices bytes.now ≡ Ok items)) }
     ensures refused { IfErr result (λ fault. read_items slices bytes.now ≡ Err fault) }
 {
-    if bytes.len() < 8 {
-        return Err(RecordingFault::Torn(0));
+    match check_opening(bytes) {
+        Ok(()) => accept_records(bytes, slices),
+        Err(fault) => Err(fault),
     }
-    if !bytes.starts_with(&MAGIC) {
-        return Err(RecordingFault::Bad(0));
-    }
-    accept_records(bytes, slices)
 }
