@@ -1,7 +1,6 @@
 //! Laws of what a slice has sent to the switch. Each function's contract is the law; its body does nothing.
 
 ghost use Rattle.std.specs.Prelude.{ℕ, ◌≡◌, ◌<◌, ◌≤◌, ◌⊎◌, true, false, List, [], ◌∷◌, length, map, drop, Some, Ok, All};
-ghost use Rattle.of10_model.specs.Normal.{number_at};
 ghost use Rattle.of10_model.specs.declared.pattern.Pattern.{Pattern};
 ghost use Rattle.of10_flow.specs.declared.flow_mod.FlowMod.{FlowMod};
 ghost use Rattle.of10_flow.specs.declared.packet_out.PacketOut.{PacketOut};
@@ -16,6 +15,7 @@ ghost use Rattle.of10_stats.specs.Requests.{spell_request};
 ghost use Rattle.of10_message.specs.declared.controller.FromController.TheVariants as said;
 ghost use Rattle.stats_filter.specs.Asking.{asked_as};
 ghost use Rattle.flowspace.specs.Policies.{PolicyView, SwitchView, IsPolicy, IsSwitchPolicy, AreNormal};
+ghost use Rattle.of10_message.specs.Heads.{xid_of};
 ghost use Rattle.of10_message.specs.Controller.{read_controller};
 ghost use Rattle.flow_book.specs.declared.state.SliceState.{SliceState};
 ghost use Rattle.slice_words.specs.Standing.{SliceStands};
@@ -69,8 +69,8 @@ pub fn buffers_are_the_slices_own()
 /// From the bytes of a flow-mod of which these laws speak, or of a packet-out of at most 65,535 bytes, a switch
 /// reads just its fields, all but the transaction id. So what they say of a message is said of what a switch reads.
 pub fn messages_tell_their_fields()
-    ensures flow_mods { (m : FlowMod) → IsRanged m → read_flow_mod (spell_flow_mod m) ≡ Ok (record m { xid = number_at (spell_flow_mod m) 4 4 }) }
-    ensures packet_outs { (m : PacketOut) → IsRangedOut m → length (spell_packet_out m) ≤ 65535 → read_packet_out (spell_packet_out m) ≡ Ok (record m { xid = number_at (spell_packet_out m) 4 4 }) }
+    ensures flow_mods { (m : FlowMod) → IsRanged m → read_flow_mod (spell_flow_mod m) ≡ Ok (record m { xid = xid_of (spell_flow_mod m) }) }
+    ensures packet_outs { (m : PacketOut) → IsRangedOut m → length (spell_packet_out m) ≤ 65535 → read_packet_out (spell_packet_out m) ≡ Ok (record m { xid = xid_of (spell_packet_out m) }) }
 {}
 
 /// Where the messages of the switch and of the slice are of bytes, a switch reads whatever it has sent as a

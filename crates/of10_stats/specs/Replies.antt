@@ -1,5 +1,5 @@
 -- STATS_REPLY (OpenFlow 1.0.0, section 5.3.5).
-use Rattle.std.specs.Prelude.{◌≡◌, ◌⊎◌, ℕ, ◌%◌, ◌==◌, leb, nat_lt, if◌then◌else◌, List, length, Option, Some, None, Result, Ok, Err}
+use Rattle.std.specs.Prelude.{◌≡◌, ◌⊎◌, ℕ, ◌%◌, ◌==◌, leb, nat_lt, if◌then◌else◌, List, length, drop, Option, Some, None, Result, Ok, Err}
 use Rattle.of10_model.specs.declared.pattern.Pattern.{Pattern}
 use Rattle.of10_model.specs.Normal.{number_at, match_at}
 use Rattle.of10_action.specs.declared.fault.WireFault.{WireFault}
@@ -7,11 +7,19 @@ use Rattle.of10_action.specs.declared.fault.WireFault.TheVariants.{Length}
 use Rattle.of10_stats.specs.declared.reply.StatsPart.{StatsPart}
 use Rattle.of10_stats.specs.declared.protocol.TheConstants.{PORT, QUEUE}
 
--- the type of statistics, whether more parts follow, and that the body begins behind the flags (section 5.3.5)
+-- where the entries of a reply begin, behind its flags (section 5.3.5)
+abbrev pub entries_begin : ℕ
+entries_begin = 12
+
+-- the entries of a reply as they lie in it (section 5.3.5)
+abbrev pub entries_of : List ℕ → List ℕ
+entries_of reply = drop entries_begin reply
+
+-- the type of statistics, whether more parts follow, and where the entries begin (section 5.3.5)
 unfoldable pub part_of : List ℕ → Result StatsPart WireFault
 part_of bytes =
-    if nat_lt (length bytes) 12 then Err (Length (length bytes))
-    else Ok (record { kind = number_at bytes 8 2; more = number_at bytes 10 2 % 2 == 1; from = 12 })
+    if nat_lt (length bytes) entries_begin then Err (Length (length bytes))
+    else Ok (record { kind = number_at bytes 8 2; more = number_at bytes 10 2 % 2 == 1; from = entries_begin })
 
 -- ---- entries
 
@@ -53,3 +61,7 @@ flow_of entry = (match_at entry 4, number_at entry 72 8, number_at entry 80 8)
 -- an entry of a port or of a queue, which begins with the port's number (section 5.3.5)
 abbrev pub IsPortEntry : List ℕ → Type 0
 IsPortEntry entry = IsEntry PORT entry ⊎ IsEntry QUEUE entry
+
+-- the port of which such an entry tells (section 5.3.5)
+abbrev pub entry_port : List ℕ → ℕ
+entry_port entry = number_at entry 0 2

@@ -1,7 +1,6 @@
 ghost use Rattle.std.specs.Prelude.{◌≡◌, ◌≤◌, ◌<◌, ℕ, length, take, IfSome, IfNone};
-ghost use Rattle.of10_model.specs.Normal.{number_at};
 ghost use Rattle.of10_stats.specs.declared.protocol.TheConstants.{FLOW};
-ghost use Rattle.of10_stats.specs.Replies.{IsEntry, IsPortEntry, entry_size_of, flow_length, flow_of, length_of};
+ghost use Rattle.of10_stats.specs.Replies.{IsEntry, IsPortEntry, entry_port, entry_size_of, flow_length, flow_of, length_of};
 
 use crate::protocol::{AGGREGATE, DESC, FLOW, PORT, QUEUE, TABLE};
 use of10_match::Match;
@@ -85,7 +84,7 @@ pub fn flow_entry(entry: &[u8]) -> (Match, u64, u64)
 #[tactic(auto, using(crate::proofs::Sizes::port_is_long))]
 pub fn entry_port(entry: &[u8]) -> u16
     requires { IsPortEntry entry.now }
-    ensures { result ≡ number_at entry.now 0 2 }
+    ensures { result ≡ entry_port entry.now }
 {
     u16_at(entry, 0)
 }

@@ -4,7 +4,6 @@ use Rattle.std.proofs.lemmas.Bool.{eq-eqb}
 use Rattle.std.proofs.lemmas.List.Elements.{filter_agree}
 use Rattle.std.specs.List.{list_any}
 use Rattle.of10_model.specs.declared.pattern.Pattern.{Pattern}
-use Rattle.of10_model.specs.Normal.{number_at}
 use Rattle.of10_model.specs.Pattern.{has, meets}
 use Rattle.of10_model.specs.Inclusion.{includes_of}
 use Rattle.of10_port.specs.Ports.{port_number}
@@ -18,7 +17,7 @@ use Rattle.action_check.specs.Permitted.{first_code, permitted, expanded}
 use Rattle.flowspace.specs.declared.rules.Rule.{Rule}
 use Rattle.flowspace.specs.Rules.{is_written_by}
 use Rattle.flowspace.specs.Owners.{has_port}
-use Rattle.of10_stats.specs.Replies.{flow_of}
+use Rattle.of10_stats.specs.Replies.{entry_port, flow_of}
 use Rattle.stats_filter.specs.Keeping.{lies_within, is_own_entry}
 use Rattle.flowmod_expand.specs.Pieces.{writes_of}
 use Rattle.port_view.specs.SlicePorts.{ports_of_slice}
@@ -56,7 +55,7 @@ module _ (slot : ℕ) where
   -- an entry of statistics is the slice's by both
   pub same_entry : (rules : List Rule) (kind : ℕ) (entry : List ℕ) → is_own_entry (alone rules) slot kind entry ≡ is_own_entry rules slot kind entry
   unfolding is_own_entry
-  same_entry rules kind entry = rw (same_flow rules ((flow_of entry).0), same_port rules (number_at entry 0 2)) refl
+  same_entry rules kind entry = rw (same_flow rules ((flow_of entry).0), same_port rules (entry_port entry)) refl
 
   same_back : (rules : List Rule) (image : Origin) → has_way_back (alone rules) slot image ≡ has_way_back rules slot image
   same_back rules (Piece m) = refl

@@ -9,11 +9,11 @@ use Rattle.std.proofs.lemmas.List.Folds.{list_any-append, list_any-from_Any, Any
 use Rattle.std.proofs.lemmas.Option.{get_or_from_slice_get}
 use Rattle.of10_model.specs.declared.pattern.Pattern.{Pattern}
 use Rattle.of10_model.specs.Inclusion.{includes_of}
-use Rattle.of10_model.specs.Normal.{IsNormal, number_at}
+use Rattle.of10_model.specs.Normal.{IsNormal}
 use Rattle.of10_model.proofs.Applied.{IsNormal-Norm}
 use Rattle.of10_model.proofs.Including.{Has-includes, includes-Includes}
 use Rattle.of10_stats.specs.declared.protocol.TheConstants.{DESC, FLOW, PORT, QUEUE}
-use Rattle.of10_stats.specs.Replies.{flow_of}
+use Rattle.of10_stats.specs.Replies.{flow_of, entry_port}
 use Rattle.flowspace.specs.declared.slices.Slice.{Slice}
 use Rattle.flowspace.specs.declared.rules.Rule.{Rule}
 use Rattle.flowspace.specs.Rules.{is_written_by}
@@ -134,13 +134,13 @@ pub own_flow : (rules : List Rule) → AreNormal rules → (slot : ℕ) (entry :
 unfolding is_own_entry
 own_flow rules normal slot entry all = lies_within-Owns rules normal slot (flow_of entry).0 (flow_normal entry all)
 
-pub own_port : (rules : List Rule) (slot : ℕ) (entry : List ℕ) → IsTrue (is_own_entry rules slot PORT entry) ↔ HasPort rules slot (number_at entry 0 2)
+pub own_port : (rules : List Rule) (slot : ℕ) (entry : List ℕ) → IsTrue (is_own_entry rules slot PORT entry) ↔ HasPort rules slot (entry_port entry)
 unfolding is_own_entry
-own_port rules slot entry = has_port-iff rules slot (number_at entry 0 2)
+own_port rules slot entry = has_port-iff rules slot (entry_port entry)
 
-pub own_queue : (rules : List Rule) (slot : ℕ) (entry : List ℕ) → IsTrue (is_own_entry rules slot QUEUE entry) ↔ HasPort rules slot (number_at entry 0 2)
+pub own_queue : (rules : List Rule) (slot : ℕ) (entry : List ℕ) → IsTrue (is_own_entry rules slot QUEUE entry) ↔ HasPort rules slot (entry_port entry)
 unfolding is_own_entry
-own_queue rules slot entry = has_port-iff rules slot (number_at entry 0 2)
+own_queue rules slot entry = has_port-iff rules slot (entry_port entry)
 
 pub own_description : (rules : List Rule) (slot : ℕ) (entry : List ℕ) → IsTrue (is_own_entry rules slot DESC entry)
 unfolding is_own_entry

@@ -1,11 +1,10 @@
 -- Which entries of the switch's statistics are a slice's (OpenFlow 1.0.0, section 5.3.5). All of this is this proxy's own rule.
 use Rattle.std.specs.Prelude.{ℕ, zero, suc, ◌≡◌, ◌==◌, ◌||◌, ◌&&◌, Bool, true, false, if◌then◌else◌, List, [], ◌∷◌, length, take, drop, Some, None}
 use Rattle.std.specs.List.{list_any}
-use Rattle.of10_model.specs.Normal.{number_at}
 use Rattle.of10_model.specs.Inclusion.{includes_of}
 use Rattle.of10_model.specs.declared.pattern.Pattern.{Pattern}
 use Rattle.of10_stats.specs.declared.protocol.TheConstants as statistics
-use Rattle.of10_stats.specs.Replies.{entry_size_of, flow_of, IsEntry}
+use Rattle.of10_stats.specs.Replies.{entry_size_of, flow_of, entry_port, IsEntry}
 use Rattle.flowspace.specs.declared.rules.Rule.{Rule}
 use Rattle.flowspace.specs.Rules.{is_written_by}
 use Rattle.flowspace.specs.Owners.{has_port}
@@ -33,7 +32,7 @@ lies_within rules slot m = list_any (λ rule. is_written_by slot rule && include
 unfoldable pub is_own_entry : List Rule → ℕ → ℕ → List ℕ → Bool
 is_own_entry rules slot kind entry =
     if kind == statistics.FLOW then lies_within rules slot (flow_of entry).0
-    else if kind == statistics.PORT || kind == statistics.QUEUE then has_port rules slot (number_at entry 0 2)
+    else if kind == statistics.PORT || kind == statistics.QUEUE then has_port rules slot (entry_port entry)
     else true
 
 -- the same of an entry that came for a request of a kind

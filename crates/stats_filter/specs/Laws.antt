@@ -1,10 +1,10 @@
 -- What the definitions say of entries, pages and replies (OpenFlow 1.0.0, section 5.3.5). How replies are cut is this proxy's own rule.
-use Rattle.std.specs.Prelude.{◌≡◌, ℕ, ◌+◌, ◌<◌, ◌≤◌, Bool, true, false, List, [], ◌∷◌, ◌++◌, length, map, drop, All, None, Ok}
+use Rattle.std.specs.Prelude.{◌≡◌, ℕ, ◌+◌, ◌<◌, ◌≤◌, Bool, true, false, List, [], ◌∷◌, ◌++◌, length, map, All, None, Ok}
 use Rattle.std.specs.List.{concat, flat_map}
-use Rattle.of10_model.specs.Normal.{number_at}
 use Rattle.of10_ctl.specs.declared.kind.TheConstants.{STATS_REPLY}
+use Rattle.of10_ctl.specs.Heads.{head_of}
 use Rattle.of10_ctl.specs.Kinds.{IsOf}
-use Rattle.of10_stats.specs.Replies.{IsEntry, entry_size_of, part_of}
+use Rattle.of10_stats.specs.Replies.{IsEntry, entries_begin, entries_of, entry_size_of, part_of}
 use Rattle.stats_filter.specs.Replies.{page_size}
 
 -- ---- entries
@@ -47,9 +47,9 @@ pub record ArePages (entries pages : List (List ℕ)) : Type 0 where
 -- a reply of a type of statistics under a transaction id with these entries, behind which more replies come or none
 pub record IsReplyPage (kind xid : ℕ) (more : Bool) (page reply : List ℕ) : Type 0 where
   pub message : IsOf STATS_REPLY reply
-  pub under : number_at reply 4 4 ≡ xid
-  pub part : part_of reply ≡ Ok (record { kind = kind; more = more; from = 12 })
-  pub entries : drop 12 reply ≡ page
+  pub under : (head_of reply).xid ≡ xid
+  pub part : part_of reply ≡ Ok (record { kind = kind; more = more; from = entries_begin })
+  pub entries : entries_of reply ≡ page
 
 -- there are some pages
 abbrev pub are_some : List (List ℕ) → Bool

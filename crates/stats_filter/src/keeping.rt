@@ -2,8 +2,7 @@
 
 ghost use Rattle.std.specs.Prelude.{◌≡◌};
 ghost use Rattle.of10_stats.specs.declared.protocol.TheConstants.{FLOW};
-ghost use Rattle.of10_stats.specs.Replies.{IsEntry, IsPortEntry};
-ghost use Rattle.of10_model.specs.Normal.{number_at, match_at};
+ghost use Rattle.of10_stats.specs.Replies.{IsEntry, IsPortEntry, entry_port, flow_of};
 ghost use Rattle.flowspace.specs.Owners.{has_port};
 ghost use Rattle.stats_filter.specs.Keeping.{lies_within, is_kept_entry, MayCome};
 
@@ -28,7 +27,7 @@ fn lies_within(policy: &SwitchPolicy, slot: u8, m: &Match) -> bool
 
 fn keeps_flow(policy: &SwitchPolicy, slot: u8, entry: &[u8]) -> bool
     requires { IsEntry FLOW entry.now }
-    ensures { result ≡ lies_within policy.now.rules slot (match_at entry.now 4) }
+    ensures { result ≡ lies_within policy.now.rules slot (flow_of entry.now).0 }
 {
     let (pattern, _, _) = flow_entry(entry);
     lies_within(policy, slot, &pattern)
@@ -36,7 +35,7 @@ fn keeps_flow(policy: &SwitchPolicy, slot: u8, entry: &[u8]) -> bool
 
 fn keeps_port(policy: &SwitchPolicy, slot: u8, entry: &[u8]) -> bool
     requires { IsPortEntry entry.now }
-    ensures { result ≡ has_port policy.now.rules slot (number_at entry.now 0 2) }
+    ensures { result ≡ has_port policy.now.rules slot (entry_port entry.now) }
 {
     policy.has_port(slot, entry_port(entry))
 }

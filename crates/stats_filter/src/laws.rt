@@ -1,15 +1,15 @@
 //! Laws of the definitions. Each function's contract is the law; its body does nothing.
 
-ghost use Rattle.std.specs.Prelude.{ℕ, List, ◌≡◌, ◌<◌, ◌≤◌, ◌^◌, ◌↔◌, IsTrue, All, Ok, Some, drop, length};
+ghost use Rattle.std.specs.Prelude.{ℕ, List, ◌≡◌, ◌<◌, ◌≤◌, ◌^◌, ◌↔◌, IsTrue, All, Ok, Some, length};
 ghost use Rattle.std.specs.List.{concat, flat_map};
 ghost use Rattle.of10_model.specs.declared.pattern.Pattern.{Pattern};
-ghost use Rattle.of10_model.specs.Normal.{number_at, IsNormal};
+ghost use Rattle.of10_model.specs.Normal.{IsNormal};
 ghost use Rattle.of10_ctl.specs.declared.kind.TheConstants.{STATS_REQUEST};
 ghost use Rattle.of10_ctl.specs.Kinds.{IsOf};
 ghost use Rattle.of10_stats.specs.declared.request.StatsRequest.{StatsRequest};
 ghost use Rattle.of10_stats.specs.Requests.{IsRequest, read_request};
 ghost use Rattle.of10_stats.specs.declared.protocol.TheConstants.{DESC, FLOW, PORT, QUEUE};
-ghost use Rattle.of10_stats.specs.Replies.{IsEntry, flow_of};
+ghost use Rattle.of10_stats.specs.Replies.{IsEntry, entries_of, entry_port, flow_of};
 ghost use Rattle.flowspace.specs.declared.rules.Rule.{Rule};
 ghost use Rattle.flowspace.specs.Policies.{AreNormal};
 ghost use Rattle.flowspace.specs.Owners.{HasPort, Owns};
@@ -41,14 +41,14 @@ pub fn pages_are_full_rows()
 /// after another, are the entries.
 pub fn replies_have_the_pages()
     ensures pages { (kind xid : ℕ) (bytes : List ℕ) → kind < 2 ^ 16 → xid < 2 ^ 32 → FitPages (entries_in kind bytes) → AreReplies kind xid (pages (entries_in kind bytes)) (replies_of kind bytes xid) }
-    ensures again { (kind xid : ℕ) (bytes : List ℕ) → flat_map (λ reply. entries_in kind (drop 12 reply)) (replies_of kind bytes xid) ≡ entries_in kind bytes }
+    ensures again { (kind xid : ℕ) (bytes : List ℕ) → flat_map (λ reply. entries_in kind (entries_of reply)) (replies_of kind bytes xid) ≡ entries_in kind bytes }
 {}
 
 /// A flow is a slice's exactly where one of its write rules has all headers of the flow's match, and a port or
 /// a queue where the slice has the port. What the switch is told to be is every slice's.
 pub fn own_entries_are_those_that_the_slice_may_write()
     ensures flows { (rules : List Rule) → AreNormal rules → (slot : ℕ) (entry : List ℕ) → All (λ byte. byte < 256) entry → IsTrue (is_own_entry rules slot FLOW entry) ↔ Owns rules slot (flow_of entry).0 }
-    ensures ports { (rules : List Rule) (slot : ℕ) (entry : List ℕ) → IsTrue (is_own_entry rules slot PORT entry) ↔ HasPort rules slot (number_at entry 0 2) }
-    ensures queues { (rules : List Rule) (slot : ℕ) (entry : List ℕ) → IsTrue (is_own_entry rules slot QUEUE entry) ↔ HasPort rules slot (number_at entry 0 2) }
+    ensures ports { (rules : List Rule) (slot : ℕ) (entry : List ℕ) → IsTrue (is_own_entry rules slot PORT entry) ↔ HasPort rules slot (entry_port entry) }
+    ensures queues { (rules : List Rule) (slot : ℕ) (entry : List ℕ) → IsTrue (is_own_entry rules slot QUEUE entry) ↔ HasPort rules slot (entry_port entry) }
     ensures switch { (rules : List Rule) (slot : ℕ) (entry : List ℕ) → IsTrue (is_own_entry rules slot DESC entry) }
 {}
