@@ -103,7 +103,7 @@ few_shares (Some other) slot writes reads numbered = either (λ (shares : List S
 
 handed_few : (policy : PolicyView) (rules : List Rule) (slot : ℕ) (view : List Item) (packet : PacketIn) → IsShortPacket packet → AreFewItems view (map (λ share. handed share packet) (shares_of policy rules slot packet))
 handed_few policy rules slot view packet short =
-    let shares = few_shares (marked_slot policy packet) slot (is_value slot (writer_of rules (header_in packet))) (bit (readers_of rules (header_in packet)) slot) (is_some (number_given packet)) in
+    let shares = few_shares (marked_slot (length policy.slices) packet.payload) slot (is_value slot (writer_of rules (header_in packet))) (bit (readers_of rules (header_in packet)) slot) (is_some (number_given packet)) in
     record {
       few = rw (all_speak packet (shares_of policy rules slot packet), length-map (shares_of policy rules slot packet) (λ share. handed share packet)) shares;
       bounded = bounded_handed view packet (shares_of policy rules slot packet) short;
@@ -126,7 +126,7 @@ packet_few policy rules slot side packet short =
 
 status_few : (s : Settings) (view : List Item) (known : List (List ℕ)) (status : PortStatus) → IsWhole status → AreFewItems view (status_items s known status)
 status_few s view known status whole =
-    items_if view (is_kept status known && is_own_port s (port_number status.port)) (Status status ∷ []) (one_item view (Status status) whole tt)
+    items_if view (is_kept status known && is_own_port s.slot s.patterns (port_number status.port)) (Status status ∷ []) (one_item view (Status status) whole tt)
 
 -- ---- entries and errors
 
@@ -150,7 +150,7 @@ barrier_few s view xid =
 queues_few : (s : Settings) (view : List Item) (xid : ℕ) (queues : QueuesMessage) → length queues.body ≤ 65527 → AreFewItems view (queues_items s xid queues)
 queues_few s view xid queues short =
     let item = Queues (xid % 2 ^ 24) queues.body in
-    items_if view (is_reply_to s xid && is_own_port s queues.port) (item ∷ []) (one_item view item short tt)
+    items_if view (is_reply_to s xid && is_own_port s.slot s.patterns queues.port) (item ∷ []) (one_item view item short tt)
 
 queues_short : (message : List ℕ) → IsShort message → IfOk (read_queues message) (λ queues. length queues.body ≤ 65527)
 unfolding read_queues

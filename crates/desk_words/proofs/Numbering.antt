@@ -247,7 +247,7 @@ shape_by packet true (Some other) slot writes reads numbered is = elim (cases_Bo
 
 pub shape : (policy : PolicyView) (rules : List Rule) (slot : ℕ) (view : List Item) (packet : PacketIn) → is_some (number_given packet) ≡ true → IsShown (packet_items policy rules slot view packet)
 shape policy rules slot view packet is =
-    shape_by packet (is_up view) (marked_slot policy packet) slot (is_value slot (writer_of rules (header_in packet))) (bit (readers_of rules (header_in packet)) slot) (is_some (number_given packet)) is
+    shape_by packet (is_up view) (marked_slot (length policy.slices) packet.payload) slot (is_value slot (writer_of rules (header_in packet))) (bit (readers_of rules (header_in packet)) slot) (is_some (number_given packet)) is
 
 -- what a slice sees with what a packet with a number shows, where it saw a view after what was lost
 abbrev shown_with : ℕ → List Item → List Item → Side → Side
@@ -351,7 +351,7 @@ one_packet : (s : Settings) (policy : PolicyView) (rules : List Rule) (slot : �
     → AreNumbered s (after_items number (lost_of (option_and_then (λ q. holder q side.numbered) number) ++ packet_items policy rules slot side.sight.view packet) side)
 one_packet s policy rules slot side packet None is n =
     still_numbered s side (packet_items policy rules slot side.sight.view packet)
-    (plain_shares packet (is_up side.sight.view) (marked_slot policy packet) slot (is_value slot (writer_of rules (header_in packet))) (bit (readers_of rules (header_in packet)) slot) (is_some (number_given packet)) (ap is_some is)) n
+    (plain_shares packet (is_up side.sight.view) (marked_slot (length policy.slices) packet.payload) slot (is_value slot (writer_of rules (header_in packet))) (bit (readers_of rules (header_in packet)) slot) (is_some (number_given packet)) (ap is_some is)) n
 one_packet s policy rules slot side packet (Some q) is n =
     lost_first s side q (packet_items policy rules slot side.sight.view packet) (holder q side.numbered)
     (numbered_packet s policy rules slot side packet q (holder q side.numbered) refl (ap is_some is) n)
@@ -364,7 +364,7 @@ by_packet s policy rules slot side packet n = one_packet s policy rules slot sid
 pub none_given : (policy : PolicyView) (slot : ℕ) (switch : KnownSwitch) (side : Side) (xid : ℕ) (said : Result SwitchMessage Unread) → packet_said said ≡ None → is_any_given (said_items policy slot switch side xid said) ≡ false
 none_given policy slot switch side xid (Ok (says.PortStatus status)) none =
     let s = settings_at policy slot switch.features in
-    none_or hands_up_buffered (is_kept status switch.known && is_own_port s (port_number status.port)) (Status status ∷ []) refl
+    none_or hands_up_buffered (is_kept status switch.known && is_own_port s.slot s.patterns (port_number status.port)) (Status status ∷ []) refl
 none_given policy slot switch side xid said none =
     none_of_others hands_up_buffered policy slot switch side xid said (record {
       end = refl;

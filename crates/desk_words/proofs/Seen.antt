@@ -101,7 +101,7 @@ record Follows (s : Settings) (before after : List Item) (known : List (List ℕ
 by_status : (s : Settings) (view : List Item) (known : List (List ℕ)) (status : PortStatus) → IsAscending known → known_ports view ≡ own_ports s known
     → Follows s view (with_items (status_items s known status) view) (changed status known)
 by_status s view known status order same = record {
-  features_stay = shown_status (is_kept status known && is_own_port s (port_number status.port)) view status;
+  features_stay = shown_status (is_kept status known && is_own_port s.slot s.patterns (port_number status.port)) view status;
   ports_follow = own_after (own_rules s) s.slot view status known (kept_of status known) (has_port (own_rules s) s.slot (port_number status.port)) refl refl order same;
 }
 

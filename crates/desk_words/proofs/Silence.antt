@@ -74,7 +74,7 @@ abbrev pub are_plain : List Item → Bool
 are_plain items = list_any is_forgetting items
 
 plain_status : (s : Settings) (known : List (List ℕ)) (status : PortStatus) → are_plain (status_items s known status) ≡ false
-plain_status s known status = none_or is_forgetting (is_kept status known && is_own_port s (port_number status.port)) (Status status ∷ []) refl
+plain_status s known status = none_or is_forgetting (is_kept status known && is_own_port s.slot s.patterns (port_number status.port)) (Status status ∷ []) refl
 
 -- an entry that is gone, and an error, show a slice nothing but itself
 pub none_of_removed : (test : Item → Bool) (s : Settings) (entry : FlowRemoved) → ((other : FlowRemoved) → test (Removed other) ≡ false) → list_any test (removed_items s entry) ≡ false
@@ -99,7 +99,7 @@ none_of_barrier test s xid none = none_or test (is_reply_to s xid) (Barrier (xid
 
 pub none_of_queues : (test : Item → Bool) (s : Settings) (xid : ℕ) (queues : QueuesMessage) → NoReply test → list_any test (queues_items s xid queues) ≡ false
 none_of_queues test s xid queues none =
-    none_or test (is_reply_to s xid && is_own_port s queues.port) (Queues (xid % 2 ^ 24) queues.body ∷ [])
+    none_or test (is_reply_to s xid && is_own_port s.slot s.patterns queues.port) (Queues (xid % 2 ^ 24) queues.body ∷ [])
     (ap (λ (one : Bool). one || false) (none.queues (xid % 2 ^ 24) queues.body))
 
 none_of_part : (test : Item → Bool) (s : Settings) (x : ℕ) (part : StatsPart) (body : List ℕ) → NoReply test → list_any test (part_items s x part body) ≡ false

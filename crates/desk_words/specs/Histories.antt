@@ -99,9 +99,9 @@ packet_in_read message = packet_said (read_switch message)
 abbrev pub number_given : PacketIn → Option ℕ
 number_given packet = if packet.buffer == NO_BUFFER then None else Some packet.buffer
 
--- the slot of the policy whose mark a packet bears
-abbrev pub marked_slot : PolicyView → PacketIn → Option ℕ
-marked_slot policy packet = elim (probe_slot_of packet.payload) [ None ↦ None | Some slot ↦ if is_slot policy slot then Some slot else None ]
+-- the slot whose mark a packet's bytes bear, where it is one of so many slices
+abbrev pub marked_slot : ℕ → List ℕ → Option ℕ
+marked_slot count bytes = elim (probe_slot_of bytes) [ None ↦ None | Some slot ↦ if ltb slot count then Some slot else None ]
 
 -- the first rule that has the packet's header says who may write it, and who reads it. The writer may use by number what the switch keeps
 abbrev pub shares_by : List Rule → ℕ → PacketIn → List Share
@@ -111,7 +111,7 @@ shares_by rules slot packet =
 
 -- a packet that bears the mark of a slot of the policy is a probe of that slice alone
 abbrev pub shares_of : PolicyView → List Rule → ℕ → PacketIn → List Share
-shares_of policy rules slot packet = elim (marked_slot policy packet) [ None ↦ shares_by rules slot packet | Some other ↦ if other == slot then Probe ∷ [] else [] ]
+shares_of policy rules slot packet = elim (marked_slot (length policy.slices) packet.payload) [ None ↦ shares_by rules slot packet | Some other ↦ if other == slot then Probe ∷ [] else [] ]
 
 -- a packet-in shows the slice its packet once for each of its shares, where it is up
 abbrev pub packet_items : PolicyView → List Rule → ℕ → List Item → PacketIn → List Item
@@ -131,7 +131,7 @@ packet_in_items policy rules slot side packet = lost_items side.numbered packet 
 
 -- a change that is kept is shown to the slices that have the port
 abbrev pub status_items : Settings → List (List ℕ) → PortStatus → List Item
-status_items s known status = if is_kept status known && is_own_port s (port_number status.port) then Status status ∷ [] else []
+status_items s known status = if is_kept status known && is_own_port s.slot s.patterns (port_number status.port) then Status status ∷ [] else []
 
 -- an entry that is gone is shown to a slice of which one write rule has all of its match
 abbrev pub removed_items : Settings → FlowRemoved → List Item
@@ -151,7 +151,7 @@ barrier_items s xid = if is_reply_to s xid then Barrier (xid % 2 ^ 24) ∷ [] el
 
 -- what the switch says of the queues of a port of the slice
 abbrev pub queues_items : Settings → ℕ → QueuesMessage → List Item
-queues_items s xid queues = if is_reply_to s xid && is_own_port s queues.port then Queues (xid % 2 ^ 24) queues.body ∷ [] else []
+queues_items s xid queues = if is_reply_to s xid && is_own_port s.slot s.patterns queues.port then Queues (xid % 2 ^ 24) queues.body ∷ [] else []
 
 -- the types of statistics that the switch is asked for: what it is, flows, ports and queues
 abbrev pub is_type_asked : ℕ → Bool

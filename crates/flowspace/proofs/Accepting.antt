@@ -18,7 +18,8 @@ use Rattle.flowspace.specs.Rules.{IsPlainRule, is_written_by, is_slot_or_none, i
 use Rattle.flowspace.specs.Order.{ranked, in_order, IsAccepted}
 use Rattle.flowspace.specs.Policies.{IsPolicy, AreNormal}
 use Rattle.flowspace.specs.Faults.{NamesDiffer, IsSoundRule}
-use Rattle.flowspace.specs.Loading.{first_of_faults, first_along, excess, name_fault, rule_fault, writes_fault, filed, filed_in_order, overlap_fault, fault_of, load_of}
+use Rattle.flowspace.specs.Options.{first_some}
+use Rattle.flowspace.specs.Loading.{first_along, excess, name_fault, rule_fault, writes_fault, filed, filed_in_order, overlap_fault, fault_of, load_of}
 use Rattle.flowspace.proofs.Ranking.{map-ranked}
 use Rattle.flowspace.proofs.Ordering.{rank_of, IsPermutation-in_order}
 use Rattle.flowspace.proofs.Along.{option_map-None, none_along, along_none, find-None, None-find}
@@ -196,7 +197,7 @@ record IsFaultless (ss : List Slice) (rs : List Rule) : Type 0 where
   writes : first_along (writes_fault rs) [] ss ≡ None
   overlaps : first_along overlap_fault [] (filed_in_order rs) ≡ None
 
-six_None : (a b c d e f : Option PolicyFault) → first_of_faults (a ∷ b ∷ c ∷ d ∷ e ∷ f ∷ []) ≡ None → (a ≡ None) × (b ≡ None) × (c ≡ None) × (d ≡ None) × (e ≡ None) × (f ≡ None)
+six_None : (a b c d e f : Option PolicyFault) → first_some (a ∷ b ∷ c ∷ d ∷ e ∷ f ∷ []) ≡ None → (a ≡ None) × (b ≡ None) × (c ≡ None) × (d ≡ None) × (e ≡ None) × (f ≡ None)
 six_None None None None None None None h = (refl, refl, refl, refl, refl, refl)
 six_None None None None None None (Some x) h = absurd (cc)
 six_None None None None None (Some x) f h = absurd (cc)

@@ -17,7 +17,8 @@ use Rattle.flowspace.specs.declared.fault.PolicyFault.TheVariants.{TooMany, Dupl
 use Rattle.flowspace.specs.Rules.{is_written_by, is_slot_or_none, is_own_reader, is_refused}
 use Rattle.flowspace.specs.Policies.{AreNormal}
 use Rattle.flowspace.specs.Faults.{AreWithinLimits, NamesSlots, IsFirstRepeat, IsFirstUnknown, IsFirstOwnReader, IsFirstFull, IsFirstPolicyFault}
-use Rattle.flowspace.specs.Loading.{first_of_faults, first_along, excess, name_fault, rule_fault, writes_fault, filed_in_order, overlap_fault, fault_of, load_of}
+use Rattle.flowspace.specs.Options.{first_some}
+use Rattle.flowspace.specs.Loading.{first_along, excess, name_fault, rule_fault, writes_fault, filed_in_order, overlap_fault, fault_of, load_of}
 use Rattle.flowspace.proofs.Along.{along_none, some_along}
 use Rattle.flowspace.proofs.Accepting.{excess-None, names_differ, IfSome-is_slot, is_slot-IfSome, sound_rules, few_writes}
 use Rattle.flowspace.proofs.Overlapping.{refused_load, IsFirstOverlap-load_of}
@@ -29,7 +30,7 @@ abbrev FirstOfSix : (a b c d e f : Option PolicyFault) → PolicyFault → Type 
 FirstOfSix a b c d e f fault =
     (a ≡ Some fault) ⊎ ((a ≡ None) × ((b ≡ Some fault) ⊎ ((b ≡ None) × ((c ≡ Some fault) ⊎ ((c ≡ None) × ((d ≡ Some fault) ⊎ ((d ≡ None) × ((e ≡ Some fault) ⊎ ((e ≡ None) × (f ≡ Some fault))))))))))
 
-six_Some : (a b c d e f : Option PolicyFault) (fault : PolicyFault) → first_of_faults (a ∷ b ∷ c ∷ d ∷ e ∷ f ∷ []) ≡ Some fault → FirstOfSix a b c d e f fault
+six_Some : (a b c d e f : Option PolicyFault) (fault : PolicyFault) → first_some (a ∷ b ∷ c ∷ d ∷ e ∷ f ∷ []) ≡ Some fault → FirstOfSix a b c d e f fault
 six_Some (Some x) b c d e f fault h = inl h
 six_Some None (Some x) c d e f fault h = inr (refl, inl h)
 six_Some None None (Some x) d e f fault h = inr (refl, inr (refl, inl h))

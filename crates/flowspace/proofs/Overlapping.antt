@@ -17,7 +17,8 @@ use Rattle.flowspace.specs.declared.fault.What.TheVariants.{Slices, Rules, Write
 use Rattle.flowspace.specs.Rules.{is_slot_or_none, is_own_reader, is_written_by, is_refused}
 use Rattle.flowspace.specs.Order.{placed, ranked}
 use Rattle.flowspace.specs.Policies.{PolicyView, AreNormal, ComesBefore, IsOverlap, IsFirstOverlap}
-use Rattle.flowspace.specs.Loading.{first_of_faults, first_along, excess, name_fault, rule_fault, writes_fault, filed, filed_in_order, overlap_fault, fault_of, load_of}
+use Rattle.flowspace.specs.Options.{first_some}
+use Rattle.flowspace.specs.Loading.{first_along, excess, name_fault, rule_fault, writes_fault, filed, filed_in_order, overlap_fault, fault_of, load_of}
 use Rattle.flowspace.proofs.Ranking.{placed-here, placed-later, IsPermutation-placed, IsPermutation-ranked}
 use Rattle.flowspace.proofs.Ordering.{filed_rank}
 use Rattle.flowspace.proofs.Along.{some_along, FoundAt, find-None, find-Some, option_map-None}
@@ -340,7 +341,7 @@ not_along check xs fault never e = let at = some_along check [] xs fault e in ne
 
 last_of_six : (a b c d e f : Option PolicyFault) (fault : PolicyFault)
     → (a ≡ Some fault → ⊥) → (b ≡ Some fault → ⊥) → (c ≡ Some fault → ⊥) → (d ≡ Some fault → ⊥) → (e ≡ Some fault → ⊥)
-    → first_of_faults (a ∷ b ∷ c ∷ d ∷ e ∷ f ∷ []) ≡ Some fault → f ≡ Some fault
+    → first_some (a ∷ b ∷ c ∷ d ∷ e ∷ f ∷ []) ≡ Some fault → f ≡ Some fault
 last_of_six (Some x) b c d e f fault na nb nc nd ne h = absurd (na h)
 last_of_six None (Some x) c d e f fault na nb nc nd ne h = absurd (nb h)
 last_of_six None None (Some x) d e f fault na nb nc nd ne h = absurd (nc h)

@@ -1,3 +1,4 @@
+pub mod Options
 pub mod Slices
 pub mod Rules
 pub mod Order

@@ -11,14 +11,10 @@ use Rattle.flowspace.specs.declared.fault.PolicyFault.TheVariants.{TooMany, Dupl
 use Rattle.flowspace.specs.declared.slices.Slice.{Slice}
 use Rattle.flowspace.specs.declared.rules.Rule.{Rule}
 use Rattle.flowspace.specs.declared.order.FiledRule.{FiledRule}
+use Rattle.flowspace.specs.Options.{first_some}
 use Rattle.flowspace.specs.Rules.{is_written_by, is_slot_or_none, is_own_reader, is_refused}
 use Rattle.flowspace.specs.Order.{ranked}
 use Rattle.flowspace.specs.Policies.{PolicyView}
-
--- the first fault of those given
-abbrev pub first_of_faults : List (Option PolicyFault) → Option PolicyFault
-first_of_faults [] = None
-first_of_faults (fault ∷ rest) = option_or fault (first_of_faults rest)
 
 -- the first fault along a list, each element of which is checked beside those before it
 abbrev pub first_along : {A : Type 0} → (List A → A → Option PolicyFault) → List A → List A → Option PolicyFault
@@ -69,11 +65,11 @@ faults_before_order slices rules =
 
 -- the first fault of these
 abbrev pub fault_before_order : List Slice → List Rule → Option PolicyFault
-fault_before_order slices rules = first_of_faults (faults_before_order slices rules)
+fault_before_order slices rules = first_some (faults_before_order slices rules)
 
 -- the first fault of slices and rules: one of these, or along rule order an overlap
 unfoldable pub fault_of : List Slice → List Rule → Option PolicyFault
-fault_of slices rules = first_of_faults (faults_before_order slices rules ++ first_along overlap_fault [] (filed_in_order rules) ∷ [])
+fault_of slices rules = first_some (faults_before_order slices rules ++ first_along overlap_fault [] (filed_in_order rules) ∷ [])
 
 -- the policy that slices and rules make, or their first fault
 abbrev pub load_of : List Slice → List Rule → Result PolicyView PolicyFault

@@ -32,8 +32,9 @@ use Rattle.flowspace.specs.Owners.{HasPort, has_port}
 use Rattle.flowspace.proofs.Owning.{has_port-iff}
 use Rattle.flowmod_expand.specs.Pieces.{writes_of}
 use Rattle.stats_filter.specs.Asking.{asked_as}
+use Rattle.slice_words.specs.Items.{is_own_port}
 use Rattle.slice_words.specs.FlowMods.{Ground}
-use Rattle.slice_words.specs.Questions.{is_port_on, may_ask}
+use Rattle.slice_words.specs.Questions.{may_ask}
 use Rattle.slice_words.proofs.LoneRules.{same_port}
 use Rattle.lane_laws.specs.Lane.{AsksForReply, AsksOwnPort, MayBeAsked, IsReadAsQuestion}
 use Rattle.lane_laws.proofs.Reading.{bytes-take}
@@ -116,20 +117,20 @@ barrier_read xid =
 -- ---- ports
 
 module _ (g : Ground) (rules : List Rule) (slot : ℕ) (on_slot : g.slot ≡ slot) (on_patterns : g.patterns ≡ writes_of rules slot) where
-  pub port_on : (port : ℕ) → is_port_on g port ≡ has_port rules slot port
+  pub port_on : (port : ℕ) → is_own_port g.slot g.patterns port ≡ has_port rules slot port
   port_on port = rw (on_slot, on_patterns) (same_port slot rules port)
 
-  owned : (port : ℕ) → is_port_on g port ≡ true → HasPort rules slot port
+  owned : (port : ℕ) → is_own_port g.slot g.patterns port ≡ true → HasPort rules slot port
   owned port is = (has_port-iff rules slot port).0 (sym (port_on port) ∙ is)
 
-  pub owns : (port : ℕ) → HasPort rules slot port → is_port_on g port ≡ true
+  pub owns : (port : ℕ) → HasPort rules slot port → is_own_port g.slot g.patterns port ≡ true
   owns port has = port_on port ∙ (has_port-iff rules slot port).1 has
 
   -- all ports are named, or one of the slice's
-  by_all : (all port : ℕ) → (port == all || is_port_on g port) ≡ true → (port ≡ all) ⊎ HasPort rules slot port
-  by_all all port is = elim (or_cases (port == all) (is_port_on g port) is) [ inl every ↦ inl (eqb-true port all every) | inr own ↦ inr (owned port own) ]
+  by_all : (all port : ℕ) → (port == all || is_own_port g.slot g.patterns port) ≡ true → (port ≡ all) ⊎ HasPort rules slot port
+  by_all all port is = elim (or_cases (port == all) (is_own_port g.slot g.patterns port) is) [ inl every ↦ inl (eqb-true port all every) | inr own ↦ inr (owned port own) ]
 
-  all_by : (all port : ℕ) → (port ≡ all) ⊎ HasPort rules slot port → (port == all || is_port_on g port) ≡ true
+  all_by : (all port : ℕ) → (port ≡ all) ⊎ HasPort rules slot port → (port == all || is_own_port g.slot g.patterns port) ≡ true
   all_by all port (inl every) = rw (eq-eqb port all every) refl
   all_by all port (inr own) = rw (owns port own) (or-true (port == all))
 

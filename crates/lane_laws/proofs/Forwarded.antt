@@ -13,10 +13,10 @@ use Rattle.stats_filter.specs.Replies.{table_reply}
 use Rattle.slice_words.specs.Messages.{Reading, asks_switch}
 use Rattle.slice_words.specs.Items.{Settings, Item}
 use Rattle.slice_words.specs.Pasts.{Outgoing, Asks, Answer, Past, told, forwarded}
-use Rattle.slice_words.specs.FlowMods.{Ground, ground_of, flow_mod_fault, sent_on}
+use Rattle.slice_words.specs.FlowMods.{Ground, ground_of, flow_mod_fault, sent_on, not_permitted}
 use Rattle.slice_words.specs.PacketOuts.{packet_out_fault, sent_out}
 use Rattle.slice_words.specs.Questions.{asking, statistics_asked, queues_asked}
-use Rattle.slice_words.specs.Answers.{refused, not_permitted, unread_answer, forwarded_answer, keeps_rate, read_answer, message_answer}
+use Rattle.slice_words.specs.Answers.{refused, unread_answer, forwarded_answer, keeps_rate, read_answer, message_answer}
 use Rattle.slice_words.proofs.AnswerKinds.{message_holds}
 use Rattle.slice_side.specs.Checking.{IsQuestion}
 use Rattle.slice_side.proofs.Answering.{asked_answer}

@@ -79,7 +79,7 @@ module _ (policy : PolicyView) (slot : ℕ) where
       let lost = lost_items side.numbered packet in
       let shown = packet_items policy rules slot side.sight.view packet in
       let none = lost_plain (option_and_then (λ number. holder number side.numbered) (number_given packet)) in
-      elim (by_shares packet (is_up side.sight.view) (marked_slot policy packet) slot (is_value slot (writer_of rules (header_in packet))) (bit (readers_of rules (header_in packet)) slot) (is_some (number_given packet))) [
+      elim (by_shares packet (is_up side.sight.view) (marked_slot (length policy.slices) packet.payload) slot (is_value slot (writer_of rules (header_in packet))) (bit (readers_of rules (header_in packet)) slot) (is_some (number_given packet))) [
         | inl nothing ↦ NoneShown (none_both hands_up_buffered lost shown none nothing)
         | inr one ↦
             let number = some_number (number_given packet) one.4 in

@@ -33,7 +33,8 @@ use Rattle.action_check.specs.Soundness.{HasWay}
 use Rattle.action_check.proofs.Aside.{entry_for, Has-entry}
 use Rattle.slice_words.specs.Items.{lone_rules}
 use Rattle.slice_words.specs.Buffers.{HeldPacket, packet_under}
-use Rattle.slice_words.specs.FlowMods.{Ground, list_given, packet_at, first_some}
+use Rattle.flowspace.specs.Options.{first_some}
+use Rattle.slice_words.specs.FlowMods.{Ground, list_given, packet_at}
 use Rattle.slice_words.specs.PacketOuts.{is_buffered_out, carried_header, is_probe, marked, origin_with, sent_out_with, names_no_packet, may_come_by, comes_by_another, lies_aside, carries_another, forbidden_out, out_too_large, packet_out_fault}
 use Rattle.slice_words.specs.Alone.{number_it_came_with}
 use Rattle.slice_words.proofs.LoneRules.{same_port}

@@ -23,7 +23,8 @@ use Rattle.policy_text.specs.declared.values.Numerals.TheVariants.{Datapath, Har
 use Rattle.policy_text.specs.declared.values.Texts.TheVariants.{Name, Controller, Any}
 use Rattle.of10_model.specs.Results.{◌>>=◌}
 use Rattle.of10_model.proofs.Results.{bind_is}
-use Rattle.policy_text.specs.Reading.{SectionView, key_place, least_text, no_unknown, known_keys, value_formed, demanded, allowed, required, optional, when, is_allowed_number, number, is_text, text, each_text, text_list, numeral, addresses, reads}
+use Rattle.flowspace.specs.Options.{when}
+use Rattle.policy_text.specs.Reading.{SectionView, key_place, least_text, no_unknown, known_keys, value_formed, demanded, allowed, required, optional, is_allowed_number, number, is_text, text, each_text, text_list, numeral, addresses, reads}
 use Rattle.policy_text.specs.Slices.{slice_of_table, slice_of, slices_from}
 use Rattle.policy_text.specs.Rules.{link_in, pattern_in, slot_of, slot_named, writer_slot, are_different, bits_below, no_improper, proper, RuleText, names_under, rule_text_in, rule_from, rule_in, rule_of, rules_from}
 use Rattle.address_text.specs.Texts.{hex_text, hardware_text, prefix_text}

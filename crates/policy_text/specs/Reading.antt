@@ -4,6 +4,7 @@ use Rattle.std.specs.Ordering.{nat_cmp, is_lt}
 use Rattle.std.specs.Cmp.Lexicographic.{slice_cmp}
 use Rattle.toml.specs.Data.{Data, string, integer, array, table, Items, no_items, item, Members, no_members, member, get_member}
 use Rattle.toml.specs.Text.{are_tables, has_items}
+use Rattle.flowspace.specs.Options.{when}
 use Rattle.flowspace.specs.Rules.{is_vlan}
 use Rattle.flowspace.specs.Owners.{is_in_port}
 use Rattle.flowspace.specs.Slices.{is_controller, is_name}
@@ -132,10 +133,6 @@ abbrev pub optional : {A : Type 0} → (Data → Option A) → SectionView → L
 optional read this key = allowed read (key_place this key) (get_member key this.members)
 
 -- ---- the forms of values
-
--- the value, where the test holds
-abbrev pub when : {A : Type 0} → Bool → A → Option A
-when b x = if b then Some x else None
 
 -- the numbers that a field may have
 abbrev pub is_allowed_number : Numbers → ℕ → Bool

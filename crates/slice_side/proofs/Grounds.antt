@@ -25,7 +25,8 @@ use Rattle.flow_book.specs.Books.{HaveSame}
 use Rattle.flow_book.proofs.Counts.{fits_same, overlaps_same}
 use Rattle.xid_map.specs.Requests.{issued, physical_of}
 use Rattle.slice_words.specs.Items.{Settings, Sight, lone_rules}
-use Rattle.slice_words.specs.FlowMods.{Ground, ground_of, pieces_on, packet_at, list_given, refused_where, first_some, too_many_actions, is_too_long, flow_mod_fault}
+use Rattle.flowspace.specs.Options.{first_some, when}
+use Rattle.slice_words.specs.FlowMods.{Ground, ground_of, pieces_on, packet_at, list_given, too_many_actions, is_too_long, flow_mod_fault}
 use Rattle.slice_words.specs.Pasts.{SendsOut}
 use Rattle.slice_words.specs.Buffers.{HeldPacket}
 use Rattle.slice_words.specs.PacketOuts.{permitted_out, sent_out_with, sent_out, names_no_packet, comes_by_another, carries_another, forbidden_out, packet_out_size, packet_out_fault}
@@ -70,7 +71,7 @@ out_same g booked m (Some packet) actions = refl
 out_booked : (g : Ground) (booked : List Booked) (m : PacketOut) → packet_out_fault (record g { booked = booked }) m ≡ packet_out_fault g m
 unfolding packet_out_fault
 out_booked g booked m =
-    ap (λ (out : PacketOut). first_some (names_no_packet g m ∷ comes_by_another g m ∷ carries_another g m ∷ forbidden_out g m ∷ refused_where (is_too_long (list_given (permitted_out g m)) || nat_lt 65535 (packet_out_size out)) too_many_actions ∷ []))
+    ap (λ (out : PacketOut). first_some (names_no_packet g m ∷ comes_by_another g m ∷ carries_another g m ∷ forbidden_out g m ∷ when (is_too_long (list_given (permitted_out g m)) || nat_lt 65535 (packet_out_size out)) too_many_actions ∷ []))
     (out_same g booked m (packet_at g m.buffer) (list_given (permitted_out g m)))
 
 pub sent_out_booked : (m : PacketOut) (g : Ground) (booked : List Booked) → sent_out (record g { booked = booked }) m ≡ sent_out g m

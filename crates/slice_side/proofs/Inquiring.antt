@@ -10,11 +10,11 @@ use Rattle.stats_filter.specs.Asking.{question_for}
 use Rattle.stats_filter.specs.Replies.{table_reply}
 use Rattle.of10_config.specs.declared.queues.QueuesQuestion.{QueuesQuestion}
 use Rattle.slice_words.specs.Messages.{Reading, asked_of}
-use Rattle.slice_words.specs.Items.{Settings, Sight}
+use Rattle.slice_words.specs.Items.{Settings, Sight, is_own_port}
 use Rattle.slice_words.specs.Pasts.{Answer, told}
-use Rattle.slice_words.specs.FlowMods.{Ground}
-use Rattle.slice_words.specs.Questions.{is_port_on, may_ask, asking, statistics_asked, queues_asked}
-use Rattle.slice_words.specs.Answers.{not_permitted, refused, statistics_answer, queues_answer}
+use Rattle.slice_words.specs.FlowMods.{Ground, not_permitted}
+use Rattle.slice_words.specs.Questions.{may_ask, asking, statistics_asked, queues_asked}
+use Rattle.slice_words.specs.Answers.{refused, statistics_answer, queues_answer}
 use Rattle.slice_side.specs.declared.answered.Reaction.{Reaction}
 use Rattle.slice_side.specs.declared.change.Change.TheVariants.{Inquired}
 use Rattle.slice_side.specs.Reactions.{is_inquiry, Follows}
@@ -48,10 +48,10 @@ pub statistics_sent : (g : Ground) (request : StatsRequest) (message question : 
 statistics_sent g request message question is sent =
     ap (λ (b : Bool). if b then statistics_asked g request message else refused not_permitted message) is ∙ ap (by_question g message) sent
 
-pub queues_refused : (g : Ground) (queues : QueuesQuestion) (message : List ℕ) → is_port_on g queues.port ≡ false → queues_answer g queues message ≡ refused not_permitted message
+pub queues_refused : (g : Ground) (queues : QueuesQuestion) (message : List ℕ) → is_own_port g.slot g.patterns queues.port ≡ false → queues_answer g queues message ≡ refused not_permitted message
 queues_refused g queues message is = ap (λ (b : Bool). if b then queues_asked g queues else refused not_permitted message) is
 
-pub queues_sent : (g : Ground) (queues : QueuesQuestion) (message : List ℕ) → is_port_on g queues.port ≡ true → queues_answer g queues message ≡ queues_asked g queues
+pub queues_sent : (g : Ground) (queues : QueuesQuestion) (message : List ℕ) → is_own_port g.slot g.patterns queues.port ≡ true → queues_answer g queues message ≡ queues_asked g queues
 queues_sent g queues message is = ap (λ (b : Bool). if b then queues_asked g queues else refused not_permitted message) is
 
 -- ---- reactions

@@ -13,7 +13,8 @@ use Rattle.of10_action.specs.declared.action.Action.{Action}
 use Rattle.flowmod_expand.specs.Messages.{are_too_large, flow_messages, GivesMessages}
 use Rattle.flowmod_expand.specs.declared.fault.BuildFault.{BuildFault}
 use Rattle.flowmod_expand.specs.declared.fault.BuildFault.TheVariants.{TooLarge}
-use Rattle.slice_words.specs.FlowMods.{Ground, first_refusal, list_given, permitted_on, entry_not_permitted, bad_command, first_some, wrong_command, emergency, buffer_not_held, outside_flowspace, forbidden_action, first_forbidden, too_large, is_too_long, pieces_on, lists_on, sent_on, flow_mods_on, is_packet_in, unknown_buffer, overlapping, over_quota, flow_mod_fault, too_many_actions, bad_action, refused_where}
+use Rattle.flowspace.specs.Options.{first_some, when}
+use Rattle.slice_words.specs.FlowMods.{Ground, first_refusal, list_given, permitted_on, entry_not_permitted, bad_command, wrong_command, emergency, buffer_not_held, outside_flowspace, forbidden_action, first_forbidden, too_large, is_too_long, pieces_on, lists_on, sent_on, flow_mods_on, is_packet_in, unknown_buffer, overlapping, over_quota, flow_mod_fault, too_many_actions, bad_action}
 use Rattle.slice_words.specs.Alone.{rendered}
 use Rattle.slice_words.proofs.Forwarding.{rendered_sent, same_large}
 use Rattle.flow_book.specs.declared.state.SliceState.{SliceState}
@@ -46,9 +47,9 @@ module _ (g : Ground) (m : FlowMod) where
 
   -- the packets of the state are those that the slice holds
   pub early_here : (state : SliceState) → g.held ≡ map without_physical state.buffers.held
-      → first_some (wrong_command m ∷ emergency m ∷ refused_where (not_held_in state m) unknown_buffer ∷ []) ≡ first_some (wrong_command m ∷ emergency m ∷ buffer_not_held g m ∷ [])
+      → first_some (wrong_command m ∷ emergency m ∷ when (not_held_in state m) unknown_buffer ∷ []) ≡ first_some (wrong_command m ∷ emergency m ∷ buffer_not_held g m ∷ [])
   early_here state same =
-      ap (λ (packet : Option HeldPacket). first_some (wrong_command m ∷ emergency m ∷ refused_where (not (is_delete m) && not (m.buffer == NO_BUFFER) && not (is_packet_in m.pattern packet)) unknown_buffer ∷ []))
+      ap (λ (packet : Option HeldPacket). first_some (wrong_command m ∷ emergency m ∷ when (not (is_delete m) && not (m.buffer == NO_BUFFER) && not (is_packet_in m.pattern packet)) unknown_buffer ∷ []))
       (kept_for state g m same)
 
   pub refused_early : (fault : ℕ × ℕ) → first_some (wrong_command m ∷ emergency m ∷ buffer_not_held g m ∷ []) ≡ Some fault → flow_mod_fault g m ≡ Some fault
@@ -107,11 +108,11 @@ module _ (g : Ground) (m : FlowMod) where
   pub outside_refused : (pieces : List Pattern) → first_some (wrong_command m ∷ emergency m ∷ buffer_not_held g m ∷ []) ≡ None → pieces ≡ pieces_on g m → (not (is_delete m) && length pieces == 0) ≡ true
       → flow_mod_fault g m ≡ Some entry_not_permitted
   outside_refused pieces none same is =
-      refused_space entry_not_permitted none (ap (λ (outside : Bool). refused_where outside entry_not_permitted) (ap (λ (ps : List Pattern). not (is_delete m) && length ps == 0) (sym same) ∙ is))
+      refused_space entry_not_permitted none (ap (λ (outside : Bool). when outside entry_not_permitted) (ap (λ (ps : List Pattern). not (is_delete m) && length ps == 0) (sym same) ∙ is))
 
   pub passes_early : (pieces : List Pattern) → first_some (wrong_command m ∷ emergency m ∷ buffer_not_held g m ∷ []) ≡ None → pieces ≡ pieces_on g m → (not (is_delete m) && length pieces == 0) ≡ false → PassesEarly g m
   passes_early pieces none same isnt =
-      (none, ap (λ (outside : Bool). refused_where outside entry_not_permitted) (ap (λ (ps : List Pattern). not (is_delete m) && length ps == 0) (sym same) ∙ isnt))
+      (none, ap (λ (outside : Bool). when outside entry_not_permitted) (ap (λ (ps : List Pattern). not (is_delete m) && length ps == 0) (sym same) ∙ isnt))
 
   -- the lists of a delete
   none_long : (pieces : List Pattern) → list_any is_too_long (map (λ piece. []) pieces) ≡ false
@@ -151,7 +152,7 @@ module _ (g : Ground) (m : FlowMod) where
 -- the command of a flow-mod that passes the first line
 pub command_known : (g : Ground) (m : FlowMod) → first_some (wrong_command m ∷ emergency m ∷ buffer_not_held g m ∷ []) ≡ None → m.command ≤ 4
 command_known g m none = elim (leb_tells 5 m.command) [
-  | inl many ↦ absurd (true≢false (ap (λ (o : Option (ℕ × ℕ)). is_some o) (sym (ap (λ (b : Bool). option_or (refused_where b bad_command) (first_some (emergency m ∷ buffer_not_held g m ∷ []))) many.0) ∙ none)))
+  | inl many ↦ absurd (true≢false (ap (λ (o : Option (ℕ × ℕ)). is_some o) (sym (ap (λ (b : Bool). option_or (when b bad_command) (first_some (emergency m ∷ buffer_not_held g m ∷ []))) many.0) ∙ none)))
   | inr few ↦ (let less = few.1 in omega arith)
 ]
 

@@ -23,8 +23,9 @@ use Rattle.flow_book.specs.declared.state.SliceState.{SliceState}
 use Rattle.slice_words.specs.Items.{lone_rules}
 use Rattle.slice_words.specs.Pasts.{SendsOut}
 use Rattle.slice_words.specs.Buffers.{HeldPacket}
-use Rattle.slice_words.specs.FlowMods.{Ground, packet_at, list_given, refused_where, first_some, unknown_buffer, bad_action, too_many_actions, is_too_long}
-use Rattle.slice_words.specs.PacketOuts.{packet_not_permitted, is_buffered_out, carried_header, is_probe, may_come_by, lies_aside, permitted_out, sent_out_with, packet_out_on, sent_out, names_no_packet, comes_by_another, carries_another, code_given, packet_out_size, packet_out_fault}
+use Rattle.flowspace.specs.Options.{first_some, when}
+use Rattle.slice_words.specs.FlowMods.{Ground, packet_at, list_given, unknown_buffer, bad_action, too_many_actions, is_too_long, not_permitted}
+use Rattle.slice_words.specs.PacketOuts.{is_buffered_out, carried_header, is_probe, may_come_by, lies_aside, permitted_out, sent_out_with, packet_out_on, sent_out, names_no_packet, comes_by_another, carries_another, code_given, packet_out_size, packet_out_fault}
 use Rattle.slice_words.specs.Alone.{rendered}
 use Rattle.slice_words.specs.Standing.{held_as}
 use Rattle.slice_words.proofs.LoneRules.{same_port, any_alone}
@@ -43,14 +44,14 @@ module _ (g : Ground) (m : PacketOut) where
   -- the lines before its actions, by their tests
   early_is : (a b c : Bool) → a ≡ (is_buffered_out m && is_none (packet_at g m.buffer)) → b ≡ (not (is_buffered_out m) && not (may_come_by g m.in_port))
       → c ≡ (not (is_buffered_out m) && not (is_probe m) && not (lies_aside g (carried_header m)))
-      → first_some (refused_where a unknown_buffer ∷ refused_where b packet_not_permitted ∷ refused_where c packet_not_permitted ∷ []) ≡ first_some (early g m)
-  early_is a b c names comes carries = λ i. first_some (refused_where (names i) unknown_buffer ∷ refused_where (comes i) packet_not_permitted ∷ refused_where (carries i) packet_not_permitted ∷ [])
+      → first_some (when a unknown_buffer ∷ when b not_permitted ∷ when c not_permitted ∷ []) ≡ first_some (early g m)
+  early_is a b c names comes carries = λ i. first_some (when (names i) unknown_buffer ∷ when (comes i) not_permitted ∷ when (carries i) not_permitted ∷ [])
 
   -- the lines from its actions on, by what is permitted
   abbrev late : Result (List Action) ℕ → List (Option (ℕ × ℕ))
   late permitted =
       option_map bad_action (code_given permitted)
-      ∷ refused_where (is_too_long (list_given permitted) || nat_lt 65535 (packet_out_size (sent_out_with (packet_at g m.buffer) g m (list_given permitted)))) too_many_actions ∷ []
+      ∷ when (is_too_long (list_given permitted) || nat_lt 65535 (packet_out_size (sent_out_with (packet_at g m.buffer) g m (list_given permitted)))) too_many_actions ∷ []
 
   pub out_refused_early : (fault : ℕ × ℕ) → first_some (early g m) ≡ Some fault → packet_out_fault g m ≡ Some fault
   unfolding packet_out_fault
@@ -67,16 +68,16 @@ module _ (g : Ground) (m : PacketOut) where
   pub out_refused_long : (list : List Action) → first_some (early g m) ≡ None → permitted_out g m ≡ Ok list → is_too_long list ≡ true → packet_out_fault g m ≡ Some too_many_actions
   out_refused_long list none is long = out_passed (Ok list) none is ∙ rw long refl
 
-  one : (large : Bool) → first_some (refused_where large too_many_actions ∷ []) ≡ refused_where large too_many_actions
+  one : (large : Bool) → first_some (when large too_many_actions ∷ []) ≡ when large too_many_actions
   one true = refl
   one false = refl
 
   -- the packet-out as it is sent has so many bytes, so that it is refused, or isn't
   out_by_size : (actions : List Action) (size : ℕ) (large : Bool) → MayBeSent g m actions → size ≡ packet_out_size (sent_out_with (packet_at g m.buffer) g m actions) → nat_lt 65535 size ≡ large
-      → packet_out_fault g m ≡ refused_where large too_many_actions
+      → packet_out_fault g m ≡ when large too_many_actions
   out_by_size actions size large may is told =
       out_passed (Ok actions) may.0 may.1
-      ∙ ap (λ (applies : Bool). first_some (refused_where applies too_many_actions ∷ [])) (ap (λ (long : Bool). long || nat_lt 65535 (packet_out_size (sent_out_with (packet_at g m.buffer) g m actions))) may.2 ∙ sym (ap (nat_lt 65535) is) ∙ told)
+      ∙ ap (λ (applies : Bool). first_some (when applies too_many_actions ∷ [])) (ap (λ (long : Bool). long || nat_lt 65535 (packet_out_size (sent_out_with (packet_at g m.buffer) g m actions))) may.2 ∙ sym (ap (nat_lt 65535) is) ∙ told)
       ∙ one large
 
   pub out_refused_large : (actions : List Action) (size : ℕ) → MayBeSent g m actions → size ≡ packet_out_size (sent_out_with (packet_at g m.buffer) g m actions) → 65535 < size → packet_out_fault g m ≡ Some too_many_actions
@@ -126,7 +127,7 @@ lone_any slot test (m ∷ patterns) = rw (eq-eqb slot slot refl) (ap (λ (others
 pub early_same : (rules : List Rule) (slot quota xid : ℕ) (known : List (List ℕ)) (state : SliceState) (m : PacketOut) (packet : Option Held) (a b c : Bool) → packet ≡ packet_in state m.buffer
     → a ≡ (is_buffered_out m && is_none packet) → b ≡ (not (is_buffered_out m) && not (has_port rules slot m.in_port || m.in_port == NONE || m.in_port == CONTROLLER))
     → c ≡ (not (is_buffered_out m) && not (is_probe m) && not (list_any (λ rule. is_written_by slot rule && has (any_in_port rule.pattern) (carried_header m)) rules))
-    → first_some (refused_where a unknown_buffer ∷ refused_where b packet_not_permitted ∷ refused_where c packet_not_permitted ∷ []) ≡ first_some (early (ground_at rules slot known quota xid state) m)
+    → first_some (when a unknown_buffer ∷ when b not_permitted ∷ when c not_permitted ∷ []) ≡ first_some (early (ground_at rules slot known quota xid state) m)
 early_same rules slot quota xid known state m packet a b c is names comes carries =
     let g = ground_at rules slot known quota xid state in
     early_is g m a b c

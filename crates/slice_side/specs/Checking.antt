@@ -21,13 +21,15 @@ use Rattle.stats_filter.specs.Asking.{question_for}
 use Rattle.buffer_map.specs.declared.held.Held.{Held}
 use Rattle.buffer_map.specs.Buffers.{held_under}
 use Rattle.flow_book.specs.declared.state.SliceState.{SliceState}
+use Rattle.slice_words.specs.Items.{is_own_port}
 use Rattle.slice_words.specs.Messages.{Reading}
-use Rattle.slice_words.specs.Questions.{is_port_on, may_ask}
+use Rattle.slice_words.specs.Questions.{may_ask}
 use Rattle.slice_words.specs.PacketOuts.{permitted_out, packet_out_on, names_no_packet, comes_by_another, carries_another, packet_out_fault}
 use Rattle.slice_side.specs.Reactions.{without_physical, ground_at}
 use Rattle.slice_side.specs.declared.packet_outs.PacketOutcome.{PacketOutcome}
 use Rattle.slice_side.specs.declared.packet_outs.PacketOutcome.TheVariants as packet_outcome
-use Rattle.slice_words.specs.FlowMods.{Ground, pieces_on, first_refusal, list_given, is_too_long, first_forbidden, lists_on, first_some, packet_at, named_packet, is_packet_in, piece_place, carrier_of, wrong_command, emergency, buffer_not_held, outside_flowspace, flow_mod_fault}
+use Rattle.flowspace.specs.Options.{first_some}
+use Rattle.slice_words.specs.FlowMods.{Ground, pieces_on, first_refusal, list_given, is_too_long, first_forbidden, lists_on, packet_at, named_packet, is_packet_in, piece_place, carrier_of, wrong_command, emergency, buffer_not_held, outside_flowspace, flow_mod_fault}
 use Rattle.slice_side.specs.declared.pieces.Checked.{Checked}
 use Rattle.slice_side.specs.declared.pieces.Checked.TheVariants as checked
 use Rattle.slice_side.specs.declared.pieces.Listing.{Listing}
@@ -73,7 +75,7 @@ packet_out_from state g m = record (packet_out_on g m) { buffer = number_in (pac
 abbrev pub IsQuestion : Ground → FromController → List ℕ → Type 0
 IsQuestion g (said.StatsRequest request) question = (may_ask g request ≡ true) × (question_for request g.xid ≡ Some question)
 IsQuestion g said.BarrierRequest question = question ≡ message_of BARRIER_REQUEST g.xid []
-IsQuestion g (said.QueueGetConfigRequest queues) question = (is_port_on g queues.port ≡ true) × (question ≡ spell_queues_request g.xid queues)
+IsQuestion g (said.QueueGetConfigRequest queues) question = (is_own_port g.slot g.patterns queues.port ≡ true) × (question ≡ spell_queues_request g.xid queues)
 IsQuestion g asked question = ⊥
 
 -- this is sent on for a message of which this was read: nothing; the flow-mods for it where it is one that no line refuses; the packet-out for it where it is one that no line refuses; or one question that the slice may ask with it

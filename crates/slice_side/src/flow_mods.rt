@@ -4,7 +4,8 @@
 ghost use Rattle.std.specs.Prelude.{ℕ, ◌≡◌, ◌≢◌, ◌≤◌, ◌<◌, ◌==◌, ◌&&◌, not, ◌∷◌, [], length, map, AllPairs, IfOk, option_map};
 ghost use Rattle.of10_flow.specs.declared.protocol.TheConstants.{CHECK_OVERLAP, EMERG};
 ghost use Rattle.of10_flow.specs.Tables.{is_delete, has_flag};
-ghost use Rattle.slice_words.specs.FlowMods.{Ground, pieces_on, first_some, is_packet_in, wrong_command, emergency, refused_where, unknown_buffer, overlapping, over_quota};
+ghost use Rattle.flowspace.specs.Options.{first_some, when};
+ghost use Rattle.slice_words.specs.FlowMods.{Ground, pieces_on, is_packet_in, wrong_command, emergency, unknown_buffer, overlapping, over_quota};
 ghost use Rattle.slice_side.specs.Reactions.{without_physical, ground_at};
 ghost use Rattle.flowmod_expand.specs.Pieces.{pieces_of};
 ghost use Rattle.flow_book.specs.Books.{overlaps_in};
@@ -77,7 +78,7 @@ fn names_another(state: &SliceState, m: &FlowMod) -> bool
 
 /// The lines that look at the flow-mod and its packet alone: its command, its flags and its buffer.
 fn early_fault(state: &SliceState, m: &FlowMod) -> Option<(u16, u16)>
-    ensures { result ≡ first_some (wrong_command m.now ∷ emergency m.now ∷ refused_where (not_held_in state.now m.now) unknown_buffer ∷ []) }
+    ensures { result ≡ first_some (wrong_command m.now ∷ emergency m.now ∷ when (not_held_in state.now m.now) unknown_buffer ∷ []) }
 {
     if m.command > DELETE_STRICT {
         return Some((FLOW_MOD_FAILED, BAD_COMMAND));

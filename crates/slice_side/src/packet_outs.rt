@@ -9,7 +9,7 @@ ghost use Rattle.of10_port.specs.declared.protocol.TheConstants.{NONE, CONTROLLE
 ghost use Rattle.flowspace.specs.Owners.{has_port};
 ghost use Rattle.flowspace.specs.Rules.{is_written_by};
 ghost use Rattle.slice_words.specs.PacketOuts.{is_buffered_out, carried_header, is_probe, marked, origin_with, permitted_out, sent_out_with, packet_out_size};
-ghost use Rattle.slice_words.specs.FlowMods.{first_some};
+ghost use Rattle.flowspace.specs.Options.{first_some};
 ghost use Rattle.slice_side.specs.Reactions.{without_physical, ground_at};
 ghost use Rattle.slice_side.specs.Checking.{packet_in, number_in, IsChecked, early, MayBeSent, IsPacketOutcome};
 

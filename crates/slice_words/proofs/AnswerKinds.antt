@@ -17,12 +17,12 @@ use Rattle.port_view.specs.SlicePorts.{features_with}
 use Rattle.stats_filter.specs.Asking.{question_for}
 use Rattle.stats_filter.specs.Replies.{table_reply}
 use Rattle.slice_words.specs.Messages.{Reading, ends_connection, is_dismissing}
-use Rattle.slice_words.specs.Items.{Settings, Item, miss_send_len, features_in, known_ports}
+use Rattle.slice_words.specs.Items.{Settings, Item, miss_send_len, features_in, known_ports, is_own_port}
 use Rattle.slice_words.specs.Pasts.{Answer, Past, no_answer, told as answered, dismissal, forwarded}
-use Rattle.slice_words.specs.FlowMods.{ground_of, flow_mod_fault, sent_on}
+use Rattle.slice_words.specs.FlowMods.{ground_of, flow_mod_fault, sent_on, not_permitted}
 use Rattle.slice_words.specs.PacketOuts.{packet_out_fault, sent_out}
-use Rattle.slice_words.specs.Questions.{is_port_on, may_ask, asking, statistics_asked, barrier_asked, queues_asked}
-use Rattle.slice_words.specs.Answers.{error_for, refused, refusal_of, no_common_version, bad_length, bad_vendor, not_permitted, config_reply, unread_answer, forwarded_answer, keeps_rate, rated_answer, read_answer, message_answer}
+use Rattle.slice_words.specs.Questions.{may_ask, asking, statistics_asked, barrier_asked, queues_asked}
+use Rattle.slice_words.specs.Answers.{error_for, refused, refusal_of, no_common_version, bad_length, bad_vendor, config_reply, unread_answer, forwarded_answer, keeps_rate, rated_answer, read_answer, message_answer}
 
 -- a property of answers, beside whether the connection is to end, holds of each kind of answer to a message
 pub record HoldsOfEach (P : Bool → Answer → Type 0) (s : Settings) (view : List Item) (past : List Past) (message : List ℕ) : Type 0 where
@@ -38,7 +38,7 @@ pub record HoldsOfEach (P : Bool → Answer → Type 0) (s : Settings) (view : L
   pub tells_table : P false (answered (table_reply (length (ground_of s view past).booked) s.quota (xid_of message) ∷ []))
   pub asks_statistics : (request : StatsRequest) (question : List ℕ) → read_controller message ≡ Ok (said.StatsRequest request) → may_ask (ground_of s view past) request ≡ true → question_for request (ground_of s view past).xid ≡ Some question → P false (asking question)
   pub asks_barrier : read_controller message ≡ Ok said.BarrierRequest → P false (barrier_asked (ground_of s view past))
-  pub asks_queues : (queues : QueuesQuestion) → read_controller message ≡ Ok (said.QueueGetConfigRequest queues) → is_port_on (ground_of s view past) queues.port ≡ true → P false (queues_asked (ground_of s view past) queues)
+  pub asks_queues : (queues : QueuesQuestion) → read_controller message ≡ Ok (said.QueueGetConfigRequest queues) → is_own_port s.slot s.patterns queues.port ≡ true → P false (queues_asked (ground_of s view past) queues)
 
 features_holds : (P : Bool → Answer → Type 0) (s : Settings) (view : List Item) (past : List Past) (message : List ℕ) (found : Option Features) → HoldsOfEach P s view past message
     → P false (elim found [ None ↦ no_answer | Some features ↦ answered (spell_features (features_with features (known_ports view)) (xid_of message) ∷ []) ])
@@ -70,7 +70,7 @@ statistics_holds P s view past message request true each read is = asked_holds P
 statistics_holds P s view past message request false each read is = each.refuses not_permitted
 
 queues_holds : (P : Bool → Answer → Type 0) (s : Settings) (view : List Item) (past : List Past) (message : List ℕ) (queues : QueuesQuestion) (own : Bool) → HoldsOfEach P s view past message
-    → read_controller message ≡ Ok (said.QueueGetConfigRequest queues) → is_port_on (ground_of s view past) queues.port ≡ own
+    → read_controller message ≡ Ok (said.QueueGetConfigRequest queues) → is_own_port s.slot s.patterns queues.port ≡ own
     → P false (if own then queues_asked (ground_of s view past) queues else refused not_permitted message)
 queues_holds P s view past message queues true each read is = each.asks_queues queues read is
 queues_holds P s view past message queues false each read is = each.refuses not_permitted
@@ -90,7 +90,7 @@ forwarded_holds P s view past message (said.FlowMod m) each read = flow_mod_hold
 forwarded_holds P s view past message said.PortMod each read = each.nothing
 forwarded_holds P s view past message (said.StatsRequest request) each read = statistics_holds P s view past message request (may_ask (ground_of s view past) request) each read refl
 forwarded_holds P s view past message said.BarrierRequest each read = each.asks_barrier read
-forwarded_holds P s view past message (said.QueueGetConfigRequest queues) each read = queues_holds P s view past message queues (is_port_on (ground_of s view past) queues.port) each read refl
+forwarded_holds P s view past message (said.QueueGetConfigRequest queues) each read = queues_holds P s view past message queues (is_own_port s.slot s.patterns queues.port) each read refl
 
 rated_holds : (P : Bool → Answer → Type 0) (s : Settings) (view : List Item) (past : List Past) (moment : ℕ) (message : List ℕ) (asked : FromController) → HoldsOfEach P s view past message
     → read_controller message ≡ Ok asked → P false (rated_answer s view past moment asked message)

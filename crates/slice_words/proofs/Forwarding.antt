@@ -15,7 +15,8 @@ use Rattle.flowmod_expand.specs.Messages.{buffer_at, piece_message, piece_messag
 use Rattle.flowmod_expand.proofs.Walks.{spell_size}
 use Rattle.slice_words.specs.Pasts.{Modifies}
 use Rattle.slice_words.specs.Buffers.{HeldPacket}
-use Rattle.slice_words.specs.FlowMods.{Ground, pieces_on, packet_at, named_packet, naming, carrier_of, sent_on, first_some, refused_where, wrong_command, emergency, buffer_not_held, outside_flowspace, forbidden_action, is_too_long, lists_on, flow_mods_on, too_large, too_many_actions, overlapping, over_quota, flow_mod_fault}
+use Rattle.flowspace.specs.Options.{first_some, when}
+use Rattle.slice_words.specs.FlowMods.{Ground, pieces_on, packet_at, named_packet, naming, carrier_of, sent_on, wrong_command, emergency, buffer_not_held, outside_flowspace, forbidden_action, is_too_long, lists_on, flow_mods_on, too_large, too_many_actions, overlapping, over_quota, flow_mod_fault}
 use Rattle.slice_words.specs.PacketOuts.{names_no_packet, comes_by_another, carries_another, forbidden_out, out_too_large, packet_out_on, packet_out_size, permitted_out, packet_out_fault}
 use Rattle.slice_words.specs.FlowMods.{list_given}
 use Rattle.slice_words.specs.Alone.{number_it_came_with, rendered}
@@ -102,7 +103,7 @@ same_large m xid pieces lists a b =
     ∙ sym (large_by_lengths (map spell_flow_mod (piece_messages 0 m xid pieces lists b)))
 
 -- a line that doesn't refuse doesn't apply
-pub not_applying : (applies : Bool) (fault : ℕ × ℕ) → refused_where applies fault ≡ None → applies ≡ false
+pub not_applying : (applies : Bool) (fault : ℕ × ℕ) → when applies fault ≡ None → applies ≡ false
 not_applying false fault none = refl
 not_applying true fault none = absurd cc
 

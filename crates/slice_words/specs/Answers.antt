@@ -27,13 +27,13 @@ use Rattle.xid_map.specs.declared.asked.Issued.{Issued}
 use Rattle.flow_book.specs.declared.booked.Booked.{Booked}
 use Rattle.flow_book.specs.Books.{booking}
 use Rattle.slice_words.specs.Messages.{quoted}
-use Rattle.slice_words.specs.Items.{Settings, Share, Writer, Reader, Probe, Packet, Item, Up, Msg, Handed, Removed, Status, Fault, Barrier, Queues, Last, is_up, miss_send_len, latest_moment, buffered_count, features_in, known_ports}
+use Rattle.slice_words.specs.Items.{Settings, Share, Writer, Reader, Probe, Packet, Item, Up, Msg, Handed, Removed, Status, Fault, Barrier, Queues, Last, is_up, miss_send_len, latest_moment, buffered_count, features_in, known_ports, is_own_port}
 use Rattle.slice_words.specs.Pasts.{Answer, Past, no_answer, told, dismissal, forwarded}
 use Rattle.slice_words.specs.Statistics.{barrier_told, queues_told, statistics_told}
 use Rattle.slice_words.specs.Calls.{questions, request_calls, request_for, collection_calls, book_calls}
-use Rattle.slice_words.specs.FlowMods.{Ground, ground_of, flow_mod_fault, sent_on}
+use Rattle.slice_words.specs.FlowMods.{Ground, ground_of, flow_mod_fault, sent_on, not_permitted}
 use Rattle.slice_words.specs.PacketOuts.{packet_out_fault, sent_out}
-use Rattle.slice_words.specs.Questions.{is_port_on, may_ask, statistics_asked, barrier_asked, queues_asked}
+use Rattle.slice_words.specs.Questions.{may_ask, statistics_asked, barrier_asked, queues_asked}
 
 -- ---- refusals (section 5.4.4): class and code
 
@@ -52,10 +52,6 @@ bad_type = (1, 1)
 -- BAD_REQUEST, BAD_VENDOR
 abbrev pub bad_vendor : ℕ × ℕ
 bad_vendor = (1, 3)
-
--- BAD_REQUEST, EPERM
-abbrev pub not_permitted : ℕ × ℕ
-not_permitted = (1, 5)
 
 -- BAD_REQUEST, BAD_LEN
 abbrev pub bad_length : ℕ × ℕ
@@ -111,7 +107,7 @@ statistics_answer g request message = if may_ask g request then statistics_asked
 
 -- so is a question for the queues of such a port (section 5.3.4)
 abbrev pub queues_answer : Ground → QueuesQuestion → List ℕ → Answer
-queues_answer g queues message = if is_port_on g queues.port then queues_asked g queues else refused not_permitted message
+queues_answer g queues message = if is_own_port g.slot g.patterns queues.port then queues_asked g queues else refused not_permitted message
 
 -- what is to be sent on to the switch
 abbrev pub forwarded_answer : Settings → List Item → List Past → FromController → List ℕ → Answer

@@ -1,7 +1,6 @@
 -- What follows from a flow-mod of a slice (OpenFlow 1.0.0, section 5.3.3). Which lines refuse it, and in which order, is this proxy's own rule.
 use Rattle.std.specs.Prelude.{ℕ, ◌+◌, ◌==◌, ◌&&◌, ◌||◌, not, nat_lt, Bool, true, false, if◌then◌else◌, List, [], ◌∷◌, map, length, position, Option, Some, None, option_map, Result, Ok, Err}
 use Rattle.std.specs.List.{list_any}
-use Rattle.std.specs.Option.{option_or}
 use Rattle.of10_model.specs.declared.pattern.Pattern.{Pattern}
 use Rattle.of10_model.specs.Header.{Header}
 use Rattle.of10_model.specs.Pattern.{has}
@@ -11,6 +10,7 @@ use Rattle.of10_flow.specs.declared.protocol.TheConstants.{NO_BUFFER, ADD, DELET
 use Rattle.of10_flow.specs.declared.flow_mod.FlowMod.{FlowMod}
 use Rattle.of10_flow.specs.FlowMods.{spell_flow_mod}
 use Rattle.of10_flow.specs.Tables.{is_delete, has_flag}
+use Rattle.flowspace.specs.Options.{when, first_some}
 use Rattle.action_check.specs.declared.origin.Origin.TheVariants.{Piece}
 use Rattle.action_check.specs.Permitted.{permitted}
 use Rattle.flowmod_expand.specs.Messages.{piece_messages, are_too_large}
@@ -117,6 +117,10 @@ sent_on g m = naming (carrier_of (named_packet g m) (pieces_on g m)) 0 (flow_mod
 abbrev pub unknown_buffer : ℕ × ℕ
 unknown_buffer = (1, 8)
 
+-- BAD_REQUEST, EPERM
+abbrev pub not_permitted : ℕ × ℕ
+not_permitted = (1, 5)
+
 -- BAD_ACTION with a code
 abbrev pub bad_action : ℕ → ℕ × ℕ
 bad_action code = (2, code)
@@ -143,17 +147,13 @@ bad_command = (3, 4)
 
 -- ---- the lines that refuse
 
--- a line refuses with a class and code where it applies
-abbrev pub refused_where : Bool → ℕ × ℕ → Option (ℕ × ℕ)
-refused_where applies fault = if applies then Some fault else None
-
 -- there are five commands (section 5.3.3)
 abbrev pub wrong_command : FlowMod → Option (ℕ × ℕ)
-wrong_command m = refused_where (nat_lt DELETE_STRICT m.command) bad_command
+wrong_command m = when (nat_lt DELETE_STRICT m.command) bad_command
 
 -- emergency entries are left out
 abbrev pub emergency : FlowMod → Option (ℕ × ℕ)
-emergency m = refused_where (has_flag EMERG m) entry_not_permitted
+emergency m = when (has_flag EMERG m) entry_not_permitted
 
 -- a packet is there, and a match has its header
 abbrev pub is_packet_in : Pattern → Option HeldPacket → Bool
@@ -162,11 +162,11 @@ is_packet_in m (Some packet) = has m packet.header
 
 -- it names a packet that isn't held, or whose header isn't in its match; a delete's number is disregarded
 abbrev pub buffer_not_held : Ground → FlowMod → Option (ℕ × ℕ)
-buffer_not_held g m = refused_where (not (is_delete m) && not (m.buffer == NO_BUFFER) && not (is_packet_in m.pattern (named_packet g m))) unknown_buffer
+buffer_not_held g m = when (not (is_delete m) && not (m.buffer == NO_BUFFER) && not (is_packet_in m.pattern (named_packet g m))) unknown_buffer
 
 -- the slice may write nothing of the match; a delete then deletes nothing
 abbrev pub outside_flowspace : Ground → FlowMod → Option (ℕ × ℕ)
-outside_flowspace g m = refused_where (not (is_delete m) && length (pieces_on g m) == 0) entry_not_permitted
+outside_flowspace g m = when (not (is_delete m) && length (pieces_on g m) == 0) entry_not_permitted
 
 -- an action is forbidden
 abbrev pub forbidden_action : Ground → FlowMod → Option (ℕ × ℕ)
@@ -178,20 +178,15 @@ is_too_long actions = nat_lt 65463 (length (spelling actions))
 
 -- a piece's list is too long, or the messages are too large
 abbrev pub too_large : Ground → FlowMod → Option (ℕ × ℕ)
-too_large g m = refused_where (list_any is_too_long (lists_on g m) || are_too_large (map spell_flow_mod (flow_mods_on g m))) too_many_actions
+too_large g m = when (list_any is_too_long (lists_on g m) || are_too_large (map spell_flow_mod (flow_mods_on g m))) too_many_actions
 
 -- an ADD that asks for it shares a header with a booked match of its priority
 abbrev pub overlapping : Ground → FlowMod → Option (ℕ × ℕ)
-overlapping g m = refused_where (m.command == ADD && has_flag CHECK_OVERLAP m && overlaps_in (pieces_on g m) m.priority g.booked) overlap
+overlapping g m = when (m.command == ADD && has_flag CHECK_OVERLAP m && overlaps_in (pieces_on g m) m.priority g.booked) overlap
 
 -- more would be booked than the slice's quota
 abbrev pub over_quota : Ground → FlowMod → Option (ℕ × ℕ)
-over_quota g m = refused_where (not (fits_in m.command (pieces_on g m) m.priority g.quota g.booked)) tables_full
-
--- the first that is there
-abbrev pub first_some : {A : Type 0} → List (Option A) → Option A
-first_some [] = None
-first_some (option ∷ others) = option_or option (first_some others)
+over_quota g m = when (not (fits_in m.command (pieces_on g m) m.priority g.quota g.booked)) tables_full
 
 -- the class and code of the first line that applies
 unfoldable pub flow_mod_fault : Ground → FlowMod → Option (ℕ × ℕ)

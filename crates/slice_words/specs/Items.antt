@@ -38,9 +38,9 @@ lone_rules slot patterns = map (lone_rule slot) patterns
 abbrev pub own_rules : Settings → List Rule
 own_rules s = lone_rules s.slot s.patterns
 
--- a slice has a port on its switch
-abbrev pub is_own_port : Settings → ℕ → Bool
-is_own_port s port = has_port (own_rules s) s.slot port
+-- a slice that writes these patterns has a port on its switch
+abbrev pub is_own_port : ℕ → List Pattern → ℕ → Bool
+is_own_port slot patterns port = has_port (lone_rules slot patterns) slot port
 
 -- ---- items
 

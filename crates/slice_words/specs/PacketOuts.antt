@@ -19,11 +19,8 @@ use Rattle.port_view.specs.SlicePorts.{flooded}
 use Rattle.slice_words.specs.Items.{lone_rules}
 use Rattle.slice_words.specs.Pasts.{Outgoing, SendsOut}
 use Rattle.slice_words.specs.Buffers.{HeldPacket}
-use Rattle.slice_words.specs.FlowMods.{Ground, packet_at, list_given, refused_where, first_some, unknown_buffer, bad_action, too_many_actions, is_too_long}
-
--- BAD_REQUEST, EPERM (section 5.4.4)
-abbrev pub packet_not_permitted : ℕ × ℕ
-packet_not_permitted = (1, 5)
+use Rattle.flowspace.specs.Options.{first_some, when}
+use Rattle.slice_words.specs.FlowMods.{Ground, packet_at, list_given, unknown_buffer, bad_action, too_many_actions, is_too_long, not_permitted}
 
 -- ---- the packet
 
@@ -71,7 +68,7 @@ sent_out g m = SendsOut (packet_out_on g m) (option_map (λ packet. packet.ordin
 
 -- it names a packet that isn't held
 abbrev pub names_no_packet : Ground → PacketOut → Option (ℕ × ℕ)
-names_no_packet g m = refused_where (is_buffered_out m && is_none (packet_at g m.buffer)) unknown_buffer
+names_no_packet g m = when (is_buffered_out m && is_none (packet_at g m.buffer)) unknown_buffer
 
 -- a packet may count as received by a port of the slice, by none, and from the controller (section 5.2.1)
 abbrev pub may_come_by : Ground → ℕ → Bool
@@ -79,7 +76,7 @@ may_come_by g port = has_port (lone_rules g.slot g.patterns) g.slot port || port
 
 -- a packet that it carries comes by another port
 abbrev pub comes_by_another : Ground → PacketOut → Option (ℕ × ℕ)
-comes_by_another g m = refused_where (not (is_buffered_out m) && not (may_come_by g m.in_port)) packet_not_permitted
+comes_by_another g m = when (not (is_buffered_out m) && not (may_come_by g m.in_port)) not_permitted
 
 -- some rule of the slice has the header, by whichever port it came in
 abbrev pub lies_aside : Ground → Header → Bool
@@ -87,7 +84,7 @@ lies_aside g header = list_any (λ pattern. has (any_in_port pattern) header) g.
 
 -- the slice may not write the packet that it carries, which is no probe
 abbrev pub carries_another : Ground → PacketOut → Option (ℕ × ℕ)
-carries_another g m = refused_where (not (is_buffered_out m) && not (is_probe m) && not (lies_aside g (carried_header m))) packet_not_permitted
+carries_another g m = when (not (is_buffered_out m) && not (is_probe m) && not (lies_aside g (carried_header m))) not_permitted
 
 -- the code of a refusal
 abbrev pub code_given : {A : Type 0} → Result A ℕ → Option ℕ
@@ -104,7 +101,7 @@ packet_out_size m = 16 + length (spelling m.actions) + length m.payload
 
 -- the list is too long, or the message is
 abbrev pub out_too_large : Ground → PacketOut → Option (ℕ × ℕ)
-out_too_large g m = refused_where (is_too_long (list_given (permitted_out g m)) || nat_lt 65535 (packet_out_size (packet_out_on g m))) too_many_actions
+out_too_large g m = when (is_too_long (list_given (permitted_out g m)) || nat_lt 65535 (packet_out_size (packet_out_on g m))) too_many_actions
 
 -- the class and code of the first line that applies
 unfoldable pub packet_out_fault : Ground → PacketOut → Option (ℕ × ℕ)

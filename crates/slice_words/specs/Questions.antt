@@ -8,21 +8,16 @@ use Rattle.of10_stats.specs.declared.request.StatsRequest.TheVariants as statist
 use Rattle.of10_message.specs.Heads.{xid_of}
 use Rattle.of10_config.specs.declared.queues.QueuesQuestion.{QueuesQuestion}
 use Rattle.of10_config.specs.Queues.{spell_queues_request}
-use Rattle.flowspace.specs.Owners.{has_port}
 use Rattle.stats_filter.specs.Asking.{question_for}
 use Rattle.stats_filter.specs.Replies.{table_reply}
-use Rattle.slice_words.specs.Items.{lone_rules}
+use Rattle.slice_words.specs.Items.{is_own_port}
 use Rattle.slice_words.specs.Pasts.{Asks, Answer, told, forwarded}
 use Rattle.slice_words.specs.FlowMods.{Ground}
 
--- a port is the slice's
-abbrev pub is_port_on : Ground → ℕ → Bool
-is_port_on g port = has_port (lone_rules g.slot g.patterns) g.slot port
-
 -- a slice may ask for its own ports and for all: for statistics of ports NONE names all, for those of queues ALL does
 abbrev pub may_ask : Ground → StatsRequest → Bool
-may_ask g (statistics.Port port) = port == NONE || is_port_on g port
-may_ask g (statistics.Queue port queue) = port == ALL || is_port_on g port
+may_ask g (statistics.Port port) = port == NONE || is_own_port g.slot g.patterns port
+may_ask g (statistics.Queue port queue) = port == ALL || is_own_port g.slot g.patterns port
 may_ask g request = true
 
 -- a message that is sent as it is

@@ -102,7 +102,7 @@ module _ (s : Settings) (sight : Sight) (physical : ℕ) (packet : PacketIn) (lo
   by_up : (policy : PolicyView) (rules : List Rule) (slot : ℕ) (up : Bool) → is_some (number_given packet) ≡ true
       → IsChangeOfItems s (Some physical) sight (lost_of lost ++ (if up then map (λ share. handed share packet) (shares_of policy rules slot packet) else []))
       (change_for (audience_of (length policy.slices) rules packet) physical (header_in packet) slot up)
-  by_up policy rules slot true is = up_change slot (is_some (number_given packet)) (marked_slot policy packet) (first_rule rules (header_in packet)) is
+  by_up policy rules slot true is = up_change slot (is_some (number_given packet)) (marked_slot (length policy.slices) packet.payload) (first_rule rules (header_in packet)) is
   by_up policy rules slot false is = (refl, record { lost = lost; shares = []; packet = packet; shown = refl; only = only; none_given = refl })
 
 packet_change : (s : Settings) (policy : PolicyView) (rules : List Rule) (slot : ℕ) (side : Side) (packet : PacketIn) (physical : ℕ) (up : Bool) → number_given packet ≡ Some physical → AreNumbered s side → up ≡ is_up side.sight.view
@@ -127,7 +127,7 @@ unkept_up : (s : Settings) (policy : PolicyView) (rules : List Rule) (slot : ℕ
 unkept_up s policy rules slot sight packet true none =
     λ state stands.
     shares_stand s sight.view sight.came state packet (shares_of policy rules slot packet)
-    (none_kept slot (marked_slot policy packet) (is_value slot (option_and_then (λ (rule : Rule). rule.writer) (first_rule rules (header_in packet))))
+    (none_kept slot (marked_slot (length policy.slices) packet.payload) (is_value slot (option_and_then (λ (rule : Rule). rule.writer) (first_rule rules (header_in packet))))
     (bit (unwrap_or (option_map (λ (rule : Rule). rule.readers) (first_rule rules (header_in packet))) 0) slot) (is_some (number_given packet)) (ap is_some none)) stands
 unkept_up s policy rules slot sight packet false none = λ state stands. stands
 

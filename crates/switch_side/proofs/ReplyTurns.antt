@@ -307,13 +307,13 @@ module _ (p : PolicyView) (switch : KnownSwitch) (sides : ℕ → Side) (states 
       if_within p (has_port rules (xid / 2 ^ 24) queues.port) (queues_made xid queues) (seen_within xid _ (λ request. answer_at (xid / 2 ^ 24) (queues_told (Some request) queues.body) request.number))
 
   -- by its settings the slice has the ports that it has by the policy's rules
-  port_own : (slot port : ℕ) (slice : Slice) → slice_get p.slices slot ≡ Some slice → is_own_port (settings slot) port ≡ has_port rules slot port
+  port_own : (slot port : ℕ) (slice : Slice) → slice_get p.slices slot ≡ Some slice → is_own_port (settings slot).slot (settings slot).patterns port ≡ has_port rules slot port
   port_own slot port slice there = rw (there, settings_at) (same_port slot rules port)
 
   queues_shows : (slot xid : ℕ) (queues : QueuesMessage) (slice : Slice) → slice_get p.slices slot ≡ Some slice
       → queues_items (settings slot) xid queues ≡ (if (xid / 2 ^ 24) == slot then (if has_port rules slot queues.port then Queues (xid % 2 ^ 24) queues.body ∷ [] else []) else [])
   queues_shows slot xid queues slice there =
-      if_both ((xid / 2 ^ 24) == (settings slot).slot) (is_own_port (settings slot) queues.port) (Queues (xid % 2 ^ 24) queues.body ∷ [])
+      if_both ((xid / 2 ^ 24) == (settings slot).slot) (is_own_port (settings slot).slot (settings slot).patterns queues.port) (Queues (xid % 2 ^ 24) queues.body ∷ [])
       ∙ ap₂ (λ (n : ℕ) (own : Bool). if (xid / 2 ^ 24) == n then (if own then Queues (xid % 2 ^ 24) queues.body ∷ [] else []) else []) (settings_slot p slot switch.features) (port_own slot queues.port slice there)
 
   -- the slice's own turn by its own slot

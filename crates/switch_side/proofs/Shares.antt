@@ -24,7 +24,7 @@ by_first packet slot None (Some rule) = refl
 by_first packet slot (Some other) first = refl
 
 shares_same : (told : PolicyView) (rules : List Rule) (packet : PacketIn) (slot : ℕ) → shares_in (audience_of (length told.slices) rules packet) packet slot ≡ shares_of told rules slot packet
-shares_same told rules packet slot = by_first packet slot (marked_slot told packet) (first_rule rules (header_in packet))
+shares_same told rules packet slot = by_first packet slot (marked_slot (length told.slices) packet.payload) (first_rule rules (header_in packet))
 
 -- what was found to be the audience among so many slices
 pub shares_found : (audience : Audience) (count : ℕ) (rules : List Rule) (packet : PacketIn) → audience ≡ audience_of count rules packet

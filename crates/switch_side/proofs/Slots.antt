@@ -78,7 +78,7 @@ up_sent s view packet slot state (Some other) first up wants given = probe_sent 
 by_up : (s : Settings) (view : List Item) (policy : PolicyView) (rules : List Rule) (slot : ℕ) (packet : PacketIn) (state : SliceState) (up : Bool)
     → is_up view ≡ up → state.miss_send_len ≡ miss_send_len view → state.buffers.given ≡ buffered_count view
     → sent_for s view (if up then map (λ share. handed share packet) (shares_of policy rules slot packet) else []) ≡ (if up then told_up (audience_of (length policy.slices) rules packet) packet slot state else [])
-by_up s view policy rules slot packet state true is wants given = up_sent s view packet slot state (marked_slot policy packet) (first_rule rules (header_in packet)) is wants given
+by_up s view policy rules slot packet state true is wants given = up_sent s view packet slot state (marked_slot (length policy.slices) packet.payload) (first_rule rules (header_in packet)) is wants given
 by_up s view policy rules slot packet state false is wants given = refl
 
 lost_silent : (s : Settings) (view : List Item) (k : ℕ) (up : Bool) → is_up view ≡ up → (answer_to s view (Lost k)).to_slice ≡ []
@@ -113,10 +113,10 @@ abbrev pub say_status : List Rule → Option PortStatus → ℕ → SliceState �
 say_status rules None slot state = []
 say_status rules (Some status) slot state = status_for rules status slot state
 
-by_kept : (s : Settings) (rules : List Rule) (slot : ℕ) (view : List Item) (status : PortStatus) (state : SliceState) (kept : Bool) → state.up ≡ is_up view → is_own_port s (port_number status.port) ≡ has_port rules slot (port_number status.port)
-    → sent_for s view (if kept && is_own_port s (port_number status.port) then Status status ∷ [] else []) ≡ say_status rules (if kept then Some status else None) slot state
+by_kept : (s : Settings) (rules : List Rule) (slot : ℕ) (view : List Item) (status : PortStatus) (state : SliceState) (kept : Bool) → state.up ≡ is_up view → is_own_port s.slot s.patterns (port_number status.port) ≡ has_port rules slot (port_number status.port)
+    → sent_for s view (if kept && is_own_port s.slot s.patterns (port_number status.port) then Status status ∷ [] else []) ≡ say_status rules (if kept then Some status else None) slot state
 by_kept s rules slot view status state true up own =
-    one_sent s view status (is_own_port s (port_number status.port)) (is_up view) refl ∙ ap₂ (λ (is has : Bool). once (is && has) (spell_port_status status 0)) (sym up) own
+    one_sent s view status (is_own_port s.slot s.patterns (port_number status.port)) (is_up view) refl ∙ ap₂ (λ (is has : Bool). once (is && has) (spell_port_status status 0)) (sym up) own
 by_kept s rules slot view status state false up own = refl
 
 -- ---- messages
@@ -128,7 +128,7 @@ say count rules known said slot state = say_status rules (kept_beside known (sta
 
 said_sent : (p : PolicyView) (slot : ℕ) (switch : KnownSwitch) (side : Side) (xid : ℕ) (said : Result SwitchMessage Unread) (state : SliceState) → is_for_one said ≡ false
     → SliceStands (settings_at p slot switch.features) side.sight state
-    → ((port : ℕ) → is_own_port (settings_at p slot switch.features) port ≡ has_port (rules_of p switch.features) slot port)
+    → ((port : ℕ) → is_own_port (settings_at p slot switch.features).slot (settings_at p slot switch.features).patterns port ≡ has_port (rules_of p switch.features) slot port)
     → sent_for (settings_at p slot switch.features) side.sight.view (said_items p slot switch side xid said) ≡ say (length p.slices) (rules_of p switch.features) switch.known said slot state
 said_sent p slot switch side xid (Err BadLength) state all stands own = end_sent (settings_at p slot switch.features) side.sight.view (is_up side.sight.view) refl
 said_sent p slot switch side xid (Ok (says.PacketIn packet)) state all stands own = packet_sent (settings_at p slot switch.features) p (rules_of p switch.features) slot side packet state stands
@@ -144,7 +144,7 @@ said_sent p slot switch side xid said state all stands own = refl
 -- a slice of the policy is sent what is said to it
 pub slot_sent : (p : PolicyView) (slot moment : ℕ) (switch : KnownSwitch) (side : Side) (message : List ℕ) (said : Result SwitchMessage Unread) (state : SliceState)
     → switch.phase ≡ Opened → is_slot p slot ≡ true → read_switch message ≡ said → is_for_one said ≡ false → SliceStands (settings_at p slot switch.features) side.sight state
-    → ((port : ℕ) → is_own_port (settings_at p slot switch.features) port ≡ has_port (rules_of p switch.features) slot port)
+    → ((port : ℕ) → is_own_port (settings_at p slot switch.features).slot (settings_at p slot switch.features).patterns port ≡ has_port (rules_of p switch.features) slot port)
     → sent_with p slot switch side (told_at moment message) ≡ say (length p.slices) (rules_of p switch.features) switch.known said slot state
 slot_sent p slot moment switch side message said state opened here is all stands own =
     ap (sent_for (settings_at p slot switch.features) side.sight.view) (items_of_said p slot moment switch side message said opened here is)

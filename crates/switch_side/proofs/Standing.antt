@@ -182,7 +182,7 @@ said_stands p slot switch side xid (Err BadLength) state none all stands = end_s
 said_stands p slot switch side xid (Ok (says.PacketIn packet)) state none all stands = absurd (none-some packet (sym none))
 said_stands p slot switch side xid (Ok (says.PortStatus status)) state none all stands =
     let s = settings_at p slot switch.features in
-    either s side.sight state (is_kept status switch.known && is_own_port s (port_number status.port)) (Status status ∷ []) [] (status_stands s side.sight state status stands) stands
+    either s side.sight state (is_kept status switch.known && is_own_port s.slot s.patterns (port_number status.port)) (Status status ∷ []) [] (status_stands s side.sight state status stands) stands
 said_stands p slot switch side xid (Ok (says.FlowRemoved entry)) state none all stands = absurd (true≢false all)
 said_stands p slot switch side xid (Ok (says.Error error)) state none all stands = absurd (true≢false all)
 said_stands p slot switch side xid (Ok says.BarrierReply) state none all stands = absurd (true≢false all)

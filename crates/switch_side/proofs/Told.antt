@@ -67,7 +67,7 @@ all_sent p switch sides timed said slot (slice ∷ slices) [] same each = absurd
 -- ---- the slices of a policy
 
 own_ports : (p : PolicyView) (switch : KnownSwitch) (slot port : ℕ) (slice : Slice) → slice_get p.slices slot ≡ Some slice
-    → is_own_port (settings_at p slot switch.features) port ≡ has_port (rules_of p switch.features) slot port
+    → is_own_port (settings_at p slot switch.features).slot (settings_at p slot switch.features).patterns port ≡ has_port (rules_of p switch.features) slot port
 own_ports p switch slot port slice there = rw (there, settings_at) (same_port slot (rules_of p switch.features) port)
 
 pub has_item : {A : Type 0} (xs : List A) (i : ℕ) → i < length xs → (x : A) × (slice_get xs i ≡ Some x)

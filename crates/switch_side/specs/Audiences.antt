@@ -1,18 +1,13 @@
 -- Whom a packet is for that the switch hands up (this proxy's own rule).
-use Rattle.std.specs.Prelude.{ℕ, ◌==◌, ltb, Bool, false, if◌then◌else◌, List, [], ◌∷◌, ◌++◌, Option, Some, None, is_some}
+use Rattle.std.specs.Prelude.{ℕ, ◌==◌, Bool, false, if◌then◌else◌, List, [], ◌∷◌, ◌++◌, Option, Some, None, is_some}
 use Rattle.of10_model.specs.Normal.{is_value, bit}
 use Rattle.of10_flow.specs.declared.packet_in.PacketIn.{PacketIn}
-use Rattle.frame_header.specs.Probes.{probe_slot_of}
 use Rattle.flowspace.specs.declared.rules.Rule.{Rule}
 use Rattle.flowspace.specs.Order.{first_rule}
 use Rattle.slice_words.specs.Items.{Share, Writer, Reader, Probe}
-use Rattle.desk_words.specs.Histories.{header_in, number_given}
+use Rattle.desk_words.specs.Histories.{header_in, number_given, marked_slot}
 use Rattle.switch_side.specs.declared.audience.Audience.{Audience}
 use Rattle.switch_side.specs.declared.audience.Audience.TheVariants.{Prober, Named}
-
--- the slot whose mark a packet bears, if it is one of so many slices
-abbrev pub marked_in : ℕ → List ℕ → Option ℕ
-marked_in count bytes = elim (probe_slot_of bytes) [ None ↦ None | Some slot ↦ if ltb slot count then Some slot else None ]
 
 -- those that a rule names; nobody where there is none
 abbrev pub named_by : Option Rule → Audience
@@ -21,7 +16,7 @@ named_by (Some rule) = Named rule.writer rule.readers
 
 -- among so many slices, the one whose mark the packet bears, or those that the first rule of its header names
 abbrev pub audience_of : ℕ → List Rule → PacketIn → Audience
-audience_of count rules packet = elim (marked_in count packet.payload) [ None ↦ named_by (first_rule rules (header_in packet)) | Some slot ↦ Prober slot ]
+audience_of count rules packet = elim (marked_slot count packet.payload) [ None ↦ named_by (first_rule rules (header_in packet)) | Some slot ↦ Prober slot ]
 
 -- the shares of a packet that the slice at a slot has: as the prober alone, or as the writer and as a reader
 abbrev pub shares_in : Audience → PacketIn → ℕ → List Share

@@ -4,8 +4,8 @@ ghost use Rattle.std.specs.Prelude.{ℕ, ◌≡◌, length, option_map};
 ghost use Rattle.of10_flow.specs.PacketIns.{packet_of};
 ghost use Rattle.flowspace.specs.Order.{first_rule};
 ghost use Rattle.flowspace.specs.Policies.{PolicyView};
-ghost use Rattle.desk_words.specs.Histories.{header_in, shares_of};
-ghost use Rattle.switch_side.specs.Audiences.{marked_in, named_by, audience_of, shares_in, writes};
+ghost use Rattle.desk_words.specs.Histories.{header_in, marked_slot, shares_of};
+ghost use Rattle.switch_side.specs.Audiences.{named_by, audience_of, shares_in, writes};
 
 use flowspace::{Rule, SwitchPolicy};
 use frame_header::probe_slot;
@@ -24,7 +24,7 @@ pub(crate) enum Audience {
 
 /// The slot whose mark the packet bears, if it is one of so many slices.
 fn marked_slot(count: usize, bytes: &[u8]) -> Option<u8>
-    ensures { result ≡ marked_in count bytes.now }
+    ensures { result ≡ marked_slot count bytes.now }
 {
     match probe_slot(bytes) {
         Some(slot) if usize::from(slot) < count => Some(slot),

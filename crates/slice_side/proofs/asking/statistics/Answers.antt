@@ -5,9 +5,9 @@ use Rattle.of10_message.specs.Heads.{xid_of}
 use Rattle.xid_map.specs.declared.asked.AskKind.{AskKind}
 use Rattle.stats_filter.specs.Asking.{question_for}
 use Rattle.slice_words.specs.Calls.{request_calls}
-use Rattle.slice_words.specs.FlowMods.{Ground, ground_of}
+use Rattle.slice_words.specs.FlowMods.{Ground, ground_of, not_permitted}
 use Rattle.slice_words.specs.Questions.{may_ask}
-use Rattle.slice_words.specs.Answers.{not_permitted, statistics_answer}
+use Rattle.slice_words.specs.Answers.{statistics_answer}
 use Rattle.slice_words.specs.Standing.{past_of}
 use Rattle.slice_side.proofs.Grounds.{same_but_booked}
 use Rattle.slice_side.proofs.Following.{refusal_result}
