@@ -1,9 +1,8 @@
 -- What is answered to an item is at most one message, unless it is the end of statistics, and what is put for the switch is small. A new kind of answer is a case more of `answer_size`.
-use Rattle.std.proofs.Common.{◌≡◌, ℕ, ◌+◌, ◌-◌, ◌^◌, ◌%◌, ◌==◌, ◌&&◌, ◌≤◌, not, Bool, true, false, if◌then◌else◌, List, [], ◌∷◌, ◌++◌, map, length, take, filter, suc, append-nil, true≢false, refl, sym, subst, Option, Some, None, Ok, option_map, arith}
+use Rattle.std.proofs.Common.{◌≡◌, ℕ, ◌+◌, ◌-◌, ◌^◌, ◌%◌, ◌==◌, ◌&&◌, ◌≤◌, not, Bool, true, false, if◌then◌else◌, List, [], ◌∷◌, ◌++◌, map, length, take, filter, suc, append-nil, true≢false, refl, Option, Some, None, Ok, option_map, arith}
 use Rattle.std.specs.List.{All}
 use Rattle.std.proofs.lemmas.Bool.{ltb-false}
 use Rattle.std.proofs.lemmas.List.{length-take}
-use Rattle.std.proofs.lemmas.Option.{same_Some, none-some}
 use Rattle.of10_ctl.specs.declared.kind.TheConstants.{HELLO, BARRIER_REQUEST, BARRIER_REPLY, QUEUE_GET_CONFIG_REQUEST, QUEUE_GET_CONFIG_REPLY}
 use Rattle.of10_ctl.specs.Frames.{message_of, error_of, echo_reply_to}
 use Rattle.of10_flow.specs.declared.protocol.TheConstants.{NO_BUFFER}
@@ -19,9 +18,6 @@ use Rattle.of10_config.specs.declared.queues.QueuesQuestion.{QueuesQuestion}
 use Rattle.of10_config.specs.Queues.{port_of_queues, question_bytes, spell_queues_request}
 use Rattle.of10_config.proofs.Again.{padding_read}
 use Rattle.of10_message.proofs.Cases.{queues_as_read}
-use Rattle.of10_stats.specs.declared.request.StatsRequest.{StatsRequest}
-use Rattle.of10_stats.specs.Requests.{spell_request}
-use Rattle.stats_filter.specs.Asking.{asked_as, question_for}
 use Rattle.stats_filter.specs.Replies.{table_reply}
 use Rattle.of10_port.specs.Ports.{IsPort}
 use Rattle.of10_port.specs.Features.{spell_features}
@@ -33,14 +29,14 @@ use Rattle.flow_book.specs.Books.{booking}
 use Rattle.xid_map.specs.declared.asked.Issued.{Issued}
 use Rattle.slice_words.specs.Messages.{quoted}
 use Rattle.slice_words.specs.Items.{Settings, Share, Writer, Reader, Probe, Packet, Item, Opened, Up, Down, Msg, Lost, Handed, Removed, Status, Fault, Barrier, Queues, Entry, Last, End, is_up, miss_send_len, buffered_count, known_ports}
-use Rattle.slice_words.specs.Pasts.{SendsOut, Answer, Past, no_answer, told, dismissal, forwarded}
+use Rattle.slice_words.specs.Pasts.{Question, ForStatistics, ForBarrier, ForQueues, SendsOut, Answer, Past, no_answer, told, dismissal, forwarded}
 use Rattle.slice_words.specs.Statistics.{is_barrier, asks_queues, barrier_told, queues_told}
 use Rattle.slice_words.specs.Questions.{asking}
 use Rattle.slice_words.specs.Calls.{request_calls, request_for, book_calls}
 use Rattle.slice_words.specs.FlowMods.{Ground, ground_of, packet_at, sent_on, flow_mod_fault}
 use Rattle.slice_words.specs.PacketOuts.{packet_out_on, packet_out_size, sent_out, packet_out_fault}
 use Rattle.slice_words.specs.Answers.{error_for, refused, no_common_version, bad_length, config_reply, packet_message, packet_told, message_answer, removal_told, error_told, answer}
-use Rattle.slice_words.specs.Alone.{number_it_came_with, rendered, played, answer_to, sent_for, put_for}
+use Rattle.slice_words.specs.Alone.{number_it_came_with, spell_question, rendered, played, answer_to, sent_for, put_for}
 use Rattle.of10_model.proofs.Results.{either}
 use Rattle.slice_words.proofs.AnswerKinds.{message_holds}
 use Rattle.slice_words.proofs.Forwarding.{flow_mods_numbered, rendered_sent, not_large_numbered, out_not_large}
@@ -111,15 +107,10 @@ small_sent_out g m none = record {
 
 -- ---- questions
 
-small_asking : (message : List ℕ) → IsShort message → IsSmall (asking message)
-small_asking message short = record { to_slice = few-none 1; to_switch = λ came. small-few 1 262144 (message ∷ []) (omega arith) (few-one message short) }
-
-short_question : (request : StatsRequest) (xid : ℕ) (question : List ℕ) → question_for request xid ≡ Some question → IsShort question
-short_question request xid question is = by_sent (asked_as request) is
-  where
-    by_sent : (sent : Option StatsRequest) → option_map (λ asked. spell_request asked xid) sent ≡ Some question → IsShort question
-    by_sent None none = absurd (none-some question none)
-    by_sent (Some asked) some = subst IsShort (same_Some (spell_request asked xid) question some) (short-request asked xid)
+small_asking : (g : Ground) (question : Question) → IsShort (spell_question question g.xid) → IsSmall (asking g question)
+small_asking g question short =
+    let message = spell_question question g.xid in
+    record { to_slice = few-none 1; to_switch = λ came. small-few 1 262144 (message ∷ []) (omega arith) (few-one message short) }
 
 -- ---- messages of the controller
 
@@ -141,9 +132,9 @@ message_size s view past moment message short ports = message_holds (λ (ends : 
   forwards = λ m read none. small_forwarded (ground_of s view past) m none;
   sends_out = λ m read none. small_sent_out (ground_of s view past) m none;
   tells_table = small_told (table_reply (length (ground_of s view past).booked) s.quota (xid_of message)) (short-table (length (ground_of s view past).booked) s.quota (xid_of message));
-  asks_statistics = λ request question read may is. small_asking question (short_question request (ground_of s view past).xid question is);
-  asks_barrier = λ read. small_asking (message_of BARRIER_REQUEST (ground_of s view past).xid []) (short-message BARRIER_REQUEST (ground_of s view past).xid [] (omega arith));
-  asks_queues = λ queues read own. small_asking (spell_queues_request (ground_of s view past).xid queues) (short-queues (ground_of s view past).xid message queues read);
+  asks_statistics = λ request asked read may is. small_asking (ground_of s view past) (ForStatistics asked) (short-request asked (ground_of s view past).xid);
+  asks_barrier = λ read. small_asking (ground_of s view past) ForBarrier (short-message BARRIER_REQUEST (ground_of s view past).xid [] (omega arith));
+  asks_queues = λ queues read own. small_asking (ground_of s view past) (ForQueues queues) (short-queues (ground_of s view past).xid message queues read);
 })
 
 -- ---- packets

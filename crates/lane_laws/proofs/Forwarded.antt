@@ -1,10 +1,12 @@
 -- What a message of a slice's controller has put for the switch: nothing, or what follows from a flow-mod, a packet-out or a question that is permitted.
-use Rattle.std.proofs.Common.{◌≡◌, ◌⊎◌, inl, inr, refl, sym, ap, ◌∙◌, ℕ, Bool, true, false, if◌then◌else◌, List, [], ◌∷◌, length, Option, Some, None, Ok, Err}
+use Rattle.std.proofs.Common.{◌≡◌, ◌⊎◌, inl, inr, refl, sym, ap, ◌∙◌, ℕ, Bool, true, false, if◌then◌else◌, List, [], ◌∷◌, length, Option, Some, None, option_map, Ok, Err}
 use Rattle.of10_ctl.specs.declared.kind.TheConstants.{BARRIER_REQUEST}
 use Rattle.of10_ctl.specs.Frames.{message_of}
 use Rattle.of10_flow.specs.declared.flow_mod.FlowMod.{FlowMod}
 use Rattle.of10_flow.specs.declared.packet_out.PacketOut.{PacketOut}
 use Rattle.of10_config.specs.Queues.{spell_queues_request}
+use Rattle.of10_stats.specs.declared.request.StatsRequest.{StatsRequest}
+use Rattle.of10_stats.specs.Requests.{spell_request}
 use Rattle.of10_message.specs.declared.controller.FromController.{FromController}
 use Rattle.of10_message.specs.declared.controller.FromController.TheVariants as said
 use Rattle.of10_message.specs.Heads.{xid_of}
@@ -12,14 +14,16 @@ use Rattle.of10_message.specs.Controller.{read_controller}
 use Rattle.stats_filter.specs.Replies.{table_reply}
 use Rattle.slice_words.specs.Messages.{Reading, asks_switch}
 use Rattle.slice_words.specs.Items.{Settings, Item}
-use Rattle.slice_words.specs.Pasts.{Outgoing, Asks, Answer, Past, told, forwarded}
+use Rattle.slice_words.specs.Pasts.{Question, ForStatistics, ForBarrier, ForQueues, Outgoing, Asks, Answer, Past, told, forwarded}
 use Rattle.slice_words.specs.FlowMods.{Ground, ground_of, flow_mod_fault, sent_on, not_permitted}
 use Rattle.slice_words.specs.PacketOuts.{packet_out_fault, sent_out}
 use Rattle.slice_words.specs.Questions.{asking, statistics_asked, queues_asked}
 use Rattle.slice_words.specs.Answers.{refused, unread_answer, forwarded_answer, keeps_rate, read_answer, message_answer}
+use Rattle.slice_words.specs.Alone.{spell_question}
 use Rattle.slice_words.proofs.AnswerKinds.{message_holds}
 use Rattle.slice_side.specs.Checking.{IsQuestion}
 use Rattle.slice_side.proofs.Answering.{asked_answer}
+use Rattle.slice_side.proofs.Inquiring.{statistics_spelled}
 
 -- a message with which a slice may ask the switch something is to be sent on
 is_question : (g : Ground) (message question : List ℕ) (asked : FromController) → IsQuestion g asked question → asks_switch (Ok asked) ≡ true
@@ -39,16 +43,21 @@ is_question g message question (said.FlowMod m) is = absurd is
 is_question g message question said.PortMod is = absurd is
 
 -- what follows from it
-abbrev by_question : Ground → List ℕ → Option (List ℕ) → Answer
-by_question g message found = elim found [ None ↦ told (table_reply (length g.booked) g.quota (xid_of message) ∷ []) | Some question ↦ asking question ]
+abbrev by_asked : Ground → List ℕ → Option StatsRequest → Answer
+by_asked g message asked = elim asked [ None ↦ told (table_reply (length g.booked) g.quota (xid_of message) ∷ []) | Some sent ↦ asking g (ForStatistics sent) ]
 
-question_follows : (s : Settings) (view : List Item) (past : List Past) (message question : List ℕ) (asked : FromController) → IsQuestion (ground_of s view past) asked question
-    → forwarded_answer s view past asked message ≡ asking question
+-- the question of which such bytes are spelled is sent on
+abbrev pub IsAskedIn : Settings → List Item → List Past → List ℕ → List ℕ → FromController → Type 0
+IsAskedIn s view past message question asked =
+    (q : Question) × (question ≡ spell_question q (ground_of s view past).xid) × (forwarded_answer s view past asked message ≡ asking (ground_of s view past) q)
+
+question_follows : (s : Settings) (view : List Item) (past : List Past) (message question : List ℕ) (asked : FromController) → IsQuestion (ground_of s view past) asked question → IsAskedIn s view past message question asked
 question_follows s view past message question (said.StatsRequest request) is =
-    ap (λ (b : Bool). if b then statistics_asked (ground_of s view past) request message else refused not_permitted message) is.0 ∙ ap (by_question (ground_of s view past) message) is.1
-question_follows s view past message question said.BarrierRequest is = ap asking (sym is)
+    let sent = statistics_spelled request (ground_of s view past).xid question is.1 in
+    (ForStatistics sent.0, sent.2, ap (λ (b : Bool). if b then statistics_asked (ground_of s view past) request message else refused not_permitted message) is.0 ∙ ap (by_asked (ground_of s view past) message) sent.1)
+question_follows s view past message question said.BarrierRequest is = (ForBarrier, is, refl)
 question_follows s view past message question (said.QueueGetConfigRequest queues) is =
-    ap (λ (b : Bool). if b then queues_asked (ground_of s view past) queues else refused not_permitted message) is.0 ∙ ap asking (sym is.1)
+    (ForQueues queues, is.1, ap (λ (b : Bool). if b then queues_asked (ground_of s view past) queues else refused not_permitted message) is.0)
 question_follows s view past message question _ is = absurd is
 
 module _ (s : Settings) (view : List Item) (past : List Past) (moment : ℕ) (message : List ℕ) where
@@ -104,10 +113,11 @@ module _ (s : Settings) (view : List Item) (past : List Past) (moment : ℕ) (me
   pub out_whole : (m : PacketOut) → PermitsOut m → put ≡ sent_out (ground_of s view past) m
   out_whole m p = out_lined m None p.read p.rate p.no_fault
 
-  pub question_whole : (asked : FromController) (question : List ℕ) → PermitsQuestion asked question → put ≡ Asks question ∷ []
+  pub question_whole : (asked : FromController) (question : List ℕ) → PermitsQuestion asked question
+      → (q : Question) × (question ≡ spell_question q (ground_of s view past).xid) × (put ≡ Asks q (ground_of s view past).xid ∷ [])
   question_whole asked question p =
-      unrated asked true (is_question (ground_of s view past) message question asked p.may) p.read p.rate
-      ∙ ap (λ (a : Answer). a.to_switch) (question_follows s view past message question asked p.may)
+      let one = question_follows s view past message question asked p.may in
+      (one.0, one.1, unrated asked true (is_question (ground_of s view past) message question asked p.may) p.read p.rate ∙ ap (λ (a : Answer). a.to_switch) one.2)
 
   -- a message that may be a question
   abbrev MayAsk : Type 0
@@ -129,7 +139,7 @@ module _ (s : Settings) (view : List Item) (past : List Past) (moment : ℕ) (me
     forwards = λ m read none. inr (inl (m, read));
     sends_out = λ m read none. inr (inr (inl (m, read)));
     tells_table = inl refl;
-    asks_statistics = λ request question read may is. inr (inr (inr (said.StatsRequest request, question, read, (may, is))));
+    asks_statistics = λ request asked read may is. inr (inr (inr (said.StatsRequest request, spell_request asked (ground_of s view past).xid, read, (may, ap (option_map (λ sent. spell_request sent (ground_of s view past).xid)) is))));
     asks_barrier = λ read. inr (inr (inr (said.BarrierRequest, message_of BARRIER_REQUEST (ground_of s view past).xid [], read, refl)));
     asks_queues = λ queues read own. inr (inr (inr (said.QueueGetConfigRequest queues, spell_queues_request (ground_of s view past).xid queues, read, (own, refl))));
   })

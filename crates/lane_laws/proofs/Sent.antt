@@ -160,8 +160,8 @@ question_lane_whole policy h timed slot message question asked is up read rate m
     let s = settings_in policy slot h in
     let view = view_of policy slot h in
     let came = (side_of policy slot h).sight.came in
-    lane_of_up policy h timed slot message (phase_of h) refl is up
-    ∙ ap (map (rendered came)) (question_whole s view (past_of s view) timed.moment message asked question (record { read = read; rate = rate; may = may }))
+    let one = question_whole s view (past_of s view) timed.moment message asked question (record { read = read; rate = rate; may = may }) in
+    lane_of_up policy h timed slot message (phase_of h) refl is up ∙ ap (map (rendered came)) one.2 ∙ ap (λ (bytes : List ℕ). bytes ∷ []) (sym one.1)
 
 -- a flow-mod, a packet-out or a question is permitted, and with it what is sent for the question
 abbrev IsAnyPut : PolicyView → ℕ → List Timed → ℕ → List ℕ → Type 0

@@ -14,11 +14,11 @@ use Rattle.of10_message.specs.declared.fault.Unread.TheVariants.{BadLength, NoCo
 use Rattle.of10_message.specs.Heads.{xid_of}
 use Rattle.of10_message.specs.Controller.{read_controller}
 use Rattle.port_view.specs.SlicePorts.{features_with}
-use Rattle.stats_filter.specs.Asking.{question_for}
+use Rattle.stats_filter.specs.Asking.{asked_as}
 use Rattle.stats_filter.specs.Replies.{table_reply}
 use Rattle.slice_words.specs.Messages.{Reading, ends_connection, is_dismissing}
 use Rattle.slice_words.specs.Items.{Settings, Item, miss_send_len, features_in, known_ports, is_own_port}
-use Rattle.slice_words.specs.Pasts.{Answer, Past, no_answer, told as answered, dismissal, forwarded}
+use Rattle.slice_words.specs.Pasts.{ForStatistics, Answer, Past, no_answer, told as answered, dismissal, forwarded}
 use Rattle.slice_words.specs.FlowMods.{ground_of, flow_mod_fault, sent_on, not_permitted}
 use Rattle.slice_words.specs.PacketOuts.{packet_out_fault, sent_out}
 use Rattle.slice_words.specs.Questions.{may_ask, asking, statistics_asked, barrier_asked, queues_asked}
@@ -36,7 +36,7 @@ pub record HoldsOfEach (P : Bool → Answer → Type 0) (s : Settings) (view : L
   pub forwards : (m : FlowMod) → read_controller message ≡ Ok (said.FlowMod m) → flow_mod_fault (ground_of s view past) m ≡ None → P false (forwarded (sent_on (ground_of s view past) m))
   pub sends_out : (m : PacketOut) → read_controller message ≡ Ok (said.PacketOut m) → packet_out_fault (ground_of s view past) m ≡ None → P false (forwarded (sent_out (ground_of s view past) m))
   pub tells_table : P false (answered (table_reply (length (ground_of s view past).booked) s.quota (xid_of message) ∷ []))
-  pub asks_statistics : (request : StatsRequest) (question : List ℕ) → read_controller message ≡ Ok (said.StatsRequest request) → may_ask (ground_of s view past) request ≡ true → question_for request (ground_of s view past).xid ≡ Some question → P false (asking question)
+  pub asks_statistics : (request asked : StatsRequest) → read_controller message ≡ Ok (said.StatsRequest request) → may_ask (ground_of s view past) request ≡ true → asked_as request ≡ Some asked → P false (asking (ground_of s view past) (ForStatistics asked))
   pub asks_barrier : read_controller message ≡ Ok said.BarrierRequest → P false (barrier_asked (ground_of s view past))
   pub asks_queues : (queues : QueuesQuestion) → read_controller message ≡ Ok (said.QueueGetConfigRequest queues) → is_own_port s.slot s.patterns queues.port ≡ true → P false (queues_asked (ground_of s view past) queues)
 
@@ -57,16 +57,16 @@ packet_out_holds : (P : Bool → Answer → Type 0) (s : Settings) (view : List 
 packet_out_holds P s view past message m None each read is = each.sends_out m read is
 packet_out_holds P s view past message m (Some fault) each read is = each.refuses fault
 
-asked_holds : (P : Bool → Answer → Type 0) (s : Settings) (view : List Item) (past : List Past) (message : List ℕ) (request : StatsRequest) (question : Option (List ℕ)) → HoldsOfEach P s view past message
-    → read_controller message ≡ Ok (said.StatsRequest request) → may_ask (ground_of s view past) request ≡ true → question_for request (ground_of s view past).xid ≡ question
-    → P false (elim question [ None ↦ answered (table_reply (length (ground_of s view past).booked) s.quota (xid_of message) ∷ []) | Some sent ↦ asking sent ])
+asked_holds : (P : Bool → Answer → Type 0) (s : Settings) (view : List Item) (past : List Past) (message : List ℕ) (request : StatsRequest) (asked : Option StatsRequest) → HoldsOfEach P s view past message
+    → read_controller message ≡ Ok (said.StatsRequest request) → may_ask (ground_of s view past) request ≡ true → asked_as request ≡ asked
+    → P false (elim asked [ None ↦ answered (table_reply (length (ground_of s view past).booked) s.quota (xid_of message) ∷ []) | Some sent ↦ asking (ground_of s view past) (ForStatistics sent) ])
 asked_holds P s view past message request None each read may is = each.tells_table
-asked_holds P s view past message request (Some question) each read may is = each.asks_statistics request question read may is
+asked_holds P s view past message request (Some asked) each read may is = each.asks_statistics request asked read may is
 
 statistics_holds : (P : Bool → Answer → Type 0) (s : Settings) (view : List Item) (past : List Past) (message : List ℕ) (request : StatsRequest) (may : Bool) → HoldsOfEach P s view past message
     → read_controller message ≡ Ok (said.StatsRequest request) → may_ask (ground_of s view past) request ≡ may
     → P false (if may then statistics_asked (ground_of s view past) request message else refused not_permitted message)
-statistics_holds P s view past message request true each read is = asked_holds P s view past message request (question_for request (ground_of s view past).xid) each read is refl
+statistics_holds P s view past message request true each read is = asked_holds P s view past message request (asked_as request) each read is refl
 statistics_holds P s view past message request false each read is = each.refuses not_permitted
 
 queues_holds : (P : Bool → Answer → Type 0) (s : Settings) (view : List Item) (past : List Past) (message : List ℕ) (queues : QueuesQuestion) (own : Bool) → HoldsOfEach P s view past message

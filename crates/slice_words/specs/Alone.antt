@@ -1,10 +1,14 @@
 -- What a slice is sent by a proxy that serves it alone: the answers to the items of its view, one after another (this proxy's own rule).
 use Rattle.std.specs.Prelude.{ℕ, List, [], ◌∷◌, ◌++◌, get_or, reverse, Some, None}
+use Rattle.of10_ctl.specs.declared.kind.TheConstants.{BARRIER_REQUEST}
+use Rattle.of10_ctl.specs.Frames.{message_of}
+use Rattle.of10_config.specs.Queues.{spell_queues_request}
+use Rattle.of10_stats.specs.Requests.{spell_request}
 use Rattle.of10_flow.specs.FlowMods.{spell_flow_mod}
 use Rattle.of10_flow.specs.PacketOuts.{spell_packet_out}
 use Rattle.of10_flow.specs.declared.protocol.TheConstants.{NO_BUFFER}
 use Rattle.slice_words.specs.Items.{Settings, Item}
-use Rattle.slice_words.specs.Pasts.{Outgoing, Modifies, SendsOut, Asks, Answer, Past}
+use Rattle.slice_words.specs.Pasts.{Question, ForStatistics, ForBarrier, ForQueues, Outgoing, Modifies, SendsOut, Asks, Answer, Past}
 use Rattle.slice_words.specs.Answers.{answer}
 
 -- a way to answer an item after a view with its answers
@@ -46,10 +50,16 @@ put_for s view (item ∷ items) = (answer_to s view item).to_switch ++ put_for s
 abbrev pub number_it_came_with : List ℕ → ℕ → ℕ
 number_it_came_with came k = get_or (reverse came) k NO_BUFFER
 
+-- the bytes of a question (OpenFlow 1.0.0, sections 5.3.5, 5.3.7 and 5.3.4)
+abbrev pub spell_question : Question → ℕ → List ℕ
+spell_question (ForStatistics request) xid = spell_request request xid
+spell_question ForBarrier xid = message_of BARRIER_REQUEST xid []
+spell_question (ForQueues queues) xid = spell_queues_request xid queues
+
 -- the bytes of a message, with the switch's own number for the packet that it names
 abbrev pub rendered : List ℕ → Outgoing → List ℕ
 rendered came (Modifies m None) = spell_flow_mod m
 rendered came (Modifies m (Some k)) = spell_flow_mod (record m { buffer = number_it_came_with came k })
 rendered came (SendsOut m None) = spell_packet_out m
 rendered came (SendsOut m (Some k)) = spell_packet_out (record m { buffer = number_it_came_with came k })
-rendered came (Asks message) = message
+rendered came (Asks question xid) = spell_question question xid

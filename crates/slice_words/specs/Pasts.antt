@@ -2,13 +2,21 @@
 use Rattle.std.specs.Prelude.{ℕ, Bool, true, false, List, [], map, leb, length, Option}
 use Rattle.of10_flow.specs.declared.flow_mod.FlowMod.{FlowMod}
 use Rattle.of10_flow.specs.declared.packet_out.PacketOut.{PacketOut}
+use Rattle.of10_stats.specs.declared.request.StatsRequest.{StatsRequest}
+use Rattle.of10_config.specs.declared.queues.QueuesQuestion.{QueuesQuestion}
 use Rattle.slice_words.specs.Items.{Item}
 
--- a message for the switch: a flow-mod or a packet-out, with the buffered packet of the slice that it names, if it names one, by how many the slice was given before that; or a message that names none
+-- what the switch is asked for a slice: for statistics, that it do all before it first, or for the queues of a port
+pub data Question : Type 0 where
+  ForStatistics : StatsRequest → Question
+  ForBarrier : Question
+  ForQueues : QueuesQuestion → Question
+
+-- a message for the switch: a flow-mod or a packet-out, with the buffered packet of the slice that it names, if it names one, by how many the slice was given before that; or a question under its transaction id
 pub data Outgoing : Type 0 where
   Modifies : FlowMod → Option ℕ → Outgoing
   SendsOut : PacketOut → Option ℕ → Outgoing
-  Asks : List ℕ → Outgoing
+  Asks : Question → ℕ → Outgoing
 
 -- what follows from an item: messages to the slice, messages for the switch, and whether the connection ends
 pub record Answer : Type 0 where

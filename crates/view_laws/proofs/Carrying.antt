@@ -1,23 +1,15 @@
 -- All that a message has sent to the switch is under one transaction id, and what is remembered of it begins as it does.
-use Rattle.std.proofs.Common.{◌≡◌, ℕ, ◌+◌, ◌*◌, ◌%◌, Bool, true, false, if◌then◌else◌, List, [], ◌∷◌, ◌++◌, zero, suc, length, take, min, option_map, All, refl, sym, ap, subst, arith, Option, Some, None}
+use Rattle.std.proofs.Common.{◌≡◌, ℕ, ◌+◌, ◌*◌, ◌%◌, Bool, true, false, if◌then◌else◌, List, [], ◌∷◌, ◌++◌, zero, suc, length, take, min, All, refl, sym, ap, subst, arith, Option, Some, None}
 use Rattle.std.proofs.lemmas.List.Elements.{All-nil, All-cons, All-head, All-tail}
 use Rattle.of10_action.specs.declared.action.Action.{Action}
 use Rattle.of10_action.specs.Actions.{padding}
-use Rattle.byteorder.specs.Endian.{big_bytes}
-use Rattle.byteorder.specs.Numbers.{big_from-bytes}
-use Rattle.of10_ctl.specs.declared.kind.TheConstants.{STATS_REQUEST, BARRIER_REQUEST, QUEUE_GET_CONFIG_REQUEST}
-use Rattle.of10_ctl.specs.Frames.{message_of}
-use Rattle.of10_stats.specs.declared.request.StatsRequest.{StatsRequest}
-use Rattle.of10_stats.specs.Requests.{statistics_kind, request_body, spell_request}
-use Rattle.of10_message.specs.Heads.{xid_of}
-use Rattle.stats_filter.specs.Asking.{asked_as}
 use Rattle.of10_model.specs.declared.pattern.Pattern.{Pattern}
 use Rattle.of10_flow.specs.declared.flow_mod.FlowMod.{FlowMod}
 use Rattle.of10_flow.specs.declared.packet_out.PacketOut.{PacketOut}
 use Rattle.flowmod_expand.specs.Messages.{piece_message, piece_messages, buffer_at}
 use Rattle.xid_map.specs.Requests.{physical_of, issued}
 use Rattle.slice_words.specs.Items.{Settings, Item, Opened, Up, Down, Msg, Lost, Handed, Removed, Status, Fault, Barrier, Queues, Entry, Last, End, is_up}
-use Rattle.slice_words.specs.Pasts.{Answer, Past, Outgoing, Modifies, SendsOut, Asks, no_answer}
+use Rattle.slice_words.specs.Pasts.{Question, ForStatistics, ForBarrier, ForQueues, Answer, Past, Outgoing, Modifies, SendsOut, Asks, no_answer}
 use Rattle.slice_words.specs.Buffers.{HeldPacket}
 use Rattle.slice_words.specs.FlowMods.{Ground, ground_of, list_given, packet_at, named_packet, naming, carrier_of, flow_mods_on, pieces_on, lists_on, sent_on}
 use Rattle.slice_words.specs.PacketOuts.{permitted_out, sent_out_with, packet_out_on, sent_out}
@@ -59,22 +51,8 @@ out_with_under (Some packet) g m actions = refl
 out_under : (g : Ground) (m : PacketOut) → All (IsUnder g.xid) (sent_out g m)
 out_under g m = All-cons (IsUnder g.xid) (SendsOut (packet_out_on g m) _) [] (out_with_under (packet_at g m.buffer) g m (list_given (permitted_out g m))) (All-nil (IsUnder g.xid))
 
--- a message that is put in bytes has the low 32 bits
-xid-message : (kind xid : ℕ) (body : List ℕ) → xid_of (message_of kind xid body) ≡ xid % 4294967296
-xid-message kind xid body = big_from-bytes 4 xid body
-
-xid-request : (request : StatsRequest) (xid : ℕ) → xid_of (spell_request request xid) ≡ xid % 4294967296
-unfolding spell_request
-xid-request request xid = xid-message STATS_REQUEST xid (big_bytes 2 (statistics_kind request) ++ big_bytes 2 0 ++ request_body request)
-
-asking_under : (xid : ℕ) (question : List ℕ) → xid_of question ≡ xid % 4294967296 → All (IsUnder xid) (asking question).to_switch
-asking_under xid question is = All-cons (IsUnder xid) (Asks question) [] is (All-nil (IsUnder xid))
-
-statistics_under : (asked : Option StatsRequest) (xid : ℕ) (question : List ℕ) → option_map (λ sent. spell_request sent xid) asked ≡ Some question → All (IsUnder xid) (asking question).to_switch
-statistics_under None xid question is = absurd cc
-statistics_under (Some sent) xid question is =
-    let same : spell_request sent xid ≡ question = cc in
-    asking_under xid question (subst (λ (message : List ℕ). xid_of message ≡ xid % 4294967296) same (xid-request sent xid))
+asking_under : (g : Ground) (question : Question) → All (IsUnder g.xid) (asking g question).to_switch
+asking_under g question = All-cons (IsUnder g.xid) (Asks question g.xid) [] refl (All-nil (IsUnder g.xid))
 
 message_under : (s : Settings) (view : List Item) (past : List Past) (moment : ℕ) (message : List ℕ) → All (IsUnder (ground_of s view past).xid) (message_answer s view past moment message).to_switch
 message_under s view past moment message =
@@ -90,9 +68,9 @@ message_under s view past moment message =
       forwards = λ m read fault. on_under (ground_of s view past) m;
       sends_out = λ m read fault. out_under (ground_of s view past) m;
       tells_table = none;
-      asks_statistics = λ request question read may is. statistics_under (asked_as request) (ground_of s view past).xid question is;
-      asks_barrier = λ read. asking_under (ground_of s view past).xid _ (xid-message BARRIER_REQUEST (ground_of s view past).xid []);
-      asks_queues = λ queues read own. asking_under (ground_of s view past).xid _ (xid-message QUEUE_GET_CONFIG_REQUEST (ground_of s view past).xid _);
+      asks_statistics = λ request asked read may is. asking_under (ground_of s view past) (ForStatistics asked);
+      asks_barrier = λ read. asking_under (ground_of s view past) ForBarrier;
+      asks_queues = λ queues read own. asking_under (ground_of s view past) (ForQueues queues);
     })
 
 while_up : (up : Bool) (xid : ℕ) (a : Answer) → All (IsUnder xid) a.to_switch → All (IsUnder xid) (if up then a else no_answer).to_switch

@@ -9,13 +9,12 @@ use Rattle.xid_map.specs.declared.asked.AskKind.TheVariants as kinds
 use Rattle.xid_map.specs.declared.asked.Issued.{Issued}
 use Rattle.xid_map.specs.Requests.{issued}
 use Rattle.xid_map.specs.Collections.{CollectionCall, Start, Finish, EndAll}
-use Rattle.stats_filter.specs.Asking.{question_for}
+use Rattle.stats_filter.specs.Asking.{asked_as}
 use Rattle.slice_words.specs.Messages.{Reading, is_dismissing, kind_asked}
 use Rattle.slice_words.specs.Items.{Settings, Item, Opened, Up, Down, Msg, Lost, Handed, Removed, Status, Fault, Barrier, Queues, Entry, Last, End, is_up}
 use Rattle.slice_words.specs.Pasts.{Answer, Past, no_answer, is_any}
 use Rattle.slice_words.specs.Statistics.{asks_statistics, collects, begun, entry_call, entry_kept, finished}
 use Rattle.slice_words.specs.Calls.{request_for, collected_by, collection_calls}
-use Rattle.slice_words.specs.FlowMods.{ground_of}
 use Rattle.slice_words.specs.Answers.{message_answer}
 use Rattle.slice_words.specs.Alone.{answer_to}
 use Rattle.slice_words.specs.Standing.{past_of}
@@ -116,18 +115,18 @@ table_puts_nothing s view past moment message is =
       forwards = λ m read fault. absurd (true≢false (sym is ∙ ap asks_table read));
       sends_out = λ m read fault. absurd (true≢false (sym is ∙ ap asks_table read));
       tells_table = refl;
-      asks_statistics = λ request question read may asks. absurd (not_table request question read asks);
+      asks_statistics = λ request asked read may asks. absurd (not_table request asked read asks);
       asks_barrier = λ read. absurd (true≢false (sym is ∙ ap asks_table read));
       asks_queues = λ queues read own. absurd (true≢false (sym is ∙ ap asks_table read));
     })
   where
-    not_table : (request : StatsRequest) (question : List ℕ) → read_controller message ≡ Ok (said.StatsRequest request) → question_for request (ground_of s view past).xid ≡ Some question → ⊥
-    not_table statistics.Table question read asks = cc
-    not_table statistics.Desc question read asks = true≢false (sym is ∙ ap asks_table read)
-    not_table (statistics.Flow pattern table out_port) question read asks = true≢false (sym is ∙ ap asks_table read)
-    not_table (statistics.Aggregate pattern table out_port) question read asks = true≢false (sym is ∙ ap asks_table read)
-    not_table (statistics.Port port) question read asks = true≢false (sym is ∙ ap asks_table read)
-    not_table (statistics.Queue port queue) question read asks = true≢false (sym is ∙ ap asks_table read)
+    not_table : (request asked : StatsRequest) → read_controller message ≡ Ok (said.StatsRequest request) → asked_as request ≡ Some asked → ⊥
+    not_table statistics.Table asked read asks = cc
+    not_table statistics.Desc asked read asks = true≢false (sym is ∙ ap asks_table read)
+    not_table (statistics.Flow pattern table out_port) asked read asks = true≢false (sym is ∙ ap asks_table read)
+    not_table (statistics.Aggregate pattern table out_port) asked read asks = true≢false (sym is ∙ ap asks_table read)
+    not_table (statistics.Port port) asked read asks = true≢false (sym is ∙ ap asks_table read)
+    not_table (statistics.Queue port queue) asked read asks = true≢false (sym is ∙ ap asks_table read)
 
 while_up : (up : Bool) (a : Answer) → a.to_switch ≡ [] → is_any (if up then a else no_answer).to_switch ≡ false
 while_up true a nothing = ap is_any nothing

@@ -2,7 +2,6 @@
 use Rattle.std.specs.Prelude.{ℕ, ◌≡◌, ◌≤◌, ◌+◌, ◌%◌, ◌^◌, ◌==◌, ◌&&◌, ◌||◌, Bool, true, false, if◌then◌else◌, List, [], ◌∷◌, ◌++◌, length, Option}
 use Rattle.std.specs.List.{list_any}
 use Rattle.xid_map.specs.declared.asked.Issued.{Issued}
-use Rattle.of10_message.specs.Heads.{xid_of}
 use Rattle.of10_message.specs.Controller.{read_controller}
 use Rattle.slice_words.specs.Messages.{asked_of}
 use Rattle.slice_words.specs.Items.{Settings, Item, Msg, Fault, Barrier, Queues, Last, is_forgetting}
@@ -27,11 +26,11 @@ requests_in s (item ∷ view) = if is_request s view item then item ∷ requests
 abbrev pub next_number : Settings → List Item → ℕ
 next_number s view = length (requests_in s view)
 
--- a message for the switch has this transaction id; one that is put in bytes has its low 32 bits
+-- a message for the switch has this transaction id
 abbrev pub IsUnder : ℕ → Outgoing → Type 0
 IsUnder xid (Modifies m buffer) = m.xid ≡ xid
 IsUnder xid (SendsOut m buffer) = m.xid ≡ xid
-IsUnder xid (Asks message) = xid_of message ≡ xid % 2 ^ 32
+IsUnder xid (Asks question under) = under ≡ xid
 
 -- ---- which requests are remembered
 

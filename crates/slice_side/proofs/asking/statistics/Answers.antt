@@ -4,6 +4,7 @@ use Rattle.of10_message.specs.declared.controller.FromController.TheVariants as 
 use Rattle.of10_message.specs.Heads.{xid_of}
 use Rattle.xid_map.specs.declared.asked.AskKind.{AskKind}
 use Rattle.stats_filter.specs.Asking.{question_for}
+use Rattle.slice_words.specs.Pasts.{ForStatistics}
 use Rattle.slice_words.specs.Calls.{request_calls}
 use Rattle.slice_words.specs.FlowMods.{Ground, ground_of, not_permitted}
 use Rattle.slice_words.specs.Questions.{may_ask}
@@ -11,7 +12,7 @@ use Rattle.slice_words.specs.Answers.{statistics_answer}
 use Rattle.slice_words.specs.Standing.{past_of}
 use Rattle.slice_side.proofs.Grounds.{same_but_booked}
 use Rattle.slice_side.proofs.Following.{refusal_result}
-use Rattle.slice_side.proofs.Inquiring.{may_ask_booked, statistics_refused, statistics_sent, inquiry_result}
+use Rattle.slice_side.proofs.Inquiring.{may_ask_booked, statistics_refused, statistics_sent, statistics_spelled, inquiry_result}
 use Rattle.slice_side.proofs.Sending.{nothing_sent, question_sent}
 use Rattle.slice_side.proofs.asking.statistics.Goals as goal
 
@@ -28,11 +29,13 @@ pub returns-in-Some-clause-follows : goal.returns-in-Some-clause-follows
 returns-in-Some-clause-follows c s sight stands sees =
     let g = ground_of s sight.view (past_of s sight.view) in
     let xids = ap (λ (p : ℕ × ℕ). p.1) (c.next-xid.ensures.value s.slot (request_calls s (past_of s sight.view)) stands.requests) in
-    inquiry_result c.sending.result s sight c.args.frame.now (Ok (said.StatsRequest c.args.request.now)) c.args.moment (statistics_answer g c.args.request.now c.args.frame.now) c.in-Some.question c.asked-asked.result
-    (statistics_sent g c.args.request.now c.args.frame.now c.in-Some.question
+    let asked = statistics_spelled c.args.request.now g.xid c.in-Some.question (ap (question_for c.args.request.now) (sym xids) ∙ sym c.in_ok-ask.ensures ∙ c.in-Some.is) in
+    inquiry_result c.sending.result s sight c.args.frame.now (Ok (said.StatsRequest c.args.request.now)) c.args.moment (statistics_answer g c.args.request.now c.args.frame.now) g (ForStatistics asked.0) c.in-Some.question c.asked-asked.result
+    (statistics_sent g c.args.request.now asked.0 c.args.frame.now
     (sym (same_but_booked (λ (k : Ground). may_ask k c.args.request.now) (may_ask_booked c.args.request.now) s sight c.args.around.now.state.now c.args.around.now.policy.now c.args.around.now.ports.now c.args.around.now.features.now c.args.around.now.slot s.quota g.xid stands sees refl refl)
     ∙ sym (c.may_ask.ensures s.quota g.xid) ∙ c.if-not-may_ask.false)
-    (ap (question_for c.args.request.now) (sym xids) ∙ sym c.in_ok-ask.ensures ∙ c.in-Some.is))
+    asked.1)
+    asked.2
     refl
     (c.asked-asked.ensures.value ∙ ap (λ (kind : AskKind). record { xid = xid_of c.args.frame.now; first = take 64 (c.args.frame.now ++ padding 64); first_len = min (length c.args.frame.now) 64; kind = kind; port = 0 }) c.kind_of.ensures)
     c.sending.ensures.to_slice c.sending.ensures.to_switch c.sending.ensures.close c.sending.ensures.change
