@@ -1,8 +1,9 @@
 -- The phase and the opening of a history, by its events.
-use Rattle.std.proofs.Common.{◌≡◌, ◌&&◌, ◌||◌, not, Bool, true, false, if◌then◌else◌, List, [], ◌∷◌, refl, ap, sym, ◌∙◌, true≢false, is_some, Option, Some, None}
+use Rattle.std.proofs.Common.{◌≡◌, ◌&&◌, ◌||◌, not, Bool, true, false, if◌then◌else◌, List, [], ◌∷◌, refl, ap, sym, subst, ◌∙◌, true≢false, is_some, Option, Some, None}
 use mathlib.Core.Bool.{or-true}
 use Rattle.std.specs.Option.{option_or}
 use Rattle.of10_port.specs.declared.features.Features.{Features}
+use Rattle.of10_switch.proofs.Cases.{bad_length-read}
 use Rattle.desk_words.specs.declared.event.Event.{Event}
 use Rattle.desk_words.specs.declared.event.Event.TheVariants.{SwitchUp, SwitchMsg, SwitchDown, SliceUp, SliceMsg, SliceDown}
 use Rattle.desk_words.specs.declared.event.Timed.{Timed}
@@ -46,7 +47,9 @@ begun_message false (Some features) = all_four true false (Some features) Opened
 
 from_begun : (event : Event) → Goes true false None Begun None event
 from_begun SwitchUp = all_four true false None Begun None refl refl refl refl
-from_begun (SwitchMsg message) = begun_message (ends_switch message) (features_told message)
+from_begun (SwitchMsg message) =
+    subst (λ (last : Bool). Says true last (option_or None (features_told message)) (phase_after Begun (SwitchMsg message)) (opening_after Begun None (SwitchMsg message))) (bad_length-read message)
+    (begun_message (ends_switch message) (features_told message))
 from_begun SwitchDown = all_four true true None Gone None refl refl refl refl
 from_begun (SliceUp slot) = all_four true false None Begun None refl refl refl refl
 from_begun (SliceMsg slot message) = all_four true false None Begun None refl refl refl refl
@@ -58,7 +61,9 @@ opened_message false features other = all_four true false (Some features) Opened
 
 from_opened : (features : Features) (event : Event) → Goes true false (Some features) Opened (Some features) event
 from_opened features SwitchUp = all_four true false (Some features) Opened (Some features) refl refl refl refl
-from_opened features (SwitchMsg message) = opened_message (ends_switch message) features (features_told message)
+from_opened features (SwitchMsg message) =
+    subst (λ (last : Bool). Says true last (option_or (Some features) (features_told message)) (phase_after Opened (SwitchMsg message)) (opening_after Opened (Some features) (SwitchMsg message))) (bad_length-read message)
+    (opened_message (ends_switch message) features (features_told message))
 from_opened features SwitchDown = all_four true true (Some features) Gone (Some features) refl refl refl refl
 from_opened features (SliceUp slot) = all_four true false (Some features) Opened (Some features) refl refl refl refl
 from_opened features (SliceMsg slot message) = all_four true false (Some features) Opened (Some features) refl refl refl refl

@@ -5,6 +5,7 @@ use Rattle.std.specs.List.{list_any, take_while, flat_map, range_with_len}
 use Rattle.std.specs.Option.{option_or}
 use Rattle.of10_port.specs.declared.features.Features.{Features}
 use Rattle.of10_port.specs.declared.status.PortStatus.{PortStatus}
+use Rattle.of10_ctl.specs.Frames.{is_bad}
 use Rattle.of10_ctl.specs.Streams.{frames_of}
 use Rattle.flowspace.specs.Policies.{PolicyView}
 use Rattle.port_view.specs.KnownPorts.{IsAscending, known_of as known_by}
@@ -20,7 +21,7 @@ use Rattle.desk_words.specs.declared.event.Timed.{Timed}
 use Rattle.desk_words.specs.declared.answer.Verdict.{Verdict}
 use Rattle.desk_words.specs.declared.answer.Taken.{Taken}
 use Rattle.desk_words.specs.declared.answer.Taken.TheVariants.{Message}
-use Rattle.desk_words.specs.Openings.{ends_switch, features_told, status_told, phase_of, opening_of, ports_after, switch_of}
+use Rattle.desk_words.specs.Openings.{features_told, status_told, phase_of, opening_of, ports_after, switch_of}
 use Rattle.desk_words.specs.Histories.{is_slot, settings_at, own_ports, own_features, side_start, side_of, view_of, is_open, is_slice_up}
 use Rattle.desk_words.specs.Sent.{sent_by, sent, lane_by}
 use Rattle.desk_words.specs.Verdicts.{is_fresh, is_ended, is_over, is_switch_up, closes}
@@ -34,10 +35,10 @@ use Rattle.desk_words.specs.Reports.{sent_to_slice, told_over, Place, lane_lines
 abbrev pub has_begun : List Timed → Bool
 has_begun h = list_any (λ timed. is_switch_up timed.event) h
 
--- an event of the switch that ends its connection: it is gone, or sent a message of a bad length
+-- an event of the switch that ends its connection: it is gone, or sent a message whose length field doesn't even count the header (OpenFlow 1.0.0, section 5.1)
 abbrev pub is_last : Event → Bool
 is_last SwitchDown = true
-is_last (SwitchMsg message) = ends_switch message
+is_last (SwitchMsg message) = is_bad message
 is_last event = false
 
 -- after the switch connected such an event came

@@ -8,7 +8,7 @@ use Rattle.of10_port.specs.declared.status.PortStatus.{PortStatus}
 use Rattle.of10_message.specs.declared.fault.Unread.{Unread}
 use Rattle.of10_message.specs.Heads.{xid_of}
 use Rattle.of10_switch.specs.Messages.{SwitchMessage, read_switch, has_bad_length}
-use Rattle.of10_switch.proofs.Cases.{bad_read}
+use Rattle.of10_switch.proofs.Cases.{bad_read, bad_length-read}
 use Rattle.flowspace.specs.Policies.{PolicyView}
 use Rattle.port_view.specs.declared.answer.Kept.{Kept as Answer}
 use Rattle.port_view.specs.declared.answer.Kept.TheVariants.{Kept as IsKept, Ignored, TooManyPorts}
@@ -256,7 +256,7 @@ pub carried_out : (moment : ℕ) (message : List ℕ) (old new : Session) (lane 
     → CarriedOut p switch sides qs moment message true old lane new new_lane
 carried_out moment message old new lane new_lane rooms p switch sides qs d open_ numbered s dispatched goes policy features count stand ports same handed more =
     let is = dispatched p switch sides moment (surrounds p switch sides qs old s open_) (all_stand p switch sides qs old s) numbered in (
-      sym is.close ∙ goes,
+      bad_length-read message ∙ sym is.close ∙ goes,
       carried_session p switch sides qs moment message old new rooms s open_ policy features count (stand (all_stand p switch sides qs old s) is.changes) (ports ∙ ap (λ (t : Option PortStatus). kept_by t old.ports) is.port) same
           (subst (λ (m : List (ℕ × List ℕ)). AreHanded m rooms new.queues.items) is.to_slices handed),
       subst (λ (m : List (List ℕ)). HasMore m lane new_lane) is.to_switch more,
@@ -266,7 +266,7 @@ pub closed_bad : (moment : ℕ) (message : List ℕ) (old : Session) (p : Policy
     → ((p : PolicyView) (switch : KnownSwitch) (sides : ℕ → Side) (moment : ℕ) → Surrounds p switch old.policy old.ports → AllStand p switch sides old.states.items → AllNumbered p switch sides → IsDispatch p switch sides moment message d)
     → d.close ≡ true → ends_switch message ≡ true
 closed_bad moment message old p switch sides qs d open_ numbered s dispatched goes =
-    sym (dispatched p switch sides moment (surrounds p switch sides qs old s open_) (all_stand p switch sides qs old s) numbered).close ∙ goes
+    bad_length-read message ∙ sym (dispatched p switch sides moment (surrounds p switch sides qs old s open_) (all_stand p switch sides qs old s) numbered).close ∙ goes
 
 -- ---- the desk hands a message on
 

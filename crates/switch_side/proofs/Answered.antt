@@ -5,6 +5,7 @@ use Rattle.of10_message.specs.Heads.{xid_of}
 use Rattle.of10_switch.specs.Messages as says
 use Rattle.of10_switch.specs.Messages.{SwitchMessage, read_switch}
 use Rattle.of10_switch.specs.Ranges.{IsSaid}
+use Rattle.of10_switch.proofs.Cases.{bad_length-read}
 use Rattle.flowspace.specs.declared.rules.Rule.{Rule}
 use Rattle.flowspace.specs.declared.slices.Slice.{Slice}
 use Rattle.flowspace.specs.Policies.{PolicyView, SwitchView, IsSwitchPolicy}
@@ -96,5 +97,5 @@ dispatched p switch sides moment policy ports states message d same valid right 
           (sym (ap (λ (c : Carried). c.changes) is ∙ ap (λ (rules : List Rule). message_changes (called_at p switch sides) rules states (xid_of message) (read_switch message)) around.rules))
           follow.1;
       port = ap (λ (c : Carried). c.status) is ∙ ap (λ known. status_kept known message) around.known;
-      close = ap (λ (c : Carried). c.ends) is;
+      close = ap (λ (c : Carried). c.ends) is ∙ bad_length-read message;
     }

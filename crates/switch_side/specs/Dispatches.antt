@@ -1,5 +1,6 @@
 -- What follows from one message of a switch that has told what it is, for all slices at once (this proxy's own rule).
 use Rattle.std.specs.Prelude.{ℕ, ◌≡◌, ◌+◌, true, List, [], ◌∷◌, ◌++◌, map, slice_get, Some}
+use Rattle.of10_ctl.specs.Frames.{is_bad}
 use Rattle.flowspace.specs.declared.slices.Slice.{Slice}
 use Rattle.flowspace.specs.Policies.{PolicyView, SwitchView}
 use Rattle.flow_book.specs.declared.state.SliceState.{SliceState}
@@ -7,7 +8,7 @@ use Rattle.slice_words.specs.Standing.{SliceStands}
 use Rattle.desk_words.specs.declared.event.Event.TheVariants.{SwitchMsg}
 use Rattle.desk_words.specs.declared.event.Timed.{Timed}
 use Rattle.desk_words.specs.declared.phase.Phase.TheVariants.{Opened}
-use Rattle.desk_words.specs.Openings.{ends_switch, status_kept, rules_of, KnownSwitch}
+use Rattle.desk_words.specs.Openings.{status_kept, rules_of, KnownSwitch}
 use Rattle.desk_words.specs.Histories.{is_slot, settings_at, items_of, number_told, Side}
 use Rattle.desk_words.specs.Numbers.{AreNumbered}
 use Rattle.desk_words.specs.Sent.{sent_with, echo_for}
@@ -54,10 +55,10 @@ abbrev pub AreChanges : PolicyView → KnownSwitch → (ℕ → Side) → ℕ �
 AreChanges p switch sides moment message listed =
     (slot : ℕ) → SlotChanges (settings_at p slot switch.features) (number_told switch.phase (SwitchMsg message)) (sides slot).sight (items_of p slot switch (sides slot) (told_at moment message)) (changes_for slot listed)
 
--- what follows from a message of the switch: what each slice is sent, what the switch is sent, what changes in the slices' states, the change of a port, and whether the switch's connection ends
+-- what follows from a message of the switch: what each slice is sent, what the switch is sent, what changes in the slices' states, the change of a port, and whether the switch's connection ends, as it does at a length field that doesn't even count the header
 pub record IsDispatch (p : PolicyView) (switch : KnownSwitch) (sides : ℕ → Side) (moment : ℕ) (message : List ℕ) (d : Dispatch) : Type 0 where
   pub to_slices : d.to_slices.items ≡ sent_to_all p switch sides (told_at moment message) 0 p.slices
   pub to_switch : d.to_switch.items ≡ echo_for message
   pub changes : AreChanges p switch sides moment message d.changes.items
   pub port : d.port ≡ status_kept switch.known message
-  pub close : d.close ≡ ends_switch message
+  pub close : d.close ≡ is_bad message
