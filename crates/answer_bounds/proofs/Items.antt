@@ -169,14 +169,14 @@ opening_few policy slot view (Some features) = one_item view (items.Opened (own_
 
 -- little is sent for the items, and unless they are statistics at most two messages
 pub record AreAnswered (statistics : Bool) (s : Settings) (view shown : List Item) : Type 0 where
-  pub small : AreSmall 1048588 (sent_for s view shown)
+  pub small : AreSmall 524492 (sent_for s view shown)
   pub few : statistics ≡ false → AreFew 2 (sent_for s view shown)
   pub whole : All IsWholeEntry shown
 
 answered_few : (statistics : Bool) (s : Settings) (view shown : List Item) → AreFewItems view shown → AreAnswered statistics s view shown
 answered_few statistics s view shown are =
     let few = few-more (speaking shown) 2 (sent_for s view shown) are.few (sent_size s view shown are.bounded) in
-    record { small = small-few 2 1048588 (sent_for s view shown) (omega arith) few; few = λ plain. few; whole = are.whole }
+    record { small = small-few 2 524492 (sent_for s view shown) (omega arith) few; few = λ plain. few; whole = are.whole }
 
 answered_statistics : (statistics : Bool) (s : Settings) (view shown : List Item) → statistics ≡ true → AreReplied s view shown → AreAnswered statistics s view shown
 answered_statistics statistics s view shown is are = record { small = are.small; few = λ plain. absurd (true≢false (sym is ∙ plain)); whole = are.whole }

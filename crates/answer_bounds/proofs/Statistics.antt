@@ -1,4 +1,4 @@
--- What statistics show a slice, and that the replies to it are at most 1,048,588 bytes.
+-- What statistics show a slice, and that the replies to it are at most 524,492 bytes.
 use Rattle.std.proofs.Common.{◌≡◌, ℕ, ◌%◌, ◌^◌, ◌&&◌, ◌≤◌, Bool, true, false, if◌then◌else◌, List, [], ◌∷◌, ◌++◌, length, map, drop, append-nil, ltb, refl, Option, Some, None, IfOk, inl, inr, arith}
 use Rattle.std.specs.List.{All}
 use Rattle.std.proofs.lemmas.Bool.{cases_Bool}
@@ -18,7 +18,7 @@ use Rattle.stats_filter.specs.Replies.{page_size, replies_for, sum_reply}
 use Rattle.stats_filter.specs.Laws.{FitPages as FitPages}
 use Rattle.stats_filter.proofs.Rows.{AreInFront-entries_in}
 use Rattle.stats_filter.proofs.Coming.{small_entries}
-use Rattle.stats_filter.proofs.Replying.{size-replies_for, short-replies_for}
+use Rattle.stats_filter.proofs.Replying.{size-replies_for, full-replies_for, short-replies_for}
 use Rattle.slice_words.specs.Items.{Settings, own_rules, Item, Entry, Last, is_up}
 use Rattle.slice_words.specs.Pasts.{Answer, no_answer}
 use Rattle.slice_words.specs.Statistics.{collects, collected_replies, statistics_told}
@@ -32,13 +32,14 @@ use Rattle.answer_bounds.proofs.Messages.{IsShort, few-one, small-none, small-fe
 
 -- ---- the replies to one request
 
-replies_small : (asked : AskKind) (entries : List ℕ) (xid : ℕ) → length entries ≤ 524288 → ((kind : ℕ) → type_sent asked ≡ Some kind → FitPages (entries_in kind entries)) → AreSmall 1048588 (replies_for asked entries xid)
+replies_small : (asked : AskKind) (entries : List ℕ) (xid : ℕ) → length entries ≤ 524288 → ((kind : ℕ) → type_sent asked ≡ Some kind → FitPages (entries_in kind entries)) → AreSmall 524492 (replies_for asked entries xid)
 replies_small asked entries xid within fit =
     let size = size-replies_for asked entries xid in
+    let full = full-replies_for asked entries xid in
     record { small = omega arith; short = short-replies_for asked entries xid fit }
 
-collected_small : (asked : AskKind) (g : Gathered) (xid : ℕ) → length g.entries ≤ 524288 → ((kind : ℕ) → type_sent asked ≡ Some kind → FitPages (entries_in kind g.entries)) → AreSmall 1048588 (collected_replies asked g xid)
-collected_small kinds.Aggregate g xid within fit = small-few 1 1048588 (sum_reply g.packets g.bytes g.flows xid ∷ []) (omega arith) (few-one _ (short-sums g.packets g.bytes g.flows xid))
+collected_small : (asked : AskKind) (g : Gathered) (xid : ℕ) → length g.entries ≤ 524288 → ((kind : ℕ) → type_sent asked ≡ Some kind → FitPages (entries_in kind g.entries)) → AreSmall 524492 (collected_replies asked g xid)
+collected_small kinds.Aggregate g xid within fit = small-few 1 524492 (sum_reply g.packets g.bytes g.flows xid ∷ []) (omega arith) (few-one _ (short-sums g.packets g.bytes g.flows xid))
 collected_small kinds.FlowMod g xid within fit = replies_small kinds.FlowMod g.entries xid within fit
 collected_small kinds.PacketOut g xid within fit = replies_small kinds.PacketOut g.entries xid within fit
 collected_small kinds.Barrier g xid within fit = replies_small kinds.Barrier g.entries xid within fit
@@ -54,27 +55,27 @@ unfolding gathered
 within_limit number calls = (IsLongestRun-kept (added number (since number calls))).within
 
 told_small : (s : Settings) (view : List Item) (x kind : ℕ) (request : Option Issued) → request_for s x (request_calls s (past_of s view)) ≡ request → All IsWholeEntry view
-    → AreSmall 1048588 (statistics_told request kind (collection_calls s (past_of s view)))
-told_small s view x kind None is whole = small-none 1048588
+    → AreSmall 524492 (statistics_told request kind (collection_calls s (past_of s view)))
+told_small s view x kind None is whole = small-none 524492
 told_small s view x kind (Some request) is whole =
     let calls = collection_calls s (past_of s view) in
-    either (AreSmall 1048588) (collects request kind calls) _ _
+    either (AreSmall 524492) (collects request kind calls) _ _
     (collected_small request.asked.kind (gathered request.number calls) request.asked.xid (within_limit request.number calls) (λ sent asked. fit-gathered s view x request sent whole is asked))
-    (small-none 1048588)
+    (small-none 524492)
 
-last_small : (s : Settings) (view : List Item) (x kind : ℕ) → All IsWholeEntry view → AreSmall 1048588 (answer_to s view (Last x kind)).to_slice
+last_small : (s : Settings) (view : List Item) (x kind : ℕ) → All IsWholeEntry view → AreSmall 524492 (answer_to s view (Last x kind)).to_slice
 last_small s view x kind whole =
-    either (λ (a : Answer). AreSmall 1048588 a.to_slice) (is_up view) _ _ (told_small s view x kind (request_for s x (request_calls s (past_of s view))) refl whole) (small-none 1048588)
+    either (λ (a : Answer). AreSmall 524492 a.to_slice) (is_up view) _ _ (told_small s view x kind (request_for s x (request_calls s (past_of s view))) refl whole) (small-none 524492)
 
 -- ---- what one part shows
 
 -- the items are whole entries, and little is sent for them
 pub record AreReplied (s : Settings) (view shown : List Item) : Type 0 where
-  pub small : AreSmall 1048588 (sent_for s view shown)
+  pub small : AreSmall 524492 (sent_for s view shown)
   pub whole : All IsWholeEntry shown
 
 no_items : (s : Settings) (view : List Item) → AreReplied s view []
-no_items s view = record { small = small-none 1048588; whole = All-nil IsWholeEntry }
+no_items s view = record { small = small-none 524492; whole = All-nil IsWholeEntry }
 
 end_replied : (s : Settings) (view : List Item) (more : Bool) (x kind : ℕ) → All IsWholeEntry view → AreReplied s view (if more then [] else Last x kind ∷ [])
 end_replied s view true x kind whole = no_items s view

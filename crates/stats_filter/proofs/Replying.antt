@@ -144,6 +144,22 @@ count_placed filled (entry ∷ entries) =
           omega (arith, is, others)
     ]
 
+-- a page that begins and the one before it have together more bytes than a page may
+count_full : (filled : ℕ) (entries : List (List ℕ)) → 65524 * length (paged filled entries).1 ≤ filled + 2 * length (concat entries)
+count_full filled [] = let none = ap (λ (p : List ℕ × List (List ℕ)). length p.1) (placed_none filled) in omega (arith, none)
+count_full filled (entry ∷ entries) =
+    let joined = length-append entry (concat entries) in
+    elim (cases_lt page_size (filled + length entry)) [
+      | inl over ↦
+          let is = ap (λ (p : List ℕ × List (List ℕ)). length p.1) (placed_next filled entry entries over) in
+          let others = count_full (length entry) entries in
+          omega (arith, is, others, joined, over)
+      | inr fits ↦
+          let is = ap (λ (p : List ℕ × List (List ℕ)). length p.1) (placed_here filled entry entries fits) in
+          let others = count_full (filled + length entry) entries in
+          omega (arith, is, others, joined)
+    ]
+
 concat_rows : (rows : List (List (List ℕ))) → concat (map concat rows) ≡ concat (flat_map (λ row. row) rows)
 concat_rows [] = refl
 concat_rows (row ∷ later) = ap (λ bytes. concat row ++ bytes) (concat_rows later) ∙ sym (concat-append row (flat_map (λ next. next) later))
@@ -155,16 +171,25 @@ concat-pages entries =
     let joined : map concat (rows.row ∷ rows.later) ≡ pages entries = ap₂ (λ (a : List ℕ) (b : List (List ℕ)). a ∷ b) rows.here rows.behind in
     ap concat (sym joined) ∙ concat_rows (rows.row ∷ rows.later) ∙ ap concat rows.order
 
--- the replies have together no more bytes than their entries twice, and one head
-pub size-replies_of : (kind xid : ℕ) (bytes : List ℕ) → sum_by length (replies_of kind bytes xid) ≤ 2 * length bytes + 12
+-- the replies have together no more bytes than their entries, and a head each
+pub size-replies_of : (kind xid : ℕ) (bytes : List ℕ) → sum_by length (replies_of kind bytes xid) ≤ length bytes + 12 * length (replies_of kind bytes xid)
 unfolding replies_of
 size-replies_of kind xid bytes =
     let entries = entries_in kind bytes in
     let heads = size_replies kind xid (pages entries) in
+    let same = count_replies kind xid (pages entries) in
     let joined = ap length (concat-pages entries) in
-    let few = count_placed 0 entries in
     let within = bytes_of_entries kind bytes in
-    let count = count_of_entries kind bytes in
+    omega arith
+
+-- two that follow each other have more bytes of entries than one page
+pub full-replies_of : (kind xid : ℕ) (bytes : List ℕ) → 65524 * length (replies_of kind bytes xid) ≤ 2 * length bytes + 65524
+unfolding replies_of
+full-replies_of kind xid bytes =
+    let entries = entries_in kind bytes in
+    let same = count_replies kind xid (pages entries) in
+    let full = count_full 0 entries in
+    let within = bytes_of_entries kind bytes in
     omega arith
 
 -- there are at most as many as entries, and one more
@@ -184,12 +209,19 @@ short-replies_of kind xid bytes small = short_replies kind xid (pages (entries_i
 
 -- ---- the same by the kind of the request
 
-pub size-replies_for : (asked : AskKind) (bytes : List ℕ) (xid : ℕ) → sum_by length (replies_for asked bytes xid) ≤ 2 * length bytes + 12
+pub size-replies_for : (asked : AskKind) (bytes : List ℕ) (xid : ℕ) → sum_by length (replies_for asked bytes xid) ≤ length bytes + 12 * length (replies_for asked bytes xid)
 size-replies_for asked bytes xid = by_type (type_sent asked) refl
   where
-    by_type : (o : Option ℕ) → type_sent asked ≡ o → sum_by length (replies_for asked bytes xid) ≤ 2 * length bytes + 12
+    by_type : (o : Option ℕ) → type_sent asked ≡ o → sum_by length (replies_for asked bytes xid) ≤ length bytes + 12 * length (replies_for asked bytes xid)
     by_type None e = rw (e, replies_for) (omega arith)
     by_type (Some kind) e = rw (replies_for-type_sent asked kind xid bytes (sym e)) (size-replies_of kind xid bytes)
+
+pub full-replies_for : (asked : AskKind) (bytes : List ℕ) (xid : ℕ) → 65524 * length (replies_for asked bytes xid) ≤ 2 * length bytes + 65524
+full-replies_for asked bytes xid = by_type (type_sent asked) refl
+  where
+    by_type : (o : Option ℕ) → type_sent asked ≡ o → 65524 * length (replies_for asked bytes xid) ≤ 2 * length bytes + 65524
+    by_type None e = rw (e, replies_for) (omega arith)
+    by_type (Some kind) e = rw (replies_for-type_sent asked kind xid bytes (sym e)) (full-replies_of kind xid bytes)
 
 pub short-replies_for : (asked : AskKind) (bytes : List ℕ) (xid : ℕ) → ((kind : ℕ) → type_sent asked ≡ Some kind → FitPages (entries_in kind bytes)) → All (λ reply. length reply ≤ 65535) (replies_for asked bytes xid)
 short-replies_for asked bytes xid small = by_type (type_sent asked) refl
