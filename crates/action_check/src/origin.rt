@@ -7,7 +7,7 @@ use of10_action::Action;
 use of10_match::{Header12, Match};
 
 /// What a list of actions is applied to. As the list is walked it is the image of that so far.
-#[derive(Clone, Copy, Debug, PartialEq, Eq)]
+#[derive(Clone, Copy, PartialEq, Eq)]
 pub enum Origin {
     /// A flow-mod's match, as far as one write rule of the slice has it.
     Piece(Match),

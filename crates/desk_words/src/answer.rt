@@ -21,7 +21,7 @@ pub enum Verdict {
 }
 
 /// What is there to be sent.
-#[derive(Debug, Drop)]
+#[derive(Drop)]
 pub enum Taken {
     /// The oldest message.
     Message(Frame),

@@ -2,7 +2,7 @@ use of10_ctl::Frame;
 
 /// What happens at a desk: connections come and go, and messages come in on them. A slice is named by its
 /// slot, its place in the policy from 0.
-#[derive(Debug, Drop)]
+#[derive(Drop)]
 pub enum Event {
     /// The switch connected.
     SwitchUp,
@@ -19,7 +19,7 @@ pub enum Event {
 }
 
 /// An event and when it came.
-#[derive(Debug, Drop)]
+#[derive(Drop)]
 pub struct Timed {
     /// What happened.
     pub event: Event,

@@ -1,5 +1,5 @@
 /// How far the switch's connection is.
-#[derive(Clone, Copy, Debug, PartialEq, Eq)]
+#[derive(Clone, Copy, PartialEq, Eq)]
 pub enum Phase {
     /// The switch hasn't connected.
     Fresh,

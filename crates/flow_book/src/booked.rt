@@ -1,7 +1,7 @@
 use of10_match::Match;
 
 /// A pair of a match and a priority that a slice's flow-mods asked a switch to keep.
-#[derive(Clone, Copy, Debug, PartialEq, Eq)]
+#[derive(Clone, Copy, PartialEq, Eq)]
 pub struct Booked {
     pub pattern: Match,
     pub priority: u16,

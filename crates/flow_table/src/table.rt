@@ -12,7 +12,7 @@ use std::alloc::{AllocError, Global};
 use std::marker::Model;
 
 /// What became of a flow-mod that was given to a table.
-#[derive(Clone, Copy, Debug, PartialEq, Eq)]
+#[derive(Clone, Copy, PartialEq, Eq)]
 pub enum Applied {
     Done,
     /// It is an ADD with CHECK_OVERLAP, and an entry of its priority shares a header with it (OpenFlow

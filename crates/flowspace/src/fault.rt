@@ -1,3 +1,5 @@
+use std::fmt;
+
 /// What a policy has too many of.
 #[derive(Clone, Copy, Debug, PartialEq, Eq)]
 pub enum What {
@@ -8,7 +10,7 @@ pub enum What {
 }
 
 /// A part of a rule: its readers, or one of the twelve fields of its match.
-#[derive(Clone, Copy, Debug, PartialEq, Eq)]
+#[derive(Clone, Copy, PartialEq, Eq)]
 pub enum Field {
     Read,
     InPort,
@@ -23,6 +25,30 @@ pub enum Field {
     NwDst,
     TpSrc,
     TpDst,
+}
+
+/// The names of the fields, in their order.
+const FIELD_NAMES: [&str; 13] = [
+    "Read",
+    "InPort",
+    "DlSrc",
+    "DlDst",
+    "DlVlan",
+    "DlVlanPcp",
+    "DlType",
+    "NwTos",
+    "NwProto",
+    "NwSrc",
+    "NwDst",
+    "TpSrc",
+    "TpDst",
+];
+
+// By a table: of a derived one the proof takes half a minute.
+impl fmt::Debug for Field {
+    fn fmt<W: fmt::Write>(&self, f: &mut fmt::Formatter<W>) -> fmt::Result {
+        f.write_str(FIELD_NAMES.get(*self as usize).copied().unwrap_or(""))
+    }
 }
 
 /// Why a policy isn't accepted. Slices and rules are named by their place in the policy, from 0.

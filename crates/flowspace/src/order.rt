@@ -9,7 +9,7 @@ use std::alloc::{AllocError, Global};
 use std::cmp::Reverse;
 
 /// A rule with its place in the file, from 0.
-#[derive(Clone, Copy, Debug)]
+#[derive(Clone, Copy)]
 pub(crate) struct FiledRule {
     pub(crate) place: u64,
     pub(crate) rule: Rule,

@@ -15,7 +15,7 @@ use std::alloc::{AllocError, Global};
 use std::marker::Model;
 
 /// An accepted policy.
-#[derive(Debug, Drop)]
+#[derive(Drop)]
 pub struct Policy {
     slices: Vec<Slice>,
     rules: Vec<Rule>,

@@ -7,7 +7,7 @@ use crate::text::Text;
 use std::alloc::{AllocError, Global};
 
 /// A slice of the network: one controller's share.
-#[derive(Debug, Drop)]
+#[derive(Drop)]
 pub struct Slice {
     /// 1 to 32 letters a to z, digits, `_` and `-`.
     pub name: Text,

@@ -15,7 +15,7 @@ use std::alloc::{AllocError, Global};
 use std::marker::Model;
 
 /// A policy as it holds on one switch.
-#[derive(Debug, Drop)]
+#[derive(Drop)]
 pub struct SwitchPolicy {
     slices: Vec<Slice>,
     rules: Vec<Rule>,

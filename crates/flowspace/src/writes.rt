@@ -15,7 +15,7 @@ use std::alloc::{AllocError, Global};
 use std::collections::BTreeSet;
 
 /// The ports from which the rules of a slice take packets.
-#[derive(Debug, Drop)]
+#[derive(Drop)]
 pub(crate) enum EntryPorts {
     /// A rule leaves the port free.
     Every,
@@ -24,7 +24,7 @@ pub(crate) enum EntryPorts {
 }
 
 /// What a slice writes on a switch.
-#[derive(Debug, Drop)]
+#[derive(Drop)]
 pub(crate) struct SliceWrites {
     /// The places of the slice's write rules, in rule order.
     pub(crate) places: Vec<u16>,

@@ -10,7 +10,7 @@ use policy_text::ReadFault;
 use recording::RecordingFault;
 
 /// How a call of the program ends.
-#[derive(Debug, Drop)]
+#[derive(Drop)]
 pub enum Ending {
     /// All was done.
     Done,

@@ -4,7 +4,7 @@ ghost use Rattle.fv_report.specs.declared.fault.ReportFault.TheVariants.{Memory}
 use std::alloc::AllocError;
 
 /// Why a report isn't whole.
-#[derive(Clone, Copy, Debug, PartialEq, Eq)]
+#[derive(Clone, Copy, PartialEq, Eq)]
 pub enum ReportFault {
     /// The sink failed.
     WriteFault,

@@ -15,7 +15,7 @@ pub struct DeskObject {
 }
 
 /// What a desk is asked in one turn.
-#[derive(Debug, Drop)]
+#[derive(Drop)]
 pub enum DeskOp {
     /// To take in an event.
     Step(Timed),
@@ -24,7 +24,7 @@ pub enum DeskOp {
 }
 
 /// What it answers in one turn.
-#[derive(Debug, Drop)]
+#[derive(Drop)]
 pub enum DeskReply {
     /// What becomes of the connection that the event came from; or memory ran out.
     Stepped(Result<Verdict, AllocError>),

@@ -12,7 +12,7 @@ use of10_model::wire::{put_u16, u16_at};
 use std::alloc::{AllocError, Global};
 
 /// How a switch is set (OpenFlow 1.0.0, section 5.3.2).
-#[derive(Clone, Copy, Debug, PartialEq, Eq)]
+#[derive(Clone, Copy, PartialEq, Eq)]
 pub struct SwitchConfig {
     /// How fragments are handled: 0 as usual.
     pub flags: u16,

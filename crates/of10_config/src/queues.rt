@@ -13,7 +13,7 @@ use of10_model::wire::{put_u16, u16_at};
 use std::alloc::{AllocError, Global};
 
 /// A question for the queues of a port.
-#[derive(Clone, Copy, Debug, PartialEq, Eq)]
+#[derive(Clone, Copy, PartialEq, Eq)]
 pub struct QueuesQuestion {
     /// The port whose queues are asked for.
     pub port: u16,
@@ -41,7 +41,7 @@ impl QueuesQuestion {
 }
 
 /// A reply to a question for the queues of a port, where it lies: nothing is copied.
-#[derive(Clone, Copy, Debug)]
+#[derive(Clone, Copy)]
 pub struct QueuesView<'a> {
     /// The port whose queues are told of.
     pub port: u16,

@@ -36,7 +36,7 @@ fn first_size(bytes: &[u8]) -> Option<usize>
 }
 
 /// Cuts a stream into frames, in whatever pieces its bytes come.
-#[derive(Debug, Drop)]
+#[derive(Drop)]
 pub struct Framer {
     alloc: Global,
     bytes: Vec<u8>,

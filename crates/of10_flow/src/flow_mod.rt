@@ -41,7 +41,7 @@ pub struct FlowMod {
 }
 
 /// The same with its match and its actions where they lie: nothing is copied.
-#[derive(Clone, Copy, Debug)]
+#[derive(Clone, Copy)]
 pub struct FlowModView<'a> {
     pub xid: u32,
     pub pattern: &'a Match,

@@ -29,7 +29,7 @@ pub struct PacketIn {
 }
 
 /// The same with its payload where it lies, as in the frame that carries it: nothing is copied.
-#[derive(Clone, Copy, Debug)]
+#[derive(Clone, Copy)]
 pub struct PacketInView<'a> {
     pub xid: u32,
     /// The buffer that holds the packet (buffer_id), or `protocol::NO_BUFFER`.

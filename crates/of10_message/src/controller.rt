@@ -3,7 +3,7 @@ use of10_flow::{FlowMod, PacketOut};
 use of10_stats::StatsRequest;
 
 /// A message that a controller sends (OpenFlow 1.0.0, section 5), but for its head.
-#[derive(Debug, Drop)]
+#[derive(Drop)]
 pub enum FromController {
     /// Section 5.5; any version but 0.
     Hello,

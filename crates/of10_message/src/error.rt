@@ -13,7 +13,7 @@ use of10_match::Match;
 use of10_model::wire::{u8_at, u16_at, u32_at};
 
 /// An error, with the message at fault where it lies: nothing is copied.
-#[derive(Clone, Copy, Debug)]
+#[derive(Clone, Copy)]
 pub struct ErrorView<'a> {
     /// What kind of fault it is, such as `of10_action::error::FLOW_MOD_FAILED`.
     pub class: u16,

@@ -1,7 +1,7 @@
 use of10_action::WireFault;
 
 /// What is wrong with a controller's message.
-#[derive(Clone, Copy, Debug, PartialEq, Eq)]
+#[derive(Clone, Copy, PartialEq, Eq)]
 pub enum Unread {
     /// Its length field doesn't count its header (OpenFlow 1.0.0, section 5.1).
     BadLength,
@@ -16,7 +16,7 @@ pub enum Unread {
 }
 
 /// Why no message was read.
-#[derive(Clone, Copy, Debug, PartialEq, Eq)]
+#[derive(Clone, Copy, PartialEq, Eq)]
 pub enum MessageFault {
     /// It is wrong.
     Unread(Unread),

@@ -15,7 +15,7 @@ use of10_port::{Features, Port, Ports, has_whole_ports};
 use std::alloc::{AllocError, Global};
 
 /// What a switch says of itself (OpenFlow 1.0.0, section 5.3.1), its ports where they lie: nothing is copied.
-#[derive(Clone, Copy, Debug)]
+#[derive(Clone, Copy)]
 pub struct FeaturesView<'a> {
     /// The number of the switch's datapath.
     pub datapath: u64,

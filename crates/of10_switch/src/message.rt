@@ -6,7 +6,7 @@ use of10_port::PortStatus;
 use of10_stats::StatsPart;
 
 /// A message that a switch sends (OpenFlow 1.0.0, section 5), but for its head, where it lies.
-#[derive(Clone, Copy, Debug)]
+#[derive(Clone, Copy)]
 pub enum FromSwitch<'a> {
     /// Section 5.5; any version but 0.
     Hello,

@@ -12,7 +12,7 @@ use std::alloc::{AllocError, Global};
 use std::collections::BTreeMap;
 
 /// Patterns of one shape.
-#[derive(Debug, Drop)]
+#[derive(Drop)]
 pub(crate) struct Group {
     shape: Shape,
     /// The least place of the patterns that have these constraints.

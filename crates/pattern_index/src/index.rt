@@ -6,7 +6,7 @@ use of10_model::Pattern;
 use std::alloc::{AllocError, Global};
 
 /// Patterns, each with a place, for look-ups.
-#[derive(Debug, Drop)]
+#[derive(Drop)]
 pub struct PatternIndex {
     groups: Vec<Group>,
 }

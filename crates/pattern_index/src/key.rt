@@ -9,7 +9,7 @@ use of10_model::{Pattern, Prefix};
 /// The constraints of a match on the fields of a shape: none on the other fields, and of a network address
 /// the leading bits that the shape has.
 // The fields in which patterns of one slice differ most often come first, so that keys are told apart early.
-#[derive(Clone, Copy, Debug, PartialEq, Eq, PartialOrd, Ord, Drop)]
+#[derive(Clone, Copy, PartialEq, Eq, PartialOrd, Ord, Drop)]
 pub(crate) struct Key {
     pub(crate) nw_dst: Option<u64>,
     pub(crate) nw_src: Option<u64>,

@@ -7,7 +7,7 @@ use of10_model::{Pattern, Prefix};
 
 /// Which of the twelve fields a match constrains, as its wildcard word says (OpenFlow 1.0.0, section
 /// 5.2.3), and how many leading bits of each network address.
-#[derive(Clone, Copy, Debug, PartialEq, Eq)]
+#[derive(Clone, Copy, PartialEq, Eq)]
 pub(crate) struct Shape {
     pub(crate) in_port: bool,
     pub(crate) dl_src: bool,

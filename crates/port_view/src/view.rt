@@ -18,7 +18,7 @@ use std::alloc::{AllocError, Global};
 use std::marker::Model;
 
 /// The ports that a switch has told of, at most 1,364, in ascending order of their numbers.
-#[derive(Debug, Drop)]
+#[derive(Drop)]
 pub struct PortView {
     ports: Vec<Port>,
 }

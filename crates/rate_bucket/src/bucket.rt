@@ -5,7 +5,7 @@ use std::marker::Model;
 
 /// Says which questions keep a rate, with no rounding. Moments are in milliseconds and may go back: a
 /// question counts with the greatest moment asked up to it.
-#[derive(Debug, Drop)]
+#[derive(Drop)]
 pub struct RateBucket {
     rate: u32,
     burst: u32,

@@ -11,7 +11,7 @@ use std::alloc::{AllocError, Global};
 use std::marker::Model;
 
 /// The rules of a switch in rule order, for look-ups.
-#[derive(Debug, Drop)]
+#[derive(Drop)]
 pub struct RuleIndex {
     rules: Vec<Rule>,
     all: PatternIndex,

@@ -6,7 +6,7 @@ use of10_ctl::Frame;
 use std::alloc::{AllocError, Global};
 
 /// What follows from a message of a slice.
-#[derive(Debug, Drop)]
+#[derive(Drop)]
 pub struct Reaction {
     /// Messages to the slice, in order.
     pub to_slice: Vec<Frame>,

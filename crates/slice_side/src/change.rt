@@ -2,7 +2,7 @@ use of10_match::Match;
 use xid_map::Asked;
 
 /// A flow-mod that is sent on to the switch (OpenFlow 1.0.0, section 5.3.3).
-#[derive(Debug, Drop)]
+#[derive(Drop)]
 pub struct Modification {
     /// When it came, in milliseconds.
     pub moment: u64,
@@ -19,7 +19,7 @@ pub struct Modification {
 }
 
 /// What a message of a slice changes in the slice's state. Moments are milliseconds.
-#[derive(Debug, Drop)]
+#[derive(Drop)]
 pub enum Change {
     /// A message came.
     Heard {

@@ -30,7 +30,7 @@ use of10_match::Match;
 use std::alloc::{AllocError, Global};
 
 /// What becomes of a flow-mod.
-#[derive(Debug, Drop)]
+#[derive(Drop)]
 pub(crate) enum Outcome {
     /// It is refused with this class and code (OpenFlow 1.0.0, section 5.4.4).
     Refused(u16, u16),

@@ -44,7 +44,7 @@ const PACKET_OUT_FIELDS: u128 = 16;
 const MOST_BYTES: u128 = 65_535;
 
 /// What becomes of a packet-out.
-#[derive(Debug, Drop)]
+#[derive(Drop)]
 pub(crate) enum PacketOutcome {
     /// It is refused with this class and code (OpenFlow 1.0.0, section 5.4.4).
     Refused(u16, u16),

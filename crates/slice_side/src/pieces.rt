@@ -15,7 +15,7 @@ use of10_match::Match;
 use std::alloc::{AllocError, Global};
 
 /// What a slice may have of its actions for one piece or packet.
-#[derive(Debug, Drop)]
+#[derive(Drop)]
 pub(crate) enum Checked {
     /// This list.
     Given(Actions),
@@ -26,7 +26,7 @@ pub(crate) enum Checked {
 }
 
 /// What a slice may have of its actions for all pieces.
-#[derive(Debug, Drop)]
+#[derive(Drop)]
 pub(crate) enum Listing {
     /// One list for each piece.
     Given(Vec<Actions>),

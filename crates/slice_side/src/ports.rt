@@ -12,7 +12,7 @@ use of10_port::protocol::{ALL, FLOOD};
 use std::alloc::{AllocError, Global};
 
 /// The ports of a slice for which FLOOD and ALL stand, each where it is named.
-#[derive(Debug, Drop)]
+#[derive(Drop)]
 pub(crate) struct Floods {
     pub(crate) flood: Vec<u16>,
     pub(crate) all: Vec<u16>,

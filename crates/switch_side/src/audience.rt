@@ -14,7 +14,7 @@ use of10_match::Header12;
 use rule_index::RuleIndex;
 
 /// Whom a packet is for.
-#[derive(Clone, Copy, Debug)]
+#[derive(Clone, Copy)]
 pub(crate) enum Audience {
     /// The slice at this slot alone, whose mark it bears.
     Prober(u8),

@@ -3,7 +3,7 @@ use of10_match::{Header12, Match};
 use xid_map::AskKind;
 
 /// What a message of a switch changes in the state of a slice.
-#[derive(Debug, Drop)]
+#[derive(Drop)]
 pub enum Change {
     /// An entry is gone: its pair leaves the book.
     Released {

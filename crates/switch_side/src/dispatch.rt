@@ -8,7 +8,7 @@ use of10_port::PortStatus;
 use std::alloc::{AllocError, Global};
 
 /// What follows from one message of a switch.
-#[derive(Debug, Drop)]
+#[derive(Drop)]
 pub struct Dispatch {
     /// Messages for the slices, each with the slot of its slice, by ascending slot.
     pub to_slices: Vec<(u8, Frame)>,

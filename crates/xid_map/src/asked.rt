@@ -1,5 +1,5 @@
 /// What a request asks the switch for.
-#[derive(Clone, Copy, Debug, PartialEq, Eq)]
+#[derive(Clone, Copy, PartialEq, Eq)]
 pub enum AskKind {
     /// A change of the flow table (OpenFlow 1.0.0, section 5.3.3).
     FlowMod,
@@ -22,7 +22,7 @@ pub enum AskKind {
 }
 
 /// A message of the slice that is sent on to the switch.
-#[derive(Clone, Copy, Debug, PartialEq, Eq)]
+#[derive(Clone, Copy, PartialEq, Eq)]
 pub struct Asked {
     /// The slice's own transaction id.
     pub xid: u32,
@@ -36,7 +36,7 @@ pub struct Asked {
 }
 
 /// A request that was issued.
-#[derive(Clone, Copy, Debug, PartialEq, Eq)]
+#[derive(Clone, Copy, PartialEq, Eq)]
 pub struct Issued {
     /// How many requests were issued before it.
     pub number: u64,
