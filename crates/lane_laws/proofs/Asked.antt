@@ -81,7 +81,7 @@ asked_in_range (statistics.Queue port queue) asked is h = subst IsRequest (same_
 -- ---- what is sent
 
 -- the request that the switch is asked
-some_asked : (asked : Option StatsRequest) (xid : ℕ) (question : List ℕ) → option_map (λ sent. spell_request sent xid) asked ≡ Some question → (sent : StatsRequest) × (asked ≡ Some sent) × (question ≡ spell_request sent xid)
+pub some_asked : (asked : Option StatsRequest) (xid : ℕ) (question : List ℕ) → option_map (λ sent. spell_request sent xid) asked ≡ Some question → (sent : StatsRequest) × (asked ≡ Some sent) × (question ≡ spell_request sent xid)
 some_asked None xid question is = absurd cc
 some_asked (Some sent) xid question is = (sent, refl, cc)
 

@@ -11,6 +11,7 @@ use Rattle.of10_message.specs.declared.controller.FromController.{FromController
 use Rattle.of10_message.specs.declared.controller.FromController.TheVariants as said
 use Rattle.of10_message.specs.Heads.{xid_of}
 use Rattle.of10_message.specs.Controller.{read_controller}
+use Rattle.stats_filter.specs.Asking.{asked_as}
 use Rattle.stats_filter.specs.Replies.{table_reply}
 use Rattle.slice_words.specs.Messages.{Reading, asks_switch}
 use Rattle.slice_words.specs.Items.{Settings, Item}
@@ -23,7 +24,7 @@ use Rattle.slice_words.specs.Alone.{spell_question}
 use Rattle.slice_words.proofs.AnswerKinds.{message_holds}
 use Rattle.slice_side.specs.Checking.{IsQuestion}
 use Rattle.slice_side.proofs.Answering.{asked_answer}
-use Rattle.slice_side.proofs.Inquiring.{statistics_spelled}
+use Rattle.lane_laws.proofs.Asked.{some_asked}
 
 -- a message with which a slice may ask the switch something is to be sent on
 is_question : (g : Ground) (message question : List ℕ) (asked : FromController) → IsQuestion g asked question → asks_switch (Ok asked) ≡ true
@@ -53,7 +54,7 @@ IsAskedIn s view past message question asked =
 
 question_follows : (s : Settings) (view : List Item) (past : List Past) (message question : List ℕ) (asked : FromController) → IsQuestion (ground_of s view past) asked question → IsAskedIn s view past message question asked
 question_follows s view past message question (said.StatsRequest request) is =
-    let sent = statistics_spelled request (ground_of s view past).xid question is.1 in
+    let sent = some_asked (asked_as request) (ground_of s view past).xid question is.1 in
     (ForStatistics sent.0, sent.2, ap (λ (b : Bool). if b then statistics_asked (ground_of s view past) request message else refused not_permitted message) is.0 ∙ ap (by_asked (ground_of s view past) message) sent.1)
 question_follows s view past message question said.BarrierRequest is = (ForBarrier, is, refl)
 question_follows s view past message question (said.QueueGetConfigRequest queues) is =

@@ -1,5 +1,5 @@
 -- Each packet that a slice holds is the last that came under its number, was given to the slice as its writer, and has a header that the slice writes.
-use Rattle.std.proofs.Common.{◌≡◌, refl, sym, ap, ◌∙◌, subst, ℕ, ◌+◌, ◌==◌, ◌&&◌, ◌⊎◌, inl, inr, Bool, true, false, true≢false, if◌then◌else◌, List, [], ◌∷◌, ◌++◌, get_or, map, filter, Any, All, Option, Some, None, is_some, arith, Result, Ok}
+use Rattle.std.proofs.Common.{◌≡◌, refl, sym, ap, ◌∙◌, subst, ℕ, ◌+◌, ◌==◌, ◌&&◌, ◌⊎◌, inl, inr, Bool, true, false, true≢false, if◌then◌else◌, List, [], ◌∷◌, length, ◌++◌, get_or, map, filter, Any, All, Option, Some, None, is_some, arith, Result, Ok}
 use Rattle.std.specs.Prelude.{find, option_and_then}
 use Rattle.std.proofs.lemmas.Bool.{cases_Bool, or_right, cond-true, cond-false}
 use Rattle.std.proofs.lemmas.Bool.Decides.{eqb_tells}
