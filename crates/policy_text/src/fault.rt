@@ -9,7 +9,7 @@ use std::alloc::{AllocError, AllocFailed};
 use std::fmt;
 
 /// A kind of table in a policy text.
-#[derive(Clone, Copy, Debug, PartialEq, Eq)]
+#[derive(Clone, Copy, PartialEq, Eq)]
 pub enum Part {
     /// The whole text.
     Top,
@@ -18,7 +18,7 @@ pub enum Part {
 }
 
 /// A key of a table in a policy text.
-#[derive(Debug, Drop)]
+#[derive(Drop)]
 pub struct Place {
     pub part: Part,
     /// Which slice or rule it is, from 0; 0 for the whole text.
@@ -38,6 +38,12 @@ impl fmt::Display for Place {
             Part::Slice => write!(f, "slice.{index}.{key}"),
             Part::Rule => write!(f, "rule.{index}.{key}"),
         }
+    }
+}
+
+impl fmt::Debug for Place {
+    fn fmt<W: fmt::Write>(&self, f: &mut fmt::Formatter<W>) -> fmt::Result {
+        fmt::Display::fmt(self, f)
     }
 }
 
