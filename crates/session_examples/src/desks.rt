@@ -3,21 +3,19 @@
 ghost use Rattle.std.specs.Prelude.{◌≡◌, ◌<◌, vec_len};
 ghost use Rattle.turn_desk.specs.Seats.{IsSeatOf, SameDesk};
 
-use fv_live::{MemoryClock, MemorySource};
+use fv_live::MemoryClock;
 use live_session::{DeskObject, DeskOp, DeskReply, Dest, Event, Taken, Timed, Verdict};
-use of10_ctl::Frame;
-use samples::{bytes, frame};
+use samples::frame;
 use std::alloc::{AllocError, Global};
 use std::process::Abort;
 use std::sync::Wait;
-use std::test::Fail;
 use turn_desk::{TurnDesk, TurnSeat};
 
-// The features of a switch with one port, without the port's name and bits.
-const FEATURES: &str = "0106005000000001\
+/// The features of a switch with one port, without the port's name and bits.
+pub const FEATURES: &str = "0106005000000001\
 00000000000000a100000100010000000000000000000fff0001";
 
-const PORT_REST: &str =
+pub const PORT_REST: &str =
     "0000000000000000000000000000000000000000000000000000000000000000000000000000000000000000\
 0000";
 
@@ -29,68 +27,94 @@ pub const FIRST_VERSION: &str = "0000000800000000";
 /// What a controller is sent that comes, asks the question and sends that message.
 pub const TO_DISMISSED: &str = "010000080000000001030008000000050101000c0000000000000000";
 
-/// What becomes of the connection that an event comes from.
-pub fn step<R: Wait>(
+/// What a desk heard of its switch.
+#[derive(Clone, Copy)]
+pub enum Before {
+    Nothing,
+    /// It came and told what it is.
+    Opened,
+    /// It went after that.
+    Ended,
+}
+
+/// What there is for the switch.
+#[derive(Clone, Copy)]
+pub enum Found {
+    Message,
+    Ended,
+}
+
+/// What is expected of a test is so.
+pub fn expect(rt: &impl Abort, is_so: bool, what: &str) {
+    assert!(rt; is_so, "{what}");
+}
+
+// Whether the connection that an event comes from goes on.
+fn step<R: Wait>(
     rt: &R,
     desk: &TurnDesk<DeskObject>,
     seat: &mut TurnSeat<DeskObject>,
     event: Event,
-) -> Option<Verdict>
+) -> bool
     requires { IsSeatOf desk.now seat.old }
     ensures { SameDesk seat.new seat.old }
 {
-    match desk.submit(rt, seat, DeskOp::Step(Timed { event, moment: 0 })) {
-        Ok(DeskReply::Stepped(Ok(verdict))) => Some(verdict),
-        _ => None,
-    }
+    matches!(
+        desk.submit(rt, seat, DeskOp::Step(Timed { event, moment: 0 })),
+        Ok(DeskReply::Stepped(Ok(Verdict::Go)))
+    )
 }
 
-/// What is there to be sent.
-pub fn take<R: Wait>(
-    rt: &R,
-    desk: &TurnDesk<DeskObject>,
-    seat: &mut TurnSeat<DeskObject>,
-    dest: Dest,
-) -> Option<Taken>
-    requires { IsSeatOf desk.now seat.old }
-    ensures { SameDesk seat.new seat.old }
-{
-    match desk.submit(rt, seat, DeskOp::Take(dest)) {
-        Ok(DeskReply::Took(taken)) => Some(taken),
-        _ => None,
-    }
-}
-
-/// What the switch tells of itself.
-pub fn features(alloc: Global) -> Result<Frame, AllocError> {
-    frame(alloc, &[FEATURES, PORT_REST])
-}
-
-/// The switch comes and tells what it is.
-pub fn open<R: Wait + Abort>(
+// Whether the switch's connection goes on when it comes and tells what it is.
+fn open<R: Wait>(
     rt: &R,
     alloc: Global,
     desk: &TurnDesk<DeskObject>,
     seat: &mut TurnSeat<DeskObject>,
-) -> Result<(), Fail>
+) -> Result<bool, AllocError>
     requires { IsSeatOf desk.now seat.old }
     ensures { SameDesk seat.new seat.old }
 {
-    let told = features(alloc)?;
-    let up = step(rt, desk, seat, Event::SwitchUp);
-    assert_eq!(rt; up, Some(Verdict::Go));
-    let opened = step(rt, desk, seat, Event::SwitchMsg(told));
-    assert_eq!(rt; opened, Some(Verdict::Go));
-    Ok(())
+    let told = frame(alloc, &[FEATURES, PORT_REST])?;
+    let goes_on = step(rt, desk, seat, Event::SwitchUp);
+    Ok(step(rt, desk, seat, Event::SwitchMsg(told)) && goes_on)
 }
 
-/// A source of these bytes, in pieces of three.
-pub fn source(
+/// Whether the switch's connection goes on at each of these.
+pub fn hear<R: Wait>(
+    rt: &R,
     alloc: Global,
-    digits: &[&str],
-    failing: Vec<u64>,
-) -> Result<MemorySource, AllocError> {
-    Ok(MemorySource::new(bytes(alloc, digits)?, 3, failing))
+    desk: &TurnDesk<DeskObject>,
+    seat: &mut TurnSeat<DeskObject>,
+    before: Before,
+) -> Result<bool, AllocError>
+    requires { IsSeatOf desk.now seat.old }
+    ensures { SameDesk seat.new seat.old }
+{
+    match before {
+        Before::Nothing => Ok(true),
+        Before::Opened => open(rt, alloc, desk, seat),
+        Before::Ended => {
+            let goes_on = open(rt, alloc, desk, seat)?;
+            Ok(step(rt, desk, seat, Event::SwitchDown) && goes_on)
+        }
+    }
+}
+
+/// Whether that is there for the switch.
+pub fn finds<R: Wait>(
+    rt: &R,
+    desk: &TurnDesk<DeskObject>,
+    seat: &mut TurnSeat<DeskObject>,
+    found: Found,
+) -> bool
+    requires { IsSeatOf desk.now seat.old }
+{
+    match desk.submit(rt, seat, DeskOp::Take(Dest::Switch)) {
+        Ok(DeskReply::Took(Taken::Message(_))) => matches!(found, Found::Message),
+        Ok(DeskReply::Took(Taken::Ended)) => matches!(found, Found::Ended),
+        _ => false,
+    }
 }
 
 /// A clock that answers 10, 11 and so on up to 14.

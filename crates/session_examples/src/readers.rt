@@ -1,172 +1,119 @@
-use crate::desks::{ECHO, FIRST_VERSION, TO_DISMISSED, clock, features, open, source, step, take};
-use fv_base::MemorySink;
-use fv_live::{Clock, MemorySource};
-use live_samples::desk;
-use live_session::{
-    Dest, Event, OpenGate, ReaderEnd, Side, Taken, Verdict, WriterEnd, run_reader, run_writer,
-};
-use samples::bytes;
+use crate::connections::{Connection, Then, Writer, play};
+use crate::desks::{Before, ECHO, FEATURES, FIRST_VERSION, Found, PORT_REST, TO_DISMISSED};
+use live_session::{ReaderEnd, Side, WriterEnd};
 use std::test::Fail;
+
+const DISMISSED: Connection = Connection {
+    before: Before::Opened,
+    side: Side::Slice(0),
+    comes: &[ECHO, FIRST_VERSION, ECHO],
+    questions: 0,
+    most: 3,
+    failing: None,
+    calls: 100,
+    writer_calls: 100,
+    end: ReaderEnd::Dismissed,
+    left: 97,
+    now: 13,
+    then: Then::Writes(Writer {
+        most: usize::MAX,
+        failing: None,
+        end: WriterEnd::Ended,
+        left: 96,
+        sent: TO_DISMISSED,
+        size: 28,
+    }),
+};
 
 #[test]
 fn messages_are_asked_whatever_the_pieces_are(rt: HostRuntime) -> Result<(), Fail> {
-    let alloc = rt.alloc();
-    let (desk, mut seat, bells) = desk(alloc)?;
-    let mut reader = desk.split(&mut seat, 100);
-    let mut writer = desk.split(&mut seat, 100);
-    open(&rt, alloc, &desk, &mut seat)?;
-    let mut source = source(alloc, &[ECHO, FIRST_VERSION, ECHO], Vec::new(alloc))?;
-    let mut clock = clock(alloc)?;
-    let side = Side::Slice(0);
-    let end = run_reader(
-        &rt,
-        alloc,
-        &desk,
-        &mut reader,
-        &mut source,
-        side,
-        &mut clock,
-        &OpenGate,
-        &bells,
-    );
-    assert_eq!(rt; end, ReaderEnd::Dismissed);
-    assert_eq!(rt; reader.left(), 97);
-    assert_eq!(rt; clock.now(), 13);
-    let mut sink = MemorySink::new(alloc);
-    let dest = Dest::Slice(0);
-    let end = run_writer(&rt, alloc, &desk, &mut writer, &mut sink, dest, &bells);
-    assert_eq!(rt; end, WriterEnd::Ended);
-    assert_eq!(rt; sink.as_slice(), bytes(alloc, &[TO_DISMISSED])?.as_slice());
-    assert_eq!(rt; writer.left(), 96);
-    Ok(())
+    play(&rt, rt.alloc(), &DISMISSED)
 }
+
+/// The switch tells what it is, and breaks off within another message.
+const CLOSED: Connection = Connection {
+    before: Before::Nothing,
+    side: Side::Switch,
+    comes: &[FEATURES, PORT_REST, "010200"],
+    questions: 0,
+    most: 3,
+    failing: None,
+    calls: 100,
+    writer_calls: 0,
+    end: ReaderEnd::Closed,
+    left: 97,
+    now: 13,
+    then: Then::Finds(Found::Ended),
+};
 
 #[test]
 fn source_that_is_closed_takes_the_switch_down(rt: HostRuntime) -> Result<(), Fail> {
-    let alloc = rt.alloc();
-    let (desk, mut seat, bells) = desk(alloc)?;
-    let mut reader = desk.split(&mut seat, 100);
-    let mut told = Vec::from_slice(alloc, features(alloc)?.as_slice())?;
-    told.extend_from_slice(&[1, 2, 0])?;
-    let mut source = MemorySource::new(told, 3, Vec::new(alloc));
-    let mut clock = clock(alloc)?;
-    let side = Side::Switch;
-    let end = run_reader(
-        &rt,
-        alloc,
-        &desk,
-        &mut reader,
-        &mut source,
-        side,
-        &mut clock,
-        &OpenGate,
-        &bells,
-    );
-    assert_eq!(rt; end, ReaderEnd::Closed);
-    assert_eq!(rt; reader.left(), 97);
-    assert!(rt;
-        matches!(
-            take(&rt, &desk, &mut seat, Dest::Switch),
-            Some(Taken::Ended)
-        )
-    );
-    Ok(())
+    play(&rt, rt.alloc(), &CLOSED)
 }
+
+const FAILED: Connection = Connection {
+    before: Before::Nothing,
+    side: Side::Switch,
+    comes: &[ECHO, ECHO],
+    questions: 0,
+    most: 3,
+    failing: Some(4),
+    calls: 100,
+    writer_calls: 0,
+    end: ReaderEnd::ReadFault,
+    left: 97,
+    now: 13,
+    then: Then::Finds(Found::Ended),
+};
 
 #[test]
 fn source_that_fails_takes_the_switch_down(rt: HostRuntime) -> Result<(), Fail> {
-    let alloc = rt.alloc();
-    let (desk, mut seat, bells) = desk(alloc)?;
-    let mut reader = desk.split(&mut seat, 100);
-    let mut source = source(alloc, &[ECHO, ECHO], vec![in alloc; 4]?)?;
-    let mut clock = clock(alloc)?;
-    let side = Side::Switch;
-    let end = run_reader(
-        &rt,
-        alloc,
-        &desk,
-        &mut reader,
-        &mut source,
-        side,
-        &mut clock,
-        &OpenGate,
-        &bells,
-    );
-    assert_eq!(rt; end, ReaderEnd::ReadFault);
-    assert_eq!(rt; source.faults(), 1);
-    assert_eq!(rt; reader.left(), 97);
-    assert!(rt;
-        matches!(
-            take(&rt, &desk, &mut seat, Dest::Switch),
-            Some(Taken::Ended)
-        )
-    );
-    Ok(())
+    play(&rt, rt.alloc(), &FAILED)
 }
+
+const TOO_LATE: Connection = Connection {
+    before: Before::Ended,
+    side: Side::Slice(1),
+    comes: &[ECHO],
+    questions: 0,
+    most: 3,
+    failing: None,
+    calls: 100,
+    writer_calls: 100,
+    end: ReaderEnd::DeskEnded,
+    left: 99,
+    now: 11,
+    then: Then::Writes(Writer {
+        most: usize::MAX,
+        failing: None,
+        end: WriterEnd::Ended,
+        left: 99,
+        sent: "",
+        size: 0,
+    }),
+};
 
 #[test]
 fn desk_that_has_ended_ends_its_readers_and_writers(rt: HostRuntime) -> Result<(), Fail> {
-    let alloc = rt.alloc();
-    let (desk, mut seat, bells) = desk(alloc)?;
-    let mut reader = desk.split(&mut seat, 100);
-    let mut writer = desk.split(&mut seat, 100);
-    open(&rt, alloc, &desk, &mut seat)?;
-    assert_eq!(rt;
-        step(&rt, &desk, &mut seat, Event::SwitchDown),
-        Some(Verdict::Go)
-    );
-    let mut source = source(alloc, &[ECHO], Vec::new(alloc))?;
-    let mut clock = clock(alloc)?;
-    let side = Side::Slice(1);
-    let end = run_reader(
-        &rt,
-        alloc,
-        &desk,
-        &mut reader,
-        &mut source,
-        side,
-        &mut clock,
-        &OpenGate,
-        &bells,
-    );
-    assert_eq!(rt; end, ReaderEnd::DeskEnded);
-    assert_eq!(rt; reader.left(), 99);
-    assert_eq!(rt; clock.now(), 11);
-    let mut sink = MemorySink::new(alloc);
-    let dest = Dest::Slice(1);
-    let end = run_writer(&rt, alloc, &desk, &mut writer, &mut sink, dest, &bells);
-    assert_eq!(rt; end, WriterEnd::Ended);
-    assert!(rt; sink.as_slice().is_empty());
-    Ok(())
+    play(&rt, rt.alloc(), &TOO_LATE)
 }
+
+const SPENT: Connection = Connection {
+    before: Before::Nothing,
+    side: Side::Switch,
+    comes: &[ECHO, ECHO],
+    questions: 0,
+    most: 3,
+    failing: None,
+    calls: 2,
+    writer_calls: 0,
+    end: ReaderEnd::Spent,
+    left: 0,
+    now: 12,
+    then: Then::Finds(Found::Message),
+};
 
 #[test]
 fn reader_ends_once_its_calls_are_spent(rt: HostRuntime) -> Result<(), Fail> {
-    let alloc = rt.alloc();
-    let (desk, mut seat, bells) = desk(alloc)?;
-    let mut reader = desk.split(&mut seat, 2);
-    let mut source = source(alloc, &[ECHO, ECHO], Vec::new(alloc))?;
-    let mut clock = clock(alloc)?;
-    let side = Side::Switch;
-    let end = run_reader(
-        &rt,
-        alloc,
-        &desk,
-        &mut reader,
-        &mut source,
-        side,
-        &mut clock,
-        &OpenGate,
-        &bells,
-    );
-    assert_eq!(rt; end, ReaderEnd::Spent);
-    assert_eq!(rt; reader.left(), 0);
-    assert_eq!(rt; clock.now(), 12);
-    assert!(rt;
-        matches!(
-            take(&rt, &desk, &mut seat, Dest::Switch),
-            Some(Taken::Message(_))
-        )
-    );
-    Ok(())
+    play(&rt, rt.alloc(), &SPENT)
 }

@@ -1,115 +1,86 @@
-use crate::desks::{ECHO, FIRST_VERSION, TO_DISMISSED, clock, open, source};
-use fv_base::MemorySink;
-use fv_live::MemorySource;
-use live_samples::desk;
-use live_session::{Dest, OpenGate, ReaderEnd, Side, WriterEnd, run_reader, run_writer};
-use of10_ctl::message;
-use samples::bytes;
-use std::alloc::{AllocError, Global};
+use crate::connections::{Connection, Then, Writer, play};
+use crate::desks::{Before, ECHO, FIRST_VERSION, TO_DISMISSED};
+use live_session::{ReaderEnd, Side, WriterEnd};
 use std::test::Fail;
+
+const FAILED: Connection = Connection {
+    before: Before::Opened,
+    side: Side::Slice(0),
+    comes: &[ECHO, FIRST_VERSION],
+    questions: 0,
+    most: 3,
+    failing: None,
+    calls: 100,
+    writer_calls: 100,
+    end: ReaderEnd::Dismissed,
+    left: 97,
+    now: 13,
+    then: Then::Writes(Writer {
+        most: 5,
+        failing: Some(2),
+        end: WriterEnd::WriteFault,
+        left: 96,
+        sent: TO_DISMISSED,
+        size: 10,
+    }),
+};
 
 #[test]
 fn sink_that_fails_took_a_beginning(rt: HostRuntime) -> Result<(), Fail> {
-    let alloc = rt.alloc();
-    let (desk, mut seat, bells) = desk(alloc)?;
-    let mut reader = desk.split(&mut seat, 100);
-    open(&rt, alloc, &desk, &mut seat)?;
-    let mut source = source(alloc, &[ECHO, FIRST_VERSION], Vec::new(alloc))?;
-    let mut clock = clock(alloc)?;
-    let side = Side::Slice(0);
-    let end = run_reader(
-        &rt,
-        alloc,
-        &desk,
-        &mut reader,
-        &mut source,
-        side,
-        &mut clock,
-        &OpenGate,
-        &bells,
-    );
-    assert_eq!(rt; end, ReaderEnd::Dismissed);
-    let mut sink = MemorySink::with_plan(alloc, 5, vec![in alloc; 2]?);
-    let dest = Dest::Slice(0);
-    let end = run_writer(&rt, alloc, &desk, &mut seat, &mut sink, dest, &bells);
-    assert_eq!(rt; end, WriterEnd::WriteFault);
-    assert_eq!(rt; sink.faults(), 1);
-    let sent = bytes(alloc, &[TO_DISMISSED])?;
-    assert_eq!(rt; sink.as_slice().len(), 10);
-    assert!(rt; sent.starts_with(sink.as_slice()));
-    Ok(())
+    play(&rt, rt.alloc(), &FAILED)
 }
 
-// The bytes of so many of the longest questions of a controller.
-fn questions(alloc: Global, count: u32) -> Result<Vec<u8>, AllocError> {
-    let body = vec![in alloc; 0; 65527]?;
-    let mut questions = Vec::new(alloc);
-    for xid in 0..count {
-        questions.extend_from_slice(message(alloc, 2, xid, &body)?.as_slice())?;
-    }
-    Ok(questions)
-}
+/// The reader has calls for the up and the questions, but for no down. Of the 65 answers the last has no room.
+const CHOKED: Connection = Connection {
+    before: Before::Opened,
+    side: Side::Slice(0),
+    comes: &[],
+    questions: 65,
+    most: 100_000,
+    failing: None,
+    calls: 66,
+    writer_calls: 1_000,
+    end: ReaderEnd::Spent,
+    left: 0,
+    now: 14,
+    then: Then::Writes(Writer {
+        most: usize::MAX,
+        failing: None,
+        end: WriterEnd::Choked,
+        left: 934,
+        sent: "0100000800000000",
+        size: 8 + 64 * 65_535,
+    }),
+};
 
 #[test]
 fn writer_of_a_slice_that_reads_too_slowly_is_choked(rt: HostRuntime) -> Result<(), Fail> {
-    let alloc = rt.alloc();
-    let (desk, mut seat, bells) = desk(alloc)?;
-    // The up and the questions, but no down.
-    let mut reader = desk.split(&mut seat, 66);
-    open(&rt, alloc, &desk, &mut seat)?;
-    let asked = questions(alloc, 65)?;
-    let mut source = MemorySource::new(asked, 100_000, Vec::new(alloc));
-    let mut clock = clock(alloc)?;
-    let side = Side::Slice(0);
-    let end = run_reader(
-        &rt,
-        alloc,
-        &desk,
-        &mut reader,
-        &mut source,
-        side,
-        &mut clock,
-        &OpenGate,
-        &bells,
-    );
-    assert_eq!(rt; end, ReaderEnd::Spent);
-    let mut sink = MemorySink::new(alloc);
-    let dest = Dest::Slice(0);
-    let end = run_writer(&rt, alloc, &desk, &mut seat, &mut sink, dest, &bells);
-    assert_eq!(rt; end, WriterEnd::Choked);
-    assert_eq!(rt; sink.as_slice().len(), 8 + 64 * 65_535);
-    Ok(())
+    play(&rt, rt.alloc(), &CHOKED)
 }
+
+const SPENT: Connection = Connection {
+    before: Before::Opened,
+    side: Side::Slice(1),
+    comes: &[ECHO, FIRST_VERSION],
+    questions: 0,
+    most: 3,
+    failing: None,
+    calls: 100,
+    writer_calls: 1,
+    end: ReaderEnd::Dismissed,
+    left: 97,
+    now: 13,
+    then: Then::Writes(Writer {
+        most: usize::MAX,
+        failing: None,
+        end: WriterEnd::Spent,
+        left: 0,
+        sent: TO_DISMISSED,
+        size: 8,
+    }),
+};
 
 #[test]
 fn writer_ends_once_its_calls_are_spent(rt: HostRuntime) -> Result<(), Fail> {
-    let alloc = rt.alloc();
-    let (desk, mut seat, bells) = desk(alloc)?;
-    let mut reader = desk.split(&mut seat, 100);
-    let mut writer = desk.split(&mut seat, 1);
-    open(&rt, alloc, &desk, &mut seat)?;
-    let mut source = source(alloc, &[ECHO, FIRST_VERSION], Vec::new(alloc))?;
-    let mut clock = clock(alloc)?;
-    let side = Side::Slice(1);
-    let end = run_reader(
-        &rt,
-        alloc,
-        &desk,
-        &mut reader,
-        &mut source,
-        side,
-        &mut clock,
-        &OpenGate,
-        &bells,
-    );
-    assert_eq!(rt; end, ReaderEnd::Dismissed);
-    let mut sink = MemorySink::new(alloc);
-    let dest = Dest::Slice(1);
-    let end = run_writer(&rt, alloc, &desk, &mut writer, &mut sink, dest, &bells);
-    assert_eq!(rt; end, WriterEnd::Spent);
-    assert_eq!(rt; writer.left(), 0);
-    let sent = bytes(alloc, &[TO_DISMISSED])?;
-    assert_eq!(rt; sink.as_slice().len(), 8);
-    assert!(rt; sent.starts_with(sink.as_slice()));
-    Ok(())
+    play(&rt, rt.alloc(), &SPENT)
 }
