@@ -71,7 +71,7 @@ alice finds ended
 switch finds ended
 # Features that end within the second port's place open nothing.
 switch goes up
-switch passes 2
+switch passes 2 messages
 switch goes 01060021ff00000100000000000000000000000000000000000000000000000000
 switch goes 0102000800000007
 switch gets 0103000800000007
@@ -124,5 +124,6 @@ switch finds nothing
 fn messages_of_wrong_forms_are_refused_and_change_nothing_else(
     rt: HostRuntime,
 ) -> Result<(), Fail> {
-    expect_rows(&rt, rt.alloc(), TABLE, 1, 1)
+    expect_rows(&rt, rt.alloc(), TABLE, 1)?;
+    Ok(())
 }

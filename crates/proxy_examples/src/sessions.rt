@@ -1,244 +1,161 @@
 //! Sessions at the desk of one switch, row by row.
 //!
-//! A case begins with a line that says what it shows, and with a fresh desk. `opened`: the switch has connected and told
-//! what it is, the slices are up, and what this brought was taken. A row has a connection and what becomes of it. It
-//! comes `up`, goes `down` or says a message, by its name or its digits: this `goes`, or its connection `closes`, or all
-//! has ended (`ends`). It `repeats` a message, so many times, or `asks` for flows, which the switch answers. It `gets`
-//! the oldest message, which is this one, or `passes` so many, or `finds` no message and why.
+//! A case begins with a line that says what it shows, and with a fresh desk. `opened` stands for the rows of `OPENED`:
+//! the switch has connected and told what it is, alice is up, and what this brought was taken. A row has a connection
+//! and what becomes of it. It comes `up`, goes `down` or says a message, by its name or its digits, once or so many
+//! times: this `goes`, or its connection `closes`, or all has ended (`ends`). It `asks` for flows, so many times, which
+//! the switch answers. It `gets` the oldest message, which is this one, or `passes` so many messages, or `finds` no
+//! message and why. A row of another form is a mistake in a test. It is answered as want of memory, so that the test
+//! fails.
 
 mod messages;
 
-use crate::expectations::expect_eq;
+use crate::expectations::expect;
+use flowspace::Policy;
 use messages::{flows, said};
 use of10_ctl::Frame;
 use proxy_core::{Desk, Dest, Event, Taken, Timed, Verdict};
-use samples::{policy, rule, tcp, three_ports};
+use samples::{policy, rule, tcp};
 use std::alloc::{AllocError, Global};
 use std::process::Abort;
-use std::test::Fail;
+
+/// The rows for which `opened` stands.
+const OPENED: &str = "\
+switch goes up
+switch goes features
+switch passes 5 messages
+alice goes up
+alice passes 1 message
+";
+
+fn desk_of(alloc: Global, policy: Policy) -> Desk {
+    Desk::new(alloc, policy)
+}
 
 /// The desk of alice, who writes TCP packets for so many ports from 80 on, and bob, who writes those for port 22.
-fn desk(alloc: Global, ports: u16) -> Result<Desk, Fail> {
-    let mut rules = vec![in alloc; rule(50, &tcp(None, 22), 1, 0)]?;
+fn desk(alloc: Global, ports: u16) -> Result<Desk, AllocError> {
+    let mut rules = Vec::new(alloc);
+    rules.push(rule(50, &tcp(None, 22), 1, 0))?;
     for port in 0..ports {
         rules.push(rule(100, &tcp(None, u16::saturating_add(80, port)), 0, 0))?;
     }
-    Ok(Desk::new(alloc, policy(alloc, &rules)?))
+    match policy(alloc, &rules) {
+        Ok(policy) => Ok(desk_of(alloc, policy)),
+        Err(_) => Err(AllocError),
+    }
 }
 
-fn connection(who: &str) -> Result<Dest, Fail> {
+fn connection(who: &str) -> Result<Dest, AllocError> {
     match who {
         "switch" => Ok(Dest::Switch),
         "alice" => Ok(Dest::Slice(0)),
         "bob" => Ok(Dest::Slice(1)),
         "nobody" => Ok(Dest::Slice(2)),
-        _ => Err("nobody has this name")?,
+        _ => Err(AllocError),
     }
 }
 
-fn coming(whose: Dest) -> Event {
-    match whose {
-        Dest::Switch => Event::SwitchUp,
-        Dest::Slice(slot) => Event::SliceUp(slot),
-    }
+/// A connection comes, goes or says something.
+fn event(alloc: Global, whose: Dest, what: &str) -> Result<Event, AllocError> {
+    Ok(match (whose, what) {
+        (Dest::Switch, "up") => Event::SwitchUp,
+        (Dest::Switch, "down") => Event::SwitchDown,
+        (Dest::Switch, message) => Event::SwitchMsg(said(alloc, message)?),
+        (Dest::Slice(slot), "up") => Event::SliceUp(slot),
+        (Dest::Slice(slot), "down") => Event::SliceDown(slot),
+        (Dest::Slice(slot), message) => Event::SliceMsg(slot, said(alloc, message)?),
+    })
 }
 
-fn going(whose: Dest) -> Event {
-    match whose {
-        Dest::Switch => Event::SwitchDown,
-        Dest::Slice(slot) => Event::SliceDown(slot),
-    }
+/// The desk takes an event in; the verb for its answer.
+fn step(alloc: Global, desk: &mut Desk, event: Event) -> Result<&'static str, AllocError> {
+    Ok(match desk.step(alloc, Timed { event, moment: 0 })? {
+        Verdict::Go => "goes",
+        Verdict::Close => "closes",
+        Verdict::Ended => "ends",
+    })
 }
 
-fn saying(whose: Dest, message: Frame) -> Event {
-    match whose {
-        Dest::Switch => Event::SwitchMsg(message),
-        Dest::Slice(slot) => Event::SliceMsg(slot, message),
-    }
-}
-
-fn verdict_of(word: &str) -> Result<Verdict, Fail> {
-    match word {
-        "goes" => Ok(Verdict::Go),
-        "closes" => Ok(Verdict::Close),
-        "ends" => Ok(Verdict::Ended),
-        _ => Err("no verdict of this name")?,
-    }
-}
-
-/// The desk takes an event, and answers so.
-fn step(
-    rt: &impl Abort,
-    alloc: Global,
-    desk: &mut Desk,
-    event: Event,
-    expected: Verdict,
-) -> Result<(), Fail> {
-    let verdict = desk.step(alloc, Timed { event, moment: 0 })?;
-    expect_eq!(rt; verdict, expected);
-    Ok(())
-}
-
-/// A connection comes, goes or says something, and the desk answers so.
-fn happen(
-    rt: &impl Abort,
-    alloc: Global,
-    desk: &mut Desk,
-    whose: Dest,
-    what: &str,
-    expected: Verdict,
-) -> Result<(), Fail> {
-    let event = match what {
-        "up" => coming(whose),
-        "down" => going(whose),
-        message => saying(whose, said(alloc, message)?),
-    };
-    step(rt, alloc, desk, event, expected)
-}
-
-/// A connection says the same so many times.
-fn repeat(
-    rt: &impl Abort,
-    alloc: Global,
-    desk: &mut Desk,
-    whose: Dest,
-    message: &Frame,
-    count: u32,
-) -> Result<(), Fail> {
-    for _ in 0..count {
-        let event = saying(whose, message.copy(alloc)?);
-        step(rt, alloc, desk, event, Verdict::Go)?;
-    }
-    Ok(())
-}
-
-/// The oldest message for a connection.
-fn taken(rt: &impl Abort, desk: &mut Desk, whose: Dest) -> Frame {
+/// The oldest message for a connection, or why there is none.
+fn taken(desk: &mut Desk, whose: Dest) -> Result<Frame, &'static str> {
     match desk.take(whose) {
-        Taken::Message(message) => message,
-        _ => panic!(rt; "no message"),
+        Taken::Message(message) => Ok(message),
+        Taken::Nothing => Err("nothing"),
+        Taken::Choked => Err("choked"),
+        Taken::Ended => Err("ended"),
+        Taken::NotOpen => Err("early"),
     }
 }
 
-/// A slice asks the switch for its flows, and the switch answers.
-fn ask(rt: &impl Abort, alloc: Global, desk: &mut Desk, whose: Dest) -> Result<(), Fail> {
-    happen(rt, alloc, desk, whose, "flows", Verdict::Go)?;
-    let question = taken(rt, desk, Dest::Switch);
-    let reply = flows(alloc, question.head().xid)?;
-    step(rt, alloc, desk, Event::SwitchMsg(reply), Verdict::Go)
+/// A slice asks the switch for its flows, and the switch answers; whether the desk takes both in.
+fn asks(alloc: Global, desk: &mut Desk, whose: Dest) -> Result<bool, AllocError> {
+    let asked = step(alloc, desk, event(alloc, whose, "flows")?)?;
+    let Ok(question) = taken(desk, Dest::Switch) else {
+        return Ok(false);
+    };
+    let xid = question.head().xid;
+    let answered = step(alloc, desk, Event::SwitchMsg(flows(alloc, xid)?))?;
+    Ok(asked == "goes" && answered == "goes")
 }
 
-fn ask_often(
-    rt: &impl Abort,
-    alloc: Global,
-    desk: &mut Desk,
-    whose: Dest,
-    count: u32,
-) -> Result<(), Fail> {
-    for _ in 0..count {
-        ask(rt, alloc, desk, whose)?;
-    }
-    Ok(())
+/// What is taken for a connection is this message, or there is none for this reason.
+fn finds(alloc: Global, desk: &mut Desk, whose: Dest, what: &str) -> Result<bool, AllocError> {
+    Ok(match taken(desk, whose) {
+        Ok(message) => message.as_slice() == said(alloc, what)?.as_slice(),
+        Err(reason) => reason == what,
+    })
 }
 
-/// So many messages are taken for a connection.
-fn pass(rt: &impl Abort, desk: &mut Desk, whose: Dest, count: u32) {
-    for _ in 0..count {
-        let _ = taken(rt, desk, whose);
-    }
-}
-
-/// What is taken for a connection now, where it is no message.
-fn found(taken: Taken) -> &'static str {
-    match taken {
-        Taken::Message(_) => "a message",
-        Taken::Nothing => "nothing",
-        Taken::Choked => "choked",
-        Taken::Ended => "ended",
-        Taken::NotOpen => "early",
-    }
-}
-
-fn number(word: &str) -> Result<u32, Fail> {
-    let number = word.parse::<u32>().ok();
-    Ok(number.ok_or("a row has a number")?)
-}
-
-/// What follows the verb is a count, for these verbs, and for one of them a message, too.
-fn play_many(
-    rt: &impl Abort,
+/// What a verb says is so, once.
+fn is_so(
     alloc: Global,
     desk: &mut Desk,
     whose: Dest,
     verb: &str,
-    count: u32,
-    name: &str,
-) -> Result<(), Fail> {
+    what: &str,
+) -> Result<bool, AllocError> {
     match verb {
-        "repeats" => {
-            let message = said(alloc, name)?;
-            repeat(rt, alloc, desk, whose, &message, count)
-        }
-        "asks" => ask_often(rt, alloc, desk, whose, count),
-        "passes" => {
-            pass(rt, desk, whose, count);
-            Ok(())
-        }
-        _ => Err("no verb of this name")?,
+        "gets" | "finds" => finds(alloc, desk, whose, what),
+        "passes" => Ok(taken(desk, whose).is_ok()),
+        "asks" => asks(alloc, desk, whose),
+        _ => Ok(step(alloc, desk, event(alloc, whose, what)?)? == verb),
     }
 }
 
-/// One row but `opened`.
-fn play(rt: &impl Abort, alloc: Global, desk: &mut Desk, row: &str) -> Result<(), Fail> {
-    let (who, rest) = row.split_once(" ").ok_or("a row has three words")?;
-    let (verb, what) = rest.split_once(" ").ok_or("a row has three words")?;
-    let whose = connection(who)?;
-    match verb {
-        "gets" => {
-            let message = taken(rt, desk, whose);
-            expect_eq!(rt; message.as_slice(), said(alloc, what)?.as_slice(), row);
-            Ok(())
-        }
-        "finds" => {
-            expect_eq!(rt; found(desk.take(whose)), what, row);
-            Ok(())
-        }
-        "goes" | "closes" | "ends" => happen(rt, alloc, desk, whose, what, verdict_of(verb)?),
-        _ => {
-            let (count, name) = what.split_once(" ").unwrap_or((what, ""));
-            play_many(rt, alloc, desk, whose, verb, number(count)?, name)
-        }
-    }
+/// The words of a row: whose connection it is, the verb, how often it is so, which is once where nothing is said, and
+/// what.
+fn words_of(row: &str) -> Option<(&str, &str, u32, &str)> {
+    let (who, rest) = row.split_once(" ")?;
+    let (verb, what) = rest.split_once(" ")?;
+    let (count, what) = what.split_once(" ").unwrap_or(("1", what));
+    Some((who, verb, count.parse::<u32>().ok()?, what))
 }
 
-/// The switch connects and tells what it is, so many slices connect, and what this brings is taken.
-fn open(rt: &impl Abort, alloc: Global, desk: &mut Desk, slices: u8) -> Result<(), Fail> {
-    step(rt, alloc, desk, Event::SwitchUp, Verdict::Go)?;
-    let features = three_ports(alloc)?.encode(alloc, 0xff00_0001)?;
-    step(rt, alloc, desk, Event::SwitchMsg(features), Verdict::Go)?;
-    pass(rt, desk, Dest::Switch, 5);
-    for slot in 0..slices {
-        step(rt, alloc, desk, Event::SliceUp(slot), Verdict::Go)?;
-        pass(rt, desk, Dest::Slice(slot), 1);
+/// Each row but `opened` is so.
+fn play(rt: &impl Abort, alloc: Global, desk: &mut Desk, rows: &str) -> Result<(), AllocError> {
+    for row in rows.lines() {
+        let (who, verb, count, what) = words_of(row).ok_or(AllocError)?;
+        let whose = connection(who)?;
+        for _ in 0..count {
+            expect(rt, is_so(alloc, desk, whose, verb, what)?, row);
+        }
     }
     Ok(())
 }
 
-/// Each case goes as its rows say, where alice writes packets for so many ports and so many slices are up once it is
-/// opened.
+/// Each case goes as its rows say, where alice writes packets for so many ports.
 pub(crate) fn expect_rows(
     rt: &impl Abort,
     alloc: Global,
-    rows: &str,
+    cases: &str,
     ports: u16,
-    slices: u8,
-) -> Result<(), Fail> {
+) -> Result<(), AllocError> {
     let mut desk = self::desk(alloc, ports)?;
-    for row in rows.lines() {
+    for row in cases.lines() {
         if row.starts_with('#') {
             desk = self::desk(alloc, ports)?;
         } else if row == "opened" {
-            open(rt, alloc, &mut desk, slices)?;
+            play(rt, alloc, &mut desk, OPENED)?;
         } else {
             play(rt, alloc, &mut desk, row)?;
         }

@@ -3,8 +3,7 @@
 use crate::expectations::expect;
 use of10_ctl::{Framer, Next};
 use samples::bytes;
-use std::alloc::Global;
-use std::process::Abort;
+use std::alloc::{AllocError, Global};
 use std::test::Fail;
 
 /// The messages of a session of one switch and two controllers, of each type that they send.
@@ -191,11 +190,11 @@ const MESSAGES: &str = "\
 0102000e0000002e74686572653f
 ";
 
-fn expect_no_message(rt: &impl Abort, alloc: Global, fed: &[u8]) -> Result<(), Fail> {
+/// Whether what is fed is no message yet.
+fn needs_more(alloc: Global, fed: &[u8]) -> Result<bool, AllocError> {
     let mut framer = Framer::new(alloc);
     framer.feed(fed)?;
-    expect!(rt; matches!(framer.next()?, Next::NeedMore));
-    Ok(())
+    Ok(matches!(framer.next()?, Next::NeedMore))
 }
 
 #[test]
@@ -204,7 +203,7 @@ fn beginning_of_a_message_is_no_message(rt: HostRuntime) -> Result<(), Fail> {
     for line in MESSAGES.lines() {
         let message = bytes(alloc, &[line])?;
         for length in 0..message.len() {
-            expect_no_message(&rt, alloc, &message[..length])?;
+            expect(&rt, needs_more(alloc, &message[..length])?, line);
         }
     }
     Ok(())

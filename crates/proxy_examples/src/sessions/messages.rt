@@ -3,7 +3,6 @@
 use of10_ctl::{Frame, is_frame};
 use samples::bytes;
 use std::alloc::{AllocError, Global};
-use std::test::Fail;
 
 /// A message a line: its name, and how it begins. What follows up to its length is zero.
 const MESSAGES: &str = "\
@@ -76,42 +75,33 @@ no_flows 0111000c0000000500010000
 /// How many entries a reply to a request for flows has.
 const FLOWS: usize = 744;
 
-/// An entry for the TCP packets to port 80, of 88 bytes: how it begins.
+/// An entry for the TCP packets to port 80, of 88 bytes.
 const FLOW: &str =
-    "005800000038204f000000000000000000000000000000000000080000060000000000000000000000000050";
+    "005800000038204f000000000000000000000000000000000000080000060000000000000000000000000050\
+0000000000000000000000000000000000000000000000000000000000000000000000000000000000000000";
 
-fn fill(out: &mut Vec<u8>, length: usize) -> Result<(), AllocError> {
-    let missing = length.saturating_sub(out.len());
+/// The message that begins with these digits.
+fn begun_by(alloc: Global, digits: &str) -> Result<Frame, AllocError> {
+    let mut spelled = bytes(alloc, &[digits])?;
+    let length = match spelled.as_slice() {
+        [_, _, high, low, ..] => usize::from(*high) * 256 + usize::from(*low),
+        _ => return Err(AllocError),
+    };
+    let missing = length.saturating_sub(spelled.len());
     for _ in 0..missing {
-        out.push(0)?;
+        spelled.push(0)?;
     }
-    Ok(())
-}
-
-/// The message that these bytes are.
-fn framed(spelled: Vec<u8>) -> Result<Frame, Fail> {
     if is_frame(&spelled) {
         Ok(Frame::of(spelled))
     } else {
-        Err("a message has its length")?
+        Err(AllocError)
     }
-}
-
-/// The message that begins with these digits.
-fn begun_by(alloc: Global, digits: &str) -> Result<Frame, Fail> {
-    let mut spelled = bytes(alloc, &[digits])?;
-    if spelled.len() < 8 {
-        return Err("a message has a head")?;
-    }
-    let length = usize::from(spelled[2]) * 256 + usize::from(spelled[3]);
-    fill(&mut spelled, length)?;
-    framed(spelled)
 }
 
 /// The message of a name, or the one that begins with these digits.
-pub(super) fn said(alloc: Global, name: &str) -> Result<Frame, Fail> {
+pub(super) fn said(alloc: Global, name: &str) -> Result<Frame, AllocError> {
     for line in MESSAGES.lines() {
-        if let Some((found, digits)) = line.split_once(' ')
+        if let Some((found, digits)) = line.split_once(" ")
             && found == name
         {
             return begun_by(alloc, digits);
@@ -121,13 +111,8 @@ pub(super) fn said(alloc: Global, name: &str) -> Result<Frame, Fail> {
 }
 
 /// The reply to a request for flows: as many entries for port 80 as fit a message to the slice that has them.
-pub(super) fn flows(alloc: Global, xid: u32) -> Result<Frame, Fail> {
-    let head = format!(in alloc; "0111ffcc{xid:08x}00010000")?;
-    let mut spelled = bytes(alloc, &[head.as_str()])?;
-    let mut entry = bytes(alloc, &[FLOW])?;
-    fill(&mut entry, 88)?;
-    for _ in 0..FLOWS {
-        spelled.extend_from_slice(&entry)?;
-    }
-    framed(spelled)
+pub(super) fn flows(alloc: Global, xid: u32) -> Result<Frame, AllocError> {
+    let entries = FLOW.repeat(alloc, FLOWS)?;
+    let digits = format!(in alloc; "0111ffcc{xid:08x}00010000{entries}")?;
+    begun_by(alloc, digits.as_str())
 }

@@ -5,16 +5,17 @@ mod lengths;
 ghost use Rattle.std.specs.Prelude.{IfOk};
 ghost use Rattle.slice_side.specs.Reactions.{IsSoundChange};
 
-use super::{push_digits, state};
-use crate::expectations::{expect, expect_eq};
+use super::{TWO_RULES, policy_of, push_message, state};
+use crate::expectations::{expect, expect_text};
 use flow_book::SliceState;
 use flowspace::SwitchPolicy;
 use of10_ctl::Frame;
 use of10_port::Features;
 use port_view::PortView;
-use samples::{frame, rule, switch_policy, tcp, three_ports};
+use samples::{frame, three_ports};
 use slice_side::{Change, Reaction, apply, go_down, react, reserve};
 use std::alloc::{AllocError, Global};
+use std::process::Abort;
 use std::test::Fail;
 
 /// A switch with three ports and its own, and one slice on it.
@@ -27,12 +28,8 @@ struct Bench {
 }
 
 /// The slice at slot 0 takes packets from port 1 alone.
-fn set_up(alloc: Global) -> Result<Bench, Fail> {
-    let rules = [
-        rule(100, &tcp(Some(1), 80), 0, 0),
-        rule(50, &tcp(None, 22), 1, 0),
-    ];
-    let policy = switch_policy(alloc, &rules)?;
+fn set_up(alloc: Global) -> Result<Bench, AllocError> {
+    let policy = policy_of(alloc, TWO_RULES)?;
     let features = three_ports(alloc)?;
     let ports = PortView::new(alloc, &features)?;
     let state = state(alloc, &policy, 0, true)?;
@@ -59,28 +56,68 @@ impl Bench {
             moment,
         )
     }
+
+    /// A message comes, and changes the state; the moment of that, and how many bytes of a packet it sets.
+    fn settle(
+        &mut self,
+        alloc: Global,
+        digits: &str,
+        moment: u64,
+    ) -> Result<(u64, u16), AllocError> {
+        let message = frame(alloc, &[digits])?;
+        let Reaction { change, .. } = self.hear(alloc, &message, moment)?;
+        let set = set_by(&change);
+        put(&mut self.state, change)?;
+        Ok(set)
+    }
 }
 
-/// Class and code of the error that is answered.
-fn error_in(reaction: &Reaction) -> &[u8] {
-    match reaction.to_slice.first() {
-        Some(error) => error.as_slice().get(8..12).unwrap_or(&[]),
-        None => &[],
+/// The moment of a message that comes, and how many bytes of a packet it sets, or 0.
+fn set_by(change: &Change) -> (u64, u16) {
+    match change {
+        Change::Heard { moment } => (*moment, 0),
+        Change::Set {
+            moment,
+            miss_send_len,
+        } => (*moment, *miss_send_len),
+        _ => (0, 0),
     }
+}
+
+fn put(state: &mut SliceState, change: Change) -> Result<(), AllocError>
+    requires { IsSoundChange change }
+{
+    reserve(state, &change)?;
+    apply(state, change);
+    Ok(())
+}
+
+/// Whether the slice is up or not, wants so many bytes of a packet, and was heard last at that moment.
+fn stands_so(state: &SliceState, up: bool, miss_send_len: u16, moment: u64) -> bool {
+    state.up == up && state.miss_send_len == miss_send_len && state.moment == moment
 }
 
 /// Whether the connection stays or ends, and then each message to the controller and each to the switch.
 fn told(alloc: Global, reaction: &Reaction) -> Result<String, AllocError> {
     let mut text = String::from_str(alloc, if reaction.close { "ends" } else { "stays" })?;
     for message in &reaction.to_slice {
-        text.push_str(" ")?;
-        push_digits(&mut text, message)?;
+        push_message(&mut text, " ", message)?;
     }
     for message in &reaction.to_switch {
-        text.push_str(", switch: ")?;
-        push_digits(&mut text, message)?;
+        push_message(&mut text, ", switch: ", message)?;
     }
     Ok(text)
+}
+
+/// Each message is answered as its row says. A row is a line: what the controller sends, and what is to be told.
+fn expect_rows(rt: &impl Abort, alloc: Global, rows: &str) -> Result<(), AllocError> {
+    let bench = set_up(alloc)?;
+    for row in rows.lines() {
+        let (message, wanted) = row.split_once(" => ").ok_or(AllocError)?;
+        let reaction = bench.hear(alloc, &frame(alloc, &[message])?, 0)?;
+        expect_text(rt, told(alloc, &reaction)?.as_str(), wanted, message);
+    }
+    Ok(())
 }
 
 /// What the controller sends, and what `told` says of the answer.
@@ -115,67 +152,57 @@ const ANSWER_ROWS: &str = "\
 
 #[test]
 fn each_message_is_answered_by_its_first_line(rt: HostRuntime) -> Result<(), Fail> {
-    let alloc = rt.alloc();
-    let bench = set_up(alloc)?;
-    for row in ANSWER_ROWS.lines() {
-        let (message, wanted) = row.split_once(" => ").ok_or("a row has two sides")?;
-        let reaction = bench.hear(alloc, &frame(alloc, &[message])?, 0)?;
-        let answer = told(alloc, &reaction)?;
-        expect_eq!(rt; answer.as_str(), wanted, message);
-    }
+    expect_rows(&rt, rt.alloc(), ANSWER_ROWS)?;
     Ok(())
 }
 
+/// The switch is told of with the one port that the slice has.
+const FEATURES_ROW: &str = "\
+0105000800000007 => stays 010600500000000700000000000000a100000100010000000000000000000fff\
+000100000000000000000000000000000000000000000000000000000000000000000000000000000000000000000000";
+
 #[test]
 fn features_are_those_of_the_slice(rt: HostRuntime) -> Result<(), Fail> {
-    let alloc = rt.alloc();
-    let bench = set_up(alloc)?;
-    let reaction = bench.hear(alloc, &frame(alloc, &["0105000800000007"])?, 0)?;
-    let front = b"\x01\x06\x00\x50\x00\x00\x00\x07\x00\x00\x00\x00\x00\x00\x00\xa1\
-\x00\x00\x01\x00\x01\x00\x00\x00\x00\x00\x00\x00\x00\x00\x0f\xff\x00\x01";
-    expect_eq!(rt; reaction.to_slice.len(), 1);
-    if let Some(reply) = reaction.to_slice.first() {
-        expect!(rt; reply.as_slice().starts_with(front));
-    }
+    expect_rows(&rt, rt.alloc(), FEATURES_ROW)?;
     Ok(())
+}
+
+impl Bench {
+    /// Whether the message that comes at that moment sets so many bytes of a packet, or 0, and whether the slice wants
+    /// so many then and was heard last at that moment.
+    fn is_settled(
+        &mut self,
+        alloc: Global,
+        digits: &str,
+        moment: u64,
+        sets: u16,
+        then: (u16, u64),
+    ) -> bool {
+        match self.settle(alloc, digits, moment) {
+            Ok((at, set)) => {
+                at == moment && set == sets && stands_so(&self.state, true, then.0, then.1)
+            }
+            Err(_) => false,
+        }
+    }
+
+    /// Whether the slice wants so many bytes of a packet once its controller has gone, and was heard last at that
+    /// moment.
+    fn is_left(&mut self, miss_send_len: u16, moment: u64) -> bool {
+        go_down(&mut self.state);
+        stands_so(&self.state, false, miss_send_len, moment)
+    }
 }
 
 #[test]
 fn what_was_set_lasts_as_long_as_the_connection(rt: HostRuntime) -> Result<(), Fail> {
     let alloc = rt.alloc();
     let mut bench = set_up(alloc)?;
-    let set = bench.hear(alloc, &frame(alloc, &["0109000c0000000100000010"])?, 7)?;
-    expect!(rt;
-        matches!(
-            set.change,
-            Change::Set {
-                moment: 7,
-                miss_send_len: 16
-            }
-        )
-    );
-    reserve(&mut bench.state, &set.change)?;
-    apply(&mut bench.state, set.change);
-    let heard = bench.hear(alloc, &frame(alloc, &["0103000800000001"])?, 5)?;
-    expect!(rt; matches!(heard.change, Change::Heard { moment: 5 }));
-    reserve(&mut bench.state, &heard.change)?;
-    apply(&mut bench.state, heard.change);
-    expect_eq!(rt;
-        (
-            bench.state.up,
-            bench.state.miss_send_len,
-            bench.state.moment
-        ),
-        (true, 16, 7)
-    );
-    go_down(&mut bench.state);
-    expect_eq!(rt;
-        (
-            bench.state.up,
-            bench.state.miss_send_len,
-            bench.state.moment
-        ),
-        (false, 128, 7)
-    );
+    let is_set = bench.is_settled(alloc, "0109000c0000000100000010", 7, 16, (16, 7));
+    let is_kept = bench.is_settled(alloc, "0103000800000001", 5, 0, (16, 7));
+    let is_left = bench.is_left(128, 7);
+    expect(&rt, is_set, "a setting");
+    expect(&rt, is_kept, "an echo after it");
+    expect(&rt, is_left, "the end of the connection");
     Ok(())
 }

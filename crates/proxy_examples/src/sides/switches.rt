@@ -1,15 +1,13 @@
 //! What follows from the messages of a switch, for each slice.
 
-mod packet_ins;
-
-use super::{push_digits, state};
-use crate::expectations::expect_eq;
+use super::{RuleRow, TWO_RULES, policy_of, push_message, state};
+use crate::expectations::expect_text;
 use flow_book::SliceState;
-use flowspace::{Rule, SwitchPolicy};
+use flowspace::SwitchPolicy;
 use of10_ctl::Frame;
 use port_view::PortView;
 use rule_index::RuleIndex;
-use samples::{frame, rule, switch_policy, tcp, three_ports};
+use samples::{frame, three_ports};
 use std::alloc::{AllocError, Global};
 use std::process::Abort;
 use std::test::Fail;
@@ -57,12 +55,11 @@ fn answer(
 fn told(alloc: Global, dispatch: &Dispatch) -> Result<String, AllocError> {
     let mut text = String::from_str(alloc, if dispatch.close { "ends" } else { "stays" })?;
     for message in &dispatch.to_switch {
-        text.push_str(", switch: ")?;
-        push_digits(&mut text, message)?;
+        push_message(&mut text, ", switch: ", message)?;
     }
     for (slot, message) in &dispatch.to_slices {
-        write!(text, ", slot {slot}: ")?;
-        push_digits(&mut text, message)?;
+        write!(text, ", slot {slot}")?;
+        push_message(&mut text, ": ", message)?;
     }
     if let Some(status) = &dispatch.port {
         write!(text, ", port {}", status.port.number())?;
@@ -82,18 +79,18 @@ fn written_out(alloc: Global, digits: &str) -> Result<String, AllocError> {
 fn expect_rows(
     rt: &impl Abort,
     alloc: Global,
-    rules: &[Rule],
+    rules: &[RuleRow],
     up: [bool; 2],
     rows: &str,
-) -> Result<(), Fail> {
-    let policy = switch_policy(alloc, rules)?;
+) -> Result<(), AllocError> {
+    let policy = policy_of(alloc, rules)?;
     let states = states(alloc, &policy, up)?;
     for row in rows.lines() {
-        let (sent, wanted) = row.split_once(" => ").ok_or("a row has two sides")?;
+        let (sent, wanted) = row.split_once(" => ").ok_or(AllocError)?;
         let message = frame(alloc, &[written_out(alloc, sent)?.as_str()])?;
         let answer = told(alloc, &answer(alloc, &policy, &states, &message)?)?;
         let wanted = written_out(alloc, wanted)?;
-        expect_eq!(rt; answer.as_str(), wanted.as_str(), sent);
+        expect_text(rt, answer.as_str(), wanted.as_str(), sent);
     }
     Ok(())
 }
@@ -115,11 +112,8 @@ const MESSAGE_ROWS: &str = "\
 
 #[test]
 fn each_message_goes_where_it_concerns_somebody(rt: HostRuntime) -> Result<(), Fail> {
-    let rules = [
-        rule(100, &tcp(Some(1), 80), 0, 0),
-        rule(50, &tcp(None, 22), 1, 0),
-    ];
-    expect_rows(&rt, rt.alloc(), &rules, [true, true], MESSAGE_ROWS)
+    expect_rows(&rt, rt.alloc(), TWO_RULES, [true, true], MESSAGE_ROWS)?;
+    Ok(())
 }
 
 /// What the switch sends, and what it is told.
@@ -135,15 +129,13 @@ const SWITCH_ROWS: &str = "\
 
 #[test]
 fn the_switch_is_answered_itself(rt: HostRuntime) -> Result<(), Fail> {
-    let rules = [
-        rule(100, &tcp(None, 80), 0, 0),
-        rule(50, &tcp(None, 22), 1, 0),
-    ];
-    expect_rows(&rt, rt.alloc(), &rules, [true, true], SWITCH_ROWS)
+    let rules = &[(100, None, 80, 0, 0), (50, None, 22, 1, 0)];
+    expect_rows(&rt, rt.alloc(), rules, [true, true], SWITCH_ROWS)?;
+    Ok(())
 }
 
 /// Whether the reader and the writer of a packet are up, and who is told of it.
-const READER_ROWS: [([bool; 2], &str); 4] = [
+const READER_ROWS: &[([bool; 2], &str)] = &[
     (
         [true, true],
         "010a004800000000ffffffff003600010000[tcp 0050] => stays, slot 0: \
@@ -168,12 +160,39 @@ const READER_ROWS: [([bool; 2], &str); 4] = [
 
 #[test]
 fn readers_are_told_where_they_are_up(rt: HostRuntime) -> Result<(), Fail> {
-    let rules = [
-        rule(100, &tcp(None, 80), 1, 0b01),
-        rule(100, &tcp(None, 80), 1, 0),
-    ];
+    let rules = &[(100, None, 80, 1, 0b01), (100, None, 80, 1, 0)];
     for (up, row) in READER_ROWS {
-        expect_rows(&rt, rt.alloc(), &rules, up, row)?;
+        expect_rows(&rt, rt.alloc(), rules, *up, row)?;
     }
+    Ok(())
+}
+
+/// Packet-ins at port 1 of the first bytes of a TCP packet to port 80, in buffer 7 of the switch, and who is told of
+/// them: it has a writer as soon as the port that it is for is there.
+fn cut_rows(alloc: Global) -> Result<String, AllocError> {
+    let packet = written_out(alloc, "[tcp 0050]")?;
+    let mut rows = String::new(alloc);
+    for size in 0..55usize {
+        let (length, front) = (18 + size, packet.as_str().get(..2 * size).unwrap_or(""));
+        write!(
+            rows,
+            "010a{length:04x}0000000900000007003600010000{front} => stays"
+        )?;
+        if size >= 38 {
+            write!(
+                rows,
+                ", slot 0: 010a{length:04x}0000000000000000003600010000{front}"
+            )?;
+        }
+        rows.push_str("\n")?;
+    }
+    Ok(rows)
+}
+
+#[test]
+fn a_packet_has_a_writer_as_soon_as_its_port_is_there(rt: HostRuntime) -> Result<(), Fail> {
+    let rows = cut_rows(rt.alloc())?;
+    let rules = &[(100, None, 80, 0, 0)];
+    expect_rows(&rt, rt.alloc(), rules, [true, true], rows.as_str())?;
     Ok(())
 }

@@ -1,10 +1,11 @@
 //! Messages of each length, whatever they say of the length of a part.
 
-use super::{Bench, error_in, set_up};
-use crate::expectations::expect_eq;
+use super::{Bench, set_up};
+use crate::expectations::expect;
 use of10_ctl::kind::{FLOW_MOD, PACKET_OUT};
 use of10_ctl::{Frame, message};
 use samples::{TO_TCP_80, bytes};
+use slice_side::Reaction;
 use std::alloc::{AllocError, Global};
 use std::process::Abort;
 use std::test::Fail;
@@ -16,20 +17,48 @@ struct Whole {
     before: &'static [&'static str],
     /// What follows that length.
     behind: &'static str,
+    /// It is cut to each length below this.
+    size: u16,
+    /// It says each length below this of its part.
+    listed: u16,
+    /// What is answered; the first row that fits counts.
+    answers: &'static [Answer],
 }
+
+/// What is answered: the least length of the message and the greatest, the same of its part, how many bytes there are
+/// at least beside the part; and class and code of the error, or nothing where the message is sent on.
+type Answer = (u16, u16, u16, u16, u16, &'static [u8]);
+
+const MOST: u16 = u16::MAX;
+
+/// The answer where no other fits: the message, or its part, hasn't the length that it should have.
+const BAD_LENGTH: &[u8] = &[0, 1, 0, 6];
 
 /// A packet-out of 78 bytes, of no buffer and port 1, which names the length of its actions. An OUTPUT to port 1
 /// follows, and a TCP packet to port 80.
+///
+/// It is refused where it ends before its actions, an action ends before its end, or the packet, up to the port that
+/// it is for, isn't all there or isn't where it was.
 const PACKET: Whole = Whole {
     kind: PACKET_OUT,
     before: &["ffffffff0001"],
     behind: "0000000800010000\
 00000000000200000000000108004500002800000000400600000a0000010a000002\
 0400005000000000000000005002000000000000",
+    size: 79,
+    listed: 80,
+    answers: &[
+        (62, MOST, 8, 8, 16, &[]),
+        (16, MOST, 0, 0, 16, &[0, 1, 0, 5]),
+        (16, MOST, 8, 8, 16, &[0, 1, 0, 5]),
+        (16, MOST, 0, MOST, 16, &[0, 2, 0, 1]),
+    ],
 };
 
 /// An ADD, of no buffer, which names the length of its first action, an ENQUEUE to a queue of port 1. Two OUTPUTs to
 /// port 1 follow.
+///
+/// It is refused where the fields aren't all there, or an action isn't.
 const ADD: Whole = Whole {
     kind: FLOW_MOD,
     before: &[
@@ -37,6 +66,15 @@ const ADD: Whole = Whole {
         "0000000000000000 0000 003c 0000 000a ffffffff ffff 0000 000b",
     ],
     behind: "0001 000000000000 00000003 0000000800010000 0000000800010000",
+    size: 105,
+    listed: 41,
+    answers: &[
+        (72, 72, 0, MOST, 0, &[]),
+        (88, 88, 16, 16, 0, &[]),
+        (96, 96, 16, 16, 0, &[]),
+        (104, 104, 16, 16, 0, &[]),
+        (73, MOST, 0, MOST, 0, &[0, 2, 0, 1]),
+    ],
 };
 
 impl Whole {
@@ -48,70 +86,80 @@ impl Whole {
         let size = usize::from(size).saturating_sub(8).min(body.len());
         message(alloc, self.kind, 7, &body[..size])
     }
-}
 
-/// Class and code of the error that a packet-out is answered, by its length and that of its actions: the message ends
-/// before them, an action ends before its end, or the packet, up to the port that it is for, isn't all there or isn't
-/// where it was. Else it is sent on.
-fn error_for_packet(size: u16, listed: u16) -> &'static [u8] {
-    if size < 16 || size - 16 < listed {
-        return &[0, 1, 0, 6];
-    }
-    match listed {
-        8 if size >= 24 + 38 => &[],
-        0 | 8 => &[0, 1, 0, 5],
-        _ => &[0, 2, 0, 1],
+    /// Class and code of the error that is answered to it.
+    fn error(&self, size: u16, listed: u16) -> &'static [u8] {
+        for (least, most, least_listed, most_listed, beside, error) in self.answers {
+            let is_size = *least <= size && size <= *most;
+            let is_listed = *least_listed <= listed && listed <= *most_listed;
+            if is_size && is_listed && listed <= size.saturating_sub(*beside) {
+                return error;
+            }
+        }
+        BAD_LENGTH
     }
 }
 
-/// Class and code of the error that an ADD is answered, by its length and that of its first action: the fields aren't
-/// all there, or an action isn't. Else it is sent on.
-fn error_for_add(size: u16, listed: u16) -> &'static [u8] {
-    match (size, listed) {
-        (0..72, _) => &[0, 1, 0, 6],
-        (72, _) | (88 | 96 | 104, 16) => &[],
-        _ => &[0, 2, 0, 1],
+/// Class and code of the error that is answered.
+fn error_in(reaction: &Reaction) -> &[u8] {
+    match reaction.to_slice.first() {
+        Some(error) => error.as_slice().get(8..12).unwrap_or(&[]),
+        None => &[],
     }
 }
 
-/// The message is answered with this error, and is sent on where there is none.
-fn expect_error(
-    rt: &impl Abort,
+/// Whether the message that is cut so is answered with its error, and is sent on where there is none.
+fn is_answered(
     alloc: Global,
     bench: &Bench,
-    message: &Frame,
-    expected: &[u8],
-) -> Result<(), Fail> {
-    let reaction = bench.hear(alloc, message, 0)?;
-    let found = (error_in(&reaction), !reaction.to_switch.is_empty());
-    expect_eq!(rt; found, (expected, expected.is_empty()), message.as_slice());
+    whole: &Whole,
+    size: u16,
+    listed: u16,
+) -> Result<bool, AllocError> {
+    let reaction = bench.hear(alloc, &whole.cut(alloc, size, listed)?, 0)?;
+    let error = whole.error(size, listed);
+    let is_sent = !reaction.to_switch.is_empty();
+    Ok(error_in(&reaction) == error && is_sent == error.is_empty())
+}
+
+/// Each message is answered as it is to be.
+fn expect_answers(rt: &impl Abort, alloc: Global, whole: &Whole) -> Result<(), AllocError> {
+    let bench = set_up(alloc)?;
+    for size in 8..whole.size {
+        for listed in 0..whole.listed {
+            let is_so = is_answered(alloc, &bench, whole, size, listed)?;
+            expect_case(rt, alloc, is_so, size, listed);
+        }
+    }
     Ok(())
+}
+
+/// How many bytes a message has, and how many it says of its part.
+fn case_name(alloc: Global, size: u16, listed: u16) -> Result<String, AllocError> {
+    let mut name = String::new(alloc);
+    write!(name, "{size} bytes, and {listed} of the part")?;
+    Ok(name)
+}
+
+/// It is so of the message that is cut so.
+fn expect_case(rt: &impl Abort, alloc: Global, is_so: bool, size: u16, listed: u16) {
+    if is_so {
+        return;
+    }
+    match case_name(alloc, size, listed) {
+        Ok(name) => expect(rt, is_so, &name),
+        Err(_) => expect(rt, is_so, "a case"),
+    }
 }
 
 #[test]
 fn packet_outs_of_each_length_are_refused_or_sent(rt: HostRuntime) -> Result<(), Fail> {
-    let alloc = rt.alloc();
-    let bench = set_up(alloc)?;
-    for size in 8..79u16 {
-        for listed in 0..80u16 {
-            let message = PACKET.cut(alloc, size, listed)?;
-            let expected = error_for_packet(size, listed);
-            expect_error(&rt, alloc, &bench, &message, expected)?;
-        }
-    }
+    expect_answers(&rt, rt.alloc(), &PACKET)?;
     Ok(())
 }
 
 #[test]
 fn flow_mods_of_each_length_are_refused_or_sent(rt: HostRuntime) -> Result<(), Fail> {
-    let alloc = rt.alloc();
-    let bench = set_up(alloc)?;
-    for size in 8..105u16 {
-        for listed in 0..41u16 {
-            let message = ADD.cut(alloc, size, listed)?;
-            let expected = error_for_add(size, listed);
-            expect_error(&rt, alloc, &bench, &message, expected)?;
-        }
-    }
+    expect_answers(&rt, rt.alloc(), &ADD)?;
     Ok(())
 }
