@@ -4,6 +4,4 @@
 #![tactic(auto)]
 
 #[cfg(test)]
-mod expectations;
-#[cfg(test)]
 mod tests;

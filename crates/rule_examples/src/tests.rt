@@ -3,3 +3,4 @@ mod flow_mods;
 mod index;
 mod stats;
 mod table;
+mod tables;

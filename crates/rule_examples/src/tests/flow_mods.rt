@@ -3,9 +3,9 @@
 mod drawn;
 mod given;
 
-use crate::expectations::{expect, expect_eq};
+use crate::tests::tables::{expect, expect_bytes, expect_so, told};
 use drawn::Draws;
-use flowmod_expand::{BuildFault, pieces};
+use flowmod_expand::pieces;
 use flowspace::SwitchPolicy;
 use given::{built, spelled, strips};
 use match_meet::meet;
@@ -16,7 +16,7 @@ use of10_flow::protocol::{
     ADD, CHECK_OVERLAP, DELETE, DELETE_STRICT, MODIFY, MODIFY_STRICT, NO_BUFFER,
 };
 use of10_match::{Header12, Match};
-use samples::{TO_TCP_80, bytes, rule, switch_policy, tcp};
+use samples::{TO_TCP_80, rule, switch_policy, tcp};
 use std::alloc::{AllocError, Global};
 use std::test::Fail;
 
@@ -42,7 +42,13 @@ fn for_all(alloc: Global, command: u16) -> Result<FlowMod, AllocError> {
 }
 
 fn output(alloc: Global, port: u16) -> Result<Actions, AllocError> {
-    Actions::of(alloc, &[Action::Output { port, max_len: 0 }])
+    let output = Action::Output { port, max_len: 0 };
+    Ok(Actions::from_vec(vec![in alloc; output; 1]?))
+}
+
+/// The match of a wildcard word and a protocol, a source and a destination of IPv4.
+fn decoded(word: u32, protocol: u8, source: u32, destination: u32) -> Match {
+    Match::decode(&spelled(word, protocol, source, destination, 0))
 }
 
 // The pieces stand by falling priority, which isn't the order of the file.
@@ -50,24 +56,31 @@ fn output(alloc: Global, port: u16) -> Result<Actions, AllocError> {
 fn the_third_meet_is_the_first(rt: HostRuntime) -> Result<(), Fail> {
     let alloc = rt.alloc();
     let net = 0x0a00_0000;
-    let source = Match::decode(&spelled(0x0038_18ef, 0, net, 0, 0));
-    let tcp_destination = Match::decode(&spelled(0x0036_20cf, 6, 0, net, 0));
-    let destination = Match::decode(&spelled(0x0036_20ef, 0, 0, net, 0));
     let rules = [
-        rule(20, &source, 0, 0),
-        rule(10, &tcp_destination, 0, 0),
-        rule(30, &destination, 0, 0),
+        rule(20, &decoded(0x0038_18ef, 0, net, 0), 0, 0),
+        rule(10, &decoded(0x0036_20cf, 6, 0, net), 0, 0),
+        rule(30, &decoded(0x0036_20ef, 0, 0, net), 0, 0),
     ];
     let policy = switch_policy(alloc, &rules)?;
     let asked = spelled(0x0034_20cf, 6, 0, 0x0a01_0000, 0);
     let found = pieces(alloc, &policy, 0, &Match::decode(&asked))?;
-    let expected = [asked, spelled(0x0034_18cf, 6, net, 0x0a01_0000, 0)];
-    expect_eq!(rt; found.len(), expected.len());
-    for (piece, bytes) in found.iter().zip(expected) {
-        expect_eq!(rt; piece.encode(), bytes);
+    let mut came = Vec::new(alloc);
+    for piece in &found {
+        came.extend_from_slice(&piece.encode())?;
     }
-    expect!(rt; pieces(alloc, &policy, 1, &Match::all())?.is_empty());
-    Ok(())
+    let mut wanted = Vec::from_slice(alloc, &asked)?;
+    wanted.extend_from_slice(&spelled(0x0034_18cf, 6, net, 0x0a01_0000, 0))?;
+    let of_other = pieces(alloc, &policy, 1, &Match::all())?;
+    expect_so(0, came == wanted && of_other.is_empty())
+}
+
+fn have(found: &[Match], h: &Header12) -> bool {
+    for piece in found {
+        if piece.matches(h) {
+            return true;
+        }
+    }
+    false
 }
 
 /// Whether some piece has a header exactly where the match and a rule of the slice have it.
@@ -78,9 +91,11 @@ fn has_what_is_written(
     found: &[Match],
     h: &Header12,
 ) -> bool {
-    let mut rules = policy.rules().iter();
-    let is_written = rules.any(|rule| rule.writer == Some(slot) && rule.pattern.matches(h));
-    found.iter().any(|piece| piece.matches(h)) == (m.matches(h) && is_written)
+    let mut is_written = false;
+    for rule in policy.rules() {
+        is_written |= rule.writer == Some(slot) && rule.pattern.matches(h);
+    }
+    have(found, h) == (m.matches(h) && is_written)
 }
 
 /// The meets of the match with the rules of the slice in rule order.
@@ -113,7 +128,7 @@ fn each_once(alloc: Global, given: &[Match]) -> Result<Vec<Match>, AllocError> {
 }
 
 /// What was met among drawn matches.
-#[derive(Clone, Copy, Debug, Default)]
+#[derive(Clone, Copy, Debug)]
 struct Tally {
     without_pieces: u32,
     of_several_pieces: u32,
@@ -132,11 +147,6 @@ impl Tally {
         count(&mut self.with_repeats, pieces < met);
     }
 
-    fn count_header(&mut self, found: &[Match], h: &Header12) {
-        let is_inside = found.iter().any(|piece| piece.matches(h));
-        count(&mut self.headers_inside, is_inside);
-    }
-
     /// Each case came often enough that a fault in it would be seen.
     fn is_rich(&self) -> bool {
         self.without_pieces >= 500
@@ -144,42 +154,82 @@ impl Tally {
             && self.with_repeats >= 200
             && self.headers_inside >= 1500
     }
+
+    /// Counts the pieces of a drawn match and some headers. Whether they are as they are to be.
+    fn add_drawn(
+        &mut self,
+        alloc: Global,
+        policy: &SwitchPolicy,
+        slot: u8,
+        draws: &mut Draws,
+    ) -> Result<bool, AllocError> {
+        let m = draws.pattern();
+        let found = pieces(alloc, policy, slot, &m)?;
+        let met = meets(alloc, policy, slot, &m)?;
+        let mut are_right = found == each_once(alloc, &met)?;
+        self.count_list(met.len(), found.len());
+        for _ in 0..16 {
+            let h = draws.header();
+            count(&mut self.headers_inside, have(&found, &h));
+            are_right &= has_what_is_written(policy, slot, &m, &found, &h);
+        }
+        Ok(are_right)
+    }
 }
 
 #[test]
 fn pieces_stand_in_rule_order_and_agree_with_membership(rt: HostRuntime) -> Result<(), Fail> {
+    let alloc = rt.alloc();
     let mut draws = Draws::new(1);
-    let mut tally = Tally::default();
-    for number in 0..1000 {
-        let mut rules = Vec::new(rt.alloc());
+    let mut tally = Tally {
+        without_pieces: 0,
+        of_several_pieces: 0,
+        with_repeats: 0,
+        headers_inside: 0,
+    };
+    for number in 0..1000u32 {
+        let mut rules = Vec::new(alloc);
         for _ in 0..8 {
             rules.push(draws.rule())?;
         }
-        let policy = switch_policy(rt.alloc(), &rules)?;
+        let policy = switch_policy(alloc, &rules)?;
         for slot in 0..2 {
-            let m = draws.pattern();
-            let found = pieces(rt.alloc(), &policy, slot, &m)?;
-            let met = meets(rt.alloc(), &policy, slot, &m)?;
-            let expected = each_once(rt.alloc(), &met)?;
-            expect_eq!(rt; found.as_slice(), expected.as_slice(), number);
-            tally.count_list(met.len(), found.len());
-            for _ in 0..16 {
-                let h = draws.header();
-                tally.count_header(&found, &h);
-                expect!(rt;
-                    has_what_is_written(&policy, slot, &m, &found, &h),
-                    (number, &m, &found, &h)
-                );
-            }
+            let are_right = tally.add_drawn(alloc, &policy, slot, &mut draws)?;
+            expect_so(number, are_right)?;
         }
     }
-    expect!(rt; tally.is_rich(), tally);
+    if tally.is_rich() {
+        Ok(())
+    } else {
+        Err(Fail::new(told(alloc, &tally)?))
+    }
+}
+
+/// The messages have each the bytes of its digits.
+fn expect_frames(alloc: Global, frames: &[Frame], wanted: &[&[&str]]) -> Result<(), Fail> {
+    expect_so(0, frames.len() == wanted.len())?;
+    let mut place = 0usize;
+    for frame in frames {
+        match wanted.get(place) {
+            Some(pieces) => expect_bytes(alloc, frame.as_slice(), pieces)?,
+            None => expect_so(0, false)?,
+        }
+        place = place.saturating_add(1);
+    }
     Ok(())
 }
 
-fn is_alone(frames: &[Frame], bytes: &[u8]) -> bool {
-    frames.len() == 1 && frames.iter().all(|frame| frame.as_slice() == bytes)
-}
+const ADDED: &[&str] = &[
+    "010e0050 00000000",
+    TO_TCP_80,
+    "0000000000000000 0000 003c 0000 000a ffffffff ffff 0001 0000000800020000",
+];
+
+const DELETED: &[&str] = &[
+    "010e0048 00000001",
+    TO_TCP_80,
+    "0000000000000000 0003 0000 0000 0000 ffffffff ffff 0000",
+];
 
 #[test]
 fn a_flow_mod_is_sent_for_what_the_slice_writes(rt: HostRuntime) -> Result<(), Fail> {
@@ -197,37 +247,15 @@ fn a_flow_mod_is_sent_for_what_the_slice_writes(rt: HostRuntime) -> Result<(), F
         ..for_all(alloc, ADD)?
     };
     let frames = built(alloc, &add, 0, &found, &[output(alloc, 2)?], None)?;
-    let expected = bytes(
-        alloc,
-        &[
-            "010e0050 00000000",
-            TO_TCP_80,
-            "0000000000000000 0000 003c 0000 000a ffffffff ffff 0001 0000000800020000",
-        ],
-    )?;
-    expect!(rt; is_alone(&frames, &expected));
+    expect_frames(alloc, &frames, &[ADDED])?;
     let delete = for_all(alloc, DELETE)?;
     let frames = built(alloc, &delete, 1, &found, &[strips(alloc, 0)?], None)?;
-    let expected = bytes(
-        alloc,
-        &[
-            "010e0048 00000001",
-            TO_TCP_80,
-            "0000000000000000 0003 0000 0000 0000 ffffffff ffff 0000",
-        ],
-    )?;
-    expect!(rt; is_alone(&frames, &expected));
-    Ok(())
-}
-
-/// The bytes of a message for a match, from the cookie on as given.
-fn sent(alloc: Global, head: &str, m: &str, tail: &str) -> Result<Vec<u8>, AllocError> {
-    bytes(alloc, &[head, "01000007", m, "0102030405060708", tail])
+    expect_frames(alloc, &frames, &[DELETED])
 }
 
 /// A command, the buffer that is given, and what follows the cookie in the messages for two pieces, of
 /// which the first has an action.
-const SENT: [(u16, Option<(u32, u32)>, &str, &str); 5] = [
+const SENT: &[(u16, Option<(u32, u32)>, &str, &str)] = &[
     (
         ADD,
         Some((1, 0x99)),
@@ -264,6 +292,7 @@ const SENT: [(u16, Option<(u32, u32)>, &str, &str); 5] = [
 fn each_piece_has_its_actions_and_one_the_buffer(rt: HostRuntime) -> Result<(), Fail> {
     let alloc = rt.alloc();
     let lists = [output(alloc, 1)?, strips(alloc, 0)?];
+    let found = [tcp(None, 80), tcp(None, 22)];
     for (command, buffer, first, second) in SENT {
         let asked = FlowMod {
             cookie: 0x0102_0304_0506_0708,
@@ -273,29 +302,29 @@ fn each_piece_has_its_actions_and_one_the_buffer(rt: HostRuntime) -> Result<(), 
             buffer: 5,
             out_port: 0x14,
             flags: CHECK_OVERLAP,
-            ..for_all(alloc, command)?
+            ..for_all(alloc, *command)?
         };
-        let head = if command < DELETE {
+        let head = if *command < DELETE {
             "010e0050"
         } else {
             "010e0048"
         };
-        let expected = [
-            sent(alloc, head, TO_TCP_80, first)?,
-            sent(alloc, "010e0048", M22, second)?,
-        ];
-        let found = [tcp(None, 80), tcp(None, 22)];
-        let frames = built(alloc, &asked, 0x0100_0007, &found, &lists, buffer)?;
-        expect_eq!(rt; frames.len(), 2);
-        for (frame, bytes) in frames.iter().zip(&expected) {
-            expect_eq!(rt; frame.as_slice(), &bytes[..], command);
-        }
+        let (xid, cookie) = ("01000007", "0102030405060708");
+        let frames = built(alloc, &asked, 0x0100_0007, &found, &lists, *buffer)?;
+        expect_frames(
+            alloc,
+            &frames,
+            &[
+                &[head, xid, TO_TCP_80, cookie, first],
+                &["010e0048", xid, M22, cookie, second],
+            ],
+        )?;
     }
     Ok(())
 }
 
-/// How many messages `build` makes for lists of so many actions of 8 bytes each.
-fn made(alloc: Global, command: u16, counts: &[usize]) -> Result<Result<usize, BuildFault>, Fail> {
+/// What is told of the messages that `build` makes for lists of so many actions of 8 bytes each: how many they are.
+fn made(alloc: Global, command: u16, counts: &[usize]) -> Result<String, AllocError> {
     let asked = for_all(alloc, command)?;
     let mut found = Vec::new(alloc);
     let mut lists = Vec::new(alloc);
@@ -303,30 +332,32 @@ fn made(alloc: Global, command: u16, counts: &[usize]) -> Result<Result<usize, B
         found.push(tcp(None, 80))?;
         lists.push(strips(alloc, *count)?)?;
     }
-    let frames = built(alloc, &asked, 0, &found, &lists, None);
-    Ok(frames.map(|frames| frames.len()))
+    match built(alloc, &asked, 0, &found, &lists, None) {
+        Ok(frames) => told(alloc, &frames.len()),
+        Err(fault) => told(alloc, &fault),
+    }
 }
+
+/// Commands, the lengths of lists, and what is told of the messages for them.
+const SIZES: &[(u16, &[usize], &str)] = &[
+    // 65,528 bytes and 65,536 bytes
+    (ADD, &[8182], "1"),
+    (ADD, &[0, 8183], "TooLarge"),
+    (DELETE, &[0, 8183], "2"),
+    // together 262,144 bytes and 8 more
+    (ADD, &[8182, 8182, 8182, 4088, 4089], "5"),
+    (ADD, &[8182, 8182, 8182, 4089, 4089], "TooLarge"),
+    (DELETE, &[8182, 8182, 8182, 4089, 4089], "5"),
+    // 3,640 messages without actions have 262,080 bytes
+    (ADD, &[0; 3640], "3640"),
+    (DELETE, &[0; 3641], "TooLarge"),
+];
 
 #[test]
 fn messages_keep_to_their_sizes(rt: HostRuntime) -> Result<(), Fail> {
-    let too_large = Err(BuildFault::TooLarge);
-    let least = [0; 3641];
-    let table = [
-        // 65,528 bytes and 65,536 bytes
-        (ADD, &[8182][..], Ok(1)),
-        (ADD, &[0, 8183], too_large),
-        (DELETE, &[0, 8183], Ok(2)),
-        // together 262,144 bytes and 8 more
-        (ADD, &[8182, 8182, 8182, 4088, 4089], Ok(5)),
-        (ADD, &[8182, 8182, 8182, 4089, 4089], too_large),
-        (DELETE, &[8182, 8182, 8182, 4089, 4089], Ok(5)),
-        // 3,640 messages without actions have 262,080 bytes
-        (ADD, &least[1..], Ok(3640)),
-        (DELETE, &least, too_large),
-    ];
-    for (index, (command, counts, expected)) in table.iter().enumerate() {
-        let answer = made(rt.alloc(), *command, counts)?;
-        expect_eq!(rt; answer, *expected, index);
+    for (command, counts, wanted) in SIZES {
+        let came = made(rt.alloc(), *command, counts)?;
+        expect(u32::from(*command), &came, wanted)?;
     }
     Ok(())
 }

@@ -3,7 +3,7 @@
 ghost use Rattle.std.specs.Prelude.{All, IfOk};
 ghost use Rattle.flowspace.specs.Slices.{IsPlainSlice};
 
-use crate::expectations::expect_eq;
+use crate::tests::tables::{expect, expect_so, told};
 use flowspace::{Policy, PolicyFault, Rule, Slice, SwitchPolicy};
 use rule_index::RuleIndex;
 use samples::{packet, plain_rules, rule, slice, tcp};
@@ -12,14 +12,15 @@ use std::test::Fail;
 
 const RULES: u16 = 2048;
 
-/// The slices s0 to s7.
+const NAMES: &[&str] = &["s0", "s1", "s2", "s3", "s4", "s5", "s6", "s7"];
+
+/// The slices of these names.
 fn eight_slices(alloc: Global) -> Result<Vec<Slice>, AllocError>
     ensures { IfOk result (λ v. All IsPlainSlice v.items) }
 {
     let mut slices = Vec::new(alloc);
-    for slot in 0..8_u8 {
-        let name = format!(in alloc; "s{slot}")?;
-        slices.push(slice(alloc, name.as_str())?)?;
+    for name in NAMES {
+        slices.push(slice(alloc, name)?)?;
     }
     Ok(slices)
 }
@@ -47,12 +48,14 @@ fn switch_of_eight_slices(alloc: Global) -> Result<SwitchPolicy, Fail> {
 
 #[test]
 fn looks_up_the_last_of_many_rules_and_its_owner(rt: HostRuntime) -> Result<(), Fail> {
-    let policy = switch_of_eight_slices(rt.alloc())?;
-    let index = RuleIndex::build(rt.alloc(), &policy)?;
-    expect_eq!(rt; index.first(&packet(1, 0x0a00_0002, 2047)), Some(2047));
-    expect_eq!(rt; index.owner_of(&tcp(None, 2047)), Some(7));
-    expect_eq!(rt; index.first(&packet(1, 0x0a00_0002, 2048)), None);
-    Ok(())
+    let alloc = rt.alloc();
+    let policy = switch_of_eight_slices(alloc)?;
+    let index = RuleIndex::build(alloc, &policy)?;
+    let last = index.first(&packet(1, 0x0a00_0002, 2047));
+    let owner = index.owner_of(&tcp(None, 2047));
+    let behind = index.first(&packet(1, 0x0a00_0002, 2048));
+    let came = told(alloc, &(last, owner, behind))?;
+    expect(0, &came, "(Some(2047), Some(7), None)")
 }
 
 #[test]
@@ -62,8 +65,9 @@ fn answers_for_each_of_many_rules_as_the_policy_does(rt: HostRuntime) -> Result<
     for port in 0..RULES {
         let header = packet(1, 0x0a00_0002, port);
         let own = tcp(None, port);
-        expect_eq!(rt; index.first(&header), policy.first(&header), port);
-        expect_eq!(rt; index.owner_of(&own), policy.owner_of(&own), port);
+        let alike = index.first(&header) == policy.first(&header)
+            && index.owner_of(&own) == policy.owner_of(&own);
+        expect_so(u32::from(port), alike)?;
     }
     Ok(())
 }

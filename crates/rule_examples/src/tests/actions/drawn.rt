@@ -1,8 +1,7 @@
 //! Rules, packets and actions of few values, drawn.
 
-use super::given::{ALICE, BOB, FIRST_NET, SECOND_NET};
+use super::given::{ALICE, BOB, FIRST_NET, SECOND_NET, enqueue, output};
 use super::plain::Grant;
-use super::{enqueue, output};
 use of10_action::Action;
 use of10_match::Header12;
 use of10_port::protocol::{ALL, CONTROLLER, FLOOD, IN_PORT, NONE};
@@ -156,12 +155,12 @@ impl Draws {
 
     fn sending(&mut self) -> Action {
         match self.numbers.below(6) {
-            0 => enqueue(1),
-            1 => output(CONTROLLER),
-            2 => output(FLOOD),
-            3 => output(ALL),
-            4 => output(IN_PORT),
-            _ => output(2),
+            0 => enqueue!(1),
+            1 => output!(CONTROLLER),
+            2 => output!(FLOOD),
+            3 => output!(ALL),
+            4 => output!(IN_PORT),
+            _ => output!(2),
         }
     }
 }

@@ -9,7 +9,6 @@ use action_check::{CheckFault, Origin, check};
 use flowspace::SwitchPolicy;
 use of10_action::{Action, Actions};
 use std::alloc::{AllocError, Global};
-use std::test::Fail;
 
 /// The slots of the two slices.
 pub const ALICE: u8 = 0;
@@ -20,6 +19,29 @@ pub const BOB: u8 = 1;
 pub const FIRST_NET: u32 = 0x0a01_0000;
 
 pub const SECOND_NET: u32 = 0x0a02_0000;
+
+/// An action that sends out of a port.
+macro_rules! output {
+    ($port:expr) => {
+        Action::Output {
+            port: $port,
+            max_len: 0,
+        }
+    };
+}
+
+/// An action that sends to a queue of a port.
+macro_rules! enqueue {
+    ($port:expr) => {
+        Action::Enqueue {
+            port: $port,
+            queue: 7,
+        }
+    };
+}
+
+pub(crate) use enqueue;
+pub(crate) use output;
 
 fn are_ports(policy: &SwitchPolicy, slot: u8, ports: &[u16]) -> bool
     ensures { result ≡ list_all (has_port policy.now.rules slot) ports.now }
@@ -50,36 +72,10 @@ pub fn answer_with(
     origin: &Origin,
     actions: &[Action],
     ports: (&[u16], &[u16]),
-) -> Result<Result<Actions, CheckFault>, Fail> {
+) -> Result<Result<Actions, CheckFault>, AllocError> {
     let (flood, all) = ports;
     if are_ports(policy, slot, flood) && are_ports(policy, slot, all) && have_addresses(actions) {
         return Ok(check(alloc, policy, slot, origin, actions, flood, all));
     }
-    Err(AllocError)?
-}
-
-/// What it answers where a switch has the ports 1, 2 and 3, and floods don't leave port 2.
-pub fn answer(
-    alloc: Global,
-    policy: &SwitchPolicy,
-    slot: u8,
-    origin: &Origin,
-    actions: &[Action],
-) -> Result<Result<Actions, CheckFault>, Fail> {
-    answer_with(alloc, policy, slot, origin, actions, (&[1, 3], &[1, 2, 3]))
-}
-
-/// The code for which an action is refused; `None` where a list is given.
-pub fn code(
-    alloc: Global,
-    policy: &SwitchPolicy,
-    slot: u8,
-    origin: &Origin,
-    actions: &[Action],
-) -> Result<Option<u16>, Fail> {
-    match answer(alloc, policy, slot, origin, actions)? {
-        Ok(_) => Ok(None),
-        Err(CheckFault::Refused(code)) => Ok(Some(code)),
-        Err(_) => Err(AllocError)?,
-    }
+    Err(AllocError)
 }

@@ -7,7 +7,7 @@ use of10_port::protocol::{ALL, CONTROLLER, FLOOD, IN_PORT, LOCAL, TABLE};
 use samples::Packets;
 
 /// What a list of actions is for.
-#[derive(Clone, Copy, Debug, PartialEq, Eq)]
+#[derive(Clone, Copy, PartialEq, Eq)]
 pub enum Kind {
     Piece,
     Packet,
@@ -15,7 +15,7 @@ pub enum Kind {
 }
 
 /// The packets of a rule, and the slice that writes them.
-#[derive(Clone, Copy, Debug, PartialEq, Eq)]
+#[derive(Clone, Copy)]
 pub struct Grant {
     pub packets: Packets,
     pub writer: u8,
@@ -29,37 +29,49 @@ fn has_address(packets: &Packets, address: u32) -> bool {
     }
 }
 
+/// Whether the port is the one that is wanted, or any is.
+fn is_wanted(wanted: Option<u16>, port: u16) -> bool {
+    match wanted {
+        Some(one) => one == port,
+        None => true,
+    }
+}
+
 /// Whether a TCP packet is one of these.
-pub fn has(packets: &Packets, header: &Header12) -> bool {
-    packets.in_port.is_none_or(|port| port == header.in_port)
+fn has(packets: &Packets, header: &Header12) -> bool {
+    is_wanted(packets.in_port, header.in_port)
         && has_address(packets, header.nw_dst)
-        && packets.tcp.is_none_or(|port| port == header.tp_dst)
+        && is_wanted(packets.tcp, header.tp_dst)
 }
 
 /// Whether the first rule that has the packet is the slice's.
 fn is_written(grants: &[Grant], header: &Header12) -> bool {
-    match grants.iter().find(|grant| has(&grant.packets, header)) {
-        Some(grant) => grant.writer == ALICE,
-        None => false,
+    for grant in grants {
+        if has(&grant.packets, header) {
+            return grant.writer == ALICE;
+        }
     }
+    false
 }
 
 // No rule that is drawn names another port than 1 and 2, so 3 stands for all others.
 fn is_written_from_somewhere(grants: &[Grant], header: &Header12) -> bool {
-    [1, 2, 3].iter().any(|port| {
-        let entered = Header12 {
-            in_port: *port,
-            ..*header
-        };
-        is_written(grants, &entered)
-    })
+    let mut is_somewhere = false;
+    for in_port in 1..4u16 {
+        let entered = Header12 { in_port, ..*header };
+        is_somewhere |= is_written(grants, &entered);
+    }
+    is_somewhere
 }
 
 /// Whether a port is one of the slice's.
 pub fn is_own_port(grants: &[Grant], port: u16) -> bool {
-    let mut own = grants.iter().filter(|grant| grant.writer == ALICE);
-    (port <= 0xff00 || port == LOCAL)
-        && own.any(|grant| grant.packets.in_port.is_none_or(|entry| entry == port))
+    for grant in grants {
+        if grant.writer == ALICE && is_wanted(grant.packets.in_port, port) {
+            return port <= 0xff00 || port == LOCAL;
+        }
+    }
+    false
 }
 
 fn may_leave(grants: &[Grant], kind: Kind, image: &Header12) -> bool {
@@ -134,11 +146,12 @@ pub fn rewrites(header: &Header12, actions: &[Action]) -> bool {
 
 /// Whether no action of the list sends to FLOOD or ALL.
 pub fn names_its_ports(actions: &[Action]) -> bool {
-    actions.iter().all(|action| !matches!(
-        *action,
-        Action::Output {
-            port: FLOOD | ALL,
-            ..
+    for action in actions {
+        if let Action::Output { port, .. } = action {
+            if *port == FLOOD || *port == ALL {
+                return false;
+            }
         }
-    ))
+    }
+    true
 }

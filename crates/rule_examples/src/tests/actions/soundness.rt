@@ -1,10 +1,9 @@
 //! Drawn lists for drawn policies: what is given is judged packet by packet.
 
 use super::drawn::Draws;
-use super::given::answer_with;
+use super::given::{answer_with, enqueue, output};
 use super::plain::{Grant, Kind, is_own_port, may_have, names_its_ports, rewrites};
-use super::{enqueue, output};
-use crate::expectations::{expect, expect_eq};
+use crate::tests::tables::told;
 use action_check::CheckFault::Refused;
 use action_check::{CheckFault, Origin};
 use flowspace::{PolicyFault, Rule, SwitchPolicy};
@@ -22,7 +21,7 @@ const ROUNDS: u32 = 400;
 const SAMPLES: u32 = 8;
 
 /// A list of actions and what it is for.
-#[derive(Clone, Copy, Debug)]
+#[derive(Clone, Copy)]
 struct Case {
     kind: Kind,
     /// The packets of a piece, and one of them.
@@ -95,7 +94,7 @@ impl Case {
 }
 
 /// What becomes of the lists that end with one output.
-#[derive(Clone, Copy, Debug, PartialEq, Eq)]
+#[derive(Clone, Copy, Debug)]
 struct Tally {
     /// Lists that are given, and those of them that make a packet another.
     given: u32,
@@ -156,7 +155,7 @@ fn answered(
     policy: &SwitchPolicy,
     grants: &[Grant],
     case: &Case,
-) -> Result<Result<Actions, CheckFault>, Fail> {
+) -> Result<Result<Actions, CheckFault>, AllocError> {
     let flood = own_ports(alloc, grants, &[1, 3])?;
     let all = own_ports(alloc, grants, &[1, 2, 3])?;
     let origin = case.origin();
@@ -191,20 +190,18 @@ fn tallied(alloc: Global, draws: &mut Draws, kind: Kind, last: Action) -> Result
 }
 
 /// Outputs, and whether lists for pieces, for packets and for probes that end with one are given at all.
-fn outputs() -> [(Action, [bool; 3]); 10] {
-    [
-        (output(1), [true, true, true]),
-        (output(2), [true, true, true]),
-        (output(FLOOD), [true, true, true]),
-        (output(ALL), [true, true, true]),
-        (output(IN_PORT), [true, true, true]),
-        (output(CONTROLLER), [true, true, false]),
-        (output(TABLE), [false, true, false]),
-        (output(NORMAL), [false, false, false]),
-        (enqueue(2), [true, true, true]),
-        (enqueue(IN_PORT), [true, true, true]),
-    ]
-}
+const OUTPUTS: &[(Action, [bool; 3])] = &[
+    (output!(1), [true, true, true]),
+    (output!(2), [true, true, true]),
+    (output!(FLOOD), [true, true, true]),
+    (output!(ALL), [true, true, true]),
+    (output!(IN_PORT), [true, true, true]),
+    (output!(CONTROLLER), [true, true, false]),
+    (output!(TABLE), [false, true, false]),
+    (output!(NORMAL), [false, false, false]),
+    (enqueue!(2), [true, true, true]),
+    (enqueue!(IN_PORT), [true, true, true]),
+];
 
 /// Whether lists that end with an output are given often and refused often, for what the slice may not do
 /// too; or none is given.
@@ -220,35 +217,34 @@ fn tells_enough(kind: Kind, tally: &Tally, is_given: bool) -> bool {
     }
 }
 
-#[test]
-fn lists_for_pieces_are_sound(rt: HostRuntime) -> Result<(), Fail> {
-    let mut draws = Draws::new(11);
-    for (last, [is_given, _, _]) in outputs() {
-        let tally = tallied(rt.alloc(), &mut draws, Kind::Piece, last)?;
-        expect_eq!(rt; tally.wrong, 0, (last, tally));
-        expect!(rt; tells_enough(Kind::Piece, &tally, is_given), (last, tally));
+/// Lists of a kind that end with one of the outputs are given as they may be.
+fn expect_sound(alloc: Global, seed: u64, kind: Kind) -> Result<(), Fail> {
+    let mut draws = Draws::new(seed);
+    for (last, [for_piece, for_packet, for_probe]) in OUTPUTS {
+        let is_given = match kind {
+            Kind::Piece => *for_piece,
+            Kind::Packet => *for_packet,
+            Kind::Probe => *for_probe,
+        };
+        let tally = tallied(alloc, &mut draws, kind, *last)?;
+        if tally.wrong > 0 || !tells_enough(kind, &tally, is_given) {
+            return Err(Fail::new(told(alloc, &(*last, tally))?));
+        }
     }
     Ok(())
+}
+
+#[test]
+fn lists_for_pieces_are_sound(rt: HostRuntime) -> Result<(), Fail> {
+    expect_sound(rt.alloc(), 11, Kind::Piece)
 }
 
 #[test]
 fn lists_are_given_exactly_for_packets_that_may_be_sent(rt: HostRuntime) -> Result<(), Fail> {
-    let mut draws = Draws::new(12);
-    for (last, [_, is_given, _]) in outputs() {
-        let tally = tallied(rt.alloc(), &mut draws, Kind::Packet, last)?;
-        expect_eq!(rt; tally.wrong, 0, (last, tally));
-        expect!(rt; tells_enough(Kind::Packet, &tally, is_given), (last, tally));
-    }
-    Ok(())
+    expect_sound(rt.alloc(), 12, Kind::Packet)
 }
 
 #[test]
 fn lists_are_given_exactly_for_probes_that_may_be_sent(rt: HostRuntime) -> Result<(), Fail> {
-    let mut draws = Draws::new(13);
-    for (last, [_, _, is_given]) in outputs() {
-        let tally = tallied(rt.alloc(), &mut draws, Kind::Probe, last)?;
-        expect_eq!(rt; tally.wrong, 0, (last, tally));
-        expect!(rt; tells_enough(Kind::Probe, &tally, is_given), (last, tally));
-    }
-    Ok(())
+    expect_sound(rt.alloc(), 13, Kind::Probe)
 }

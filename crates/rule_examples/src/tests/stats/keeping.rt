@@ -3,11 +3,10 @@
 ghost use Rattle.std.specs.Prelude.{IsTrue};
 ghost use Rattle.of10_stats.specs.Replies.{IsEntry};
 
-use crate::expectations::expect_eq;
+use crate::tests::tables::expect_so;
 use flowspace::SwitchPolicy;
-use of10_match::Match;
 use of10_stats::entry_size;
-use samples::{ANY, match_of, rule, switch_policy, tcp};
+use samples::{ANY, Packets, match_of, rule, switch_policy};
 use stats_filter::{keep, type_sent};
 use std::alloc::{AllocError, Global};
 use std::test::Fail;
@@ -24,94 +23,144 @@ fn is_entry(kind: u16, bytes: &[u8]) -> bool
     entry_size(kind, bytes) == Some(bytes.len())
 }
 
-/// Whether the slices keep the entry that came for a request of the kind, where it may come.
-fn kept_by_both(policy: &SwitchPolicy, kind: AskKind, entry: &[u8]) -> Option<(bool, bool)> {
-    let sent = type_sent(kind)?;
-    if !is_entry(sent, entry) {
-        return None;
+/// An entry that a switch sends.
+enum Entry {
+    /// A flow without actions, whose counts are zero.
+    Flow(Packets),
+    /// One of so many bytes that begins with a port's number.
+    Port(u16, usize),
+    /// Of so many bytes that are all the same.
+    Filled(usize),
+}
+
+fn bytes_of(alloc: Global, entry: &Entry) -> Result<Vec<u8>, AllocError> {
+    match entry {
+        Entry::Flow(packets) => {
+            let mut bytes = Vec::from_slice(alloc, &[0, 88, 0, 0])?;
+            bytes.extend_from_slice(&match_of(packets).encode())?;
+            bytes.resize(88, 0)?;
+            Ok(bytes)
+        }
+        Entry::Port(port, length) => {
+            let mut bytes = Vec::from_slice(alloc, &port.to_be_bytes())?;
+            bytes.resize(*length, 0)?;
+            Ok(bytes)
+        }
+        Entry::Filled(length) => vec![in alloc; 0x2a; *length],
     }
-    Some((
-        keep(policy, ALICE, kind, entry),
-        keep(policy, BOB, kind, entry),
-    ))
 }
 
-/// A flow's entry without actions, whose counts are zero.
-fn flow_entry(alloc: Global, pattern: &Match) -> Result<Vec<u8>, AllocError> {
-    let mut bytes = Vec::from_slice(alloc, &[0, 88, 0, 0])?;
-    bytes.extend_from_slice(&pattern.encode())?;
-    bytes.extend_from_slice(&[0; 44])?;
-    Ok(bytes)
+/// Whether the slice keeps the entry that came for a request of the kind, where it may come.
+fn kept(policy: &SwitchPolicy, slot: u8, kind: AskKind, entry: &[u8]) -> Option<bool> {
+    let sent = type_sent(kind)?;
+    if is_entry(sent, entry) {
+        Some(keep(policy, slot, kind, entry))
+    } else {
+        None
+    }
 }
 
-/// An entry of so many bytes that begins with a port's number.
-fn port_entry(alloc: Global, port: u16, length: usize) -> Result<Vec<u8>, AllocError> {
-    let mut bytes = Vec::from_slice(alloc, &port.to_be_bytes())?;
-    bytes.resize(length, 0)?;
-    Ok(bytes)
+/// The kind of a request, an entry that comes for it, and whether alice and bob keep it.
+type Row = (AskKind, Entry, bool, bool);
+
+/// Whether the slice keeps the entry of a row or not, as is wanted.
+fn is_as(policy: &SwitchPolicy, slot: u8, kind: AskKind, entry: &[u8], wanted: bool) -> bool {
+    match kept(policy, slot, kind, entry) {
+        Some(is_kept) => is_kept == wanted,
+        None => false,
+    }
 }
+
+/// Each slice keeps the entries that it is to keep.
+fn expect_rows(alloc: Global, policy: &SwitchPolicy, rows: &[Row]) -> Result<(), Fail> {
+    let mut place = 0u32;
+    for (kind, entry, alice, bob) in rows {
+        let entry = bytes_of(alloc, entry)?;
+        let for_alice = is_as(policy, ALICE, *kind, &entry, *alice);
+        let for_bob = is_as(policy, BOB, *kind, &entry, *bob);
+        expect_so(place, for_alice && for_bob)?;
+        place = place.saturating_add(1);
+    }
+    Ok(())
+}
+
+/// Web packets, all or those from a port, are alice's, and those of shells bob's.
+fn expect_kept(alloc: Global, web: &Packets, rows: &[Row]) -> Result<(), Fail> {
+    let rules = [
+        rule(100, &match_of(web), ALICE, 0),
+        rule(50, &match_of(&SHELL), BOB, 0),
+    ];
+    let policy = switch_policy(alloc, &rules)?;
+    expect_rows(alloc, &policy, rows)
+}
+
+const WEB: Packets = Packets {
+    tcp: Some(80),
+    ..ANY
+};
+
+const SHELL: Packets = Packets {
+    tcp: Some(22),
+    ..ANY
+};
+
+const SECURE: Packets = Packets {
+    tcp: Some(443),
+    ..ANY
+};
+
+const WEB_FROM_3: Packets = Packets {
+    in_port: Some(3),
+    tcp: Some(80),
+    ..ANY
+};
+
+const WEB_FROM_1: Packets = Packets {
+    in_port: Some(1),
+    tcp: Some(80),
+    ..ANY
+};
+
+const FLOWS: &[Row] = &[
+    (AskKind::Flow, Entry::Flow(WEB), true, false),
+    (AskKind::Aggregate, Entry::Flow(WEB), true, false),
+    (AskKind::Flow, Entry::Flow(WEB_FROM_3), true, false),
+    (AskKind::Aggregate, Entry::Flow(WEB_FROM_3), true, false),
+    (AskKind::Flow, Entry::Flow(SHELL), false, true),
+    (AskKind::Aggregate, Entry::Flow(SHELL), false, true),
+    (AskKind::Flow, Entry::Flow(SECURE), false, false),
+    (AskKind::Aggregate, Entry::Flow(SECURE), false, false),
+    (AskKind::Flow, Entry::Flow(ANY), false, false),
+    (AskKind::Aggregate, Entry::Flow(ANY), false, false),
+];
 
 #[test]
 fn flows_within_a_write_rule_are_kept(rt: HostRuntime) -> Result<(), Fail> {
-    let alloc = rt.alloc();
-    let rules = [
-        rule(100, &tcp(None, 80), ALICE, 0),
-        rule(50, &tcp(None, 22), BOB, 0),
-    ];
-    let policy = switch_policy(alloc, &rules)?;
-    let rows = [
-        (tcp(None, 80), (true, false)),
-        (tcp(Some(3), 80), (true, false)),
-        (tcp(None, 22), (false, true)),
-        (tcp(None, 443), (false, false)),
-        (match_of(&ANY), (false, false)),
-    ];
-    for (pattern, kept) in &rows {
-        let entry = flow_entry(alloc, pattern)?;
-        expect_eq!(rt; kept_by_both(&policy, AskKind::Flow, &entry), Some(*kept));
-        expect_eq!(rt;
-            kept_by_both(&policy, AskKind::Aggregate, &entry),
-            Some(*kept)
-        );
-    }
-    Ok(())
+    expect_kept(rt.alloc(), &WEB, FLOWS)
 }
+
+const PORTS: &[Row] = &[
+    (AskKind::Port, Entry::Port(1, 104), true, true),
+    (AskKind::Queue, Entry::Port(1, 32), true, true),
+    (AskKind::Port, Entry::Port(2, 104), false, true),
+    (AskKind::Queue, Entry::Port(2, 32), false, true),
+    (AskKind::Port, Entry::Port(0xfffe, 104), false, true),
+    (AskKind::Queue, Entry::Port(0xfffe, 32), false, true),
+    (AskKind::Port, Entry::Port(0xffff, 104), false, false),
+    (AskKind::Queue, Entry::Port(0xffff, 32), false, false),
+];
 
 #[test]
 fn ports_of_the_slice_and_their_queues_are_kept(rt: HostRuntime) -> Result<(), Fail> {
-    let alloc = rt.alloc();
-    let rules = [
-        rule(100, &tcp(Some(1), 80), ALICE, 0),
-        rule(50, &tcp(None, 22), BOB, 0),
-    ];
-    let policy = switch_policy(alloc, &rules)?;
-    let rows = [
-        (1, (true, true)),
-        (2, (false, true)),
-        (0xfffe, (false, true)),
-        (0xffff, (false, false)),
-    ];
-    for (port, kept) in &rows {
-        let of_port = port_entry(alloc, *port, 104)?;
-        expect_eq!(rt; kept_by_both(&policy, AskKind::Port, &of_port), Some(*kept));
-        let of_queue = port_entry(alloc, *port, 32)?;
-        expect_eq!(rt;
-            kept_by_both(&policy, AskKind::Queue, &of_queue),
-            Some(*kept)
-        );
-    }
-    Ok(())
+    expect_kept(rt.alloc(), &WEB_FROM_1, PORTS)
 }
+
+const DESCRIPTIONS: &[Row] = &[(AskKind::Desc, Entry::Filled(1056), true, true)];
 
 #[test]
 fn what_the_switch_is_is_kept_by_all(rt: HostRuntime) -> Result<(), Fail> {
     let alloc = rt.alloc();
     let policy = switch_policy(alloc, &[])?;
-    let description = vec![in alloc; 0x2a; 1056]?;
-    expect_eq!(rt;
-        kept_by_both(&policy, AskKind::Desc, &description),
-        Some((true, true))
-    );
-    expect_eq!(rt; kept_by_both(&policy, AskKind::Barrier, &description), None);
-    Ok(())
+    expect_rows(alloc, &policy, DESCRIPTIONS)?;
+    expect_so(1, type_sent(AskKind::Barrier).is_none())
 }
