@@ -11,7 +11,7 @@ use match_meet::{includes, meet};
 use std::alloc::{AllocError, Global};
 
 /// A question about matches and headers.
-#[derive(Clone, Copy, Debug, PartialEq, Eq)]
+#[derive(Clone, Copy)]
 pub enum Question {
     /// Whether a match has a header.
     Matches,
@@ -22,7 +22,7 @@ pub enum Question {
 }
 
 /// A call that is measured.
-#[derive(Clone, Copy, Debug, PartialEq, Eq)]
+#[derive(Clone, Copy)]
 pub enum Benchmark {
     Asks(Question),
     /// Cutting a stream into frames.
@@ -45,76 +45,90 @@ pub enum Benchmark {
     Report(Keeping),
 }
 
+/// What is told of a benchmark's speed: fewer calls are too few to tell it; a call counts as so many, and a million of
+/// these in a second are one of the unit.
+#[derive(Clone, Copy)]
+pub struct Scale {
+    pub least: u64,
+    pub each: u64,
+    pub unit: &'static str,
+}
+
+const MILLIONS: Scale = Scale {
+    least: 1_000_000,
+    each: 1,
+    unit: "million",
+};
+
+const THOUSANDS: Scale = Scale {
+    least: 10_000,
+    each: 1_000,
+    unit: "thousand",
+};
+
+const EVENTS: Scale = Scale {
+    least: 10_000,
+    each: 1_000_000,
+    unit: "events",
+};
+
+const POLICIES: Scale = Scale {
+    least: 10,
+    each: 1_000_000,
+    unit: "policies",
+};
+
+/// Of calls that read 4,096 bytes of a stream.
+const PIECES: Scale = Scale {
+    least: 1_000_000,
+    each: Messages::PIECE as u64,
+    unit: "MB",
+};
+
+/// Of the reading of a message of 82 bytes.
+const SMALL: Scale = Scale {
+    least: 1_000_000,
+    each: 82,
+    unit: "MB",
+};
+
+/// Of the reading of one of 1,518 bytes.
+const LARGE: Scale = Scale {
+    least: 1_000_000,
+    each: 1_518,
+    unit: "MB",
+};
+
+/// A benchmark by its name, and how its speed is told.
+pub type Named = (&'static str, Benchmark, Scale);
+
 /// Those that `all` runs, in the order in which they are made.
-pub const ALL: [Benchmark; 17] = [
-    Benchmark::Asks(Question::Matches),
-    Benchmark::Asks(Question::Meet),
-    Benchmark::Asks(Question::Includes),
-    Benchmark::Framing,
-    Benchmark::SmallPackets,
-    Benchmark::LargePackets,
-    Benchmark::Splitting,
-    Benchmark::Sending,
-    Benchmark::Checking,
-    Benchmark::Of(Part::Issue),
-    Benchmark::Of(Part::Find),
-    Benchmark::Of(Part::Ask),
-    Benchmark::Of(Part::Booked),
-    Benchmark::Of(Part::Overlaps),
-    Benchmark::Of(Part::Newcomers),
-    Benchmark::Report(Keeping::Nothing),
-    Benchmark::Report(Keeping::EachPacket),
+pub const ALL: &[Named] = &[
+    ("matches", Benchmark::Asks(Question::Matches), MILLIONS),
+    ("meet", Benchmark::Asks(Question::Meet), MILLIONS),
+    ("includes", Benchmark::Asks(Question::Includes), MILLIONS),
+    ("framing", Benchmark::Framing, PIECES),
+    ("packet-in-64", Benchmark::SmallPackets, SMALL),
+    ("packet-in-1500", Benchmark::LargePackets, LARGE),
+    ("pieces", Benchmark::Splitting, THOUSANDS),
+    ("build", Benchmark::Sending, THOUSANDS),
+    ("actions", Benchmark::Checking, THOUSANDS),
+    ("issue", Benchmark::Of(Part::Issue), MILLIONS),
+    ("find", Benchmark::Of(Part::Find), MILLIONS),
+    ("ask", Benchmark::Of(Part::Ask), MILLIONS),
+    ("booked", Benchmark::Of(Part::Booked), MILLIONS),
+    ("overlaps", Benchmark::Of(Part::Overlaps), THOUSANDS),
+    ("newcomers", Benchmark::Of(Part::Newcomers), THOUSANDS),
+    ("report", Benchmark::Report(Keeping::Nothing), EVENTS),
+    (
+        "report-buffered",
+        Benchmark::Report(Keeping::EachPacket),
+        EVENTS,
+    ),
 ];
 
-impl Benchmark {
-    /// Its name.
-    pub fn name(self) -> &'static str {
-        match self {
-            Benchmark::Asks(Question::Matches) => "matches",
-            Benchmark::Asks(Question::Meet) => "meet",
-            Benchmark::Asks(Question::Includes) => "includes",
-            Benchmark::Framing => "framing",
-            Benchmark::SmallPackets => "packet-in-64",
-            Benchmark::LargePackets => "packet-in-1500",
-            Benchmark::Splitting => "pieces",
-            Benchmark::Sending => "build",
-            Benchmark::Checking => "actions",
-            Benchmark::Policies => "check",
-            Benchmark::Of(part) => part.name(),
-            Benchmark::Report(Keeping::Nothing) => "report",
-            Benchmark::Report(Keeping::EachPacket) => "report-buffered",
-        }
-    }
-
-    /// Fewer calls than these are too few to measure.
-    pub fn least_measured(self) -> u64 {
-        match self {
-            Benchmark::Policies => 10,
-            Benchmark::Of(part) => part.least_measured(),
-            Benchmark::Splitting
-            | Benchmark::Sending
-            | Benchmark::Checking
-            | Benchmark::Report(_) => 10_000,
-            _ => 1_000_000,
-        }
-    }
-
-    /// How many bytes one call reads; none where it reads no bytes.
-    pub fn bytes(self, messages: &Messages) -> Option<u64> {
-        match self {
-            Benchmark::Asks(_)
-            | Benchmark::Splitting
-            | Benchmark::Sending
-            | Benchmark::Checking
-            | Benchmark::Policies
-            | Benchmark::Of(_)
-            | Benchmark::Report(_) => None,
-            Benchmark::Framing => Some(Messages::PIECE as u64),
-            Benchmark::SmallPackets => Some(messages.small().as_slice().len() as u64),
-            Benchmark::LargePackets => Some(messages.large().as_slice().len() as u64),
-        }
-    }
-}
+/// The reading of policies, which `all` doesn't run.
+pub const CHECK: Named = ("check", Benchmark::Policies, POLICIES);
 
 /// One answer, on samples that its number picks.
 fn holds(samples: &Samples, question: Question, number: u64) -> bool {
@@ -129,9 +143,11 @@ fn holds(samples: &Samples, question: Question, number: u64) -> bool {
 
 /// Asks so often, and counts the answers that are yes.
 fn ask(samples: &Samples, question: Question, count: u64) -> u64 {
-    (0..count)
-        .filter(|number| holds(samples, question, *number))
-        .count() as u64
+    let mut found = 0u64;
+    for number in 0..count {
+        found = found.saturating_add(u64::from(holds(samples, question, number)));
+    }
+    found
 }
 
 /// Makes so many calls, and counts what they find: answers that are yes, frames, packets, pieces,

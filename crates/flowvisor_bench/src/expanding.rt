@@ -1,6 +1,7 @@
 //! The expansion of flow-mods, for a slice that has as many rules to write as it may have. They are in turn
 //! for a VLAN and for a TCP port of their own, so a flow-mod for all packets has as many pieces.
 
+use crate::policies::{add_rule, load, put, slices};
 use flowmod_expand::{build, pieces};
 use flowspace::SwitchPolicy;
 use flowspace::limits::WRITES;
@@ -9,53 +10,21 @@ use of10_flow::FlowMod;
 use of10_flow::protocol::{ADD, NO_BUFFER};
 use of10_match::Match;
 use of10_port::protocol::NONE;
-use policy_text::read;
 use std::alloc::{AllocError, Global};
 
-const SLICE: &str = "version = 1\n[[slice]]\nname = \"alice\"\ncontroller = \"127.0.0.1:6633\"\n";
-
-fn add_port(text: &mut String, port: usize) -> Result<(), AllocError> {
-    write!(
-        text,
-        "[[rule]]\npriority = 7\nwrite = \"alice\"\ndl_type = 2048\nnw_proto = 6\ntp_dst = {port}\n"
-    )
-}
-
-fn add_vlan(text: &mut String, vlan: usize) -> Result<(), AllocError> {
-    write!(
-        text,
-        "[[rule]]\npriority = 7\nwrite = \"alice\"\ndl_vlan = {vlan}\n"
-    )
-}
-
-/// What the text says for some switch.
-fn of_switch(alloc: Global, text: &str) -> Result<Option<SwitchPolicy>, AllocError> {
-    match read(alloc, text.as_bytes()) {
-        Ok(policy) => Ok(Some(policy.of_switch(alloc, 0)?)),
-        Err(_) => Ok(None),
-    }
-}
-
-/// The policy of that slice where each rule is for a TCP port of its own.
-pub fn policy(alloc: Global) -> Result<Option<SwitchPolicy>, AllocError> {
-    let mut text = String::from_str(alloc, SLICE)?;
-    for port in 0..WRITES {
-        add_port(&mut text, port)?;
-    }
-    of_switch(alloc, &text)
-}
-
-/// That where the rules are in turn for a VLAN and for a TCP port.
-fn varied(alloc: Global) -> Result<Option<SwitchPolicy>, AllocError> {
-    let mut text = String::from_str(alloc, SLICE)?;
+/// The policy of that slice. Where there are rules for VLANs, each other one is for one; all others are for a
+/// TCP port of their own.
+pub fn policy(alloc: Global, has_vlans: bool) -> Result<SwitchPolicy, AllocError> {
+    const OF_VLAN: &str = "[[rule]]\npriority = 7\nwrite = \"slice0\"\ndl_vlan = ";
+    let mut text = slices(alloc, 1, "")?;
     for number in 0..WRITES {
-        if number % 2 == 0 {
-            add_vlan(&mut text, number)?;
+        if has_vlans && number % 2 == 0 {
+            put(&mut text, OF_VLAN, number, "\n")?;
         } else {
-            add_port(&mut text, number)?;
+            add_rule(&mut text, 0, number)?;
         }
     }
-    of_switch(alloc, &text)
+    load(alloc, &text)?.of_switch(alloc, 0)
 }
 
 fn add(alloc: Global) -> Result<FlowMod, AllocError> {
@@ -89,9 +58,7 @@ fn outputs(alloc: Global, count: usize) -> Result<Vec<Actions>, AllocError> {
 
 /// Finds the pieces of all packets so often, and counts them.
 pub fn split(alloc: Global, count: u64) -> Result<u64, AllocError> {
-    let Some(policy) = varied(alloc)? else {
-        return Ok(0);
-    };
+    let policy = policy(alloc, true)?;
     let mut found = 0u64;
     for _ in 0..count {
         let pieces = pieces(alloc, &policy, 0, &Match::all())?;
@@ -102,9 +69,7 @@ pub fn split(alloc: Global, count: u64) -> Result<u64, AllocError> {
 
 /// Makes the messages of those pieces so often, and counts them.
 pub fn send(alloc: Global, count: u64) -> Result<u64, AllocError> {
-    let Some(policy) = varied(alloc)? else {
-        return Ok(0);
-    };
+    let policy = policy(alloc, true)?;
     let pieces = pieces(alloc, &policy, 0, &Match::all())?;
     let actions = outputs(alloc, pieces.len())?;
     let asked = add(alloc)?;

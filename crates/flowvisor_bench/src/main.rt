@@ -25,11 +25,13 @@ mod spelling;
 mod timing;
 mod worst;
 
-use benchmark::{ALL, Benchmark, run};
+use benchmark::{ALL, CHECK, Named, Scale, run};
 use flat::measure_flat;
 use messages::Messages;
 use sampling::Samples;
+use std::alloc::Global;
 use std::process::ExitCode;
+use std::rt::Clock;
 use std::time::Instant;
 use std::{env, io};
 use worst::measure_worst;
@@ -41,85 +43,101 @@ const USAGE: &str =
     "usage: flowvisor_bench matches|meet|includes|framing|packet-in-64|packet-in-1500|pieces|build|actions|check|issue|find|ask|booked|overlaps|newcomers|report|report-buffered|worst|flat|all COUNT\n";
 
 /// What is measured.
-#[derive(Clone, Copy, Debug, PartialEq, Eq)]
+#[derive(Clone, Copy)]
 enum Measured {
-    One(Benchmark),
+    One(Named),
     All,
     Worst,
     Flat,
 }
 
 /// What the words ask for.
-#[derive(Drop)]
+#[derive(Clone, Copy)]
 struct Order {
     measured: Measured,
     count: u64,
 }
 
-fn named(name: &str) -> Option<Benchmark> {
-    let mut benchmarks = ALL.into_iter().chain([Benchmark::Policies]);
-    benchmarks.find(|one| one.name() == name)
+/// What a word asks for.
+fn asked_for(name: &str) -> Option<Measured> {
+    match name {
+        "all" => Some(Measured::All),
+        "worst" => Some(Measured::Worst),
+        "flat" => Some(Measured::Flat),
+        "check" => Some(Measured::One(CHECK)),
+        _ => {
+            for named in ALL {
+                if named.0 == name {
+                    return Some(Measured::One(*named));
+                }
+            }
+            None
+        }
+    }
 }
 
 fn read_words(rt: &HostRuntime) -> Option<Order> {
     let mut words = env::args(rt).ok()?.skip(1);
-    let name = words.next()?;
+    let measured = asked_for(words.next()?.as_str())?;
     let count = words.next()?.parse::<u64>().ok()?;
     if words.next().is_some() || count > MOST_CALLS {
         return None;
     }
-    let measured = match name.as_str() {
-        "all" => Measured::All,
-        "worst" => Measured::Worst,
-        "flat" => Measured::Flat,
-        other => Measured::One(named(other)?),
-    };
     Some(Order { measured, count })
 }
 
-/// Runs one benchmark and prints what it counted, and how fast it was.
-fn measure(
-    rt: &HostRuntime,
-    samples: &Samples,
-    messages: &Messages,
-    benchmark: Benchmark,
+/// Prints how fast so many calls were that took so long.
+fn print_speed(
+    rt: &impl Print,
+    name: &str,
+    scale: Scale,
     count: u64,
+    micros: u128,
 ) -> io::Result<()> {
-    let name = benchmark.name();
-    let start = Instant::now(rt)?;
-    let found = run(rt.alloc(), samples, messages, benchmark, count)?;
-    let micros = start.elapsed(rt)?.as_micros();
-    println!(rt; "{name}: {found} of {count}")?;
-    if count < benchmark.least_measured() || micros == 0 {
-        return Ok(());
-    }
-    let (each, unit) = match benchmark.bytes(messages) {
-        Some(bytes) => (bytes, "MB"),
-        None if benchmark == Benchmark::Policies => (1_000_000, "policies"),
-        None if matches!(benchmark, Benchmark::Report(_)) => (1_000_000, "events"),
-        None if benchmark.least_measured() < 1_000_000 => (1_000, "thousand"),
-        None => (1, "million"),
-    };
+    let Scale { each, unit, .. } = scale;
     let tenths = u128::from(count)
         .saturating_mul(10)
         .saturating_mul(u128::from(each))
-        / micros;
+        / micros.max(1);
     let whole = tenths / 10;
     let tenth = tenths % 10;
     println!(rt; "{name}: {whole}.{tenth} {unit} a second")
 }
 
-/// Runs all benchmarks but the reading of policies.
-fn measure_all(
-    rt: &HostRuntime,
+/// Runs one benchmark and prints what it counted, and how fast it was.
+fn measure<R: Clock + Print>(
+    rt: &R,
+    alloc: Global,
     samples: &Samples,
     messages: &Messages,
+    named: Named,
     count: u64,
 ) -> io::Result<()> {
-    for benchmark in ALL {
-        measure(rt, samples, messages, benchmark, count)?;
+    let (name, benchmark, scale) = named;
+    let start = Instant::now(rt)?;
+    let found = run(alloc, samples, messages, benchmark, count)?;
+    let micros = start.elapsed(rt)?.as_micros();
+    println!(rt; "{name}: {found} of {count}")?;
+    if count < scale.least || micros == 0 {
+        return Ok(());
     }
-    Ok(())
+    print_speed(rt, name, scale, count, micros)
+}
+
+fn obey<R: Clock + Print>(rt: &R, alloc: Global, order: Order) -> io::Result<()> {
+    let samples = Samples::new();
+    let messages = Messages::new(alloc)?;
+    match order.measured {
+        Measured::One(named) => measure(rt, alloc, &samples, &messages, named, order.count),
+        Measured::All => {
+            for named in ALL {
+                measure(rt, alloc, &samples, &messages, *named, order.count)?;
+            }
+            Ok(())
+        }
+        Measured::Worst => measure_worst(rt, alloc, order.count),
+        Measured::Flat => measure_flat(rt, alloc, order.count),
+    }
 }
 
 fn main(rt: HostRuntime) -> io::Result<ExitCode> {
@@ -127,13 +145,6 @@ fn main(rt: HostRuntime) -> io::Result<ExitCode> {
         rt.eprint(USAGE)?;
         return Ok(ExitCode::from(1));
     };
-    let samples = Samples::new();
-    let messages = Messages::new(rt.alloc())?;
-    match order.measured {
-        Measured::One(one) => measure(&rt, &samples, &messages, one, order.count)?,
-        Measured::All => measure_all(&rt, &samples, &messages, order.count)?,
-        Measured::Worst => measure_worst(&rt, order.count)?,
-        Measured::Flat => measure_flat(&rt, order.count)?,
-    }
+    obey(&rt, rt.alloc(), order)?;
     Ok(ExitCode::from(0))
 }

@@ -29,7 +29,7 @@ const FIRST_ID: u32 = 0x0100_0000;
 const IDS: u32 = 0x0100_0000;
 
 /// A call to a part of a slice.
-#[derive(Clone, Copy, Debug, PartialEq, Eq)]
+#[derive(Clone, Copy)]
 pub enum Part {
     /// Issuing a request.
     Issue,
@@ -46,35 +46,13 @@ pub enum Part {
 }
 
 impl Part {
-    /// Its name.
-    pub fn name(self) -> &'static str {
-        match self {
-            Part::Issue => "issue",
-            Part::Find => "find",
-            Part::Ask => "ask",
-            Part::Booked => "booked",
-            Part::Overlaps => "overlaps",
-            Part::Newcomers => "newcomers",
-        }
-    }
-
-    /// Fewer calls than these are too few to measure.
-    pub fn least_measured(self) -> u64 {
-        match self {
-            Part::Overlaps | Part::Newcomers => 10_000,
-            _ => 1_000_000,
-        }
-    }
-
     /// Makes so many calls, and counts what they find.
     pub fn run(self, alloc: Global, count: u64) -> Result<u64, AllocError> {
         match self {
             Part::Issue => issue(alloc, count),
             Part::Find => find(alloc, count),
             Part::Ask => Ok(ask(count)),
-            Part::Booked => look_up(alloc, count),
-            Part::Overlaps => overlap(alloc, count),
-            Part::Newcomers => modify(alloc, count),
+            Part::Booked | Part::Overlaps | Part::Newcomers => self.consult(alloc, count),
         }
     }
 }
@@ -116,8 +94,8 @@ fn find(alloc: Global, count: u64) -> Result<u64, AllocError> {
     for number in 0..count {
         let spread = number % REMEMBERED * 1_031 % REMEMBERED;
         let request = map.find(FIRST_ID + spread as u32);
-        if request.is_some_and(|request| request.number == spread) {
-            found = found.saturating_add(1);
+        if let Some(request) = request {
+            found = found.saturating_add(u64::from(request.number == spread));
         }
     }
     Ok(found)
@@ -172,49 +150,36 @@ fn filled(alloc: Global) -> Result<FlowBook, AllocError> {
     Ok(book)
 }
 
-/// Looks pairs up so often, and counts those that are booked.
-fn look_up(alloc: Global, count: u64) -> Result<u64, AllocError> {
-    let matches = matches(alloc)?;
-    let book = filled(alloc)?;
-    let mut found = 0u64;
-    for number in 0..count {
-        let port = picked(number);
-        let pattern = matches.get(port as usize);
-        if pattern.is_some_and(|pattern| book.booked(pattern, priority(port)).is_some()) {
-            found = found.saturating_add(1);
+impl Part {
+    /// The TCP port of the match that a call with this number is about. A MODIFY includes none of the booked matches,
+    /// so that it is compared with each.
+    fn port(self, number: u64) -> u16 {
+        match self {
+            Part::Newcomers => BOOKED + (number % u64::from(PORTS - BOOKED)) as u16,
+            _ => picked(number),
         }
     }
-    Ok(found)
-}
 
-/// Asks so often whether a piece overlaps, at one priority after the other, and counts those that do.
-fn overlap(alloc: Global, count: u64) -> Result<u64, AllocError> {
-    let matches = matches(alloc)?;
-    let book = filled(alloc)?;
-    let mut found = 0u64;
-    for number in 0..count {
-        let port = picked(number);
-        if let Some(piece) = matches.get(port as usize) {
-            if book.overlaps(&[*piece], (number % 8) as u16) {
-                found = found.saturating_add(1);
+    /// Asks the book about a match: whether it is booked, whether it overlaps at one priority after the other, or
+    /// what a MODIFY would book.
+    fn found(self, book: &FlowBook, piece: &Match, number: u64) -> u64 {
+        match self {
+            Part::Overlaps => u64::from(book.overlaps(&[*piece], (number % 8) as u16)),
+            Part::Newcomers => u64::from(book.newcomers(MODIFY, &[*piece], 0)),
+            _ => u64::from(book.booked(piece, priority(picked(number))).is_some()),
+        }
+    }
+
+    /// Asks the book so often, and counts what is found.
+    fn consult(self, alloc: Global, count: u64) -> Result<u64, AllocError> {
+        let matches = matches(alloc)?;
+        let book = filled(alloc)?;
+        let mut found = 0u64;
+        for number in 0..count {
+            if let Some(piece) = matches.get(usize::from(self.port(number))) {
+                found = found.saturating_add(self.found(&book, piece, number));
             }
         }
+        Ok(found)
     }
-    Ok(found)
-}
-
-/// Counts so often what a MODIFY would book whose one piece includes none of the booked matches, so that it
-/// is compared with each.
-fn modify(alloc: Global, count: u64) -> Result<u64, AllocError> {
-    let matches = matches(alloc)?;
-    let book = filled(alloc)?;
-    let mut found = 0u64;
-    for number in 0..count {
-        let port = u64::from(BOOKED) + number % u64::from(PORTS - BOOKED);
-        if let Some(piece) = matches.get(port as usize) {
-            let newcomers = book.newcomers(MODIFY, &[*piece], 0);
-            found = found.saturating_add(u64::from(newcomers));
-        }
-    }
-    Ok(found)
 }

@@ -1,9 +1,16 @@
 //! The report of a recording of many packets that all go to one slice.
 
+ghost use Rattle.recording.specs.Recordings.{IsItem};
+ghost use Rattle.std.specs.List.{All};
+ghost use Rattle.std.specs.Prelude.{length};
+
+use crate::policies::load;
+use flowspace::Policy;
 use fv_base::NeverSink;
 use fv_report::report_items;
-use policy_text::read;
-use recording::{BYTE_LIMIT, SLICE_UP, SWITCH_BYTES, SWITCH_UP, add_item, begin_recording, items};
+use recording::{
+    BYTE_LIMIT, Item, SLICE_UP, SWITCH_BYTES, SWITCH_UP, add_item, begin_recording, items,
+};
 use std::alloc::{AllocError, Global};
 
 const POLICY: &str = "\
@@ -39,7 +46,7 @@ const PACKETS: u64 = 233_016;
 const LINE: u64 = 158;
 
 /// Whether the switch keeps the packets that it hands up.
-#[derive(Clone, Copy, Debug, PartialEq, Eq)]
+#[derive(Clone, Copy)]
 pub enum Keeping {
     Nothing,
     /// Each packet, under the numbers 0 to 255 in turn.
@@ -49,7 +56,7 @@ pub enum Keeping {
 /// A packet-in, as so many came before it.
 fn packet(keeping: Keeping, before: u64) -> [u8; 72] {
     let mut bytes = PACKET;
-    if keeping == Keeping::EachPacket {
+    if matches!(keeping, Keeping::EachPacket) {
         bytes[8] = 0;
         bytes[9] = 0;
         bytes[10] = 0;
@@ -88,18 +95,29 @@ pub fn recording_of(alloc: Global, keeping: Keeping, count: u64) -> Result<Vec<u
     Ok(out)
 }
 
+/// Writes the report of these records of a recording, and counts its bytes.
+pub fn write_report(
+    alloc: Global,
+    policy: &Policy,
+    recording: &[u8],
+    items: &[Item],
+) -> Result<u64, AllocError>
+    requires { All (IsItem (length policy.now.slices) recording.now) items.now }
+{
+    let mut out = NeverSink::new();
+    match report_items(alloc, policy, recording, items, &mut out) {
+        Ok(()) => Ok(out.taken()),
+        Err(_) => Err(AllocError),
+    }
+}
+
 /// Writes the report of a recording of so many packets, and counts their lines.
 pub fn report(alloc: Global, keeping: Keeping, count: u64) -> Result<u64, AllocError> {
-    let Ok(policy) = read(alloc, POLICY.as_bytes()) else {
-        return Err(AllocError);
-    };
+    let policy = load(alloc, POLICY)?;
     let recording = recording_of(alloc, keeping, count)?;
     let Ok(items) = items(alloc, &recording, policy.slice_count()) else {
         return Err(AllocError);
     };
-    let mut out = NeverSink::new();
-    if report_items(alloc, &policy, &recording, &items, &mut out).is_err() {
-        return Err(AllocError);
-    }
-    Ok(count.min(out.taken() / LINE))
+    let bytes = write_report(alloc, &policy, &recording, &items)?;
+    Ok(count.min(bytes / LINE))
 }

@@ -34,7 +34,7 @@ const PACKET: [u8; 54] = [
 ];
 
 /// The packets of a match.
-#[derive(Clone, Copy, Debug, PartialEq, Eq)]
+#[derive(Clone, Copy)]
 pub enum Packets {
     All,
     /// TCP packets from a port.
@@ -44,7 +44,7 @@ pub enum Packets {
 }
 
 /// What a flow-mod says beside its actions (section 5.3.3).
-#[derive(Clone, Copy, Debug, PartialEq, Eq)]
+#[derive(Clone, Copy)]
 pub struct Entry {
     pub packets: Packets,
     pub command: u16,
@@ -74,15 +74,16 @@ fn put_match(out: &mut Vec<u8>, packets: Packets) -> Result<(), AllocError> {
     put_u16(out, to)
 }
 
-/// Appends an output (section 5.2.4).
-fn put_output(out: &mut Vec<u8>, port: u16) -> Result<(), AllocError> {
-    out.extend_from_slice(&[0, 0, 0, 8])?;
-    put_u16(out, port)?;
-    put_u16(out, 0)
-}
+/// The types of an output, and of the actions that set the TCP port from which a packet comes and to which it goes
+/// (section 5.2.4).
+const OUTPUT: u8 = 0;
 
-/// Appends an action that sets the TCP port from which a packet comes, or to which it goes, by its type.
-fn put_rewrite(out: &mut Vec<u8>, kind: u8, port: u16) -> Result<(), AllocError> {
+const SET_FROM: u8 = 9;
+
+const SET_TO: u8 = 10;
+
+/// Appends an action with a port.
+fn put_action(out: &mut Vec<u8>, kind: u8, port: u16) -> Result<(), AllocError> {
     out.extend_from_slice(&[0, kind, 0, 8])?;
     put_u16(out, port)?;
     put_u16(out, 0)
@@ -92,7 +93,7 @@ fn put_rewrite(out: &mut Vec<u8>, kind: u8, port: u16) -> Result<(), AllocError>
 pub fn outputs(alloc: Global, port: u16, count: u16) -> Result<Vec<u8>, AllocError> {
     let mut actions = Vec::new(alloc);
     for _ in 0..count {
-        put_output(&mut actions, port)?;
+        put_action(&mut actions, OUTPUT, port)?;
     }
     Ok(actions)
 }
@@ -101,10 +102,10 @@ pub fn outputs(alloc: Global, port: u16, count: u16) -> Result<Vec<u8>, AllocErr
 /// port of the crowded slice, so that the last of its rules alone has them.
 pub fn rewritten_outputs(alloc: Global, count: u16) -> Result<Vec<u8>, AllocError> {
     let mut actions = Vec::new(alloc);
-    put_rewrite(&mut actions, 10, LAST_PORT)?;
+    put_action(&mut actions, SET_TO, LAST_PORT)?;
     for port in 0..count {
-        put_rewrite(&mut actions, 9, port)?;
-        put_output(&mut actions, OUT)?;
+        put_action(&mut actions, SET_FROM, port)?;
+        put_action(&mut actions, OUTPUT, OUT)?;
     }
     Ok(actions)
 }
@@ -114,8 +115,8 @@ pub fn rewritten_outputs(alloc: Global, count: u16) -> Result<Vec<u8>, AllocErro
 pub fn turning_outputs(alloc: Global, count: u16) -> Result<Vec<u8>, AllocError> {
     let mut actions = Vec::new(alloc);
     for place in 0..count {
-        put_rewrite(&mut actions, 10, LAST_PORT - place % 2)?;
-        put_output(&mut actions, OUT)?;
+        put_action(&mut actions, SET_TO, LAST_PORT - place % 2)?;
+        put_action(&mut actions, OUTPUT, OUT)?;
     }
     Ok(actions)
 }

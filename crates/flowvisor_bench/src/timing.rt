@@ -1,12 +1,11 @@
 //! A desk whose steps are timed.
 
-use crate::policies::crowded;
+use crate::policies::{crowded, load};
 use crate::spelling::features;
-use flowspace::Policy;
-use policy_text::read;
 use proxy_core::{Desk, Dest, Event, Taken, Timed};
 use std::alloc::{AllocError, Global};
 use std::io;
+use std::rt::Clock;
 use std::time::Instant;
 
 /// The slots of the policy's slices are below this.
@@ -16,7 +15,7 @@ pub const SLOTS: u8 = 32;
 const MOST_MESSAGES: u64 = 1_024;
 
 /// How many messages an event brought.
-#[derive(Clone, Copy, Debug, PartialEq, Eq)]
+#[derive(Clone, Copy)]
 pub struct Brought {
     pub to_switch: u64,
     pub to_slices: u64,
@@ -32,6 +31,8 @@ impl Brought {
 /// The desk of a switch with as many ports as one can tell of, under a policy with a crowded slice.
 #[derive(Drop)]
 pub struct TimedDesk {
+    /// Where messages and the desk take memory.
+    pub alloc: Global,
     desk: Desk,
     /// Each event comes a millisecond after the one before.
     moment: u64,
@@ -41,20 +42,18 @@ pub struct TimedDesk {
     micros: u128,
 }
 
-/// The policy, whose crowded slice may name the ports of entry of its rules.
-fn policy(alloc: Global, are_named: bool) -> Result<Policy, AllocError> {
-    let text = crowded(alloc, are_named)?;
-    match read(alloc, text.as_bytes()) {
-        Ok(policy) => Ok(policy),
-        Err(_) => Err(AllocError),
-    }
+/// A desk at which nothing has happened. The crowded slice may name the ports of entry of its rules.
+fn new_desk(alloc: Global, are_named: bool) -> Result<Desk, AllocError> {
+    let policy = load(alloc, &crowded(alloc, are_named)?)?;
+    Ok(Desk::new(alloc, policy))
 }
 
 impl TimedDesk {
     /// A desk at which nothing has happened.
     pub fn new(alloc: Global, are_named: bool) -> Result<TimedDesk, AllocError> {
         Ok(TimedDesk {
-            desk: Desk::new(alloc, policy(alloc, are_named)?),
+            alloc,
+            desk: new_desk(alloc, are_named)?,
             moment: 0,
             xid: 0,
             micros: 0,
@@ -62,24 +61,24 @@ impl TimedDesk {
     }
 
     /// A step, which is timed; what it brings is taken.
-    pub fn step(&mut self, rt: &HostRuntime, event: Event) -> io::Result<Brought> {
+    pub fn step<R: Clock>(&mut self, rt: &R, event: Event) -> io::Result<Brought> {
         let moment = self.moment;
         self.moment = moment.saturating_add(1);
         let start = Instant::now(rt)?;
-        self.desk.step(rt.alloc(), Timed { event, moment })?;
+        self.desk.step(self.alloc, Timed { event, moment })?;
         let micros = start.elapsed(rt)?.as_micros();
         self.micros = self.micros.max(micros);
         Ok(self.take_all())
     }
 
     /// The switch connects and tells what it is.
-    pub fn open(&mut self, rt: &HostRuntime) -> io::Result<Brought> {
+    pub fn open<R: Clock>(&mut self, rt: &R) -> io::Result<Brought> {
         self.step(rt, Event::SwitchUp)?;
-        self.step(rt, Event::SwitchMsg(features(rt.alloc())?))
+        self.step(rt, Event::SwitchMsg(features(self.alloc)?))
     }
 
     /// All slices connect.
-    pub fn come(&mut self, rt: &HostRuntime) -> io::Result<()> {
+    pub fn come<R: Clock>(&mut self, rt: &R) -> io::Result<()> {
         for slot in 0..SLOTS {
             self.step(rt, Event::SliceUp(slot))?;
         }
@@ -87,8 +86,8 @@ impl TimedDesk {
     }
 
     /// The desk is a new one, at which nothing has happened.
-    pub fn renew(&mut self, alloc: Global) -> Result<(), AllocError> {
-        self.desk = Desk::new(alloc, policy(alloc, false)?);
+    pub fn renew(&mut self) -> Result<(), AllocError> {
+        self.desk = new_desk(self.alloc, false)?;
         Ok(())
     }
 
