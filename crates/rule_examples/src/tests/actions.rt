@@ -44,7 +44,7 @@ const TOO_MANY: Wanted = Wanted::TooMany;
 /// Rules, each by its priority, its packets and the slot that writes them.
 type Rules = &'static [(u32, Packets, u8)];
 
-/// A slice by its slot and the rules of its switch. Among its ports are those to which it floods, and all others.
+/// A slice by its slot and the rules of its switch. Its ports are `all`, to some of which it floods.
 struct Slice {
     slot: u8,
     rules: Rules,

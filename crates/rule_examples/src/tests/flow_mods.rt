@@ -355,9 +355,9 @@ const SIZES: &[(u16, &[usize], &str)] = &[
 
 #[test]
 fn messages_keep_to_their_sizes(rt: HostRuntime) -> Result<(), Fail> {
-    for (command, counts, wanted) in SIZES {
+    for (row, (command, counts, wanted)) in SIZES.iter().enumerate() {
         let came = made(rt.alloc(), *command, counts)?;
-        expect(u32::from(*command), &came, wanted)?;
+        expect(row as u32, &came, wanted)?;
     }
     Ok(())
 }
