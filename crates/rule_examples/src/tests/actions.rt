@@ -161,12 +161,12 @@ const FROM_FIRST_PORT: Packets = Packets {
     ..TO_FIRST_NET
 };
 
-const WEB: Packets = Packets {
+pub(crate) const WEB: Packets = Packets {
     tcp: Some(80),
     ..ANY
 };
 
-const SHELL: Packets = Packets {
+pub(crate) const SHELL: Packets = Packets {
     tcp: Some(22),
     ..ANY
 };

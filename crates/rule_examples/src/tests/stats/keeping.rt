@@ -3,6 +3,7 @@
 ghost use Rattle.std.specs.Prelude.{IsTrue};
 ghost use Rattle.of10_stats.specs.Replies.{IsEntry};
 
+use crate::tests::actions::{SHELL, WEB};
 use crate::tests::tables::expect_so;
 use flowspace::SwitchPolicy;
 use of10_stats::entry_size;
@@ -93,16 +94,6 @@ fn expect_kept(alloc: Global, web: &Packets, rows: &[Row]) -> Result<(), Fail> {
     let policy = switch_policy(alloc, &rules)?;
     expect_rows(alloc, &policy, rows)
 }
-
-const WEB: Packets = Packets {
-    tcp: Some(80),
-    ..ANY
-};
-
-const SHELL: Packets = Packets {
-    tcp: Some(22),
-    ..ANY
-};
 
 const SECURE: Packets = Packets {
     tcp: Some(443),
