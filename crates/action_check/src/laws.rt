@@ -8,19 +8,19 @@ ghost use Rattle.action_check.specs.declared.fault.TheConstants.{BAD_OUT_PORT, B
 ghost use Rattle.action_check.specs.Permitted.{expanded};
 ghost use Rattle.action_check.specs.Refusals.{AreAllowed, IsFirstForbidden};
 ghost use Rattle.action_check.specs.Soundness.{IsSound};
-ghost use Rattle.action_check.specs.Laws.{Question, IsQuestionInRange, answer_of_question};
+ghost use Rattle.action_check.specs.Laws.{WantedActions, AreWantedInRange, answer_to_wanted};
 
 /// Whatever list is permitted sends only to ports of the slice and to where else it may, and each packet
 /// that it sends is, as the actions before rewrite it, one that the slice may write by some port of entry;
 /// where it is sent to the controller or through the table, by its own. Probes are excepted.
 pub fn permitted_lists_are_sound()
-    ensures { (slices : List Slice) (q : Question) → IsSwitchPolicy slices q.rules → IsQuestionInRange q → (given : List Action) → answer_of_question q ≡ Ok given → IsSound q.rules q.slot q.origin given }
+    ensures { (slices : List Slice) (wanted : WantedActions) → IsSwitchPolicy slices wanted.rules → AreWantedInRange wanted → (given : List Action) → answer_to_wanted wanted ≡ Ok given → IsSound wanted.rules wanted.slot wanted.origin given }
 {}
 
 /// A list is given exactly where no action of it is forbidden, each as those before it rewrite what it is
 /// applied to.
 pub fn list_is_given_where_all_are_allowed()
-    ensures { (q : Question) → (answer_of_question q ≡ Ok (expanded q.flood q.all q.actions)) ↔ AreAllowed q.rules q.slot q.origin q.actions }
+    ensures { (wanted : WantedActions) → (answer_to_wanted wanted ≡ Ok (expanded wanted.flood wanted.all wanted.actions)) ↔ AreAllowed wanted.rules wanted.slot wanted.origin wanted.actions }
 {}
 
 /// The codes by which actions are refused have their numbers (OpenFlow 1.0.0, section 5.4.4).
@@ -30,5 +30,5 @@ pub fn codes_are_numbered()
 
 /// A list is refused exactly with the code of the first action that is forbidden.
 pub fn code_is_of_the_first_forbidden()
-    ensures { (q : Question) (code : ℕ) → (answer_of_question q ≡ Err code) ↔ IsFirstForbidden q.rules q.slot q.origin q.actions code }
+    ensures { (wanted : WantedActions) (code : ℕ) → (answer_to_wanted wanted ≡ Err code) ↔ IsFirstForbidden wanted.rules wanted.slot wanted.origin wanted.actions code }
 {}

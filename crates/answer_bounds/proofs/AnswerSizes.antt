@@ -29,14 +29,14 @@ use Rattle.flow_book.specs.Books.{booking}
 use Rattle.xid_map.specs.declared.asked.Issued.{Issued}
 use Rattle.slice_words.specs.Messages.{quoted}
 use Rattle.slice_words.specs.Items.{Settings, Share, Writer, Reader, Probe, Packet, Item, Opened, Up, Down, Msg, Lost, Handed, Removed, Status, Fault, Barrier, Queues, Entry, Last, End, is_up, miss_send_len, buffered_count, known_ports}
-use Rattle.slice_words.specs.Pasts.{Question, ForStatistics, ForBarrier, ForQueues, SendsOut, Answer, Past, no_answer, told, dismissal, forwarded}
+use Rattle.slice_words.specs.Pasts.{Inquiry, ForStatistics, ForBarrier, ForQueues, SendsOut, Answer, Past, no_answer, told, dismissal, forwarded}
 use Rattle.slice_words.specs.Statistics.{is_barrier, asks_queues, barrier_told, queues_told}
 use Rattle.slice_words.specs.Questions.{asking}
 use Rattle.slice_words.specs.Calls.{request_calls, request_for, book_calls}
 use Rattle.slice_words.specs.FlowMods.{Ground, ground_of, packet_at, sent_on, flow_mod_fault}
 use Rattle.slice_words.specs.PacketOuts.{packet_out_on, packet_out_size, sent_out, packet_out_fault}
 use Rattle.slice_words.specs.Answers.{error_for, refused, no_common_version, bad_length, config_reply, packet_message, packet_told, message_answer, removal_told, error_told, answer}
-use Rattle.slice_words.specs.Alone.{number_it_came_with, spell_question, rendered, played, answer_to, sent_for, put_for}
+use Rattle.slice_words.specs.Alone.{number_it_came_with, spell_inquiry, rendered, played, answer_to, sent_for, put_for}
 use Rattle.of10_model.proofs.Results.{either}
 use Rattle.slice_words.proofs.AnswerKinds.{message_holds}
 use Rattle.slice_words.proofs.Forwarding.{flow_mods_numbered, rendered_sent, not_large_numbered, out_not_large}
@@ -107,9 +107,9 @@ small_sent_out g m none = record {
 
 -- ---- questions
 
-small_asking : (g : Ground) (question : Question) → IsShort (spell_question question g.xid) → IsSmall (asking g question)
+small_asking : (g : Ground) (question : Inquiry) → IsShort (spell_inquiry question g.xid) → IsSmall (asking g question)
 small_asking g question short =
-    let message = spell_question question g.xid in
+    let message = spell_inquiry question g.xid in
     record { to_slice = few-none 1; to_switch = λ came. small-few 1 262144 (message ∷ []) (omega arith) (few-one message short) }
 
 -- ---- messages of the controller

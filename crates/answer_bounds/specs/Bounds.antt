@@ -53,6 +53,7 @@ tells_statistics (SwitchMsg message) = is_statistics (read_switch message)
 tells_statistics event = false
 
 -- what follows from an event after a history is at most 262,144 bytes for the switch and 524,492 for each slice; and where it tells no statistics, at most two messages for each slice.
+-- The policy may be any, accepted or not: under one that names a slice among the readers of a rule that it writes, a packet is told twice. Under an accepted one it would be one message.
 -- No less holds: the messages of a flow-mod may have so many bytes, as those of 256 pieces with 119 outputs each. A slice is told 524,288 bytes of entries in at most 17 replies with 12 bytes in front, since two that follow each other have more entries than fit one: eight times flows of 88 and of 65,436 bytes, and one of 96, are told so
 pub record SendsLittle (policy : PolicyView) (h : List Timed) (timed : Timed) : Type 0 where
   pub lane : AreSmall 262144 (lane_by policy h timed)

@@ -15,19 +15,19 @@ use Rattle.stats_filter.specs.Asking.{asked_as}
 use Rattle.stats_filter.specs.Replies.{table_reply}
 use Rattle.slice_words.specs.Messages.{Reading, asks_switch}
 use Rattle.slice_words.specs.Items.{Settings, Item}
-use Rattle.slice_words.specs.Pasts.{Question, ForStatistics, ForBarrier, ForQueues, Outgoing, Asks, Answer, Past, told, forwarded}
+use Rattle.slice_words.specs.Pasts.{Inquiry, ForStatistics, ForBarrier, ForQueues, Outgoing, Asks, Answer, Past, told, forwarded}
 use Rattle.slice_words.specs.FlowMods.{Ground, ground_of, flow_mod_fault, sent_on, not_permitted}
 use Rattle.slice_words.specs.PacketOuts.{packet_out_fault, sent_out}
 use Rattle.slice_words.specs.Questions.{asking, statistics_asked, queues_asked}
 use Rattle.slice_words.specs.Answers.{refused, unread_answer, forwarded_answer, keeps_rate, read_answer, message_answer}
-use Rattle.slice_words.specs.Alone.{spell_question}
+use Rattle.slice_words.specs.Alone.{spell_inquiry}
 use Rattle.slice_words.proofs.AnswerKinds.{message_holds}
-use Rattle.slice_side.specs.Checking.{IsQuestion}
+use Rattle.slice_side.specs.Checking.{IsInquiry}
 use Rattle.slice_side.proofs.Answering.{asked_answer}
 use Rattle.lane_laws.proofs.Asked.{some_asked}
 
 -- a message with which a slice may ask the switch something is to be sent on
-is_question : (g : Ground) (message question : List ℕ) (asked : FromController) → IsQuestion g asked question → asks_switch (Ok asked) ≡ true
+is_question : (g : Ground) (message question : List ℕ) (asked : FromController) → IsInquiry g asked question → asks_switch (Ok asked) ≡ true
 is_question g message question (said.StatsRequest request) is = refl
 is_question g message question said.BarrierRequest is = refl
 is_question g message question (said.QueueGetConfigRequest queues) is = refl
@@ -50,9 +50,9 @@ by_asked g message asked = elim asked [ None ↦ told (table_reply (length g.boo
 -- the question of which such bytes are spelled is sent on
 abbrev pub IsAskedIn : Settings → List Item → List Past → List ℕ → List ℕ → FromController → Type 0
 IsAskedIn s view past message question asked =
-    (q : Question) × (question ≡ spell_question q (ground_of s view past).xid) × (forwarded_answer s view past asked message ≡ asking (ground_of s view past) q)
+    (q : Inquiry) × (question ≡ spell_inquiry q (ground_of s view past).xid) × (forwarded_answer s view past asked message ≡ asking (ground_of s view past) q)
 
-question_follows : (s : Settings) (view : List Item) (past : List Past) (message question : List ℕ) (asked : FromController) → IsQuestion (ground_of s view past) asked question → IsAskedIn s view past message question asked
+question_follows : (s : Settings) (view : List Item) (past : List Past) (message question : List ℕ) (asked : FromController) → IsInquiry (ground_of s view past) asked question → IsAskedIn s view past message question asked
 question_follows s view past message question (said.StatsRequest request) is =
     let sent = some_asked (asked_as request) (ground_of s view past).xid question is.1 in
     (ForStatistics sent.0, sent.2, ap (λ (b : Bool). if b then statistics_asked (ground_of s view past) request message else refused not_permitted message) is.0 ∙ ap (by_asked (ground_of s view past) message) sent.1)
@@ -79,10 +79,10 @@ module _ (s : Settings) (view : List Item) (past : List Past) (moment : ℕ) (me
     pub no_fault : packet_out_fault (ground_of s view past) m ≡ None
 
   -- a question that is permitted
-  pub record PermitsQuestion (asked : FromController) (question : List ℕ) : Type 0 where
+  pub record PermitsInquiry (asked : FromController) (question : List ℕ) : Type 0 where
     pub read : read_controller message ≡ Ok asked
     pub rate : keeps_rate s view past moment ≡ true
-    pub may : IsQuestion (ground_of s view past) asked question
+    pub may : IsInquiry (ground_of s view past) asked question
 
   -- what follows by what is read of the message, by whether it keeps the rate, and by the first line that refuses it
   abbrev read_as : Reading → Answer
@@ -114,15 +114,15 @@ module _ (s : Settings) (view : List Item) (past : List Past) (moment : ℕ) (me
   pub out_whole : (m : PacketOut) → PermitsOut m → put ≡ sent_out (ground_of s view past) m
   out_whole m p = out_lined m None p.read p.rate p.no_fault
 
-  pub question_whole : (asked : FromController) (question : List ℕ) → PermitsQuestion asked question
-      → (q : Question) × (question ≡ spell_question q (ground_of s view past).xid) × (put ≡ Asks q (ground_of s view past).xid ∷ [])
+  pub question_whole : (asked : FromController) (question : List ℕ) → PermitsInquiry asked question
+      → (q : Inquiry) × (question ≡ spell_inquiry q (ground_of s view past).xid) × (put ≡ Asks q (ground_of s view past).xid ∷ [])
   question_whole asked question p =
       let one = question_follows s view past message question asked p.may in
       (one.0, one.1, unrated asked true (is_question (ground_of s view past) message question asked p.may) p.read p.rate ∙ ap (λ (a : Answer). a.to_switch) one.2)
 
   -- a message that may be a question
   abbrev MayAsk : Type 0
-  MayAsk = (asked : FromController) × (question : List ℕ) × (read_controller message ≡ Ok asked) × IsQuestion (ground_of s view past) asked question
+  MayAsk = (asked : FromController) × (question : List ℕ) × (read_controller message ≡ Ok asked) × IsInquiry (ground_of s view past) asked question
 
   -- another message puts nothing
   abbrev IsOfThese : Answer → Type 0
@@ -147,7 +147,7 @@ module _ (s : Settings) (view : List Item) (past : List Past) (moment : ℕ) (me
 
   -- nor does one that is refused
   abbrev pub IsPut : Type 0
-  IsPut = (put ≡ []) ⊎ (((m : FlowMod) × Permits m) ⊎ (((m : PacketOut) × PermitsOut m) ⊎ ((asked : FromController) × (question : List ℕ) × PermitsQuestion asked question)))
+  IsPut = (put ≡ []) ⊎ (((m : FlowMod) × Permits m) ⊎ (((m : PacketOut) × PermitsOut m) ⊎ ((asked : FromController) × (question : List ℕ) × PermitsInquiry asked question)))
 
   by_lines : (m : FlowMod) → read_controller message ≡ Ok (said.FlowMod m) → (rate : Bool) → keeps_rate s view past moment ≡ rate → (fault : Option (ℕ × ℕ)) → flow_mod_fault (ground_of s view past) m ≡ fault → IsPut
   by_lines m read false rated fault is = inl (unrated (said.FlowMod m) false refl read rated)

@@ -20,7 +20,7 @@ use Rattle.flowspace.specs.declared.slices.Slice.{Slice}
 use Rattle.flowspace.specs.declared.rules.Rule.{Rule}
 use Rattle.flowspace.specs.Rules.{IsInPort, IsPlainRule}
 use Rattle.flowspace.specs.Policies.{IsSwitchPolicy}
-use Rattle.flowspace.specs.Owners.{Writes, has_port}
+use Rattle.flowspace.specs.Owners.{Writes}
 use Rattle.flowspace.proofs.Along.{option_or-None}
 use Rattle.flowspace.proofs.Owning.{Writes-iff, has_port-iff}
 use Rattle.port_view.specs.SlicePorts.{flooded}
@@ -31,7 +31,7 @@ use Rattle.action_check.specs.declared.origin.Origin.TheVariants as origins
 use Rattle.action_check.specs.Permitted.{permitted}
 use Rattle.action_check.specs.Soundness.{HasWay}
 use Rattle.action_check.proofs.Aside.{entry_for, Has-entry}
-use Rattle.slice_words.specs.Items.{lone_rules}
+use Rattle.slice_words.specs.Items.{lone_rules, is_own_port}
 use Rattle.slice_words.specs.Buffers.{HeldPacket, packet_under}
 use Rattle.flowspace.specs.Options.{first_some}
 use Rattle.slice_words.specs.FlowMods.{Ground, list_given, packet_at}
@@ -162,10 +162,10 @@ packet_holds P g buffer packet all is = at_number P (buffer == NO_BUFFER) buffer
 -- it counts as received where it may
 pub came_in : (g : Ground) (rules : List Rule) (slot port : ℕ) → g.slot ≡ slot → g.patterns ≡ writes_of rules slot → may_come_by g port ≡ true → MayComeBy rules slot port
 came_in g rules slot port on_slot on_patterns may =
-    elim (or_cases (has_port (lone_rules g.slot g.patterns) g.slot port || port == NONE) (port == CONTROLLER) may) [
+    elim (or_cases (is_own_port g.slot g.patterns port || port == NONE) (port == CONTROLLER) may) [
       | inr controller ↦ inr (inr (eqb-true port CONTROLLER controller))
       | inl either ↦
-          elim (or_cases (has_port (lone_rules g.slot g.patterns) g.slot port) (port == NONE) either) [
+          elim (or_cases (is_own_port g.slot g.patterns port) (port == NONE) either) [
             | inl own ↦ inl ((has_port-iff rules slot port).0 (sym (same_port slot rules port) ∙ (rw (on_slot, on_patterns) at own)))
             | inr none ↦ inr (inl (eqb-true port NONE none))
           ]

@@ -67,9 +67,9 @@ use Rattle.desk_words.specs.Laws.{HasSeen}
 use Rattle.desk_words.proofs.Alone.{has_told, opened_told, blind}
 use Rattle.desk_words.proofs.Silence.{sees_nothing}
 use Rattle.desk_words.proofs.Seen.{seen}
-use Rattle.lane_laws.specs.Lane.{AsksForReply, LiesInFlowspace, NamesOwnPort, OutputsToOwnPorts, LeavesOtherHeaders, SendsOwnPacket, SendsToOwnPorts, ChangesNoTable, IsBufferHeader, CarriesOwnBuffer, SendsOwnBuffer, IsOwnBuffer, HoldsWritten, rules_in, settings_in, ports_shown, ground_in, switch_number, flow_mods_at, packet_out_at, KeepsRate, IsPermitted, IsPermittedOut, IsPermittedQuestion, IsAnyPermitted, AsksOwnPort}
+use Rattle.lane_laws.specs.Lane.{AsksForReply, LiesInFlowspace, NamesOwnPort, OutputsToOwnPorts, LeavesOtherHeaders, SendsOwnPacket, SendsToOwnPorts, ChangesNoTable, IsBufferHeader, CarriesOwnBuffer, SendsOwnBuffer, IsOwnBuffer, HoldsWritten, rules_in, settings_in, ports_shown, ground_in, switch_number, flow_mods_at, packet_out_at, KeepsRate, IsPermitted, IsPermittedOut, IsPermittedInquiry, IsAnyPermitted, AsksOwnPort}
 use Rattle.lane_laws.proofs.Keeping.{IsKept, kept_now}
-use Rattle.slice_side.specs.Checking.{IsQuestion}
+use Rattle.slice_side.specs.Checking.{IsInquiry}
 use Rattle.lane_laws.proofs.Forwarded.{put_whole, out_whole, question_whole, put_or_none}
 use Rattle.lane_laws.proofs.Asked.{asks_for_reply, owns, own_may, may_be}
 use Rattle.lane_laws.proofs.Own.{each_sent, sent_within, permitted_own, permitted_ways, permitted_alike, HoldsOfLists, given_holds, sent_holds}
@@ -155,7 +155,7 @@ out_lane_whole policy h timed slot message m is up p =
 
 -- a question is sent as it was put
 question_lane_whole : (policy : PolicyView) (h : List Timed) (timed : Timed) (slot : ℕ) (message question : List ℕ) (asked : FromController) → timed.event ≡ SliceMsg slot message → is_slice_up policy slot h ≡ true
-    → read_controller message ≡ Ok asked → KeepsRate policy slot h timed.moment → IsQuestion (ground_in policy slot h) asked question → lane_by policy h timed ≡ question ∷ []
+    → read_controller message ≡ Ok asked → KeepsRate policy slot h timed.moment → IsInquiry (ground_in policy slot h) asked question → lane_by policy h timed ≡ question ∷ []
 question_lane_whole policy h timed slot message question asked is up read rate may =
     let s = settings_in policy slot h in
     let view = view_of policy slot h in
@@ -168,7 +168,7 @@ abbrev IsAnyPut : PolicyView → ℕ → List Timed → ℕ → List ℕ → Typ
 IsAnyPut policy slot h moment message =
     ((m : FlowMod) × IsPermitted policy slot h moment message m)
     ⊎ (((m : PacketOut) × IsPermittedOut policy slot h moment message m)
-    ⊎ ((asked : FromController) × (question : List ℕ) × (read_controller message ≡ Ok asked) × KeepsRate policy slot h moment × IsQuestion (ground_in policy slot h) asked question))
+    ⊎ ((asked : FromController) × (question : List ℕ) × (read_controller message ≡ Ok asked) × KeepsRate policy slot h moment × IsInquiry (ground_in policy slot h) asked question))
 
 lane_or_some : (policy : PolicyView) (h : List Timed) (timed : Timed) (slot : ℕ) (message : List ℕ) → timed.event ≡ SliceMsg slot message
     → (lane_by policy h timed ≡ []) ⊎ ((is_slice_up policy slot h ≡ true) × IsAnyPut policy slot h timed.moment message)
@@ -216,7 +216,7 @@ pub record HoldsOfSent (P : List Rule → FlowMod → Type 0) (Q : List Rule →
   pub packet_outs : (features : Features) → opening_of h ≡ Some features → is_slot policy slot ≡ true → (m : PacketOut) → read_controller message ≡ Ok (said.PacketOut m)
       → packet_out_fault (ground_by policy slot h (Some features)) m ≡ None → Q (rules_on features.datapath policy.rules) (packet_out_by policy slot h (ground_by policy slot h (Some features)) m)
   pub questions : (features : Features) → opening_of h ≡ Some features → is_slot policy slot ≡ true → (asked : FromController) (question : List ℕ) → read_controller message ≡ Ok asked
-      → IsQuestion (ground_by policy slot h (Some features)) asked question → R (rules_on features.datapath policy.rules) question
+      → IsInquiry (ground_by policy slot h (Some features)) asked question → R (rules_on features.datapath policy.rules) question
 
 -- a message is spelled from a flow-mod of which one thing holds, or from a packet-out of which another does
 abbrev pub IsSpelled : (FlowMod → Type 0) → (PacketOut → Type 0) → List ℕ → Type 0
@@ -251,7 +251,7 @@ each_in_lane P Q R policy h timed slot message is holds =
           (All-cons Each (spell_packet_out (packet_out_at policy slot h m)) [] (inl (inr (packet_out_at policy slot h m, refl, sent))) (All-nil Each))
       | inr (up, inr (inr some)) ↦
           let told = told_up policy slot h up in
-          let may = subst (λ (found : Option Features). IsQuestion (ground_by policy slot h found) some.0 some.1) told.1 some.4 in
+          let may = subst (λ (found : Option Features). IsInquiry (ground_by policy slot h found) some.0 some.1) told.1 some.4 in
           let one = holds.questions told.0 told.1 (up_here policy slot h (phase_of h) refl up) some.0 some.1 some.2 may in
           let sent : R (rules_in policy h) some.1 = subst (λ (found : Option Features). R (rules_of policy found) some.1) (sym told.1) one in
           rw (question_lane_whole policy h timed slot message some.1 some.0 is up some.2 some.3 some.4) (All-cons Each some.1 [] (inr sent) (All-nil Each))
@@ -291,7 +291,7 @@ module _ (policy : PolicyView) (h : List Timed) (timed : Timed) (slot : ℕ) (me
     abbrev next_xid : ℕ
     next_xid = (ground_in policy slot h).xid
 
-    pub statistics_sent : (request asked : StatsRequest) → IsPermittedQuestion policy slot h timed.moment message (said.StatsRequest request) → asked_as request ≡ Some asked → lane_by policy h timed ≡ spell_request asked next_xid ∷ []
+    pub statistics_sent : (request asked : StatsRequest) → IsPermittedInquiry policy slot h timed.moment message (said.StatsRequest request) → asked_as request ≡ Some asked → lane_by policy h timed ≡ spell_request asked next_xid ∷ []
     statistics_sent request asked p sent =
         question_lane_whole policy h timed slot message (spell_request asked next_xid) (said.StatsRequest request) is up p.read p.rate
         (may_ask_own p.may.1, ap (option_map (λ sent_. spell_request sent_ next_xid)) sent)
@@ -300,15 +300,15 @@ module _ (policy : PolicyView) (h : List Timed) (timed : Timed) (slot : ℕ) (me
         may_ask_own own =
             own_may (ground_in policy slot h) (rules_in policy h) slot (slot_is policy slot (opening_of h) _ refl) (patterns_are policy slot (opening_of h) (up_here policy slot h (phase_of h) refl up)) request own
 
-    pub barrier_sent : IsPermittedQuestion policy slot h timed.moment message said.BarrierRequest → lane_by policy h timed ≡ message_of BARRIER_REQUEST next_xid [] ∷ []
+    pub barrier_sent : IsPermittedInquiry policy slot h timed.moment message said.BarrierRequest → lane_by policy h timed ≡ message_of BARRIER_REQUEST next_xid [] ∷ []
     barrier_sent p = question_lane_whole policy h timed slot message (message_of BARRIER_REQUEST next_xid []) said.BarrierRequest is up p.read p.rate refl
 
-    pub queues_sent : (queues : QueuesQuestion) → IsPermittedQuestion policy slot h timed.moment message (said.QueueGetConfigRequest queues) → lane_by policy h timed ≡ spell_queues_request next_xid queues ∷ []
+    pub queues_sent : (queues : QueuesQuestion) → IsPermittedInquiry policy slot h timed.moment message (said.QueueGetConfigRequest queues) → lane_by policy h timed ≡ spell_queues_request next_xid queues ∷ []
     queues_sent queues p =
         question_lane_whole policy h timed slot message (spell_queues_request next_xid queues) (said.QueueGetConfigRequest queues) is up p.read p.rate
         (owns (ground_in policy slot h) (rules_in policy h) slot (slot_is policy slot (opening_of h) _ refl) (patterns_are policy slot (opening_of h) (up_here policy slot h (phase_of h) refl up)) queues.port p.may, refl)
 
-    pub queues_passed : (queues : QueuesQuestion) → All (λ byte. byte < 256) message → IsPermittedQuestion policy slot h timed.moment message (said.QueueGetConfigRequest queues)
+    pub queues_passed : (queues : QueuesQuestion) → All (λ byte. byte < 256) message → IsPermittedInquiry policy slot h timed.moment message (said.QueueGetConfigRequest queues)
         → lane_by policy h timed ≡ message_of QUEUE_GET_CONFIG_REQUEST next_xid (drop 8 message) ∷ []
     queues_passed queues bytes p = queues_sent queues p ∙ ap (λ (sent : List ℕ). sent ∷ []) (question_passed next_xid message queues bytes (queues_as_read message queues p.read))
 

@@ -40,7 +40,7 @@ use Rattle.desk_words.specs.declared.event.Timed.{Timed}
 use Rattle.desk_words.specs.Openings.{opening_of}
 use Rattle.desk_words.specs.Histories.{is_slot, settings_at, header_in, side_of}
 use Rattle.desk_words.specs.Sent.{lane_by}
-use Rattle.lane_laws.specs.Lane.{IsRanged, IsEitherThat, LiesInFlowspace, NamesOwnPort, StaysWithin, SendsWithin, IsHeaderSent, IsReadAsQuestion, IsReadThat, IsOfBytes, Arrival, arrival_under, IsBufferHeader, switch_number, rules_in}
+use Rattle.lane_laws.specs.Lane.{IsRanged, IsEitherThat, LiesInFlowspace, NamesOwnPort, StaysWithin, SendsWithin, IsHeaderSent, IsReadAsInquiry, IsReadThat, IsOfBytes, Arrival, arrival_under, IsBufferHeader, switch_number, rules_in}
 use Rattle.lane_laws.proofs.Reading.{IsRead, IsReadOut, read_of, read_out_of}
 use Rattle.lane_laws.proofs.Marks.{IsProbe-marked}
 use Rattle.lane_laws.proofs.Keeping.{IsKept}
@@ -221,7 +221,7 @@ each_read policy accepted normal h timed slot message all_bytes is =
     let rules = rules_in policy h in
     let earlier = All-tail (λ t. IsOfBytes t.event) timed h all_bytes in
     let bytes : All (λ byte. byte < 256) message = subst IsOfBytes is (All-head (λ t. IsOfBytes t.event) timed h all_bytes) in
-    All-weaker (λ sent. IsEitherThat (IsWhole rules slot) (IsWholeOut h rules slot) sent ⊎ IsReadAsQuestion rules slot sent) (IsReadThat (StaysWithin rules slot) (SendsWithin (IsBufferHeader h) rules slot) rules slot)
+    All-weaker (λ sent. IsEitherThat (IsWhole rules slot) (IsWholeOut h rules slot) sent ⊎ IsReadAsInquiry rules slot sent) (IsReadThat (StaysWithin rules slot) (SendsWithin (IsBufferHeader h) rules slot) rules slot)
     (λ sent whole. elim whole [
       | inl (inl (m, spelled, ranged, (below, small, within))) ↦
           let ranges = flow_mod_is m ranged below small in
@@ -232,7 +232,7 @@ each_read policy accepted normal h timed slot message all_bytes is =
       | inr question ↦ inr question
     ])
     (lane_by policy h timed)
-    (each_ranged (λ rs. IsWhole rs slot) (λ rs. IsWholeOut h rs slot) (λ rs. IsReadAsQuestion rs slot) policy normal h timed slot message all_bytes is (record {
+    (each_ranged (λ rs. IsWhole rs slot) (λ rs. IsWholeOut h rs slot) (λ rs. IsReadAsInquiry rs slot) policy normal h timed slot message all_bytes is (record {
       flow_mods = λ features opened here m read none.
           let g = ground_by policy slot h (Some features) in
           let ms = flow_mods_by policy slot h g m in

@@ -159,7 +159,7 @@ pub record SendsWithin (IsHeaderUnder : ℕ → Header → Type 0) (rules : List
   pub outputs : SendsToOwnPorts rules slot m
   pub sends : is_probe m ≡ false → (h : Header) → IsHeader h → IsHeaderSent IsHeaderUnder m h → IsSound rules slot (Packet h) m.actions
 
--- ---- questions
+-- ---- inquiries
 
 -- statistics of ports or queues are asked for of all ports, or of one of the slice's: for those of ports NONE names all, for those of queues ALL does (section 5.3.5)
 abbrev pub AsksOwnPort : List Rule → ℕ → StatsRequest → Type 0
@@ -194,15 +194,15 @@ pub record IsReadAsOut (Holds : PacketOut → Type 0) (message : List ℕ) : Typ
 abbrev pub IsEitherRead : (FlowMod → Type 0) → (PacketOut → Type 0) → List ℕ → Type 0
 IsEitherRead OfFlowMod OfPacketOut message = IsReadAs OfFlowMod message ⊎ IsReadAsOut OfPacketOut message
 
--- a switch reads a message as a question that the slice may ask
-pub record IsReadAsQuestion (rules : List Rule) (slot : ℕ) (message : List ℕ) : Type 0 where
+-- a switch reads a message as an inquiry that the slice may make
+pub record IsReadAsInquiry (rules : List Rule) (slot : ℕ) (message : List ℕ) : Type 0 where
   pub asked : FromController
   pub read : read_controller message ≡ Ok asked
   pub may : MayBeAsked rules slot asked
 
--- a switch reads a message as a flow-mod of which one thing holds, as a packet-out of which another does, or as such a question
+-- a switch reads a message as a flow-mod of which one thing holds, as a packet-out of which another does, or as such an inquiry
 abbrev pub IsReadThat : (FlowMod → Type 0) → (PacketOut → Type 0) → List Rule → ℕ → List ℕ → Type 0
-IsReadThat OfFlowMod OfPacketOut rules slot message = IsEitherRead OfFlowMod OfPacketOut message ⊎ IsReadAsQuestion rules slot message
+IsReadThat OfFlowMod OfPacketOut rules slot message = IsEitherRead OfFlowMod OfPacketOut message ⊎ IsReadAsInquiry rules slot message
 
 -- the message of an event, if it has one, is of bytes
 abbrev pub IsOfBytes : Event → Type 0
@@ -326,8 +326,8 @@ pub record IsPermittedOut (policy : PolicyView) (slot : ℕ) (h : List Timed) (m
   pub rate : KeepsRate policy slot h moment
   pub no_fault : packet_out_fault (ground_in policy slot h) m ≡ None
 
--- the same of a question that the slice may ask
-pub record IsPermittedQuestion (policy : PolicyView) (slot : ℕ) (h : List Timed) (moment : ℕ) (message : List ℕ) (asked : FromController) : Type 0 where
+-- the same of an inquiry that the slice may make
+pub record IsPermittedInquiry (policy : PolicyView) (slot : ℕ) (h : List Timed) (moment : ℕ) (message : List ℕ) (asked : FromController) : Type 0 where
   pub read : read_controller message ≡ Ok asked
   pub rate : KeepsRate policy slot h moment
   pub may : MayBeAsked (rules_in policy h) slot asked
@@ -336,4 +336,4 @@ pub record IsPermittedQuestion (policy : PolicyView) (slot : ℕ) (h : List Time
 abbrev pub IsAnyPermitted : PolicyView → ℕ → List Timed → ℕ → List ℕ → Type 0
 IsAnyPermitted policy slot h moment message =
     ((m : FlowMod) × IsPermitted policy slot h moment message m)
-    ⊎ (((m : PacketOut) × IsPermittedOut policy slot h moment message m) ⊎ ((asked : FromController) × IsPermittedQuestion policy slot h moment message asked))
+    ⊎ (((m : PacketOut) × IsPermittedOut policy slot h moment message m) ⊎ ((asked : FromController) × IsPermittedInquiry policy slot h moment message asked))

@@ -30,7 +30,7 @@ ghost use Rattle.desk_words.specs.declared.event.Event.TheVariants.{SliceMsg};
 ghost use Rattle.desk_words.specs.declared.event.Timed.{Timed};
 ghost use Rattle.desk_words.specs.Histories.{side_of, is_slice_up};
 ghost use Rattle.desk_words.specs.Sent.{lane_by};
-ghost use Rattle.lane_laws.specs.Lane.{IsRanged, IsRangedOut, IsSentThat, LiesInFlowspace, OutputsToOwnPorts, LeavesOtherHeaders, StaysWithin, SendsOwnPacket, SendsToOwnPorts, ChangesNoTable, SendsWithin, IsReadThat, IsOfBytes, IsBufferHeader, CarriesOwnBuffer, SendsOwnBuffer, HoldsWritten, KeepsWritten, KeepsRanged, IsKeptHeader, rules_in, settings_in, ports_shown, ground_in, flow_mods_at, packet_out_at, IsPermitted, IsPermittedOut, IsPermittedQuestion, IsAnyPermitted};
+ghost use Rattle.lane_laws.specs.Lane.{IsRanged, IsRangedOut, IsSentThat, LiesInFlowspace, OutputsToOwnPorts, LeavesOtherHeaders, StaysWithin, SendsOwnPacket, SendsToOwnPorts, ChangesNoTable, SendsWithin, IsReadThat, IsOfBytes, IsBufferHeader, CarriesOwnBuffer, SendsOwnBuffer, HoldsWritten, KeepsWritten, KeepsRanged, IsKeptHeader, rules_in, settings_in, ports_shown, ground_in, flow_mods_at, packet_out_at, IsPermitted, IsPermittedOut, IsPermittedInquiry, IsAnyPermitted};
 
 /// Whatever a message of a slice has sent to the switch is a flow-mod, and the slice writes each header of its
 /// match; or it is a packet-out of a packet that the slice writes, or of a probe with the slice's mark; or it is
@@ -51,7 +51,7 @@ pub fn outputs_name_the_slices_ports()
 {}
 
 /// It leaves every flow table treating each header that the slice doesn't write as before: it is a flow-mod
-/// that does, or a packet-out or a question, which change none.
+/// that does, or a packet-out or an inquiry, which change none.
 pub fn other_headers_are_treated_as_before()
     ensures { (policy : PolicyView) → IsPolicy policy.slices policy.rules → AreNormal policy.rules → (h : List Timed) (timed : Timed) (slot : ℕ) (message : List ℕ) → All (λ t. IsOfBytes t.event) (timed ∷ h)
         → timed.event ≡ SliceMsg slot message → All (IsSentThat (LeavesOtherHeaders (rules_in policy h) slot) ChangesNoTable) (lane_by policy h timed) }
@@ -86,7 +86,7 @@ pub fn switches_read_such_messages()
 /// A flow-mod of a slice that is up is sent where it keeps the rate and no line refuses it: exactly its
 /// messages, one for each piece of its match that the slice writes, with the actions that the slice may have
 /// for the piece by the rules of the switch; where it names a packet, the first whose piece has the packet's
-/// header carries the switch's number for it. Nothing but these, permitted packet-outs and permitted questions is
+/// header carries the switch's number for it. Nothing but these, permitted packet-outs and permitted inquiries is
 /// sent for a slice.
 pub fn permitted_flow_mods_are_sent()
     ensures sent { (policy : PolicyView) (h : List Timed) (timed : Timed) (slot : ℕ) (message : List ℕ) (m : FlowMod) → timed.event ≡ SliceMsg slot message → is_slice_up policy slot h ≡ true
@@ -109,18 +109,18 @@ pub fn permitted_packet_outs_are_sent()
         ≡ permitted (rules_in policy h) slot (origin_with (packet_at (ground_in policy slot h) m.buffer) m) m.actions (flooded false (ports_shown policy slot h)) (flooded true (ports_shown policy slot h)) }
 {}
 
-/// A question of a slice that is up is sent where it keeps the rate and the slice may ask it: exactly one, under
+/// An inquiry of a slice that is up is sent where it keeps the rate and the slice may ask it: exactly one, under
 /// the transaction id that the slice gets next. Of flows the sum is asked for as the single flows. A question for
 /// queues that came in bytes is sent with its body as it came.
-pub fn permitted_questions_are_sent()
+pub fn permitted_inquiries_are_sent()
     ensures statistics { (policy : PolicyView) (h : List Timed) (timed : Timed) (slot : ℕ) (message : List ℕ) (request asked : StatsRequest) → timed.event ≡ SliceMsg slot message → is_slice_up policy slot h ≡ true
-        → IsPermittedQuestion policy slot h timed.moment message (said.StatsRequest request) → asked_as request ≡ Some asked → lane_by policy h timed ≡ spell_request asked (ground_in policy slot h).xid ∷ [] }
+        → IsPermittedInquiry policy slot h timed.moment message (said.StatsRequest request) → asked_as request ≡ Some asked → lane_by policy h timed ≡ spell_request asked (ground_in policy slot h).xid ∷ [] }
     ensures barriers { (policy : PolicyView) (h : List Timed) (timed : Timed) (slot : ℕ) (message : List ℕ) → timed.event ≡ SliceMsg slot message → is_slice_up policy slot h ≡ true
-        → IsPermittedQuestion policy slot h timed.moment message said.BarrierRequest → lane_by policy h timed ≡ message_of BARRIER_REQUEST (ground_in policy slot h).xid [] ∷ [] }
+        → IsPermittedInquiry policy slot h timed.moment message said.BarrierRequest → lane_by policy h timed ≡ message_of BARRIER_REQUEST (ground_in policy slot h).xid [] ∷ [] }
     ensures queues { (policy : PolicyView) (h : List Timed) (timed : Timed) (slot : ℕ) (message : List ℕ) (queues : QueuesQuestion) → timed.event ≡ SliceMsg slot message → is_slice_up policy slot h ≡ true
-        → IsPermittedQuestion policy slot h timed.moment message (said.QueueGetConfigRequest queues) → lane_by policy h timed ≡ spell_queues_request (ground_in policy slot h).xid queues ∷ [] }
+        → IsPermittedInquiry policy slot h timed.moment message (said.QueueGetConfigRequest queues) → lane_by policy h timed ≡ spell_queues_request (ground_in policy slot h).xid queues ∷ [] }
     ensures bodies { (policy : PolicyView) (h : List Timed) (timed : Timed) (slot : ℕ) (message : List ℕ) (queues : QueuesQuestion) → All (λ byte. byte < 256) message → timed.event ≡ SliceMsg slot message → is_slice_up policy slot h ≡ true
-        → IsPermittedQuestion policy slot h timed.moment message (said.QueueGetConfigRequest queues) → lane_by policy h timed ≡ message_of QUEUE_GET_CONFIG_REQUEST (ground_in policy slot h).xid (drop 8 message) ∷ [] }
+        → IsPermittedInquiry policy slot h timed.moment message (said.QueueGetConfigRequest queues) → lane_by policy h timed ≡ message_of QUEUE_GET_CONFIG_REQUEST (ground_in policy slot h).xid (drop 8 message) ∷ [] }
 {}
 
 /// The first three hold of what `slice_side::react` has sent on by its clause `sent`, for the policy, the ports

@@ -13,11 +13,11 @@ use Rattle.stats_filter.specs.Replies.{table_reply}
 use Rattle.of10_config.specs.declared.queues.QueuesQuestion.{QueuesQuestion}
 use Rattle.slice_words.specs.Messages.{Reading, asked_of}
 use Rattle.slice_words.specs.Items.{Settings, Sight, is_own_port}
-use Rattle.slice_words.specs.Pasts.{Question, ForStatistics, Answer, told}
+use Rattle.slice_words.specs.Pasts.{Inquiry, ForStatistics, Answer, told}
 use Rattle.slice_words.specs.FlowMods.{Ground, not_permitted}
 use Rattle.slice_words.specs.Questions.{may_ask, asking, statistics_asked, queues_asked}
 use Rattle.slice_words.specs.Answers.{refused, statistics_answer, queues_answer}
-use Rattle.slice_words.specs.Alone.{spell_question}
+use Rattle.slice_words.specs.Alone.{spell_inquiry}
 use Rattle.slice_side.specs.declared.answered.Reaction.{Reaction}
 use Rattle.slice_side.specs.declared.change.Change.TheVariants.{Inquired}
 use Rattle.slice_side.specs.Reactions.{is_inquiry, Follows}
@@ -52,11 +52,11 @@ statistics_sent g request asked message is sent =
     ap (λ (b : Bool). if b then statistics_asked g request message else refused not_permitted message) is ∙ ap (by_asked g message) sent
 
 -- a question for statistics is spelled of what is asked
-pub statistics_spelled : (request : StatsRequest) (xid : ℕ) (question : List ℕ) → question_for request xid ≡ Some question → (asked : StatsRequest) × (asked_as request ≡ Some asked) × (question ≡ spell_question (ForStatistics asked) xid)
+pub statistics_spelled : (request : StatsRequest) (xid : ℕ) (question : List ℕ) → question_for request xid ≡ Some question → (asked : StatsRequest) × (asked_as request ≡ Some asked) × (question ≡ spell_inquiry (ForStatistics asked) xid)
 statistics_spelled request xid question is = by_sent (asked_as request) refl is
   where
     by_sent : (sent : Option StatsRequest) → asked_as request ≡ sent → option_map (λ asked. spell_request asked xid) sent ≡ Some question
-        → (asked : StatsRequest) × (asked_as request ≡ Some asked) × (question ≡ spell_question (ForStatistics asked) xid)
+        → (asked : StatsRequest) × (asked_as request ≡ Some asked) × (question ≡ spell_inquiry (ForStatistics asked) xid)
     by_sent None same none = absurd (none-some question none)
     by_sent (Some asked) same some = (asked, same, sym (same_Some (spell_request asked xid) question some))
 
@@ -68,15 +68,15 @@ queues_sent g queues message is = ap (λ (b : Bool). if b then queues_asked g qu
 
 -- ---- reactions
 
-inquiry_follows : (s : Settings) (sight : Sight) (message : List ℕ) (read : Reading) (moment : ℕ) (a : Answer) (g : Ground) (q : Question) (question : List ℕ) (asked : Asked) (r : Reaction) → a ≡ asking g q → question ≡ spell_question q g.xid
+inquiry_follows : (s : Settings) (sight : Sight) (message : List ℕ) (read : Reading) (moment : ℕ) (a : Answer) (g : Ground) (q : Inquiry) (question : List ℕ) (asked : Asked) (r : Reaction) → a ≡ asking g q → question ≡ spell_inquiry q g.xid
     → is_inquiry read ≡ true → asked ≡ asked_of read message → r.to_slice.items ≡ [] → r.to_switch.items ≡ question ∷ [] → r.close ≡ false → r.change ≡ Inquired moment asked → Follows s sight message read a moment r
 inquiry_follows s sight message read moment a g q question asked r is spelled inquires same said_so sent close change =
     subst (λ (answer : Answer). Follows s sight message read answer moment r) (sym is)
-    (follows_sent s sight message read (asking g q) moment r (Inquired moment asked) (spell_question q g.xid ∷ []) said_so (sent ∙ ap (λ (bytes : List ℕ). bytes ∷ []) spelled) refl close change
+    (follows_sent s sight message read (asking g q) moment r (Inquired moment asked) (spell_inquiry q g.xid ∷ []) said_so (sent ∙ ap (λ (bytes : List ℕ). bytes ∷ []) spelled) refl close change
     (record { inquires = inquires; sent = refl; same_asked = same; same_moment = refl; uses = λ k d within. refl }))
 
 -- the same of what a call answers
-pub inquiry_result : (result : Result Reaction AllocError) (s : Settings) (sight : Sight) (message : List ℕ) (read : Reading) (moment : ℕ) (a : Answer) (g : Ground) (q : Question) (question : List ℕ) (asked : Asked) → a ≡ asking g q → question ≡ spell_question q g.xid
+pub inquiry_result : (result : Result Reaction AllocError) (s : Settings) (sight : Sight) (message : List ℕ) (read : Reading) (moment : ℕ) (a : Answer) (g : Ground) (q : Inquiry) (question : List ℕ) (asked : Asked) → a ≡ asking g q → question ≡ spell_inquiry q g.xid
     → is_inquiry read ≡ true → asked ≡ asked_of read message
     → IfOk result (λ r. r.to_slice.items ≡ []) → IfOk result (λ r. r.to_switch.items ≡ question ∷ []) → IfOk result (λ r. r.close ≡ false) → IfOk result (λ r. r.change ≡ Inquired moment asked)
     → IfOk result (Follows s sight message read a moment)

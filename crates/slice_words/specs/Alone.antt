@@ -8,7 +8,7 @@ use Rattle.of10_flow.specs.FlowMods.{spell_flow_mod}
 use Rattle.of10_flow.specs.PacketOuts.{spell_packet_out}
 use Rattle.of10_flow.specs.declared.protocol.TheConstants.{NO_BUFFER}
 use Rattle.slice_words.specs.Items.{Settings, Item}
-use Rattle.slice_words.specs.Pasts.{Question, ForStatistics, ForBarrier, ForQueues, Outgoing, Modifies, SendsOut, Asks, Answer, Past}
+use Rattle.slice_words.specs.Pasts.{Inquiry, ForStatistics, ForBarrier, ForQueues, Outgoing, Modifies, SendsOut, Asks, Answer, Past}
 use Rattle.slice_words.specs.Answers.{answer}
 
 -- a way to answer an item after a view with its answers
@@ -50,11 +50,11 @@ put_for s view (item ∷ items) = (answer_to s view item).to_switch ++ put_for s
 abbrev pub number_it_came_with : List ℕ → ℕ → ℕ
 number_it_came_with came k = get_or (reverse came) k NO_BUFFER
 
--- the bytes of a question (OpenFlow 1.0.0, sections 5.3.5, 5.3.7 and 5.3.4)
-abbrev pub spell_question : Question → ℕ → List ℕ
-spell_question (ForStatistics request) xid = spell_request request xid
-spell_question ForBarrier xid = message_of BARRIER_REQUEST xid []
-spell_question (ForQueues queues) xid = spell_queues_request xid queues
+-- the bytes of an inquiry (OpenFlow 1.0.0, sections 5.3.5, 5.3.7 and 5.3.4)
+abbrev pub spell_inquiry : Inquiry → ℕ → List ℕ
+spell_inquiry (ForStatistics request) xid = spell_request request xid
+spell_inquiry ForBarrier xid = message_of BARRIER_REQUEST xid []
+spell_inquiry (ForQueues queues) xid = spell_queues_request xid queues
 
 -- the bytes of a message, with the switch's own number for the packet that it names
 abbrev pub rendered : List ℕ → Outgoing → List ℕ
@@ -62,4 +62,4 @@ rendered came (Modifies m None) = spell_flow_mod m
 rendered came (Modifies m (Some k)) = spell_flow_mod (record m { buffer = number_it_came_with came k })
 rendered came (SendsOut m None) = spell_packet_out m
 rendered came (SendsOut m (Some k)) = spell_packet_out (record m { buffer = number_it_came_with came k })
-rendered came (Asks question xid) = spell_question question xid
+rendered came (Asks inquiry xid) = spell_inquiry inquiry xid

@@ -21,7 +21,7 @@ packet_header packet = header_of_packet packet.in_port packet.payload
 abbrev pub packet_named : Outgoing → Option ℕ
 packet_named (Modifies m packet) = packet
 packet_named (SendsOut m packet) = packet
-packet_named (Asks question xid) = None
+packet_named (Asks inquiry xid) = None
 
 -- one of these messages names it
 abbrev pub is_named : ℕ → List Outgoing → Bool

@@ -11,12 +11,11 @@ use Rattle.of10_flow.specs.declared.protocol.TheConstants.{NO_BUFFER}
 use Rattle.of10_flow.specs.declared.packet_out.PacketOut.{PacketOut}
 use Rattle.frame_header.specs.Headers.{header_of_packet}
 use Rattle.frame_header.specs.Probes.{trailer}
-use Rattle.flowspace.specs.Owners.{has_port}
 use Rattle.action_check.specs.declared.origin.Origin.{Origin}
 use Rattle.action_check.specs.declared.origin.Origin.TheVariants as origins
 use Rattle.action_check.specs.Permitted.{permitted}
 use Rattle.port_view.specs.SlicePorts.{flooded}
-use Rattle.slice_words.specs.Items.{lone_rules}
+use Rattle.slice_words.specs.Items.{lone_rules, is_own_port}
 use Rattle.slice_words.specs.Pasts.{Outgoing, SendsOut}
 use Rattle.slice_words.specs.Buffers.{HeldPacket}
 use Rattle.flowspace.specs.Options.{first_some, when}
@@ -72,7 +71,7 @@ names_no_packet g m = when (is_buffered_out m && is_none (packet_at g m.buffer))
 
 -- a packet may count as received by a port of the slice, by none, and from the controller (section 5.2.1)
 abbrev pub may_come_by : Ground → ℕ → Bool
-may_come_by g port = has_port (lone_rules g.slot g.patterns) g.slot port || port == NONE || port == CONTROLLER
+may_come_by g port = is_own_port g.slot g.patterns port || port == NONE || port == CONTROLLER
 
 -- a packet that it carries comes by another port
 abbrev pub comes_by_another : Ground → PacketOut → Option (ℕ × ℕ)

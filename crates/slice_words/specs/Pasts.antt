@@ -6,17 +6,17 @@ use Rattle.of10_stats.specs.declared.request.StatsRequest.{StatsRequest}
 use Rattle.of10_config.specs.declared.queues.QueuesQuestion.{QueuesQuestion}
 use Rattle.slice_words.specs.Items.{Item}
 
--- what the switch is asked for a slice: for statistics, that it do all before it first, or for the queues of a port
-pub data Question : Type 0 where
-  ForStatistics : StatsRequest → Question
-  ForBarrier : Question
-  ForQueues : QueuesQuestion → Question
+-- what the switch is asked for a slice that replies to it: for statistics (OpenFlow 1.0.0, section 5.3.5), that it do all before it first (5.3.7), or for the queues of a port (5.3.4)
+pub data Inquiry : Type 0 where
+  ForStatistics : StatsRequest → Inquiry
+  ForBarrier : Inquiry
+  ForQueues : QueuesQuestion → Inquiry
 
--- a message for the switch: a flow-mod or a packet-out, with the buffered packet of the slice that it names, if it names one, by how many the slice was given before that; or a question under its transaction id
+-- a message for the switch: a flow-mod or a packet-out, with the buffered packet of the slice that it names, if it names one, by how many the slice was given before that; or an inquiry under its transaction id
 pub data Outgoing : Type 0 where
   Modifies : FlowMod → Option ℕ → Outgoing
   SendsOut : PacketOut → Option ℕ → Outgoing
-  Asks : Question → ℕ → Outgoing
+  Asks : Inquiry → ℕ → Outgoing
 
 -- what follows from an item: messages to the slice, messages for the switch, and whether the connection ends
 pub record Answer : Type 0 where

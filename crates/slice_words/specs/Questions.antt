@@ -8,7 +8,7 @@ use Rattle.of10_config.specs.declared.queues.QueuesQuestion.{QueuesQuestion}
 use Rattle.stats_filter.specs.Asking.{asked_as}
 use Rattle.stats_filter.specs.Replies.{table_reply}
 use Rattle.slice_words.specs.Items.{is_own_port}
-use Rattle.slice_words.specs.Pasts.{Question, ForStatistics, ForBarrier, ForQueues, Asks, Answer, told, forwarded}
+use Rattle.slice_words.specs.Pasts.{Inquiry, ForStatistics, ForBarrier, ForQueues, Asks, Answer, told, forwarded}
 use Rattle.slice_words.specs.FlowMods.{Ground}
 
 -- a slice may ask for its own ports and for all: for statistics of ports NONE names all, for those of queues ALL does
@@ -17,9 +17,9 @@ may_ask g (statistics.Port port) = port == NONE || is_own_port g.slot g.patterns
 may_ask g (statistics.Queue port queue) = port == ALL || is_own_port g.slot g.patterns port
 may_ask g request = true
 
--- a question under the transaction id that the slice gets next
-abbrev pub asking : Ground → Question → Answer
-asking g question = forwarded (Asks question g.xid ∷ [])
+-- an inquiry under the transaction id that the slice gets next
+abbrev pub asking : Ground → Inquiry → Answer
+asking g inquiry = forwarded (Asks inquiry g.xid ∷ [])
 
 -- a request for statistics is sent on as what it is asked as; the slice's table is told at once
 abbrev pub statistics_asked : Ground → StatsRequest → List ℕ → Answer

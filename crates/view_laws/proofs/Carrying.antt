@@ -1,21 +1,28 @@
 -- All that a message has sent to the switch is under one transaction id, and what is remembered of it begins as it does.
-use Rattle.std.proofs.Common.{◌≡◌, ℕ, ◌+◌, ◌*◌, ◌%◌, Bool, true, false, if◌then◌else◌, List, [], ◌∷◌, ◌++◌, zero, suc, length, take, min, All, refl, sym, ap, subst, arith, Option, Some, None}
+use Rattle.std.proofs.Common.{◌≡◌, ℕ, ◌<◌, ◌+◌, ◌*◌, ◌%◌, ◌^◌, Bool, true, false, if◌then◌else◌, List, [], ◌∷◌, ◌++◌, zero, suc, length, take, min, All, refl, sym, ap, subst, arith, Option, Some, None}
 use Rattle.std.proofs.lemmas.List.Elements.{All-nil, All-cons, All-head, All-tail}
+use Rattle.byteorder.specs.Endian.{big_bytes}
+use Rattle.byteorder.specs.Numbers.{big_number-reads_back}
 use Rattle.of10_action.specs.declared.action.Action.{Action}
 use Rattle.of10_action.specs.Actions.{padding}
 use Rattle.of10_model.specs.declared.pattern.Pattern.{Pattern}
+use Rattle.of10_ctl.specs.declared.kind.TheConstants.{STATS_REQUEST, BARRIER_REQUEST, QUEUE_GET_CONFIG_REQUEST}
+use Rattle.of10_ctl.specs.Frames.{message_of}
+use Rattle.of10_message.specs.Heads.{xid_of}
+use Rattle.of10_config.specs.Queues.{question_bytes}
+use Rattle.of10_stats.specs.Requests.{statistics_kind, request_body, spell_request}
 use Rattle.of10_flow.specs.declared.flow_mod.FlowMod.{FlowMod}
 use Rattle.of10_flow.specs.declared.packet_out.PacketOut.{PacketOut}
 use Rattle.flowmod_expand.specs.Messages.{piece_message, piece_messages, buffer_at}
 use Rattle.xid_map.specs.Requests.{physical_of, issued}
 use Rattle.slice_words.specs.Items.{Settings, Item, Opened, Up, Down, Msg, Lost, Handed, Removed, Status, Fault, Barrier, Queues, Entry, Last, End, is_up}
-use Rattle.slice_words.specs.Pasts.{Question, ForStatistics, ForBarrier, ForQueues, Answer, Past, Outgoing, Modifies, SendsOut, Asks, no_answer}
+use Rattle.slice_words.specs.Pasts.{Inquiry, ForStatistics, ForBarrier, ForQueues, Answer, Past, Outgoing, Modifies, SendsOut, Asks, no_answer}
 use Rattle.slice_words.specs.Buffers.{HeldPacket}
 use Rattle.slice_words.specs.FlowMods.{Ground, ground_of, list_given, packet_at, named_packet, naming, carrier_of, flow_mods_on, pieces_on, lists_on, sent_on}
 use Rattle.slice_words.specs.PacketOuts.{permitted_out, sent_out_with, packet_out_on, sent_out}
 use Rattle.slice_words.specs.Questions.{asking}
 use Rattle.slice_words.specs.Answers.{message_answer}
-use Rattle.slice_words.specs.Alone.{answer_to}
+use Rattle.slice_words.specs.Alone.{answer_to, spell_inquiry}
 use Rattle.slice_words.specs.Standing.{past_of}
 use Rattle.slice_words.proofs.AnswerKinds.{message_holds}
 use Rattle.view_laws.specs.Requests.{IsUnder, next_number}
@@ -51,7 +58,7 @@ out_with_under (Some packet) g m actions = refl
 out_under : (g : Ground) (m : PacketOut) → All (IsUnder g.xid) (sent_out g m)
 out_under g m = All-cons (IsUnder g.xid) (SendsOut (packet_out_on g m) _) [] (out_with_under (packet_at g m.buffer) g m (list_given (permitted_out g m))) (All-nil (IsUnder g.xid))
 
-asking_under : (g : Ground) (question : Question) → All (IsUnder g.xid) (asking g question).to_switch
+asking_under : (g : Ground) (question : Inquiry) → All (IsUnder g.xid) (asking g question).to_switch
 asking_under g question = All-cons (IsUnder g.xid) (Asks question g.xid) [] refl (All-nil (IsUnder g.xid))
 
 message_under : (s : Settings) (view : List Item) (past : List Past) (moment : ℕ) (message : List ℕ) → All (IsUnder (ground_of s view past).xid) (message_answer s view past moment message).to_switch
@@ -99,6 +106,16 @@ by_item s view End = nothing_under _ _ (others_put_nothing s view End (λ messag
 
 pub sent_under : (s : Settings) (view : List Item) (item : Item) → All (IsUnder (s.slot * 16777216 + next_number s view % 16777216)) (answer_to s view item).to_switch
 sent_under s view item = subst (λ (n : ℕ). All (IsUnder (s.slot * 16777216 + n % 16777216)) (answer_to s view item).to_switch) (issued-requests s view) (by_item s view item)
+
+-- the bytes of an inquiry bear its transaction id
+bears : (kind xid : ℕ) (body : List ℕ) → xid < 2 ^ 32 → xid_of (message_of kind xid body) ≡ xid
+bears kind xid body below = big_number-reads_back 4 xid body below
+
+pub inquiry_bears : (inquiry : Inquiry) (xid : ℕ) → xid < 2 ^ 32 → xid_of (spell_inquiry inquiry xid) ≡ xid
+unfolding spell_request
+inquiry_bears (ForStatistics request) xid below = bears STATS_REQUEST xid (big_bytes 2 (statistics_kind request) ++ big_bytes 2 0 ++ request_body request) below
+inquiry_bears ForBarrier xid below = bears BARRIER_REQUEST xid [] below
+inquiry_bears (ForQueues queues) xid below = bears QUEUE_GET_CONFIG_REQUEST xid (question_bytes queues) below
 
 -- ---- the first bytes
 

@@ -30,7 +30,7 @@ next_number s view = length (requests_in s view)
 abbrev pub IsUnder : ℕ → Outgoing → Type 0
 IsUnder xid (Modifies m buffer) = m.xid ≡ xid
 IsUnder xid (SendsOut m buffer) = m.xid ≡ xid
-IsUnder xid (Asks question under) = under ≡ xid
+IsUnder xid (Asks inquiry under) = under ≡ xid
 
 -- ---- which requests are remembered
 

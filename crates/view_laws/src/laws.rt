@@ -1,7 +1,7 @@
 //! Laws of what the parts of a slice's state stand for, for all settings and every view. Each function's
 //! contract is the law; its body does nothing.
 
-ghost use Rattle.std.specs.Prelude.{ℕ, ◌≡◌, ◌≤◌, ◌+◌, ◌*◌, ◌%◌, ◌^◌, ◌↔◌, IsTrue, true, List, [], ◌∷◌, ◌++◌, Bool, All, take, reverse, slice_get, Some, Contains};
+ghost use Rattle.std.specs.Prelude.{ℕ, ◌≡◌, ◌≤◌, ◌<◌, ◌+◌, ◌*◌, ◌%◌, ◌^◌, ◌↔◌, IsTrue, true, List, [], ◌∷◌, ◌++◌, Bool, All, take, reverse, slice_get, Some, Contains};
 ghost use Rattle.of10_model.specs.declared.pattern.Pattern.{Pattern};
 ghost use Rattle.of10_model.specs.Normal.{IsNormal};
 ghost use Rattle.of10_message.specs.Heads.{xid_of};
@@ -13,8 +13,9 @@ ghost use Rattle.xid_map.specs.Requests.{issued};
 ghost use Rattle.flow_book.specs.declared.booked.Booked.{Booked};
 ghost use Rattle.slice_words.specs.Messages.{Reading, kind_asked, asked_of, quoted};
 ghost use Rattle.slice_words.specs.Items.{Settings, Item, Msg, Last, latest_moment};
+ghost use Rattle.slice_words.specs.Pasts.{Inquiry};
 ghost use Rattle.slice_words.specs.Buffers.{HeldPacket};
-ghost use Rattle.slice_words.specs.Alone.{answer_to};
+ghost use Rattle.slice_words.specs.Alone.{answer_to, spell_inquiry};
 ghost use Rattle.slice_words.specs.Calls.{request_calls, questions};
 ghost use Rattle.slice_words.specs.Answers.{keeps_rate};
 ghost use Rattle.slice_words.specs.Standing.{past_of};
@@ -27,12 +28,14 @@ ghost use Rattle.view_laws.specs.Rates.{counted_moments};
 
 /// As many requests were issued as messages put something for the switch; and the n-th of these, from 0 and
 /// the oldest first, is the one before which n were issued. All that a message has sent to the switch has the
-/// slot in the top byte of its transaction id, and below it the low 24 bits of that number. A request is
-/// remembered with the slice's own transaction id, and an error carries back its first 64 bytes.
+/// slot in the top byte of its transaction id, and below it the low 24 bits of that number; the bytes of an
+/// inquiry bear its id. A request is remembered with the slice's own transaction id, and an error carries back
+/// its first 64 bytes.
 pub fn requests_are_numbered()
     ensures count { (s : Settings) (view : List Item) → issued (request_calls s (past_of s view)) ≡ next_number s view }
     ensures place { (s : Settings) (later : List Item) (item : Item) (earlier : List Item) → is_request s earlier item ≡ true → slice_get (reverse (requests_in s (later ++ (item ∷ earlier)))) (next_number s earlier) ≡ Some item }
     ensures under { (s : Settings) (view : List Item) (item : Item) → All (IsUnder (s.slot * 2 ^ 24 + next_number s view % 2 ^ 24)) (answer_to s view item).to_switch }
+    ensures borne { (inquiry : Inquiry) (xid : ℕ) → xid < 2 ^ 32 → xid_of (spell_inquiry inquiry xid) ≡ xid }
     ensures own { (read : Reading) (message : List ℕ) → (asked_of read message).xid ≡ xid_of message }
     ensures first { (read : Reading) (message : List ℕ) → quoted (asked_of read message) ≡ take 64 message }
 {}

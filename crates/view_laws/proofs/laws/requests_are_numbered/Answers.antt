@@ -1,5 +1,5 @@
 use Rattle.view_laws.proofs.Requesting.{issued-requests, request-place}
-use Rattle.view_laws.proofs.Carrying.{sent_under, first_bytes}
+use Rattle.view_laws.proofs.Carrying.{sent_under, inquiry_bears, first_bytes}
 use Rattle.view_laws.proofs.laws.requests_are_numbered.Goals as goal
 
 pub returns-clause-count : goal.returns-clause-count
@@ -10,6 +10,9 @@ returns-clause-place c s later item earlier asks = request-place s later item ea
 
 pub returns-clause-under : goal.returns-clause-under
 returns-clause-under c s view item = sent_under s view item
+
+pub returns-clause-borne : goal.returns-clause-borne
+returns-clause-borne c inquiry xid below = inquiry_bears inquiry xid below
 
 pub returns-clause-first : goal.returns-clause-first
 returns-clause-first c read message = first_bytes message

@@ -1,5 +1,5 @@
 use Rattle.lane_laws.proofs.Sent.{statistics_sent, barrier_sent, queues_sent, queues_passed}
-use Rattle.lane_laws.proofs.laws.permitted_questions_are_sent.Goals as goal
+use Rattle.lane_laws.proofs.laws.permitted_inquiries_are_sent.Goals as goal
 
 pub returns : goal.returns
 returns c = record {
