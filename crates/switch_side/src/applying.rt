@@ -160,8 +160,8 @@ fn apply_at(states: &mut Vec<SliceState>, slot: u8, change: Change)
     }
 }
 
-/// Makes the changes of a message of the switch, each in the state of its slot. Takes no memory.
-pub fn apply_all(states: &mut Vec<SliceState>, changes: Vec<(u8, Change)>)
+/// Makes changes one after the other, each in the state of its slot.
+fn apply_each(states: &mut Vec<SliceState>, changes: Vec<(u8, Change)>)
     requires { StatesHaveRoom changes.items states.old.items }
     ensures stands { (p : PolicyView) (switch : KnownSwitch) (sides : ℕ → Side) (moment : ℕ) (message : List ℕ) → AllStand p switch sides states.old.items → AreChanges p switch sides moment message changes.items → AllStand p switch (λ slot. side_after p slot switch (sides slot) (told_at moment message)) states.new.items }
     ensures count { length states.new.items ≡ length states.old.items }
@@ -169,4 +169,17 @@ pub fn apply_all(states: &mut Vec<SliceState>, changes: Vec<(u8, Change)>)
     for (slot, change) in changes {
         apply_at(states, slot, change);
     }
+}
+
+/// Makes the changes of a message of the switch, each in the state of its slot. Takes no memory.
+pub fn apply_all(states: &mut Vec<SliceState>, changes: Vec<(u8, Change)>)
+    requires { StatesHaveRoom changes.items states.old.items }
+    ensures stands { (p : PolicyView) (switch : KnownSwitch) (sides : ℕ → Side) (moment : ℕ) (message : List ℕ) → AllStand p switch sides states.old.items → AreChanges p switch sides moment message changes.items → AllStand p switch (λ slot. side_after p slot switch (sides slot) (told_at moment message)) states.new.items }
+    ensures count { length states.new.items ≡ length states.old.items }
+{
+    // Most messages bring none, and each packet in its turn would make an iterator of it.
+    if changes.is_empty() {
+        return;
+    }
+    apply_each(states, changes);
 }

@@ -5,7 +5,7 @@ use Rattle.flowspace.specs.Policies.{PolicyView}
 use Rattle.desk_words.specs.Openings.{KnownSwitch}
 use Rattle.desk_words.specs.Histories.{Side}
 use Rattle.switch_side.proofs.Making.{AllOnTheWay}
-use Rattle.switch_side.proofs.applying.apply_all.Given as goal
+use Rattle.switch_side.proofs.applying.apply_each.Given as goal
 
 abbrev pub invariant-loop-slot : goal.invariant-loop-slot
 invariant-loop-slot l = record {
