@@ -83,8 +83,10 @@ fn dispatch(
     ensures value { (called : ℕ → Called) → AllCalled called states.now → IfOk result (λ d. carried d ≡ carried_for called policy.now.rules ports.now states.now frame.now) }
     ensures right { IfOk (read_switch frame.now) IsSaid }
 {
-    match read_switch(frame) {
-        Ok(said) => follow(alloc, policy, index, ports, states, frame.head().xid, &said),
+    let read = read_switch(frame);
+    // What was read stays where it is: it is large.
+    match &read {
+        Ok(said) => follow(alloc, policy, index, ports, states, frame.head().xid, said),
         Err(Unread::BadLength) => Ok(Dispatch::closing(alloc)),
         Err(_) => Ok(Dispatch::nothing(alloc)),
     }

@@ -2,12 +2,14 @@ use Rattle.std.proofs.Common.{◌≡◌, Result, Ok, IfOk, sym, subst}
 use Rattle.of10_ctl.specs.declared.head.Head.{Head}
 use Rattle.of10_message.specs.declared.fault.Unread.{Unread}
 use Rattle.of10_message.specs.Heads.{xid_of}
-use Rattle.of10_switch.specs.Messages.{SwitchMessage}
-use Rattle.of10_switch.specs.Views.{said_by}
+use Rattle.of10_switch.specs.Messages.{SwitchMessage, read_switch}
+use Rattle.of10_switch.specs.Views.{said_by, ReadsAsSaid}
+use Rattle.of10_switch.specs.declared.message.FromSwitch.{FromSwitch}
 use Rattle.switch_side.specs.Carrying.{carried, carried_with}
 use Rattle.switch_side.proofs.answer.dispatch.Goals as goal
 
 pub returns-in-Ok-clause-value : goal.returns-in-Ok-clause-value
 returns-in-Ok-clause-value c called all =
-    subst (λ (said : Result SwitchMessage Unread). IfOk c.follow.result (λ d. carried d ≡ carried_with called c.args.policy.now.rules c.args.ports.now c.args.states.now (xid_of c.args.frame.now) said)) (sym c.in-Ok.ensures.exact)
+    let exact = subst (λ (read : Result FromSwitch Unread). ReadsAsSaid read (read_switch c.args.frame.now)) c.in-Ok.is c.read_switch-read.ensures.exact in
+    subst (λ (said : Result SwitchMessage Unread). IfOk c.follow.result (λ d. carried d ≡ carried_with called c.args.policy.now.rules c.args.ports.now c.args.states.now (xid_of c.args.frame.now) said)) (sym exact)
     (subst (λ (head : Head). IfOk c.follow.result (λ d. carried d ≡ carried_with called c.args.policy.now.rules c.args.ports.now c.args.states.now head.xid (Ok (said_by c.in-Ok.said)))) c.head.ensures.value (c.follow.ensures called all))
