@@ -1,6 +1,6 @@
 //! The lines of a report.
 
-ghost use Rattle.std.specs.Prelude.{◌≡◌, ◌++◌, OnOk};
+ghost use Rattle.std.specs.Prelude.{ℕ, ◌≡◌, ◌≤◌, ◌++◌, OnOk, length, take};
 ghost use Rattle.hex.specs.Hex.{encode_lower};
 ghost use Rattle.desk_words.specs.Reports.{place_text, last_line};
 ghost use Rattle.fv_report.specs.Telling.{saying_text, line_text};
@@ -12,11 +12,37 @@ use crate::teller::{Place, Said, Teller};
 use fv_base::{Sink, put_all};
 use itoa::Buffer;
 use std::alloc::{AllocError, Global};
+use std::marker::Model;
 
 /// The line that is being made; its memory serves the next one again.
 #[derive(Drop)]
 pub(crate) struct LineBuffer {
+    /// The line, and behind it what longer ones have left.
     bytes: Vec<u8>,
+    /// How many bytes the line has.
+    len: usize,
+}
+
+impl Model for LineBuffer {
+    ghost use Rattle.std.specs.Prelude.{ℕ, List, ◌≤◌, length, take};
+
+    ghost Value = { List ℕ };
+
+    ghost view = { λ line. take line.len line.bytes.items };
+
+    ghost invariant = { λ line. line.len ≤ length line.bytes.items };
+}
+
+/// Makes the bytes so many at least; those that were there stay in front.
+fn grow(bytes: &mut Vec<u8>, count: usize) -> Result<(), AllocError>
+    ensures room { OnOk result (count ≤ length bytes.new.items) }
+    ensures more { length bytes.old.items ≤ length bytes.new.items }
+    ensures front { (n : ℕ) → n ≤ length bytes.old.items → take n bytes.new.items ≡ take n bytes.old.items }
+{
+    if count > bytes.len() {
+        bytes.resize(count, 0)?;
+    }
+    Ok(())
 }
 
 impl LineBuffer {
@@ -24,83 +50,92 @@ impl LineBuffer {
     pub(crate) fn new(alloc: Global) -> LineBuffer {
         LineBuffer {
             bytes: Vec::new(alloc),
+            len: 0,
         }
     }
 
-    /// Begins a line with its place.
-    fn begin(&mut self, place: Place) -> Result<(), AllocError>
-        ensures { OnOk result (self.new.bytes.items ≡ place_text (place_of place)) }
+    /// Appends a text.
+    fn put(&mut self, text: &[u8]) -> Result<(), AllocError>
+        ensures { OnOk result (self.new ≡ self.old ++ text.now) }
     {
-        self.bytes.clear();
-        self.bytes
-            .extend_from_slice(Buffer::new().format(place.number).as_bytes())?;
-        self.bytes.extend_from_slice(b" ")?;
-        self.bytes
-            .extend_from_slice(Buffer::new().format(place.switch).as_bytes())?;
-        self.bytes.extend_from_slice(b" ")
+        let end = self.len + text.len();
+        grow(&mut self.bytes, end)?;
+        self.bytes[self.len..end].copy_from_slice(text);
+        self.len = end;
+        Ok(())
     }
 
     /// Appends a message in hex.
     fn put_hex(&mut self, message: &[u8]) -> Result<(), AllocError>
-        ensures { OnOk result (self.new.bytes.items ≡ self.old.bytes.items ++ encode_lower message.now) }
+        ensures { OnOk result (self.new ≡ self.old ++ encode_lower message.now) }
     {
-        let at = self.bytes.len();
-        self.bytes
-            .resize(at.saturating_add(message.len().saturating_mul(2)), 0)?;
-        if hex::encode_to_slice(message, &mut self.bytes[at..]).is_err() {
+        let end = self.len.saturating_add(message.len().saturating_mul(2));
+        grow(&mut self.bytes, end)?;
+        if hex::encode_to_slice(message, &mut self.bytes[self.len..end]).is_err() {
             return Err(AllocError);
         }
+        self.len = end;
         Ok(())
+    }
+
+    /// Begins a line with its place.
+    fn begin(&mut self, place: Place) -> Result<(), AllocError>
+        ensures { OnOk result (self.new ≡ place_text (place_of place)) }
+    {
+        self.len = 0;
+        self.put(Buffer::new().format(place.number).as_bytes())?;
+        self.put(b" ")?;
+        self.put(Buffer::new().format(place.switch).as_bytes())?;
+        self.put(b" ")
     }
 
     /// Appends what the line says.
     fn say(&mut self, said: Said<'_>) -> Result<(), AllocError>
-        ensures { OnOk result (self.new.bytes.items ≡ self.old.bytes.items ++ saying_text (saying_of said.entry)) }
+        ensures { OnOk result (self.new ≡ self.old ++ saying_text (saying_of said.entry)) }
     {
         match said {
             Said::Lane(message) => {
-                self.bytes.extend_from_slice(b"lane ")?;
+                self.put(b"lane ")?;
                 self.put_hex(message)
             }
             Said::To(_, name, message) => {
-                self.bytes.extend_from_slice(b"to ")?;
-                self.bytes.extend_from_slice(name.as_bytes())?;
-                self.bytes.extend_from_slice(b" ")?;
+                self.put(b"to ")?;
+                self.put(name.as_bytes())?;
+                self.put(b" ")?;
                 self.put_hex(message)
             }
             Said::Close(name) => {
-                self.bytes.extend_from_slice(b"close ")?;
-                self.bytes.extend_from_slice(name.as_bytes())
+                self.put(b"close ")?;
+                self.put(name.as_bytes())
             }
-            Said::Down => self.bytes.extend_from_slice(b"down"),
+            Said::Down => self.put(b"down"),
         }
     }
 
     /// Makes a whole line.
     fn make(&mut self, place: Place, said: Said<'_>) -> Result<(), AllocError>
-        ensures { OnOk result (self.new.bytes.items ≡ line_text (line_of place said.entry)) }
+        ensures { OnOk result (self.new ≡ line_text (line_of place said.entry)) }
     {
         self.begin(place)?;
         self.say(said)?;
-        self.bytes.extend_from_slice(b"\n")
+        self.put(b"\n")
     }
 
     /// The bytes of the line.
     fn made(&self) -> &[u8]
-        ensures { result.now ≡ self.now.bytes.items }
+        ensures { result.now ≡ self.now }
     {
-        &self.bytes
+        &self.bytes[..self.len]
     }
 
     /// Makes the last line: how many events there were.
     fn make_last(&mut self, events: u64) -> Result<(), AllocError>
-        ensures { OnOk result (self.new.bytes.items ≡ last_line events) }
+        ensures { OnOk result (self.new ≡ last_line events) }
     {
-        self.bytes.clear();
-        self.bytes.extend_from_slice(b"end ")?;
-        self.bytes
-            .extend_from_slice(Buffer::new().format(events).as_bytes())?;
-        self.bytes.extend_from_slice(b"\n")
+        self.len = 0;
+        self.put(b"end ")?;
+        self.put(Buffer::new().format(events).as_bytes())?;
+        self.put(b"\n")
     }
 }
 

@@ -1,6 +1,6 @@
 //! A whole recording.
 
-ghost use Rattle.std.specs.Prelude.{◌≡◌, List, [], length, Ok, IfOk};
+ghost use Rattle.std.specs.Prelude.{◌≡◌, List, [], length, Ok, None, IfOk};
 ghost use Rattle.std.specs.List.{All};
 ghost use Rattle.recording.specs.declared.item.Item.{Item};
 ghost use Rattle.recording.specs.Recordings.{IsItem, read_items};
@@ -40,7 +40,25 @@ pub(crate) fn no_switches(alloc: Global) -> Result<Vec<Option<Switch>>, AllocErr
 }
 
 impl<T: Teller> Player<'_, T> {
+    /// Plays the first record of a switch, which begins with it.
+    fn play_first(
+        &mut self,
+        known: &mut Option<Switch>,
+        item: &Item,
+        bytes: &[u8],
+    ) -> Result<(), ReportFault>
+        requires record { IsRecord (length self.old.policy.now.slices) item.now bytes.now }
+        requires unknown { known.old ≡ None }
+        ensures { PlaysAt T.Tells (told_by item.now bytes.now) result self.old self.new known.old known.new }
+    {
+        let mut switch = Switch::new(self.alloc, self.policy)?;
+        self.play_record(&mut switch, item, bytes)?;
+        *known = Some(switch);
+        Ok(())
+    }
+
     /// Plays a record at its switch, which is there from its first record on.
+    // A function clears room for all its locals, so that no switch is one of this one's, which each record calls.
     fn play_at(
         &mut self,
         known: &mut Option<Switch>,
@@ -52,12 +70,7 @@ impl<T: Teller> Player<'_, T> {
     {
         match known {
             Some(switch) => self.play_again(switch, item, bytes),
-            None => {
-                let mut switch = Switch::new(self.alloc, self.policy)?;
-                self.play_record(&mut switch, item, bytes)?;
-                *known = Some(switch);
-                Ok(())
-            }
+            None => self.play_first(known, item, bytes),
         }
     }
 

@@ -36,14 +36,23 @@ impl Switch {
         })
     }
 
+    /// All begins anew.
+    fn begin_anew(&mut self, alloc: Global, policy: &Policy) -> Result<(), AllocError>
+        ensures { OnOk result (IsFreshSwitch policy.now self.new) }
+    {
+        *self = Switch::new(alloc, policy)?;
+        Ok(())
+    }
+
     /// Before a record, where there were records before it: where it comes up, all begins anew.
+    // No switch is a local of this one, as in `play_at`.
     fn renew(&mut self, alloc: Global, policy: &Policy, item: &Item) -> Result<(), AllocError>
         ensures { OnOk result ((bytes : List ℕ) (before : List Told) → SwitchStands policy.now item.now.switch before self.old → IsFound policy.now (told_by item.now bytes) before self.new) }
     {
         if item.kind != SWITCH_UP {
             return Ok(());
         }
-        *self = Switch::new(alloc, policy)?;
+        self.begin_anew(alloc, policy)?;
         Ok(())
     }
 
