@@ -261,14 +261,13 @@ impl Desk {
         ensures memory { OnErr result (is_down timed.event ≡ false) }
         ensures events { self.new.events ≡ self.old.events }
     {
-        let Timed { event, moment } = timed;
-        match event {
+        match &timed.event {
             Event::SwitchUp => self.greet(alloc),
-            Event::SwitchMsg(frame) => self.hear_switch(alloc, &frame),
+            Event::SwitchMsg(frame) => self.hear_switch(alloc, frame),
             Event::SwitchDown => Ok(self.lose_switch()),
-            Event::SliceUp(slot) => self.greet_slice(alloc, slot),
-            Event::SliceMsg(slot, frame) => self.hear_slice(alloc, slot, &frame, moment),
-            Event::SliceDown(slot) => Ok(self.lose_slice(slot)),
+            Event::SliceUp(slot) => self.greet_slice(alloc, *slot),
+            Event::SliceMsg(slot, frame) => self.hear_slice(alloc, *slot, frame, timed.moment),
+            Event::SliceDown(slot) => Ok(self.lose_slice(*slot)),
         }
     }
 

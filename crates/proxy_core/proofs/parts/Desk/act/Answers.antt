@@ -23,6 +23,6 @@ pub returns-in-SliceMsg-clause-ok : goal.returns-in-SliceMsg-clause-ok
 returns-in-SliceMsg-clause-ok c = IfOk-weaker c.hear_slice.result _ _
     (λ go acts. at_event c.args.self.now c.hear_slice.new.self c.args.timed (SliceMsg c.in-SliceMsg.slot c.in-SliceMsg.frame) go c.in-SliceMsg.is acts) c.hear_slice.ensures.ok
 
-pub returns-in-SliceDown-clause-ok : goal.returns-in-SliceDown-clause-ok
-returns-in-SliceDown-clause-ok c =
+pub returns-clause-ok : goal.returns-clause-ok
+returns-clause-ok c =
     at_event c.args.self.now c.lose_slice.new.self c.args.timed (SliceDown c.in-SliceDown.slot) c.lose_slice.result c.in-SliceDown.is (c.lose_slice.ensures.acts c.args.timed.moment)
