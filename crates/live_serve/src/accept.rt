@@ -18,7 +18,7 @@ use std::net::{Net, TcpListener, TcpStream};
 use std::sync::{Arc, Wait};
 
 /// How a run under a policy ends.
-#[derive(Clone, Copy, PartialEq, Eq)]
+#[derive(Clone, Copy)]
 pub(crate) enum RunEnd {
     /// All connections were accepted.
     Done,

@@ -2,7 +2,7 @@
 use Rattle.std.proofs.Common.{◌≡◌, ℕ, ◌==◌, Bool, true, false, if◌then◌else◌, List, [], ◌∷◌, ◌++◌, map, take, refl, ap, sym, ◌∙◌, true≢false, Option, Some, None, is_some}
 use Rattle.std.specs.Prelude.{find}
 use Rattle.xid_map.specs.declared.asked.Issued.{Issued}
-use Rattle.xid_map.specs.Requests.{RequestCall, Issue, MarkError, MarkDone, Forget, with_mark, with_error, with_reply, requests, remembered, found, physical_of}
+use Rattle.xid_map.specs.Requests.{RequestCall, Issue, MarkDone, Forget, with_mark, with_error, with_reply, requests, remembered, found, physical_of}
 use Rattle.of10_message.specs.Controller.{read_controller}
 use Rattle.slice_words.specs.Messages.{is_dismissing, asked_of}
 use Rattle.slice_words.specs.Items.{Settings, Item, Opened, Up, Down, Msg, Lost, Handed, Removed, Status, Fault, Barrier, Queues, Entry, Last, End, is_up}

@@ -1,11 +1,6 @@
-use Rattle.std.proofs.Common.{◌==◌, Option, subst}
-use Rattle.flowspace.specs.Policies.{PolicyView}
-use Rattle.recording.specs.Recordings.{switch_up}
-use Rattle.desk_words.specs.Recorded.{told_by}
+use Rattle.std.proofs.Common.{Option, subst}
 use Rattle.fv_report.specs.declared.switch.Switch.{Switch}
-use Rattle.fv_report.specs.Switches.{IsFreshSwitch, IsAt}
-use Rattle.fv_report.proofs.Recorded.{played_none, played_on}
-use Rattle.fv_report.proofs.Running.{found_fresh}
+use Rattle.fv_report.specs.Switches.{IsAt}
 use Rattle.fv_report.proofs.player.Player.play_at.Goals as goal
 
 pub returns-in-Some : goal.returns-in-Some
