@@ -83,6 +83,17 @@ fn desk_with_a_seat_that_has_calls_is_not_given_back(rt: HostRuntime) -> Result<
 }
 
 #[test]
+fn desk_is_not_given_back_to_a_seat_that_has_not_seen_all(rt: HostRuntime) -> Result<(), Fail> {
+    let alloc = rt.alloc();
+    let (desk, mut seat) = TurnDesk::new(alloc, Counter { asked: 0 })?;
+    let other = desk.split(&mut seat, 5);
+    let theirs = ask_all(&rt, alloc, &desk, other, 5)?;
+    expect_eq!(rt; theirs.seat.left(), 0);
+    expect!(rt; desk.close(seat).is_none());
+    Ok(())
+}
+
+#[test]
 fn seat_without_calls_is_spent(rt: HostRuntime) -> Result<(), Fail> {
     let (desk, mut seat) = TurnDesk::new(rt.alloc(), Counter { asked: 0 })?;
     let mut other = desk.split(&mut seat, 0);
