@@ -24,14 +24,13 @@ alice finds nothing
 bob gets greeting
 bob finds nothing
 nobody finds ended
-# The 65th of the longest replies finds no room. She is greeted once she has gone and comes again.
+# The 65th of the longest replies finds no room; those before it come in their order. She is greeted once she has gone and comes again.
 switch goes up
 switch goes features
 alice goes up
-alice goes 65 long_echo
+alice goes 65 0102ffff#
 alice gets greeting
-alice gets long_echoed
-alice passes 63 messages
+alice gets 64 0103ffff#
 alice finds choked
 alice goes down
 alice finds ended

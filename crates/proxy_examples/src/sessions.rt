@@ -5,8 +5,8 @@
 //! and what becomes of it. It comes `up`, goes `down` or says a message, by its name or its digits, once or so many
 //! times: this `goes`, or its connection `closes`, or all has ended (`ends`). It `asks` for flows, so many times, which
 //! the switch answers. It `gets` the oldest message, which is this one, or `passes` so many messages, or `finds` no
-//! message and why. A row of another form is a mistake in a test. It is answered as want of memory, so that the test
-//! fails.
+//! message and why. A `#` at the end stands for the number of the time, from 0, in eight digits. A row of another form
+//! is a mistake in a test. It is answered as want of memory, so that the test fails.
 
 mod messages;
 
@@ -131,13 +131,22 @@ fn words_of(row: &str) -> Option<(&str, &str, u32, &str)> {
     Some((who, verb, count.parse::<u32>().ok()?, what))
 }
 
+/// The words, with the number of the time for a `#` at their end.
+fn numbered(alloc: Global, what: &str, time: u32) -> Result<String, AllocError> {
+    match what.strip_suffix("#") {
+        Some(begun) => format!(in alloc; "{begun}{time:08x}"),
+        None => String::from_str(alloc, what),
+    }
+}
+
 /// Each row but `opened` is so.
 fn play(rt: &impl Abort, alloc: Global, desk: &mut Desk, rows: &str) -> Result<(), AllocError> {
     for row in rows.lines() {
         let (who, verb, count, what) = words_of(row).ok_or(AllocError)?;
         let whose = connection(who)?;
-        for _ in 0..count {
-            expect(rt, is_so(alloc, desk, whose, verb, what)?, row);
+        for time in 0..count {
+            let what = numbered(alloc, what, time)?;
+            expect(rt, is_so(alloc, desk, whose, verb, what.as_str())?, row);
         }
     }
     Ok(())

@@ -7,8 +7,6 @@ use std::alloc::{AllocError, Global};
 /// A message a line: its name, and how it begins. What follows up to its length is zero.
 const MESSAGES: &str = "\
 greeting 0100000800000000
-long_echo 0102ffff00000005
-long_echoed 0103ffff00000005
 features 010600e0ff00000100000000000000a100000100010000000000000000000fff000100000000000000000000000000000000000000000\
 0000000000000000000000000000000000000000000000000000002000000000000000000000000000000000000000000000000000000000000000\
 0000000000000000000000000000000030000000000000000000000000000000000000000000000000000000000000000000000000000000000000\
@@ -88,9 +86,7 @@ fn begun_by(alloc: Global, digits: &str) -> Result<Frame, AllocError> {
         _ => return Err(AllocError),
     };
     let missing = length.saturating_sub(spelled.len());
-    for _ in 0..missing {
-        spelled.push(0)?;
-    }
+    spelled.extend_from_slice(&vec![in alloc; 0; missing]?)?;
     if is_frame(&spelled) {
         Ok(Frame::of(spelled))
     } else {
