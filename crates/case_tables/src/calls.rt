@@ -21,10 +21,14 @@ pub(crate) fn words_in(alloc: Global, text: &str) -> Result<Words, Fault> {
 /// The files of the call: a policy where the case has one, and a recording where it has steps.
 fn files_of(alloc: Global, case: &Case, cut: Cut) -> Result<MemoryFiles, Fault> {
     let mut files = MemoryFiles::new(alloc);
-    if !case.policy.is_empty() {
+    if case.policy.is_empty() {
+        files.expect_missing("policy")?;
+    } else {
         files.add("policy", &case.policy)?;
     }
-    if !case.steps.is_empty() {
+    if case.steps.is_empty() {
+        files.expect_missing("recording")?;
+    } else {
         let recording = recording(alloc, case.steps.as_str(), cut)?;
         files.add("recording", &recording)?;
     }
@@ -44,8 +48,8 @@ fn text_of(bytes: &[u8]) -> Result<&str, Fault> {
     text.ok_or(Fault::Bad("what came is no text"))
 }
 
-/// What came of the call of a case, as a table spells it. How many calls of the sink and of the files failed stands
-/// behind it, where it isn't one with status 4 or 5 and none with all others.
+/// What came of the call of a case, as a table spells it. Behind it stands how many reads of each file failed, where one
+/// did, and how many calls of the sink, where it isn't one with status 5 and none with all others.
 pub(crate) fn answer(alloc: Global, case: &Case, cut: Cut) -> Result<String, Fault> {
     let words = words_in(alloc, case.words.as_str())?;
     let mut files = files_of(alloc, case, cut)?;
@@ -59,19 +63,16 @@ pub(crate) fn answer(alloc: Global, case: &Case, cut: Cut) -> Result<String, Fau
     if status != 0 || !err.as_slice().is_empty() {
         write!(told, "! {status} {}", text_of(err.as_slice())?)?;
     }
-    let failed = out.faults().saturating_add(failed_reads(case, &files));
-    if failed != u64::from(status == 4 || status == 5) {
-        write!(told, "failed calls: {failed}\n")?;
+    let (policy, recording) = (files.faults("policy"), files.faults("recording"));
+    if policy != 0 || recording != 0 {
+        write!(
+            told,
+            "failed reads: policy {policy}, recording {recording}\n"
+        )?;
+    }
+    let puts = out.faults();
+    if puts != u64::from(status == 5) {
+        write!(told, "failed puts: {puts}\n")?;
     }
     Ok(told)
-}
-
-/// How many reads failed: of a policy, and where there is one of a recording.
-fn failed_reads(case: &Case, files: &MemoryFiles) -> u64 {
-    let policy = files.faults("policy");
-    if case.policy.is_empty() {
-        policy
-    } else {
-        policy.saturating_add(files.faults("recording"))
-    }
 }

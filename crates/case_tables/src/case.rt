@@ -9,7 +9,8 @@
 //! Names are written out in all but the first and those of `: words`; `opened` is a name of steps. A policy's line
 //! that ends with `\` has no line feed behind it. A policy, and how cases are played, hold for those behind it too,
 //! up to the end of the table; so they may stand alone. What is to come are the lines of the output, of which the last
-//! one ends with `\` where no line feed came, and, where the status isn't 0, `! ` with the status and the error line.
+//! one ends with `\` where no line feed came, and, where the status isn't 0, `! ` with the status and the error line;
+//! where a read failed, `failed reads: policy 1, recording 0`.
 //!
 //! - `: words check|policy`: the words of the call; before, they are those of a replay
 //! - `: policy ff`: the policy, as digits of its bytes
