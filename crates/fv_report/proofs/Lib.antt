@@ -12,3 +12,4 @@ pub mod Texts
 pub mod Counting
 mod Walking
 mod Happening
+mod Sizes

@@ -8,3 +8,4 @@ pub mod Taking
 pub mod Streams
 pub mod Plays
 pub mod Switches
+pub mod Digits

@@ -3,6 +3,7 @@
 #![tactic(auto)]
 
 mod counter;
+mod digits;
 mod drain;
 mod fault;
 mod line;

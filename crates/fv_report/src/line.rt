@@ -1,18 +1,22 @@
 //! The lines of a report.
 
-ghost use Rattle.std.specs.Prelude.{ℕ, ◌≡◌, ◌≤◌, ◌++◌, OnOk, length, take};
+ghost use Rattle.std.specs.Prelude.{ℕ, ◌≡◌, ◌≤◌, ◌+◌, ◌-◌, ◌*◌, ◌^◌, ◌++◌, OnOk, length, min, take};
 ghost use Rattle.hex.specs.Hex.{encode_lower};
 ghost use Rattle.desk_words.specs.Reports.{place_text, last_line};
 ghost use Rattle.fv_report.specs.Telling.{saying_text, line_text};
 ghost use Rattle.fv_report.specs.Lines.{place_of, saying_of, line_of};
 ghost use Rattle.fv_report.specs.Writing.{Wrote, Counted};
 
+use crate::digits::Digits;
 use crate::fault::ReportFault;
 use crate::teller::{Place, Said, Teller};
 use fv_base::{Sink, put_all};
 use itoa::Buffer;
 use std::alloc::{AllocError, Global};
 use std::marker::Model;
+
+/// Most bytes of a line's place: two numbers of at most forty digits each, and a blank behind each.
+const PLACE: usize = 82;
 
 /// The line that is being made; its memory serves the next one again.
 #[derive(Drop)]
@@ -21,6 +25,7 @@ pub(crate) struct LineBuffer {
     bytes: Vec<u8>,
     /// How many bytes the line has.
     len: usize,
+    digits: Digits,
 }
 
 impl Model for LineBuffer {
@@ -33,16 +38,94 @@ impl Model for LineBuffer {
     ghost invariant = { λ line. line.len ≤ length line.bytes.items };
 }
 
-/// Makes the bytes so many at least; those that were there stay in front.
+/// Makes the bytes so many at least.
 fn grow(bytes: &mut Vec<u8>, count: usize) -> Result<(), AllocError>
     ensures room { OnOk result (count ≤ length bytes.new.items) }
     ensures more { length bytes.old.items ≤ length bytes.new.items }
-    ensures front { (n : ℕ) → n ≤ length bytes.old.items → take n bytes.new.items ≡ take n bytes.old.items }
 {
     if count > bytes.len() {
         bytes.resize(count, 0)?;
     }
     Ok(())
+}
+
+/// Writes a text behind the first `at` bytes of a line, which are kept. Where it ends.
+fn put_text(line: &mut [u8], at: usize, text: &[u8]) -> usize
+    requires { at + length text.now ≤ length line.old }
+    ensures written { take result line.new ≡ take at line.old ++ text.now }
+    ensures end { result ≡ at + length text.now }
+    ensures size { length line.new ≡ length line.old }
+{
+    let end = at + text.len();
+    line[at..end].copy_from_slice(text);
+    end
+}
+
+/// Writes a message in hex, likewise.
+fn put_hex(digits: &Digits, line: &mut [u8], at: usize, message: &[u8]) -> usize
+    requires { at + 2 * length message.now ≤ length line.old }
+    ensures written { take result line.new ≡ take at line.old ++ encode_lower message.now }
+    ensures end { result ≡ at + 2 * length message.now }
+    ensures size { length line.new ≡ length line.old }
+{
+    let end = at + 2 * message.len();
+    digits.put(message, &mut line[at..end]);
+    end
+}
+
+/// Begins a line with its place. Where it ends.
+fn put_place(line: &mut [u8], place: Place) -> usize
+    requires { 82 ≤ length line.old }
+    ensures written { take result line.new ≡ place_text (place_of place) }
+    ensures end { result ≤ 82 }
+    ensures size { length line.new ≡ length line.old }
+{
+    let end = put_text(line, 0, Buffer::new().format(place.number).as_bytes());
+    let end = put_text(line, end, b" ");
+    let end = put_text(line, end, Buffer::new().format(place.switch).as_bytes());
+    put_text(line, end, b" ")
+}
+
+/// How many bytes the words of a line are behind its place.
+fn size_of(said: &Said<'_>) -> usize
+    ensures { result ≡ min (length (saying_text (saying_of said.now))) (2 ^ 64 - 1) }
+{
+    match said {
+        Said::Lane(message) => message.len().saturating_mul(2).saturating_add(5),
+        Said::To(_, name, message) => message
+            .len()
+            .saturating_mul(2)
+            .saturating_add(name.len())
+            .saturating_add(4),
+        Said::Close(name) => name.len().saturating_add(6),
+        Said::Down => 4,
+    }
+}
+
+/// Writes what a line says behind its place. Where it ends.
+fn put_said(digits: &Digits, line: &mut [u8], at: usize, said: Said<'_>) -> usize
+    requires { at + length (saying_text (saying_of said)) ≤ length line.old }
+    ensures written { take result line.new ≡ take at line.old ++ saying_text (saying_of said.entry) }
+    ensures end { result ≡ at + length (saying_text (saying_of said.entry)) }
+    ensures size { length line.new ≡ length line.old }
+{
+    match said {
+        Said::Lane(message) => {
+            let end = put_text(line, at, b"lane ");
+            put_hex(digits, line, end, message)
+        }
+        Said::To(_, name, message) => {
+            let end = put_text(line, at, b"to ");
+            let end = put_text(line, end, name.as_bytes());
+            let end = put_text(line, end, b" ");
+            put_hex(digits, line, end, message)
+        }
+        Said::Close(name) => {
+            let end = put_text(line, at, b"close ");
+            put_text(line, end, name.as_bytes())
+        }
+        Said::Down => put_text(line, at, b"down"),
+    }
 }
 
 impl LineBuffer {
@@ -51,64 +134,7 @@ impl LineBuffer {
         LineBuffer {
             bytes: Vec::new(alloc),
             len: 0,
-        }
-    }
-
-    /// Appends a text.
-    fn put(&mut self, text: &[u8]) -> Result<(), AllocError>
-        ensures { OnOk result (self.new ≡ self.old ++ text.now) }
-    {
-        let end = self.len + text.len();
-        grow(&mut self.bytes, end)?;
-        self.bytes[self.len..end].copy_from_slice(text);
-        self.len = end;
-        Ok(())
-    }
-
-    /// Appends a message in hex.
-    fn put_hex(&mut self, message: &[u8]) -> Result<(), AllocError>
-        ensures { OnOk result (self.new ≡ self.old ++ encode_lower message.now) }
-    {
-        let end = self.len.saturating_add(message.len().saturating_mul(2));
-        grow(&mut self.bytes, end)?;
-        if hex::encode_to_slice(message, &mut self.bytes[self.len..end]).is_err() {
-            return Err(AllocError);
-        }
-        self.len = end;
-        Ok(())
-    }
-
-    /// Begins a line with its place.
-    fn begin(&mut self, place: Place) -> Result<(), AllocError>
-        ensures { OnOk result (self.new ≡ place_text (place_of place)) }
-    {
-        self.len = 0;
-        self.put(Buffer::new().format(place.number).as_bytes())?;
-        self.put(b" ")?;
-        self.put(Buffer::new().format(place.switch).as_bytes())?;
-        self.put(b" ")
-    }
-
-    /// Appends what the line says.
-    fn say(&mut self, said: Said<'_>) -> Result<(), AllocError>
-        ensures { OnOk result (self.new ≡ self.old ++ saying_text (saying_of said.entry)) }
-    {
-        match said {
-            Said::Lane(message) => {
-                self.put(b"lane ")?;
-                self.put_hex(message)
-            }
-            Said::To(_, name, message) => {
-                self.put(b"to ")?;
-                self.put(name.as_bytes())?;
-                self.put(b" ")?;
-                self.put_hex(message)
-            }
-            Said::Close(name) => {
-                self.put(b"close ")?;
-                self.put(name.as_bytes())
-            }
-            Said::Down => self.put(b"down"),
+            digits: Digits::new(),
         }
     }
 
@@ -116,9 +142,13 @@ impl LineBuffer {
     fn make(&mut self, place: Place, said: Said<'_>) -> Result<(), AllocError>
         ensures { OnOk result (self.new ≡ line_text (line_of place said.entry)) }
     {
-        self.begin(place)?;
-        self.say(said)?;
-        self.put(b"\n")
+        let size = size_of(&said).saturating_add(PLACE + 1);
+        grow(&mut self.bytes, size)?;
+        let line = self.bytes.as_mut_slice();
+        let end = put_place(line, place);
+        let end = put_said(&self.digits, line, end, said);
+        self.len = put_text(line, end, b"\n");
+        Ok(())
     }
 
     /// The bytes of the line.
@@ -132,10 +162,12 @@ impl LineBuffer {
     fn make_last(&mut self, events: u64) -> Result<(), AllocError>
         ensures { OnOk result (self.new ≡ last_line events) }
     {
-        self.len = 0;
-        self.put(b"end ")?;
-        self.put(Buffer::new().format(events).as_bytes())?;
-        self.put(b"\n")
+        grow(&mut self.bytes, PLACE)?;
+        let line = self.bytes.as_mut_slice();
+        let end = put_text(line, 0, b"end ");
+        let end = put_text(line, end, Buffer::new().format(events).as_bytes());
+        self.len = put_text(line, end, b"\n");
+        Ok(())
     }
 }
 
