@@ -1,5 +1,5 @@
 -- Cutting a stream of bytes into frames, whatever the pieces in which the bytes come. Sections are those of OpenFlow 1.0.0; what names none is this proxy's own rule.
-use Rattle.std.specs.Prelude.{◌≡◌, ℕ, zero, suc, nat_lt, Bool, if◌then◌else◌, List, [], ◌∷◌, ◌++◌, length, take, drop}
+use Rattle.std.specs.Prelude.{◌≡◌, ◌+◌, ◌*◌, ◌≤◌, ℕ, zero, suc, nat_lt, Bool, if◌then◌else◌, List, [], ◌∷◌, ◌++◌, length, take, drop}
 use Rattle.std.specs.List.{list_any}
 use Rattle.of10_ctl.specs.declared.framer.Next.{Next}
 use Rattle.of10_ctl.specs.declared.framer.Next.TheVariants.{Frame, NeedMore, Ended}
@@ -51,3 +51,13 @@ pub record Stream : Type 0 where
 pub record Stands (stream : Stream) (fed : List ℕ) (given : List (List ℕ)) : Type 0 where
   pub ended : stream.ended ≡ has_bad given
   pub frames : (later : List ℕ) → frames_of (fed ++ later) ≡ given ++ (if stream.ended then [] else frames_of (stream.left ++ later))
+
+-- what a framer answers of the frames that it hasn't given, and that it has given this one too; a frame takes at least eight of the bytes left
+pub record GivesNext (old : Stream) (next : Next) (new : Stream) : Type 0 where
+  pub answer : (fed : List ℕ) (given : List (List ℕ)) → Stands old fed given → next ≡ next_answer fed given
+  pub stands : (fed : List ℕ) (given : List (List ℕ)) → Stands old fed given → Stands new fed (given ++ frame_in next)
+  pub shorter : length new.left + 8 * length (frame_in next) ≤ length old.left
+
+-- a frame is there that wasn't given
+abbrev pub HasNext : Stream → Type 0
+HasNext stream = (fed : List ℕ) (given : List (List ℕ)) → Stands stream fed given → (frame : List ℕ) × (frame_in (next_answer fed given) ≡ frame ∷ [])

@@ -1,10 +1,11 @@
 ghost use Rattle.std.specs.Prelude.{◌≡◌, ◌≤◌, ◌+◌, ◌*◌, ◌++◌, ◌∷◌, List, [], ℕ, if◌then◌else◌, false, IfOk, OnOk, OnErr, IfSome, IfNone, length, take, drop};
 ghost use Rattle.of10_ctl.specs.Frames.{IsFrame, is_bad};
-ghost use Rattle.of10_ctl.specs.Streams.{Stands, next_answer, frame_in, frames_of};
+ghost use Rattle.of10_ctl.specs.Streams.{Stands, GivesNext, HasNext, frames_of};
 
 use crate::frame::{Frame, told_size};
 use std::alloc::{AllocError, Global};
 use std::marker::Model;
+use std::mem;
 
 /// What comes next in a stream.
 #[derive(Debug, Drop)]
@@ -33,6 +34,16 @@ fn first_size(bytes: &[u8]) -> Option<usize>
         return None;
     }
     Some(size)
+}
+
+/// A copy of the bytes, in memory that is there already as far as it reaches.
+fn copied_in(alloc: Global, spare: &mut Vec<u8>, bytes: &[u8]) -> Result<Vec<u8>, AllocError>
+    ensures { IfOk result (λ v. v.items ≡ bytes.now) }
+{
+    let mut copy = mem::replace(spare, Vec::new(alloc));
+    copy.clear();
+    copy.extend_from_slice(bytes)?;
+    Ok(copy)
 }
 
 /// Cuts a stream into frames, in whatever pieces its bytes come.
@@ -107,12 +118,19 @@ impl Framer {
     /// The next frame of all that was fed; `NeedMore` where none is whole, and `Ended` after a frame of
     /// a bad length. Only a frame takes memory.
     pub fn next(&mut self) -> Result<Next, AllocError>
-        ensures answer { IfOk result (λ next. (fed : List ℕ) (given : List (List ℕ)) → Stands self.old fed given → next ≡ next_answer fed given) }
-        ensures stands { IfOk result (λ next. (fed : List ℕ) (given : List (List ℕ)) → Stands self.old fed given → Stands self.new fed (given ++ frame_in next)) }
-        // A frame takes at least eight of the bytes that are left.
-        ensures shorter { IfOk result (λ next. length self.new.left + 8 * length (frame_in next) ≤ length self.old.left) }
+        ensures gives { IfOk result (λ next. GivesNext self.old next self.new) }
         ensures unchanged { OnErr result (self.new ≡ self.old) }
-        ensures memory { OnErr result ((fed : List ℕ) (given : List (List ℕ)) → Stands self.old fed given → (frame : List ℕ) × (frame_in (next_answer fed given) ≡ frame ∷ [])) }
+        ensures memory { OnErr result (HasNext self.old) }
+    {
+        let mut nothing = Vec::new(self.alloc);
+        self.next_in(&mut nothing)
+    }
+
+    /// What [`Framer::next`] answers, where a frame is made in the memory of `spare`, which is empty then.
+    pub fn next_in(&mut self, spare: &mut Vec<u8>) -> Result<Next, AllocError>
+        ensures gives { IfOk result (λ next. GivesNext self.old next self.new) }
+        ensures unchanged { OnErr result (self.new ≡ self.old) }
+        ensures memory { OnErr result (HasNext self.old) }
     {
         if self.ended {
             return Ok(Next::Ended);
@@ -121,7 +139,7 @@ impl Framer {
         let Some(size) = first_size(left) else {
             return Ok(Next::NeedMore);
         };
-        let frame = Frame::of(Vec::from_slice(self.alloc, &left[..size])?);
+        let frame = Frame::of(copied_in(self.alloc, spare, &left[..size])?);
         self.ended = frame.bad_length();
         self.read += size;
         Ok(Next::Frame(frame))
