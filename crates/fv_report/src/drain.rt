@@ -54,6 +54,7 @@ impl<T: Teller> Player<'_, T> {
     {
         while let Some(message) = next_of_lane(desk) {
             self.say(Said::Lane(message.as_slice()))?;
+            self.spare = message.into_vec();
         }
         Ok(())
     }
@@ -65,6 +66,7 @@ impl<T: Teller> Player<'_, T> {
     {
         while let Some(message) = next_of_slice(desk, slot) {
             self.say(Said::To(slot, name, message.as_slice()))?;
+            self.spare = message.into_vec();
         }
         Ok(())
     }

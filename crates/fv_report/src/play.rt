@@ -66,7 +66,7 @@ impl<T: Teller> Player<'_, T> {
         ensures { (scene : Scene) (h : List Timed) (fed : List ℕ) (given rest : List (List ℕ)) → IsPlaying scene self.old → IsQuiet scene.policy h desk.old → AreFramed h → Stands framer.old fed given → given ++ rest ≡ frames_of fed
             → PlaysFrames T.Tells scene from h fed rest result self.old self.new desk.new framer.new }
     {
-        while let Some(frame) = next_frame(framer)? {
+        while let Some(frame) = next_frame(framer, &mut self.spare)? {
             self.hear_one(desk, from, frame)?;
         }
         Ok(())

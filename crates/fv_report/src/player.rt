@@ -22,6 +22,8 @@ pub(crate) struct Player<'a, T: Teller> {
     /// When what is played came.
     pub(crate) moment: u64,
     pub(crate) alloc: Global,
+    /// Memory of a message that was told, in which the next one is made that comes.
+    pub(crate) spare: Vec<u8>,
 }
 
 impl<'a, T: Teller> Player<'a, T> {
@@ -40,6 +42,7 @@ impl<'a, T: Teller> Player<'a, T> {
             },
             moment: 0,
             alloc,
+            spare: Vec::new(alloc),
         }
     }
 

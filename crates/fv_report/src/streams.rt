@@ -55,12 +55,16 @@ fn frame_in(next: Next) -> Option<Frame>
     }
 }
 
-/// The next frame of a stream, if all its bytes came and no frame before it has a bad length.
-pub(crate) fn next_frame(framer: &mut Framer) -> Result<Option<Frame>, AllocError>
+/// The next frame of a stream, if all its bytes came and no frame before it has a bad length. It is made in the
+/// memory of `spare`.
+pub(crate) fn next_frame(
+    framer: &mut Framer,
+    spare: &mut Vec<u8>,
+) -> Result<Option<Frame>, AllocError>
     ensures takes { IfOk result (λ next. TakesFrame next framer.old framer.new) }
     ensures frame { IfOk result (λ next. IfSome next IsFrame) }
     ensures shorter { IfOk result (λ next. IfSome next (λ _. length framer.new.left < length framer.old.left)) }
 {
-    let next = framer.next()?;
+    let next = framer.next_in(spare)?;
     Ok(frame_in(next))
 }
