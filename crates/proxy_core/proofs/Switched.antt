@@ -174,9 +174,9 @@ hears_bad old mid new moment message passes ends p switch sides qs ql fit body o
     let passed = passes p switch sides qs ql fit body open_ in
     let bad = passed.0 in
     told p switch sides qs ql moment message Opened Gone true [] old new body open_ refl (opened_bad message bad) refl (bad_echo message bad)
-    (ends.same_policy ∙ ap (λ (d : Desk). d.policy) passed.1) ends.phase (subst (λ (d : Desk). HasOnly [] d.lane new.lane) passed.1 ends.lane lane_limit ql body.lane)
+    (ends.same_policy ∙ passed.1) ends.phase (subst (λ (lane : Kept). HasOnly [] lane new.lane) passed.2 ends.lane lane_limit ql body.lane)
     (subst (λ (o : Option Session). Opens p (switch_after switch (SwitchMsg message)) (sides_after p switch sides (told_at moment message)) (queues_after p switch sides qs (told_at moment message)) o)
-    (sym (ends.session ∙ ap (λ (d : Desk). d.session) passed.1)) (opens_bad p switch sides qs moment message old.session fit open_ bad body.opens))
+    (sym ends.session) (opens_bad p switch sides qs moment message mid.session fit open_ bad passed.3))
 
 -- a message that was carried out
 pub hears_good : (old new : Desk) (moment : ℕ) (message : List ℕ) → PassesOn moment message true old new → ActsIn Opened old (told_at moment message) true new
@@ -277,7 +277,7 @@ passes_on moment message true old a b lane was carries p switch sides qs ql fit 
     (r.0, refl, refl, r.1, r.2)
 passes_on moment message false old a b lane was carries p switch sides qs ql fit body open_ =
     let r = carries p switch sides qs open_ fit.numbered (subst (λ (o : Option Session). Opens p switch sides qs o) was body.opens) in
-    (r.0, ap₂ (λ (l : Kept) (o : Option Session). let d : Desk = record old { lane = l; session = o } in d) r.2 (ap (λ (s : Session). Some s) r.1 ∙ sym was))
+    (r.0, refl, r.2, r.1)
 
 -- ---- phases
 

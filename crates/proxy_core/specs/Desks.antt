@@ -122,13 +122,13 @@ pub record Ends (old new : Desk) : Type 0 where
   pub lane : HasOnly [] old.lane new.lane
   pub session : new.session ≡ old.session
 
--- a message of the switch went to the session, or has a bad length and so nothing changed yet
+-- a message of the switch went to the session, or has a bad length, so that the session stands for what it stood for
 abbrev pub PassedOn : PolicyView → Known → (ℕ → Side) → (ℕ → Queue) → Timed → List ℕ → Bool → Desk → Desk → Type 0
 PassedOn policy switch sides queues timed message true old new =
     (ends_switch message ≡ false) × (new.policy ≡ old.policy) × (new.phase ≡ old.phase)
     × Opens policy (switch_after switch timed.event) (sides_after policy switch sides timed) (queues_after policy switch sides queues timed) new.session
     × HasMore (echo_for message) old.lane new.lane
-PassedOn policy switch sides queues timed message false old new = (ends_switch message ≡ true) × (new ≡ old)
+PassedOn policy switch sides queues timed message false old new = (ends_switch message ≡ true) × (new.policy ≡ old.policy) × (new.lane ≡ old.lane) × Opens policy switch sides queues new.session
 
 abbrev pub PassesOn : ℕ → List ℕ → Bool → Desk → Desk → Type 0
 PassesOn moment message go old new =

@@ -59,13 +59,13 @@ silence_at slot session =
 
 -- ---- a message of the switch
 
--- a message of the switch was carried out, or has a bad length and so nothing changed yet
+-- a message of the switch was carried out, or has a bad length, so that the session stands for what it stood for
 abbrev pub CarriedOut : PolicyView → KnownSwitch → (ℕ → Side) → (ℕ → Queue) → ℕ → List ℕ → Bool → Session → Kept → Session → Kept → Type 0
 CarriedOut policy switch sides queues moment message true old lane new new_lane =
     (ends_switch message ≡ false)
     × SessionStands policy (switch_after switch (SwitchMsg message)) (sides_after policy switch sides (told_at moment message)) (queues_after policy switch sides queues (told_at moment message)) new
     × HasMore (echo_for message) lane new_lane
-CarriedOut policy switch sides queues moment message false old lane new new_lane = (ends_switch message ≡ true) × (new ≡ old) × (new_lane ≡ lane)
+CarriedOut policy switch sides queues moment message false old lane new new_lane = (ends_switch message ≡ true) × SessionStands policy switch sides queues new × (new_lane ≡ lane)
 
 -- what a session that has told what it is makes of a message of the switch
 abbrev pub Carries : ℕ → List ℕ → Bool → Session → Kept → Session → Kept → Type 0

@@ -61,6 +61,7 @@ impl Session {
             states: fresh_states(alloc, slices)?,
             queues: empty_queues(alloc, slices.len())?,
             features,
+            room: Vec::new(alloc),
         })
     }
 }
@@ -118,13 +119,15 @@ fn put(queues: &mut Vec<Outbox>, slot: u8, message: Frame)
     }
 }
 
-/// Puts messages into the queues of their slots, for which there is room. One for a slot that isn't there is
-/// dropped.
-pub(crate) fn hand_out(queues: &mut Vec<Outbox>, messages: Vec<(u8, Frame)>)
+/// Puts messages into the queues of their slots, for which there is room, and gives their list back. One for a slot
+/// that isn't there is dropped.
+pub(crate) fn hand_out(queues: &mut Vec<Outbox>, mut messages: Vec<(u8, Frame)>) -> Vec<(u8, Frame)>
     requires { HaveRoom messages.items queues.old.items }
     ensures { AreHanded messages.items queues.old.items queues.new.items }
 {
-    for (slot, message) in messages {
+    messages.reverse();
+    while let Some((slot, message)) = messages.pop() {
         put(queues, slot, message);
     }
+    messages
 }

@@ -2,6 +2,7 @@ use crate::indexed::IndexedPolicy;
 use desk_words::Phase;
 use flow_book::SliceState;
 use flowspace::Policy;
+use of10_ctl::Frame;
 use of10_port::Features;
 use outbox::Outbox;
 use port_view::PortView;
@@ -15,6 +16,8 @@ pub(crate) struct Session {
     pub(crate) ports: PortView,
     pub(crate) states: Vec<SliceState>,
     pub(crate) queues: Vec<Outbox>,
+    /// Memory of the list of messages that the last message of the switch brought.
+    pub(crate) room: Vec<(u8, Frame)>,
 }
 
 /// The desk of one switch. Events are stepped in one after another; the messages that they make wait until

@@ -12,7 +12,8 @@ use crate::slots::{come, go, hear};
 use of10_ctl::Frame;
 use outbox::Outbox;
 use std::alloc::{AllocError, Global};
-use switch_side::{Dispatch, apply_all, react, reserve};
+use std::mem;
+use switch_side::{Dispatch, apply_all, react_in, reserve};
 
 impl Session {
     pub(crate) fn has_slot(&self, slot: u8) -> bool
@@ -103,14 +104,16 @@ impl Session {
         if self.states.len() != self.policy.policy().slices().len() {
             return Ok(false);
         }
+        let room = mem::replace(&mut self.room, Vec::new(alloc));
         let Dispatch {
             to_slices,
             to_switch,
             changes,
             port,
             close,
-        } = react(
+        } = react_in(
             alloc,
+            room,
             self.policy.policy(),
             self.policy.index(),
             &self.ports,
@@ -125,7 +128,7 @@ impl Session {
         reserve(&mut self.states, &changes)?;
         keep(&mut self.ports, port)?;
         apply_all(&mut self.states, changes);
-        hand_out(&mut self.queues, to_slices);
+        self.room = hand_out(&mut self.queues, to_slices);
         push_all(lane, to_switch);
         Ok(true)
     }

@@ -39,6 +39,7 @@ fn echo(alloc: Global, xid: u32, body: &[u8]) -> Result<Dispatch, AllocError>
 /// dropped.
 fn follow(
     alloc: Global,
+    room: Vec<(u8, Frame)>,
     policy: &SwitchPolicy,
     index: &RuleIndex,
     ports: &PortView,
@@ -46,6 +47,7 @@ fn follow(
     xid: u32,
     said: &FromSwitch<'_>,
 ) -> Result<Dispatch, AllocError>
+    requires empty { room.items ≡ [] }
     requires few { length states.now ≤ 32 }
     requires index { index.now ≡ policy.now.rules }
     requires said { IsSaid (said_by said.now) }
@@ -53,7 +55,7 @@ fn follow(
 {
     match said {
         FromSwitch::EchoRequest(body) => echo(alloc, xid, body),
-        FromSwitch::PacketIn(packet) => packet_in(alloc, policy, index, states, packet),
+        FromSwitch::PacketIn(packet) => packet_in(alloc, room, policy, index, states, packet),
         FromSwitch::FlowRemoved(entry) => flow_removed(alloc, index, states, entry),
         FromSwitch::PortStatus(status) => port_status(alloc, policy, ports, states, status),
         FromSwitch::Error(fault) => error(alloc, states, xid, fault),
@@ -72,12 +74,14 @@ fn follow(
 /// doesn't count its header: that ends the connection.
 fn dispatch(
     alloc: Global,
+    room: Vec<(u8, Frame)>,
     policy: &SwitchPolicy,
     index: &RuleIndex,
     ports: &PortView,
     states: &[SliceState],
     frame: &Frame,
 ) -> Result<Dispatch, AllocError>
+    requires empty { room.items ≡ [] }
     requires few { length states.now ≤ 32 }
     requires index { index.now ≡ policy.now.rules }
     ensures value { (called : ℕ → Called) → AllCalled called states.now → IfOk result (λ d. carried d ≡ carried_for called policy.now.rules ports.now states.now frame.now) }
@@ -86,7 +90,16 @@ fn dispatch(
     let read = read_switch(frame);
     // What was read stays where it is: it is large.
     match &read {
-        Ok(said) => follow(alloc, policy, index, ports, states, frame.head().xid, said),
+        Ok(said) => follow(
+            alloc,
+            room,
+            policy,
+            index,
+            ports,
+            states,
+            frame.head().xid,
+            said,
+        ),
         Err(Unread::BadLength) => Ok(Dispatch::closing(alloc)),
         Err(_) => Ok(Dispatch::nothing(alloc)),
     }
@@ -108,7 +121,25 @@ pub fn react(
     requires index { index.now ≡ policy.now.rules }
     ensures dispatch { (p : PolicyView) (switch : KnownSwitch) (sides : ℕ → Side) (moment : ℕ) → Surrounds p switch policy.now ports.now → AllStand p switch sides states.now → AllNumbered p switch sides → IfOk result (IsDispatch p switch sides moment frame.now) }
 {
+    react_in(alloc, Vec::new(alloc), policy, index, ports, states, frame)
+}
+
+/// The same, where messages for slices are listed in the memory of `room`.
+pub fn react_in(
+    alloc: Global,
+    mut room: Vec<(u8, Frame)>,
+    policy: &SwitchPolicy,
+    index: &RuleIndex,
+    ports: &PortView,
+    states: &[SliceState],
+    frame: &Frame,
+) -> Result<Dispatch, AllocError>
+    requires count { length states.now ≡ length policy.now.slices }
+    requires index { index.now ≡ policy.now.rules }
+    ensures dispatch { (p : PolicyView) (switch : KnownSwitch) (sides : ℕ → Side) (moment : ℕ) → Surrounds p switch policy.now ports.now → AllStand p switch sides states.now → AllNumbered p switch sides → IfOk result (IsDispatch p switch sides moment frame.now) }
+{
     // A policy has at most 32 slices.
     let _slices = policy.slices();
-    dispatch(alloc, policy, index, ports, states, frame)
+    room.clear();
+    dispatch(alloc, room, policy, index, ports, states, frame)
 }

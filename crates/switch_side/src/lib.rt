@@ -17,7 +17,7 @@ mod replies;
 mod requests;
 mod statistics;
 
-pub use answer::react;
+pub use answer::{react, react_in};
 pub use applying::{apply, apply_all, reserve};
 pub use change::Change;
 pub use dispatch::Dispatch;

@@ -157,17 +157,19 @@ fn put_for_slice(
     }
 }
 
+/// The packet for all slices that are up, in a list that was empty.
 fn put_for_all(
     alloc: Global,
+    mut to_slices: Vec<(u8, Frame)>,
     states: &[SliceState],
     packet: &PacketInView<'_>,
     audience: Audience,
 ) -> Result<Vec<(u8, Frame)>, AllocError>
+    requires empty { to_slices.items ≡ [] }
     requires few { length states.now ≤ 32 }
     requires fits { 18 + length packet.now.payload.now ≤ 65535 }
     ensures { IfOk result (λ v. v.items ≡ said_from (packet_for audience (packet_of packet.now)) 0 states.now) }
 {
-    let mut to_slices = Vec::new(alloc);
     for (place, state) in states.iter().enumerate() {
         put_for_slice(alloc, &mut to_slices, place as u8, state, packet, audience)?;
     }
@@ -226,14 +228,16 @@ fn changes(
     changes_for_all(alloc, states, packet.buffer, header, audience)
 }
 
-/// What follows from a PACKET_IN.
+/// What follows from a PACKET_IN. The messages are listed in `room`.
 pub(crate) fn packet_in(
     alloc: Global,
+    room: Vec<(u8, Frame)>,
     policy: &SwitchPolicy,
     index: &RuleIndex,
     states: &[SliceState],
     packet: &PacketInView<'_>,
 ) -> Result<Dispatch, AllocError>
+    requires empty { room.items ≡ [] }
     requires few { length states.now ≤ 32 }
     requires fits { 18 + length packet.now.payload.now ≤ 65535 }
     requires index { index.now ≡ policy.now.rules }
@@ -241,7 +245,7 @@ pub(crate) fn packet_in(
 {
     let header = header_of(packet.in_port, packet.payload);
     let audience = Audience::of(policy, index, states.len(), packet, &header);
-    let to_slices = put_for_all(alloc, states, packet, audience)?;
+    let to_slices = put_for_all(alloc, room, states, packet, audience)?;
     let changes = changes(alloc, states, packet, &header, audience)?;
     Ok(Dispatch::handing(alloc, to_slices, changes))
 }

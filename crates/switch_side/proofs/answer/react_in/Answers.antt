@@ -2,7 +2,7 @@ use Rattle.std.proofs.lemmas.Result.{IfOk-weaker}
 use Rattle.switch_side.specs.Dispatches.{IsDispatch}
 use Rattle.switch_side.proofs.Answered.{dispatched}
 use Rattle.switch_side.proofs.Turns.{called_at, all_called}
-use Rattle.switch_side.proofs.answer.react.Goals as goal
+use Rattle.switch_side.proofs.answer.react_in.Goals as goal
 
 pub returns : goal.returns
 returns c = record {
