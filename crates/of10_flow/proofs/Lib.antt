@@ -9,3 +9,4 @@ pub mod Pairs
 pub mod Splitting
 pub mod Turns
 pub mod Faithful
+pub mod Removed

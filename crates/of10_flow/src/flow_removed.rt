@@ -6,7 +6,7 @@ ghost use Rattle.of10_action.specs.Actions.{padding};
 ghost use Rattle.of10_action.specs.Reading.{Gives, Reads};
 ghost use Rattle.of10_ctl.specs.declared.kind.TheConstants.{FLOW_REMOVED};
 ghost use Rattle.of10_ctl.specs.Kinds.{IsOf};
-ghost use Rattle.of10_flow.specs.FlowRemoveds.{IsFlowRemoved, read_flow_removed, spell_flow_removed};
+ghost use Rattle.of10_flow.specs.FlowRemoveds.{IsFlowRemoved, read_flow_removed, removal_of, spell_flow_removed};
 
 use crate::fields::put_entry;
 use of10_action::{DecodeFault, WireFault};
@@ -35,28 +35,54 @@ pub struct FlowRemoved {
     pub bytes: u64,
 }
 
+/// The same where it lies, as in the frame that carries it: nothing of it is read before it is asked for.
+#[derive(Clone, Copy)]
+pub struct FlowRemovedView<'a> {
+    bytes: &'a [u8; 88],
+}
+
 /// What the bytes of a flow-removed message say.
 #[tactic(auto, unfolding(crate::specs::FlowRemoveds::read_flow_removed))]
-fn read(bytes: &[u8]) -> Result<FlowRemoved, WireFault>
+fn read(bytes: &[u8]) -> Result<FlowRemovedView<'_>, WireFault>
     requires { length bytes.now ≤ 65535 }
-    ensures exact { Reads (λ m. m) result (read_flow_removed bytes.now) }
-    ensures range { IfOk result IsFlowRemoved }
+    ensures exact { Reads removal_of result (read_flow_removed bytes.now) }
+    ensures range { IfOk result (λ view. IsFlowRemoved (removal_of view)) }
 {
-    if bytes.len() != 88 {
-        return Err(WireFault::Length(bytes.len() as u16));
+    match <&[u8; 88]>::try_from(bytes) {
+        Ok(bytes) => Ok(FlowRemovedView { bytes }),
+        Err(_) => Err(WireFault::Length(bytes.len() as u16)),
     }
-    Ok(FlowRemoved {
-        xid: u32_at(bytes, 4),
-        pattern: Match::decode_at(bytes, 8),
-        cookie: u64_at(bytes, 48),
-        priority: u16_at(bytes, 56),
-        reason: u8_at(bytes, 58),
-        seconds: u32_at(bytes, 60),
-        nanos: u32_at(bytes, 64),
-        idle: u16_at(bytes, 68),
-        packets: u64_at(bytes, 72),
-        bytes: u64_at(bytes, 80),
-    })
+}
+
+impl<'a> FlowRemovedView<'a> {
+    /// The flow-removed message that the frame is, or its length where that isn't 88. Takes no memory.
+    pub fn decode(frame: &'a Frame) -> Result<FlowRemovedView<'a>, WireFault>
+        requires { IsOf FLOW_REMOVED frame.now }
+        ensures exact { Reads removal_of result (read_flow_removed frame.now) }
+        ensures range { IfOk result (λ view. IsFlowRemoved (removal_of view)) }
+    {
+        read(frame.as_slice())
+    }
+
+    /// What it says.
+    pub fn entry(&self) -> FlowRemoved
+        ensures value { result ≡ removal_of self.now }
+        ensures range { IsFlowRemoved result }
+    {
+        let bytes = self.bytes;
+        FlowRemoved {
+            xid: u32_at(bytes, 4),
+            pattern: Match::decode_at(bytes, 8),
+            cookie: u64_at(bytes, 48),
+            priority: u16_at(bytes, 56),
+            reason: u8_at(bytes, 58),
+            seconds: u32_at(bytes, 60),
+            nanos: u32_at(bytes, 64),
+            idle: u16_at(bytes, 68),
+            packets: u64_at(bytes, 72),
+            bytes: u64_at(bytes, 80),
+        }
+    }
 }
 
 fn put_times(out: &mut Vec<u8>, reason: u8, seconds: u32, nanos: u32) -> Result<(), AllocError>
@@ -85,8 +111,8 @@ impl FlowRemoved {
         ensures range { IfOk result IsFlowRemoved }
         ensures never_for_memory { result ≡ Err Memory → ⊥ }
     {
-        match read(frame.as_slice()) {
-            Ok(message) => Ok(message),
+        match FlowRemovedView::decode(frame) {
+            Ok(view) => Ok(view.entry()),
             Err(fault) => Err(DecodeFault::Wire(fault)),
         }
     }

@@ -14,6 +14,6 @@ pub mod tables;
 
 pub use entry::FlowEntry;
 pub use flow_mod::{FlowMod, FlowModView};
-pub use flow_removed::FlowRemoved;
+pub use flow_removed::{FlowRemoved, FlowRemovedView};
 pub use packet_in::{PacketIn, PacketInView};
 pub use packet_out::PacketOut;

@@ -10,4 +10,4 @@ mod status;
 
 pub use features::{Features, has_whole_ports};
 pub use port::{Port, Ports};
-pub use status::PortStatus;
+pub use status::{PortStatus, PortStatusView};

@@ -2,7 +2,7 @@ ghost use Rattle.std.specs.Prelude.{◌≡◌, IfOk};
 ghost use Rattle.of10_action.specs.Reading.{Reads};
 ghost use Rattle.of10_ctl.specs.declared.kind.TheConstants.{PORT_STATUS};
 ghost use Rattle.of10_ctl.specs.Kinds.{IsOf};
-ghost use Rattle.of10_port.specs.PortStatus.{IsPortStatus, spell_port_status, read_port_status};
+ghost use Rattle.of10_port.specs.PortStatus.{IsPortStatus, status_of, spell_port_status, read_port_status};
 
 use crate::port::Port;
 use of10_action::WireFault;
@@ -21,24 +21,54 @@ pub struct PortStatus {
     pub port: Port,
 }
 
+/// The same where it lies, as in the frame that carries it: the port is copied for who asks for it.
+#[derive(Clone, Copy)]
+pub struct PortStatusView<'a> {
+    bytes: &'a [u8; SIZE],
+}
+
+impl<'a> PortStatusView<'a> {
+    /// What the message says; `Length` where it doesn't have 64 bytes (OpenFlow 1.0.0, section 5.4.3). Takes no
+    /// memory.
+    #[tactic(auto, unfolding(crate::specs::PortStatus::read_port_status))]
+    pub fn decode(frame: &'a Frame) -> Result<PortStatusView<'a>, WireFault>
+        requires { IsOf PORT_STATUS frame.now }
+        ensures exact { Reads status_of result (read_port_status frame.now) }
+        ensures range { IfOk result (λ view. IsPortStatus (status_of view)) }
+    {
+        let bytes = frame.as_slice();
+        match <&[u8; SIZE]>::try_from(bytes) {
+            Ok(bytes) => Ok(PortStatusView { bytes }),
+            Err(_) => Err(WireFault::Length(bytes.len() as u16)),
+        }
+    }
+
+    /// What it says.
+    pub fn status(&self) -> PortStatus
+        ensures value { result ≡ status_of self.now }
+        ensures range { IsPortStatus result }
+    {
+        let bytes = self.bytes;
+        let mut raw = [0; 48];
+        raw.copy_from_slice(&bytes[16..]);
+        PortStatus {
+            reason: bytes[8],
+            port: Port::of(raw),
+        }
+    }
+}
+
 impl PortStatus {
     /// What the message says; `Length` where it doesn't have 64 bytes (OpenFlow 1.0.0, section 5.4.3).
-    #[tactic(auto, unfolding(crate::specs::PortStatus::read_port_status))]
     pub fn decode(frame: &Frame) -> Result<PortStatus, WireFault>
         requires { IsOf PORT_STATUS frame.now }
         ensures exact { Reads (λ x. x) result (read_port_status frame.now) }
         ensures range { IfOk result (λ s. IsPortStatus s) }
     {
-        let bytes = frame.as_slice();
-        if bytes.len() != SIZE {
-            return Err(WireFault::Length(bytes.len() as u16));
+        match PortStatusView::decode(frame) {
+            Ok(view) => Ok(view.status()),
+            Err(fault) => Err(fault),
         }
-        let mut raw = [0; 48];
-        raw.copy_from_slice(&bytes[16..]);
-        Ok(PortStatus {
-            reason: bytes[8],
-            port: Port::of(raw),
-        })
     }
 
     /// The message that says this, of version 1 (OpenFlow 1.0.0, section 5.4.3).

@@ -2,7 +2,9 @@
 use Rattle.std.specs.Prelude.{◌≡◌, Result, Err}
 use Rattle.of10_model.specs.Results.{Answers}
 use Rattle.of10_config.specs.Queues.{queues_of_view}
+use Rattle.of10_flow.specs.FlowRemoveds.{removal_of}
 use Rattle.of10_flow.specs.PacketIns.{packet_of}
+use Rattle.of10_port.specs.PortStatus.{status_of}
 use Rattle.of10_port.specs.declared.features.Features.{Features}
 use Rattle.of10_message.specs.declared.fault.Unread.{Unread}
 use Rattle.of10_message.specs.Errors.{error_of_view}
@@ -25,8 +27,8 @@ said_by views.Vendor = Vendor
 said_by (views.FeaturesReply features) = FeaturesReply (features_of features)
 said_by (views.GetConfigReply config) = GetConfigReply config
 said_by (views.PacketIn packet) = PacketIn (packet_of packet)
-said_by (views.FlowRemoved entry) = FlowRemoved entry
-said_by (views.PortStatus status) = PortStatus status
+said_by (views.FlowRemoved entry) = FlowRemoved (removal_of entry)
+said_by (views.PortStatus status) = PortStatus (status_of status)
 said_by (views.StatsReply part entries) = StatsReply part entries.now
 said_by views.BarrierReply = BarrierReply
 said_by (views.QueueGetConfigReply queues) = QueueGetConfigReply (queues_of_view queues)

@@ -1,8 +1,8 @@
 use crate::features::FeaturesView;
 use of10_config::{QueuesView, SwitchConfig};
-use of10_flow::{FlowRemoved, PacketInView};
+use of10_flow::{FlowRemovedView, PacketInView};
 use of10_message::ErrorView;
-use of10_port::PortStatus;
+use of10_port::PortStatusView;
 use of10_stats::StatsPart;
 
 /// A message that a switch sends (OpenFlow 1.0.0, section 5), but for its head, where it lies.
@@ -25,9 +25,9 @@ pub enum FromSwitch<'a> {
     /// Section 5.4.1.
     PacketIn(PacketInView<'a>),
     /// Section 5.4.2.
-    FlowRemoved(FlowRemoved),
+    FlowRemoved(FlowRemovedView<'a>),
     /// Section 5.4.3.
-    PortStatus(PortStatus),
+    PortStatus(PortStatusView<'a>),
     /// Section 5.3.5: one part, and its entries.
     StatsReply(StatsPart, &'a [u8]),
     /// Section 5.3.7.

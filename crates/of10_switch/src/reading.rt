@@ -20,16 +20,16 @@ ghost use Rattle.of10_switch.specs.Ranges.{IsSaid};
 
 use crate::features::FeaturesView;
 use crate::message::FromSwitch;
-use of10_action::{DecodeFault, WireFault};
+use of10_action::WireFault;
 use of10_config::{QueuesView, SwitchConfig};
 use of10_ctl::Frame;
 use of10_ctl::kind::{
     BARRIER_REPLY, ECHO_REPLY, ECHO_REQUEST, ERROR, FEATURES_REPLY, FLOW_REMOVED, GET_CONFIG_REPLY,
     HELLO, PACKET_IN, PORT_STATUS, QUEUE_GET_CONFIG_REPLY, STATS_REPLY, VENDOR,
 };
-use of10_flow::{FlowRemoved, PacketInView};
+use of10_flow::{FlowRemovedView, PacketInView};
 use of10_message::{ErrorView, Unread, is_bare};
-use of10_port::PortStatus;
+use of10_port::PortStatusView;
 use of10_stats::part;
 
 fn error(frame: &Frame) -> Result<FromSwitch<'_>, Unread>
@@ -80,11 +80,9 @@ fn flow_removed(frame: &Frame) -> Result<FromSwitch<'_>, Unread>
     ensures exact { ReadsAsSaid result (formed said.FlowRemoved (read_flow_removed frame.now)) }
     ensures range { IfOk result (λ m. IsSaid (said_by m)) }
 {
-    match FlowRemoved::decode(frame) {
+    match FlowRemovedView::decode(frame) {
         Ok(entry) => Ok(FromSwitch::FlowRemoved(entry)),
-        Err(DecodeFault::Wire(fault)) => Err(Unread::BadForm(fault)),
-        // No memory is taken for it.
-        Err(DecodeFault::Memory) => Err(Unread::BadType),
+        Err(fault) => Err(Unread::BadForm(fault)),
     }
 }
 
@@ -93,7 +91,7 @@ fn port_status(frame: &Frame) -> Result<FromSwitch<'_>, Unread>
     ensures exact { ReadsAsSaid result (formed said.PortStatus (read_port_status frame.now)) }
     ensures range { IfOk result (λ m. IsSaid (said_by m)) }
 {
-    match PortStatus::decode(frame) {
+    match PortStatusView::decode(frame) {
         Ok(status) => Ok(FromSwitch::PortStatus(status)),
         Err(fault) => Err(Unread::BadForm(fault)),
     }

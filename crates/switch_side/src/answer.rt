@@ -56,8 +56,8 @@ fn follow(
     match said {
         FromSwitch::EchoRequest(body) => echo(alloc, xid, body),
         FromSwitch::PacketIn(packet) => packet_in(alloc, room, policy, index, states, packet),
-        FromSwitch::FlowRemoved(entry) => flow_removed(alloc, index, states, entry),
-        FromSwitch::PortStatus(status) => port_status(alloc, policy, ports, states, status),
+        FromSwitch::FlowRemoved(removal) => flow_removed(alloc, index, states, &removal.entry()),
+        FromSwitch::PortStatus(told) => port_status(alloc, policy, ports, states, &told.status()),
         FromSwitch::Error(fault) => error(alloc, states, xid, fault),
         FromSwitch::BarrierReply => barrier(alloc, states, xid),
         FromSwitch::QueueGetConfigReply(told) => queues(alloc, policy, states, xid, told),
@@ -88,7 +88,6 @@ fn dispatch(
     ensures right { IfOk (read_switch frame.now) IsSaid }
 {
     let read = read_switch(frame);
-    // What was read stays where it is: it is large.
     match &read {
         Ok(said) => follow(
             alloc,

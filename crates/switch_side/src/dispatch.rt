@@ -69,8 +69,11 @@ impl Dispatch {
         ensures { carried result ≡ handing to_slices.items changes.items }
     {
         Dispatch {
+            to_slices,
+            to_switch: Vec::new(alloc),
             changes,
-            ..Dispatch::telling(alloc, to_slices, None)
+            port: None,
+            close: false,
         }
     }
 
