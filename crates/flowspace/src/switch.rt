@@ -10,7 +10,7 @@ use crate::owners::{is_in_port, owner_of};
 use crate::rules::Rule;
 use crate::slices::Slice;
 use crate::writes::{SliceWrites, writes_by_slot};
-use of10_match::{Header12, Match, exact_pattern};
+use of10_match::{Header12, Match};
 use std::alloc::{AllocError, Global};
 use std::marker::Model;
 
@@ -169,7 +169,7 @@ impl SwitchPolicy {
         ensures { result ≡ first_written self.now.rules slot by_port h.now }
     {
         match self.writes_of(slot) {
-            Some(own) => own.index(by_port).least(&exact_pattern(h)),
+            Some(own) => own.index(by_port).least_of_header(h),
             None => None,
         }
     }

@@ -1,4 +1,5 @@
 pub mod Keys
+pub mod Masks
 pub mod Putting
 pub mod Least
 pub mod Firsts

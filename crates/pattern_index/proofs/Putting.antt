@@ -3,7 +3,7 @@ use Rattle.std.proofs.Common.{◌≡◌, ℕ, ◌&&◌, Bool, true, false, cond,
 use Rattle.std.specs.Bool.{beq}
 use Rattle.std.specs.Option.{option_eq}
 use Rattle.std.specs.declared.cmp.Ordering.{Ordering}
-use Rattle.std.specs.Ordering.{is_eq, ordering_then}
+use Rattle.std.specs.Ordering.{nat_cmp, is_eq, ordering_then}
 use Rattle.std.specs.Cmp.{unsigned_tied, tied_then}
 use Rattle.std.specs.Map.{lookup}
 use Rattle.std.specs.BTreeMap.{BTreeMap, get, is_at}
@@ -12,7 +12,7 @@ use Rattle.of10_model.specs.declared.pattern.Pattern.{Pattern}
 use Rattle.of10_model.specs.Inclusion.{includes_of}
 use Rattle.pattern_index.specs.declared.shape.Shape.{Shape}
 use Rattle.pattern_index.specs.declared.key.Key.{Key}
-use Rattle.pattern_index.specs.Keys.{shape_of, key_of, field_cmp, key_cmp}
+use Rattle.pattern_index.specs.Keys.{shape_of, gives, key_of, key_cmp}
 use Rattle.pattern_index.specs.Groups.{lesser_place}
 use Rattle.pattern_index.proofs.Keys.{key_tied}
 
@@ -21,68 +21,75 @@ use Rattle.pattern_index.proofs.Keys.{key_tied}
 then_parts : (a b : Ordering) → is_eq (ordering_then a b) ≡ true → (is_eq a ≡ true) × (is_eq b ≡ true)
 then_parts a b e = and_parts (is_eq a) (is_eq b) (tied_then a b ∙ e)
 
-same_field : (c d : Option ℕ) → is_eq (field_cmp c d) ≡ true → c ≡ d
-same_field None None e = refl
-same_field None (Some y) e = absurd (true≢false (sym e))
-same_field (Some x) None e = absurd (true≢false (sym e))
-same_field (Some x) (Some y) e = ap Some (eqb-true x y (sym (unsigned_tied x y) ∙ e))
+same_number : (x y : ℕ) → is_eq (nat_cmp x y) ≡ true → x ≡ y
+same_number x y e = eqb-true x y (sym (unsigned_tied x y) ∙ e)
 
 same_keys : (a b : Key) → is_eq (key_cmp a b) ≡ true → a ≡ b
 same_keys a b e =
-    let nw_dst = then_parts (field_cmp a.nw_dst b.nw_dst) _ e in
-    let nw_src = then_parts (field_cmp a.nw_src b.nw_src) _ nw_dst.1 in
-    let tp_dst = then_parts (field_cmp a.tp_dst b.tp_dst) _ nw_src.1 in
-    let tp_src = then_parts (field_cmp a.tp_src b.tp_src) _ tp_dst.1 in
-    let dl_dst = then_parts (field_cmp a.dl_dst b.dl_dst) _ tp_src.1 in
-    let dl_src = then_parts (field_cmp a.dl_src b.dl_src) _ dl_dst.1 in
-    let in_port = then_parts (field_cmp a.in_port b.in_port) _ dl_src.1 in
-    let dl_vlan = then_parts (field_cmp a.dl_vlan b.dl_vlan) _ in_port.1 in
-    let dl_vlan_pcp = then_parts (field_cmp a.dl_vlan_pcp b.dl_vlan_pcp) _ dl_vlan.1 in
-    let dl_type = then_parts (field_cmp a.dl_type b.dl_type) _ dl_vlan_pcp.1 in
-    let nw_proto = then_parts (field_cmp a.nw_proto b.nw_proto) (field_cmp a.nw_tos b.nw_tos) dl_type.1 in
+    let nw_dst = then_parts (nat_cmp a.nw_dst b.nw_dst) _ e in
+    let nw_src = then_parts (nat_cmp a.nw_src b.nw_src) _ nw_dst.1 in
+    let tp_dst = then_parts (nat_cmp a.tp_dst b.tp_dst) _ nw_src.1 in
+    let tp_src = then_parts (nat_cmp a.tp_src b.tp_src) _ tp_dst.1 in
+    let dl_dst = then_parts (nat_cmp a.dl_dst b.dl_dst) _ tp_src.1 in
+    let dl_src = then_parts (nat_cmp a.dl_src b.dl_src) _ dl_dst.1 in
+    let in_port = then_parts (nat_cmp a.in_port b.in_port) _ dl_src.1 in
+    let dl_vlan = then_parts (nat_cmp a.dl_vlan b.dl_vlan) _ in_port.1 in
+    let dl_vlan_pcp = then_parts (nat_cmp a.dl_vlan_pcp b.dl_vlan_pcp) _ dl_vlan.1 in
+    let dl_type = then_parts (nat_cmp a.dl_type b.dl_type) _ dl_vlan_pcp.1 in
+    let nw_proto = then_parts (nat_cmp a.nw_proto b.nw_proto) (nat_cmp a.nw_tos b.nw_tos) dl_type.1 in
     rw (
-      same_field a.nw_dst b.nw_dst nw_dst.0,
-      same_field a.nw_src b.nw_src nw_src.0,
-      same_field a.tp_dst b.tp_dst tp_dst.0,
-      same_field a.tp_src b.tp_src tp_src.0,
-      same_field a.dl_dst b.dl_dst dl_dst.0,
-      same_field a.dl_src b.dl_src dl_src.0,
-      same_field a.in_port b.in_port in_port.0,
-      same_field a.dl_vlan b.dl_vlan dl_vlan.0,
-      same_field a.dl_vlan_pcp b.dl_vlan_pcp dl_vlan_pcp.0,
-      same_field a.dl_type b.dl_type dl_type.0,
-      same_field a.nw_proto b.nw_proto nw_proto.0,
-      same_field a.nw_tos b.nw_tos nw_proto.1,
+      same_number a.nw_dst b.nw_dst nw_dst.0,
+      same_number a.nw_src b.nw_src nw_src.0,
+      same_number a.tp_dst b.tp_dst tp_dst.0,
+      same_number a.tp_src b.tp_src tp_src.0,
+      same_number a.dl_dst b.dl_dst dl_dst.0,
+      same_number a.dl_src b.dl_src dl_src.0,
+      same_number a.in_port b.in_port in_port.0,
+      same_number a.dl_vlan b.dl_vlan dl_vlan.0,
+      same_number a.dl_vlan_pcp b.dl_vlan_pcp dl_vlan_pcp.0,
+      same_number a.dl_type b.dl_type dl_type.0,
+      same_number a.nw_proto b.nw_proto nw_proto.0,
+      same_number a.nw_tos b.nw_tos nw_proto.1,
     )
     refl
 
 -- ---- what is found where a pattern was put
 
-put_at : (b : Bool) (least place : ℕ) (own there : Option ℕ) → (b ≡ true → own ≡ there) → Some least ≡ lesser_place (Some place) own
-    → cond b (Some least) there ≡ (if b then lesser_place (Some place) there else there)
-put_at true least place own there same e = e ∙ ap (lesser_place (Some place)) (same refl)
-put_at false least place own there same e = refl
+-- where the match gives all fields (`given`), it is found at the key (`tied`) exactly where the pattern includes it (`b`)
+put_at : (given tied b : Bool) (least place : ℕ) (own there : Option ℕ) → (given && tied) ≡ b → (tied ≡ true → own ≡ there) → Some least ≡ lesser_place (Some place) own
+    → (if given then cond tied (Some least) there else None) ≡ (if b then lesser_place (Some place) (if given then there else None) else (if given then there else None))
+put_at true true b least place own there agree same e = rw (← agree) (e ∙ ap (lesser_place (Some place)) (same refl))
+put_at true false b least place own there agree same e = rw (← agree) refl
+put_at false tied b least place own there agree same e = rw (← agree) refl
 
-own_key : (r m : Pattern) (shape : Shape) (key : Key) → shape ≡ shape_of r → key ≡ key_of shape r → is_at (key_cmp key) (key_of shape m) ≡ includes_of r m
+own_key : (r m : Pattern) (shape : Shape) (key : Key) → shape ≡ shape_of r → key ≡ key_of shape r → (gives shape m && is_at (key_cmp key) (key_of shape m)) ≡ includes_of r m
 own_key r m shape key is_shape is_key =
-    ap (λ k. is_eq (key_cmp k (key_of shape m))) is_key ∙ ap (λ s. is_eq (key_cmp (key_of s r) (key_of s m))) is_shape ∙ key_tied r m
+    ap (λ k. gives shape m && is_eq (key_cmp k (key_of shape m))) is_key ∙ ap (λ s. gives s m && is_eq (key_cmp (key_of s r) (key_of s m))) is_shape ∙ key_tied r m
+
+-- what a map of keys has for a match
+abbrev pub found_in : BTreeMap Key ℕ → Shape → Pattern → Option ℕ
+found_in places shape m = if gives shape m then get key_cmp places (key_of shape m) else None
 
 pub put_in : (r : Pattern) (place least : ℕ) (shape : Shape) (key : Key) (old new : BTreeMap Key ℕ) → shape ≡ shape_of r → key ≡ key_of shape r → Some least ≡ lesser_place (Some place) (get key_cmp old key)
     → ((q : Key) → get key_cmp new q ≡ cond (is_at (key_cmp key) q) (Some least) (get key_cmp old q))
-    → (m : Pattern) → get key_cmp new (key_of shape m) ≡ (if includes_of r m then lesser_place (Some place) (get key_cmp old (key_of shape m)) else get key_cmp old (key_of shape m))
+    → (m : Pattern) → found_in new shape m ≡ (if includes_of r m then lesser_place (Some place) (found_in old shape m) else found_in old shape m)
 put_in r place least shape key old new is_shape is_key is_least updated m =
-    updated (key_of shape m)
-    ∙ put_at (is_at (key_cmp key) (key_of shape m)) least place (get key_cmp old key) (get key_cmp old (key_of shape m)) (λ tied. ap (get key_cmp old) (same_keys key (key_of shape m) tied)) is_least
-    ∙ ap (λ b. if b then lesser_place (Some place) (get key_cmp old (key_of shape m)) else get key_cmp old (key_of shape m)) (own_key r m shape key is_shape is_key)
+    ap (λ o. if gives shape m then o else None) (updated (key_of shape m))
+    ∙ put_at (gives shape m) (is_at (key_cmp key) (key_of shape m)) (includes_of r m) least place (get key_cmp old key) (get key_cmp old (key_of shape m)) (own_key r m shape key is_shape is_key)
+    (λ tied. ap (get key_cmp old) (same_keys key (key_of shape m) tied)) is_least
 
 -- nothing is found in an empty map
+put_alone : (given tied b : Bool) (place : ℕ) → (given && tied) ≡ b → (if given then cond tied (Some place) None else None) ≡ (if b then Some place else None)
+put_alone true true b place agree = rw (← agree) refl
+put_alone true false b place agree = rw (← agree) refl
+put_alone false tied b place agree = rw (← agree) refl
+
 pub put_first : (r : Pattern) (place : ℕ) (shape : Shape) (key : Key) (old new : BTreeMap Key ℕ) → shape ≡ shape_of r → key ≡ key_of shape r → old.entries ≡ []
     → ((q : Key) → get key_cmp new q ≡ cond (is_at (key_cmp key) q) (Some place) (get key_cmp old q))
-    → (m : Pattern) → get key_cmp new (key_of shape m) ≡ (if includes_of r m then Some place else None)
+    → (m : Pattern) → found_in new shape m ≡ (if includes_of r m then Some place else None)
 put_first r place shape key old new is_shape is_key empty updated m =
-    updated (key_of shape m)
-    ∙ ap (λ b. cond b (Some place) (get key_cmp old (key_of shape m))) (own_key r m shape key is_shape is_key)
-    ∙ ap (λ es. if includes_of r m then Some place else lookup (is_at (key_cmp (key_of shape m))) es) empty
+    ap (λ o. if gives shape m then o else None) (updated (key_of shape m) ∙ ap (λ es. cond (is_at (key_cmp key) (key_of shape m)) (Some place) (lookup (is_at (key_cmp (key_of shape m))) es)) empty)
+    ∙ put_alone (gives shape m) (is_at (key_cmp key) (key_of shape m)) (includes_of r m) place (own_key r m shape key is_shape is_key)
 
 -- ---- shapes that are one
 

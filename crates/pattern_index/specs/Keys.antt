@@ -1,8 +1,7 @@
 -- Which fields a match constrains, and what it says of them. All of this is the proxy's own rule.
-use Rattle.std.specs.Prelude.{ℕ, ◌-◌, ◌/◌, ◌^◌, leb, Bool, true, false, if◌then◌else◌, is_some, Option, Some, None}
+use Rattle.std.specs.Prelude.{ℕ, ◌-◌, ◌*◌, ◌/◌, ◌^◌, ◌&&◌, leb, Bool, true, false, is_some, Option, Some, None}
 use Rattle.std.specs.declared.cmp.Ordering.{Ordering}
 use Rattle.std.specs.Ordering.{nat_cmp, ordering_then}
-use Rattle.std.specs.Option.{option_cmp}
 use Rattle.of10_model.specs.declared.pattern.Prefix.{Prefix}
 use Rattle.of10_model.specs.declared.pattern.Pattern.{Pattern}
 use Rattle.pattern_index.specs.declared.shape.Shape.{Shape}
@@ -30,18 +29,40 @@ shape_of m = record {
   tp_dst = is_some m.tp_dst;
 }
 
--- a constraint on a field that a shape has
-abbrev pub picked : Bool → Option ℕ → Option ℕ
-picked true constraint = constraint
-picked false constraint = None
+-- a field that a shape has is constrained
+abbrev pub given : Bool → Bool → Bool
+given true constrained = constrained
+given false constrained = true
 
--- so many leading bits of an address, where a match gives as many
-abbrev pub leading_key : Option ℕ → Option Prefix → Option ℕ
-leading_key None prefix = None
-leading_key (Some bits) None = None
-leading_key (Some bits) (Some p) = if leb bits p.bits then Some (p.value / 2 ^ (32 - bits)) else None
+-- and as many leading bits of an address as a shape has
+abbrev pub given_prefix : Option ℕ → Option Prefix → Bool
+given_prefix None prefix = true
+given_prefix (Some bits) None = false
+given_prefix (Some bits) (Some p) = leb bits p.bits
 
--- the constraints of a match on the fields of a shape
+-- whether a match constrains all fields of a shape
+unfoldable pub gives : Shape → Pattern → Bool
+gives s m =
+    given_prefix s.nw_dst m.nw_dst && (given_prefix s.nw_src m.nw_src && (given s.tp_dst (is_some m.tp_dst) && (given s.tp_src (is_some m.tp_src) && (
+    given s.dl_dst (is_some m.dl_dst) && (given s.dl_src (is_some m.dl_src) && (given s.in_port (is_some m.in_port) && (given s.dl_vlan (is_some m.dl_vlan) && (
+    given s.dl_vlan_pcp (is_some m.dl_vlan_pcp) && (given s.dl_type (is_some m.dl_type) && (given s.nw_proto (is_some m.nw_proto) && given s.nw_tos (is_some m.nw_tos)))))))))))
+
+-- the value of a field that a shape has, and zero for another
+abbrev pub picked : Bool → Option ℕ → ℕ
+picked true (Some value) = value
+picked true None = 0
+picked false constraint = 0
+
+-- so many leading bits of an address, the others zero
+abbrev pub leading_part : Option ℕ → ℕ → ℕ
+leading_part None address = 0
+leading_part (Some bits) address = address / 2 ^ (32 - bits) * 2 ^ (32 - bits)
+
+abbrev pub leading_key : Option ℕ → Option Prefix → ℕ
+leading_key bits None = 0
+leading_key bits (Some p) = leading_part bits p.value
+
+-- the values of a match in the fields of a shape
 unfoldable pub key_of : Shape → Pattern → Key
 key_of s m = record {
   nw_dst = leading_key s.nw_dst m.nw_dst;
@@ -59,12 +80,9 @@ key_of s m = record {
 }
 
 -- the order of keys: by their fields, one after the other, those in which patterns differ most often first
-abbrev pub field_cmp : Option ℕ → Option ℕ → Ordering
-field_cmp a b = option_cmp nat_cmp a b
-
 abbrev pub key_cmp : Key → Key → Ordering
 key_cmp a b =
-    ordering_then (field_cmp a.nw_dst b.nw_dst) (ordering_then (field_cmp a.nw_src b.nw_src) (ordering_then (field_cmp a.tp_dst b.tp_dst) (
-    ordering_then (field_cmp a.tp_src b.tp_src) (ordering_then (field_cmp a.dl_dst b.dl_dst) (ordering_then (field_cmp a.dl_src b.dl_src) (
-    ordering_then (field_cmp a.in_port b.in_port) (ordering_then (field_cmp a.dl_vlan b.dl_vlan) (ordering_then (field_cmp a.dl_vlan_pcp b.dl_vlan_pcp) (
-    ordering_then (field_cmp a.dl_type b.dl_type) (ordering_then (field_cmp a.nw_proto b.nw_proto) (field_cmp a.nw_tos b.nw_tos)))))))))))
+    ordering_then (nat_cmp a.nw_dst b.nw_dst) (ordering_then (nat_cmp a.nw_src b.nw_src) (ordering_then (nat_cmp a.tp_dst b.tp_dst) (
+    ordering_then (nat_cmp a.tp_src b.tp_src) (ordering_then (nat_cmp a.dl_dst b.dl_dst) (ordering_then (nat_cmp a.dl_src b.dl_src) (
+    ordering_then (nat_cmp a.in_port b.in_port) (ordering_then (nat_cmp a.dl_vlan b.dl_vlan) (ordering_then (nat_cmp a.dl_vlan_pcp b.dl_vlan_pcp) (
+    ordering_then (nat_cmp a.dl_type b.dl_type) (ordering_then (nat_cmp a.nw_proto b.nw_proto) (nat_cmp a.nw_tos b.nw_tos)))))))))))

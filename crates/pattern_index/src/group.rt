@@ -2,11 +2,14 @@
 
 ghost use Rattle.std.specs.Prelude.{◌≡◌, ◌<◌, length, None, Some, IfOk, IfSome, OnOk, OnErr};
 ghost use Rattle.std.specs.List.{HoldsAt};
+ghost use Rattle.of10_model.specs.Exact.{exact_of};
 ghost use Rattle.pattern_index.specs.Keys.{shape_of};
 ghost use Rattle.pattern_index.specs.Groups.{finds, least_of, lesser_place, HasPut, HasAsBefore, HavePut, HaveAsBefore};
 
-use crate::key::{Key, key_of};
+use crate::header_shape::HeaderShape;
+use crate::key::{Key, gives, key_of};
 use crate::shape::{Shape, is_same_shape, shape_of};
+use of10_match::Header12;
 use of10_model::Pattern;
 use std::alloc::{AllocError, Global};
 use std::collections::BTreeMap;
@@ -14,8 +17,8 @@ use std::collections::BTreeMap;
 /// Patterns of one shape.
 #[derive(Drop)]
 pub(crate) struct Group {
-    shape: Shape,
-    /// The least place of the patterns that have these constraints.
+    shape: HeaderShape,
+    /// The least place of the patterns that have these values.
     places: BTreeMap<Key, u16>,
 }
 
@@ -34,7 +37,22 @@ impl Group {
     fn find(&self, m: &Pattern) -> Option<u16>
         ensures { result ≡ finds self.now m.now }
     {
-        self.places.get(&key_of(&self.shape, m)).copied()
+        if gives(self.shape.shape(), m) {
+            self.places.get(&key_of(self.shape.shape(), m)).copied()
+        } else {
+            None
+        }
+    }
+
+    /// The least place of the group's patterns that have the header.
+    fn find_of_header(&self, h: &Header12) -> Option<u16>
+        ensures { result ≡ finds self.now (exact_of h.now) }
+    {
+        if self.shape.is_of_headers() {
+            self.places.get(&self.shape.key(h)).copied()
+        } else {
+            None
+        }
     }
 
     /// A group of one pattern.
@@ -44,7 +62,10 @@ impl Group {
         let shape = shape_of(m);
         let mut places = BTreeMap::new(alloc);
         places.insert(key_of(&shape, m), place)?;
-        Ok(Group { shape, places })
+        Ok(Group {
+            shape: HeaderShape::of(shape),
+            places,
+        })
     }
 
     /// Puts a pattern of the group's shape; at an error the group has for each match what it had.
@@ -53,7 +74,7 @@ impl Group {
         ensures put { OnOk result (HasPut m.now place (finds self.old) self.new) }
         ensures kept { OnErr result (HasAsBefore self.old self.new) }
     {
-        let key = key_of(&self.shape, m);
+        let key = key_of(self.shape.shape(), m);
         let least = no_later(self.places.get(&key).copied(), place);
         self.places.insert(key, least)?;
         Ok(())
@@ -65,7 +86,7 @@ fn group_of(groups: &[Group], shape: &Shape) -> Option<usize>
     ensures shape { IfSome result (HoldsAt (λ group. group.shape ≡ shape.now) groups.now) }
 {
     for (at, group) in groups.iter().enumerate() {
-        if is_same_shape(&group.shape, shape) {
+        if is_same_shape(group.shape.shape(), shape) {
             return Some(at);
         }
     }
@@ -109,6 +130,17 @@ pub(crate) fn least_of(groups: &[Group], m: &Pattern) -> Option<u16>
     let mut least = None;
     for group in groups {
         least = lesser(least, group.find(m));
+    }
+    least
+}
+
+/// The least place of the patterns in the groups that have the header.
+pub(crate) fn least_of_header(groups: &[Group], h: &Header12) -> Option<u16>
+    ensures { result ≡ least_of groups.now (exact_of h.now) }
+{
+    let mut least = None;
+    for group in groups {
+        least = lesser(least, group.find_of_header(h));
     }
     least
 }

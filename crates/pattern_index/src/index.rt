@@ -1,7 +1,9 @@
 ghost use Rattle.std.specs.Prelude.{◌≡◌, List, [], ◌∷◌, OnOk, OnErr};
+ghost use Rattle.of10_model.specs.Exact.{exact_of};
 ghost use Rattle.pattern_index.specs.Places.{PlacedPattern, StandsFor, least_place};
 
-use crate::group::{Group, least_of, put};
+use crate::group::{Group, least_of, least_of_header, put};
+use of10_match::Header12;
 use of10_model::Pattern;
 use std::alloc::{AllocError, Global};
 
@@ -34,5 +36,12 @@ impl PatternIndex {
         ensures { (kept : List PlacedPattern) → StandsFor kept self.now → result ≡ least_place kept m.now }
     {
         least_of(&self.groups, m)
+    }
+
+    /// The least place of the patterns that have the header.
+    pub fn least_of_header(&self, h: &Header12) -> Option<u16>
+        ensures { (kept : List PlacedPattern) → StandsFor kept self.now → result ≡ least_place kept (exact_of h.now) }
+    {
+        least_of_header(&self.groups, h)
     }
 }

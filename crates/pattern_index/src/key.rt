@@ -1,67 +1,109 @@
-//! A match cut to the fields that a shape has.
+//! What a match says of the fields that a shape has.
 
-ghost use Rattle.std.specs.Prelude.{◌≡◌, ◌/◌, ◌^◌, ◌-◌};
-ghost use Rattle.pattern_index.specs.Keys.{picked, leading_key, key_of};
+ghost use Rattle.std.specs.Prelude.{◌≡◌};
+ghost use Rattle.pattern_index.specs.Keys.{given, given_prefix, gives, picked, leading_part, leading_key, key_of};
 
+use crate::header_shape::leading_ones;
 use crate::shape::Shape;
 use of10_model::{Pattern, Prefix};
 
-/// The constraints of a match on the fields of a shape: none on the other fields, and of a network address
-/// the leading bits that the shape has.
+/// The values of the fields that a shape has: zero for the other fields, and of a network address the leading
+/// bits that the shape has.
 // The fields in which patterns of one slice differ most often come first, so that keys are told apart early.
 #[derive(Clone, Copy, PartialEq, Eq, PartialOrd, Ord, Drop)]
 pub(crate) struct Key {
-    pub(crate) nw_dst: Option<u64>,
-    pub(crate) nw_src: Option<u64>,
-    pub(crate) tp_dst: Option<u16>,
-    pub(crate) tp_src: Option<u16>,
-    pub(crate) dl_dst: Option<u64>,
-    pub(crate) dl_src: Option<u64>,
-    pub(crate) in_port: Option<u16>,
-    pub(crate) dl_vlan: Option<u16>,
-    pub(crate) dl_vlan_pcp: Option<u8>,
-    pub(crate) dl_type: Option<u16>,
-    pub(crate) nw_proto: Option<u8>,
-    pub(crate) nw_tos: Option<u8>,
+    pub(crate) nw_dst: u32,
+    pub(crate) nw_src: u32,
+    pub(crate) tp_dst: u16,
+    pub(crate) tp_src: u16,
+    pub(crate) dl_dst: u64,
+    pub(crate) dl_src: u64,
+    pub(crate) in_port: u16,
+    pub(crate) dl_vlan: u16,
+    pub(crate) dl_vlan_pcp: u8,
+    pub(crate) dl_type: u16,
+    pub(crate) nw_proto: u8,
+    pub(crate) nw_tos: u8,
 }
 
-fn picked_u8(has: bool, field: Option<u8>) -> Option<u8>
-    ensures { result ≡ picked has field }
+fn given(has: bool, is_constrained: bool) -> bool
+    ensures { result ≡ given has is_constrained }
 {
-    if has { field } else { None }
+    !has || is_constrained
 }
 
-fn picked_u16(has: bool, field: Option<u16>) -> Option<u16>
-    ensures { result ≡ picked has field }
-{
-    if has { field } else { None }
-}
-
-fn picked_u64(has: bool, field: Option<u64>) -> Option<u64>
-    ensures { result ≡ picked has field }
-{
-    if has { field } else { None }
-}
-
-fn leading_bits(address: u32, bits: u8) -> u64
-    ensures { result ≡ address / 2 ^ (32 - bits) }
-{
-    let ignored = 32_u8.saturating_sub(bits);
-    u64::from(address) >> ignored
-}
-
-fn leading(bits: Option<u8>, prefix: Option<Prefix>) -> Option<u64>
-    ensures { result ≡ leading_key bits prefix }
+pub(crate) fn given_prefix(bits: Option<u8>, prefix: Option<Prefix>) -> bool
+    ensures { result ≡ given_prefix bits prefix }
 {
     match (bits, prefix) {
-        (Some(bits), Some(prefix)) if bits <= prefix.bits => {
-            Some(leading_bits(prefix.value, bits))
-        }
-        _ => None,
+        (Some(bits), Some(prefix)) => bits <= prefix.bits,
+        (Some(_), None) => false,
+        (None, _) => true,
     }
 }
 
-/// The constraints of the match on the fields of the shape.
+/// Whether a match constrains all fields of the shape, and as many leading bits.
+#[tactic(auto, unfolding(crate::specs::Keys::gives))]
+pub(crate) fn gives(shape: &Shape, m: &Pattern) -> bool
+    ensures { result ≡ gives shape.now m.now }
+{
+    given_prefix(shape.nw_dst, m.nw_dst)
+        && given_prefix(shape.nw_src, m.nw_src)
+        && given(shape.tp_dst, m.tp_dst.is_some())
+        && given(shape.tp_src, m.tp_src.is_some())
+        && given(shape.dl_dst, m.dl_dst.is_some())
+        && given(shape.dl_src, m.dl_src.is_some())
+        && given(shape.in_port, m.in_port.is_some())
+        && given(shape.dl_vlan, m.dl_vlan.is_some())
+        && given(shape.dl_vlan_pcp, m.dl_vlan_pcp.is_some())
+        && given(shape.dl_type, m.dl_type.is_some())
+        && given(shape.nw_proto, m.nw_proto.is_some())
+        && given(shape.nw_tos, m.nw_tos.is_some())
+}
+
+fn picked_u8(has: bool, field: Option<u8>) -> u8
+    ensures { result ≡ picked has field }
+{
+    match field {
+        Some(value) if has => value,
+        _ => 0,
+    }
+}
+
+fn picked_u16(has: bool, field: Option<u16>) -> u16
+    ensures { result ≡ picked has field }
+{
+    match field {
+        Some(value) if has => value,
+        _ => 0,
+    }
+}
+
+fn picked_u64(has: bool, field: Option<u64>) -> u64
+    ensures { result ≡ picked has field }
+{
+    match field {
+        Some(value) if has => value,
+        _ => 0,
+    }
+}
+
+fn leading_part(bits: Option<u8>, address: u32) -> u32
+    ensures { result ≡ leading_part bits address }
+{
+    address & leading_ones(bits)
+}
+
+fn leading(bits: Option<u8>, prefix: Option<Prefix>) -> u32
+    ensures { result ≡ leading_key bits prefix }
+{
+    match prefix {
+        Some(prefix) => leading_part(bits, prefix.value),
+        None => 0,
+    }
+}
+
+/// What the match says of the fields of the shape.
 #[tactic(auto, unfolding(crate::specs::Keys::key_of))]
 pub(crate) fn key_of(shape: &Shape, m: &Pattern) -> Key
     ensures { result ≡ key_of shape.now m.now }

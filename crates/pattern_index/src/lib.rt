@@ -3,6 +3,7 @@
 #![tactic(auto)]
 
 mod group;
+mod header_shape;
 mod index;
 mod key;
 mod shape;

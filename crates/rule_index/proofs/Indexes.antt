@@ -47,10 +47,9 @@ index_same rules i r all all_new written lt at normal is_out put index = record 
 
 -- ---- look-ups
 
-pub index_first : (rules : List Rule) (all written : PatternIndex) (h : Header) (q : Pattern) (r : Option ℕ) → IsIndex rules all written → q ≡ exact_of h
-    → ((kept : List PlacedPattern) → StandsFor kept all → r ≡ least_place kept q) → r ≡ first_of rules h
-index_first rules all written h q r index is least =
-    least index.in_all.kept index.in_all.stands ∙ ap (least_place index.in_all.kept) is ∙ index.in_all.firsts h
+pub index_first : (rules : List Rule) (all written : PatternIndex) (h : Header) (r : Option ℕ) → IsIndex rules all written
+    → ((kept : List PlacedPattern) → StandsFor kept all → r ≡ least_place kept (exact_of h)) → r ≡ first_of rules h
+index_first rules all written h r index least = least index.in_all.kept index.in_all.stands ∙ index.in_all.firsts h
 
 -- the writer of the rule at the place, if there is one, is the owner
 pub index_owner : (rules : List Rule) (all written : PatternIndex) (m q : Pattern) (r place : Option ℕ) → IsIndex rules all written → q ≡ m

@@ -5,7 +5,7 @@ ghost use Rattle.flowspace.specs.declared.rules.Rule.{Rule as RuleView};
 ghost use Rattle.rule_index.specs.Indexes.{IsIndex};
 
 use flowspace::{Rule, SwitchPolicy};
-use of10_match::{Header12, Match, exact_pattern};
+use of10_match::{Header12, Match};
 use pattern_index::PatternIndex;
 use std::alloc::{AllocError, Global};
 use std::marker::Model;
@@ -89,7 +89,7 @@ impl RuleIndex {
     pub fn first(&self, h: &Header12) -> Option<u16>
         ensures { result ≡ first_of self.now h.now }
     {
-        self.all.least(&exact_pattern(h))
+        self.all.least_of_header(h)
     }
 
     /// The slot of the slice that has a rule to write each header of the match; `None` where no slice

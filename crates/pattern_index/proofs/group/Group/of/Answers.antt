@@ -1,7 +1,9 @@
+use Rattle.std.proofs.Common.{ap, sym, ◌∙◌}
+use Rattle.pattern_index.specs.Keys.{key_of}
 use Rattle.pattern_index.proofs.Putting.{put_first}
 use Rattle.pattern_index.proofs.group.Group.of.Goals as goal
 
 pub returns : goal.returns
 returns c =
-    put_first c.args.m.now c.args.place c.shape_of-shape.result c.key_of.result c.new-places.result c.insert.new.self c.shape_of-shape.ensures c.key_of.ensures c.new-places.ensures.empty
-    c.in_ok-insert.ensures.updates.0
+    put_first c.args.m.now c.args.place c.of.result c.key_of.result c.new-places.result c.insert.new.self (c.of.ensures ∙ c.shape_of-shape.ensures)
+    (c.key_of.ensures ∙ ap (λ s. key_of s c.args.m.now) (sym c.of.ensures)) c.new-places.ensures.empty c.in_ok-insert.ensures.updates.0
