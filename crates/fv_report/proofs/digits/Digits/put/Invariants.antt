@@ -1,6 +1,9 @@
-use Rattle.std.proofs.Common.{◌≡◌, ◌*◌, ◌++◌, take, drop}
-use Rattle.hex.specs.Hex.{encode_lower}
+use Rattle.std.proofs.Common.{◌≡◌, ◌*◌, length}
+use Rattle.fv_report.specs.Digits.{HasDigits}
 use Rattle.fv_report.proofs.digits.Digits.put.Given as goal
 
+abbrev pub invariant-loop-eight : goal.invariant-loop-eight
+invariant-loop-eight l = (length l.out ≡ 2 * length l.bytes) × HasDigits (8 * l.eight) l.bytes l.out
+
 abbrev pub invariant-loop-at : goal.invariant-loop-at
-invariant-loop-at l = take (2 * l.at) l.out ++ encode_lower (drop l.at l.bytes) ≡ encode_lower l.bytes
+invariant-loop-at l = (length l.out ≡ 2 * length l.bytes) × HasDigits l.at l.bytes l.out
