@@ -29,7 +29,6 @@ use Rattle.of10_switch.specs.Messages as says
 use Rattle.of10_switch.specs.Messages.{SwitchMessage, read_switch}
 use Rattle.of10_port.specs.Ports.{port_number}
 use Rattle.of10_port.specs.declared.features.Features.{Features}
-use Rattle.of10_port.specs.declared.status.PortStatus.{PortStatus}
 use Rattle.port_view.specs.KnownPorts.{is_kept}
 use Rattle.desk_words.specs.declared.event.Event.{Event}
 use Rattle.desk_words.specs.declared.event.Event.TheVariants.{SwitchUp, SwitchMsg, SwitchDown, SliceUp, SliceMsg, SliceDown}
