@@ -6,12 +6,22 @@ ghost use Rattle.of10_ctl.specs.Kinds.{IsOf};
 
 use crate::frame::{Frame, HEADER};
 use crate::kind::{ECHO_REPLY, ERROR};
-use of10_model::wire::{put_u16, put_u32};
+use of10_model::wire::{put_u16, set_u16, set_u32};
 use std::alloc::{AllocError, Global};
 
 /// Bytes of the message at fault that an error message carries at most (OpenFlow 1.0.0, section 5.4.4:
 /// at least 64).
 const CAUSE: usize = 64;
+
+/// The header of a message of version 1 that has so many bytes in all.
+fn head(kind: u8, xid: u32, length: u16) -> [u8; 8]
+    ensures { result ≡ head_bytes kind length xid }
+{
+    let mut head = [1, kind, 0, 0, 0, 0, 0, 0];
+    set_u16(&mut head, 2, length);
+    set_u32(&mut head, 4, xid);
+    head
+}
 
 /// The header of a message of version 1 whose body will have so many bytes, with room for them.
 pub fn begin(alloc: Global, kind: u8, xid: u32, body: usize) -> Result<Vec<u8>, AllocError>
@@ -20,9 +30,7 @@ pub fn begin(alloc: Global, kind: u8, xid: u32, body: usize) -> Result<Vec<u8>, 
     ensures room { IfOk result (λ v. 8 + body ≤ vec_capacity v) }
 {
     let mut bytes = Vec::with_capacity(alloc, 8 + body)?;
-    bytes.extend_from_slice(&[1, kind])?;
-    put_u16(&mut bytes, HEADER + body as u16)?;
-    put_u32(&mut bytes, xid)?;
+    bytes.extend_from_slice(&head(kind, xid, HEADER + body as u16))?;
     Ok(bytes)
 }
 

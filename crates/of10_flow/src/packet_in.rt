@@ -1,4 +1,4 @@
-ghost use Rattle.std.specs.Prelude.{◌≡◌, ◌+◌, ◌≤◌, ◌++◌, length, Err, OnOk, IfOk};
+ghost use Rattle.std.specs.Prelude.{◌≡◌, ◌+◌, ◌≤◌, ◌++◌, length, Err, IfOk};
 ghost use Rattle.byteorder.specs.Endian.{big_bytes};
 ghost use Rattle.of10_action.specs.declared.fault.DecodeFault.TheVariants.{Memory};
 ghost use Rattle.of10_action.specs.Actions.{padding};
@@ -10,7 +10,7 @@ ghost use Rattle.of10_flow.specs.PacketIns.{IsPacketIn, packet_of, read_packet_i
 use of10_action::{Bytes, DecodeFault, WireFault};
 use of10_ctl::kind::PACKET_IN;
 use of10_ctl::{Frame, begin};
-use of10_model::wire::{put_u8, put_u16, put_u32, u8_at, u16_at, u32_at};
+use of10_model::wire::{set_u16, set_u32, u8_at, u16_at, u32_at};
 use std::alloc::{AllocError, Global};
 
 /// A packet that a switch hands to its controller (OpenFlow 1.0.0, section 5.4.1).
@@ -64,19 +64,16 @@ fn read(bytes: &[u8]) -> Result<PacketInView<'_>, WireFault>
     })
 }
 
-fn put_packet(out: &mut Vec<u8>, buffer: u32, total_len: u16) -> Result<(), AllocError>
-    ensures { OnOk result (out.new.items ≡ out.old.items ++ (big_bytes 4 buffer ++ big_bytes 2 total_len)) }
+/// What stands between the header and the packet.
+fn fields(packet: &PacketInView<'_>) -> [u8; 10]
+    ensures { result ≡ big_bytes 4 packet.now.buffer ++ big_bytes 2 packet.now.total_len ++ big_bytes 2 packet.now.in_port ++ big_bytes 1 packet.now.reason ++ padding 1 }
 {
-    put_u32(out, buffer)?;
-    put_u16(out, total_len)
-}
-
-fn put_cause(out: &mut Vec<u8>, in_port: u16, reason: u8) -> Result<(), AllocError>
-    ensures { OnOk result (out.new.items ≡ out.old.items ++ (big_bytes 2 in_port ++ big_bytes 1 reason ++ padding 1)) }
-{
-    put_u16(out, in_port)?;
-    put_u8(out, reason)?;
-    put_u8(out, 0)
+    let mut fields = [0; 10];
+    set_u32(&mut fields, 0, packet.buffer);
+    set_u16(&mut fields, 4, packet.total_len);
+    set_u16(&mut fields, 6, packet.in_port);
+    fields[8] = packet.reason;
+    fields
 }
 
 impl<'a> PacketInView<'a> {
@@ -99,8 +96,7 @@ impl<'a> PacketInView<'a> {
         ensures size { IfOk result (λ f. length f ≡ 18 + length self.now.payload.now) }
     {
         let mut out = begin(alloc, PACKET_IN, self.xid, 10 + self.payload.len())?;
-        put_packet(&mut out, self.buffer, self.total_len)?;
-        put_cause(&mut out, self.in_port, self.reason)?;
+        out.extend_from_slice(&fields(self))?;
         out.extend_from_slice(self.payload)?;
         Ok(Frame::of(out))
     }
