@@ -29,7 +29,17 @@ pub fn begin(alloc: Global, kind: u8, xid: u32, body: usize) -> Result<Vec<u8>, 
     ensures value { IfOk result (λ v. v.items ≡ head_bytes kind (8 + body) xid) }
     ensures room { IfOk result (λ v. 8 + body ≤ vec_capacity v) }
 {
-    let mut bytes = Vec::with_capacity(alloc, 8 + body)?;
+    begin_in(Vec::new(alloc), kind, xid, body)
+}
+
+/// The same in memory that is there already, as far as it reaches.
+pub fn begin_in(mut bytes: Vec<u8>, kind: u8, xid: u32, body: usize) -> Result<Vec<u8>, AllocError>
+    requires { body ≤ 65527 }
+    ensures value { IfOk result (λ v. v.items ≡ head_bytes kind (8 + body) xid) }
+    ensures room { IfOk result (λ v. 8 + body ≤ vec_capacity v) }
+{
+    bytes.clear();
+    bytes.reserve_exact(8 + body)?;
     bytes.extend_from_slice(&head(kind, xid, HEADER + body as u16))?;
     Ok(bytes)
 }

@@ -9,7 +9,7 @@ ghost use Rattle.of10_flow.specs.PacketIns.{IsPacketIn, packet_of, read_packet_i
 
 use of10_action::{Bytes, DecodeFault, WireFault};
 use of10_ctl::kind::PACKET_IN;
-use of10_ctl::{Frame, begin};
+use of10_ctl::{Frame, begin_in};
 use of10_model::wire::{set_u16, set_u32, u8_at, u16_at, u32_at};
 use std::alloc::{AllocError, Global};
 
@@ -88,14 +88,24 @@ impl<'a> PacketInView<'a> {
     }
 
     /// The message, of at most 65,535 bytes.
-    #[tactic(auto, unfolding(crate::specs::PacketIns::spell_packet_in))]
     pub fn encode(&self, alloc: Global) -> Result<Frame, AllocError>
         requires { 18 + length self.now.payload.now ≤ 65535 }
         ensures value { IfOk result (λ f. f ≡ spell_packet_in (packet_of self.now)) }
         ensures kind { IfOk result (λ f. IsOf PACKET_IN f) }
         ensures size { IfOk result (λ f. length f ≡ 18 + length self.now.payload.now) }
     {
-        let mut out = begin(alloc, PACKET_IN, self.xid, 10 + self.payload.len())?;
+        self.encode_in(Vec::new(alloc))
+    }
+
+    /// The same in memory that is there already, as far as it reaches.
+    #[tactic(auto, unfolding(crate::specs::PacketIns::spell_packet_in))]
+    pub fn encode_in(&self, memory: Vec<u8>) -> Result<Frame, AllocError>
+        requires { 18 + length self.now.payload.now ≤ 65535 }
+        ensures value { IfOk result (λ f. f ≡ spell_packet_in (packet_of self.now)) }
+        ensures kind { IfOk result (λ f. IsOf PACKET_IN f) }
+        ensures size { IfOk result (λ f. length f ≡ 18 + length self.now.payload.now) }
+    {
+        let mut out = begin_in(memory, PACKET_IN, self.xid, 10 + self.payload.len())?;
         out.extend_from_slice(&fields(self))?;
         out.extend_from_slice(self.payload)?;
         Ok(Frame::of(out))
