@@ -1,5 +1,5 @@
 -- What players told, one stretch of lines after another.
-use Rattle.std.proofs.Common.{◌≡◌, ◌+◌, ℕ, List, [], ◌∷◌, ◌++◌, refl, ap, ◌∙◌, subst, Result, Ok, Err, arith}
+use Rattle.std.proofs.Common.{◌≡◌, ◌+◌, ℕ, List, [], ◌∷◌, ◌++◌, refl, ap, sym, ◌∙◌, subst, Result, Ok, Err, arith}
 use Rattle.std.specs.Result.{IsErrAnd}
 use Rattle.flowspace.specs.Policies.{PolicyView}
 use Rattle.recording.specs.Recordings.{Told}
@@ -8,7 +8,7 @@ use Rattle.fv_report.specs.declared.fault.ReportFault.{ReportFault}
 use Rattle.fv_report.specs.declared.fault.ReportFault.TheVariants.{Memory}
 use Rattle.fv_report.specs.declared.player.Player.{Player}
 use Rattle.fv_report.specs.Telling.{Line, Saying, Outcome, Tell}
-use Rattle.fv_report.specs.Players.{Scene, IsPlaying, later, HasTold, TellsAll}
+use Rattle.fv_report.specs.Players.{Scene, IsPlaying, PlaysOn, later, HasTold, TellsAll}
 use Rattle.fv_report.proofs.Writing.{heard_none, heard_part_of_first, tell_line, tell_second, tell_on}
 
 -- ---- scenes
@@ -77,6 +77,11 @@ told_on Tells between scene fault (Ok value) lines old new same a = absurd same
 -- the same lines in other words
 pub told_as : {A T More : Type 0} (Tells : T → Line → Outcome → T → Type 0) (scene : Scene) (result : Result A ReportFault) (lines others : List Line) (old new : Player T) → lines ≡ others → HasTold {A = A} Tells scene More result lines old new → HasTold {A = A} Tells scene More result others old new
 told_as {A} {T} {More} Tells scene result lines others old new same a = subst (λ (l : List Line). HasTold {A = A} Tells scene More result l old new) same a
+
+-- what comes after it changes nothing of what was told
+pub told_still : {A T More : Type 0} (Tells : T → Line → Outcome → T → Type 0) (scene : Scene) (result : Result A ReportFault) (lines : List Line) (old mid new : Player T) → PlaysOn mid new → HasTold {A = A} Tells scene More result lines old mid → HasTold {A = A} Tells scene More result lines old new
+told_still {A} {T} {More} Tells scene (Ok value) lines old mid new on a = record { told = subst (λ (teller : T). Tell {A = A} Tells (Ok value) lines old.teller teller) (sym on.teller) a.told; at = on.scene scene a.at; more = a.more }
+told_still {A} {T} {More} Tells scene (Err fault) lines old mid new on a = record { told = subst (λ (teller : T). Tell {A = A} Tells (Err fault) lines old.teller teller) (sym on.teller) a.told; at = tt; more = tt }
 
 -- something else follows where all was told
 pub told_so : {A T First More : Type 0} (Tells : T → Line → Outcome → T → Type 0) (scene : Scene) (result : Result A ReportFault) (lines : List Line) (old new : Player T) → (First → More) → HasTold {A = A} Tells scene First result lines old new → HasTold {A = A} Tells scene More result lines old new

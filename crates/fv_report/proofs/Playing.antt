@@ -21,11 +21,11 @@ use Rattle.fv_report.specs.declared.fault.ReportFault.TheVariants.{Memory}
 use Rattle.fv_report.specs.declared.player.Player.{Player}
 use Rattle.fv_report.specs.Telling.{Line, Outcome, event_told, told_of}
 use Rattle.fv_report.specs.Holding.{IsQuiet}
-use Rattle.fv_report.specs.Players.{Scene, IsPlaying, later, HasTold}
+use Rattle.fv_report.specs.Players.{Scene, IsPlaying, PlaysOn, later, HasTold}
 use Rattle.fv_report.specs.Streams.{TookFrame}
 use Rattle.fv_report.specs.Plays.{event_from, happens, happening, Rests, PlaysEvents, Plays, PlaysFrames}
 use Rattle.fv_report.proofs.Streaming.{next_left, nothing_left}
-use Rattle.fv_report.proofs.Players.{later_none, later_both, told_nothing, told_none, told_second, told_first, told_as, told_so}
+use Rattle.fv_report.proofs.Players.{later_none, later_both, told_nothing, told_none, told_second, told_first, told_as, told_so, told_still}
 
 -- ---- one event
 
@@ -109,6 +109,25 @@ pub record Hearing {T : Type 0} (Tells : T → Line → Outcome → T → Type 0
   pub lines : done ++ told_of scene.policy (later events scene).place h (happening scene.policy scene.moment h (map (event_from from) rest)) ≡ told_of scene.policy scene.place first (happening scene.policy scene.moment first (map (event_from from) all))
   pub count : events + length (happening scene.policy scene.moment h (map (event_from from) rest)) ≡ length (happening scene.policy scene.moment first (map (event_from from) all))
   pub next : next_after h (happening scene.policy scene.moment h (map (event_from from) rest)) ≡ next_after first (happening scene.policy scene.moment first (map (event_from from) all))
+
+-- what comes after it changes nothing of what was heard
+pub hearing_still : {T : Type 0} (Tells : T → Line → Outcome → T → Type 0) (scene : Scene) (from : Dest) (first : List Timed) (all : List (List ℕ)) (fed : List ℕ) (before now later_on : Player T) (desk : Desk) (framer : Stream)
+    → PlaysOn now later_on → Hearing Tells scene from first all fed before now desk framer → Hearing Tells scene from first all fed before later_on desk framer
+hearing_still Tells scene from first all fed before now later_on desk framer on s = record {
+  h = s.h;
+  given = s.given;
+  rest = s.rest;
+  quiet = s.quiet;
+  framed = s.framed;
+  stands = s.stands;
+  cut = s.cut;
+  events = s.events;
+  done = s.done;
+  told = told_still Tells (later s.events scene) (Ok tt) s.done before now later_on on s.told;
+  lines = s.lines;
+  count = s.count;
+  next = s.next;
+}
 
 pub hearing_first : {T : Type 0} (Tells : T → Line → Outcome → T → Type 0) (scene : Scene) (from : Dest) (h : List Timed) (fed : List ℕ) (given rest : List (List ℕ)) (player : Player T) (desk : Desk) (framer : Stream)
     → IsPlaying scene player → IsQuiet scene.policy h desk → AreFramed h → Stands framer fed given → given ++ rest ≡ frames_of fed → Hearing Tells scene from h rest fed player player desk framer

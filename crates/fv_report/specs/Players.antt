@@ -21,6 +21,11 @@ pub record IsPlaying {T : Type 0} (scene : Scene) (player : Player T) : Type 0 w
   pub place : place_of player.place ≡ scene.place
   pub moment : player.moment ≡ scene.moment
 
+-- a player has the teller that it had, and plays what it played
+pub record PlaysOn {T : Type 0} (old new : Player T) : Type 0 where
+  pub teller : new.teller ≡ old.teller
+  pub scene : (scene : Scene) → IsPlaying scene old → IsPlaying scene new
+
 -- a player plays by a policy, and has played so many events
 pub record HasPlayed {T : Type 0} (p : PolicyView) (count : ℕ) (player : Player T) : Type 0 where
   pub policy : player.policy.now ≡ p

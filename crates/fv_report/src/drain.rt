@@ -54,7 +54,7 @@ impl<T: Teller> Player<'_, T> {
     {
         while let Some(message) = next_of_lane(desk) {
             self.say(Said::Lane(message.as_slice()))?;
-            self.spare = message.into_vec();
+            self.keep(message);
         }
         Ok(())
     }
@@ -66,7 +66,7 @@ impl<T: Teller> Player<'_, T> {
     {
         while let Some(message) = next_of_slice(desk, slot) {
             self.say(Said::To(slot, name, message.as_slice()))?;
-            self.spare = message.into_vec();
+            self.keep(message);
         }
         Ok(())
     }

@@ -81,6 +81,9 @@ fn put_place(line: &mut [u8], place: Place) -> usize
     ensures size { length line.new ≡ length line.old }
 {
     let end = put_text(line, 0, Buffer::new().format(place.number).as_bytes());
+    if place.switch < 10 {
+        return put_text(line, end, &[b' ', b'0' + place.switch, b' ']);
+    }
     let end = put_text(line, end, b" ");
     let end = put_text(line, end, Buffer::new().format(place.switch).as_bytes());
     put_text(line, end, b" ")

@@ -12,7 +12,6 @@ ghost use Rattle.fv_report.specs.Plays.{event_from, happens, Plays, PlaysFrames}
 
 use crate::fault::ReportFault;
 use crate::player::Player;
-use crate::streams::next_frame;
 use crate::teller::Teller;
 use crate::turn::{has_ended, is_up};
 use of10_ctl::{Frame, Framer};
@@ -66,7 +65,7 @@ impl<T: Teller> Player<'_, T> {
         ensures { (scene : Scene) (h : List Timed) (fed : List ℕ) (given rest : List (List ℕ)) → IsPlaying scene self.old → IsQuiet scene.policy h desk.old → AreFramed h → Stands framer.old fed given → given ++ rest ≡ frames_of fed
             → PlaysFrames T.Tells scene from h fed rest result self.old self.new desk.new framer.new }
     {
-        while let Some(frame) = next_frame(framer, &mut self.spare)? {
+        while let Some(frame) = self.next_frame(framer)? {
             self.hear_one(desk, from, frame)?;
         }
         Ok(())

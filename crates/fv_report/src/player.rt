@@ -1,15 +1,19 @@
 //! Who plays a recording.
 
-ghost use Rattle.std.specs.Prelude.{ℕ, ◌≡◌, ◌≤◌, ◌+◌, ◌^◌, List, [], ◌∷◌, IfErr, OnErr};
+ghost use Rattle.std.specs.Prelude.{ℕ, ◌≡◌, ◌≤◌, ◌<◌, ◌+◌, ◌^◌, List, [], ◌∷◌, length, IfOk, IfSome, IfErr, OnErr};
 ghost use Rattle.desk_words.specs.Recorded.{told_by};
 ghost use Rattle.fv_report.specs.Lines.{saying_of};
-ghost use Rattle.fv_report.specs.Players.{Scene, IsPlaying, later, scene_of, HasTold};
+ghost use Rattle.of10_ctl.specs.Frames.{IsFrame};
+ghost use Rattle.fv_report.specs.Streams.{TakesFrame};
+ghost use Rattle.fv_report.specs.Players.{Scene, IsPlaying, PlaysOn, later, scene_of, HasTold};
 
 use crate::fault::ReportFault;
+use crate::streams::next_frame;
 use crate::teller::{Place, Said, Teller};
 use flowspace::Policy;
+use of10_ctl::{Frame, Framer};
 use recording::Item;
-use std::alloc::Global;
+use std::alloc::{AllocError, Global};
 
 /// Plays records at the desks of their switches, by a policy, and tells what comes of them.
 #[derive(Drop)]
@@ -23,12 +27,17 @@ pub(crate) struct Player<'a, T: Teller> {
     pub(crate) moment: u64,
     pub(crate) alloc: Global,
     /// Memory of a message that was told, in which the next one is made that comes.
-    pub(crate) spare: Vec<u8>,
+    pub(crate) spare: &'a mut Vec<u8>,
 }
 
 impl<'a, T: Teller> Player<'a, T> {
     /// Nothing was played yet.
-    pub(crate) fn new(alloc: Global, policy: &'a Policy, teller: T) -> Player<'a, T>
+    pub(crate) fn new(
+        alloc: Global,
+        policy: &'a Policy,
+        teller: T,
+        spare: &'a mut Vec<u8>,
+    ) -> Player<'a, T>
         ensures teller { result.teller ≡ teller }
         ensures policy { result.policy.now ≡ policy.now }
         ensures number { result.place.number ≡ 0 }
@@ -42,7 +51,7 @@ impl<'a, T: Teller> Player<'a, T> {
             },
             moment: 0,
             alloc,
-            spare: Vec::new(alloc),
+            spare,
         }
     }
 
@@ -63,6 +72,23 @@ impl<'a, T: Teller> Player<'a, T> {
         ensures { (scene : Scene) → IsPlaying scene self.old → HasTold T.Tells scene (Unit {0}) result (record { place = scene.place; saying = saying_of said.entry } ∷ []) self.old self.new }
     {
         self.teller.tell(self.place, said)
+    }
+
+    /// Keeps the memory of a message that was told, for the next that comes.
+    pub(crate) fn keep(&mut self, message: Frame)
+        ensures { PlaysOn self.old self.new }
+    {
+        *self.spare = message.into_vec();
+    }
+
+    /// The next frame of a stream, if all its bytes came and no frame before it has a bad length.
+    pub(crate) fn next_frame(&mut self, framer: &mut Framer) -> Result<Option<Frame>, AllocError>
+        ensures takes { IfOk result (λ next. TakesFrame next framer.old framer.new) }
+        ensures frame { IfOk result (λ next. IfSome next IsFrame) }
+        ensures shorter { IfOk result (λ next. IfSome next (λ _. length framer.new.left < length framer.old.left)) }
+        ensures on { PlaysOn self.old self.new }
+    {
+        next_frame(framer, self.spare)
     }
 
     /// An event was played. A recording has far fewer than 2^64 events.

@@ -135,11 +135,12 @@ pub fn report_items<K: Sink>(
     ensures counted { Counted result (K.faults out.old) (K.faults out.new) }
 {
     let mut line = LineBuffer::new(alloc);
+    let mut spare = Vec::new(alloc);
     let writer = Writer {
         out,
         line: &mut line,
     };
-    let mut player = Player::new(alloc, policy, writer);
+    let mut player = Player::new(alloc, policy, writer, &mut spare);
     write_items(&mut player, bytes, items)
 }
 
@@ -173,10 +174,11 @@ pub fn report<K: Sink>(
     ensures counted { Counted result (K.faults out.old) (K.faults out.new) }
 {
     let mut line = LineBuffer::new(alloc);
+    let mut spare = Vec::new(alloc);
     let writer = Writer {
         out,
         line: &mut line,
     };
-    let mut player = Player::new(alloc, policy, writer);
+    let mut player = Player::new(alloc, policy, writer, &mut spare);
     write_file(&mut player, bytes)
 }

@@ -79,7 +79,8 @@ pub fn summarise<K: Sink>(
     ensures counted { Counted result (K.faults out.old) (K.faults out.new) }
 {
     let counter = Counter::new(alloc, policy.slice_count())?;
-    let mut player = Player::new(alloc, policy, counter);
+    let mut spare = Vec::new(alloc);
+    let mut player = Player::new(alloc, policy, counter, &mut spare);
     player.play_file(bytes)?;
     let text = made(alloc, policy, player.place.number, &player.teller)?;
     put(out, &text)

@@ -2,6 +2,7 @@ use Rattle.std.proofs.Common.{ℕ, [], ◌∷◌, List, Ok, Err, subst}
 use Rattle.fv_report.specs.Telling.{lane_line}
 use Rattle.fv_report.specs.Holding.{Holds}
 use Rattle.fv_report.specs.Players.{HasTold}
+use Rattle.fv_report.proofs.Players.{told_still}
 use Rattle.fv_report.proofs.Draining.{drained_first, drained_more, drained_part, drained_all}
 use Rattle.fv_report.proofs.player.Player.drain_lane.Goals as goal
 
@@ -23,11 +24,12 @@ pub loop-message-preserved : goal.loop-message-preserved
 loop-message-preserved g c = record {
   drained = λ scene h slices lane is holds.
       let now = c.loop-message.self in
-      let later = c.say.new.self in
+      let told = c.say.new.self in
+      let later = c.keep.new.self in
       let d = c.loop-message.invariant.drained scene h slices lane is holds in
       let next = c.in-Some.ensures.takes scene.policy h slices d.left d.holds in
       drained_more g.T.Teller.Tells scene (λ messages. Holds scene.policy h slices messages c.loop-message.desk) (λ messages. Holds scene.policy h slices messages c.next_of_lane.new.desk) (lane_line scene.place) lane c.args.self.now now later c.in-Some.message tt d next.0 next.1
-      (subst (λ (m : List ℕ). HasTold {A = Unit {0}} g.T.Teller.Tells scene (Unit {0}) (Ok tt) (lane_line scene.place m ∷ []) now later) c.as_slice.ensures.value (c.in_ok-say.ensures scene d.told.at));
+      (told_still g.T.Teller.Tells scene (Ok tt) (lane_line scene.place c.in-Some.message ∷ []) now told later c.keep.ensures (subst (λ (m : List ℕ). HasTold {A = Unit {0}} g.T.Teller.Tells scene (Unit {0}) (Ok tt) (lane_line scene.place m ∷ []) now told) c.as_slice.ensures.value (c.in_ok-say.ensures scene d.told.at)));
 }
 
 pub returns : goal.returns

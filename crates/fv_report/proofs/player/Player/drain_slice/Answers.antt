@@ -3,6 +3,7 @@ use Rattle.fv_report.specs.Telling.{slice_line}
 use Rattle.fv_report.specs.Holding.{Holds, with_waiting}
 use Rattle.fv_report.specs.Players.{HasTold}
 use Rattle.fv_report.proofs.Holding.{holds_own}
+use Rattle.fv_report.proofs.Players.{told_still}
 use Rattle.fv_report.proofs.Draining.{drained_first, drained_more, drained_part, drained_all}
 use Rattle.fv_report.proofs.player.Player.drain_slice.Goals as goal
 
@@ -28,11 +29,12 @@ loop-message-preserved g c = record {
   drained = λ scene h slices lane is holds.
       let line = slice_line scene.place c.args.slot c.args.name.now in
       let now = c.loop-message.self in
-      let later = c.say.new.self in
+      let told = c.say.new.self in
+      let later = c.keep.new.self in
       let d = c.loop-message.invariant.drained scene h slices lane is holds in
       let next = c.in-Some.ensures.takes scene.policy h slices d.left lane d.holds in
       drained_more g.T.Teller.Tells scene (λ messages. Holds scene.policy h (with_waiting c.args.slot messages slices) lane c.loop-message.desk) (λ messages. Holds scene.policy h (with_waiting c.args.slot messages slices) lane c.next_of_slice.new.desk) line (slices c.args.slot) c.args.self.now now later c.in-Some.message tt d next.0 next.1
-      (subst (λ (m : List ℕ). HasTold {A = Unit {0}} g.T.Teller.Tells scene (Unit {0}) (Ok tt) (line m ∷ []) now later) c.as_slice.ensures.value (c.in_ok-say.ensures scene d.told.at));
+      (told_still g.T.Teller.Tells scene (Ok tt) (line c.in-Some.message ∷ []) now told later c.keep.ensures (subst (λ (m : List ℕ). HasTold {A = Unit {0}} g.T.Teller.Tells scene (Unit {0}) (Ok tt) (line m ∷ []) now told) c.as_slice.ensures.value (c.in_ok-say.ensures scene d.told.at)));
 }
 
 pub returns : goal.returns
