@@ -21,7 +21,7 @@ returns-in-Ok-NeedMore g c =
       desk = c.loop.invariant.desk;
       handed = λ fed given stands.
           let h = c.loop.invariant.handed fed given stands in
-          hands_all c.args.side a b c.loop.framer c.next-in-loop.new.self fed given h (sym c.in-Ok-NeedMore.field-0-is ∙ c.in-Ok-NeedMore.ensures.answer fed (given ++ h.0) h.2) (subst (λ n. Stands c.next-in-loop.new.self fed ((given ++ h.0) ++ frame_in n)) c.in-Ok-NeedMore.field-0-is (c.in-Ok-NeedMore.ensures.stands fed (given ++ h.0) h.2));
+          hands_all c.args.side a b c.loop.framer c.next-in-loop.new.self fed given h (sym c.in-Ok-NeedMore.field-0-is ∙ c.in-Ok-NeedMore.ensures.gives.answer fed (given ++ h.0) h.2) (subst (λ n. Stands c.next-in-loop.new.self fed ((given ++ h.0) ++ frame_in n)) c.in-Ok-NeedMore.field-0-is (c.in-Ok-NeedMore.ensures.gives.stands fed (given ++ h.0) h.2));
     }
 
 pub returns-in-Ok-Ended : goal.returns-in-Ok-Ended
@@ -32,7 +32,7 @@ returns-in-Ok-Ended g c =
       desk = c.loop.invariant.desk;
       handed = λ fed given stands.
           let h = c.loop.invariant.handed fed given stands in
-          hands_last c.args.side a b c.loop.framer c.next-in-loop.new.self fed given h (sym c.in-Ok-Ended.field-0-is ∙ c.in-Ok-Ended.ensures.answer fed (given ++ h.0) h.2) (subst (λ n. Stands c.next-in-loop.new.self fed ((given ++ h.0) ++ frame_in n)) c.in-Ok-Ended.field-0-is (c.in-Ok-Ended.ensures.stands fed (given ++ h.0) h.2));
+          hands_last c.args.side a b c.loop.framer c.next-in-loop.new.self fed given h (sym c.in-Ok-Ended.field-0-is ∙ c.in-Ok-Ended.ensures.gives.answer fed (given ++ h.0) h.2) (subst (λ n. Stands c.next-in-loop.new.self fed ((given ++ h.0) ++ frame_in n)) c.in-Ok-Ended.field-0-is (c.in-Ok-Ended.ensures.gives.stands fed (given ++ h.0) h.2));
     }
 
 pub returns-in-Err-clause-handed : goal.returns-in-Err-clause-handed
@@ -54,7 +54,7 @@ returns-in-Some-end_by-clause-handed g c = λ fed given stands.
     let b = spot c.loop.seat (g.C.Clock.coming c.loop.clock) in
     let d = spot c.ask_in_turn-asked.new.seat (g.C.Clock.coming c.ask_in_turn-asked.new.clock) in
     let h = c.loop.invariant.handed fed given stands in
-    hands_end c.args.side a b d c.loop.framer c.next-in-loop.new.self fed given c.in-Ok-Frame.frame (Stepped c.in-Ok.stepped) c.in-Some-end_by.end h (subst (λ n. Stands c.next-in-loop.new.self fed ((given ++ h.0) ++ frame_in n)) c.in-Ok-Frame.field-0-is (c.in-Ok-Frame.ensures.stands fed (given ++ h.0) h.2)) (rw (← c.message.ensures) c.in-Ok.ensures.went) c.in-Some-end_by.ensures
+    hands_end c.args.side a b d c.loop.framer c.next-in-loop.new.self fed given c.in-Ok-Frame.frame (Stepped c.in-Ok.stepped) c.in-Some-end_by.end h (subst (λ n. Stands c.next-in-loop.new.self fed ((given ++ h.0) ++ frame_in n)) c.in-Ok-Frame.field-0-is (c.in-Ok-Frame.ensures.gives.stands fed (given ++ h.0) h.2)) (rw (← c.message.ensures) c.in-Ok.ensures.went) c.in-Some-end_by.ensures
 
 pub loop-preserved : goal.loop-preserved
 loop-preserved g c =
@@ -67,5 +67,5 @@ loop-preserved g c =
       desk = c.in-Ok.ensures.desk ∙ c.loop.invariant.desk;
       handed = λ fed given stands.
           let h = c.loop.invariant.handed fed given stands in
-          hands_more c.args.side a b d c.loop.framer c.next-in-loop.new.self fed given c.in-Ok-Frame.frame (Stepped c.in-Ok.stepped) h (subst (λ n. Stands c.next-in-loop.new.self fed ((given ++ h.0) ++ frame_in n)) c.in-Ok-Frame.field-0-is (c.in-Ok-Frame.ensures.stands fed (given ++ h.0) h.2)) (rw (← c.message.ensures) c.in-Ok.ensures.went) c.in_default-end_by.ensures;
+          hands_more c.args.side a b d c.loop.framer c.next-in-loop.new.self fed given c.in-Ok-Frame.frame (Stepped c.in-Ok.stepped) h (subst (λ n. Stands c.next-in-loop.new.self fed ((given ++ h.0) ++ frame_in n)) c.in-Ok-Frame.field-0-is (c.in-Ok-Frame.ensures.gives.stands fed (given ++ h.0) h.2)) (rw (← c.message.ensures) c.in-Ok.ensures.went) c.in_default-end_by.ensures;
     }
