@@ -16,6 +16,7 @@ use crate::packets::packet_in;
 use crate::ports::port_status;
 use crate::removals::flow_removed;
 use crate::replies::{barrier, queues};
+use crate::spare::Spare;
 use crate::statistics::statistics;
 use flow_book::SliceState;
 use flowspace::SwitchPolicy;
@@ -39,7 +40,7 @@ fn echo(alloc: Global, xid: u32, body: &[u8]) -> Result<Dispatch, AllocError>
 /// dropped.
 fn follow(
     alloc: Global,
-    room: Vec<(u8, Frame)>,
+    spare: Spare,
     policy: &SwitchPolicy,
     index: &RuleIndex,
     ports: &PortView,
@@ -47,7 +48,7 @@ fn follow(
     xid: u32,
     said: &FromSwitch<'_>,
 ) -> Result<Dispatch, AllocError>
-    requires empty { room.items ≡ [] }
+    requires empty { spare.list.items ≡ [] }
     requires few { length states.now ≤ 32 }
     requires index { index.now ≡ policy.now.rules }
     requires said { IsSaid (said_by said.now) }
@@ -55,7 +56,7 @@ fn follow(
 {
     match said {
         FromSwitch::EchoRequest(body) => echo(alloc, xid, body),
-        FromSwitch::PacketIn(packet) => packet_in(alloc, room, policy, index, states, packet),
+        FromSwitch::PacketIn(packet) => packet_in(alloc, spare, policy, index, states, packet),
         FromSwitch::FlowRemoved(removal) => flow_removed(alloc, index, states, &removal.entry()),
         FromSwitch::PortStatus(told) => port_status(alloc, policy, ports, states, &told.status()),
         FromSwitch::Error(fault) => error(alloc, states, xid, fault),
@@ -74,14 +75,14 @@ fn follow(
 /// doesn't count its header: that ends the connection.
 fn dispatch(
     alloc: Global,
-    room: Vec<(u8, Frame)>,
+    spare: Spare,
     policy: &SwitchPolicy,
     index: &RuleIndex,
     ports: &PortView,
     states: &[SliceState],
     frame: &Frame,
 ) -> Result<Dispatch, AllocError>
-    requires empty { room.items ≡ [] }
+    requires empty { spare.list.items ≡ [] }
     requires few { length states.now ≤ 32 }
     requires index { index.now ≡ policy.now.rules }
     ensures value { (called : ℕ → Called) → AllCalled called states.now → IfOk result (λ d. carried d ≡ carried_for called policy.now.rules ports.now states.now frame.now) }
@@ -91,7 +92,7 @@ fn dispatch(
     match &read {
         Ok(said) => follow(
             alloc,
-            room,
+            spare,
             policy,
             index,
             ports,
@@ -120,13 +121,22 @@ pub fn react(
     requires index { index.now ≡ policy.now.rules }
     ensures dispatch { (p : PolicyView) (switch : KnownSwitch) (sides : ℕ → Side) (moment : ℕ) → Surrounds p switch policy.now ports.now → AllStand p switch sides states.now → AllNumbered p switch sides → IfOk result (IsDispatch p switch sides moment frame.now) }
 {
-    react_in(alloc, Vec::new(alloc), policy, index, ports, states, frame)
+    react_in(
+        alloc,
+        Spare::none(alloc),
+        policy,
+        index,
+        ports,
+        states,
+        frame,
+    )
 }
 
-/// The same, where messages for slices are listed in the memory of `room`.
+/// The same, where of a PACKET_IN the messages for slices are listed and the first of them is made in the spare
+/// memory.
 pub fn react_in(
     alloc: Global,
-    mut room: Vec<(u8, Frame)>,
+    mut spare: Spare,
     policy: &SwitchPolicy,
     index: &RuleIndex,
     ports: &PortView,
@@ -139,6 +149,6 @@ pub fn react_in(
 {
     // A policy has at most 32 slices.
     let _slices = policy.slices();
-    room.clear();
-    dispatch(alloc, room, policy, index, ports, states, frame)
+    spare.list.clear();
+    dispatch(alloc, spare, policy, index, ports, states, frame)
 }

@@ -15,9 +15,11 @@ mod ports;
 mod removals;
 mod replies;
 mod requests;
+mod spare;
 mod statistics;
 
 pub use answer::{react, react_in};
 pub use applying::{apply, apply_all, reserve};
 pub use change::Change;
 pub use dispatch::Dispatch;
+pub use spare::Spare;

@@ -9,6 +9,7 @@ ghost use Rattle.switch_side.specs.Carrying.{carried, once, said_from, unnumbere
 use crate::audience::Audience;
 use crate::change::Change;
 use crate::dispatch::Dispatch;
+use crate::spare::Spare;
 use flow_book::SliceState;
 use flowspace::{SwitchPolicy, has_slot};
 use frame_header::header_of;
@@ -77,22 +78,23 @@ fn written<'a>(state: &SliceState, packet: &PacketInView<'a>) -> PacketInView<'a
 
 fn put(
     alloc: Global,
-    to_slices: &mut Vec<(u8, Frame)>,
+    spare: &mut Spare,
     slot: u8,
     packet: &PacketInView<'_>,
 ) -> Result<(), AllocError>
     requires { 18 + length packet.now.payload.now ≤ 65535 }
-    ensures { OnOk result (to_slices.new.items ≡ to_slices.old.items ++ (slot, spell_packet_in (packet_of packet.now)) ∷ []) }
+    ensures { OnOk result (spare.new.list.items ≡ spare.old.list.items ++ (slot, spell_packet_in (packet_of packet.now)) ∷ []) }
 {
-    let message = packet.encode(alloc)?;
-    to_slices.push((slot, message))?;
+    let memory = spare.memory_for(alloc, 18 + packet.payload.len());
+    let message = packet.encode_in(memory)?;
+    spare.list.push((slot, message))?;
     Ok(())
 }
 
 /// The packet for a slice that is up and that a rule names: as its writer, and as a reader.
 fn put_named(
     alloc: Global,
-    to_slices: &mut Vec<(u8, Frame)>,
+    spare: &mut Spare,
     slot: u8,
     state: &SliceState,
     packet: &PacketInView<'_>,
@@ -100,13 +102,13 @@ fn put_named(
     reads: bool,
 ) -> Result<(), AllocError>
     requires { 18 + length packet.now.payload.now ≤ 65535 }
-    ensures { OnOk result (to_slices.new.items ≡ to_slices.old.items ++ addressed slot (named_told writes reads state.now (packet_of packet.now))) }
+    ensures { OnOk result (spare.new.list.items ≡ spare.old.list.items ++ addressed slot (named_told writes reads state.now (packet_of packet.now))) }
 {
     if writes {
-        put(alloc, to_slices, slot, &written(state, packet))?;
+        put(alloc, spare, slot, &written(state, packet))?;
     }
     if reads {
-        put(alloc, to_slices, slot, &unnumbered(packet))?;
+        put(alloc, spare, slot, &unnumbered(packet))?;
     }
     Ok(())
 }
@@ -114,16 +116,16 @@ fn put_named(
 /// A probe for a slice that is up, if it is the slice's own.
 fn put_probe(
     alloc: Global,
-    to_slices: &mut Vec<(u8, Frame)>,
+    spare: &mut Spare,
     slot: u8,
     packet: &PacketInView<'_>,
     is_own: bool,
 ) -> Result<(), AllocError>
     requires { 18 + length packet.now.payload.now ≤ 65535 }
-    ensures { OnOk result (to_slices.new.items ≡ to_slices.old.items ++ addressed slot (once is_own (spell_packet_in (unmarked (packet_of packet.now))))) }
+    ensures { OnOk result (spare.new.list.items ≡ spare.old.list.items ++ addressed slot (once is_own (spell_packet_in (unmarked (packet_of packet.now))))) }
 {
     if is_own {
-        put(alloc, to_slices, slot, &unmarked(packet))?;
+        put(alloc, spare, slot, &unmarked(packet))?;
     }
     Ok(())
 }
@@ -131,23 +133,23 @@ fn put_probe(
 /// The packet for the slice at a slot, if it is up.
 fn put_for_slice(
     alloc: Global,
-    to_slices: &mut Vec<(u8, Frame)>,
+    spare: &mut Spare,
     slot: u8,
     state: &SliceState,
     packet: &PacketInView<'_>,
     audience: Audience,
 ) -> Result<(), AllocError>
     requires { 18 + length packet.now.payload.now ≤ 65535 }
-    ensures { OnOk result (to_slices.new.items ≡ to_slices.old.items ++ addressed slot (packet_for audience (packet_of packet.now) slot state.now)) }
+    ensures { OnOk result (spare.new.list.items ≡ spare.old.list.items ++ addressed slot (packet_for audience (packet_of packet.now) slot state.now)) }
 {
     if !state.up {
         return Ok(());
     }
     match audience {
-        Audience::Prober(prober) => put_probe(alloc, to_slices, slot, packet, prober == slot),
+        Audience::Prober(prober) => put_probe(alloc, spare, slot, packet, prober == slot),
         Audience::Named { writer, readers } => put_named(
             alloc,
-            to_slices,
+            spare,
             slot,
             state,
             packet,
@@ -160,20 +162,20 @@ fn put_for_slice(
 /// The packet for all slices that are up, in a list that was empty.
 fn put_for_all(
     alloc: Global,
-    mut to_slices: Vec<(u8, Frame)>,
+    mut spare: Spare,
     states: &[SliceState],
     packet: &PacketInView<'_>,
     audience: Audience,
 ) -> Result<Vec<(u8, Frame)>, AllocError>
-    requires empty { to_slices.items ≡ [] }
+    requires empty { spare.list.items ≡ [] }
     requires few { length states.now ≤ 32 }
     requires fits { 18 + length packet.now.payload.now ≤ 65535 }
     ensures { IfOk result (λ v. v.items ≡ said_from (packet_for audience (packet_of packet.now)) 0 states.now) }
 {
     for (place, state) in states.iter().enumerate() {
-        put_for_slice(alloc, &mut to_slices, place as u8, state, packet, audience)?;
+        put_for_slice(alloc, &mut spare, place as u8, state, packet, audience)?;
     }
-    Ok(to_slices)
+    Ok(spare.list)
 }
 
 /// What changes for the slice at a slot where the switch keeps the packet under a number: the writer that is
@@ -228,16 +230,16 @@ fn changes(
     changes_for_all(alloc, states, packet.buffer, header, audience)
 }
 
-/// What follows from a PACKET_IN. The messages are listed in `room`.
+/// What follows from a PACKET_IN. The messages are listed and the first is made in memory that is there already.
 pub(crate) fn packet_in(
     alloc: Global,
-    room: Vec<(u8, Frame)>,
+    spare: Spare,
     policy: &SwitchPolicy,
     index: &RuleIndex,
     states: &[SliceState],
     packet: &PacketInView<'_>,
 ) -> Result<Dispatch, AllocError>
-    requires empty { room.items ≡ [] }
+    requires empty { spare.list.items ≡ [] }
     requires few { length states.now ≤ 32 }
     requires fits { 18 + length packet.now.payload.now ≤ 65535 }
     requires index { index.now ≡ policy.now.rules }
@@ -245,7 +247,7 @@ pub(crate) fn packet_in(
 {
     let header = header_of(packet.in_port, packet.payload);
     let audience = Audience::of(policy, index, states.len(), packet, &header);
-    let to_slices = put_for_all(alloc, room, states, packet, audience)?;
+    let to_slices = put_for_all(alloc, spare, states, packet, audience)?;
     let changes = changes(alloc, states, packet, &header, audience)?;
     Ok(Dispatch::handing(alloc, to_slices, changes))
 }
