@@ -25,6 +25,7 @@ use Rattle.desk_words.specs.Sent.{lane_in, put_with}
 use Rattle.desk_words.specs.Verdicts.{is_fresh, is_ended}
 use Rattle.desk_words.specs.Operations.{slice_limit, lane_limit, empties, is_ending}
 use Rattle.desk_words.proofs.Erasing.{slices_switch}
+use Rattle.switch_side.specs.declared.spare.Spare.{Spare}
 use Rattle.proxy_core.specs.declared.parts.Session.{Session}
 use Rattle.proxy_core.specs.declared.parts.Desk.{Desk}
 use Rattle.proxy_core.specs.Slots.{Comes, Keeps, Heard, Hears, SameQueue}
@@ -63,6 +64,16 @@ stays_same old new policy phase lane now p switch sides qs ql body = record {
   opens = subst (λ (k : Option Session). Opens p switch sides qs k) (sym now) body.opens;
   beyond = body.beyond;
 }
+
+-- memory that a session keeps changes nothing
+pub spare_stands : (session : Session) (spare : Spare) → StandsOn session (record session { spare = spare })
+spare_stands session spare p switch sides qs s = record { told = s.told; slices = s.slices; rules = s.rules; known = s.known; states_count = s.states_count; queues_count = s.queues_count; each = s.each }
+
+-- what it stood for after an event it stands for still
+pub acts_stays : (old mid new : Desk) (timed : Timed) (go : Bool) → Acts old timed go mid → Stays mid new → Acts old timed go new
+acts_stays old mid new timed go acts stays p switch sides qs ql fit body on =
+    let acted = acts p switch sides qs ql fit body on in
+    record { body = stays p _ _ _ _ acted.body; goes_on = acted.goes_on }
 
 -- ---- verdicts
 

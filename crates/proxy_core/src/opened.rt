@@ -15,6 +15,7 @@ use of10_port::{Features, PortStatus};
 use outbox::Outbox;
 use port_view::PortView;
 use std::alloc::{AllocError, Global};
+use switch_side::Spare;
 
 /// How many bytes may wait for a slice's controller.
 const SLICE_LIMIT: u64 = 4_194_304;
@@ -61,7 +62,7 @@ impl Session {
             states: fresh_states(alloc, slices)?,
             queues: empty_queues(alloc, slices.len())?,
             features,
-            room: Vec::new(alloc),
+            spare: Spare::none(alloc),
         })
     }
 }

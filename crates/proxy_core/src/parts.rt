@@ -2,10 +2,10 @@ use crate::indexed::IndexedPolicy;
 use desk_words::Phase;
 use flow_book::SliceState;
 use flowspace::Policy;
-use of10_ctl::Frame;
 use of10_port::Features;
 use outbox::Outbox;
 use port_view::PortView;
+use switch_side::Spare;
 
 /// What there is once the switch has told what it is: its part of the policy with the index of its rules, what
 /// it told of itself first, its known ports, and for each slice of the policy a state and the messages that wait for its controller.
@@ -16,8 +16,8 @@ pub(crate) struct Session {
     pub(crate) ports: PortView,
     pub(crate) states: Vec<SliceState>,
     pub(crate) queues: Vec<Outbox>,
-    /// Memory of the list of messages that the last message of the switch brought.
-    pub(crate) room: Vec<(u8, Frame)>,
+    /// Memory of the last message of the switch, and of the list of messages that one brought.
+    pub(crate) spare: Spare,
 }
 
 /// The desk of one switch. Events are stepped in one after another; the messages that they make wait until

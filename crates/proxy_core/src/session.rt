@@ -13,7 +13,7 @@ use of10_ctl::Frame;
 use outbox::Outbox;
 use std::alloc::{AllocError, Global};
 use std::mem;
-use switch_side::{Dispatch, apply_all, react_in, reserve};
+use switch_side::{Dispatch, Spare, apply_all, react_in, reserve};
 
 impl Session {
     pub(crate) fn has_slot(&self, slot: u8) -> bool
@@ -104,7 +104,7 @@ impl Session {
         if self.states.len() != self.policy.policy().slices().len() {
             return Ok(false);
         }
-        let room = mem::replace(&mut self.room, Vec::new(alloc));
+        let spare = mem::replace(&mut self.spare, Spare::none(alloc));
         let Dispatch {
             to_slices,
             to_switch,
@@ -113,7 +113,7 @@ impl Session {
             close,
         } = react_in(
             alloc,
-            room,
+            spare,
             self.policy.policy(),
             self.policy.index(),
             &self.ports,
@@ -128,7 +128,7 @@ impl Session {
         reserve(&mut self.states, &changes)?;
         keep(&mut self.ports, port)?;
         apply_all(&mut self.states, changes);
-        self.room = hand_out(&mut self.queues, to_slices);
+        self.spare.list = hand_out(&mut self.queues, to_slices);
         push_all(lane, to_switch);
         Ok(true)
     }

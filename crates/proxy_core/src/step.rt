@@ -192,6 +192,28 @@ impl Desk {
         }
     }
 
+    /// Keeps a message's memory for the next one that a slice gets, if there is a session.
+    fn keep(&mut self, frame: Frame)
+        ensures stays { Stays self.old self.new }
+        ensures events { self.new.events ≡ self.old.events }
+    {
+        match &mut self.session {
+            Some(session) => session.spare.message = frame.into_vec(),
+            None => (),
+        }
+    }
+
+    /// A message of the switch, whose memory serves again.
+    fn take_in(&mut self, alloc: Global, frame: Frame) -> Result<bool, AllocError>
+        ensures ok { IfOk result (λ go. (moment : ℕ) → Acts self.old (record { event = SwitchMsg frame; moment = moment }) go self.new) }
+        ensures err { OnErr result (Stays self.old self.new) }
+        ensures events { self.new.events ≡ self.old.events }
+    {
+        let go = self.hear_switch(alloc, &frame)?;
+        self.keep(frame);
+        Ok(go)
+    }
+
     /// The switch's connection ended.
     fn lose_switch(&mut self) -> bool
         ensures acts { (moment : ℕ) → Acts self.old (record { event = SwitchDown; moment = moment }) result self.new }
@@ -261,13 +283,14 @@ impl Desk {
         ensures memory { OnErr result (is_down timed.event ≡ false) }
         ensures events { self.new.events ≡ self.old.events }
     {
-        match &timed.event {
+        let moment = timed.moment;
+        match timed.event {
             Event::SwitchUp => self.greet(alloc),
-            Event::SwitchMsg(frame) => self.hear_switch(alloc, frame),
+            Event::SwitchMsg(frame) => self.take_in(alloc, frame),
             Event::SwitchDown => Ok(self.lose_switch()),
-            Event::SliceUp(slot) => self.greet_slice(alloc, *slot),
-            Event::SliceMsg(slot, frame) => self.hear_slice(alloc, *slot, frame, timed.moment),
-            Event::SliceDown(slot) => Ok(self.lose_slice(*slot)),
+            Event::SliceUp(slot) => self.greet_slice(alloc, slot),
+            Event::SliceMsg(slot, frame) => self.hear_slice(alloc, slot, &frame, moment),
+            Event::SliceDown(slot) => Ok(self.lose_slice(slot)),
         }
     }
 
