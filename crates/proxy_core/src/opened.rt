@@ -97,13 +97,13 @@ pub(crate) fn make_rooms(
 }
 
 /// Takes in what the switch told of one of its ports.
-pub(crate) fn keep(ports: &mut PortView, told: Option<PortStatus>) -> Result<(), AllocError>
-    ensures ok { OnOk result (ports.new ≡ kept_by told ports.old) }
+pub(crate) fn keep(ports: &mut PortView, told: &Option<PortStatus>) -> Result<(), AllocError>
+    ensures ok { OnOk result (ports.new ≡ kept_by told.now ports.old) }
     ensures err { OnErr result (ports.new ≡ ports.old) }
-    ensures memory { OnErr result (IsTrue (is_some told)) }
+    ensures memory { OnErr result (IsTrue (is_some told.now)) }
 {
     if let Some(status) = told {
-        ports.take_status(&status)?;
+        ports.take_status(status)?;
     }
     Ok(())
 }

@@ -12,8 +12,7 @@ use crate::slots::{come, go, hear};
 use of10_ctl::Frame;
 use outbox::Outbox;
 use std::alloc::{AllocError, Global};
-use std::mem;
-use switch_side::{Dispatch, Spare, apply_all, react_in, reserve};
+use switch_side::{Dispatch, apply_all, react_in, reserve};
 
 impl Session {
     pub(crate) fn has_slot(&self, slot: u8) -> bool
@@ -104,29 +103,28 @@ impl Session {
         if self.states.len() != self.policy.policy().slices().len() {
             return Ok(false);
         }
-        let spare = mem::replace(&mut self.spare, Spare::none(alloc));
-        let Dispatch {
-            to_slices,
-            to_switch,
-            changes,
-            port,
-            close,
-        } = react_in(
+        let dispatch = react_in(
             alloc,
-            spare,
+            &mut self.spare,
             self.policy.policy(),
             self.policy.index(),
             &self.ports,
             &self.states,
             frame,
         )?;
-        if close {
+        if dispatch.close {
             return Ok(false);
         }
-        make_room(lane, to_switch.len())?;
-        make_rooms(&mut self.queues, &to_slices)?;
-        reserve(&mut self.states, &changes)?;
-        keep(&mut self.ports, port)?;
+        make_room(lane, dispatch.to_switch.len())?;
+        make_rooms(&mut self.queues, &dispatch.to_slices)?;
+        reserve(&mut self.states, &dispatch.changes)?;
+        keep(&mut self.ports, &dispatch.port)?;
+        let Dispatch {
+            to_slices,
+            to_switch,
+            changes,
+            ..
+        } = dispatch;
         apply_all(&mut self.states, changes);
         self.spare.list = hand_out(&mut self.queues, to_slices);
         push_all(lane, to_switch);

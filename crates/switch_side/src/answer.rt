@@ -40,7 +40,7 @@ fn echo(alloc: Global, xid: u32, body: &[u8]) -> Result<Dispatch, AllocError>
 /// dropped.
 fn follow(
     alloc: Global,
-    spare: Spare,
+    spare: &mut Spare,
     policy: &SwitchPolicy,
     index: &RuleIndex,
     ports: &PortView,
@@ -48,7 +48,6 @@ fn follow(
     xid: u32,
     said: &FromSwitch<'_>,
 ) -> Result<Dispatch, AllocError>
-    requires empty { spare.list.items ≡ [] }
     requires few { length states.now ≤ 32 }
     requires index { index.now ≡ policy.now.rules }
     requires said { IsSaid (said_by said.now) }
@@ -75,14 +74,13 @@ fn follow(
 /// doesn't count its header: that ends the connection.
 fn dispatch(
     alloc: Global,
-    spare: Spare,
+    spare: &mut Spare,
     policy: &SwitchPolicy,
     index: &RuleIndex,
     ports: &PortView,
     states: &[SliceState],
     frame: &Frame,
 ) -> Result<Dispatch, AllocError>
-    requires empty { spare.list.items ≡ [] }
     requires few { length states.now ≤ 32 }
     requires index { index.now ≡ policy.now.rules }
     ensures value { (called : ℕ → Called) → AllCalled called states.now → IfOk result (λ d. carried d ≡ carried_for called policy.now.rules ports.now states.now frame.now) }
@@ -121,22 +119,15 @@ pub fn react(
     requires index { index.now ≡ policy.now.rules }
     ensures dispatch { (p : PolicyView) (switch : KnownSwitch) (sides : ℕ → Side) (moment : ℕ) → Surrounds p switch policy.now ports.now → AllStand p switch sides states.now → AllNumbered p switch sides → IfOk result (IsDispatch p switch sides moment frame.now) }
 {
-    react_in(
-        alloc,
-        Spare::none(alloc),
-        policy,
-        index,
-        ports,
-        states,
-        frame,
-    )
+    let mut spare = Spare::none(alloc);
+    react_in(alloc, &mut spare, policy, index, ports, states, frame)
 }
 
 /// The same, where of a PACKET_IN the messages for slices are listed and the first of them is made in the spare
 /// memory.
 pub fn react_in(
     alloc: Global,
-    mut spare: Spare,
+    spare: &mut Spare,
     policy: &SwitchPolicy,
     index: &RuleIndex,
     ports: &PortView,
@@ -149,6 +140,5 @@ pub fn react_in(
 {
     // A policy has at most 32 slices.
     let _slices = policy.slices();
-    spare.list.clear();
     dispatch(alloc, spare, policy, index, ports, states, frame)
 }

@@ -19,6 +19,7 @@ use of10_flow::protocol::NO_BUFFER;
 use of10_match::Header12;
 use rule_index::RuleIndex;
 use std::alloc::{AllocError, Global};
+use std::mem;
 
 /// Bytes of a probe's mark.
 const MARK: u16 = 8;
@@ -159,23 +160,23 @@ fn put_for_slice(
     }
 }
 
-/// The packet for all slices that are up, in a list that was empty.
+/// The packet for all slices that are up.
 fn put_for_all(
     alloc: Global,
-    mut spare: Spare,
+    spare: &mut Spare,
     states: &[SliceState],
     packet: &PacketInView<'_>,
     audience: Audience,
 ) -> Result<Vec<(u8, Frame)>, AllocError>
-    requires empty { spare.list.items ≡ [] }
     requires few { length states.now ≤ 32 }
     requires fits { 18 + length packet.now.payload.now ≤ 65535 }
     ensures { IfOk result (λ v. v.items ≡ said_from (packet_for audience (packet_of packet.now)) 0 states.now) }
 {
+    spare.list.clear();
     for (place, state) in states.iter().enumerate() {
-        put_for_slice(alloc, &mut spare, place as u8, state, packet, audience)?;
+        put_for_slice(alloc, spare, place as u8, state, packet, audience)?;
     }
-    Ok(spare.list)
+    Ok(mem::replace(&mut spare.list, Vec::new(alloc)))
 }
 
 /// What changes for the slice at a slot where the switch keeps the packet under a number: the writer that is
@@ -233,13 +234,12 @@ fn changes(
 /// What follows from a PACKET_IN. The messages are listed and the first is made in memory that is there already.
 pub(crate) fn packet_in(
     alloc: Global,
-    spare: Spare,
+    spare: &mut Spare,
     policy: &SwitchPolicy,
     index: &RuleIndex,
     states: &[SliceState],
     packet: &PacketInView<'_>,
 ) -> Result<Dispatch, AllocError>
-    requires empty { spare.list.items ≡ [] }
     requires few { length states.now ≤ 32 }
     requires fits { 18 + length packet.now.payload.now ≤ 65535 }
     requires index { index.now ≡ policy.now.rules }
