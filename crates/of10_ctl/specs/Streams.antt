@@ -61,3 +61,11 @@ pub record GivesNext (old : Stream) (next : Next) (new : Stream) : Type 0 where
 -- a frame is there that wasn't given
 abbrev pub HasNext : Stream → Type 0
 HasNext stream = (fed : List ℕ) (given : List (List ℕ)) → Stands stream fed given → (frame : List ℕ) × (frame_in (next_answer fed given) ≡ frame ∷ [])
+
+-- a stream of which a piece came that isn't fed yet
+abbrev pub with_piece : Stream → List ℕ → Stream
+with_piece stream piece = record stream { left = stream.left ++ piece }
+
+-- a stream to which a piece was fed: what comes after a frame of a bad length is of no use
+abbrev pub fed_with : Stream → List ℕ → Stream
+fed_with stream piece = if stream.ended then stream else with_piece stream piece

@@ -1,6 +1,6 @@
 ghost use Rattle.std.specs.Prelude.{◌≡◌, ◌≤◌, ◌+◌, ◌*◌, ◌++◌, ◌∷◌, List, [], ℕ, if◌then◌else◌, false, IfOk, OnOk, OnErr, IfSome, IfNone, length, take, drop};
 ghost use Rattle.of10_ctl.specs.Frames.{IsFrame, is_bad};
-ghost use Rattle.of10_ctl.specs.Streams.{Stands, GivesNext, HasNext, frames_of};
+ghost use Rattle.of10_ctl.specs.Streams.{Stands, GivesNext, HasNext, frames_of, frame_in, fed_with, with_piece};
 
 use crate::frame::{Frame, told_size};
 use std::alloc::{AllocError, Global};
@@ -104,10 +104,11 @@ impl Framer {
     /// memory.
     pub fn feed(&mut self, piece: &[u8]) -> Result<(), AllocError>
         ensures stands { OnOk result ((fed : List ℕ) (given : List (List ℕ)) → Stands self.old fed given → Stands self.new (fed ++ piece.now) given) }
+        ensures value { OnOk result (self.new ≡ fed_with self.old piece.now) }
         ensures unchanged { OnErr result (self.new ≡ self.old) }
         ensures memory { OnErr result (self.old.ended ≡ false) }
     {
-        if self.ended {
+        if self.ended || piece.is_empty() {
             return Ok(());
         }
         self.make_room();
@@ -131,6 +132,7 @@ impl Framer {
         ensures gives { IfOk result (λ next. GivesNext self.old next self.new) }
         ensures unchanged { OnErr result (self.new ≡ self.old) }
         ensures memory { OnErr result (HasNext self.old) }
+        ensures ended { OnErr result (self.old.ended ≡ false) }
     {
         if self.ended {
             return Ok(Next::Ended);
@@ -142,6 +144,53 @@ impl Framer {
         let frame = Frame::of(copied_in(self.alloc, spare, &left[..size])?);
         self.ended = frame.bad_length();
         self.read += size;
+        Ok(Next::Frame(frame))
+    }
+
+    /// Feeds what is left of a piece.
+    fn keep(&mut self, piece: &mut &[u8]) -> Result<(), AllocError>
+        ensures all { OnOk result (piece.new.now ≡ []) }
+        ensures value { OnOk result (self.new ≡ fed_with self.old piece.old.now) }
+        ensures unchanged { OnErr result (self.new ≡ self.old) }
+        ensures piece { OnErr result (piece.new.now ≡ piece.old.now) }
+        ensures memory { OnErr result (self.old.ended ≡ false) }
+    {
+        self.feed(piece)?;
+        *piece = &[];
+        Ok(())
+    }
+
+    /// What [`Framer::next_in`] answers once the piece is fed.
+    #[inline(never)]
+    fn next_fed(&mut self, piece: &mut &[u8], spare: &mut Vec<u8>) -> Result<Next, AllocError>
+        ensures gives { IfOk result (λ next. GivesNext (with_piece self.old piece.old.now) next (with_piece self.new piece.new.now)) }
+        ensures all { IfOk result (λ next. piece.new.now ≡ []) }
+        ensures memory { OnErr result (self.old.ended ≡ false) }
+        ensures stands { OnErr result ((fed : List ℕ) (given : List (List ℕ)) → Stands (with_piece self.old piece.old.now) fed given → Stands (with_piece self.new piece.new.now) fed given) }
+    {
+        self.keep(piece)?;
+        self.next_in(spare)
+    }
+
+    /// What [`Framer::next_in`] would answer once the piece was fed, of which what isn't given yet is left. Where no
+    /// byte waits, a frame is made of the piece's own bytes, which aren't copied before.
+    #[inline(always)]
+    pub fn next_of(&mut self, piece: &mut &[u8], spare: &mut Vec<u8>) -> Result<Next, AllocError>
+        ensures gives { IfOk result (λ next. GivesNext (with_piece self.old piece.old.now) next (with_piece self.new piece.new.now)) }
+        ensures all { IfOk result (λ next. frame_in next ≡ [] → piece.new.now ≡ []) }
+        ensures memory { OnErr result (self.old.ended ≡ false) }
+        ensures stands { OnErr result ((fed : List ℕ) (given : List (List ℕ)) → Stands (with_piece self.old piece.old.now) fed given → Stands (with_piece self.new piece.new.now) fed given) }
+    {
+        if self.ended || self.read < self.bytes.len() {
+            return self.next_fed(piece, spare);
+        }
+        let Some(size) = first_size(piece) else {
+            self.keep(piece)?;
+            return Ok(Next::NeedMore);
+        };
+        let frame = Frame::of(copied_in(self.alloc, spare, &piece[..size])?);
+        self.ended = frame.bad_length();
+        *piece = &piece[size..];
         Ok(Next::Frame(frame))
     }
 }

@@ -12,4 +12,4 @@ mod messages;
 pub use frame::{Frame, is_frame};
 pub use framer::{Framer, Next};
 pub use head::Head;
-pub use messages::{begin, begin_in, echo_reply, error_frame, message};
+pub use messages::{begin, echo_reply, error_frame, header, message};

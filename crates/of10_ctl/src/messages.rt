@@ -13,8 +13,8 @@ use std::alloc::{AllocError, Global};
 /// at least 64).
 const CAUSE: usize = 64;
 
-/// The header of a message of version 1 that has so many bytes in all.
-fn head(kind: u8, xid: u32, length: u16) -> [u8; 8]
+/// The header of a message of version 1 that has so many bytes in all (OpenFlow 1.0.0, section 5.1).
+pub fn header(kind: u8, xid: u32, length: u16) -> [u8; 8]
     ensures { result ≡ head_bytes kind length xid }
 {
     let mut head = [1, kind, 0, 0, 0, 0, 0, 0];
@@ -29,18 +29,8 @@ pub fn begin(alloc: Global, kind: u8, xid: u32, body: usize) -> Result<Vec<u8>, 
     ensures value { IfOk result (λ v. v.items ≡ head_bytes kind (8 + body) xid) }
     ensures room { IfOk result (λ v. 8 + body ≤ vec_capacity v) }
 {
-    begin_in(Vec::new(alloc), kind, xid, body)
-}
-
-/// The same in memory that is there already, as far as it reaches.
-pub fn begin_in(mut bytes: Vec<u8>, kind: u8, xid: u32, body: usize) -> Result<Vec<u8>, AllocError>
-    requires { body ≤ 65527 }
-    ensures value { IfOk result (λ v. v.items ≡ head_bytes kind (8 + body) xid) }
-    ensures room { IfOk result (λ v. 8 + body ≤ vec_capacity v) }
-{
-    bytes.clear();
-    bytes.reserve_exact(8 + body)?;
-    bytes.extend_from_slice(&head(kind, xid, HEADER + body as u16))?;
+    let mut bytes = Vec::with_capacity(alloc, 8 + body)?;
+    bytes.extend_from_slice(&header(kind, xid, HEADER + body as u16))?;
     Ok(bytes)
 }
 

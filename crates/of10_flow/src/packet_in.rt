@@ -4,12 +4,13 @@ ghost use Rattle.of10_action.specs.declared.fault.DecodeFault.TheVariants.{Memor
 ghost use Rattle.of10_action.specs.Actions.{padding};
 ghost use Rattle.of10_action.specs.Reading.{Gives, Reads};
 ghost use Rattle.of10_ctl.specs.declared.kind.TheConstants.{PACKET_IN};
+ghost use Rattle.of10_ctl.specs.Heads.{head_bytes};
 ghost use Rattle.of10_ctl.specs.Kinds.{IsOf};
 ghost use Rattle.of10_flow.specs.PacketIns.{IsPacketIn, packet_of, read_packet_in, spell_packet_in};
 
 use of10_action::{Bytes, DecodeFault, WireFault};
 use of10_ctl::kind::PACKET_IN;
-use of10_ctl::{Frame, begin_in};
+use of10_ctl::{Frame, header};
 use of10_model::wire::{set_u16, set_u32, u8_at, u16_at, u32_at};
 use std::alloc::{AllocError, Global};
 
@@ -76,6 +77,18 @@ fn fields(packet: &PacketInView<'_>) -> [u8; 10]
     fields
 }
 
+/// What stands before the packet.
+fn front(packet: &PacketInView<'_>) -> [u8; 18]
+    requires { 18 + length packet.now.payload.now ≤ 65535 }
+    ensures { result ≡ head_bytes PACKET_IN (18 + length packet.now.payload.now) packet.now.xid ++ (big_bytes 4 packet.now.buffer ++ big_bytes 2 packet.now.total_len ++ big_bytes 2 packet.now.in_port ++ big_bytes 1 packet.now.reason ++ padding 1) }
+{
+    let mut front = [0; 18];
+    let size = 18 + packet.payload.len() as u16;
+    front[..8].copy_from_slice(&header(PACKET_IN, packet.xid, size));
+    front[8..].copy_from_slice(&fields(packet));
+    front
+}
+
 impl<'a> PacketInView<'a> {
     /// The packet-in that the frame is, or its length where it is shorter than its fields. Takes no memory.
     pub fn decode(frame: &'a Frame) -> Result<PacketInView<'a>, WireFault>
@@ -99,16 +112,18 @@ impl<'a> PacketInView<'a> {
 
     /// The same in memory that is there already, as far as it reaches.
     #[tactic(auto, unfolding(crate::specs::PacketIns::spell_packet_in))]
-    pub fn encode_in(&self, memory: Vec<u8>) -> Result<Frame, AllocError>
+    #[inline(always)]
+    pub fn encode_in(&self, mut memory: Vec<u8>) -> Result<Frame, AllocError>
         requires { 18 + length self.now.payload.now ≤ 65535 }
         ensures value { IfOk result (λ f. f ≡ spell_packet_in (packet_of self.now)) }
         ensures kind { IfOk result (λ f. IsOf PACKET_IN f) }
         ensures size { IfOk result (λ f. length f ≡ 18 + length self.now.payload.now) }
     {
-        let mut out = begin_in(memory, PACKET_IN, self.xid, 10 + self.payload.len())?;
-        out.extend_from_slice(&fields(self))?;
-        out.extend_from_slice(self.payload)?;
-        Ok(Frame::of(out))
+        memory.clear();
+        memory.reserve_exact(18 + self.payload.len())?;
+        memory.extend_from_slice(&front(self))?;
+        memory.extend_from_slice(self.payload)?;
+        Ok(Frame::of(memory))
     }
 
     /// The same with a copy of the payload.
