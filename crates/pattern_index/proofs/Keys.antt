@@ -13,7 +13,7 @@ use Rattle.of10_model.specs.Header.{Header}
 use Rattle.of10_model.specs.Normal.{IsPrefix, IsInRange}
 use Rattle.of10_model.specs.Exact.{exact_of}
 use Rattle.of10_model.specs.Inclusion.{covers, covers_prefix, includes_of}
-use Rattle.pattern_index.specs.Keys.{bits_of, shape_of, given, given_prefix, gives, picked, leading_key, key_of, key_cmp}
+use Rattle.pattern_index.specs.Keys.{bits_of, shape_of, given_field, given_prefix, gives, picked, leading_key, key_of, key_cmp}
 
 -- ---- fields
 
@@ -31,7 +31,7 @@ same_multiple n x y above =
     (λ e. eq-eqb _ _ (sym (mul-div_cancel x above) ∙ ap (λ k. k / n) (eqb-true (x * n) (y * n) e) ∙ mul-div_cancel y above))
     (λ e. eq-eqb _ _ (ap (λ k. k * n) (eqb-true x y e)))
 
-field_tied : (c d : Option ℕ) → (given (is_some c) (is_some d) && is_eq (nat_cmp (picked (is_some c) c) (picked (is_some c) d))) ≡ covers c d
+field_tied : (c d : Option ℕ) → (given_field (is_some c) (is_some d) && is_eq (nat_cmp (picked (is_some c) c) (picked (is_some c) d))) ≡ covers c d
 field_tied None d = refl
 field_tied (Some v) None = refl
 field_tied (Some v) (Some w) = same_number v w
@@ -54,7 +54,7 @@ then_tied : (g gs : Bool) (a o : Ordering) (c cs : Bool) → (g && is_eq a) ≡ 
 then_tied g gs a o c cs own others = ap (λ b. (g && gs) && b) (sym (tied_then a o)) ∙ paired g gs (is_eq a) (is_eq o) c cs own others
 
 -- the same tests in another order
-reordered : (a b c d e f g h i j k l : Bool) → (j && (i && (l && (k && (c && (b && (a && (d && (e && (f && (h && g))))))))))) ≡ (a && b && c && d && e && f && g && h && i && j && k && l)
+reordered : (a b c d e f g h i j k l : Bool) → (j && (i && (l && (k && (a && (d && (c && (b && (f && (e && (h && g))))))))))) ≡ (a && b && c && d && e && f && g && h && i && j && k && l)
 reordered a b c d e f g h i j k l = grind arith
 
 pub key_tied : (r m : Pattern) → (gives (shape_of r) m && is_eq (key_cmp (key_of (shape_of r) r) (key_of (shape_of r) m))) ≡ includes_of r m
@@ -64,12 +64,12 @@ key_tied r m =
     (then_tied _ _ _ _ _ _ (prefix_tied r.nw_src m.nw_src)
     (then_tied _ _ _ _ _ _ (field_tied r.tp_dst m.tp_dst)
     (then_tied _ _ _ _ _ _ (field_tied r.tp_src m.tp_src)
-    (then_tied _ _ _ _ _ _ (field_tied r.dl_dst m.dl_dst)
-    (then_tied _ _ _ _ _ _ (field_tied r.dl_src m.dl_src)
     (then_tied _ _ _ _ _ _ (field_tied r.in_port m.in_port)
     (then_tied _ _ _ _ _ _ (field_tied r.dl_vlan m.dl_vlan)
-    (then_tied _ _ _ _ _ _ (field_tied r.dl_vlan_pcp m.dl_vlan_pcp)
+    (then_tied _ _ _ _ _ _ (field_tied r.dl_dst m.dl_dst)
+    (then_tied _ _ _ _ _ _ (field_tied r.dl_src m.dl_src)
     (then_tied _ _ _ _ _ _ (field_tied r.dl_type m.dl_type)
+    (then_tied _ _ _ _ _ _ (field_tied r.dl_vlan_pcp m.dl_vlan_pcp)
     (then_tied _ _ _ _ _ _ (field_tied r.nw_proto m.nw_proto)
     (field_tied r.nw_tos m.nw_tos))))))))))))
     ∙ reordered (covers r.in_port m.in_port) (covers r.dl_src m.dl_src) (covers r.dl_dst m.dl_dst) (covers r.dl_vlan m.dl_vlan) (covers r.dl_vlan_pcp m.dl_vlan_pcp) (covers r.dl_type m.dl_type) (covers r.nw_tos m.nw_tos) (covers r.nw_proto m.nw_proto) (covers_prefix r.nw_src m.nw_src) (covers_prefix r.nw_dst m.nw_dst) (covers r.tp_src m.tp_src) (covers r.tp_dst m.tp_dst)

@@ -9,7 +9,7 @@ use Rattle.of10_model.specs.Header.{Header, IsHeader}
 use Rattle.of10_model.specs.Exact.{exact_of}
 use Rattle.pattern_index.specs.declared.shape.Shape.{Shape}
 use Rattle.pattern_index.specs.declared.header_shape.Masks.{Masks}
-use Rattle.pattern_index.specs.Keys.{given, given_prefix, gives, picked, leading_part, key_of}
+use Rattle.pattern_index.specs.Keys.{given_field, given_prefix, gives, picked, leading_part, key_of}
 use Rattle.pattern_index.specs.Masks.{ones, leading_ones, masks_of}
 
 masked : (width : ℕ) (has : Bool) (x : ℕ) → x < 2 ^ width → bit_and x (ones width has) ≡ picked has (Some x)
@@ -58,7 +58,7 @@ key_masked s masks h are range =
 
 -- ---- headers give each field, and whole addresses
 
-given_some : (has : Bool) → given has true ≡ true
+given_some : (has : Bool) → given_field has true ≡ true
 given_some true = refl
 given_some false = refl
 

@@ -12,7 +12,8 @@ use Rattle.of10_model.specs.declared.pattern.Pattern.{Pattern}
 use Rattle.of10_model.specs.Inclusion.{includes_of}
 use Rattle.pattern_index.specs.declared.shape.Shape.{Shape}
 use Rattle.pattern_index.specs.declared.key.Key.{Key}
-use Rattle.pattern_index.specs.Keys.{shape_of, gives, key_of, key_cmp}
+use Rattle.pattern_index.specs.declared.key.EqualFirst.{EqualFirst}
+use Rattle.pattern_index.specs.Keys.{shape_of, gives, key_of, key_cmp, kept_cmp}
 use Rattle.pattern_index.specs.Groups.{lesser_place}
 use Rattle.pattern_index.proofs.Keys.{key_tied}
 
@@ -30,13 +31,13 @@ same_keys a b e =
     let nw_src = then_parts (nat_cmp a.nw_src b.nw_src) _ nw_dst.1 in
     let tp_dst = then_parts (nat_cmp a.tp_dst b.tp_dst) _ nw_src.1 in
     let tp_src = then_parts (nat_cmp a.tp_src b.tp_src) _ tp_dst.1 in
-    let dl_dst = then_parts (nat_cmp a.dl_dst b.dl_dst) _ tp_src.1 in
-    let dl_src = then_parts (nat_cmp a.dl_src b.dl_src) _ dl_dst.1 in
-    let in_port = then_parts (nat_cmp a.in_port b.in_port) _ dl_src.1 in
+    let in_port = then_parts (nat_cmp a.in_port b.in_port) _ tp_src.1 in
     let dl_vlan = then_parts (nat_cmp a.dl_vlan b.dl_vlan) _ in_port.1 in
-    let dl_vlan_pcp = then_parts (nat_cmp a.dl_vlan_pcp b.dl_vlan_pcp) _ dl_vlan.1 in
-    let dl_type = then_parts (nat_cmp a.dl_type b.dl_type) _ dl_vlan_pcp.1 in
-    let nw_proto = then_parts (nat_cmp a.nw_proto b.nw_proto) (nat_cmp a.nw_tos b.nw_tos) dl_type.1 in
+    let dl_dst = then_parts (nat_cmp a.dl_dst b.dl_dst) _ dl_vlan.1 in
+    let dl_src = then_parts (nat_cmp a.dl_src b.dl_src) _ dl_dst.1 in
+    let dl_type = then_parts (nat_cmp a.dl_type b.dl_type) _ dl_src.1 in
+    let dl_vlan_pcp = then_parts (nat_cmp a.dl_vlan_pcp b.dl_vlan_pcp) _ dl_type.1 in
+    let nw_proto = then_parts (nat_cmp a.nw_proto b.nw_proto) (nat_cmp a.nw_tos b.nw_tos) dl_vlan_pcp.1 in
     rw (
       same_number a.nw_dst b.nw_dst nw_dst.0,
       same_number a.nw_src b.nw_src nw_src.0,
@@ -62,21 +63,25 @@ put_at true true b least place own there agree same e = rw (← agree) (e ∙ ap
 put_at true false b least place own there agree same e = rw (← agree) refl
 put_at false tied b least place own there agree same e = rw (← agree) refl
 
-own_key : (r m : Pattern) (shape : Shape) (key : Key) → shape ≡ shape_of r → key ≡ key_of shape r → (gives shape m && is_at (key_cmp key) (key_of shape m)) ≡ includes_of r m
+abbrev keep : Key → EqualFirst Key
+keep key = record { value = key }
+
+own_key : (r m : Pattern) (shape : Shape) (key : Key) → shape ≡ shape_of r → key ≡ key_of shape r → (gives shape m && is_at (kept_cmp (keep key)) (keep (key_of shape m))) ≡ includes_of r m
 own_key r m shape key is_shape is_key =
     ap (λ k. gives shape m && is_eq (key_cmp k (key_of shape m))) is_key ∙ ap (λ s. gives s m && is_eq (key_cmp (key_of s r) (key_of s m))) is_shape ∙ key_tied r m
 
 -- what a map of keys has for a match
-abbrev pub found_in : BTreeMap Key ℕ → Shape → Pattern → Option ℕ
-found_in places shape m = if gives shape m then get key_cmp places (key_of shape m) else None
+abbrev pub found_in : BTreeMap (EqualFirst Key) ℕ → Shape → Pattern → Option ℕ
+found_in places shape m = if gives shape m then get kept_cmp places (keep (key_of shape m)) else None
 
-pub put_in : (r : Pattern) (place least : ℕ) (shape : Shape) (key : Key) (old new : BTreeMap Key ℕ) → shape ≡ shape_of r → key ≡ key_of shape r → Some least ≡ lesser_place (Some place) (get key_cmp old key)
-    → ((q : Key) → get key_cmp new q ≡ cond (is_at (key_cmp key) q) (Some least) (get key_cmp old q))
+pub put_in : (r : Pattern) (place least : ℕ) (shape : Shape) (key : Key) (old new : BTreeMap (EqualFirst Key) ℕ) → shape ≡ shape_of r → key ≡ key_of shape r → Some least ≡ lesser_place (Some place) (get kept_cmp old (keep key))
+    → ((q : EqualFirst Key) → get kept_cmp new q ≡ cond (is_at (kept_cmp (keep key)) q) (Some least) (get kept_cmp old q))
     → (m : Pattern) → found_in new shape m ≡ (if includes_of r m then lesser_place (Some place) (found_in old shape m) else found_in old shape m)
 put_in r place least shape key old new is_shape is_key is_least updated m =
-    ap (λ o. if gives shape m then o else None) (updated (key_of shape m))
-    ∙ put_at (gives shape m) (is_at (key_cmp key) (key_of shape m)) (includes_of r m) least place (get key_cmp old key) (get key_cmp old (key_of shape m)) (own_key r m shape key is_shape is_key)
-    (λ tied. ap (get key_cmp old) (same_keys key (key_of shape m) tied)) is_least
+    let asked = keep (key_of shape m) in
+    ap (λ o. if gives shape m then o else None) (updated asked)
+    ∙ put_at (gives shape m) (is_at (kept_cmp (keep key)) asked) (includes_of r m) least place (get kept_cmp old (keep key)) (get kept_cmp old asked) (own_key r m shape key is_shape is_key)
+    (λ tied. ap (λ k. get kept_cmp old (keep k)) (same_keys key (key_of shape m) tied)) is_least
 
 -- nothing is found in an empty map
 put_alone : (given tied b : Bool) (place : ℕ) → (given && tied) ≡ b → (if given then cond tied (Some place) None else None) ≡ (if b then Some place else None)
@@ -84,12 +89,13 @@ put_alone true true b place agree = rw (← agree) refl
 put_alone true false b place agree = rw (← agree) refl
 put_alone false tied b place agree = rw (← agree) refl
 
-pub put_first : (r : Pattern) (place : ℕ) (shape : Shape) (key : Key) (old new : BTreeMap Key ℕ) → shape ≡ shape_of r → key ≡ key_of shape r → old.entries ≡ []
-    → ((q : Key) → get key_cmp new q ≡ cond (is_at (key_cmp key) q) (Some place) (get key_cmp old q))
+pub put_first : (r : Pattern) (place : ℕ) (shape : Shape) (key : Key) (old new : BTreeMap (EqualFirst Key) ℕ) → shape ≡ shape_of r → key ≡ key_of shape r → old.entries ≡ []
+    → ((q : EqualFirst Key) → get kept_cmp new q ≡ cond (is_at (kept_cmp (keep key)) q) (Some place) (get kept_cmp old q))
     → (m : Pattern) → found_in new shape m ≡ (if includes_of r m then Some place else None)
 put_first r place shape key old new is_shape is_key empty updated m =
-    ap (λ o. if gives shape m then o else None) (updated (key_of shape m) ∙ ap (λ es. cond (is_at (key_cmp key) (key_of shape m)) (Some place) (lookup (is_at (key_cmp (key_of shape m))) es)) empty)
-    ∙ put_alone (gives shape m) (is_at (key_cmp key) (key_of shape m)) (includes_of r m) place (own_key r m shape key is_shape is_key)
+    let asked = keep (key_of shape m) in
+    ap (λ o. if gives shape m then o else None) (updated asked ∙ ap (λ es. cond (is_at (kept_cmp (keep key)) asked) (Some place) (lookup (is_at (kept_cmp asked)) es)) empty)
+    ∙ put_alone (gives shape m) (is_at (kept_cmp (keep key)) asked) (includes_of r m) place (own_key r m shape key is_shape is_key)
 
 -- ---- shapes that are one
 

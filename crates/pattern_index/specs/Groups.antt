@@ -4,11 +4,11 @@ use Rattle.std.specs.BTreeMap.{get}
 use Rattle.of10_model.specs.declared.pattern.Pattern.{Pattern}
 use Rattle.of10_model.specs.Inclusion.{includes_of}
 use Rattle.pattern_index.specs.declared.group.Group.{Group}
-use Rattle.pattern_index.specs.Keys.{gives, key_of, key_cmp}
+use Rattle.pattern_index.specs.Keys.{gives, key_of, kept_cmp}
 
 -- what a group has for a match: the place that is kept for its values in the fields of the group, if it constrains them all
 abbrev pub finds : Group → Pattern → Option ℕ
-finds group m = if gives group.shape m then get key_cmp group.places (key_of group.shape m) else None
+finds group m = if gives group.shape m then get kept_cmp group.places (record { value = key_of group.shape m }) else None
 
 -- the lesser of two places, of which either may be missing
 abbrev pub lesser_place : Option ℕ → Option ℕ → Option ℕ

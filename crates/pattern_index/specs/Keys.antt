@@ -6,6 +6,7 @@ use Rattle.of10_model.specs.declared.pattern.Prefix.{Prefix}
 use Rattle.of10_model.specs.declared.pattern.Pattern.{Pattern}
 use Rattle.pattern_index.specs.declared.shape.Shape.{Shape}
 use Rattle.pattern_index.specs.declared.key.Key.{Key}
+use Rattle.pattern_index.specs.declared.key.EqualFirst.{EqualFirst}
 
 -- how many leading bits of an address a match gives
 abbrev pub bits_of : Option Prefix → Option ℕ
@@ -30,9 +31,9 @@ shape_of m = record {
 }
 
 -- a field that a shape has is constrained
-abbrev pub given : Bool → Bool → Bool
-given true constrained = constrained
-given false constrained = true
+abbrev pub given_field : Bool → Bool → Bool
+given_field true constrained = constrained
+given_field false constrained = true
 
 -- and as many leading bits of an address as a shape has
 abbrev pub given_prefix : Option ℕ → Option Prefix → Bool
@@ -43,9 +44,9 @@ given_prefix (Some bits) (Some p) = leb bits p.bits
 -- whether a match constrains all fields of a shape
 unfoldable pub gives : Shape → Pattern → Bool
 gives s m =
-    given_prefix s.nw_dst m.nw_dst && (given_prefix s.nw_src m.nw_src && (given s.tp_dst (is_some m.tp_dst) && (given s.tp_src (is_some m.tp_src) && (
-    given s.dl_dst (is_some m.dl_dst) && (given s.dl_src (is_some m.dl_src) && (given s.in_port (is_some m.in_port) && (given s.dl_vlan (is_some m.dl_vlan) && (
-    given s.dl_vlan_pcp (is_some m.dl_vlan_pcp) && (given s.dl_type (is_some m.dl_type) && (given s.nw_proto (is_some m.nw_proto) && given s.nw_tos (is_some m.nw_tos)))))))))))
+    given_prefix s.nw_dst m.nw_dst && (given_prefix s.nw_src m.nw_src && (given_field s.tp_dst (is_some m.tp_dst) && (given_field s.tp_src (is_some m.tp_src) && (
+    given_field s.in_port (is_some m.in_port) && (given_field s.dl_vlan (is_some m.dl_vlan) && (given_field s.dl_dst (is_some m.dl_dst) && (given_field s.dl_src (is_some m.dl_src) && (
+    given_field s.dl_type (is_some m.dl_type) && (given_field s.dl_vlan_pcp (is_some m.dl_vlan_pcp) && (given_field s.nw_proto (is_some m.nw_proto) && given_field s.nw_tos (is_some m.nw_tos)))))))))))
 
 -- the value of a field that a shape has, and zero for another
 abbrev pub picked : Bool → Option ℕ → ℕ
@@ -83,6 +84,10 @@ key_of s m = record {
 abbrev pub key_cmp : Key → Key → Ordering
 key_cmp a b =
     ordering_then (nat_cmp a.nw_dst b.nw_dst) (ordering_then (nat_cmp a.nw_src b.nw_src) (ordering_then (nat_cmp a.tp_dst b.tp_dst) (
-    ordering_then (nat_cmp a.tp_src b.tp_src) (ordering_then (nat_cmp a.dl_dst b.dl_dst) (ordering_then (nat_cmp a.dl_src b.dl_src) (
-    ordering_then (nat_cmp a.in_port b.in_port) (ordering_then (nat_cmp a.dl_vlan b.dl_vlan) (ordering_then (nat_cmp a.dl_vlan_pcp b.dl_vlan_pcp) (
-    ordering_then (nat_cmp a.dl_type b.dl_type) (ordering_then (nat_cmp a.nw_proto b.nw_proto) (nat_cmp a.nw_tos b.nw_tos)))))))))))
+    ordering_then (nat_cmp a.tp_src b.tp_src) (ordering_then (nat_cmp a.in_port b.in_port) (ordering_then (nat_cmp a.dl_vlan b.dl_vlan) (
+    ordering_then (nat_cmp a.dl_dst b.dl_dst) (ordering_then (nat_cmp a.dl_src b.dl_src) (ordering_then (nat_cmp a.dl_type b.dl_type) (
+    ordering_then (nat_cmp a.dl_vlan_pcp b.dl_vlan_pcp) (ordering_then (nat_cmp a.nw_proto b.nw_proto) (nat_cmp a.nw_tos b.nw_tos)))))))))))
+
+-- the same of keys as they are kept
+abbrev pub kept_cmp : EqualFirst Key → EqualFirst Key → Ordering
+kept_cmp a b = key_cmp a.value b.value

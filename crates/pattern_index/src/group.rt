@@ -7,7 +7,7 @@ ghost use Rattle.pattern_index.specs.Keys.{shape_of};
 ghost use Rattle.pattern_index.specs.Groups.{finds, least_of, lesser_place, HasPut, HasAsBefore, HavePut, HaveAsBefore};
 
 use crate::header_shape::HeaderShape;
-use crate::key::{Key, gives, key_of};
+use crate::key::{EqualFirst, Key, gives, key_of};
 use crate::shape::{Shape, is_same_shape, shape_of};
 use of10_match::Header12;
 use of10_model::Pattern;
@@ -19,7 +19,7 @@ use std::collections::BTreeMap;
 pub(crate) struct Group {
     shape: HeaderShape,
     /// The least place of the patterns that have these values.
-    places: BTreeMap<Key, u16>,
+    places: BTreeMap<EqualFirst<Key>, u16>,
 }
 
 /// The lesser of a place and of one that may be kept already.
@@ -38,7 +38,8 @@ impl Group {
         ensures { result ≡ finds self.now m.now }
     {
         if gives(self.shape.shape(), m) {
-            self.places.get(&key_of(self.shape.shape(), m)).copied()
+            let value = key_of(self.shape.shape(), m);
+            self.places.get(&EqualFirst { value }).copied()
         } else {
             None
         }
@@ -49,7 +50,8 @@ impl Group {
         ensures { result ≡ finds self.now (exact_of h.now) }
     {
         if self.shape.is_of_headers() {
-            self.places.get(&self.shape.key(h)).copied()
+            let value = self.shape.key(h);
+            self.places.get(&EqualFirst { value }).copied()
         } else {
             None
         }
@@ -61,7 +63,8 @@ impl Group {
     {
         let shape = shape_of(m);
         let mut places = BTreeMap::new(alloc);
-        places.insert(key_of(&shape, m), place)?;
+        let value = key_of(&shape, m);
+        places.insert(EqualFirst { value }, place)?;
         Ok(Group {
             shape: HeaderShape::of(shape),
             places,
@@ -74,7 +77,8 @@ impl Group {
         ensures put { OnOk result (HasPut m.now place (finds self.old) self.new) }
         ensures kept { OnErr result (HasAsBefore self.old self.new) }
     {
-        let key = key_of(self.shape.shape(), m);
+        let value = key_of(self.shape.shape(), m);
+        let key = EqualFirst { value };
         let least = no_later(self.places.get(&key).copied(), place);
         self.places.insert(key, least)?;
         Ok(())
@@ -135,6 +139,7 @@ pub(crate) fn least_of(groups: &[Group], m: &Pattern) -> Option<u16>
 }
 
 /// The least place of the patterns in the groups that have the header.
+#[inline(always)]
 pub(crate) fn least_of_header(groups: &[Group], h: &Header12) -> Option<u16>
     ensures { result ≡ least_of groups.now (exact_of h.now) }
 {

@@ -39,6 +39,7 @@ impl PatternIndex {
     }
 
     /// The least place of the patterns that have the header.
+    #[inline(always)]
     pub fn least_of_header(&self, h: &Header12) -> Option<u16>
         ensures { (kept : List PlacedPattern) → StandsFor kept self.now → result ≡ least_place kept (exact_of h.now) }
     {
