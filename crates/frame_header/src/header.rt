@@ -11,6 +11,7 @@ use of10_match::Header12;
 /// proxy's own rule). At most one VLAN tag is read; an untagged packet has the VLAN 0xffff, and an
 /// 802.3 frame without SNAP the type 0x05ff.
 #[tactic(auto, unfolding(crate::specs::Headers::header_of_packet))]
+#[inline(always)]
 pub fn header_of(in_port: u16, bytes: &[u8]) -> Header12
     ensures value { result ≡ header_of_packet in_port bytes.now }
     ensures kind { result.dl_type ≡ dl_type_of bytes.now }

@@ -9,7 +9,12 @@ use Rattle.of10_action.specs.declared.fault.WireFault.TheVariants.{Length}
 use Rattle.of10_ctl.specs.declared.kind.TheConstants.{FEATURES_REPLY}
 use Rattle.of10_ctl.specs.Frames.{message_of}
 use Rattle.of10_port.specs.declared.features.Features.{Features}
+use Rattle.of10_port.specs.declared.features.FeaturesView.{FeaturesView}
 use Rattle.of10_port.specs.Ports.{IsPort, port_bytes, ports_in}
+
+-- what a view of features shows
+abbrev pub features_of : FeaturesView → Features
+features_of view = record { datapath = view.datapath; buffers = view.buffers; tables = view.tables; capabilities = view.capabilities; actions = view.actions; ports = view.ports.now }
 
 -- each field lies in the range of its place, and the ports fit a message (section 5.3.1)
 pub record IsFeatures (f : Features) : Type 0 where

@@ -8,6 +8,6 @@ mod port;
 pub mod protocol;
 mod status;
 
-pub use features::{Features, has_whole_ports};
+pub use features::{Features, FeaturesView, has_whole_ports};
 pub use port::{Port, Ports};
 pub use status::{PortStatus, PortStatusView};

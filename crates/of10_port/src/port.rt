@@ -1,6 +1,5 @@
-ghost use Rattle.std.specs.Prelude.{◌≡◌, ◌++◌, ◌*◌, ◌/◌, IfOk, OnOk, length};
-ghost use Rattle.std.specs.List.{All};
-ghost use Rattle.of10_port.specs.Ports.{IsPort, port_number, port_config, port_bytes, ports_in};
+ghost use Rattle.std.specs.Prelude.{◌≡◌, ◌++◌, ◌*◌, IfOk, OnOk, length};
+ghost use Rattle.of10_port.specs.Ports.{IsPort, port_number, port_config, port_bytes};
 
 use of10_model::wire::{u16_at, u32_at};
 use std::alloc::{AllocError, Global};
@@ -97,21 +96,6 @@ impl Ports {
     {
         self.items
     }
-}
-
-/// The ports that the bytes describe one after the other.
-#[tactic(auto, unfolding(crate::specs::Ports::ports_in))]
-pub(crate) fn read_ports(alloc: Global, bytes: &[u8]) -> Result<Ports, AllocError>
-    ensures value { IfOk result (λ p. p ≡ ports_in bytes.now) }
-    ensures ports { IfOk result (λ p. All IsPort p) }
-    ensures count { IfOk result (λ p. length p ≡ length bytes.now / 48) }
-{
-    let (raws, _) = bytes.as_chunks::<48>();
-    let mut ports = Vec::with_capacity(alloc, raws.len())?;
-    for raw in raws {
-        ports.push(Port::of(*raw))?;
-    }
-    Ok(Ports::from_vec(ports))
 }
 
 /// Appends the bytes of the ports.

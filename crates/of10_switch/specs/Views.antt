@@ -5,17 +5,12 @@ use Rattle.of10_config.specs.Queues.{queues_of_view}
 use Rattle.of10_flow.specs.FlowRemoveds.{removal_of}
 use Rattle.of10_flow.specs.PacketIns.{packet_of}
 use Rattle.of10_port.specs.PortStatus.{status_of}
-use Rattle.of10_port.specs.declared.features.Features.{Features}
+use Rattle.of10_port.specs.Features.{features_of}
 use Rattle.of10_message.specs.declared.fault.Unread.{Unread}
 use Rattle.of10_message.specs.Errors.{error_of_view}
-use Rattle.of10_switch.specs.declared.features.FeaturesView.{FeaturesView}
 use Rattle.of10_switch.specs.declared.message.FromSwitch.{FromSwitch}
 use Rattle.of10_switch.specs.declared.message.FromSwitch.TheVariants as views
 use Rattle.of10_switch.specs.Messages.{SwitchMessage, Hello, Error, EchoRequest, EchoReply, Vendor, FeaturesReply, GetConfigReply, PacketIn, FlowRemoved, PortStatus, StatsReply, BarrierReply, QueueGetConfigReply}
-
--- what a view of features shows
-abbrev pub features_of : FeaturesView → Features
-features_of view = record { datapath = view.datapath; buffers = view.buffers; tables = view.tables; capabilities = view.capabilities; actions = view.actions; ports = view.ports.now }
 
 -- what a view of a message shows
 abbrev pub said_by : FromSwitch → SwitchMessage

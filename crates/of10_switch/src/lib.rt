@@ -2,11 +2,9 @@
 //! bytes.
 #![tactic(auto)]
 
-mod features;
 pub mod laws;
 mod message;
 mod reading;
 
-pub use features::FeaturesView;
 pub use message::FromSwitch;
 pub use reading::read_switch;

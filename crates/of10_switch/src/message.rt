@@ -1,8 +1,7 @@
-use crate::features::FeaturesView;
 use of10_config::{QueuesView, SwitchConfig};
 use of10_flow::{FlowRemovedView, PacketInView};
 use of10_message::ErrorView;
-use of10_port::PortStatusView;
+use of10_port::{FeaturesView, PortStatusView};
 use of10_stats::StatsPart;
 
 /// A message that a switch sends (OpenFlow 1.0.0, section 5), but for its head, where it lies.

@@ -18,7 +18,6 @@ ghost use Rattle.of10_switch.specs.Messages as said;
 ghost use Rattle.of10_switch.specs.Views.{said_by, ReadsAsSaid};
 ghost use Rattle.of10_switch.specs.Ranges.{IsSaid};
 
-use crate::features::FeaturesView;
 use crate::message::FromSwitch;
 use of10_action::WireFault;
 use of10_config::{QueuesView, SwitchConfig};
@@ -29,7 +28,7 @@ use of10_ctl::kind::{
 };
 use of10_flow::{FlowRemovedView, PacketInView};
 use of10_message::{ErrorView, Unread, is_bare};
-use of10_port::PortStatusView;
+use of10_port::{FeaturesView, PortStatusView};
 use of10_stats::part;
 
 fn error(frame: &Frame) -> Result<FromSwitch<'_>, Unread>
@@ -132,6 +131,7 @@ fn queues(frame: &Frame) -> Result<FromSwitch<'_>, Unread>
 
 /// A message of version 1 that is no HELLO, by its type.
 #[tactic(auto, unfolding(crate::specs::Messages::read_sent))]
+#[inline(always)]
 fn sent(frame: &Frame) -> Result<FromSwitch<'_>, Unread>
     requires version { version_of frame.now ≡ 1 }
     requires length { is_bad frame.now ≡ false }
@@ -159,6 +159,7 @@ fn sent(frame: &Frame) -> Result<FromSwitch<'_>, Unread>
 /// What a switch's message says, or the first thing that is wrong with it. Takes no memory: what it says stays
 /// where it lies.
 #[tactic(auto, unfolding(crate::specs::Messages::read_switch))]
+#[inline(always)]
 pub fn read_switch(frame: &Frame) -> Result<FromSwitch<'_>, Unread>
     ensures exact { ReadsAsSaid result (said.read_switch frame.now) }
     ensures range { IfOk result (λ m. IsSaid (said_by m)) }

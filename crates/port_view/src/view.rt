@@ -1,7 +1,7 @@
 ghost use Rattle.std.specs.Prelude.{ℕ, ◌≡◌, ◌≤◌, List, [], ◌∷◌, length, IfOk, OnOk, OnErr, IsTrue};
 ghost use Rattle.of10_ctl.specs.declared.kind.TheConstants.{FEATURES_REPLY};
 ghost use Rattle.of10_ctl.specs.Kinds.{IsOf};
-ghost use Rattle.of10_port.specs.declared.features.Features.{Features as FeaturesView};
+ghost use Rattle.of10_port.specs.declared.features.Features.{Features as FeaturesTold};
 ghost use Rattle.of10_port.specs.declared.status.PortStatus.{PortStatus as StatusView};
 ghost use Rattle.of10_port.specs.Features.{spell_features};
 ghost use Rattle.port_view.specs.KnownPorts.{IsAscending, with_told, first_known, kept_of, is_kept, changed, known_of};
@@ -83,7 +83,7 @@ impl PortView {
     /// What `take_status` would answer now, want of memory aside.
     pub fn test_status(&self, status: &PortStatus) -> Kept
         ensures value { result ≡ kept_of status.now self.now }
-        ensures answer { (features : FeaturesView) (statuses : List StatusView) → PortsStand features statuses self.now → result ≡ kept_of status.now (known_of features statuses) }
+        ensures answer { (features : FeaturesTold) (statuses : List StatusView) → PortsStand features statuses self.now → result ≡ kept_of status.now (known_of features statuses) }
     {
         let (_, answer) = judged(&self.ports, status);
         answer
@@ -94,8 +94,8 @@ impl PortView {
     pub fn take_status(&mut self, status: &PortStatus) -> Result<Kept, AllocError>
         ensures value { IfOk result (λ kept. kept ≡ kept_of status.now self.old) }
         ensures ports { OnOk result (self.new ≡ changed status.now self.old) }
-        ensures answer { IfOk result (λ kept. (features : FeaturesView) (statuses : List StatusView) → PortsStand features statuses self.old → kept ≡ kept_of status.now (known_of features statuses)) }
-        ensures stands { OnOk result ((features : FeaturesView) (statuses : List StatusView) → PortsStand features statuses self.old → PortsStand features (status.now ∷ statuses) self.new) }
+        ensures answer { IfOk result (λ kept. (features : FeaturesTold) (statuses : List StatusView) → PortsStand features statuses self.old → kept ≡ kept_of status.now (known_of features statuses)) }
+        ensures stands { OnOk result ((features : FeaturesTold) (statuses : List StatusView) → PortsStand features statuses self.old → PortsStand features (status.now ∷ statuses) self.new) }
         ensures unchanged { OnErr result (self.new ≡ self.old) }
         ensures memory { OnErr result (IsTrue (is_kept status.now self.old)) }
     {
@@ -121,7 +121,7 @@ impl PortView {
     ) -> Result<Frame, AllocError>
         ensures value { IfOk result (λ f. f ≡ spell_features (features_with of.now (ports_of_slice policy.now.rules slot self.now)) xid) }
         ensures kind { IfOk result (λ f. IsOf FEATURES_REPLY f) }
-        ensures answer { (features : FeaturesView) (statuses : List StatusView) → PortsStand features statuses self.now → IfOk result (λ f. f ≡ spell_features (features_with of.now (ports_of_slice policy.now.rules slot (known_of features statuses))) xid) }
+        ensures answer { (features : FeaturesTold) (statuses : List StatusView) → PortsStand features statuses self.now → IfOk result (λ f. f ≡ spell_features (features_with of.now (ports_of_slice policy.now.rules slot (known_of features statuses))) xid) }
     {
         let shown = Features {
             datapath: of.datapath,
@@ -144,7 +144,7 @@ impl PortView {
         all: bool,
     ) -> Result<Vec<u16>, AllocError>
         ensures value { IfOk result (λ v. v.items ≡ flooded all (ports_of_slice policy.now.rules slot self.now)) }
-        ensures answer { (features : FeaturesView) (statuses : List StatusView) → PortsStand features statuses self.now → IfOk result (λ v. v.items ≡ flooded all (ports_of_slice policy.now.rules slot (known_of features statuses))) }
+        ensures answer { (features : FeaturesTold) (statuses : List StatusView) → PortsStand features statuses self.now → IfOk result (λ v. v.items ≡ flooded all (ports_of_slice policy.now.rules slot (known_of features statuses))) }
     {
         flood_ports(alloc, &self.ports, policy, slot, all)
     }

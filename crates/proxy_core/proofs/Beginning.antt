@@ -7,7 +7,7 @@ use Rattle.of10_message.specs.declared.fault.Unread.{Unread}
 use Rattle.of10_message.specs.declared.fault.Unread.TheVariants.{BadLength}
 use Rattle.of10_message.specs.Heads.{xid_of}
 use Rattle.of10_switch.specs.Messages.{SwitchMessage, read_switch, has_bad_length}
-use Rattle.of10_switch.specs.declared.features.FeaturesView.{FeaturesView}
+use Rattle.of10_port.specs.declared.features.FeaturesView.{FeaturesView}
 use Rattle.of10_switch.specs.declared.message.FromSwitch.{FromSwitch}
 use Rattle.of10_switch.specs.declared.message.FromSwitch.TheVariants as views
 use Rattle.of10_switch.specs.Views.{said_by}

@@ -1,6 +1,6 @@
 //! The proxy's own messages to a switch, and how messages are put into what waits.
 
-ghost use Rattle.std.specs.Prelude.{ℕ, ◌≡◌, ◌≤◌, ◌<◌, length, Ok, IfOk, OnOk, OnErr};
+ghost use Rattle.std.specs.Prelude.{ℕ, ◌≡◌, ◌≤◌, ◌<◌, [], length, Ok, IfOk, OnOk, OnErr};
 ghost use Rattle.of10_switch.specs.Views.{said_by};
 ghost use Rattle.of10_switch.specs.Ranges.{IsSaid};
 ghost use Rattle.outbox.specs.Queues.{Queue, QueueStands};
@@ -19,6 +19,7 @@ use of10_port::protocol::NONE;
 use of10_switch::FromSwitch;
 use outbox::Outbox;
 use std::alloc::{AllocError, Global};
+use std::mem;
 
 /// The transaction ids of the proxy's own requests.
 const HELLO_XID: u32 = 0xff00_0000;
@@ -122,4 +123,17 @@ pub(crate) fn push_all(waiting: &mut Outbox, messages: Vec<Frame>)
     for message in messages {
         waiting.push(message);
     }
+}
+
+/// Adds the messages of a list likewise, which is empty after it.
+pub(crate) fn push_more(alloc: Global, waiting: &mut Outbox, messages: &mut Vec<Frame>)
+    requires { length messages.old.items ≤ waiting.old.room }
+    ensures more { HasMore messages.old.items waiting.old waiting.new }
+    ensures none { messages.new.items ≡ [] }
+{
+    // Most messages of a switch bring none.
+    if messages.is_empty() {
+        return;
+    }
+    push_all(waiting, mem::replace(messages, Vec::new(alloc)));
 }

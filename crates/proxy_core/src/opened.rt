@@ -97,6 +97,7 @@ pub(crate) fn make_rooms(
 }
 
 /// Takes in what the switch told of one of its ports.
+#[inline(always)]
 pub(crate) fn keep(ports: &mut PortView, told: &Option<PortStatus>) -> Result<(), AllocError>
     ensures ok { OnOk result (ports.new ≡ kept_by told.now ports.old) }
     ensures err { OnErr result (ports.new ≡ ports.old) }
@@ -120,15 +121,16 @@ fn put(queues: &mut Vec<Outbox>, slot: u8, message: Frame)
     }
 }
 
-/// Puts messages into the queues of their slots, for which there is room, and gives their list back. One for a slot
-/// that isn't there is dropped.
-pub(crate) fn hand_out(queues: &mut Vec<Outbox>, mut messages: Vec<(u8, Frame)>) -> Vec<(u8, Frame)>
-    requires { HaveRoom messages.items queues.old.items }
-    ensures { AreHanded messages.items queues.old.items queues.new.items }
+/// Puts messages into the queues of their slots, for which there is room, after which the list is empty. One for a
+/// slot that isn't there is dropped.
+#[inline(always)]
+pub(crate) fn hand_out(queues: &mut Vec<Outbox>, messages: &mut Vec<(u8, Frame)>)
+    requires { HaveRoom messages.old.items queues.old.items }
+    ensures handed { AreHanded messages.old.items queues.old.items queues.new.items }
+    ensures none { messages.new.items ≡ [] }
 {
     messages.reverse();
     while let Some((slot, message)) = messages.pop() {
         put(queues, slot, message);
     }
-    messages
 }

@@ -5,14 +5,14 @@ ghost use Rattle.flow_book.specs.declared.state.SliceState.{SliceState};
 ghost use Rattle.proxy_core.specs.Slots.{Comes, Hears, Keeps, SameQueue};
 ghost use Rattle.proxy_core.specs.Opening.{has_slot, is_up_at, AtSlot, Goes, Carries, StandsOn};
 
-use crate::lane::{make_room, push_all};
+use crate::lane::{make_room, push_more};
 use crate::opened::{hand_out, keep, make_rooms};
 use crate::parts::Session;
 use crate::slots::{come, go, hear};
 use of10_ctl::Frame;
 use outbox::Outbox;
 use std::alloc::{AllocError, Global};
-use switch_side::{Dispatch, apply_all, react_in, reserve};
+use switch_side::{apply_all, react_in, reserve};
 
 impl Session {
     pub(crate) fn has_slot(&self, slot: u8) -> bool
@@ -90,6 +90,7 @@ impl Session {
     }
 
     /// A message of the switch. Whether its connection goes on.
+    #[inline(always)]
     pub(crate) fn hear_switch(
         &mut self,
         alloc: Global,
@@ -103,7 +104,7 @@ impl Session {
         if self.states.len() != self.policy.policy().slices().len() {
             return Ok(false);
         }
-        let dispatch = react_in(
+        react_in(
             alloc,
             &mut self.spare,
             self.policy.policy(),
@@ -112,6 +113,7 @@ impl Session {
             &self.states,
             frame,
         )?;
+        let dispatch = &mut self.spare.dispatch;
         if dispatch.close {
             return Ok(false);
         }
@@ -119,15 +121,9 @@ impl Session {
         make_rooms(&mut self.queues, &dispatch.to_slices)?;
         reserve(&mut self.states, &dispatch.changes)?;
         keep(&mut self.ports, &dispatch.port)?;
-        let Dispatch {
-            to_slices,
-            to_switch,
-            changes,
-            ..
-        } = dispatch;
-        apply_all(&mut self.states, changes);
-        self.spare.list = hand_out(&mut self.queues, to_slices);
-        push_all(lane, to_switch);
+        apply_all(alloc, &mut self.states, &mut dispatch.changes);
+        hand_out(&mut self.queues, &mut dispatch.to_slices);
+        push_more(alloc, lane, &mut dispatch.to_switch);
         Ok(true)
     }
 }

@@ -4,7 +4,8 @@ ghost use Rattle.std.specs.Prelude.{ℕ, ◌≡◌, ◌^◌, ◌||◌, leb, if�
 ghost use Rattle.of10_message.specs.declared.fault.Unread.{Unread};
 ghost use Rattle.of10_message.specs.Heads.{xid_of};
 ghost use Rattle.of10_switch.specs.Messages.{SwitchMessage, FeaturesReply, read_switch, has_bad_length};
-ghost use Rattle.of10_switch.specs.Views.{features_of, said_by};
+ghost use Rattle.of10_port.specs.Features.{features_of};
+ghost use Rattle.of10_switch.specs.Views.{said_by};
 ghost use Rattle.of10_switch.specs.Ranges.{IsSaid};
 ghost use Rattle.desk_words.specs.declared.event.Event.TheVariants.{SwitchUp, SwitchMsg, SwitchDown, SliceUp, SliceMsg, SliceDown};
 ghost use Rattle.desk_words.specs.declared.phase.Phase.TheVariants.{Begun, Opened};
@@ -20,7 +21,8 @@ use desk_words::{Event, Phase, Timed, Verdict};
 use flowspace::Policy;
 use of10_ctl::Frame;
 use of10_message::Unread;
-use of10_switch::{FeaturesView, FromSwitch, read_switch};
+use of10_port::FeaturesView;
+use of10_switch::{FromSwitch, read_switch};
 use outbox::Outbox;
 use std::alloc::{AllocError, Global};
 
@@ -55,6 +57,7 @@ impl Desk {
     }
 
     /// The switch connected: it is greeted.
+    #[inline(never)]
     fn greet(&mut self, alloc: Global) -> Result<bool, AllocError>
         ensures ok { IfOk result (λ go. (moment : ℕ) → Acts self.old (record { event = SwitchUp; moment = moment }) go self.new) }
         ensures err { OnErr result (Stays self.old self.new) }
@@ -69,6 +72,7 @@ impl Desk {
 
     /// The switch's connection ends. What waits for slices stays.
     #[tactic(auto, unfolding(outbox::specs::Queues::push_all))]
+    #[inline(never)]
     fn end(&mut self)
         ensures ended { Ends self.old self.new }
         ensures events { self.new.events ≡ self.old.events }
@@ -143,6 +147,7 @@ impl Desk {
     }
 
     /// A message of a switch that hasn't told what it is, which is read once.
+    #[inline(never)]
     fn hear_first(&mut self, alloc: Global, frame: &Frame) -> Result<bool, AllocError>
         ensures ok { IfOk result (λ go. (moment : ℕ) → ActsIn Begun self.old (record { event = SwitchMsg frame.now; moment = moment }) go self.new) }
         ensures err { OnErr result (Stays self.old self.new) }
@@ -155,6 +160,7 @@ impl Desk {
     }
 
     /// A message for the session, if there is one. Whether the connection goes on.
+    #[inline(always)]
     fn pass_on(&mut self, alloc: Global, frame: &Frame) -> Result<bool, AllocError>
         ensures ok { IfOk result (λ go. (moment : ℕ) → PassesOn moment frame.now go self.old self.new) }
         ensures err { OnErr result (Stays self.old self.new) }
@@ -167,6 +173,7 @@ impl Desk {
     }
 
     /// A message of a switch that has told what it is.
+    #[inline(always)]
     fn hear_later(&mut self, alloc: Global, frame: &Frame) -> Result<bool, AllocError>
         ensures ok { IfOk result (λ go. (moment : ℕ) → ActsIn Opened self.old (record { event = SwitchMsg frame.now; moment = moment }) go self.new) }
         ensures err { OnErr result (Stays self.old self.new) }
@@ -180,6 +187,7 @@ impl Desk {
     }
 
     /// A message of the switch.
+    #[inline(always)]
     fn hear_switch(&mut self, alloc: Global, frame: &Frame) -> Result<bool, AllocError>
         ensures ok { IfOk result (λ go. (moment : ℕ) → Acts self.old (record { event = SwitchMsg frame.now; moment = moment }) go self.new) }
         ensures err { OnErr result (Stays self.old self.new) }
@@ -204,6 +212,7 @@ impl Desk {
     }
 
     /// A message of the switch, whose memory serves again.
+    #[inline(always)]
     fn take_in(&mut self, alloc: Global, frame: Frame) -> Result<bool, AllocError>
         ensures ok { IfOk result (λ go. (moment : ℕ) → Acts self.old (record { event = SwitchMsg frame; moment = moment }) go self.new) }
         ensures err { OnErr result (Stays self.old self.new) }
@@ -229,6 +238,7 @@ impl Desk {
     }
 
     /// A slice's controller connected.
+    #[inline(never)]
     fn greet_slice(&mut self, alloc: Global, slot: u8) -> Result<bool, AllocError>
         ensures ok { IfOk result (λ go. (moment : ℕ) → Acts self.old (record { event = SliceUp slot; moment = moment }) go self.new) }
         ensures err { OnErr result (Stays self.old self.new) }
@@ -241,6 +251,7 @@ impl Desk {
     }
 
     /// A message of a slice's controller.
+    #[inline(never)]
     fn hear_slice(
         &mut self,
         alloc: Global,
@@ -277,6 +288,7 @@ impl Desk {
     }
 
     /// One event, while the switch's connection hasn't ended. Whether the connection goes on that it came from.
+    #[inline(always)]
     fn act(&mut self, alloc: Global, timed: Timed) -> Result<bool, AllocError>
         ensures ok { IfOk result (λ go. Acts self.old timed go self.new) }
         ensures err { OnErr result (Stays self.old self.new) }
@@ -304,6 +316,7 @@ impl Desk {
     /// One event. `AllocError` leaves what the desk stands for as it was, though memory that was taken may
     /// stay, and the event isn't counted. It doesn't come for the end of a connection. After `Ended` nothing
     /// more changes.
+    #[inline(always)]
     pub fn step(&mut self, alloc: Global, timed: Timed) -> Result<Verdict, AllocError>
         ensures { Steps self.old timed result self.new }
     {

@@ -122,6 +122,7 @@ impl Desk {
     }
 
     /// The oldest message for a destination, or why there is none. It takes no memory.
+    #[inline(always)]
     pub fn take(&mut self, dest: Dest) -> Taken
         ensures answer { Takes self.old dest result self.new }
         ensures less { Shrinks dest result self.old self.new }

@@ -280,6 +280,11 @@ abbrev pub message_changes : (ℕ → Called) → List Rule → List SliceState 
 message_changes called rules states xid (Ok (says.PacketIn packet)) = packet_changes rules states packet
 message_changes called rules states xid said = turn_changes (turn_for called rules states xid said)
 
+-- a message that hands up no packet
+abbrev pub IsOther : SwitchMessage → Type 0
+IsOther (says.PacketIn packet) = ⊥
+IsOther said = Unit {0}
+
 -- all that follows
 abbrev pub carried_with : (ℕ → Called) → List Rule → List (List ℕ) → List SliceState → ℕ → Result SwitchMessage Unread → Carried
 carried_with called rules known states xid said = record {

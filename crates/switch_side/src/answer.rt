@@ -1,4 +1,4 @@
-ghost use Rattle.std.specs.Prelude.{ℕ, ◌≡◌, ◌≤◌, ◌∷◌, [], length, Ok, IfOk};
+ghost use Rattle.std.specs.Prelude.{ℕ, ◌≡◌, ◌≤◌, List, ◌∷◌, [], length, Ok, Err, IfOk, OnOk};
 ghost use Rattle.of10_ctl.specs.declared.kind.TheConstants.{ECHO_REPLY};
 ghost use Rattle.of10_ctl.specs.Frames.{message_of};
 ghost use Rattle.of10_switch.specs.Messages.{read_switch};
@@ -8,7 +8,9 @@ ghost use Rattle.flowspace.specs.Policies.{PolicyView};
 ghost use Rattle.desk_words.specs.Openings.{KnownSwitch};
 ghost use Rattle.desk_words.specs.Histories.{Side};
 ghost use Rattle.switch_side.specs.Dispatches.{Surrounds, AllStand, AllNumbered, IsDispatch};
-ghost use Rattle.switch_side.specs.Carrying.{carried, telling, Called, AllCalled, carried_with, carried_for};
+ghost use Rattle.flow_book.specs.declared.state.SliceState.{SliceState};
+ghost use Rattle.flowspace.specs.declared.rules.Rule.{Rule};
+ghost use Rattle.switch_side.specs.Carrying.{IsOther, carried, telling, Called, AllCalled, carried_with, carried_for};
 
 use crate::dispatch::Dispatch;
 use crate::errors::error;
@@ -36,11 +38,11 @@ fn echo(alloc: Global, xid: u32, body: &[u8]) -> Result<Dispatch, AllocError>
     Dispatch::replying(alloc, message(alloc, ECHO_REPLY, xid, body)?)
 }
 
-/// What follows from a message under a transaction id, by its type. Types that say nothing to anybody are
-/// dropped.
-fn follow(
+/// What follows from a message under a transaction id that is no PACKET_IN, by its type. Types that say nothing
+/// to anybody are dropped.
+#[inline(never)]
+fn follow_other(
     alloc: Global,
-    spare: &mut Spare,
     policy: &SwitchPolicy,
     index: &RuleIndex,
     ports: &PortView,
@@ -51,17 +53,18 @@ fn follow(
     requires few { length states.now ≤ 32 }
     requires index { index.now ≡ policy.now.rules }
     requires said { IsSaid (said_by said.now) }
+    requires other { IsOther (said_by said.now) }
     ensures { (called : ℕ → Called) → AllCalled called states.now → IfOk result (λ d. carried d ≡ carried_with called policy.now.rules ports.now states.now xid (Ok (said_by said.now))) }
 {
     match said {
         FromSwitch::EchoRequest(body) => echo(alloc, xid, body),
-        FromSwitch::PacketIn(packet) => packet_in(alloc, spare, policy, index, states, packet),
         FromSwitch::FlowRemoved(removal) => flow_removed(alloc, index, states, &removal.entry()),
         FromSwitch::PortStatus(told) => port_status(alloc, policy, ports, states, &told.status()),
         FromSwitch::Error(fault) => error(alloc, states, xid, fault),
         FromSwitch::BarrierReply => barrier(alloc, states, xid),
         FromSwitch::QueueGetConfigReply(told) => queues(alloc, policy, states, xid, told),
         FromSwitch::StatsReply(part, body) => statistics(alloc, policy, states, xid, part, body),
+        FromSwitch::PacketIn(_) => unreachable!(),
         FromSwitch::Hello
         | FromSwitch::EchoReply
         | FromSwitch::Vendor
@@ -70,8 +73,44 @@ fn follow(
     }
 }
 
-/// What follows from a message, which is read once. One that can't be read is dropped, but for one whose length
-/// doesn't count its header: that ends the connection.
+/// What follows from a message under a transaction id. The messages of a PACKET_IN are put into the list that is
+/// there.
+fn follow(
+    alloc: Global,
+    spare: &mut Spare,
+    policy: &SwitchPolicy,
+    index: &RuleIndex,
+    ports: &PortView,
+    states: &[SliceState],
+    xid: u32,
+    said: &FromSwitch<'_>,
+) -> Result<(), AllocError>
+    requires few { length states.now ≤ 32 }
+    requires index { index.now ≡ policy.now.rules }
+    requires said { IsSaid (said_by said.now) }
+    ensures { (called : ℕ → Called) → AllCalled called states.now → OnOk result (carried spare.new.dispatch ≡ carried_with called policy.now.rules ports.now states.now xid (Ok (said_by said.now))) }
+{
+    match said {
+        FromSwitch::PacketIn(packet) => packet_in(alloc, spare, policy, index, states, packet),
+        _ => {
+            spare.dispatch = follow_other(alloc, policy, index, ports, states, xid, said)?;
+            Ok(())
+        }
+    }
+}
+
+/// What follows from a message that can't be read. It is dropped, but for one whose length doesn't count its header:
+/// that ends the connection.
+fn unread(alloc: Global, fault: &Unread) -> Dispatch
+    ensures { (called : ℕ → Called) (policy : List Rule) (ports : List (List ℕ)) (states : List SliceState) (xid : ℕ) → carried result ≡ carried_with called policy ports states xid (Err fault.now) }
+{
+    match fault {
+        Unread::BadLength => Dispatch::closing(alloc),
+        _ => Dispatch::nothing(alloc),
+    }
+}
+
+/// What follows from a message, which is read once.
 fn dispatch(
     alloc: Global,
     spare: &mut Spare,
@@ -80,10 +119,10 @@ fn dispatch(
     ports: &PortView,
     states: &[SliceState],
     frame: &Frame,
-) -> Result<Dispatch, AllocError>
+) -> Result<(), AllocError>
     requires few { length states.now ≤ 32 }
     requires index { index.now ≡ policy.now.rules }
-    ensures value { (called : ℕ → Called) → AllCalled called states.now → IfOk result (λ d. carried d ≡ carried_for called policy.now.rules ports.now states.now frame.now) }
+    ensures value { (called : ℕ → Called) → AllCalled called states.now → OnOk result (carried spare.new.dispatch ≡ carried_for called policy.now.rules ports.now states.now frame.now) }
     ensures right { IfOk (read_switch frame.now) IsSaid }
 {
     let read = read_switch(frame);
@@ -98,8 +137,10 @@ fn dispatch(
             frame.head().xid,
             said,
         ),
-        Err(Unread::BadLength) => Ok(Dispatch::closing(alloc)),
-        Err(_) => Ok(Dispatch::nothing(alloc)),
+        Err(fault) => {
+            spare.dispatch = unread(alloc, fault);
+            Ok(())
+        }
     }
 }
 
@@ -120,11 +161,13 @@ pub fn react(
     ensures dispatch { (p : PolicyView) (switch : KnownSwitch) (sides : ℕ → Side) (moment : ℕ) → Surrounds p switch policy.now ports.now → AllStand p switch sides states.now → AllNumbered p switch sides → IfOk result (IsDispatch p switch sides moment frame.now) }
 {
     let mut spare = Spare::none(alloc);
-    react_in(alloc, &mut spare, policy, index, ports, states, frame)
+    react_in(alloc, &mut spare, policy, index, ports, states, frame)?;
+    let Spare { dispatch, .. } = spare;
+    Ok(dispatch)
 }
 
-/// The same, where of a PACKET_IN the messages for slices are listed and the first of them is made in the spare
-/// memory.
+/// The same, where what follows stands in `spare.dispatch`: of a PACKET_IN the messages are put into the list that is
+/// there, and the first of them is made in `spare.message`.
 pub fn react_in(
     alloc: Global,
     spare: &mut Spare,
@@ -133,10 +176,10 @@ pub fn react_in(
     ports: &PortView,
     states: &[SliceState],
     frame: &Frame,
-) -> Result<Dispatch, AllocError>
+) -> Result<(), AllocError>
     requires count { length states.now ≡ length policy.now.slices }
     requires index { index.now ≡ policy.now.rules }
-    ensures dispatch { (p : PolicyView) (switch : KnownSwitch) (sides : ℕ → Side) (moment : ℕ) → Surrounds p switch policy.now ports.now → AllStand p switch sides states.now → AllNumbered p switch sides → IfOk result (IsDispatch p switch sides moment frame.now) }
+    ensures dispatch { (p : PolicyView) (switch : KnownSwitch) (sides : ℕ → Side) (moment : ℕ) → Surrounds p switch policy.now ports.now → AllStand p switch sides states.now → AllNumbered p switch sides → OnOk result (IsDispatch p switch sides moment frame.now spare.new.dispatch) }
 {
     // A policy has at most 32 slices.
     let _slices = policy.slices();

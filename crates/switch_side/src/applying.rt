@@ -1,4 +1,4 @@
-ghost use Rattle.std.specs.Prelude.{ℕ, ◌≡◌, ◌==◌, ◌∷◌, false, List, length, slice_get, OnOk};
+ghost use Rattle.std.specs.Prelude.{ℕ, ◌≡◌, ◌==◌, ◌∷◌, false, List, [], length, slice_get, OnOk};
 ghost use Rattle.flowspace.specs.Policies.{PolicyView};
 ghost use Rattle.xid_map.specs.Collections as collections;
 ghost use Rattle.flow_book.specs.Books.{BookCall, BookStands};
@@ -15,7 +15,8 @@ use crate::change::Change;
 use crate::collecting::add_all;
 use flow_book::{FlowBook, SliceState};
 use of10_match::{Header12, Match};
-use std::alloc::AllocError;
+use std::alloc::{AllocError, Global};
+use std::mem;
 use xid_map::AskKind;
 
 /// How many packets a slice can be given. A desk sees fewer events.
@@ -67,6 +68,7 @@ fn make_room_at(states: &mut [SliceState], place: usize, change: &Change) -> Res
 
 /// Makes the room that `apply_all` of the changes needs, and leaves what the states stand for as it was. That
 /// there is none is answered as want of memory, and so are changes whose slots don't ascend.
+#[inline(always)]
 pub fn reserve(states: &mut [SliceState], changes: &[(u8, Change)]) -> Result<(), AllocError>
     ensures stands { StandOn states.old states.new }
     ensures room { OnOk result (StatesHaveRoom changes.now states.new) }
@@ -161,6 +163,7 @@ fn apply_at(states: &mut Vec<SliceState>, slot: u8, change: Change)
 }
 
 /// Makes changes one after the other, each in the state of its slot.
+#[inline(never)]
 fn apply_each(states: &mut Vec<SliceState>, changes: Vec<(u8, Change)>)
     requires { StatesHaveRoom changes.items states.old.items }
     ensures stands { (p : PolicyView) (switch : KnownSwitch) (sides : ℕ → Side) (moment : ℕ) (message : List ℕ) → AllStand p switch sides states.old.items → AreChanges p switch sides moment message changes.items → AllStand p switch (λ slot. side_after p slot switch (sides slot) (told_at moment message)) states.new.items }
@@ -171,15 +174,18 @@ fn apply_each(states: &mut Vec<SliceState>, changes: Vec<(u8, Change)>)
     }
 }
 
-/// Makes the changes of a message of the switch, each in the state of its slot. Takes no memory.
-pub fn apply_all(states: &mut Vec<SliceState>, changes: Vec<(u8, Change)>)
-    requires { StatesHaveRoom changes.items states.old.items }
-    ensures stands { (p : PolicyView) (switch : KnownSwitch) (sides : ℕ → Side) (moment : ℕ) (message : List ℕ) → AllStand p switch sides states.old.items → AreChanges p switch sides moment message changes.items → AllStand p switch (λ slot. side_after p slot switch (sides slot) (told_at moment message)) states.new.items }
+/// Makes the changes of a message of the switch, each in the state of its slot, after which there are none. Takes no
+/// memory.
+#[inline(always)]
+pub fn apply_all(alloc: Global, states: &mut Vec<SliceState>, changes: &mut Vec<(u8, Change)>)
+    requires { StatesHaveRoom changes.old.items states.old.items }
+    ensures stands { (p : PolicyView) (switch : KnownSwitch) (sides : ℕ → Side) (moment : ℕ) (message : List ℕ) → AllStand p switch sides states.old.items → AreChanges p switch sides moment message changes.old.items → AllStand p switch (λ slot. side_after p slot switch (sides slot) (told_at moment message)) states.new.items }
     ensures count { length states.new.items ≡ length states.old.items }
+    ensures none { changes.new.items ≡ [] }
 {
     // Most messages bring none, and each packet in its turn would make an iterator of it.
     if changes.is_empty() {
         return;
     }
-    apply_each(states, changes);
+    apply_each(states, mem::replace(changes, Vec::new(alloc)));
 }

@@ -61,11 +61,7 @@ impl Dispatch {
     }
 
     /// Messages for slices, and what changes in their states.
-    pub(crate) fn handing(
-        alloc: Global,
-        to_slices: Vec<(u8, Frame)>,
-        changes: Vec<(u8, Change)>,
-    ) -> Dispatch
+    fn handing(alloc: Global, to_slices: Vec<(u8, Frame)>, changes: Vec<(u8, Change)>) -> Dispatch
         ensures { carried result ≡ handing to_slices.items changes.items }
     {
         Dispatch {

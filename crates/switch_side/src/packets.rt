@@ -1,6 +1,6 @@
 //! Packets that the switch hands up (OpenFlow 1.0.0, section 5.4.1).
 
-ghost use Rattle.std.specs.Prelude.{◌≡◌, ◌+◌, ◌≤◌, ◌++◌, ◌∷◌, [], length, IfOk, OnOk};
+ghost use Rattle.std.specs.Prelude.{◌≡◌, ◌+◌, ◌≤◌, ◌++◌, ◌∷◌, [], length, OnOk};
 ghost use Rattle.of10_flow.specs.PacketIns.{packet_of, spell_packet_in};
 ghost use Rattle.desk_words.specs.Histories.{header_in};
 ghost use Rattle.switch_side.specs.Dispatches.{addressed};
@@ -8,18 +8,15 @@ ghost use Rattle.switch_side.specs.Carrying.{carried, once, said_from, unnumbere
 
 use crate::audience::Audience;
 use crate::change::Change;
-use crate::dispatch::Dispatch;
 use crate::spare::Spare;
 use flow_book::SliceState;
 use flowspace::{SwitchPolicy, has_slot};
 use frame_header::header_of;
-use of10_ctl::Frame;
 use of10_flow::PacketInView;
 use of10_flow::protocol::NO_BUFFER;
 use of10_match::Header12;
 use rule_index::RuleIndex;
 use std::alloc::{AllocError, Global};
-use std::mem;
 
 /// Bytes of a probe's mark.
 const MARK: u16 = 8;
@@ -77,6 +74,7 @@ fn written<'a>(state: &SliceState, packet: &PacketInView<'a>) -> PacketInView<'a
     }
 }
 
+#[inline(always)]
 fn put(
     alloc: Global,
     spare: &mut Spare,
@@ -84,11 +82,11 @@ fn put(
     packet: &PacketInView<'_>,
 ) -> Result<(), AllocError>
     requires { 18 + length packet.now.payload.now ≤ 65535 }
-    ensures { OnOk result (spare.new.list.items ≡ spare.old.list.items ++ (slot, spell_packet_in (packet_of packet.now)) ∷ []) }
+    ensures { OnOk result (spare.new.dispatch.to_slices.items ≡ spare.old.dispatch.to_slices.items ++ (slot, spell_packet_in (packet_of packet.now)) ∷ []) }
 {
     let memory = spare.memory_for(alloc, 18 + packet.payload.len());
     let message = packet.encode_in(memory)?;
-    spare.list.push((slot, message))?;
+    spare.dispatch.to_slices.push((slot, message))?;
     Ok(())
 }
 
@@ -103,7 +101,7 @@ fn put_named(
     reads: bool,
 ) -> Result<(), AllocError>
     requires { 18 + length packet.now.payload.now ≤ 65535 }
-    ensures { OnOk result (spare.new.list.items ≡ spare.old.list.items ++ addressed slot (named_told writes reads state.now (packet_of packet.now))) }
+    ensures { OnOk result (spare.new.dispatch.to_slices.items ≡ spare.old.dispatch.to_slices.items ++ addressed slot (named_told writes reads state.now (packet_of packet.now))) }
 {
     if writes {
         put(alloc, spare, slot, &written(state, packet))?;
@@ -123,7 +121,7 @@ fn put_probe(
     is_own: bool,
 ) -> Result<(), AllocError>
     requires { 18 + length packet.now.payload.now ≤ 65535 }
-    ensures { OnOk result (spare.new.list.items ≡ spare.old.list.items ++ addressed slot (once is_own (spell_packet_in (unmarked (packet_of packet.now))))) }
+    ensures { OnOk result (spare.new.dispatch.to_slices.items ≡ spare.old.dispatch.to_slices.items ++ addressed slot (once is_own (spell_packet_in (unmarked (packet_of packet.now))))) }
 {
     if is_own {
         put(alloc, spare, slot, &unmarked(packet))?;
@@ -141,7 +139,7 @@ fn put_for_slice(
     audience: Audience,
 ) -> Result<(), AllocError>
     requires { 18 + length packet.now.payload.now ≤ 65535 }
-    ensures { OnOk result (spare.new.list.items ≡ spare.old.list.items ++ addressed slot (packet_for audience (packet_of packet.now) slot state.now)) }
+    ensures { OnOk result (spare.new.dispatch.to_slices.items ≡ spare.old.dispatch.to_slices.items ++ addressed slot (packet_for audience (packet_of packet.now) slot state.now)) }
 {
     if !state.up {
         return Ok(());
@@ -167,16 +165,16 @@ fn put_for_all(
     states: &[SliceState],
     packet: &PacketInView<'_>,
     audience: Audience,
-) -> Result<Vec<(u8, Frame)>, AllocError>
+) -> Result<(), AllocError>
     requires few { length states.now ≤ 32 }
     requires fits { 18 + length packet.now.payload.now ≤ 65535 }
-    ensures { IfOk result (λ v. v.items ≡ said_from (packet_for audience (packet_of packet.now)) 0 states.now) }
+    ensures { OnOk result (spare.new.dispatch.to_slices.items ≡ said_from (packet_for audience (packet_of packet.now)) 0 states.now) }
 {
-    spare.list.clear();
+    spare.dispatch.to_slices.clear();
     for (place, state) in states.iter().enumerate() {
         put_for_slice(alloc, spare, place as u8, state, packet, audience)?;
     }
-    Ok(mem::replace(&mut spare.list, Vec::new(alloc)))
+    Ok(())
 }
 
 /// What changes for the slice at a slot where the switch keeps the packet under a number: the writer that is
@@ -195,43 +193,46 @@ fn change_for(slot: u8, up: bool, physical: u32, header: &Header12, audience: Au
 }
 
 /// What changes for all slices where the switch keeps the packet under a number.
-fn changes_for_all(
-    alloc: Global,
+fn put_changes(
+    changes: &mut Vec<(u8, Change)>,
     states: &[SliceState],
     physical: u32,
     header: &Header12,
     audience: Audience,
-) -> Result<Vec<(u8, Change)>, AllocError>
-    requires { length states.now ≤ 32 }
-    ensures { IfOk result (λ v. v.items ≡ changes_from (change_for audience physical header.now) 0 states.now) }
+) -> Result<(), AllocError>
+    requires few { length states.now ≤ 32 }
+    requires none { changes.old.items ≡ [] }
+    ensures { OnOk result (changes.new.items ≡ changes_from (change_for audience physical header.now) 0 states.now) }
 {
-    let mut changes = Vec::with_capacity(alloc, states.len())?;
+    changes.reserve(states.len())?;
     for (place, state) in states.iter().enumerate() {
         let slot = place as u8;
         changes.push((slot, change_for(slot, state.up, physical, header, audience)))?;
     }
-    Ok(changes)
+    Ok(())
 }
 
 /// What changes with a packet: nothing where the switch doesn't keep it.
-fn changes(
-    alloc: Global,
+fn put_all_changes(
+    changes: &mut Vec<(u8, Change)>,
     states: &[SliceState],
     packet: &PacketInView<'_>,
     header: &Header12,
     audience: Audience,
-) -> Result<Vec<(u8, Change)>, AllocError>
+) -> Result<(), AllocError>
     requires few { length states.now ≤ 32 }
     requires header { header.now ≡ header_in (packet_of packet.now) }
-    ensures { IfOk result (λ v. v.items ≡ changes_with audience (packet_of packet.now) states.now) }
+    ensures { OnOk result (changes.new.items ≡ changes_with audience (packet_of packet.now) states.now) }
 {
+    changes.clear();
     if packet.buffer == NO_BUFFER {
-        return Ok(Vec::new(alloc));
+        return Ok(());
     }
-    changes_for_all(alloc, states, packet.buffer, header, audience)
+    put_changes(changes, states, packet.buffer, header, audience)
 }
 
-/// What follows from a PACKET_IN. The messages are listed and the first is made in memory that is there already.
+/// What follows from a PACKET_IN, in the place of what followed from the message before. The first message is made in
+/// spare memory.
 pub(crate) fn packet_in(
     alloc: Global,
     spare: &mut Spare,
@@ -239,15 +240,22 @@ pub(crate) fn packet_in(
     index: &RuleIndex,
     states: &[SliceState],
     packet: &PacketInView<'_>,
-) -> Result<Dispatch, AllocError>
+) -> Result<(), AllocError>
     requires few { length states.now ≤ 32 }
     requires fits { 18 + length packet.now.payload.now ≤ 65535 }
     requires index { index.now ≡ policy.now.rules }
-    ensures { IfOk result (λ d. carried d ≡ handing (packets_for_all policy.now.rules states.now (packet_of packet.now)) (packet_changes policy.now.rules states.now (packet_of packet.now))) }
+    ensures { OnOk result (carried spare.new.dispatch ≡ handing (packets_for_all policy.now.rules states.now (packet_of packet.now)) (packet_changes policy.now.rules states.now (packet_of packet.now))) }
 {
     let header = header_of(packet.in_port, packet.payload);
     let audience = Audience::of(policy, index, states.len(), packet, &header);
-    let to_slices = put_for_all(alloc, spare, states, packet, audience)?;
-    let changes = changes(alloc, states, packet, &header, audience)?;
-    Ok(Dispatch::handing(alloc, to_slices, changes))
+    put_for_all(alloc, spare, states, packet, audience)?;
+    let dispatch = &mut spare.dispatch;
+    put_all_changes(&mut dispatch.changes, states, packet, &header, audience)?;
+    dispatch.to_switch.clear();
+    // A port's place is large, and few messages fill it.
+    if dispatch.port.is_some() {
+        dispatch.port = None;
+    }
+    dispatch.close = false;
+    Ok(())
 }

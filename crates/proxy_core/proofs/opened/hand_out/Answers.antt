@@ -19,8 +19,8 @@ loop-slot-preserved c =
           (handed_more c.in-Some.slot c.in-Some.message others at.queues.items c.put.new.queues.items later c.put.ensures.handed h));
     }
 
-pub returns : goal.returns
-returns c =
+pub returns-clause-handed : goal.returns-clause-handed
+returns-clause-handed c =
     let at = c.loop-slot in
     let none : reverse at.messages.items ≡ [] = ap reverse (nil_from_length at.messages.items (omega (arith, c.in_default.ensures.cases.0))) in
     at.invariant.handed at.queues.items (subst (λ m. AreHanded m at.queues.items at.queues.items) (sym none) (none_handed at.queues.items))

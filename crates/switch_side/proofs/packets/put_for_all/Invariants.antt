@@ -5,4 +5,4 @@ use Rattle.switch_side.proofs.packets.put_for_all.Given as goal
 
 abbrev pub invariant-loop-place : goal.invariant-loop-place
 invariant-loop-place l =
-    l.spare.list.items ++ said_from (packet_for l.audience (packet_of l.packet)) l.place (drop l.place l.states) ≡ said_from (packet_for l.audience (packet_of l.packet)) 0 l.states
+    l.spare.dispatch.to_slices.items ++ said_from (packet_for l.audience (packet_of l.packet)) l.place (drop l.place l.states) ≡ said_from (packet_for l.audience (packet_of l.packet)) 0 l.states

@@ -8,8 +8,8 @@ use Rattle.proxy_core.proofs.parts.Session.hear_switch.Goals as goal
 
 pub returns-then-dispatch-clause-ok : goal.returns-then-dispatch-clause-ok
 returns-then-dispatch-clause-ok c moment p switch sides qs open_ numbered s = (
-  closed_bad moment c.args.frame.now c.args.self.now p switch sides qs c.in_ok-dispatch.dispatch open_ numbered s
-      (λ p2 switch2 sides2 moment2 around stand numbered2. c.in_ok-dispatch.ensures.dispatch p2 switch2 sides2 moment2 (subst (λ v. Surrounds p2 switch2 v c.args.self.now.ports) (sym c.policy-2.ensures) around) (subst (AllStand p2 switch2 sides2) (sym c.deref.ensures.value) stand) numbered2) c.if-dispatch.true,
+  closed_bad moment c.args.frame.now c.args.self.now p switch sides qs c.react_in.new.spare.dispatch open_ numbered s
+      (λ p2 switch2 sides2 moment2 around stand numbered2. c.in_ok-react_in.ensures.dispatch p2 switch2 sides2 moment2 (subst (λ v. Surrounds p2 switch2 v c.args.self.now.ports) (sym c.policy-2.ensures) around) (subst (AllStand p2 switch2 sides2) (sym c.deref.ensures.value) stand) numbered2) c.if-dispatch.true,
   record { told = s.told; slices = s.slices; rules = s.rules; known = s.known; states_count = s.states_count; queues_count = s.queues_count; each = s.each },
   refl,
 )
@@ -40,8 +40,8 @@ returns-clause-ok c moment p switch sides qs open_ numbered s =
     let old = c.args.self.now.states.items in
     let on = subst (λ before. StandOn before c.reserve.new.states) c.deref_mut.ensures.value c.reserve.ensures.stands in
     let back = stands_back old c.reserve.new.states c.args.self.now.states.len on (sym c.deref_mut.ensures.len ∙ ap length c.deref_mut.ensures.value) in
-    carried_out moment c.args.frame.now c.args.self.now _ c.args.lane.now c.push_all.new.waiting c.make_rooms.new.queues.items p switch sides qs c.in_ok-dispatch.dispatch open_ numbered s
-    (λ p2 switch2 sides2 moment2 around stand numbered2. c.in_ok-dispatch.ensures.dispatch p2 switch2 sides2 moment2 (subst (λ v. Surrounds p2 switch2 v c.args.self.now.ports) (sym c.policy-2.ensures) around) (subst (AllStand p2 switch2 sides2) (sym c.deref.ensures.value) stand) numbered2) c.if-dispatch.false
+    carried_out moment c.args.frame.now c.args.self.now _ c.args.lane.now c.push_more.new.waiting c.make_rooms.new.queues.items p switch sides qs c.react_in.new.spare.dispatch open_ numbered s
+    (λ p2 switch2 sides2 moment2 around stand numbered2. c.in_ok-react_in.ensures.dispatch p2 switch2 sides2 moment2 (subst (λ v. Surrounds p2 switch2 v c.args.self.now.ports) (sym c.policy-2.ensures) around) (subst (AllStand p2 switch2 sides2) (sym c.deref.ensures.value) stand) numbered2) c.if-dispatch.false
     refl refl (c.apply_all.ensures.count ∙ back.count)
     (λ all changes. c.apply_all.ensures.stands p switch sides moment c.args.frame.now (all_stand_on p switch sides old _ back all) changes)
-    c.in_ok-keep.ensures.ok c.make_rooms.ensures.same c.hand_out.ensures (λ limit q h. c.push_all.ensures limit q (c.make_room.ensures.stands limit q h))
+    c.in_ok-keep.ensures.ok c.make_rooms.ensures.same c.hand_out.ensures.handed (λ limit q h. c.push_more.ensures.more limit q (c.make_room.ensures.stands limit q h))

@@ -2,7 +2,7 @@ use Rattle.std.proofs.Common.{◌≡◌, ℕ, ◌-◌, ◌/◌, ◌∙◌, List,
 use Rattle.std.proofs.lemmas.List.{take_all}
 use Rattle.of10_port.specs.Ports.{ports_in}
 use Rattle.of10_port.proofs.Again.{features_from}
-use Rattle.of10_switch.proofs.features.FeaturesView.decode.Goals as goal
+use Rattle.of10_port.proofs.features.FeaturesView.decode.Goals as goal
 
 pub returns-clause-exact : goal.returns-clause-exact
 returns-clause-exact c =

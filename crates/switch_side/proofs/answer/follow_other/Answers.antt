@@ -2,7 +2,7 @@ use Rattle.std.proofs.Common.{◌≡◌, Ok, IfOk, sym, subst}
 use Rattle.of10_switch.specs.declared.message.FromSwitch.{FromSwitch}
 use Rattle.of10_switch.specs.Views.{said_by}
 use Rattle.switch_side.specs.Carrying.{carried, carried_with}
-use Rattle.switch_side.proofs.answer.follow.Goals as goal
+use Rattle.switch_side.proofs.answer.follow_other.Goals as goal
 
 pub returns-in-StatsReply : goal.returns-in-StatsReply
 returns-in-StatsReply c called all =

@@ -1,6 +1,6 @@
 use Rattle.std.proofs.Common.{◌≡◌, ◌++◌, drop}
 use Rattle.switch_side.specs.Carrying.{change_for, changes_from}
-use Rattle.switch_side.proofs.packets.changes_for_all.Given as goal
+use Rattle.switch_side.proofs.packets.put_changes.Given as goal
 
 abbrev pub invariant-loop-place : goal.invariant-loop-place
 invariant-loop-place l =

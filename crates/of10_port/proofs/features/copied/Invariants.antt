@@ -1,5 +1,5 @@
 use Rattle.std.proofs.Common.{◌≡◌, take}
-use Rattle.of10_port.proofs.port.read_ports.Given as goal
+use Rattle.of10_port.proofs.features.copied.Given as goal
 
 abbrev pub invariant-loop-raw : goal.invariant-loop-raw
 invariant-loop-raw l = l.ports.items ≡ take l.raw-index l.raws

@@ -1,5 +1,0 @@
-use Rattle.std.proofs.Common.{◌≡◌, take}
-use Rattle.of10_switch.proofs.features.copied.Given as goal
-
-abbrev pub invariant-loop-raw : goal.invariant-loop-raw
-invariant-loop-raw l = l.ports.items ≡ take l.raw-index l.raws
