@@ -39,6 +39,7 @@ impl<W: Write + Drop> Sink for Stream<W> {
 
     ghost faults = { λ stream. stream.faults };
 
+    #[inline(always)]
     fn put(&mut self, bytes: &[u8]) -> Result<usize, Failed> {
         match self.writer.write(bytes) {
             Ok(count) if count > 0 => Ok(count),

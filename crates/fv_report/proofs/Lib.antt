@@ -1,4 +1,5 @@
 pub mod Writing
+pub mod Numbers
 pub mod Players
 pub mod Holding
 pub mod Draining

@@ -3,7 +3,7 @@ use Rattle.std.proofs.Common.{◌≡◌, ℕ, true, List, [], ◌∷◌, ◌++�
 use Rattle.std.proofs.lemmas.List.{append-nil, append_cancel_left}
 use Rattle.of10_ctl.specs.declared.framer.Next.{Next}
 use Rattle.of10_ctl.specs.declared.framer.Next.TheVariants.{Frame, NeedMore, Ended}
-use Rattle.of10_ctl.specs.Streams.{Stream, Stands, frames_of, has_bad, next_answer, frame_in}
+use Rattle.of10_ctl.specs.Streams.{Stream, Stands, frames_of, has_bad, next_answer, frame_in, with_piece}
 use Rattle.of10_ctl.proofs.Answering.{frame_exact, need_more_exact, ended_exact}
 use Rattle.fv_report.specs.Streams.{frame_given, TookFrame}
 
@@ -25,3 +25,7 @@ next_left given rest others frame frames a b = append_cancel_left given rest (fr
 -- where all frames were given none is left
 pub nothing_left : (given rest frames : List (List ℕ)) → given ++ rest ≡ frames → given ≡ frames → rest ≡ []
 nothing_left given rest frames a b = append_cancel_left given rest [] (a ∙ sym b ∙ sym (append-nil given))
+
+-- where nothing came behind what was fed
+pub nothing_behind : (framer : Stream) (piece : List ℕ) → piece ≡ [] → with_piece framer piece ≡ framer
+nothing_behind framer piece none = ap (λ (left : List ℕ). record framer { left = left }) (ap (λ (p : List ℕ). framer.left ++ p) none ∙ append-nil framer.left)

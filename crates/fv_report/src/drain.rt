@@ -48,6 +48,7 @@ fn next_of_slice(desk: &mut Desk, slot: u8) -> Option<Frame>
 
 impl<T: Teller> Player<'_, T> {
     /// A line for each message that waits for the switch.
+    #[inline(always)]
     pub(crate) fn drain_lane(&mut self, desk: &mut Desk) -> Result<(), ReportFault>
         ensures { (scene : Scene) (h : List Timed) (slices : ℕ → List (List ℕ)) (lane : List (List ℕ)) → IsPlaying scene self.old → Holds scene.policy h slices lane desk.old
             → HasTold T.Tells scene (Holds scene.policy h slices [] desk.new) result (lane_told scene.place lane) self.old self.new }
@@ -60,6 +61,7 @@ impl<T: Teller> Player<'_, T> {
     }
 
     /// A line for each message that waits for the slice at a slot, which has this name.
+    #[inline(always)]
     fn drain_slice(&mut self, desk: &mut Desk, slot: u8, name: &str) -> Result<(), ReportFault>
         ensures { (scene : Scene) (h : List Timed) (slices : ℕ → List (List ℕ)) (lane : List (List ℕ)) → IsPlaying scene self.old → Holds scene.policy h slices lane desk.old
             → HasTold T.Tells scene (Holds scene.policy h (with_waiting slot [] slices) lane desk.new) result (slice_told scene.place slot name.now (slices slot)) self.old self.new }
@@ -72,6 +74,7 @@ impl<T: Teller> Player<'_, T> {
     }
 
     /// A line for each message that waits for a slice, by slot.
+    #[inline(always)]
     pub(crate) fn drain_slices(&mut self, desk: &mut Desk) -> Result<(), ReportFault>
         ensures { (scene : Scene) (h : List Timed) (slices : ℕ → List (List ℕ)) (lane : List (List ℕ)) → IsPlaying scene self.old → Holds scene.policy h slices lane desk.old
             → HasTold T.Tells scene (Holds scene.policy h nothing lane desk.new) result (told_by_slot scene.place slices 0 scene.policy.slices) self.old self.new }

@@ -7,6 +7,7 @@ mod digits;
 mod drain;
 mod fault;
 mod line;
+mod number;
 mod play;
 mod player;
 mod run;

@@ -9,6 +9,7 @@ ghost use Rattle.fv_report.specs.Writing.{Wrote, Counted};
 
 use crate::digits::Digits;
 use crate::fault::ReportFault;
+use crate::number::Tens;
 use crate::teller::{Place, Said, Teller};
 use fv_base::{Sink, put_all};
 use itoa::Buffer;
@@ -26,6 +27,8 @@ pub(crate) struct LineBuffer {
     /// How many bytes the line has.
     len: usize,
     digits: Digits,
+    /// The digits of the last event's number.
+    number: Tens,
 }
 
 impl Model for LineBuffer {
@@ -50,7 +53,7 @@ fn grow(bytes: &mut Vec<u8>, count: usize) -> Result<(), AllocError>
 }
 
 /// Writes a text behind the first `at` bytes of a line, which are kept. Where it ends.
-fn put_text(line: &mut [u8], at: usize, text: &[u8]) -> usize
+pub(crate) fn put_text(line: &mut [u8], at: usize, text: &[u8]) -> usize
     requires { at + length text.now ≤ length line.old }
     ensures written { take result line.new ≡ take at line.old ++ text.now }
     ensures end { result ≡ at + length text.now }
@@ -62,6 +65,7 @@ fn put_text(line: &mut [u8], at: usize, text: &[u8]) -> usize
 }
 
 /// Writes a message in hex, likewise.
+#[inline(always)]
 fn put_hex(digits: &Digits, line: &mut [u8], at: usize, message: &[u8]) -> usize
     requires { at + 2 * length message.now ≤ length line.old }
     ensures written { take result line.new ≡ take at line.old ++ encode_lower message.now }
@@ -74,13 +78,13 @@ fn put_hex(digits: &Digits, line: &mut [u8], at: usize, message: &[u8]) -> usize
 }
 
 /// Begins a line with its place. Where it ends.
-fn put_place(line: &mut [u8], place: Place) -> usize
+fn put_place(number: &mut Tens, line: &mut [u8], place: Place) -> usize
     requires { 82 ≤ length line.old }
     ensures written { take result line.new ≡ place_text (place_of place) }
     ensures end { result ≤ 82 }
     ensures size { length line.new ≡ length line.old }
 {
-    let end = put_text(line, 0, Buffer::new().format(place.number).as_bytes());
+    let end = number.put(line, 0, place.number);
     if place.switch < 10 {
         return put_text(line, end, &[b' ', b'0' + place.switch, b' ']);
     }
@@ -138,6 +142,7 @@ impl LineBuffer {
             bytes: Vec::new(alloc),
             len: 0,
             digits: Digits::new(),
+            number: Tens::of(0),
         }
     }
 
@@ -148,7 +153,7 @@ impl LineBuffer {
         let size = size_of(&said).saturating_add(PLACE + 1);
         grow(&mut self.bytes, size)?;
         let line = self.bytes.as_mut_slice();
-        let end = put_place(line, place);
+        let end = put_place(&mut self.number, line, place);
         let end = put_said(&self.digits, line, end, said);
         self.len = put_text(line, end, b"\n");
         Ok(())
@@ -175,6 +180,7 @@ impl LineBuffer {
 }
 
 /// Puts bytes, all at once.
+#[inline(always)]
 pub(crate) fn put<K: Sink>(out: &mut K, bytes: &[u8]) -> Result<(), ReportFault>
     ensures writes { Wrote result bytes.now (K.contents out.old) (K.contents out.new) }
     ensures counted { Counted result (K.faults out.old) (K.faults out.new) }
@@ -199,6 +205,7 @@ impl<'a, K: Sink> Teller for Writer<'a, K> {
 
     ghost Tells = { λ old line outcome new. (new.out.ghost_name ≡ old.out.ghost_name) × Wrote outcome (line_text line) (K.contents old.out.now) (K.contents new.out.now) × Counted outcome (K.faults old.out.now) (K.faults new.out.now) };
 
+    #[inline(always)]
     fn tell(&mut self, place: Place, said: Said<'_>) -> Result<(), ReportFault> {
         if self.line.make(place, said).is_err() {
             return Err(ReportFault::Memory);

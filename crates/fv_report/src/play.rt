@@ -40,6 +40,7 @@ fn happens(desk: &Desk, from: Dest) -> bool
 
 impl<T: Teller> Player<'_, T> {
     /// An event. The lines of the next one belong behind it.
+    #[inline(always)]
     pub(crate) fn play(&mut self, desk: &mut Desk, event: Event) -> Result<(), ReportFault>
         ensures { (scene : Scene) (h : List Timed) → IsPlaying scene self.old → IsQuiet scene.policy h desk.old → AreFramed h → IsFramed event → happens scene.policy h event ≡ true
             → Plays T.Tells scene h (event ∷ []) result self.old self.new desk.new }
@@ -60,18 +61,8 @@ impl<T: Teller> Player<'_, T> {
         self.play(desk, event_from(from, frame))
     }
 
-    /// All frames of a connection that its framer hasn't given yet.
-    fn hear(&mut self, desk: &mut Desk, from: Dest, framer: &mut Framer) -> Result<(), ReportFault>
-        ensures { (scene : Scene) (h : List Timed) (fed : List ℕ) (given rest : List (List ℕ)) → IsPlaying scene self.old → IsQuiet scene.policy h desk.old → AreFramed h → Stands framer.old fed given → given ++ rest ≡ frames_of fed
-            → PlaysFrames T.Tells scene from h fed rest result self.old self.new desk.new framer.new }
-    {
-        while let Some(frame) = self.next_frame(framer)? {
-            self.hear_one(desk, from, frame)?;
-        }
-        Ok(())
-    }
-
     /// Bytes that came on a connection, all frames of whose bytes before were given.
+    #[inline(always)]
     pub(crate) fn hear_bytes(
         &mut self,
         desk: &mut Desk,
@@ -82,7 +73,10 @@ impl<T: Teller> Player<'_, T> {
         ensures { (scene : Scene) (h : List Timed) (fed : List ℕ) → IsPlaying scene self.old → IsQuiet scene.policy h desk.old → AreFramed h → Stands framer.old fed (frames_of fed)
             → PlaysFrames T.Tells scene from h (fed ++ bytes.now) (drop (length (frames_of fed)) (frames_of (fed ++ bytes.now))) result self.old self.new desk.new framer.new }
     {
-        framer.feed(bytes)?;
-        self.hear(desk, from, framer)
+        let mut piece = bytes;
+        while let Some(frame) = self.next_frame(framer, &mut piece)? {
+            self.hear_one(desk, from, frame)?;
+        }
+        Ok(())
     }
 }

@@ -1,9 +1,10 @@
 //! Who plays a recording.
 
-ghost use Rattle.std.specs.Prelude.{ℕ, ◌≡◌, ◌≤◌, ◌<◌, ◌+◌, ◌^◌, List, [], ◌∷◌, length, IfOk, IfSome, IfErr, OnErr};
+ghost use Rattle.std.specs.Prelude.{ℕ, ◌≡◌, ◌≤◌, ◌<◌, ◌+◌, ◌^◌, List, [], ◌∷◌, length, IfOk, IfSome, IfNone, IfErr, OnErr};
 ghost use Rattle.desk_words.specs.Recorded.{told_by};
 ghost use Rattle.fv_report.specs.Lines.{saying_of};
 ghost use Rattle.of10_ctl.specs.Frames.{IsFrame};
+ghost use Rattle.of10_ctl.specs.Streams.{with_piece};
 ghost use Rattle.fv_report.specs.Streams.{TakesFrame};
 ghost use Rattle.fv_report.specs.Players.{Scene, IsPlaying, PlaysOn, later, scene_of, HasTold};
 
@@ -68,6 +69,7 @@ impl<'a, T: Teller> Player<'a, T> {
     }
 
     /// Tells a line of the event that is played.
+    #[inline(always)]
     pub(crate) fn say(&mut self, said: Said<'_>) -> Result<(), ReportFault>
         ensures { (scene : Scene) → IsPlaying scene self.old → HasTold T.Tells scene (Unit {0}) result (record { place = scene.place; saying = saying_of said.entry } ∷ []) self.old self.new }
     {
@@ -81,14 +83,21 @@ impl<'a, T: Teller> Player<'a, T> {
         *self.spare = message.into_vec();
     }
 
-    /// The next frame of a stream, if all its bytes came and no frame before it has a bad length.
-    pub(crate) fn next_frame(&mut self, framer: &mut Framer) -> Result<Option<Frame>, AllocError>
-        ensures takes { IfOk result (λ next. TakesFrame next framer.old framer.new) }
+    /// The next frame of a stream of which a piece came, if all its bytes came and no frame before it has a bad
+    /// length. What isn't taken yet of the piece is left; nothing is where no frame comes.
+    #[inline(always)]
+    pub(crate) fn next_frame(
+        &mut self,
+        framer: &mut Framer,
+        piece: &mut &[u8],
+    ) -> Result<Option<Frame>, AllocError>
+        ensures takes { IfOk result (λ next. TakesFrame next (with_piece framer.old piece.old.now) (with_piece framer.new piece.new.now)) }
+        ensures all { IfOk result (λ next. IfNone next (piece.new.now ≡ [])) }
         ensures frame { IfOk result (λ next. IfSome next IsFrame) }
-        ensures shorter { IfOk result (λ next. IfSome next (λ _. length framer.new.left < length framer.old.left)) }
+        ensures shorter { IfOk result (λ next. IfSome next (λ _. length (with_piece framer.new piece.new.now).left < length (with_piece framer.old piece.old.now).left)) }
         ensures on { PlaysOn self.old self.new }
     {
-        next_frame(framer, self.spare)
+        next_frame(framer, piece, self.spare)
     }
 
     /// An event was played. A recording has far fewer than 2^64 events.

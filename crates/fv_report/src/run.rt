@@ -41,6 +41,7 @@ pub(crate) fn no_switches(alloc: Global) -> Result<Vec<Option<Switch>>, AllocErr
 
 impl<T: Teller> Player<'_, T> {
     /// Plays the first record of a switch, which begins with it.
+    #[inline(never)]
     fn play_first(
         &mut self,
         known: &mut Option<Switch>,

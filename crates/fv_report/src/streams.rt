@@ -1,7 +1,8 @@
 //! The connections of one switch, cut into frames.
 
-ghost use Rattle.std.specs.Prelude.{◌≡◌, ◌<◌, length, IfOk, IfSome};
+ghost use Rattle.std.specs.Prelude.{◌≡◌, ◌<◌, [], length, IfOk, IfSome, IfNone};
 ghost use Rattle.of10_ctl.specs.Frames.{IsFrame};
+ghost use Rattle.of10_ctl.specs.Streams.{with_piece};
 ghost use Rattle.fv_report.specs.Streams.{AreFreshFramers, NothingCame, Restarts, frame_given, TakesFrame};
 
 use of10_ctl::{Frame, Framer, Next};
@@ -55,16 +56,19 @@ fn frame_in(next: Next) -> Option<Frame>
     }
 }
 
-/// The next frame of a stream, if all its bytes came and no frame before it has a bad length. It is made in the
-/// memory of `spare`.
+/// The next frame of a stream of which a piece came, if all its bytes came and no frame before it has a bad length.
+/// It is made in the memory of `spare`. What isn't taken yet of the piece is left; nothing is where no frame comes.
+#[inline(always)]
 pub(crate) fn next_frame(
     framer: &mut Framer,
+    piece: &mut &[u8],
     spare: &mut Vec<u8>,
 ) -> Result<Option<Frame>, AllocError>
-    ensures takes { IfOk result (λ next. TakesFrame next framer.old framer.new) }
+    ensures takes { IfOk result (λ next. TakesFrame next (with_piece framer.old piece.old.now) (with_piece framer.new piece.new.now)) }
+    ensures all { IfOk result (λ next. IfNone next (piece.new.now ≡ [])) }
     ensures frame { IfOk result (λ next. IfSome next IsFrame) }
-    ensures shorter { IfOk result (λ next. IfSome next (λ _. length framer.new.left < length framer.old.left)) }
+    ensures shorter { IfOk result (λ next. IfSome next (λ _. length (with_piece framer.new piece.new.now).left < length (with_piece framer.old piece.old.now).left)) }
 {
-    let next = framer.next_in(spare)?;
+    let next = framer.next_of(piece, spare)?;
     Ok(frame_in(next))
 }

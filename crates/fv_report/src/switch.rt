@@ -46,6 +46,7 @@ impl Switch {
 
     /// Before a record, where there were records before it: where it comes up, all begins anew.
     // No switch is a local of this one, as in `play_at`.
+    #[inline(never)]
     fn renew(&mut self, alloc: Global, policy: &Policy, item: &Item) -> Result<(), AllocError>
         ensures { OnOk result ((bytes : List ℕ) (before : List Told) → SwitchStands policy.now item.now.switch before self.old → IsFound policy.now (told_by item.now bytes) before self.new) }
     {
@@ -85,6 +86,7 @@ fn event_of(item: &Item) -> Event
 
 impl<T: Teller> Player<'_, T> {
     /// A connection begins or ends. A switch that comes up is fresh.
+    #[inline(never)]
     fn connection_turns(&mut self, switch: &mut Switch, item: &Item) -> Result<(), ReportFault>
         requires { IsTurn item.now.kind }
         ensures { PlaysRecord T.Tells (told_by item.now []) result self.old self.new switch.old switch.new }
@@ -120,6 +122,7 @@ impl<T: Teller> Player<'_, T> {
     }
 
     /// Plays a record at its switch, which is a fresh one where the record is the switch's up.
+    #[inline(always)]
     pub(crate) fn play_record(
         &mut self,
         switch: &mut Switch,

@@ -47,6 +47,7 @@ fn speaker(event: &Event) -> Option<u8>
 
 /// One event. The verdict on it, by which it is taken in, so that what it makes waits, or nothing more comes
 /// of the desk.
+#[inline(always)]
 fn step(alloc: Global, desk: &mut Desk, timed: Timed) -> Result<Verdict, ReportFault>
     ensures after { IfOk result (λ answered. (policy : PolicyView) (h : List Timed) → IsQuiet policy h desk.old → AreFramed h → IsFramed timed.event → (answered ≡ verdict policy h timed) × After policy h timed (takes_in (Ok answered)) desk.new) }
     ensures memory { IfErr result (λ f. f ≡ ReportFault.Memory) }
@@ -69,6 +70,7 @@ fn name_of(policy: &Policy, slot: u8) -> &str
 
 impl<T: Teller> Player<'_, T> {
     /// The line of a connection that is closed, if it is.
+    #[inline(never)]
     fn put_close(&mut self, slot: u8, closed: bool) -> Result<(), ReportFault>
         ensures { (scene : Scene) → IsPlaying scene self.old → HasTold T.Tells scene (Unit {0}) result (closed_told scene.policy scene.place slot closed) self.old self.new }
     {
@@ -90,6 +92,7 @@ impl<T: Teller> Player<'_, T> {
     }
 
     /// Where a slice spoke, the line of its connection if that is closed; else the line of the switch's end.
+    #[inline(always)]
     fn put_state(
         &mut self,
         desk: &Desk,
@@ -107,6 +110,7 @@ impl<T: Teller> Player<'_, T> {
 
     /// The lines of an event that was taken in: of its messages, and of a connection that is closed or of the
     /// switch's end.
+    #[inline(always)]
     fn put_taken(
         &mut self,
         desk: &mut Desk,
@@ -134,6 +138,7 @@ impl<T: Teller> Player<'_, T> {
     }
 
     /// One event at a desk at which nothing waits, and all its lines.
+    #[inline(always)]
     pub(crate) fn turn(&mut self, desk: &mut Desk, event: Event) -> Result<(), ReportFault>
         ensures { (scene : Scene) (h : List Timed) → IsPlaying scene self.old → IsQuiet scene.policy h desk.old → AreFramed h → IsFramed event
             → HasTold T.Tells scene (IsQuiet scene.policy (next_of h (timed_at scene.moment event)) desk.new) result (event_told scene.policy scene.place h (timed_at scene.moment event)) self.old self.new }

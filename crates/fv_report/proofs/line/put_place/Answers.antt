@@ -6,7 +6,7 @@ pub returns-then-place-lt10-clause-written : goal.returns-then-place-lt10-clause
 returns-then-place-lt10-clause-written c =
     let front = decimal c.args.place.number in
     let digit = 48 + c.args.place.switch in
-    let number : take c.put_text-end.result c.put_text-end.new.line ≡ front = c.put_text-end.ensures.written ∙ c.as_bytes.ensures.value ∙ c.format.ensures.text in
+    let number : take c.put-end.result c.put-end.new.line ≡ front = c.put-end.ensures.written in
     rw (decimal_digit c.args.place.switch c.if-place-lt10.true)
     (c.put_text.ensures.written ∙ ap (λ written. written ++ (32 ∷ digit ∷ 32 ∷ [])) number
     ∙ sym (append_assoc front (32 ∷ []) (digit ∷ 32 ∷ [])) ∙ sym (append_assoc (front ++ (32 ∷ [])) (digit ∷ []) (32 ∷ [])))
