@@ -38,7 +38,7 @@ use Rattle.slice_words.specs.Questions.{may_ask}
 use Rattle.slice_words.proofs.LoneRules.{same_port}
 use Rattle.lane_laws.specs.Lane.{AsksForReply, AsksOwnPort, MayBeAsked, IsReadAsInquiry}
 use Rattle.lane_laws.proofs.Reading.{bytes-take}
-use Rattle.slice_side.specs.Checking.{IsInquiry}
+use Rattle.slice_side.specs.Checking.{IsInquirySent}
 
 -- ---- ranges
 
@@ -93,7 +93,7 @@ question_is message queues bytes read = record {
 }
 
 -- a question asks for a reply
-pub asks_for_reply : (g : Ground) (message question : List ℕ) (asked : FromController) → read_controller message ≡ Ok asked → IsInquiry g asked question → AsksForReply question
+pub asks_for_reply : (g : Ground) (message question : List ℕ) (asked : FromController) → read_controller message ≡ Ok asked → IsInquirySent g asked question → AsksForReply question
 asks_for_reply g message question (said.StatsRequest request) read is =
     let sent = some_asked (asked_as request) g.xid question is.1 in
     inl (subst (IsOf STATS_REQUEST) (sym sent.2) (IsOf-request sent.0 g.xid))
@@ -157,14 +157,14 @@ module _ (g : Ground) (rules : List Rule) (slot : ℕ) (on_slot : g.slot ≡ slo
   asks_same (statistics.Queue port queue) asked is own = subst MaySend (same_Some (statistics.Queue port queue) asked is) (refl, own)
 
   -- a question may be asked
-  pub may_be : (message question : List ℕ) (asked : FromController) → IsInquiry g asked question → MayBeAsked rules slot asked
+  pub may_be : (message question : List ℕ) (asked : FromController) → IsInquirySent g asked question → MayBeAsked rules slot asked
   may_be message question (said.StatsRequest request) is = (ap is_some (some_asked (asked_as request) g.xid question is.1).1, may_own request is.0)
   may_be message question said.BarrierRequest is = tt
   may_be message question (said.QueueGetConfigRequest queues) is = owned queues.port is.0
   may_be message question _ is = absurd is
 
   -- a switch reads it as one that may be asked
-  pub read_as_question : (message question : List ℕ) (asked : FromController) → ((k : ℕ) → slice_index message k < 256) → read_controller message ≡ Ok asked → IsInquiry g asked question → IsReadAsInquiry rules slot question
+  pub read_as_question : (message question : List ℕ) (asked : FromController) → ((k : ℕ) → slice_index message k < 256) → read_controller message ≡ Ok asked → IsInquirySent g asked question → IsReadAsInquiry rules slot question
   read_as_question message question (said.StatsRequest request) bytes read is =
       let sent = some_asked (asked_as request) g.xid question is.1 in
       let range = asked_in_range request sent.0 sent.1 (read_in_range message request bytes (request_as_read message request read)) in

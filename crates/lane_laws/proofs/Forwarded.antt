@@ -22,12 +22,12 @@ use Rattle.slice_words.specs.Questions.{asking, statistics_asked, queues_asked}
 use Rattle.slice_words.specs.Answers.{refused, unread_answer, forwarded_answer, keeps_rate, read_answer, message_answer}
 use Rattle.slice_words.specs.Alone.{spell_inquiry}
 use Rattle.slice_words.proofs.AnswerKinds.{message_holds}
-use Rattle.slice_side.specs.Checking.{IsInquiry}
+use Rattle.slice_side.specs.Checking.{IsInquirySent}
 use Rattle.slice_side.proofs.Answering.{asked_answer}
 use Rattle.lane_laws.proofs.Asked.{some_asked}
 
 -- a message with which a slice may ask the switch something is to be sent on
-is_question : (g : Ground) (message question : List ℕ) (asked : FromController) → IsInquiry g asked question → asks_switch (Ok asked) ≡ true
+is_question : (g : Ground) (message question : List ℕ) (asked : FromController) → IsInquirySent g asked question → asks_switch (Ok asked) ≡ true
 is_question g message question (said.StatsRequest request) is = refl
 is_question g message question said.BarrierRequest is = refl
 is_question g message question (said.QueueGetConfigRequest queues) is = refl
@@ -52,7 +52,7 @@ abbrev pub IsAskedIn : Settings → List Item → List Past → List ℕ → Lis
 IsAskedIn s view past message question asked =
     (q : Inquiry) × (question ≡ spell_inquiry q (ground_of s view past).xid) × (forwarded_answer s view past asked message ≡ asking (ground_of s view past) q)
 
-question_follows : (s : Settings) (view : List Item) (past : List Past) (message question : List ℕ) (asked : FromController) → IsInquiry (ground_of s view past) asked question → IsAskedIn s view past message question asked
+question_follows : (s : Settings) (view : List Item) (past : List Past) (message question : List ℕ) (asked : FromController) → IsInquirySent (ground_of s view past) asked question → IsAskedIn s view past message question asked
 question_follows s view past message question (said.StatsRequest request) is =
     let sent = some_asked (asked_as request) (ground_of s view past).xid question is.1 in
     (ForStatistics sent.0, sent.2, ap (λ (b : Bool). if b then statistics_asked (ground_of s view past) request message else refused not_permitted message) is.0 ∙ ap (by_asked (ground_of s view past) message) sent.1)
@@ -82,7 +82,7 @@ module _ (s : Settings) (view : List Item) (past : List Past) (moment : ℕ) (me
   pub record PermitsInquiry (asked : FromController) (question : List ℕ) : Type 0 where
     pub read : read_controller message ≡ Ok asked
     pub rate : keeps_rate s view past moment ≡ true
-    pub may : IsInquiry (ground_of s view past) asked question
+    pub may : IsInquirySent (ground_of s view past) asked question
 
   -- what follows by what is read of the message, by whether it keeps the rate, and by the first line that refuses it
   abbrev read_as : Reading → Answer
@@ -122,7 +122,7 @@ module _ (s : Settings) (view : List Item) (past : List Past) (moment : ℕ) (me
 
   -- a message that may be a question
   abbrev MayAsk : Type 0
-  MayAsk = (asked : FromController) × (question : List ℕ) × (read_controller message ≡ Ok asked) × IsInquiry (ground_of s view past) asked question
+  MayAsk = (asked : FromController) × (question : List ℕ) × (read_controller message ≡ Ok asked) × IsInquirySent (ground_of s view past) asked question
 
   -- another message puts nothing
   abbrev IsOfThese : Answer → Type 0

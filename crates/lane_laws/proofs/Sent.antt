@@ -69,7 +69,7 @@ use Rattle.desk_words.proofs.Silence.{sees_nothing}
 use Rattle.desk_words.proofs.Seen.{seen}
 use Rattle.lane_laws.specs.Lane.{AsksForReply, LiesInFlowspace, NamesOwnPort, OutputsToOwnPorts, LeavesOtherHeaders, SendsOwnPacket, SendsToOwnPorts, ChangesNoTable, IsBufferHeader, CarriesOwnBuffer, SendsOwnBuffer, IsOwnBuffer, HoldsWritten, rules_in, settings_in, ports_shown, ground_in, switch_number, flow_mods_at, packet_out_at, KeepsRate, IsPermitted, IsPermittedOut, IsPermittedInquiry, IsAnyPermitted, AsksOwnPort}
 use Rattle.lane_laws.proofs.Keeping.{IsKept, kept_now}
-use Rattle.slice_side.specs.Checking.{IsInquiry}
+use Rattle.slice_side.specs.Checking.{IsInquirySent}
 use Rattle.lane_laws.proofs.Forwarded.{put_whole, out_whole, question_whole, put_or_none}
 use Rattle.lane_laws.proofs.Asked.{asks_for_reply, owns, own_may, may_be}
 use Rattle.lane_laws.proofs.Own.{each_sent, sent_within, permitted_own, permitted_ways, permitted_alike, HoldsOfLists, given_holds, sent_holds}
@@ -155,7 +155,7 @@ out_lane_whole policy h timed slot message m is up p =
 
 -- a question is sent as it was put
 question_lane_whole : (policy : PolicyView) (h : List Timed) (timed : Timed) (slot : ℕ) (message question : List ℕ) (asked : FromController) → timed.event ≡ SliceMsg slot message → is_slice_up policy slot h ≡ true
-    → read_controller message ≡ Ok asked → KeepsRate policy slot h timed.moment → IsInquiry (ground_in policy slot h) asked question → lane_by policy h timed ≡ question ∷ []
+    → read_controller message ≡ Ok asked → KeepsRate policy slot h timed.moment → IsInquirySent (ground_in policy slot h) asked question → lane_by policy h timed ≡ question ∷ []
 question_lane_whole policy h timed slot message question asked is up read rate may =
     let s = settings_in policy slot h in
     let view = view_of policy slot h in
@@ -168,7 +168,7 @@ abbrev IsAnyPut : PolicyView → ℕ → List Timed → ℕ → List ℕ → Typ
 IsAnyPut policy slot h moment message =
     ((m : FlowMod) × IsPermitted policy slot h moment message m)
     ⊎ (((m : PacketOut) × IsPermittedOut policy slot h moment message m)
-    ⊎ ((asked : FromController) × (question : List ℕ) × (read_controller message ≡ Ok asked) × KeepsRate policy slot h moment × IsInquiry (ground_in policy slot h) asked question))
+    ⊎ ((asked : FromController) × (question : List ℕ) × (read_controller message ≡ Ok asked) × KeepsRate policy slot h moment × IsInquirySent (ground_in policy slot h) asked question))
 
 lane_or_some : (policy : PolicyView) (h : List Timed) (timed : Timed) (slot : ℕ) (message : List ℕ) → timed.event ≡ SliceMsg slot message
     → (lane_by policy h timed ≡ []) ⊎ ((is_slice_up policy slot h ≡ true) × IsAnyPut policy slot h timed.moment message)
@@ -216,7 +216,7 @@ pub record HoldsOfSent (P : List Rule → FlowMod → Type 0) (Q : List Rule →
   pub packet_outs : (features : Features) → opening_of h ≡ Some features → is_slot policy slot ≡ true → (m : PacketOut) → read_controller message ≡ Ok (said.PacketOut m)
       → packet_out_fault (ground_by policy slot h (Some features)) m ≡ None → Q (rules_on features.datapath policy.rules) (packet_out_by policy slot h (ground_by policy slot h (Some features)) m)
   pub questions : (features : Features) → opening_of h ≡ Some features → is_slot policy slot ≡ true → (asked : FromController) (question : List ℕ) → read_controller message ≡ Ok asked
-      → IsInquiry (ground_by policy slot h (Some features)) asked question → R (rules_on features.datapath policy.rules) question
+      → IsInquirySent (ground_by policy slot h (Some features)) asked question → R (rules_on features.datapath policy.rules) question
 
 -- a message is spelled from a flow-mod of which one thing holds, or from a packet-out of which another does
 abbrev pub IsSpelled : (FlowMod → Type 0) → (PacketOut → Type 0) → List ℕ → Type 0
@@ -251,7 +251,7 @@ each_in_lane P Q R policy h timed slot message is holds =
           (All-cons Each (spell_packet_out (packet_out_at policy slot h m)) [] (inl (inr (packet_out_at policy slot h m, refl, sent))) (All-nil Each))
       | inr (up, inr (inr some)) ↦
           let told = told_up policy slot h up in
-          let may = subst (λ (found : Option Features). IsInquiry (ground_by policy slot h found) some.0 some.1) told.1 some.4 in
+          let may = subst (λ (found : Option Features). IsInquirySent (ground_by policy slot h found) some.0 some.1) told.1 some.4 in
           let one = holds.questions told.0 told.1 (up_here policy slot h (phase_of h) refl up) some.0 some.1 some.2 may in
           let sent : R (rules_in policy h) some.1 = subst (λ (found : Option Features). R (rules_of policy found) some.1) (sym told.1) one in
           rw (question_lane_whole policy h timed slot message some.1 some.0 is up some.2 some.3 some.4) (All-cons Each some.1 [] (inr sent) (All-nil Each))

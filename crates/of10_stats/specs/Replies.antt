@@ -12,8 +12,8 @@ abbrev pub entries_begin : ℕ
 entries_begin = 12
 
 -- the entries of a reply as they lie in it (section 5.3.5)
-abbrev pub entries_of : List ℕ → List ℕ
-entries_of reply = drop entries_begin reply
+abbrev pub entries_behind : List ℕ → List ℕ
+entries_behind reply = drop entries_begin reply
 
 -- the type of statistics, whether more parts follow, and where the entries begin (section 5.3.5)
 unfoldable pub part_of : List ℕ → Result StatsPart WireFault

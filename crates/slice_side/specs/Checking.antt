@@ -72,11 +72,11 @@ abbrev pub packet_out_from : SliceState → Ground → PacketOut → PacketOut
 packet_out_from state g m = record (packet_out_on g m) { buffer = number_in (packet_in state m.buffer) }
 
 -- with a message of which this was read the slice may ask the switch this
-abbrev pub IsInquiry : Ground → FromController → List ℕ → Type 0
-IsInquiry g (said.StatsRequest request) question = (may_ask g request ≡ true) × (question_for request g.xid ≡ Some question)
-IsInquiry g said.BarrierRequest question = question ≡ message_of BARRIER_REQUEST g.xid []
-IsInquiry g (said.QueueGetConfigRequest queues) question = (is_own_port g.slot g.patterns queues.port ≡ true) × (question ≡ spell_queues_request g.xid queues)
-IsInquiry g asked question = ⊥
+abbrev pub IsInquirySent : Ground → FromController → List ℕ → Type 0
+IsInquirySent g (said.StatsRequest request) question = (may_ask g request ≡ true) × (question_for request g.xid ≡ Some question)
+IsInquirySent g said.BarrierRequest question = question ≡ message_of BARRIER_REQUEST g.xid []
+IsInquirySent g (said.QueueGetConfigRequest queues) question = (is_own_port g.slot g.patterns queues.port ≡ true) × (question ≡ spell_queues_request g.xid queues)
+IsInquirySent g asked question = ⊥
 
 -- this is sent on for a message of which this was read: nothing; the flow-mods for it where it is one that no line refuses; the packet-out for it where it is one that no line refuses; or one question that the slice may ask with it
 abbrev pub IsSentOn : SliceState → Ground → Reading → List (List ℕ) → Type 0
@@ -84,7 +84,7 @@ IsSentOn state g read sent =
     (sent ≡ [])
     ⊎ (((m : FlowMod) × (read ≡ Ok (said.FlowMod m)) × (flow_mod_fault g m ≡ None) × (sent ≡ map spell_flow_mod (flow_mods_from state g m)))
     ⊎ (((m : PacketOut) × (read ≡ Ok (said.PacketOut m)) × (packet_out_fault g m ≡ None) × (sent ≡ spell_packet_out (packet_out_from state g m) ∷ []))
-    ⊎ ((asked : FromController) × (question : List ℕ) × (read ≡ Ok asked) × IsInquiry g asked question × (sent ≡ question ∷ []))))
+    ⊎ ((asked : FromController) × (question : List ℕ) × (read ≡ Ok asked) × IsInquirySent g asked question × (sent ≡ question ∷ []))))
 
 -- so it is by the rules of the switch, its ports and the slice's state, with some quota and some transaction id
 abbrev pub AreSentOn : List Rule → ℕ → List (List ℕ) → SliceState → Reading → List (List ℕ) → Type 0

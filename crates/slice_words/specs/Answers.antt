@@ -75,7 +75,7 @@ refusal_of (BadForm fault) = class_and_code fault
 
 -- ---- messages of the controller
 
--- what follows from a message that isn't read: one whose length is bad, or that has no version in common, ends the connection, and the second is quoted nothing of (section 4.2)
+-- what follows from a message that isn't read: one whose length is bad, or that has no version in common, as a HELLO of version 0 hasn't, ends the connection, and the second is quoted nothing of (section 4.2)
 abbrev pub unread_answer : Unread → List ℕ → Answer
 unread_answer BadLength message = dismissal (error_for bad_length message ∷ [])
 unread_answer NoCommonVersion message = dismissal (error_of (xid_of message) no_common_version.0 no_common_version.1 [] ∷ [])

@@ -4,7 +4,7 @@ use Rattle.std.specs.List.{concat, flat_map}
 use Rattle.of10_ctl.specs.declared.kind.TheConstants.{STATS_REPLY}
 use Rattle.of10_ctl.specs.Heads.{head_of}
 use Rattle.of10_ctl.specs.Kinds.{IsOf}
-use Rattle.of10_stats.specs.Replies.{IsEntry, entries_begin, entries_of, entry_size_of, part_of}
+use Rattle.of10_stats.specs.Replies.{IsEntry, entries_begin, entries_behind, entry_size_of, part_of}
 use Rattle.stats_filter.specs.Replies.{page_size}
 
 -- ---- entries
@@ -49,7 +49,7 @@ pub record IsReplyPage (kind xid : ℕ) (more : Bool) (page reply : List ℕ) : 
   pub message : IsOf STATS_REPLY reply
   pub under : (head_of reply).xid ≡ xid
   pub part : part_of reply ≡ Ok (record { kind = kind; more = more; from = entries_begin })
-  pub entries : entries_of reply ≡ page
+  pub entries : entries_behind reply ≡ page
 
 -- there are some pages
 abbrev pub are_some : List (List ℕ) → Bool

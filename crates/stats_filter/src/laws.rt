@@ -9,7 +9,7 @@ ghost use Rattle.of10_ctl.specs.Kinds.{IsOf};
 ghost use Rattle.of10_stats.specs.declared.request.StatsRequest.{StatsRequest};
 ghost use Rattle.of10_stats.specs.Requests.{IsRequest, read_request};
 ghost use Rattle.of10_stats.specs.declared.protocol.TheConstants.{DESC, FLOW, PORT, QUEUE};
-ghost use Rattle.of10_stats.specs.Replies.{IsEntry, entries_of, entry_port, flow_of};
+ghost use Rattle.of10_stats.specs.Replies.{IsEntry, entries_behind, entry_port, flow_of};
 ghost use Rattle.flowspace.specs.declared.rules.Rule.{Rule};
 ghost use Rattle.flowspace.specs.Policies.{AreNormal};
 ghost use Rattle.flowspace.specs.Owners.{HasPort, Owns};
@@ -41,7 +41,7 @@ pub fn pages_are_full_rows()
 /// after another, are the entries.
 pub fn replies_have_the_pages()
     ensures pages { (kind xid : ℕ) (bytes : List ℕ) → kind < 2 ^ 16 → xid < 2 ^ 32 → FitPages (entries_in kind bytes) → AreReplies kind xid (pages (entries_in kind bytes)) (replies_of kind bytes xid) }
-    ensures again { (kind xid : ℕ) (bytes : List ℕ) → flat_map (λ reply. entries_in kind (entries_of reply)) (replies_of kind bytes xid) ≡ entries_in kind bytes }
+    ensures again { (kind xid : ℕ) (bytes : List ℕ) → flat_map (λ reply. entries_in kind (entries_behind reply)) (replies_of kind bytes xid) ≡ entries_in kind bytes }
 {}
 
 /// A flow is a slice's exactly where one of its write rules has all headers of the flow's match, and a port or
