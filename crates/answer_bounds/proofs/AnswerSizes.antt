@@ -1,5 +1,5 @@
 -- What is answered to an item is at most one message, unless it is the end of statistics, and what is put for the switch is small. A new kind of answer is a case more of `answer_size`.
-use Rattle.std.proofs.Common.{◌≡◌, ℕ, ◌+◌, ◌-◌, ◌^◌, ◌%◌, ◌==◌, ◌&&◌, ◌≤◌, not, Bool, true, false, if◌then◌else◌, List, [], ◌∷◌, ◌++◌, map, length, take, filter, suc, append-nil, true≢false, refl, Option, Some, None, Ok, option_map, arith}
+use Rattle.std.proofs.Common.{◌≡◌, ℕ, ◌+◌, ◌-◌, ◌^◌, ◌%◌, ◌==◌, ◌&&◌, ◌≤◌, not, Bool, true, false, if◌then◌else◌, List, [], ◌∷◌, ◌++◌, map, length, take, filter, suc, append-nil, true≢false, refl, sym, subst, Option, Some, None, Ok, option_map, arith}
 use Rattle.std.specs.List.{All}
 use Rattle.std.proofs.lemmas.Bool.{ltb-false}
 use Rattle.std.proofs.lemmas.List.{length-take}
@@ -17,7 +17,7 @@ use Rattle.of10_message.specs.Controller.{read_controller}
 use Rattle.of10_config.specs.declared.queues.QueuesQuestion.{QueuesQuestion}
 use Rattle.of10_config.specs.Queues.{port_of_queues, question_bytes, spell_queues_request}
 use Rattle.of10_config.proofs.Again.{padding_read}
-use Rattle.of10_message.proofs.Cases.{queues_as_read}
+use Rattle.of10_message.proofs.Cases.{queues_as_read, echo_as_read}
 use Rattle.stats_filter.specs.Replies.{table_reply}
 use Rattle.of10_port.specs.Ports.{IsPort}
 use Rattle.of10_port.specs.Features.{spell_features}
@@ -35,7 +35,7 @@ use Rattle.slice_words.specs.Questions.{asking}
 use Rattle.slice_words.specs.Calls.{request_calls, request_for, book_calls}
 use Rattle.slice_words.specs.FlowMods.{Ground, ground_of, packet_at, sent_on, flow_mod_fault}
 use Rattle.slice_words.specs.PacketOuts.{packet_out_on, packet_out_size, sent_out, packet_out_fault}
-use Rattle.slice_words.specs.Answers.{error_for, refused, no_common_version, bad_length, config_reply, packet_message, packet_told, message_answer, removal_told, error_told, answer}
+use Rattle.slice_words.specs.Answers.{error_for, refused, no_common_version, bad_length, config_told, packet_message, packet_told, message_answer, removal_told, error_told, answer}
 use Rattle.slice_words.specs.Alone.{number_it_came_with, spell_inquiry, rendered, played, answer_to, sent_for, put_for}
 use Rattle.of10_model.proofs.Results.{either}
 use Rattle.slice_words.proofs.AnswerKinds.{message_holds}
@@ -126,9 +126,11 @@ message_size s view past moment message short ports = message_holds (λ (ends : 
   old = small_dismissal (error_of (xid_of message) no_common_version.0 no_common_version.1 []) (short-error (xid_of message) no_common_version.0 no_common_version.1 []);
   nothing = small_silence;
   refuses = λ fault. small_refused fault message;
-  echoes = small_told (echo_reply_to message) (short-echo message short);
+  echoes = λ body read.
+      let whole : IsShort (echo_reply_to (xid_of message) body) = subst (λ (b : List ℕ). IsShort (echo_reply_to (xid_of message) b)) (sym (echo_as_read message body read)) (short-echo (xid_of message) message short) in
+      small_told (echo_reply_to (xid_of message) body) whole;
   tells_features = λ features. small_told (spell_features (features_with features (known_ports view)) (xid_of message)) (short-features (features_with features (known_ports view)) (xid_of message) ports.whole ports.few);
-  tells_configuration = small_told (config_reply (miss_send_len view) message) (short-config (xid_of message) (miss_send_len view));
+  tells_configuration = small_told (config_told (miss_send_len view) message) (short-config (xid_of message) (miss_send_len view));
   forwards = λ m read none. small_forwarded (ground_of s view past) m none;
   sends_out = λ m read none. small_sent_out (ground_of s view past) m none;
   tells_table = small_told (table_reply (length (ground_of s view past).booked) s.quota (xid_of message)) (short-table (length (ground_of s view past).booked) s.quota (xid_of message));

@@ -39,7 +39,7 @@ use Rattle.desk_words.specs.declared.event.Timed.{Timed}
 use Rattle.desk_words.specs.declared.phase.Phase.{Phase}
 use Rattle.desk_words.specs.declared.phase.Phase.TheVariants.{Fresh, Begun, Opened, Gone}
 use Rattle.desk_words.specs.Openings.{opening_with, rules_of, KnownSwitch, switch_of, phase_of, opening_of}
-use Rattle.desk_words.specs.Histories.{is_slot, settings_at, own_features, handed, header_in, number_given, marked_slot, shares_of, holder, packet_items, packet_in_items, Side, status_items, removed_items, is_reply_to, error_items, barrier_items, queues_items, said_items, message_items, opening_items, event_items, phase_items, items_of, side_of, view_of}
+use Rattle.desk_words.specs.Histories.{is_slot, settings_at, own_features, handed, header_in, number_given, marked_slot, shares_of, holder, packet_items, packet_in_items, SliceSide, status_items, removed_items, is_reply_to, error_items, barrier_items, queues_items, said_items, message_items, opening_items, event_items, phase_items, items_of, side_of, view_of}
 use Rattle.port_view.specs.KnownPorts.{is_kept}
 use Rattle.answer_bounds.specs.Bounds.{IsFramed, AreFramed, AreFew, AreSmall, is_statistics, tells_statistics}
 use Rattle.answer_bounds.proofs.Messages.{IsShort, few-more, small-few}
@@ -117,7 +117,7 @@ lost_few view shown (Some k) few =
     let rest = few (Lost k ∷ view) in
     record { few = rest.few; bounded = (tt, rest.bounded); whole = All-cons IsWholeEntry (Lost k) shown tt rest.whole }
 
-packet_few : (policy : PolicyView) (rules : List Rule) (slot : ℕ) (side : Side) (packet : PacketIn) → IsShortPacket packet → AreFewItems side.sight.view (packet_in_items policy rules slot side packet)
+packet_few : (policy : PolicyView) (rules : List Rule) (slot : ℕ) (side : SliceSide) (packet : PacketIn) → IsShortPacket packet → AreFewItems side.sight.view (packet_in_items policy rules slot side packet)
 packet_few policy rules slot side packet short =
     lost_few side.sight.view (packet_items policy rules slot side.sight.view packet) (option_and_then (λ number. holder number side.numbered) (number_given packet))
     (λ others. items_if others (is_up side.sight.view) (map (λ share. handed share packet) (shares_of policy rules slot packet)) (handed_few policy rules slot others packet short))
@@ -209,7 +209,7 @@ said_short message short = of_switch (λ said. IfOk said IsShortSaid) message (r
   queues = λ queues is. if_read (λ (found : QueuesMessage). length found.body ≤ 65527) (read_queues message) queues is (queues_short message short);
 }) tt
 
-said_answered : (policy : PolicyView) (slot : ℕ) (switch : KnownSwitch) (side : Side) (xid : ℕ) (said : Result SwitchMessage Unread) → IfOk said IsShortSaid → All IsWholeEntry side.sight.view
+said_answered : (policy : PolicyView) (slot : ℕ) (switch : KnownSwitch) (side : SliceSide) (xid : ℕ) (said : Result SwitchMessage Unread) → IfOk said IsShortSaid → All IsWholeEntry side.sight.view
     → AreAnswered (is_statistics said) (settings_at policy slot switch.features) side.sight.view (said_items policy slot switch side xid said)
 said_answered policy slot switch side xid (Err BadLength) short whole = answered_few false (settings_at policy slot switch.features) side.sight.view (End ∷ []) (one_item side.sight.view End tt tt)
 said_answered policy slot switch side xid (Ok (says.PacketIn packet)) short whole =
@@ -234,12 +234,12 @@ said_answered policy slot switch side xid (Ok (says.StatsReply part body)) short
     answered_statistics true s side.sight.view _ refl (statistics_replied s side.sight.view xid part body short whole)
 said_answered policy slot switch side xid said short whole = answered_few false (settings_at policy slot switch.features) side.sight.view [] (no_items side.sight.view)
 
-message_answered : (policy : PolicyView) (slot : ℕ) (switch : KnownSwitch) (side : Side) (message : List ℕ) → IsShort message → All IsWholeEntry side.sight.view
+message_answered : (policy : PolicyView) (slot : ℕ) (switch : KnownSwitch) (side : SliceSide) (message : List ℕ) → IsShort message → All IsWholeEntry side.sight.view
     → AreAnswered (is_statistics (read_switch message)) (settings_at policy slot switch.features) side.sight.view (message_items policy slot switch side message)
 unfolding message_items
 message_answered policy slot switch side message short whole = said_answered policy slot switch side (xid_of message) (read_switch message) (said_short message short) whole
 
-event_answered : (policy : PolicyView) (slot moment : ℕ) (switch : KnownSwitch) (side : Side) (event : Event) → HasFewPorts side.sight.view → All IsWholeEntry side.sight.view → IsFramed event
+event_answered : (policy : PolicyView) (slot moment : ℕ) (switch : KnownSwitch) (side : SliceSide) (event : Event) → HasFewPorts side.sight.view → All IsWholeEntry side.sight.view → IsFramed event
     → AreAnswered (tells_statistics event) (settings_at policy slot switch.features) side.sight.view (event_items policy slot switch side moment event)
 event_answered policy slot moment switch side (SwitchMsg message) ports whole framed = message_answered policy slot switch side message framed.small whole
 event_answered policy slot moment switch side SwitchUp ports whole framed = answered_few false (settings_at policy slot switch.features) side.sight.view [] (no_items side.sight.view)
@@ -252,7 +252,7 @@ event_answered policy slot moment switch side (SliceMsg other message) ports who
 event_answered policy slot moment switch side (SliceDown other) ports whole framed =
     answered_few false (settings_at policy slot switch.features) side.sight.view _ (items_if side.sight.view (other == slot) (Down ∷ []) (one_item side.sight.view Down tt tt))
 
-phase_answered : (policy : PolicyView) (slot : ℕ) (switch : KnownSwitch) (side : Side) (timed : Timed) (phase : Phase) → HasFewPorts side.sight.view → All IsWholeEntry side.sight.view → IsFramed timed.event
+phase_answered : (policy : PolicyView) (slot : ℕ) (switch : KnownSwitch) (side : SliceSide) (timed : Timed) (phase : Phase) → HasFewPorts side.sight.view → All IsWholeEntry side.sight.view → IsFramed timed.event
     → AreAnswered (tells_statistics timed.event) (settings_at policy slot switch.features) side.sight.view (phase_items policy slot switch side timed phase)
 phase_answered policy slot switch side timed Fresh ports whole framed = answered_few (tells_statistics timed.event) (settings_at policy slot switch.features) side.sight.view [] (no_items side.sight.view)
 phase_answered policy slot switch side timed Begun ports whole framed =

@@ -5,7 +5,6 @@ use Rattle.std.proofs.lemmas.List.{length-append, length-take, length-drop}
 use Rattle.std.proofs.lemmas.List.Elements.{All-nil, All-cons, All-head, All-tail, All-append}
 use Rattle.std.proofs.lemmas.List.Sums.{sum_by-cons}
 use Rattle.byteorder.specs.Endian.{big_bytes}
-use Rattle.of10_model.specs.Normal.{number_at}
 use Rattle.of10_model.specs.Spelling.{Spell}
 use Rattle.of10_ctl.specs.declared.kind.TheConstants.{ECHO_REPLY, GET_CONFIG_REPLY}
 use Rattle.of10_ctl.specs.Frames.{message_of, error_of, echo_reply_to}
@@ -90,8 +89,8 @@ short-behind kind xid message short =
     let rest = length-drop 8 message in
     short-message kind xid (drop 8 message) (omega arith)
 
-pub short-echo : (message : List ℕ) → IsShort message → IsShort (echo_reply_to message)
-short-echo message short = short-behind ECHO_REPLY (number_at message 4 4) message short
+pub short-echo : (xid : ℕ) (message : List ℕ) → IsShort message → IsShort (echo_reply_to xid (drop 8 message))
+short-echo xid message short = short-behind ECHO_REPLY xid message short
 
 pub short-config : (xid wanted : ℕ) → IsShort (message_of GET_CONFIG_REPLY xid (big_bytes 2 0 ++ big_bytes 2 wanted))
 short-config xid wanted = short-message GET_CONFIG_REPLY xid (big_bytes 2 0 ++ big_bytes 2 wanted) (omega arith)

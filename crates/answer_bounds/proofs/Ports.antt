@@ -32,7 +32,7 @@ use Rattle.desk_words.specs.declared.event.Timed.{Timed}
 use Rattle.desk_words.specs.declared.phase.Phase.{Phase}
 use Rattle.desk_words.specs.declared.phase.Phase.TheVariants.{Fresh, Begun, Opened, Gone}
 use Rattle.desk_words.specs.Openings.{features_said, status_said, features_told, status_told, phase_of, opening_after, opening_of, ports_after}
-use Rattle.desk_words.specs.Histories.{is_slot, settings_at, Side, view_of}
+use Rattle.desk_words.specs.Histories.{is_slot, settings_at, SliceSide, view_of}
 use Rattle.desk_words.specs.Laws.{HasSeen}
 use Rattle.desk_words.proofs.Alone.{blind}
 use Rattle.desk_words.proofs.Seen.{known_holds, seen, in_order}
@@ -231,7 +231,7 @@ few_start : HasFewPorts []
 few_start = record { few = omega arith; whole = All-nil IsPort }
 
 few_by : (policy : PolicyView) (slot : ℕ) (h : List Timed) (told : Option Features) → opening_of h ≡ told → AreFramed h → is_slot policy slot ≡ true → HasFewPorts (view_of policy slot h)
-few_by policy slot h None is framed here = subst (λ (side : Side). HasFewPorts side.sight.view) (sym (blind policy slot h is)) few_start
+few_by policy slot h None is framed here = subst (λ (side : SliceSide). HasFewPorts side.sight.view) (sym (blind policy slot h is)) few_start
 few_by policy slot h (Some features) is framed here =
     let s = settings_at policy slot (Some features) in
     let has : HasSeen policy slot features (ports_after h) (view_of policy slot h) = seen policy slot h features is here in

@@ -12,7 +12,7 @@ use Rattle.desk_words.specs.declared.event.Timed.{Timed}
 use Rattle.desk_words.specs.declared.phase.Phase.{Phase}
 use Rattle.desk_words.specs.declared.phase.Phase.TheVariants.{Fresh, Begun, Opened, Gone}
 use Rattle.desk_words.specs.Openings.{ends_switch, features_told, phase_after, phase_of, opening_with, opening_after, opening_of, KnownSwitch, switch_of}
-use Rattle.desk_words.specs.Histories.{is_slot, settings_at, Side, side_start, items_of, phase_items, opening_items, with_shown, side_of, view_of, is_open}
+use Rattle.desk_words.specs.Histories.{is_slot, settings_at, SliceSide, side_start, items_of, phase_items, opening_items, with_shown, side_of, view_of, is_open}
 use Rattle.desk_words.specs.Laws.{IsAlone, AreAlike, IsBlindBefore}
 
 -- ---- the opening
@@ -66,7 +66,7 @@ untold_before phase (Some features) event none = none
 none_begun : (policy : PolicyView) (slot : ℕ) (told : Option Features) → told ≡ None → opening_items policy slot told ≡ []
 none_begun policy slot told none = rw none refl
 
-pub none_in : (policy : PolicyView) (slot : ℕ) (switch : KnownSwitch) (side : Side) (timed : Timed) (phase : Phase)
+pub none_in : (policy : PolicyView) (slot : ℕ) (switch : KnownSwitch) (side : SliceSide) (timed : Timed) (phase : Phase)
     → is_open phase ≡ false → opening_with phase timed.event ≡ None → phase_items policy slot switch side timed phase ≡ []
 none_in policy slot switch side timed Fresh shut none = refl
 none_in policy slot switch side timed Begun shut none = none_begun policy slot (opening_with Begun timed.event) none
@@ -83,7 +83,7 @@ opening_none phase None event is none = none
 opening_none phase (Some features) event is none = absurd (true≢false (ap has_told is))
 
 -- in such a phase no packet is handed up
-unnumbered : (phase : Phase) (timed : Timed) (side : Side) → is_open phase ≡ false → with_shown phase timed [] side ≡ side
+unnumbered : (phase : Phase) (timed : Timed) (side : SliceSide) → is_open phase ≡ false → with_shown phase timed [] side ≡ side
 unnumbered Fresh timed side shut = refl
 unnumbered Begun timed side shut = refl
 unnumbered Opened timed side shut = absurd (true≢false shut)
@@ -125,10 +125,10 @@ settings_stay policy slot phase None event has = absurd (true≢false (sym has))
 settings_stay policy slot phase (Some features) event has = refl
 
 -- over a side that sees nothing, an event in a phase that isn't open has nothing sent, whatever the settings
-unsent_before : (s : Settings) (policy : PolicyView) (slot : ℕ) (switch : KnownSwitch) (side : Side) (timed : Timed) → side ≡ side_start → is_open switch.phase ≡ false
+unsent_before : (s : Settings) (policy : PolicyView) (slot : ℕ) (switch : KnownSwitch) (side : SliceSide) (timed : Timed) → side ≡ side_start → is_open switch.phase ≡ false
     → sent_for s side.sight.view (items_of policy slot switch side timed) ≡ []
 unsent_before s policy slot switch side timed start shut =
-    ap (λ (other : Side). sent_for s other.sight.view (items_of policy slot switch other timed)) start
+    ap (λ (other : SliceSide). sent_for s other.sight.view (items_of policy slot switch other timed)) start
     ∙ early_unsent (is_slot policy slot) s (phase_items policy slot switch side_start timed switch.phase) (early_in s policy slot switch timed switch.phase shut)
 
 -- one event more, by whether the switch has told what it is
@@ -147,7 +147,7 @@ alone_after policy slot timed h None is before =
     let shut : is_open (phase_of h) ≡ false = shut_of (is_open (phase_of h)) (opening_of h) (opened_told h) is in
     let view = view_of policy slot h in
     let items = items_of policy slot (switch_of h) (side_of policy slot h) timed in
-    let seen : (s : Settings) → alone s view ≡ [] = λ s. ap (λ (other : Side). alone s other.sight.view) start in
+    let seen : (s : Settings) → alone s view ≡ [] = λ s. ap (λ (other : SliceSide). alone s other.sight.view) start in
     let unsent : (s : Settings) → sent_for s view items ≡ [] = λ s. unsent_before s policy slot (switch_of h) (side_of policy slot h) timed start shut in
     ap₂ (λ (a b : List (List ℕ)). a ++ b) (before ∙ seen now) (unsent now)
     ∙ sym (joined then_ view items ∙ ap₂ (λ (a b : List (List ℕ)). a ++ b) (seen then_) (unsent then_))

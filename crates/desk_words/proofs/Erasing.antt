@@ -11,7 +11,7 @@ use Rattle.desk_words.specs.declared.phase.Phase.{Phase}
 use Rattle.desk_words.specs.declared.phase.Phase.TheVariants.{Fresh, Begun, Opened, Gone}
 use Rattle.slice_words.specs.Alone.{sent_for}
 use Rattle.desk_words.specs.Openings.{phase_of, phase_after, opening_after, known_after, KnownSwitch, switch_after, switch_of, opening_of}
-use Rattle.desk_words.specs.Histories.{is_slot, settings_at, Side, items_of, phase_items, event_items, with_shown, side_of, view_of}
+use Rattle.desk_words.specs.Histories.{is_slot, settings_at, SliceSide, items_of, phase_items, event_items, with_shown, side_of, view_of}
 use Rattle.desk_words.specs.Sent.{sent_with, sent_by, sent}
 use Rattle.desk_words.specs.Laws.{is_others, erased, IsServedTheSame, IsErasable}
 
@@ -79,7 +79,7 @@ others_slices slot (SwitchMsg message) is = absurd (true≢false (sym is))
 others_slices slot SwitchDown is = absurd (true≢false (sym is))
 
 -- after the opening it shows nothing
-others_shown : (policy : PolicyView) (slot : ℕ) (switch : KnownSwitch) (side : Side) (moment : ℕ) (event : Event)
+others_shown : (policy : PolicyView) (slot : ℕ) (switch : KnownSwitch) (side : SliceSide) (moment : ℕ) (event : Event)
     → is_others slot event ≡ true → event_items policy slot switch side moment event ≡ []
 others_shown policy slot switch side moment (SliceUp other) is = rw (not-true (other == slot) is) refl
 others_shown policy slot switch side moment (SliceMsg other message) is = rw (not-true (other == slot) is) refl
@@ -88,7 +88,7 @@ others_shown policy slot switch side moment SwitchUp is = refl
 others_shown policy slot switch side moment (SwitchMsg message) is = absurd (true≢false (sym is))
 others_shown policy slot switch side moment SwitchDown is = absurd (true≢false (sym is))
 
-others_begun : (policy : PolicyView) (slot : ℕ) (switch : KnownSwitch) (side : Side) (timed : Timed) (event : Event)
+others_begun : (policy : PolicyView) (slot : ℕ) (switch : KnownSwitch) (side : SliceSide) (timed : Timed) (event : Event)
     → timed.event ≡ event → is_others slot event ≡ true → phase_items policy slot switch side timed Begun ≡ []
 others_begun policy slot switch side timed (SliceUp other) e is = rw e refl
 others_begun policy slot switch side timed (SliceMsg other message) e is = rw e refl
@@ -97,20 +97,20 @@ others_begun policy slot switch side timed SwitchUp e is = rw e refl
 others_begun policy slot switch side timed (SwitchMsg message) e is = absurd (true≢false (sym is))
 others_begun policy slot switch side timed SwitchDown e is = rw e refl
 
-others_in : (policy : PolicyView) (slot : ℕ) (switch : KnownSwitch) (side : Side) (timed : Timed) (phase : Phase)
+others_in : (policy : PolicyView) (slot : ℕ) (switch : KnownSwitch) (side : SliceSide) (timed : Timed) (phase : Phase)
     → is_others slot timed.event ≡ true → phase_items policy slot switch side timed phase ≡ []
 others_in policy slot switch side timed Fresh is = refl
 others_in policy slot switch side timed Begun is = others_begun policy slot switch side timed timed.event refl is
 others_in policy slot switch side timed Opened is = others_shown policy slot switch side timed.moment timed.event is
 others_in policy slot switch side timed Gone is = refl
 
-pub others_items : (policy : PolicyView) (slot : ℕ) (switch : KnownSwitch) (side : Side) (timed : Timed)
+pub others_items : (policy : PolicyView) (slot : ℕ) (switch : KnownSwitch) (side : SliceSide) (timed : Timed)
     → is_others slot timed.event ≡ true → items_of policy slot switch side timed ≡ []
 others_items policy slot switch side timed is =
     either_none (is_slot policy slot) (phase_items policy slot switch side timed switch.phase) (others_in policy slot switch side timed switch.phase is)
 
 -- nothing that a slice does hands a packet up
-slices_unnumbered : (phase : Phase) (event : Event) (moment : ℕ) (side : Side) → is_slices event ≡ true → with_shown phase (record { event = event; moment = moment }) [] side ≡ side
+slices_unnumbered : (phase : Phase) (event : Event) (moment : ℕ) (side : SliceSide) → is_slices event ≡ true → with_shown phase (record { event = event; moment = moment }) [] side ≡ side
 slices_unnumbered Opened (SliceUp other) moment side is = refl
 slices_unnumbered Opened (SliceMsg other message) moment side is = refl
 slices_unnumbered Opened (SliceDown other) moment side is = refl

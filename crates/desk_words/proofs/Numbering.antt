@@ -21,7 +21,7 @@ use Rattle.slice_words.specs.Answers.{answer}
 use Rattle.slice_words.specs.Alone.{number_it_came_with, with_items, answer_to}
 use Rattle.slice_words.specs.Standing.{past_of}
 use Rattle.slice_words.proofs.Holding.{recent, view_in-played}
-use Rattle.desk_words.specs.Histories.{is_slot, settings_at, header_in, handed, packet_said, packet_in_read, number_given, marked_slot, packet_items, packet_in_items, said_items, message_items, event_items, opening_items, phase_items, number_told, with_shown, side_start, side_of, Numbered, Side, holder, hands_up_buffered, is_any_given, came_with, numbered_with}
+use Rattle.desk_words.specs.Histories.{is_slot, settings_at, header_in, handed, packet_said, packet_in_read, number_given, marked_slot, packet_items, packet_in_items, said_items, message_items, event_items, opening_items, phase_items, number_told, with_shown, side_start, side_of, Numbered, SliceSide, holder, hands_up_buffered, is_any_given, came_with, numbered_with}
 use Rattle.desk_words.specs.Numbers.{AreNumbered}
 use Rattle.of10_message.specs.declared.fault.Unread.{Unread}
 use Rattle.of10_message.specs.Heads.{xid_of}
@@ -121,7 +121,7 @@ kept_all P s (item ∷ items) view none all =
 
 -- ---- an event that hands up no packet with a number
 
-pub still_numbered : (s : Settings) (side : Side) (items : List Item) → is_any_given items ≡ false → AreNumbered s side
+pub still_numbered : (s : Settings) (side : SliceSide) (items : List Item) → is_any_given items ≡ false → AreNumbered s side
     → AreNumbered s (record { sight = record { view = with_items items side.sight.view; came = side.sight.came }; numbered = side.numbered })
 still_numbered s side items none n = record {
   count = n.count ∙ sym (same_count_all items side.sight.view none);
@@ -146,7 +146,7 @@ lost_other : (number : ℕ) (came : List ℕ) (numbered : List Numbered) (held :
 lost_other number came numbered held lost is all packet at same = sym is ∙ ap (λ n. holder n numbered) (sym same) ∙ at
 
 -- after what is lost no packet that is held has the number
-pub apart_after : (s : Settings) (side : Side) (number : ℕ) (lost : Option ℕ) → holder number side.numbered ≡ lost → AreNumbered s side
+pub apart_after : (s : Settings) (side : SliceSide) (number : ℕ) (lost : Option ℕ) → holder number side.numbered ≡ lost → AreNumbered s side
     → All (IsOther number side.sight.came) (held_in s (with_items (lost_of lost) side.sight.view))
 apart_after s side number None is n =
     λ k d within. λ same. none-some (get_or (held_in s side.sight.view) k d).ordinal (lost_other number side.sight.came side.numbered (held_in s side.sight.view) None is n.held (get_or (held_in s side.sight.view) k d) (n.held k d within) same)
@@ -167,7 +167,7 @@ pub data IsShown (items : List Item) : Type 0 where
   FirstGiven : (packet : Packet) (rest : List Item) → items ≡ Handed packet ∷ rest → is_buffered packet.share ≡ true → is_any_given rest ≡ false → IsShown items
 
 -- one packet-in with a number after which none is given: the number names no packet of the slice any more
-number_taken : (s : Settings) (side : Side) (number : ℕ) (view : List Item) → length side.sight.came ≡ buffered_count view
+number_taken : (s : Settings) (side : SliceSide) (number : ℕ) (view : List Item) → length side.sight.came ≡ buffered_count view
     → All (λ packet. holder (number_it_came_with side.sight.came packet.ordinal) side.numbered ≡ Some packet.ordinal) (held_in s view)
     → All (IsOther number side.sight.came) (held_in s view) → AreNumbered s side
     → AreNumbered s (record { sight = record { view = view; came = side.sight.came }; numbered = record { number = number; ordinal = None } ∷ side.numbered })
@@ -185,7 +185,7 @@ number_taken s side number view count held apart n = record {
     ]
 
 -- one after which the slice's packet has the number
-number_given_to : (s : Settings) (side : Side) (number : ℕ) (view : List Item) → length side.sight.came + 1 ≡ buffered_count view
+number_given_to : (s : Settings) (side : SliceSide) (number : ℕ) (view : List Item) → length side.sight.came + 1 ≡ buffered_count view
     → All (λ packet. (packet.ordinal ≡ length side.sight.came) ⊎ ((packet.ordinal < length side.sight.came) × (holder (number_it_came_with side.sight.came packet.ordinal) side.numbered ≡ Some packet.ordinal) × IsOther number side.sight.came packet)) (held_in s view)
     → AreNumbered s side
     → AreNumbered s (record { sight = record { view = view; came = number ∷ side.sight.came }; numbered = record { number = number; ordinal = Some (length side.sight.came) } ∷ side.numbered })
@@ -249,21 +249,21 @@ shape policy rules slot view packet is =
     shape_by packet (is_up view) (marked_slot (length policy.slices) packet.payload) slot (is_value slot (writer_of rules (header_in packet))) (bit (readers_of rules (header_in packet)) slot) (is_some (number_given packet)) is
 
 -- what a slice sees with what a packet with a number shows, where it saw a view after what was lost
-abbrev shown_with : ℕ → List Item → List Item → Side → Side
+abbrev shown_with : ℕ → List Item → List Item → SliceSide → SliceSide
 shown_with number shown view side = record {
   sight = record { view = with_items shown view; came = if is_any_given shown then number ∷ side.sight.came else side.sight.came };
   numbered = record { number = number; ordinal = if is_any_given shown then Some (buffered_count side.sight.view) else None } ∷ side.numbered;
 }
 
 -- a packet that is held has its number and was given before this one
-abbrev IsEarlier : ℕ → Side → HeldPacket → Type 0
+abbrev IsEarlier : ℕ → SliceSide → HeldPacket → Type 0
 IsEarlier number side packet =
     (packet.ordinal < length side.sight.came) × (holder (number_it_came_with side.sight.came packet.ordinal) side.numbered ≡ Some packet.ordinal) × IsOther number side.sight.came packet
 
-abbrev IsOldOrNew : ℕ → Side → HeldPacket → Type 0
+abbrev IsOldOrNew : ℕ → SliceSide → HeldPacket → Type 0
 IsOldOrNew number side packet = (packet.ordinal ≡ length side.sight.came) ⊎ IsEarlier number side packet
 
-given_first : (s : Settings) (side : Side) (number : ℕ) (view : List Item) (packet : Packet) (given : Bool) → is_buffered packet.share ≡ given → given ≡ true → buffered_count view ≡ length side.sight.came
+given_first : (s : Settings) (side : SliceSide) (number : ℕ) (view : List Item) (packet : Packet) (given : Bool) → is_buffered packet.share ≡ given → given ≡ true → buffered_count view ≡ length side.sight.came
     → All (IsEarlier number side) (held_in s view) → All (IsOldOrNew number side) (held_in s (Handed packet ∷ view))
 given_first s side number view packet false buffered is count all = absurd (true≢false (sym is))
 given_first s side number view packet true buffered is count all =
@@ -277,7 +277,7 @@ given_first s side number view packet true buffered is count all =
 more_count : (packet : Packet) (view : List Item) → is_buffered packet.share ≡ true → buffered_count (Handed packet ∷ view) ≡ buffered_count view + 1
 more_count packet view buffered = rw buffered refl
 
-earlier_all : (s : Settings) (side : Side) (number : ℕ) (view : List Item) → buffered_count view ≡ length side.sight.came
+earlier_all : (s : Settings) (side : SliceSide) (number : ℕ) (view : List Item) → buffered_count view ≡ length side.sight.came
     → All (λ packet. holder (number_it_came_with side.sight.came packet.ordinal) side.numbered ≡ Some packet.ordinal) (held_in s view) → All (IsOther number side.sight.came) (held_in s view)
     → All (IsEarlier number side) (held_in s view)
 earlier_all s side number view count held apart =
@@ -286,7 +286,7 @@ earlier_all s side number view count held apart =
     let counted : buffered_count (view_in (past_of s view)) ≡ length side.sight.came = ap buffered_count (view_in-played (answer s) view) ∙ count in
     (omega (arith, young.0, counted), held k d within, apart k d within)
 
-step_shown : (s : Settings) (side : Side) (number : ℕ) (view shown : List Item) → buffered_count view ≡ buffered_count side.sight.view
+step_shown : (s : Settings) (side : SliceSide) (number : ℕ) (view shown : List Item) → buffered_count view ≡ buffered_count side.sight.view
     → All (λ packet. holder (number_it_came_with side.sight.came packet.ordinal) side.numbered ≡ Some packet.ordinal) (held_in s view) → All (IsOther number side.sight.came) (held_in s view)
     → AreNumbered s side → IsShown shown → AreNumbered s (shown_with number shown view side)
 step_shown s side number view shown count held apart n (NoneGiven none) =
@@ -308,7 +308,7 @@ step_shown s side number view shown count held apart n (FirstGiven packet rest i
 -- ---- events
 
 -- a packet-in with a number, at a slot of the policy
-numbered_packet : (s : Settings) (policy : PolicyView) (rules : List Rule) (slot : ℕ) (side : Side) (packet : PacketIn) (number : ℕ) (lost : Option ℕ) → holder number side.numbered ≡ lost → is_some (number_given packet) ≡ true
+numbered_packet : (s : Settings) (policy : PolicyView) (rules : List Rule) (slot : ℕ) (side : SliceSide) (packet : PacketIn) (number : ℕ) (lost : Option ℕ) → holder number side.numbered ≡ lost → is_some (number_given packet) ≡ true
     → AreNumbered s side → AreNumbered s (shown_with number (packet_items policy rules slot side.sight.view packet) (with_items (lost_of lost) side.sight.view) side)
 numbered_packet s policy rules slot side packet number None is some n =
     step_shown s side number side.sight.view (packet_items policy rules slot side.sight.view packet) refl n.held (apart_after s side number None is n) n (shape policy rules slot side.sight.view packet some)
@@ -318,7 +318,7 @@ numbered_packet s policy rules slot side packet number (Some j) is some n =
     (apart_after s side number (Some j) is n) n (shape policy rules slot side.sight.view packet some)
 
 -- the same with what is lost before what is shown
-lost_first : (s : Settings) (side : Side) (number : ℕ) (shown : List Item) (lost : Option ℕ) → AreNumbered s (shown_with number shown (with_items (lost_of lost) side.sight.view) side)
+lost_first : (s : Settings) (side : SliceSide) (number : ℕ) (shown : List Item) (lost : Option ℕ) → AreNumbered s (shown_with number shown (with_items (lost_of lost) side.sight.view) side)
     → AreNumbered s (record {
       sight = record { view = with_items (lost_of lost ++ shown) side.sight.view; came = came_with (Some number) (lost_of lost ++ shown) side.sight.came };
       numbered = numbered_with (Some number) (lost_of lost ++ shown) side.sight.view side.numbered;
@@ -340,13 +340,13 @@ plain_shares packet true (Some other) slot writes reads numbered is = elim (case
 ]
 
 -- what a slice sees after these items, of which one may have a number
-abbrev after_items : Option ℕ → List Item → Side → Side
+abbrev after_items : Option ℕ → List Item → SliceSide → SliceSide
 after_items number items side = record {
   sight = record { view = with_items items side.sight.view; came = came_with number items side.sight.came };
   numbered = numbered_with number items side.sight.view side.numbered;
 }
 
-one_packet : (s : Settings) (policy : PolicyView) (rules : List Rule) (slot : ℕ) (side : Side) (packet : PacketIn) (number : Option ℕ) → number_given packet ≡ number → AreNumbered s side
+one_packet : (s : Settings) (policy : PolicyView) (rules : List Rule) (slot : ℕ) (side : SliceSide) (packet : PacketIn) (number : Option ℕ) → number_given packet ≡ number → AreNumbered s side
     → AreNumbered s (after_items number (lost_of (option_and_then (λ q. holder q side.numbered) number) ++ packet_items policy rules slot side.sight.view packet) side)
 one_packet s policy rules slot side packet None is n =
     still_numbered s side (packet_items policy rules slot side.sight.view packet)
@@ -355,12 +355,12 @@ one_packet s policy rules slot side packet (Some q) is n =
     lost_first s side q (packet_items policy rules slot side.sight.view packet) (holder q side.numbered)
     (numbered_packet s policy rules slot side packet q (holder q side.numbered) refl (ap is_some is) n)
 
-by_packet : (s : Settings) (policy : PolicyView) (rules : List Rule) (slot : ℕ) (side : Side) (packet : PacketIn) → AreNumbered s side
+by_packet : (s : Settings) (policy : PolicyView) (rules : List Rule) (slot : ℕ) (side : SliceSide) (packet : PacketIn) → AreNumbered s side
     → AreNumbered s (after_items (number_given packet) (packet_in_items policy rules slot side packet) side)
 by_packet s policy rules slot side packet n = one_packet s policy rules slot side packet (number_given packet) refl n
 
 -- other messages give no packet
-pub none_given : (policy : PolicyView) (slot : ℕ) (switch : KnownSwitch) (side : Side) (xid : ℕ) (said : Result SwitchMessage Unread) → packet_said said ≡ None → is_any_given (said_items policy slot switch side xid said) ≡ false
+pub none_given : (policy : PolicyView) (slot : ℕ) (switch : KnownSwitch) (side : SliceSide) (xid : ℕ) (said : Result SwitchMessage Unread) → packet_said said ≡ None → is_any_given (said_items policy slot switch side xid said) ≡ false
 none_given policy slot switch side xid (Ok (says.PortStatus status)) none =
     let s = settings_at policy slot switch.features in
     none_or hands_up_buffered (is_kept status switch.known && is_own_port s.slot s.patterns (port_number status.port)) (Status status ∷ []) refl
@@ -372,17 +372,17 @@ none_given policy slot switch side xid said none =
       reply = record { barrier = λ x. refl; queues = λ x body. refl; entry = λ x kind bytes. refl; last = λ x kind. refl };
     }) none refl
 
-by_said : (s : Settings) (policy : PolicyView) (slot : ℕ) (switch : KnownSwitch) (side : Side) (xid : ℕ) (said : Result SwitchMessage Unread) → AreNumbered s side
+by_said : (s : Settings) (policy : PolicyView) (slot : ℕ) (switch : KnownSwitch) (side : SliceSide) (xid : ℕ) (said : Result SwitchMessage Unread) → AreNumbered s side
     → AreNumbered s (after_items (option_and_then number_given (packet_said said)) (said_items policy slot switch side xid said) side)
 by_said s policy slot switch side xid (Ok (says.PacketIn packet)) n = by_packet s policy (rules_of policy switch.features) slot side packet n
 by_said s policy slot switch side xid said n = still_numbered s side (said_items policy slot switch side xid said) (none_given policy slot switch side xid said refl) n
 
-by_message : (s : Settings) (policy : PolicyView) (slot : ℕ) (switch : KnownSwitch) (side : Side) (message : List ℕ) → AreNumbered s side
+by_message : (s : Settings) (policy : PolicyView) (slot : ℕ) (switch : KnownSwitch) (side : SliceSide) (message : List ℕ) → AreNumbered s side
     → AreNumbered s (after_items (option_and_then number_given (packet_in_read message)) (message_items policy slot switch side message) side)
 unfolding message_items
 by_message s policy slot switch side message n = by_said s policy slot switch side (xid_of message) (read_switch message) n
 
-by_event : (s : Settings) (policy : PolicyView) (slot moment : ℕ) (switch : KnownSwitch) (side : Side) (event : Event) → AreNumbered s side
+by_event : (s : Settings) (policy : PolicyView) (slot moment : ℕ) (switch : KnownSwitch) (side : SliceSide) (event : Event) → AreNumbered s side
     → AreNumbered s (after_items (number_told Opened event) (event_items policy slot switch side moment event) side)
 by_event s policy slot moment switch side SwitchUp n = n
 by_event s policy slot moment switch side (SwitchMsg message) n = by_message s policy slot switch side message n
@@ -392,11 +392,11 @@ by_event s policy slot moment switch side (SliceMsg other message) n =
     still_numbered s side (if other == slot && is_up side.sight.view then Msg message moment ∷ [] else []) (none_or hands_up_buffered (other == slot && is_up side.sight.view) (Msg message moment ∷ []) refl) n
 by_event s policy slot moment switch side (SliceDown other) n = still_numbered s side (if other == slot then Down ∷ [] else []) (none_or hands_up_buffered (other == slot) (Down ∷ []) refl) n
 
-by_opening : (s : Settings) (policy : PolicyView) (slot : ℕ) (side : Side) (told : Option Features) → AreNumbered s side → AreNumbered s (after_items None (opening_items policy slot told) side)
+by_opening : (s : Settings) (policy : PolicyView) (slot : ℕ) (side : SliceSide) (told : Option Features) → AreNumbered s side → AreNumbered s (after_items None (opening_items policy slot told) side)
 by_opening s policy slot side None n = n
 by_opening s policy slot side (Some features) n = still_numbered s side (opening_items policy slot (Some features)) refl n
 
-by_phase : (s : Settings) (policy : PolicyView) (slot : ℕ) (switch : KnownSwitch) (side : Side) (timed : Timed) (phase : Phase) → AreNumbered s side
+by_phase : (s : Settings) (policy : PolicyView) (slot : ℕ) (switch : KnownSwitch) (side : SliceSide) (timed : Timed) (phase : Phase) → AreNumbered s side
     → AreNumbered s (with_shown phase timed (phase_items policy slot switch side timed phase) side)
 by_phase s policy slot switch side timed Fresh n = n
 by_phase s policy slot switch side timed Begun n = by_opening s policy slot side (opening_with Begun timed.event) n

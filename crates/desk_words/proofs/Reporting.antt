@@ -11,7 +11,7 @@ use Rattle.desk_words.specs.declared.event.Timed.{Timed}
 use Rattle.desk_words.specs.Sent.{lane_by}
 use Rattle.desk_words.specs.Verdicts.{is_over}
 use Rattle.desk_words.specs.Recorded.{next_of, next_after, Happened, each_after, happened_in, all_happened}
-use Rattle.desk_words.specs.Reports.{sent_to_slice, Place, lane_lines, slice_lines, name_at, close_lines, down_lines}
+use Rattle.desk_words.specs.Reports.{sent_to_slice, LinePlace, lane_lines, slice_lines, name_at, close_lines, down_lines}
 use Rattle.desk_words.specs.Laws.{ComeBeforeLater, ShowsEachSlice}
 use Rattle.recording.proofs.Refused.{newest_first}
 
@@ -98,7 +98,7 @@ pub one_further : (n k : ℕ) → n + 1 + k ≡ n + suc k
 one_further n k = omega arith
 
 -- the slices from a slot on, where the slices of the policy have these there
-slices_shown : (policy : PolicyView) (place : Place) (messages : ℕ → List (List ℕ)) (slot : ℕ) (slices : List Slice)
+slices_shown : (policy : PolicyView) (place : LinePlace) (messages : ℕ → List (List ℕ)) (slot : ℕ) (slices : List Slice)
     → ((k : ℕ) → slice_get policy.slices (slot + k) ≡ slice_get slices k)
     → flat_map (λ one. slice_lines place one.1.name (messages one.0)) (enumerate_from slot slices) ≡ flat_map (λ s. slice_lines place (name_at policy.slices s) (messages s)) (range_with_len slot (length slices))
 slices_shown policy place messages slot [] at = refl
@@ -107,11 +107,11 @@ slices_shown policy place messages slot (slice ∷ others) at =
     (sym (ap (λ (found : Option Slice). elim found [ None ↦ [] | Some one ↦ one.name ]) (ap (slice_get policy.slices) (at_once slot) ∙ at 0)))
     (slices_shown policy place messages (slot + 1) others (λ k. ap (slice_get policy.slices) (one_further slot k) ∙ at (suc k)))
 
-lane_unless : (place : Place) (over : Bool) (messages : List (List ℕ)) → lane_lines place (if over then [] else messages) ≡ (if over then [] else lane_lines place messages)
+lane_unless : (place : LinePlace) (over : Bool) (messages : List (List ℕ)) → lane_lines place (if over then [] else messages) ≡ (if over then [] else lane_lines place messages)
 lane_unless place true messages = refl
 lane_unless place false messages = refl
 
-pub each_slice : (policy : PolicyView) (place : Place) (h : List Timed) (timed : Timed) → ShowsEachSlice policy place h timed
+pub each_slice : (policy : PolicyView) (place : LinePlace) (h : List Timed) (timed : Timed) → ShowsEachSlice policy place h timed
 each_slice policy place h timed =
     ap₂ (λ (lane slices : List ℕ). lane ++ slices ++ close_lines policy place (next_of h timed) timed.event ++ (if is_over h then [] else down_lines place h timed))
     (lane_unless place (is_over h) (lane_by policy h timed))

@@ -28,7 +28,7 @@ use Rattle.desk_words.specs.declared.phase.Phase.{Phase}
 use Rattle.desk_words.specs.declared.phase.Phase.TheVariants.{Fresh, Begun, Opened, Gone}
 use Rattle.desk_words.specs.Openings.{status_said, features_told, status_told, phase_of, opening_after, opening_of, rules_of, known_after, ports_after, KnownSwitch, switch_of}
 use Rattle.desk_words.specs.Verdicts.{is_before}
-use Rattle.desk_words.specs.Histories.{is_slot, settings_at, own_ports, own_features, packet_in_items, status_items, said_items, message_items, event_items, phase_items, Side, side_start, side_of, view_of}
+use Rattle.desk_words.specs.Histories.{is_slot, settings_at, own_ports, own_features, packet_in_items, status_items, said_items, message_items, event_items, phase_items, SliceSide, side_start, side_of, view_of}
 use Rattle.desk_words.specs.Laws.{HasSeen, SeesItsSwitch, AreKnownInOrder}
 use Rattle.desk_words.proofs.Alone.{blind}
 use Rattle.desk_words.proofs.Silence.{none_or, none_of_packet, NoReply, NoOther, none_of_others, untold}
@@ -118,7 +118,7 @@ known_with known told = elim told [ None ↦ known | Some status ↦ changed sta
 other_untelling : NoOther tells_switch
 other_untelling = record { end = refl; removed = λ entry. refl; fault = λ x class code pair. refl; reply = untelling_reply }
 
-by_said : (policy : PolicyView) (slot : ℕ) (switch : KnownSwitch) (side : Side) (xid : ℕ) (said : Result SwitchMessage Unread)
+by_said : (policy : PolicyView) (slot : ℕ) (switch : KnownSwitch) (side : SliceSide) (xid : ℕ) (said : Result SwitchMessage Unread)
     → IsAscending switch.known → known_ports side.sight.view ≡ own_ports (settings_at policy slot switch.features) switch.known
     → Follows (settings_at policy slot switch.features) side.sight.view (with_items (said_items policy slot switch side xid said) side.sight.view) (known_with switch.known (status_said said))
 by_said policy slot switch side xid (Ok (says.PortStatus status)) order same = by_status (settings_at policy slot switch.features) side.sight.view switch.known status order same
@@ -128,13 +128,13 @@ by_said policy slot switch side xid (Ok (says.PacketIn packet)) order same =
 by_said policy slot switch side xid said order same =
     by_untelling (settings_at policy slot switch.features) side.sight.view (said_items policy slot switch side xid said) switch.known switch.known (none_of_others tells_switch policy slot switch side xid said other_untelling refl refl) refl same
 
-by_message : (policy : PolicyView) (slot : ℕ) (switch : KnownSwitch) (side : Side) (message : List ℕ)
+by_message : (policy : PolicyView) (slot : ℕ) (switch : KnownSwitch) (side : SliceSide) (message : List ℕ)
     → IsAscending switch.known → known_ports side.sight.view ≡ own_ports (settings_at policy slot switch.features) switch.known
     → Follows (settings_at policy slot switch.features) side.sight.view (with_items (message_items policy slot switch side message) side.sight.view) (known_after Opened switch.known (SwitchMsg message))
 unfolding message_items
 by_message policy slot switch side message order same = by_said policy slot switch side (xid_of message) (read_switch message) order same
 
-by_event : (policy : PolicyView) (slot moment : ℕ) (switch : KnownSwitch) (side : Side) (event : Event)
+by_event : (policy : PolicyView) (slot moment : ℕ) (switch : KnownSwitch) (side : SliceSide) (event : Event)
     → IsAscending switch.known → known_ports side.sight.view ≡ own_ports (settings_at policy slot switch.features) switch.known
     → Follows (settings_at policy slot switch.features) side.sight.view (with_items (event_items policy slot switch side moment event) side.sight.view) (known_after Opened switch.known event)
 by_event policy slot moment switch side SwitchUp order same = record { features_stay = refl; ports_follow = same }
@@ -149,7 +149,7 @@ by_event policy slot moment switch side (SliceDown other) order same =
 
 -- ---- histories
 
-by_phase : (policy : PolicyView) (slot : ℕ) (switch : KnownSwitch) (side : Side) (timed : Timed) (phase : Phase) → is_before phase ≡ false
+by_phase : (policy : PolicyView) (slot : ℕ) (switch : KnownSwitch) (side : SliceSide) (timed : Timed) (phase : Phase) → is_before phase ≡ false
     → IsAscending switch.known → known_ports side.sight.view ≡ own_ports (settings_at policy slot switch.features) switch.known
     → Follows (settings_at policy slot switch.features) side.sight.view (with_items (phase_items policy slot switch side timed phase) side.sight.view) (known_after phase switch.known timed.event)
 by_phase policy slot switch side timed Fresh late order same = absurd (true≢false late)
@@ -250,8 +250,8 @@ seen_now policy slot h timed features is here told =
     let both = seen_first policy slot (switch_of h) timed timed.event (phase_of h) features refl told in
     let start = blind policy slot h is in
     record {
-      features_seen = rw here (ap (λ (side : Side). features_in (with_items (phase_items policy slot (switch_of h) side timed (phase_of h)) side.sight.view)) start ∙ both.0);
-      ports_known = rw here (ap (λ (side : Side). known_ports (with_items (phase_items policy slot (switch_of h) side timed (phase_of h)) side.sight.view)) start ∙ both.1);
+      features_seen = rw here (ap (λ (side : SliceSide). features_in (with_items (phase_items policy slot (switch_of h) side timed (phase_of h)) side.sight.view)) start ∙ both.0);
+      ports_known = rw here (ap (λ (side : SliceSide). known_ports (with_items (phase_items policy slot (switch_of h) side timed (phase_of h)) side.sight.view)) start ∙ both.1);
     }
 
 -- by whether the switch had told what it is before

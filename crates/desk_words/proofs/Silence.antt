@@ -32,7 +32,7 @@ use Rattle.desk_words.specs.declared.phase.Phase.{Phase}
 use Rattle.desk_words.specs.declared.phase.Phase.TheVariants.{Fresh, Begun, Opened, Gone}
 use Rattle.desk_words.specs.Openings.{ends_switch, status_said, features_told, phase_after, phase_of, opening_with, opening_after, opening_of, rules_of, KnownSwitch, switch_of}
 use Rattle.desk_words.specs.Verdicts.{is_before}
-use Rattle.desk_words.specs.Histories.{is_slot, settings_at, Side, side_start, side_of, view_of, handed, shares_of, packet_items, packet_in_items, lost_items, holder, number_given, number_told, came_with, status_items, removed_items, is_reply_to, error_items, barrier_items, queues_items, own_entries, is_part, part_items, statistics_items, packet_said, said_items, message_items, opening_items, event_items, phase_items, items_of, is_open, is_slice_up}
+use Rattle.desk_words.specs.Histories.{is_slot, settings_at, SliceSide, side_start, side_of, view_of, handed, shares_of, packet_items, packet_in_items, lost_items, holder, number_given, number_told, came_with, status_items, removed_items, is_reply_to, error_items, barrier_items, queues_items, own_entries, is_part, part_items, statistics_items, packet_said, said_items, message_items, opening_items, event_items, phase_items, items_of, is_open, is_slice_up}
 use Rattle.port_view.specs.KnownPorts.{is_kept}
 use Rattle.desk_words.specs.Sent.{sent, sent_by}
 use Rattle.desk_words.specs.Laws.{is_up_of, IsSilentUntilUp, IsDownAfterDown}
@@ -59,7 +59,7 @@ none_lost test None none = refl
 none_lost test (Some k) none = ap (λ (one : Bool). one || false) (none k)
 
 -- a packet shows a slice nothing but what is lost and the packet
-pub none_of_packet : (test : Item → Bool) (policy : PolicyView) (rules : List Rule) (slot : ℕ) (side : Side) (packet : PacketIn) → ((share : Share) → test (handed share packet) ≡ false) → ((k : ℕ) → test (Lost k) ≡ false)
+pub none_of_packet : (test : Item → Bool) (policy : PolicyView) (rules : List Rule) (slot : ℕ) (side : SliceSide) (packet : PacketIn) → ((share : Share) → test (handed share packet) ≡ false) → ((k : ℕ) → test (Lost k) ≡ false)
     → list_any test (packet_in_items policy rules slot side packet) ≡ false
 none_of_packet test policy rules slot side packet none lost =
     none_both test (lost_items side.numbered packet) (packet_items policy rules slot side.sight.view packet)
@@ -121,7 +121,7 @@ pub record NoOther (test : Item → Bool) : Type 0 where
   pub reply : NoReply test
 
 -- a message that hands up no packet and tells of no port shows nothing else
-pub none_of_others : (test : Item → Bool) (policy : PolicyView) (slot : ℕ) (switch : KnownSwitch) (side : Side) (xid : ℕ) (said : Result SwitchMessage Unread) → NoOther test → packet_said said ≡ None → status_said said ≡ None
+pub none_of_others : (test : Item → Bool) (policy : PolicyView) (slot : ℕ) (switch : KnownSwitch) (side : SliceSide) (xid : ℕ) (said : Result SwitchMessage Unread) → NoOther test → packet_said said ≡ None → status_said said ≡ None
     → list_any test (said_items policy slot switch side xid said) ≡ false
 none_of_others test policy slot switch side xid (Err BadLength) none no_packet no_status = ap (λ (one : Bool). one || false) none.end
 none_of_others test policy slot switch side xid (Ok (says.PacketIn packet)) none no_packet no_status = absurd (none-some packet (sym no_packet))
@@ -141,13 +141,13 @@ plain_other = record {
   reply = record { barrier = λ x. refl; queues = λ x body. refl; entry = λ x kind bytes. refl; last = λ x kind. refl };
 }
 
-plain_said : (policy : PolicyView) (slot : ℕ) (switch : KnownSwitch) (side : Side) (xid : ℕ) (said : Result SwitchMessage Unread) → are_plain (said_items policy slot switch side xid said) ≡ false
+plain_said : (policy : PolicyView) (slot : ℕ) (switch : KnownSwitch) (side : SliceSide) (xid : ℕ) (said : Result SwitchMessage Unread) → are_plain (said_items policy slot switch side xid said) ≡ false
 plain_said policy slot switch side xid (Ok (says.PacketIn packet)) = none_of_packet is_forgetting policy (rules_of policy switch.features) slot side packet (λ share. refl) (λ k. refl)
 plain_said policy slot switch side xid (Ok (says.PortStatus status)) = plain_status (settings_at policy slot switch.features) switch.known status
 plain_said policy slot switch side xid said = none_of_others is_forgetting policy slot switch side xid said plain_other refl refl
 
 -- what a message of the switch shows says nothing of the slice's connection
-pub plain_message : (policy : PolicyView) (slot : ℕ) (switch : KnownSwitch) (side : Side) (message : List ℕ) → are_plain (message_items policy slot switch side message) ≡ false
+pub plain_message : (policy : PolicyView) (slot : ℕ) (switch : KnownSwitch) (side : SliceSide) (message : List ℕ) → are_plain (message_items policy slot switch side message) ≡ false
 unfolding message_items
 plain_message policy slot switch side message = plain_said policy slot switch side (xid_of message) (read_switch message)
 
@@ -202,7 +202,7 @@ plain_none (item ∷ items) plain =
     rw (plain_no_up item ((or_parts (is_forgetting item) (are_plain items) plain).0)) (plain_none items ((or_parts (is_forgetting item) (are_plain items) plain).1))
 
 -- an event that isn't the slice's up shows no up
-none_event : (policy : PolicyView) (slot : ℕ) (switch : KnownSwitch) (side : Side) (moment : ℕ) (timed : Timed) (event : Event) → timed.event ≡ event → is_up_of slot timed ≡ false
+none_event : (policy : PolicyView) (slot : ℕ) (switch : KnownSwitch) (side : SliceSide) (moment : ℕ) (timed : Timed) (event : Event) → timed.event ≡ event → is_up_of slot timed ≡ false
     → list_any is_coming (event_items policy slot switch side moment event) ≡ false
 none_event policy slot switch side moment timed SwitchUp e still = refl
 none_event policy slot switch side moment timed (SwitchMsg message) e still = plain_none (message_items policy slot switch side message) (plain_message policy slot switch side message)
@@ -212,7 +212,7 @@ none_event policy slot switch side moment timed (SliceUp other) e still =
 none_event policy slot switch side moment timed (SliceMsg other message) e still = none_or is_coming (other == slot && is_up side.sight.view) (Msg message moment ∷ []) refl
 none_event policy slot switch side moment timed (SliceDown other) e still = none_or is_coming (other == slot) (Down ∷ []) refl
 
-none_in : (policy : PolicyView) (slot : ℕ) (switch : KnownSwitch) (side : Side) (timed : Timed) (phase : Phase) → is_up_of slot timed ≡ false
+none_in : (policy : PolicyView) (slot : ℕ) (switch : KnownSwitch) (side : SliceSide) (timed : Timed) (phase : Phase) → is_up_of slot timed ≡ false
     → list_any is_coming (phase_items policy slot switch side timed phase) ≡ false
 none_in policy slot switch side timed Fresh still = refl
 none_in policy slot switch side timed Begun still = plain_none (opening_items policy slot (opening_with Begun timed.event)) (plain_opening policy slot (opening_with Begun timed.event))
@@ -251,7 +251,7 @@ untold [] early = refl
 untold (timed ∷ h) early = untold_after (phase_of h) (opening_of h) timed.event (untold h) early
 
 early_down : (policy : PolicyView) (slot : ℕ) (h : List Timed) → is_before (phase_of h) ≡ true → is_up (view_of policy slot h) ≡ false
-early_down policy slot h early = ap (λ (side : Side). is_up side.sight.view) (blind policy slot h (untold h early))
+early_down policy slot h early = ap (λ (side : SliceSide). is_up side.sight.view) (blind policy slot h (untold h early))
 
 -- a phase is early, open, or over
 down_in : (policy : PolicyView) (slot : ℕ) (h : List Timed) (phase : Phase) → phase_of h ≡ phase → is_slice_up policy slot h ≡ false
@@ -305,7 +305,7 @@ sees_nothing policy slot (timed ∷ h) out =
     let before = sees_nothing policy slot h out in
     rw out (λ i. record { view = (before i).view; came = (none_came (number_told (phase_of h) timed.event) (side_of policy slot h).sight.came ∙ ap (λ sight. sight.came) before) i })
 
-down_in_view : (policy : PolicyView) (slot moment : ℕ) (switch : KnownSwitch) (side : Side) (here : Bool) → (here ≡ false → side.sight.view ≡ [])
+down_in_view : (policy : PolicyView) (slot moment : ℕ) (switch : KnownSwitch) (side : SliceSide) (here : Bool) → (here ≡ false → side.sight.view ≡ [])
     → is_up (with_items (cond here (event_items policy slot switch side moment (SliceDown slot)) []) side.sight.view) ≡ false
 down_in_view policy slot moment switch side true out = rw (eq-eqb slot slot refl) refl
 down_in_view policy slot moment switch side false out = ap is_up (out refl)

@@ -11,7 +11,7 @@ use Rattle.desk_words.specs.declared.event.Timed.{Timed}
 use Rattle.desk_words.specs.declared.phase.Phase.{Phase}
 use Rattle.desk_words.specs.declared.phase.Phase.TheVariants.{Fresh, Begun, Opened, Gone}
 use Rattle.desk_words.specs.Openings.{phase_of, opening_with, KnownSwitch, switch_of}
-use Rattle.desk_words.specs.Histories.{is_slot, Side, side_of, view_of, message_items, opening_items, event_items, phase_items, is_open}
+use Rattle.desk_words.specs.Histories.{is_slot, SliceSide, side_of, view_of, message_items, opening_items, event_items, phase_items, is_open}
 use Rattle.desk_words.specs.Laws.{is_up_of, after_opening, tells_of, is_last_event_up, IsUpByEvents}
 use Rattle.desk_words.proofs.Silence.{stays_all, plain_message, plain_opening}
 
@@ -35,7 +35,7 @@ by_item true item view now last same tells = tells refl
 by_item false item view now last same tells = same
 
 -- an event after the opening, by what it is
-one_event : (policy : PolicyView) (slot : ℕ) (switch : KnownSwitch) (side : Side) (timed : Timed) (event : Event) → timed.event ≡ event → (last : Bool) → is_up side.sight.view ≡ last
+one_event : (policy : PolicyView) (slot : ℕ) (switch : KnownSwitch) (side : SliceSide) (timed : Timed) (event : Event) → timed.event ≡ event → (last : Bool) → is_up side.sight.view ≡ last
     → is_up (with_items (event_items policy slot switch side timed.moment event) side.sight.view) ≡ (if tells_of slot event then is_up_of slot timed else last)
 one_event policy slot switch side timed SwitchUp e last same = same
 one_event policy slot switch side timed (SwitchMsg message) e last same = stays_all (message_items policy slot switch side message) side.sight.view (plain_message policy slot switch side message) ∙ same
@@ -49,7 +49,7 @@ last_of : (b : Bool) (slot : ℕ) (timed : Timed) (events : List Timed) → is_l
 last_of true slot timed events = refl
 last_of false slot timed events = refl
 
-one_more : (policy : PolicyView) (slot : ℕ) (switch : KnownSwitch) (side : Side) (timed : Timed) (events : List Timed) (phase : Phase) → is_up side.sight.view ≡ is_last_event_up slot (telling slot events)
+one_more : (policy : PolicyView) (slot : ℕ) (switch : KnownSwitch) (side : SliceSide) (timed : Timed) (events : List Timed) (phase : Phase) → is_up side.sight.view ≡ is_last_event_up slot (telling slot events)
     → is_up (with_items (phase_items policy slot switch side timed phase) side.sight.view) ≡ is_last_event_up slot (telling slot (if is_open phase then timed ∷ events else events))
 one_more policy slot switch side timed events Fresh same = same
 one_more policy slot switch side timed events Begun same = stays_all (opening_items policy slot (opening_with Begun timed.event)) side.sight.view (plain_opening policy slot (opening_with Begun timed.event)) ∙ same

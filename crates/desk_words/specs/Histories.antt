@@ -59,12 +59,12 @@ pub record Numbered : Type 0 where
   pub ordinal : Option ℕ
 
 -- what a slice sees, and beside it all packet-ins with numbers since the opening, newest first, by which it can be told when a number of one of its packets is used again
-pub record Side : Type 0 where
+pub record SliceSide : Type 0 where
   pub sight : Sight
   pub numbered : List Numbered
 
 -- what a slice sees before anything came
-abbrev pub side_start : Side
+abbrev pub side_start : SliceSide
 side_start = record { sight = record { view = []; came = [] }; numbered = [] }
 
 -- ---- what one event shows a slice
@@ -126,7 +126,7 @@ abbrev pub lost_items : List Numbered → PacketIn → List Item
 lost_items numbered packet = elim (option_and_then (λ number. holder number numbered) (number_given packet)) [ None ↦ [] | Some k ↦ Lost k ∷ [] ]
 
 -- first what is lost, then the packet
-abbrev pub packet_in_items : PolicyView → List Rule → ℕ → Side → PacketIn → List Item
+abbrev pub packet_in_items : PolicyView → List Rule → ℕ → SliceSide → PacketIn → List Item
 packet_in_items policy rules slot side packet = lost_items side.numbered packet ++ packet_items policy rules slot side.sight.view packet
 
 -- a change that is kept is shown to the slices that have the port
@@ -174,7 +174,7 @@ abbrev pub statistics_items : Settings → ℕ → StatsPart → List ℕ → Li
 statistics_items s xid part body = if is_reply_to s xid && is_part part.kind body then part_items s (xid % 2 ^ 24) part body else []
 
 -- a message under a transaction id, by what was read of it: one of a bad length ends the switch's connection (this proxy's own rule), and what can't be read otherwise, or says nothing to a slice, shows nothing
-abbrev pub said_items : PolicyView → ℕ → KnownSwitch → Side → ℕ → Result SwitchMessage Unread → List Item
+abbrev pub said_items : PolicyView → ℕ → KnownSwitch → SliceSide → ℕ → Result SwitchMessage Unread → List Item
 said_items policy slot switch side xid (Err BadLength) = End ∷ []
 said_items policy slot switch side xid (Ok (says.PacketIn packet)) = packet_in_items policy (rules_of policy switch.features) slot side packet
 said_items policy slot switch side xid (Ok (says.FlowRemoved entry)) = removed_items (settings_at policy slot switch.features) entry
@@ -186,7 +186,7 @@ said_items policy slot switch side xid (Ok (says.StatsReply part body)) = statis
 said_items policy slot switch side xid said = []
 
 -- a message of the switch that came after it told what it is
-unfoldable pub message_items : PolicyView → ℕ → KnownSwitch → Side → List ℕ → List Item
+unfoldable pub message_items : PolicyView → ℕ → KnownSwitch → SliceSide → List ℕ → List Item
 message_items policy slot switch side message = said_items policy slot switch side (xid_of message) (read_switch message)
 
 -- the opening shows the slice the features of the switch
@@ -195,7 +195,7 @@ opening_items policy slot None = []
 opening_items policy slot (Some features) = items.Opened (own_features (settings_at policy slot (Some features)) features) ∷ []
 
 -- an event after the opening shows a slice what concerns it: its own connection and messages, while it is up, and what the switch says of it
-abbrev pub event_items : PolicyView → ℕ → KnownSwitch → Side → ℕ → Event → List Item
+abbrev pub event_items : PolicyView → ℕ → KnownSwitch → SliceSide → ℕ → Event → List Item
 event_items policy slot switch side moment SwitchUp = []
 event_items policy slot switch side moment (SwitchMsg message) = message_items policy slot switch side message
 event_items policy slot switch side moment SwitchDown = End ∷ []
@@ -204,14 +204,14 @@ event_items policy slot switch side moment (SliceMsg other message) = if other =
 event_items policy slot switch side moment (SliceDown other) = if other == slot then Down ∷ [] else []
 
 -- the opening is the first event that shows anything, and the end the last
-abbrev pub phase_items : PolicyView → ℕ → KnownSwitch → Side → Timed → Phase → List Item
+abbrev pub phase_items : PolicyView → ℕ → KnownSwitch → SliceSide → Timed → Phase → List Item
 phase_items policy slot switch side timed Fresh = []
 phase_items policy slot switch side timed Begun = opening_items policy slot (opening_with Begun timed.event)
 phase_items policy slot switch side timed Opened = event_items policy slot switch side timed.moment timed.event
 phase_items policy slot switch side timed Gone = []
 
 -- what an event shows the slice at a slot of the policy, after what is known of the switch and what the slice sees, the oldest first
-abbrev pub items_of : PolicyView → ℕ → KnownSwitch → Side → Timed → List Item
+abbrev pub items_of : PolicyView → ℕ → KnownSwitch → SliceSide → Timed → List Item
 items_of policy slot switch side timed = if is_slot policy slot then phase_items policy slot switch side timed switch.phase else []
 
 -- ---- what a history shows a slice
@@ -241,14 +241,14 @@ numbered_with None items view numbered = numbered
 numbered_with (Some number) items view numbered = record { number = number; ordinal = if is_any_given items then Some (buffered_count view) else None } ∷ numbered
 
 -- what a slice sees with these items of an event in a phase
-abbrev pub with_shown : Phase → Timed → List Item → Side → Side
+abbrev pub with_shown : Phase → Timed → List Item → SliceSide → SliceSide
 with_shown phase timed items side = record {
   sight = record { view = with_items items side.sight.view; came = came_with (number_told phase timed.event) items side.sight.came };
   numbered = numbered_with (number_told phase timed.event) items side.sight.view side.numbered;
 }
 
 -- what a history shows the slice at a slot: each event its items, after what the events before it showed
-abbrev pub side_of : PolicyView → ℕ → List Timed → Side
+abbrev pub side_of : PolicyView → ℕ → List Timed → SliceSide
 side_of policy slot [] = side_start
 side_of policy slot (timed ∷ h) = with_shown (phase_of h) timed (items_of policy slot (switch_of h) (side_of policy slot h) timed) (side_of policy slot h)
 

@@ -27,7 +27,7 @@ use Rattle.desk_words.specs.Sent.{sent_by, sent, lane_by}
 use Rattle.desk_words.specs.Verdicts.{is_fresh, is_ended, is_over, is_switch_up, closes}
 use Rattle.desk_words.specs.Operations.{Operation, Step, Take, takes_in, events_of, empties_slice, ends, slice_limit, lane_limit, is_slice, is_switch, queue_of, lane_of}
 use Rattle.desk_words.specs.Recorded.{is_same_stream, begins_stream, stream_before, timed_at, happenings, is_there, next_of, next_after, history_of, history_at, events_in, completed, Happened, all_happened}
-use Rattle.desk_words.specs.Reports.{sent_to_slice, told_over, Place, lane_lines, slice_lines, name_at, speaker, close_lines, down_lines, event_lines}
+use Rattle.desk_words.specs.Reports.{sent_to_slice, told_over, LinePlace, lane_lines, slice_lines, name_at, speaker, close_lines, down_lines, event_lines}
 
 -- ---- the switch's connection
 
@@ -294,7 +294,7 @@ ComeBeforeLater policy earlier later =
     take (length (all_happened policy earlier)) (all_happened policy (earlier ++ later)) ≡ all_happened policy earlier
 
 -- the lines of an event are those for the switch, and by slot those of each slice's name for what it is told; then the connection that is closed, and the end
-abbrev pub ShowsEachSlice : PolicyView → Place → List Timed → Timed → Type 0
+abbrev pub ShowsEachSlice : PolicyView → LinePlace → List Timed → Timed → Type 0
 ShowsEachSlice policy place h timed =
     event_lines policy place h timed
     ≡ (if is_over h then [] else lane_lines place (lane_by policy h timed))

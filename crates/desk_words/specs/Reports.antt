@@ -35,28 +35,28 @@ told_over policy slot events = flat_map (λ one. sent_to_slice policy slot one.h
 -- ---- lines
 
 -- where a line belongs: the number of its event, from 0 over the whole recording, and the event's switch
-pub record Place : Type 0 where
+pub record LinePlace : Type 0 where
   pub number : ℕ
   pub switch : ℕ
 
 -- a line begins with both numbers in decimal, each with a space behind it
-abbrev pub place_text : Place → List ℕ
+abbrev pub place_text : LinePlace → List ℕ
 place_text place = decimal place.number ++ codes " " ++ decimal place.switch ++ codes " "
 
 -- a line at its place
-abbrev pub line : Place → List ℕ → List ℕ
+abbrev pub line : LinePlace → List ℕ → List ℕ
 line place text = place_text place ++ text ++ codes "\n"
 
 -- a line for each message for the switch
-abbrev pub lane_lines : Place → List (List ℕ) → List ℕ
+abbrev pub lane_lines : LinePlace → List (List ℕ) → List ℕ
 lane_lines place messages = flat_map (λ message. line place (codes "lane " ++ encode_lower message)) messages
 
 -- a line for each message for the slice of a name
-abbrev pub slice_lines : Place → List ℕ → List (List ℕ) → List ℕ
+abbrev pub slice_lines : LinePlace → List ℕ → List (List ℕ) → List ℕ
 slice_lines place name messages = flat_map (λ message. line place (codes "to " ++ name ++ codes " " ++ encode_lower message)) messages
 
 -- for each slice by slot a line for each of its messages
-abbrev pub lines_by_slot : Place → (ℕ → List (List ℕ)) → List Slice → List ℕ
+abbrev pub lines_by_slot : LinePlace → (ℕ → List (List ℕ)) → List Slice → List ℕ
 lines_by_slot place messages slices = flat_map (λ one. slice_lines place one.1.name (messages one.0)) (enumerate_from 0 slices)
 
 -- the name of the slice at a slot
@@ -70,22 +70,22 @@ speaker (SliceMsg slot message) = Some slot
 speaker event = None
 
 -- the slice that spoke isn't up
-abbrev pub closing_lines : PolicyView → Place → List Timed → Option ℕ → List ℕ
+abbrev pub closing_lines : PolicyView → LinePlace → List Timed → Option ℕ → List ℕ
 closing_lines policy place h None = []
 closing_lines policy place h (Some slot) = if is_slice_up policy slot h then [] else line place (codes "close " ++ name_at policy.slices slot)
 
 -- a slice's connection came or sent a message, and isn't up after that
-abbrev pub close_lines : PolicyView → Place → List Timed → Event → List ℕ
+abbrev pub close_lines : PolicyView → LinePlace → List Timed → Event → List ℕ
 close_lines policy place h event = closing_lines policy place h (speaker event)
 
 -- an event ended the switch's connection
-abbrev pub down_lines : Place → List Timed → Timed → List ℕ
+abbrev pub down_lines : LinePlace → List Timed → Timed → List ℕ
 down_lines place h timed = if ends h timed then line place (codes "down") else []
 
 -- ---- reports
 
 -- the lines of one event after a history: for the switch, for the slices by slot, the connection that is closed, and the end
-abbrev pub event_lines : PolicyView → Place → List Timed → Timed → List ℕ
+abbrev pub event_lines : PolicyView → LinePlace → List Timed → Timed → List ℕ
 event_lines policy place h timed =
     lane_lines place (sent_to_switch policy h timed)
     ++ lines_by_slot place (λ slot. sent_to_slice policy slot h timed) policy.slices

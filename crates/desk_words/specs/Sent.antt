@@ -1,8 +1,8 @@
 -- What a desk sends at an event: to the slices the answers to what they see, and to the switch, in its lane, messages of the proxy's own or of a slice (this proxy's own rule).
 use Rattle.std.specs.Prelude.{ℕ, List, [], ◌∷◌, ◌++◌, map, Some, None, Result, Ok}
 use Rattle.of10_model.specs.Exact.{all_free}
-use Rattle.of10_ctl.specs.declared.kind.TheConstants.{HELLO, ECHO_REPLY, FEATURES_REQUEST, BARRIER_REQUEST}
-use Rattle.of10_ctl.specs.Frames.{message_of}
+use Rattle.of10_ctl.specs.declared.kind.TheConstants.{HELLO, FEATURES_REQUEST, BARRIER_REQUEST}
+use Rattle.of10_ctl.specs.Frames.{message_of, echo_reply_to}
 use Rattle.of10_flow.specs.declared.protocol.TheConstants.{NO_BUFFER, DELETE}
 use Rattle.of10_flow.specs.FlowMods.{spell_flow_mod}
 use Rattle.of10_port.specs.declared.protocol.TheConstants.{NONE}
@@ -19,12 +19,12 @@ use Rattle.desk_words.specs.declared.event.Timed.{Timed}
 use Rattle.desk_words.specs.declared.phase.Phase.{Phase}
 use Rattle.desk_words.specs.declared.phase.Phase.TheVariants.{Begun, Opened, Gone}
 use Rattle.desk_words.specs.Openings.{features_told, KnownSwitch, switch_of, phase_of}
-use Rattle.desk_words.specs.Histories.{settings_at, items_of, Side, side_of}
+use Rattle.desk_words.specs.Histories.{settings_at, items_of, SliceSide, side_of}
 
 -- ---- to the slices
 
 -- what the slice at a slot is sent at an event, after what is known of the switch and what the slice sees
-abbrev pub sent_with : PolicyView → ℕ → KnownSwitch → Side → Timed → List (List ℕ)
+abbrev pub sent_with : PolicyView → ℕ → KnownSwitch → SliceSide → Timed → List (List ℕ)
 sent_with policy slot switch side timed = sent_for (settings_at policy slot switch.features) side.sight.view (items_of policy slot switch side timed)
 
 -- what it is sent at an event after a history
@@ -68,7 +68,7 @@ preparation = whole_packets ∷ clearing ∷ message_of BARRIER_REQUEST 0xff0000
 
 -- a switch that asks under a transaction id whether this proxy is there is answered with the body that it sent (section 5.5)
 abbrev pub echo_said : ℕ → Result SwitchMessage Unread → List (List ℕ)
-echo_said xid (Ok (says.EchoRequest body)) = message_of ECHO_REPLY xid body ∷ []
+echo_said xid (Ok (says.EchoRequest body)) = echo_reply_to xid body ∷ []
 echo_said xid said = []
 
 -- what answers a message
@@ -82,7 +82,7 @@ begun_lane message = elim (features_told message) [ None ↦ echo_for message | 
 -- ---- to the switch: messages of slices
 
 -- what the slice at a slot has sent to the switch at an event, after what is known of the switch and what the slice sees
-abbrev pub put_with : PolicyView → ℕ → KnownSwitch → Side → Timed → List (List ℕ)
+abbrev pub put_with : PolicyView → ℕ → KnownSwitch → SliceSide → Timed → List (List ℕ)
 put_with policy slot switch side timed =
     map (rendered side.sight.came) (put_for (settings_at policy slot switch.features) side.sight.view (items_of policy slot switch side timed))
 

@@ -12,7 +12,7 @@ ghost use Rattle.slice_words.specs.Items.{Settings};
 ghost use Rattle.desk_words.specs.Histories.{is_slot, side_of};
 ghost use Rattle.desk_words.specs.Numbers.{AreNumbered};
 ghost use Rattle.desk_words.specs.Operations.{Operation, IsLegal, queue_of, lane_of};
-ghost use Rattle.desk_words.specs.Reports.{Place};
+ghost use Rattle.desk_words.specs.Reports.{LinePlace};
 ghost use Rattle.desk_words.specs.Laws.{IsPhaseByEvents, IsAlone, AreAlike, IsErasable, IsBlindBefore, IsSilentUntilUp, IsDownAfterDown, IsUpByEvents, sent_since, taken_since, lane_since, lane_taken_since, AreInOrder, SliceWaits, LaneWaits, AreCompletedOnce, SeesItsSwitch, AreKnownInOrder, AreKnownAsTold, MakesTheFirst, GetsTheFirst, ComeAtTheirSwitch, ComeBeforeLater, ShowsEachSlice, IsClosedByVerdict, IsToldAsAlone};
 
 /// The switch's connection has ended where, after it came, it went or a message of a bad length came; the
@@ -112,7 +112,7 @@ pub fn earlier_records_have_the_first_events()
 /// The lines of an event for the slices are, by slot and each slice once, those of what it is sent there;
 /// there are none once the history is over.
 pub fn event_shows_each_slice()
-    ensures { (policy : PolicyView) (place : Place) (h : List Timed) (timed : Timed) → ShowsEachSlice policy place h timed }
+    ensures { (policy : PolicyView) (place : LinePlace) (h : List Timed) (timed : Timed) → ShowsEachSlice policy place h timed }
 {}
 
 /// The slice that connected or sent a message is up after that, unless the verdict on it is to close its

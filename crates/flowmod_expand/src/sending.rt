@@ -9,7 +9,7 @@ ghost use Rattle.flowmod_expand.specs.Messages.{piece_message};
 
 use of10_action::{Action, Actions};
 use of10_flow::protocol::{DELETE, NO_BUFFER, SEND_FLOW_REM};
-use of10_flow::{FlowMod, FlowModView};
+use of10_flow::{FlowMod, FlowModParts};
 use of10_match::Match;
 
 fn is_delete(m: &FlowMod) -> bool
@@ -38,7 +38,7 @@ pub(crate) fn piece_message<'a>(
     piece: &'a Match,
     actions: &'a Actions,
     buffer: u32,
-) -> FlowModView<'a>
+) -> FlowModParts<'a>
     ensures value { shown_flow_mod result ≡ piece_message m.now xid piece.now actions.now buffer }
     ensures addresses { All HasAddress result.actions.now }
 {
@@ -47,7 +47,7 @@ pub(crate) fn piece_message<'a>(
     } else {
         (buffer, SEND_FLOW_REM)
     };
-    FlowModView {
+    FlowModParts {
         xid,
         pattern: piece,
         cookie: m.cookie,

@@ -10,7 +10,7 @@ use of10_action::{Action, Actions, Bytes};
 use of10_ctl::kind::BARRIER_REQUEST;
 use of10_ctl::{Frame, message};
 use of10_flow::protocol::{ADD, NO_BUFFER, SEND_FLOW_REM};
-use of10_flow::{FlowModView, PacketInView, PacketOut};
+use of10_flow::{FlowModParts, PacketInView, PacketOut};
 use of10_port::protocol::NONE;
 use std::alloc::{AllocError, Global};
 
@@ -67,7 +67,7 @@ fn flow_mod(alloc: Global, xid: u32, draws: &mut Draws) -> Result<Frame, AllocEr
     let pattern = tcp_from(u16::from(draws.below(100)));
     let priority = u16::from(draws.below(4));
     let port = port(draws);
-    let view = FlowModView {
+    let parts = FlowModParts {
         xid,
         pattern: &pattern,
         cookie: 0,
@@ -80,7 +80,7 @@ fn flow_mod(alloc: Global, xid: u32, draws: &mut Draws) -> Result<Frame, AllocEr
         flags: SEND_FLOW_REM,
         actions: &[Action::Output { port, max_len: 0 }],
     };
-    view.encode(alloc)
+    parts.encode(alloc)
 }
 
 /// A packet that a slice sends out (OpenFlow 1.0.0, section 5.3.6).

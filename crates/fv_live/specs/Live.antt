@@ -23,10 +23,10 @@ moments_after (moment ∷ []) = moment ∷ []
 moments_after (moment ∷ next ∷ later) = next ∷ later
 
 -- the clock was asked, and answered these moments in this order, where they are told
-abbrev pub Asked : Option (List ℕ) → List ℕ → Option (List ℕ) → Type 0
-Asked None answers rest = rest ≡ None
-Asked (Some coming) [] rest = rest ≡ Some coming
-Asked (Some coming) (answer ∷ answers) rest = (answer ≡ next_moment coming) × Asked (Some (moments_after coming)) answers rest
+abbrev pub WasAsked : Option (List ℕ) → List ℕ → Option (List ℕ) → Type 0
+WasAsked None answers rest = rest ≡ None
+WasAsked (Some coming) [] rest = rest ≡ Some coming
+WasAsked (Some coming) (answer ∷ answers) rest = (answer ≡ next_moment coming) × WasAsked (Some (moments_after coming)) answers rest
 
 -- a number that is told, and so many more
 abbrev pub count_more : Option ℕ → ℕ → Option ℕ

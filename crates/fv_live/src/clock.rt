@@ -1,7 +1,7 @@
 // What tells the time.
 
 ghost use Rattle.std.specs.Prelude.{◌≡◌, ◌<◌, ℕ, List, [], ◌∷◌, Option, Some, None, length, drop, vec_len};
-ghost use Rattle.fv_live.specs.Live.{Asked};
+ghost use Rattle.fv_live.specs.Live.{WasAsked};
 
 /// What tells the time. It can't fail.
 pub trait Clock: Drop {
@@ -10,7 +10,7 @@ pub trait Clock: Drop {
 
     /// The time in milliseconds, which may go back.
     fn now(&mut self) -> u64
-        ensures { Asked (coming self.old) (result ∷ []) (coming self.new) };
+        ensures { WasAsked (coming self.old) (result ∷ []) (coming self.new) };
 }
 
 /// A clock that answers given moments, one after the other, and the last of them from then on.

@@ -21,7 +21,7 @@ use Rattle.desk_words.specs.Sent.{sent_by, lane_by}
 use Rattle.desk_words.specs.Verdicts.{is_over}
 use Rattle.desk_words.specs.Operations.{ends}
 use Rattle.desk_words.specs.Recorded.{next_of, Happened, all_happened}
-use Rattle.desk_words.specs.Reports.{Place, name_at, speaker}
+use Rattle.desk_words.specs.Reports.{LinePlace, name_at, speaker}
 use Rattle.summary_words.specs.Summaries.{lane_messages, slice_messages, event_count, count_line, summary}
 use Rattle.fv_report.specs.declared.counter.Count.{Count}
 use Rattle.fv_report.specs.declared.counter.Counter.{Counter}
@@ -46,7 +46,7 @@ all_picked picked lines = flat_map (λ (line : Line). picked line.saying) lines
 -- it picks of an event's messages those that a rule makes
 abbrev IsPicked : (Saying → List (List ℕ)) → Makes → PolicyView → Type 0
 IsPicked picked makes p =
-    (place : Place) (h : List Timed) (timed : Timed)
+    (place : LinePlace) (h : List Timed) (timed : Timed)
     → all_picked picked (lane_told place (lane_by p h timed) ++ told_by_slot place (λ slot. sent_by p slot h timed) 0 p.slices) ≡ makes h timed
 
 unless : (picked : Saying → List (List ℕ)) (b : Bool) (lines : List Line) (messages : List (List ℕ)) → all_picked picked lines ≡ messages → all_picked picked (if b then [] else lines) ≡ (if b then [] else messages)
@@ -62,16 +62,16 @@ where_none : (picked : Saying → List (List ℕ)) (b : Bool) (lines : List Line
 where_none picked true lines none = none
 where_none picked false lines none = refl
 
-none_of_closing : (picked : Saying → List (List ℕ)) → Picks picked → (p : PolicyView) (place : Place) (h : List Timed) (speaking : Option ℕ) → all_picked picked (closing_told p place h speaking) ≡ []
+none_of_closing : (picked : Saying → List (List ℕ)) → Picks picked → (p : PolicyView) (place : LinePlace) (h : List Timed) (speaking : Option ℕ) → all_picked picked (closing_told p place h speaking) ≡ []
 none_of_closing picked picks p place h None = refl
 none_of_closing picked picks p place h (Some slot) =
     let closed : Line = record { place = place; saying = Close (name_at p.slices slot) } in
     unless_none picked (is_slice_up p slot h) (closed ∷ []) (append-nil (picked (Close (name_at p.slices slot))) ∙ picks.close (name_at p.slices slot))
 
-none_of_down : (picked : Saying → List (List ℕ)) → Picks picked → (place : Place) (h : List Timed) (timed : Timed) → all_picked picked (down_told place h timed) ≡ []
+none_of_down : (picked : Saying → List (List ℕ)) → Picks picked → (place : LinePlace) (h : List Timed) (timed : Timed) → all_picked picked (down_told place h timed) ≡ []
 none_of_down picked picks place h timed = where_none picked (ends h timed) (down_line place ∷ []) (append-nil (picked Down) ∙ picks.down)
 
-of_event : (picked : Saying → List (List ℕ)) (makes : Makes) (p : PolicyView) → Picks picked → IsPicked picked makes p → (place : Place) (h : List Timed) (timed : Timed)
+of_event : (picked : Saying → List (List ℕ)) (makes : Makes) (p : PolicyView) → Picks picked → IsPicked picked makes p → (place : LinePlace) (h : List Timed) (timed : Timed)
     → all_picked picked (event_told p place h timed) ≡ (if is_over h then [] else makes h timed)
 of_event picked makes p picks is place h timed =
     let pick = λ (line : Line). picked line.saying in
@@ -93,21 +93,21 @@ of_events : (picked : Saying → List (List ℕ)) (makes : Makes) (p : PolicyVie
 unfolding lines_from
 of_events picked makes p picks is number [] = refl
 of_events picked makes p picks is number (one ∷ later) =
-    let place : Place = record { number = number; switch = one.switch } in
+    let place : LinePlace = record { number = number; switch = one.switch } in
     flat_map-append (λ (line : Line). picked line.saying) (event_told p place one.history one.timed) (lines_from p (number + 1) later)
     ∙ ap₂ (λ (a b : List (List ℕ)). a ++ b) (of_event picked makes p picks is place one.history one.timed) (of_events picked makes p picks is (number + 1) later)
 
 -- ---- for the switch
 
-lane_of_lane : (place : Place) (messages : List (List ℕ)) → lane_told_in (lane_told place messages) ≡ messages
+lane_of_lane : (place : LinePlace) (messages : List (List ℕ)) → lane_told_in (lane_told place messages) ≡ messages
 lane_of_lane place [] = refl
 lane_of_lane place (m ∷ messages) = ap (λ (others : List (List ℕ)). m ∷ others) (lane_of_lane place messages)
 
-lane_of_slice : (place : Place) (slot : ℕ) (name : List ℕ) (messages : List (List ℕ)) → lane_told_in (slice_told place slot name messages) ≡ []
+lane_of_slice : (place : LinePlace) (slot : ℕ) (name : List ℕ) (messages : List (List ℕ)) → lane_told_in (slice_told place slot name messages) ≡ []
 lane_of_slice place slot name [] = refl
 lane_of_slice place slot name (m ∷ messages) = lane_of_slice place slot name messages
 
-lane_of_slots : (place : Place) (messages : ℕ → List (List ℕ)) (slot : ℕ) (slices : List Slice) → lane_told_in (told_by_slot place messages slot slices) ≡ []
+lane_of_slots : (place : LinePlace) (messages : ℕ → List (List ℕ)) (slot : ℕ) (slices : List Slice) → lane_told_in (told_by_slot place messages slot slices) ≡ []
 lane_of_slots place messages slot [] = refl
 lane_of_slots place messages slot (s ∷ others) =
     flat_map-append (λ (line : Line). lane_said line.saying) (slice_told place slot s.name (messages slot)) (told_by_slot place messages (slot + 1) others)
@@ -126,26 +126,26 @@ lane_told_of p records = of_events lane_said (lane_by p) p (record { close = λ 
 
 -- ---- for a slice
 
-slice_of_lane : (slot : ℕ) (place : Place) (messages : List (List ℕ)) → slice_told_in slot (lane_told place messages) ≡ []
+slice_of_lane : (slot : ℕ) (place : LinePlace) (messages : List (List ℕ)) → slice_told_in slot (lane_told place messages) ≡ []
 slice_of_lane slot place [] = refl
 slice_of_lane slot place (m ∷ messages) = slice_of_lane slot place messages
 
-slice_of_own : (slot at : ℕ) (place : Place) (name : List ℕ) (messages : List (List ℕ)) → (at == slot) ≡ true → slice_told_in slot (slice_told place at name messages) ≡ messages
+slice_of_own : (slot at : ℕ) (place : LinePlace) (name : List ℕ) (messages : List (List ℕ)) → (at == slot) ≡ true → slice_told_in slot (slice_told place at name messages) ≡ messages
 slice_of_own slot at place name [] is = refl
 slice_of_own slot at place name (m ∷ messages) is = rw is (ap (λ (others : List (List ℕ)). m ∷ others) (slice_of_own slot at place name messages is))
 
-slice_of_other : (slot at : ℕ) (place : Place) (name : List ℕ) (messages : List (List ℕ)) → (at == slot) ≡ false → slice_told_in slot (slice_told place at name messages) ≡ []
+slice_of_other : (slot at : ℕ) (place : LinePlace) (name : List ℕ) (messages : List (List ℕ)) → (at == slot) ≡ false → slice_told_in slot (slice_told place at name messages) ≡ []
 slice_of_other slot at place name [] other = refl
 slice_of_other slot at place name (m ∷ messages) other = rw other (slice_of_other slot at place name messages other)
 
 -- slices behind a slot
-slice_of_behind : (slot : ℕ) (place : Place) (messages : ℕ → List (List ℕ)) (from : ℕ) (slices : List Slice) → slot < from → slice_told_in slot (told_by_slot place messages from slices) ≡ []
+slice_of_behind : (slot : ℕ) (place : LinePlace) (messages : ℕ → List (List ℕ)) (from : ℕ) (slices : List Slice) → slot < from → slice_told_in slot (told_by_slot place messages from slices) ≡ []
 slice_of_behind slot place messages from [] behind = refl
 slice_of_behind slot place messages from (s ∷ others) behind =
     flat_map-append (λ (line : Line). slice_in slot line.saying) (slice_told place from s.name (messages from)) (told_by_slot place messages (from + 1) others)
     ∙ ap₂ (λ (a b : List (List ℕ)). a ++ b) (slice_of_other slot from place s.name (messages from) (ne_eqb from slot (λ same. absurd (omega (arith, same, behind))))) (slice_of_behind slot place messages (from + 1) others (omega (arith, behind)))
 
-slice_of_slots : (slot : ℕ) (place : Place) (messages : ℕ → List (List ℕ)) (from : ℕ) (slices : List Slice) → from ≤ slot → slot < from + length slices → slice_told_in slot (told_by_slot place messages from slices) ≡ messages slot
+slice_of_slots : (slot : ℕ) (place : LinePlace) (messages : ℕ → List (List ℕ)) (from : ℕ) (slices : List Slice) → from ≤ slot → slot < from + length slices → slice_told_in slot (told_by_slot place messages from slices) ≡ messages slot
 slice_of_slots slot place messages from [] reached within = absurd (omega (arith, reached, within))
 slice_of_slots slot place messages from (s ∷ others) reached within =
     flat_map-append (λ (line : Line). slice_in slot line.saying) (slice_told place from s.name (messages from)) (told_by_slot place messages (from + 1) others)

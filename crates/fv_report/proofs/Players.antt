@@ -3,7 +3,7 @@ use Rattle.std.proofs.Common.{◌≡◌, ◌+◌, ℕ, List, [], ◌∷◌, ◌+
 use Rattle.std.specs.Result.{IsErrAnd}
 use Rattle.flowspace.specs.Policies.{PolicyView}
 use Rattle.recording.specs.Recordings.{Told}
-use Rattle.desk_words.specs.Reports.{Place}
+use Rattle.desk_words.specs.Reports.{LinePlace}
 use Rattle.fv_report.specs.declared.fault.ReportFault.{ReportFault}
 use Rattle.fv_report.specs.declared.fault.ReportFault.TheVariants.{Memory}
 use Rattle.fv_report.specs.declared.player.Player.{Player}
@@ -40,15 +40,15 @@ memory_on fault (Err e) same memory = same ∙ memory
 memory_on fault (Ok value) same memory = absurd same
 
 -- one line was told
-pub told_line : {T : Type 0} (Tells : T → Line → Outcome → T → Type 0) (scene : Scene) (place : Place) (saying : Saying) (outcome : Outcome) (old new : Player T) → place ≡ scene.place → Tells old.teller (record { place = place; saying = saying }) outcome new.teller → IsPlaying scene new
+pub told_line : {T : Type 0} (Tells : T → Line → Outcome → T → Type 0) (scene : Scene) (place : LinePlace) (saying : Saying) (outcome : Outcome) (old new : Player T) → place ≡ scene.place → Tells old.teller (record { place = place; saying = saying }) outcome new.teller → IsPlaying scene new
     → HasTold Tells scene (Unit {0}) outcome (record { place = scene.place; saying = saying } ∷ []) old new
 told_line Tells scene place saying (Ok value) old new same told is = record {
-  told = subst (λ (p : Place). let l : Line = record { place = p; saying = saying } in Tell {A = Unit {0}} Tells (Ok value) (l ∷ []) old.teller new.teller) same (tell_line Tells (Ok value) (record { place = place; saying = saying }) old.teller new.teller told);
+  told = subst (λ (p : LinePlace). let l : Line = record { place = p; saying = saying } in Tell {A = Unit {0}} Tells (Ok value) (l ∷ []) old.teller new.teller) same (tell_line Tells (Ok value) (record { place = place; saying = saying }) old.teller new.teller told);
   at = is;
   more = tt;
 }
 told_line Tells scene place saying (Err fault) old new same told is = record {
-  told = subst (λ (p : Place). let l : Line = record { place = p; saying = saying } in Tell {A = Unit {0}} Tells (Err fault) (l ∷ []) old.teller new.teller) same (tell_line Tells (Err fault) (record { place = place; saying = saying }) old.teller new.teller told);
+  told = subst (λ (p : LinePlace). let l : Line = record { place = p; saying = saying } in Tell {A = Unit {0}} Tells (Err fault) (l ∷ []) old.teller new.teller) same (tell_line Tells (Err fault) (record { place = place; saying = saying }) old.teller new.teller told);
   at = tt;
   more = tt;
 }

@@ -87,7 +87,7 @@ lines_both : (p : PolicyView) (number switch : ℕ) (h first second : List Timed
     → told_of p (record { number = number; switch = switch }) h (first ++ second) ≡ told_of p (record { number = number; switch = switch }) h first ++ told_of p (record { number = number + length first; switch = switch }) (next_after h first) second
 lines_both p number switch h [] second = ap (λ (n : ℕ). told_of p (record { number = n; switch = switch }) h second) (at_once number)
 lines_both p number switch h (timed ∷ first) second =
-    let place : report.Place = record { number = number; switch = switch } in
+    let place : report.LinePlace = record { number = number; switch = switch } in
     ap (λ (lines : List Line). event_told p place h timed ++ lines) (lines_both p (number + 1) switch (next_of h timed) first second)
     ∙ ap (λ (n : ℕ). event_told p place h timed ++ (told_of p (record { number = number + 1; switch = switch }) (next_of h timed) first ++ told_of p (record { number = n; switch = switch }) (next_after (next_of h timed) first) second)) (one_further number (length first))
     ∙ sym (append_assoc (event_told p place h timed) (told_of p (record { number = number + 1; switch = switch }) (next_of h timed) first) (told_of p (record { number = number + suc (length first); switch = switch }) (next_after (next_of h timed) first) second))

@@ -13,7 +13,7 @@ use Rattle.answer_bounds.specs.Bounds.{IsFramed, AreFramed}
 use Rattle.desk_words.specs.declared.event.Timed.{Timed}
 use Rattle.desk_words.specs.Recorded.{told_by, stream_before, next_of, history_of, history_at, events_in, bytes_carried, told_in, Happened, each_after, happened_in}
 use Rattle.std.specs.Result.{IsErrAnd}
-use Rattle.desk_words.specs.Reports.{Place}
+use Rattle.desk_words.specs.Reports.{LinePlace}
 use Rattle.fv_report.specs.declared.fault.ReportFault.{ReportFault}
 use Rattle.fv_report.specs.declared.fault.ReportFault.TheVariants.{Memory}
 use Rattle.fv_report.specs.declared.player.Player.{Player}
@@ -186,7 +186,7 @@ running_more Tells p file all from left item value before now after old new is s
     let lines = told_of p (record { number = events; switch = r.switch }) (history_at p r s.past) own in
     let others = happened_after p (r ∷ s.past) (told_in file left) in
     let played = plays p events s.past (record { policy = s.policy; events = refl }) s.stands in
-    let number : after.place.number ≡ events + length own = ap (λ (place : Place). place.number) played.at.place in
+    let number : after.place.number ≡ events + length own = ap (λ (place : LinePlace). place.number) played.at.place in
     let whole_count : events + length (happened_after p s.past (r ∷ told_in file left)) ≡ event_count p (told_in file all) = ap (λ (items : List Item). events + length (happened_after p s.past (told_in file items))) (sym is) ∙ s.count in
     let next_count = count_next p s.past r (told_in file left) in
     record {

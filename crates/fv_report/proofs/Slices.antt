@@ -4,7 +4,7 @@ use Rattle.std.proofs.lemmas.List.{append-nil, drop_more, drop_all}
 use Rattle.std.proofs.lemmas.Option.{slice_get_within, get_or_from_slice_get}
 use Rattle.std.proofs.lemmas.Bool.Decides.{nat_tests}
 use Rattle.flowspace.specs.declared.slices.Slice.{Slice}
-use Rattle.desk_words.specs.Reports.{Place}
+use Rattle.desk_words.specs.Reports.{LinePlace}
 use Rattle.std.specs.Result.{IsErrAnd}
 use Rattle.fv_report.specs.declared.fault.ReportFault.{ReportFault}
 use Rattle.fv_report.specs.declared.player.Player.{Player}
@@ -28,14 +28,14 @@ from_first slices other = rw (none_below other) refl
 own_from : (at : ℕ) (slices : ℕ → List (List ℕ)) → from_slot at slices at ≡ slices at
 own_from at slices = rw (not_below at) refl
 
-split : (place : Place) (slices : ℕ → List (List ℕ)) (all : List Slice) (at : ℕ) (slice : Slice) → slice_get all at ≡ Some slice
+split : (place : LinePlace) (slices : ℕ → List (List ℕ)) (all : List Slice) (at : ℕ) (slice : Slice) → slice_get all at ≡ Some slice
     → told_by_slot place slices at (drop at all) ≡ slice_told place at slice.name (slices at) ++ told_by_slot place slices (at + 1) (drop (at + 1) all)
 split place slices all at slice is =
     ap (told_by_slot place slices at) (drop_more all at slice (slice_get_within all at slice is))
     ∙ ap (λ (first : Slice). slice_told place at first.name (slices at) ++ told_by_slot place slices (at + 1) (drop (at + 1) all)) (get_or_from_slice_get all at slice slice is)
 
 -- lines so far, those of a slot, and those behind it
-next_whole : (place : Place) (slices : ℕ → List (List ℕ)) (all : List Slice) (at : ℕ) (slice : Slice) (name : List ℕ) (done whole : List Line) → slice_get all at ≡ Some slice → name ≡ slice.name → done ++ told_by_slot place slices at (drop at all) ≡ whole
+next_whole : (place : LinePlace) (slices : ℕ → List (List ℕ)) (all : List Slice) (at : ℕ) (slice : Slice) (name : List ℕ) (done whole : List Line) → slice_get all at ≡ Some slice → name ≡ slice.name → done ++ told_by_slot place slices at (drop at all) ≡ whole
     → done ++ (slice_told place at name (from_slot at slices at) ++ told_by_slot place slices (at + 1) (drop (at + 1) all)) ≡ whole
 next_whole place slices all at slice name done whole is named rest =
     let others = told_by_slot place slices (at + 1) (drop (at + 1) all) in

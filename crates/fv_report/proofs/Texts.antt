@@ -16,7 +16,7 @@ use Rattle.desk_words.specs.Sent.{sent_by, lane_by}
 use Rattle.desk_words.specs.Verdicts.{is_over}
 use Rattle.desk_words.specs.Operations.{ends}
 use Rattle.desk_words.specs.Recorded.{next_of, Happened, all_happened}
-use Rattle.desk_words.specs.Reports.{Place, line, name_at, speaker, lane_lines, slice_lines, lines_by_slot, closing_lines, down_lines, event_lines, lines_at, last_line, report}
+use Rattle.desk_words.specs.Reports.{LinePlace, line, name_at, speaker, lane_lines, slice_lines, lines_by_slot, closing_lines, down_lines, event_lines, lines_at, last_line, report}
 use Rattle.fv_report.specs.declared.fault.ReportFault.{ReportFault}
 use Rattle.fv_report.specs.declared.fault.ReportFault.TheVariants.{Memory}
 use Rattle.fv_report.specs.Writing.{WrotePart, Wrote, CountedFault, Counted}
@@ -24,16 +24,16 @@ use Rattle.fv_report.specs.Telling.{Line, Outcome, Close, line_text, lane_told, 
 use Rattle.summary_words.specs.Summaries.{event_count}
 use Rattle.fv_report.proofs.Writing.{both, none_of, part_of_first, part_of_second, wrote_second, counted_after, fault_after}
 
-lane_text : (place : Place) (messages : List (List ℕ)) → flat_map line_text (lane_told place messages) ≡ lane_lines place messages
+lane_text : (place : LinePlace) (messages : List (List ℕ)) → flat_map line_text (lane_told place messages) ≡ lane_lines place messages
 lane_text place [] = refl
 lane_text place (m ∷ messages) = ap (λ (text : List ℕ). line place (codes "lane " ++ encode_lower m) ++ text) (lane_text place messages)
 
-slice_text : (place : Place) (slot : ℕ) (name : List ℕ) (messages : List (List ℕ)) → flat_map line_text (slice_told place slot name messages) ≡ slice_lines place name messages
+slice_text : (place : LinePlace) (slot : ℕ) (name : List ℕ) (messages : List (List ℕ)) → flat_map line_text (slice_told place slot name messages) ≡ slice_lines place name messages
 slice_text place slot name [] = refl
 slice_text place slot name (m ∷ messages) = ap (λ (text : List ℕ). line place (codes "to " ++ name ++ codes " " ++ encode_lower m) ++ text) (slice_text place slot name messages)
 
 -- for the slices from a slot on
-by_slot_text : (place : Place) (messages : ℕ → List (List ℕ)) (slot : ℕ) (slices : List Slice)
+by_slot_text : (place : LinePlace) (messages : ℕ → List (List ℕ)) (slot : ℕ) (slices : List Slice)
     → flat_map line_text (told_by_slot place messages slot slices) ≡ flat_map (λ one. slice_lines place one.1.name (messages one.0)) (enumerate_from slot slices)
 by_slot_text place messages slot [] = refl
 by_slot_text place messages slot (s ∷ others) =
@@ -49,33 +49,33 @@ where_so : (b : Bool) (lines : List Line) (text : List ℕ) → flat_map line_te
 where_so true lines text same = same
 where_so false lines text same = refl
 
-closing_text : (p : PolicyView) (place : Place) (h : List Timed) (speaking : Option ℕ) → flat_map line_text (closing_told p place h speaking) ≡ closing_lines p place h speaking
+closing_text : (p : PolicyView) (place : LinePlace) (h : List Timed) (speaking : Option ℕ) → flat_map line_text (closing_told p place h speaking) ≡ closing_lines p place h speaking
 closing_text p place h None = refl
 closing_text p place h (Some slot) =
     let closed : Line = record { place = place; saying = Close (name_at p.slices slot) } in
     unless (is_slice_up p slot h) (closed ∷ []) (line_text closed) (append-nil (line_text closed))
 
-down_text : (place : Place) (h : List Timed) (timed : Timed) → flat_map line_text (down_told place h timed) ≡ down_lines place h timed
+down_text : (place : LinePlace) (h : List Timed) (timed : Timed) → flat_map line_text (down_told place h timed) ≡ down_lines place h timed
 down_text place h timed = where_so (ends h timed) (down_line place ∷ []) (line_text (down_line place)) (append-nil (line_text (down_line place)))
 
-messages_text : (p : PolicyView) (place : Place) (h : List Timed) (timed : Timed)
+messages_text : (p : PolicyView) (place : LinePlace) (h : List Timed) (timed : Timed)
     → flat_map line_text (lane_told place (lane_by p h timed) ++ told_by_slot place (λ slot. sent_by p slot h timed) 0 p.slices) ≡ lane_lines place (lane_by p h timed) ++ lines_by_slot place (λ slot. sent_by p slot h timed) p.slices
 messages_text p place h timed =
     flat_map-append line_text (lane_told place (lane_by p h timed)) (told_by_slot place (λ slot. sent_by p slot h timed) 0 p.slices)
     ∙ ap₂ (λ (a b : List ℕ). a ++ b) (lane_text place (lane_by p h timed)) (by_slot_text place (λ slot. sent_by p slot h timed) 0 p.slices)
 
-no_slice_lines : (place : Place) (slot : ℕ) (slices : List Slice) → flat_map (λ one. slice_lines place one.1.name []) (enumerate_from slot slices) ≡ []
+no_slice_lines : (place : LinePlace) (slot : ℕ) (slices : List Slice) → flat_map (λ one. slice_lines place one.1.name []) (enumerate_from slot slices) ≡ []
 no_slice_lines place slot [] = refl
 no_slice_lines place slot (s ∷ others) = no_slice_lines place (slot + 1) others
 
 -- the messages of an event, unless the history is over
-unless_over : (p : PolicyView) (place : Place) (h : List Timed) (timed : Timed) (over : Bool)
+unless_over : (p : PolicyView) (place : LinePlace) (h : List Timed) (timed : Timed) (over : Bool)
     → flat_map line_text (if over then [] else lane_told place (lane_by p h timed) ++ told_by_slot place (λ slot. sent_by p slot h timed) 0 p.slices)
     ≡ lane_lines place (if over then [] else lane_by p h timed) ++ lines_by_slot place (λ slot. if over then [] else sent_by p slot h timed) p.slices
 unless_over p place h timed true = sym (no_slice_lines place 0 p.slices)
 unless_over p place h timed false = messages_text p place h timed
 
-event_text : (p : PolicyView) (place : Place) (h : List Timed) (timed : Timed) → flat_map line_text (event_told p place h timed) ≡ event_lines p place h timed
+event_text : (p : PolicyView) (place : LinePlace) (h : List Timed) (timed : Timed) → flat_map line_text (event_told p place h timed) ≡ event_lines p place h timed
 event_text p place h timed =
     let first : List Line = if is_over h then [] else lane_told place (lane_by p h timed) ++ told_by_slot place (λ slot. sent_by p slot h timed) 0 p.slices in
     let second = close_told p place (next_of h timed) timed.event in
@@ -89,7 +89,7 @@ all_text : (p : PolicyView) (number : ℕ) (events : List Happened) → flat_map
 unfolding lines_from
 all_text p number [] = refl
 all_text p number (one ∷ later) =
-    let place : Place = record { number = number; switch = one.switch } in
+    let place : LinePlace = record { number = number; switch = one.switch } in
     flat_map-append line_text (event_told p place one.history one.timed) (lines_from p (number + 1) later)
     ∙ ap₂ (λ (a b : List ℕ). a ++ b) (event_text p place one.history one.timed) (all_text p (number + 1) later)
 

@@ -10,7 +10,7 @@ use Rattle.desk_words.specs.declared.answer.Verdict.TheVariants.{Go, Close as To
 use Rattle.desk_words.specs.Verdicts.{is_ended, is_over, closes, verdict}
 use Rattle.desk_words.specs.Sent.{sent_by, lane_by}
 use Rattle.desk_words.specs.Recorded.{next_of}
-use Rattle.desk_words.specs.Reports.{Place, name_at, speaker}
+use Rattle.desk_words.specs.Reports.{LinePlace, name_at, speaker}
 use Rattle.desk_words.specs.Operations.{takes_in}
 use Rattle.proxy_core.specs.declared.parts.Desk.{Desk}
 use Rattle.fv_report.specs.Holding.{Holds, IsQuiet, After}
@@ -25,12 +25,12 @@ ends_by true b c lines is = absurd cc
 ends_by false b c lines is = refl
 
 -- the slice that spoke isn't up exactly where its connection is closed
-closed_as : (p : PolicyView) (place : Place) (h : List Timed) (timed : Timed) (slot : ℕ) (closed up : Bool) → up ≡ not closed → closed_told p place slot closed ≡ (if up then [] else record { place = place; saying = Close (name_at p.slices slot) } ∷ []) ++ []
+closed_as : (p : PolicyView) (place : LinePlace) (h : List Timed) (timed : Timed) (slot : ℕ) (closed up : Bool) → up ≡ not closed → closed_told p place slot closed ≡ (if up then [] else record { place = place; saying = Close (name_at p.slices slot) } ∷ []) ++ []
 closed_as p place h timed slot true up is = rw is refl
 closed_as p place h timed slot false up is = rw is refl
 
 -- beside its messages an event that was taken in tells of the slice that spoke, or of the switch's end
-told_state : (p : PolicyView) (place : Place) (h : List Timed) (timed : Timed) (speaking : Option ℕ) → speaker timed.event ≡ speaking → is_over h ≡ false
+told_state : (p : PolicyView) (place : LinePlace) (h : List Timed) (timed : Timed) (speaking : Option ℕ) → speaker timed.event ≡ speaking → is_over h ≡ false
     → state_told p place (timed ∷ h) speaking (closes p h timed) ≡ closing_told p place (timed ∷ h) speaking ++ down_told place h timed
 told_state p place h timed None of is = ends_by (is_ended (phase_of h)) (leb (2 ^ 60) (length h)) (is_ended (phase_of (timed ∷ h))) (down_line place ∷ []) is
 told_state p place h timed (Some slot) of is =
@@ -38,7 +38,7 @@ told_state p place h timed (Some slot) of is =
     ∙ ap (λ (b : Bool). closing_told p place (timed ∷ h) (Some slot) ++ (if b then down_line place ∷ [] else [])) (sym (none_ends h timed slot of))
 
 -- an event that was taken in
-told_event : (p : PolicyView) (place : Place) (h : List Timed) (timed : Timed) (closed : Bool) → is_over h ≡ false → closed ≡ closes p h timed
+told_event : (p : PolicyView) (place : LinePlace) (h : List Timed) (timed : Timed) (closed : Bool) → is_over h ≡ false → closed ≡ closes p h timed
     → told_parts p place (timed ∷ h) (λ slot. sent_by p slot h timed) (lane_by p h timed) (speaker timed.event) closed ≡ event_told p place h timed
 told_event p place h timed closed is same =
     let lane = lane_told place (lane_by p h timed) in
@@ -52,7 +52,7 @@ told_event p place h timed closed is same =
     ∙ rw is refl
 
 -- an event that comes when all is over
-over_event : (p : PolicyView) (place : Place) (h : List Timed) (timed : Timed) → is_over h ≡ true → closing_told p place h (speaker timed.event) ≡ event_told p place h timed
+over_event : (p : PolicyView) (place : LinePlace) (h : List Timed) (timed : Timed) → is_over h ≡ true → closing_told p place h (speaker timed.event) ≡ event_told p place h timed
 over_event p place h timed is = sym (append-nil (close_told p place h timed.event)) ∙ rw is refl
 
 next_on : (h : List Timed) (timed : Timed) → is_over h ≡ false → next_of h timed ≡ timed ∷ h
@@ -98,11 +98,11 @@ pub refused : (p : PolicyView) (h : List Timed) (timed : Timed) (answered : Verd
 refused p h timed answered desk is reply = (subst (λ (v : Verdict). Answered p h timed v desk) is reply).1
 
 -- the line of a connection that is closed, and none of one that isn't
-pub no_close : (p : PolicyView) (place : Place) (slot : ℕ) (closed : Bool) → closed ≡ false → [] ≡ closed_told p place slot closed
+pub no_close : (p : PolicyView) (place : LinePlace) (slot : ℕ) (closed : Bool) → closed ≡ false → [] ≡ closed_told p place slot closed
 no_close p place slot true is = absurd cc
 no_close p place slot false is = refl
 
-pub close_line : (p : PolicyView) (place : Place) (slot : ℕ) (name : List ℕ) (closed : Bool) → closed ≡ true → name ≡ name_at p.slices slot → (let l : Line = record { place = place; saying = Close name } in l ∷ []) ≡ closed_told p place slot closed
+pub close_line : (p : PolicyView) (place : LinePlace) (slot : ℕ) (name : List ℕ) (closed : Bool) → closed ≡ true → name ≡ name_at p.slices slot → (let l : Line = record { place = place; saying = Close name } in l ∷ []) ≡ closed_told p place slot closed
 close_line p place slot name true is named = ap (λ (n : List ℕ). let l : Line = record { place = place; saying = Close n } in l ∷ []) named
 close_line p place slot name false is named = absurd cc
 

@@ -1,12 +1,12 @@
 -- Lines as the code has them (this proxy's own rule).
-use Rattle.desk_words.specs.Reports.{Place}
-use Rattle.fv_report.specs.declared.teller.Place as code
+use Rattle.desk_words.specs.Reports.{LinePlace}
+use Rattle.fv_report.specs.declared.teller.LinePlace as code
 use Rattle.fv_report.specs.declared.teller.Said.{Said}
 use Rattle.fv_report.specs.declared.teller.Said.TheVariants.{Lane, To, Close, Down}
 use Rattle.fv_report.specs.Telling.{Line, Saying}
 use Rattle.fv_report.specs.Telling as telling
 
-abbrev pub place_of : code.Place → Place
+abbrev pub place_of : code.LinePlace → LinePlace
 place_of place = record { number = place.number; switch = place.switch }
 
 abbrev pub saying_of : Said → Saying
@@ -15,5 +15,5 @@ saying_of (To slot name message) = telling.To slot name.now message.now
 saying_of (Close name) = telling.Close name.now
 saying_of Down = telling.Down
 
-abbrev pub line_of : code.Place → Said → Line
+abbrev pub line_of : code.LinePlace → Said → Line
 line_of place said = record { place = place_of place; saying = saying_of said }

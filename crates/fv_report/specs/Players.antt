@@ -2,7 +2,7 @@
 use Rattle.std.specs.Prelude.{ℕ, ◌≡◌, ◌+◌, List, Result, OnOk}
 use Rattle.flowspace.specs.Policies.{PolicyView}
 use Rattle.recording.specs.Recordings.{Told}
-use Rattle.desk_words.specs.Reports.{Place}
+use Rattle.desk_words.specs.Reports.{LinePlace}
 use Rattle.summary_words.specs.Summaries.{event_count}
 use Rattle.fv_report.specs.declared.fault.ReportFault.{ReportFault}
 use Rattle.fv_report.specs.declared.player.Player.{Player}
@@ -12,7 +12,7 @@ use Rattle.fv_report.specs.Telling.{Line, Outcome, Tell, all_lines}
 -- what is played: by a policy, at the place of the next event, what came at a moment
 pub record Scene : Type 0 where
   pub policy : PolicyView
-  pub place : Place
+  pub place : LinePlace
   pub moment : ℕ
 
 -- a player plays a scene

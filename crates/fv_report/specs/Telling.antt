@@ -13,7 +13,7 @@ use Rattle.desk_words.specs.Verdicts.{is_over, is_ended}
 use Rattle.desk_words.specs.Openings.{phase_of}
 use Rattle.desk_words.specs.Operations.{ends}
 use Rattle.desk_words.specs.Recorded.{next_of, Happened, all_happened}
-use Rattle.desk_words.specs.Reports.{Place, name_at, speaker}
+use Rattle.desk_words.specs.Reports.{LinePlace, name_at, speaker}
 use Rattle.desk_words.specs.Reports as report
 use Rattle.fv_report.specs.declared.fault.ReportFault.{ReportFault}
 use Rattle.fv_report.specs.declared.fault.ReportFault.TheVariants.{Memory}
@@ -29,7 +29,7 @@ pub data Saying : Type 0 where
 
 -- a line: where it belongs, and what it says
 pub record Line : Type 0 where
-  pub place : Place
+  pub place : LinePlace
   pub saying : Saying
 
 -- the text of what is said
@@ -43,50 +43,50 @@ saying_text Down = codes "down"
 abbrev pub line_text : Line → List ℕ
 line_text line = report.line line.place (saying_text line.saying)
 
-abbrev pub lane_line : Place → List ℕ → Line
+abbrev pub lane_line : LinePlace → List ℕ → Line
 lane_line place message = record { place = place; saying = Lane message }
 
-abbrev pub slice_line : Place → ℕ → List ℕ → List ℕ → Line
+abbrev pub slice_line : LinePlace → ℕ → List ℕ → List ℕ → Line
 slice_line place slot name message = record { place = place; saying = To slot name message }
 
 -- a line for each message for the switch
-abbrev pub lane_told : Place → List (List ℕ) → List Line
+abbrev pub lane_told : LinePlace → List (List ℕ) → List Line
 lane_told place messages = map (lane_line place) messages
 
 -- a line for each message for the slice at a slot
-abbrev pub slice_told : Place → ℕ → List ℕ → List (List ℕ) → List Line
+abbrev pub slice_told : LinePlace → ℕ → List ℕ → List (List ℕ) → List Line
 slice_told place slot name messages = map (slice_line place slot name) messages
 
 -- for each slice from a slot on a line for each of its messages
-abbrev pub told_by_slot : Place → (ℕ → List (List ℕ)) → ℕ → List Slice → List Line
+abbrev pub told_by_slot : LinePlace → (ℕ → List (List ℕ)) → ℕ → List Slice → List Line
 told_by_slot place messages slot [] = []
 told_by_slot place messages slot (slice ∷ others) = slice_told place slot slice.name (messages slot) ++ told_by_slot place messages (slot + 1) others
 
 -- the slice that spoke isn't up
-abbrev pub closing_told : PolicyView → Place → List Timed → Option ℕ → List Line
+abbrev pub closing_told : PolicyView → LinePlace → List Timed → Option ℕ → List Line
 closing_told policy place h None = []
 closing_told policy place h (Some slot) = if is_slice_up policy slot h then [] else record { place = place; saying = Close (name_at policy.slices slot) } ∷ []
 
 -- a slice's connection came or sent a message, and isn't up after that
-abbrev pub close_told : PolicyView → Place → List Timed → Event → List Line
+abbrev pub close_told : PolicyView → LinePlace → List Timed → Event → List Line
 close_told policy place h event = closing_told policy place h (speaker event)
 
-abbrev pub down_line : Place → Line
+abbrev pub down_line : LinePlace → Line
 down_line place = record { place = place; saying = Down }
 
 -- an event ended the switch's connection
-abbrev pub down_told : Place → List Timed → Timed → List Line
+abbrev pub down_told : LinePlace → List Timed → Timed → List Line
 down_told place h timed = if ends h timed then down_line place ∷ [] else []
 
 -- the lines of one event after a history: for the switch, for the slices by slot, the connection that is closed, and the end
-abbrev pub event_told : PolicyView → Place → List Timed → Timed → List Line
+abbrev pub event_told : PolicyView → LinePlace → List Timed → Timed → List Line
 event_told policy place h timed =
     (if is_over h then [] else lane_told place (lane_by policy h timed) ++ told_by_slot place (λ slot. sent_by policy slot h timed) 0 policy.slices)
     ++ close_told policy place (next_of h timed) timed.event
     ++ (if is_over h then [] else down_told place h timed)
 
 -- the lines of events that come one after another
-abbrev pub told_of : PolicyView → Place → List Timed → List Timed → List Line
+abbrev pub told_of : PolicyView → LinePlace → List Timed → List Timed → List Line
 told_of policy place h [] = []
 told_of policy place h (timed ∷ later) = event_told policy place h timed ++ told_of policy (record place { number = place.number + 1 }) (next_of h timed) later
 
@@ -101,20 +101,20 @@ all_lines policy records = lines_from policy 0 (all_happened policy records)
 -- ---- in parts
 
 -- the switch's connection has ended
-abbrev pub end_told : Place → List Timed → List Line
+abbrev pub end_told : LinePlace → List Timed → List Line
 end_told place h = if is_ended (phase_of h) then down_line place ∷ [] else []
 
 -- the connection of the slice at a slot is closed, or not
-abbrev pub closed_told : PolicyView → Place → ℕ → Bool → List Line
+abbrev pub closed_told : PolicyView → LinePlace → ℕ → Bool → List Line
 closed_told policy place slot closed = if closed then record { place = place; saying = Close (name_at policy.slices slot) } ∷ [] else []
 
 -- the connection of the slice that spoke, which is closed or not; where none did, the switch's end
-abbrev pub state_told : PolicyView → Place → List Timed → Option ℕ → Bool → List Line
+abbrev pub state_told : PolicyView → LinePlace → List Timed → Option ℕ → Bool → List Line
 state_told policy place h None closed = end_told place h
 state_told policy place h (Some slot) closed = closed_told policy place slot closed
 
 -- messages that wait, and then the connection of the slice that spoke, or the switch's end
-abbrev pub told_parts : PolicyView → Place → List Timed → (ℕ → List (List ℕ)) → List (List ℕ) → Option ℕ → Bool → List Line
+abbrev pub told_parts : PolicyView → LinePlace → List Timed → (ℕ → List (List ℕ)) → List (List ℕ) → Option ℕ → Bool → List Line
 told_parts policy place h slices lane speaking closed =
     lane_told place lane ++ (told_by_slot place slices 0 policy.slices ++ state_told policy place h speaking closed)
 

@@ -5,7 +5,7 @@ ghost use Rattle.fv_report.specs.Telling.{To};
 ghost use Rattle.fv_report.specs.Counting.{Added, Counts, CountsLine};
 
 use crate::fault::ReportFault;
-use crate::teller::{Place, Said, Teller};
+use crate::teller::{LinePlace, Said, Teller};
 use std::alloc::{AllocError, Global};
 
 /// How many messages there were, and how many bytes they had together.
@@ -73,7 +73,7 @@ impl Teller for Counter {
 
     ghost Tells = { λ old line outcome new. CountsLine line.saying outcome old new };
 
-    fn tell(&mut self, _: Place, said: Said<'_>) -> Result<(), ReportFault> {
+    fn tell(&mut self, _: LinePlace, said: Said<'_>) -> Result<(), ReportFault> {
         match said {
             Said::Lane(message) => self.lane.add(message),
             Said::To(slot, _, message) => self.add_at(slot, message),

@@ -10,7 +10,7 @@ ghost use Rattle.fv_report.specs.Writing.{Wrote, Counted};
 use crate::digits::Digits;
 use crate::fault::ReportFault;
 use crate::number::Tens;
-use crate::teller::{Place, Said, Teller};
+use crate::teller::{LinePlace, Said, Teller};
 use fv_base::{Sink, put_all};
 use itoa::Buffer;
 use std::alloc::{AllocError, Global};
@@ -78,7 +78,7 @@ fn put_hex(digits: &Digits, line: &mut [u8], at: usize, message: &[u8]) -> usize
 }
 
 /// Begins a line with its place. Where it ends.
-fn put_place(number: &mut Tens, line: &mut [u8], place: Place) -> usize
+fn put_place(number: &mut Tens, line: &mut [u8], place: LinePlace) -> usize
     requires { 82 ≤ length line.old }
     ensures written { take result line.new ≡ place_text (place_of place) }
     ensures end { result ≤ 82 }
@@ -147,7 +147,7 @@ impl LineBuffer {
     }
 
     /// Makes a whole line.
-    fn make(&mut self, place: Place, said: Said<'_>) -> Result<(), AllocError>
+    fn make(&mut self, place: LinePlace, said: Said<'_>) -> Result<(), AllocError>
         ensures { OnOk result (self.new ≡ line_text (line_of place said.entry)) }
     {
         let size = size_of(&said).saturating_add(PLACE + 1);
@@ -206,7 +206,7 @@ impl<'a, K: Sink> Teller for Writer<'a, K> {
     ghost Tells = { λ old line outcome new. (new.out.ghost_name ≡ old.out.ghost_name) × Wrote outcome (line_text line) (K.contents old.out.now) (K.contents new.out.now) × Counted outcome (K.faults old.out.now) (K.faults new.out.now) };
 
     #[inline(always)]
-    fn tell(&mut self, place: Place, said: Said<'_>) -> Result<(), ReportFault> {
+    fn tell(&mut self, place: LinePlace, said: Said<'_>) -> Result<(), ReportFault> {
         if self.line.make(place, said).is_err() {
             return Err(ReportFault::Memory);
         }

@@ -10,7 +10,7 @@ ghost use Rattle.fv_report.specs.Players.{Scene, IsPlaying, PlaysOn, later, scen
 
 use crate::fault::ReportFault;
 use crate::streams::next_frame;
-use crate::teller::{Place, Said, Teller};
+use crate::teller::{LinePlace, Said, Teller};
 use flowspace::Policy;
 use of10_ctl::{Frame, Framer};
 use recording::Item;
@@ -23,7 +23,7 @@ pub(crate) struct Player<'a, T: Teller> {
     pub(crate) teller: T,
     pub(crate) policy: &'a Policy,
     /// Where the lines of the next event belong. Its number is that of the events so far.
-    pub(crate) place: Place,
+    pub(crate) place: LinePlace,
     /// When what is played came.
     pub(crate) moment: u64,
     pub(crate) alloc: Global,
@@ -46,7 +46,7 @@ impl<'a, T: Teller> Player<'a, T> {
         Player {
             teller,
             policy,
-            place: Place {
+            place: LinePlace {
                 number: 0,
                 switch: 0,
             },
@@ -61,7 +61,7 @@ impl<'a, T: Teller> Player<'a, T> {
         ensures scene { (bytes : List ℕ) → IsPlaying (scene_of self.old.policy.now self.old.place.number (told_by item.now bytes)) self.new }
         ensures teller { self.new.teller ≡ self.old.teller }
     {
-        self.place = Place {
+        self.place = LinePlace {
             number: self.place.number,
             switch: item.switch,
         };
@@ -107,7 +107,7 @@ impl<'a, T: Teller> Player<'a, T> {
     {
         match self.place.number.checked_add(1) {
             Some(number) => {
-                self.place = Place {
+                self.place = LinePlace {
                     number,
                     switch: self.place.switch,
                 };

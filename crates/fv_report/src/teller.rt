@@ -4,7 +4,7 @@ use crate::fault::ReportFault;
 
 /// Where a line belongs: the number of its event, from 0 over the whole recording, and the event's switch.
 #[derive(Clone, Copy)]
-pub(crate) struct Place {
+pub(crate) struct LinePlace {
     pub(crate) number: u64,
     pub(crate) switch: u8,
 }
@@ -31,6 +31,6 @@ pub(crate) trait Teller: Drop {
     ghost Tells: { Self → Line → Outcome → Self → Type 0 };
 
     /// Tells one line.
-    fn tell(&mut self, place: Place, said: Said<'_>) -> Result<(), ReportFault>
+    fn tell(&mut self, place: LinePlace, said: Said<'_>) -> Result<(), ReportFault>
         ensures { Tells self.old (line_of place said.entry) result self.new };
 }

@@ -15,7 +15,7 @@ use recording::{Item, MAGIC, RECORD_HEAD};
 
 /// The record whose head stands at a place of the file.
 #[tactic(auto, unfolding(recording::specs::Recordings::item_at))]
-fn record_at(bytes: &[u8], at: usize) -> Item
+fn item_at(bytes: &[u8], at: usize) -> Item
     requires { at + 16 ≤ length bytes.now }
     ensures { result ≡ item_at bytes.now at }
 {
@@ -39,7 +39,7 @@ impl<T: Teller> Player<'_, T> {
         let mut switches = no_switches(self.alloc)?;
         let mut at = MAGIC.len();
         while at < file.len() {
-            let item = record_at(file, at);
+            let item = item_at(file, at);
             self.play_item(&mut switches, file, &item)?;
             at = item.from + item.size;
         }

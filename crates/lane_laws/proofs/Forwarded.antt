@@ -33,7 +33,7 @@ is_question g message question said.BarrierRequest is = refl
 is_question g message question (said.QueueGetConfigRequest queues) is = refl
 is_question g message question said.Hello is = absurd is
 is_question g message question said.Error is = absurd is
-is_question g message question said.EchoRequest is = absurd is
+is_question g message question (said.EchoRequest body) is = absurd is
 is_question g message question said.EchoReply is = absurd is
 is_question g message question said.Vendor is = absurd is
 is_question g message question said.FeaturesRequest is = absurd is
@@ -134,7 +134,7 @@ module _ (s : Settings) (view : List Item) (past : List Past) (moment : ℕ) (me
     old = inl refl;
     nothing = inl refl;
     refuses = λ fault. inl refl;
-    echoes = inl refl;
+    echoes = λ body read. inl refl;
     tells_features = λ features. inl refl;
     tells_configuration = inl refl;
     forwards = λ m read none. inr (inl (m, read));

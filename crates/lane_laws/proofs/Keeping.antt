@@ -31,7 +31,7 @@ use Rattle.desk_words.specs.declared.event.Timed.{Timed}
 use Rattle.desk_words.specs.declared.phase.Phase.{Phase}
 use Rattle.desk_words.specs.declared.phase.Phase.TheVariants.{Fresh, Begun, Opened, Gone}
 use Rattle.desk_words.specs.Openings.{opening_with, rules_of, KnownSwitch, switch_of, phase_of, opening_of}
-use Rattle.desk_words.specs.Histories.{is_slot, Side, side_of, header_in, handed, number_given, marked_slot, lost_items, packet_items, packet_in_items, packet_said, said_items, message_items, event_items, opening_items, phase_items, items_of, number_told, Numbered, holder, hands_up_buffered, is_any_given, numbered_with, is_open}
+use Rattle.desk_words.specs.Histories.{is_slot, SliceSide, side_of, header_in, handed, number_given, marked_slot, lost_items, packet_items, packet_in_items, packet_said, said_items, message_items, event_items, opening_items, phase_items, items_of, number_told, Numbered, holder, hands_up_buffered, is_any_given, numbered_with, is_open}
 use Rattle.desk_words.specs.Numbers.{AreNumbered}
 use Rattle.desk_words.proofs.Alone.{has_told, opened_told, blind}
 use Rattle.desk_words.proofs.Silence.{none_or, none_both}
@@ -74,7 +74,7 @@ lost_plain None = refl
 lost_plain (Some k) = refl
 
 module _ (policy : PolicyView) (slot : ℕ) where
-  shows_packet : (rules : List Rule) (side : Side) (packet : PacketIn) → Shows rules slot (packet_in_items policy rules slot side packet) (Some packet)
+  shows_packet : (rules : List Rule) (side : SliceSide) (packet : PacketIn) → Shows rules slot (packet_in_items policy rules slot side packet) (Some packet)
   shows_packet rules side packet =
       let lost = lost_items side.numbered packet in
       let shown = packet_items policy rules slot side.sight.view packet in
@@ -86,15 +86,15 @@ module _ (policy : PolicyView) (slot : ℕ) where
             OneShown packet number.0 lost one.0 refl number.1 (ap (λ (items : List Item). lost ++ items) one.1) none one.2 (is_value-Some slot (writer_of rules (header_in packet)) one.3)
       ]
 
-  shows_said : (switch : KnownSwitch) (side : Side) (xid : ℕ) (said : Result SwitchMessage Unread) → Shows (rules_of policy switch.features) slot (said_items policy slot switch side xid said) (packet_said said)
+  shows_said : (switch : KnownSwitch) (side : SliceSide) (xid : ℕ) (said : Result SwitchMessage Unread) → Shows (rules_of policy switch.features) slot (said_items policy slot switch side xid said) (packet_said said)
   shows_said switch side xid (Ok (says.PacketIn packet)) = shows_packet (rules_of policy switch.features) side packet
   shows_said switch side xid said = NoneShown (none_given policy slot switch side xid said refl)
 
-  shows_message : (switch : KnownSwitch) (side : Side) (message : List ℕ) → Shows (rules_of policy switch.features) slot (message_items policy slot switch side message) (packet_handed Opened (SwitchMsg message))
+  shows_message : (switch : KnownSwitch) (side : SliceSide) (message : List ℕ) → Shows (rules_of policy switch.features) slot (message_items policy slot switch side message) (packet_handed Opened (SwitchMsg message))
   unfolding message_items
   shows_message switch side message = shows_said switch side (xid_of message) (read_switch message)
 
-  shows_event : (switch : KnownSwitch) (side : Side) (moment : ℕ) (event : Event) → Shows (rules_of policy switch.features) slot (event_items policy slot switch side moment event) (packet_handed Opened event)
+  shows_event : (switch : KnownSwitch) (side : SliceSide) (moment : ℕ) (event : Event) → Shows (rules_of policy switch.features) slot (event_items policy slot switch side moment event) (packet_handed Opened event)
   shows_event switch side moment SwitchUp = NoneShown refl
   shows_event switch side moment (SwitchMsg message) = shows_message switch side message
   shows_event switch side moment SwitchDown = NoneShown refl
@@ -106,7 +106,7 @@ module _ (policy : PolicyView) (slot : ℕ) where
   plain_opening None = refl
   plain_opening (Some features) = refl
 
-  shows_in : (rules : List Rule) (switch : KnownSwitch) (side : Side) (timed : Timed) (phase : Phase) → (is_open phase ≡ true → rules_of policy switch.features ≡ rules)
+  shows_in : (rules : List Rule) (switch : KnownSwitch) (side : SliceSide) (timed : Timed) (phase : Phase) → (is_open phase ≡ true → rules_of policy switch.features ≡ rules)
       → Shows rules slot (phase_items policy slot switch side timed phase) (packet_handed phase timed.event)
   shows_in rules switch side timed Fresh same = NoneShown refl
   shows_in rules switch side timed Begun same = NoneShown (plain_opening (opening_with Begun timed.event))
@@ -179,7 +179,7 @@ module _ (policy : PolicyView) (slot : ℕ) (rules : List Rule) (h : List Timed)
       ap (λ told. find (has_number number) (with_arrival told)) is
       ∙ cond-true (is_value number (number_given packet)) (Some (record { before = h; timed = timed; packet = packet })) (arrival_under number h) this
 
-  abbrev side : Side
+  abbrev side : SliceSide
   side = side_of policy slot h
 
   abbrev Before : HeldPacket → Type 0
@@ -301,7 +301,7 @@ kept policy slot s (timed ∷ h) features here is = by_opening (opening_of h) re
         step policy slot rules h timed s (shows (λ up. ap (rules_of policy) as_now)) (numbered policy slot s h here) (earlier as_now)
     by_opening None opened earlier =
         step policy slot rules h timed s (shows (λ up. absurd (opened_before h opened up))) (numbered policy slot s h here)
-        (subst (λ (seen : Side). All (KeptUnder policy slot rules h seen.numbered) (held_in s seen.sight.view)) (sym (blind policy slot h opened)) (All-nil (KeptUnder policy slot rules h [])))
+        (subst (λ (seen : SliceSide). All (KeptUnder policy slot rules h seen.numbered) (held_in s seen.sight.view)) (sym (blind policy slot h opened)) (All-nil (KeptUnder policy slot rules h [])))
 
 -- under the number with which a packet came that the slice holds
 pub kept_now : (policy : PolicyView) (slot : ℕ) (s : Settings) (h : List Timed) (features : Features) → is_slot policy slot ≡ true → opening_of h ≡ Some features

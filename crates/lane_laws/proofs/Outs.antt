@@ -10,6 +10,7 @@ use Rattle.of10_model.specs.Pattern.{Has, has}
 use Rattle.of10_model.specs.Inclusion.{any_in_port}
 use Rattle.of10_model.proofs.Membership.{Has-has}
 use Rattle.of10_action.specs.declared.action.Action.{Action}
+use Rattle.of10_action.specs.Reading.{list_given}
 use Rattle.of10_port.specs.declared.protocol.TheConstants.{NONE, CONTROLLER}
 use Rattle.of10_flow.specs.declared.protocol.TheConstants.{NO_BUFFER}
 use Rattle.of10_flow.specs.declared.packet_out.PacketOut.{PacketOut}
@@ -34,7 +35,7 @@ use Rattle.action_check.proofs.Aside.{entry_for, Has-entry}
 use Rattle.slice_words.specs.Items.{lone_rules, is_own_port}
 use Rattle.slice_words.specs.Buffers.{HeldPacket, packet_under}
 use Rattle.flowspace.specs.Options.{first_some}
-use Rattle.slice_words.specs.FlowMods.{Ground, list_given, packet_at}
+use Rattle.slice_words.specs.FlowMods.{Ground, packet_at}
 use Rattle.slice_words.specs.PacketOuts.{is_buffered_out, carried_header, is_probe, marked, origin_with, sent_out_with, names_no_packet, may_come_by, comes_by_another, lies_aside, carries_another, forbidden_out, out_too_large, packet_out_fault}
 use Rattle.slice_words.specs.Alone.{number_it_came_with}
 use Rattle.slice_words.proofs.LoneRules.{same_port}

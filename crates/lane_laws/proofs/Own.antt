@@ -6,6 +6,7 @@ use Rattle.of10_model.specs.Header.{Header}
 use Rattle.of10_model.proofs.Results.{either}
 use Rattle.of10_action.specs.declared.action.Action.{Action}
 use Rattle.of10_action.specs.declared.action.Action.TheVariants.{Output, SetVlanVid, SetVlanPcp, StripVlan, SetDlSrc, SetDlDst, SetNwSrc, SetNwDst, SetNwTos, SetTpSrc, SetTpDst, Enqueue}
+use Rattle.of10_action.specs.Reading.{list_given}
 use Rattle.of10_port.specs.Ports.{port_number}
 use Rattle.of10_flow.specs.declared.flow_mod.FlowMod.{FlowMod}
 use Rattle.flowspace.specs.declared.slices.Slice.{Slice}
@@ -22,7 +23,6 @@ use Rattle.action_check.specs.Permitted.{permitted}
 use Rattle.action_check.specs.Soundness.{HasWay}
 use Rattle.action_check.proofs.Ways.{permitted-Ok, ways}
 use Rattle.slice_words.specs.Items.{lone_rules}
-use Rattle.slice_words.specs.FlowMods.{list_given}
 use Rattle.slice_words.proofs.LoneRules.{same_permitted}
 use Rattle.lane_laws.specs.Lane.{LiesInFlowspace, NamesOwnPort, SendsToOwnPort, SendsProbeToOwnPort}
 

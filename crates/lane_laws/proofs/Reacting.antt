@@ -9,6 +9,7 @@ use Rattle.of10_model.specs.Header.{Header}
 use Rattle.of10_model.proofs.Results.{either}
 use Rattle.of10_action.specs.declared.action.Action.{Action}
 use Rattle.of10_action.specs.Actions.{IsAction}
+use Rattle.of10_action.specs.Reading.{list_given}
 use Rattle.of10_message.specs.declared.controller.FromController.TheVariants as said
 use Rattle.of10_message.specs.Controller.{read_controller}
 use Rattle.of10_flow.specs.declared.flow_mod.FlowMod.{FlowMod}
@@ -36,7 +37,7 @@ use Rattle.action_check.specs.Soundness.{HasWay}
 use Rattle.recording.proofs.Untold.{bytes_of}
 use Rattle.slice_words.specs.Items.{lone_rules}
 use Rattle.slice_words.specs.Buffers.{HeldPacket, held_packets}
-use Rattle.slice_words.specs.FlowMods.{Ground, pieces_on, packet_at, permitted_on, list_given, piece_place}
+use Rattle.slice_words.specs.FlowMods.{Ground, pieces_on, packet_at, permitted_on, piece_place}
 use Rattle.slice_words.specs.PacketOuts.{carried_header, is_probe, origin_with, sent_out_with, packet_out_fault}
 use Rattle.slice_words.specs.Standing.{SliceStands, past_of, held_as}
 use Rattle.slice_words.proofs.Holding.{found_holds}

@@ -240,7 +240,7 @@ module _ (bytes : List ℕ) where
       (over asked is (is_kind FEATURES_REQUEST bytes) (sized 8 said.FeaturesRequest bytes) _ (not_sized 8 said.FeaturesRequest bytes refl)
       (over asked is (is_kind VENDOR bytes) (Ok said.Vendor) _ refl
       (over asked is (is_kind ECHO_REPLY bytes) (Ok said.EchoReply) _ refl
-      (over asked is (is_kind ECHO_REQUEST bytes) (Ok said.EchoRequest) _ refl
+      (over asked is (is_kind ECHO_REQUEST bytes) (Ok (said.EchoRequest (drop 8 bytes))) _ refl
       (over asked is (is_kind ERROR bytes) (Ok said.Error) _ refl e))))))
 
   of_controller : (asked : FromController) → is_either (Ok asked) ≡ true → Reads asked (read_controller bytes) → Reads asked (late (is_kind PACKET_OUT bytes) (is_kind FLOW_MOD bytes))

@@ -11,6 +11,7 @@ use Rattle.of10_model.specs.Pattern.{Has, has}
 use Rattle.of10_model.proofs.Membership.{Has-has}
 use Rattle.of10_model.proofs.Results.{either}
 use Rattle.of10_action.specs.declared.action.Action.{Action}
+use Rattle.of10_action.specs.Reading.{list_given}
 use Rattle.of10_port.specs.declared.features.Features.{Features}
 use Rattle.of10_flow.specs.declared.flow_mod.FlowMod.{FlowMod}
 use Rattle.of10_flow.specs.declared.packet_out.PacketOut.{PacketOut}
@@ -49,7 +50,7 @@ use Rattle.action_check.specs.Soundness.{HasWay}
 use Rattle.slice_words.specs.Items.{Settings, Sight, lone_rules, Item, Msg, is_up, known_ports}
 use Rattle.slice_words.specs.Pasts.{SendsOut, Answer, no_answer}
 use Rattle.slice_words.specs.Buffers.{HeldPacket, held_packets}
-use Rattle.slice_words.specs.FlowMods.{Ground, ground_of, pieces_on, permitted_on, list_given, packet_at, named_packet, piece_place, carrier_of, flow_mod_fault}
+use Rattle.slice_words.specs.FlowMods.{Ground, ground_of, pieces_on, permitted_on, packet_at, named_packet, piece_place, carrier_of, flow_mod_fault}
 use Rattle.slice_words.specs.PacketOuts.{origin_with, permitted_out, packet_out_on, packet_out_fault}
 use Rattle.slice_words.specs.Answers.{message_answer}
 use Rattle.slice_words.specs.Alone.{number_it_came_with, rendered, answer_to, put_for}
@@ -61,7 +62,7 @@ use Rattle.desk_words.specs.declared.event.Timed.{Timed}
 use Rattle.desk_words.specs.declared.phase.Phase.{Phase}
 use Rattle.desk_words.specs.declared.phase.Phase.TheVariants.{Fresh, Begun, Opened, Gone}
 use Rattle.desk_words.specs.Openings.{phase_of, opening_of, rules_of, ports_after}
-use Rattle.desk_words.specs.Histories.{is_slot, settings_at, header_in, Side, side_start, side_of, view_of, is_open, is_slice_up}
+use Rattle.desk_words.specs.Histories.{is_slot, settings_at, header_in, SliceSide, side_start, side_of, view_of, is_open, is_slice_up}
 use Rattle.desk_words.specs.Sent.{lane_by}
 use Rattle.desk_words.specs.Laws.{HasSeen}
 use Rattle.desk_words.proofs.Alone.{has_told, opened_told, blind}
@@ -600,7 +601,7 @@ held_are_written policy h slot = elim (cases_Bool (is_slot policy slot)) [
     none_seen is = subst (HoldsWritten (rules_in policy h) slot (settings_in policy slot h)) (sym is) (All-nil (λ (packet : HeldPacket). Writes (rules_in policy h) slot packet.header))
 
     by_opening : is_slot policy slot ≡ true → (found : Option Features) → opening_of h ≡ found → HoldsWritten (rules_in policy h) slot (settings_in policy slot h) (side_of policy slot h).sight
-    by_opening here None is = none_seen (ap (λ (side : Side). side.sight) (blind policy slot h is))
+    by_opening here None is = none_seen (ap (λ (side : SliceSide). side.sight) (blind policy slot h is))
     by_opening here (Some features) is =
         let s = settings_in policy slot h in
         let rules = rules_on features.datapath policy.rules in

@@ -50,7 +50,7 @@ impl<N: Wires, C: Clock, G: Gate> Work for SessionWork<N, C, G> {
         }
         match job {
             Job::ReadSwitch(mut clock, gate) => {
-                read_switch(rt, shared, &mut seat, &mut clock, &gate);
+                read_from_switch(rt, shared, &mut seat, &mut clock, &gate);
                 shared.end_of_switch(rt);
             }
             Job::WriteSwitch => {
@@ -75,7 +75,7 @@ impl<N: Wires, C: Clock, G: Gate> Work for SessionWork<N, C, G> {
     }
 }
 
-fn read_switch<
+fn read_from_switch<
     R: Host + Net<Listener = TcpListener, Stream = TcpStream>,
     N: Wires,
     C: Clock,

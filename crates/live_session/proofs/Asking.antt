@@ -1,5 +1,5 @@
 -- Which types of messages ask something of the switch.
-use Rattle.std.proofs.Common.{◌≡◌, ◌==◌, not, cond, ℕ, Bool, true, false, List, length, refl, Result, Ok, Err}
+use Rattle.std.proofs.Common.{◌≡◌, ◌==◌, not, cond, ℕ, Bool, true, false, List, length, drop, refl, Result, Ok, Err}
 use Rattle.of10_action.specs.declared.fault.WireFault.{WireFault}
 use Rattle.of10_ctl.specs.declared.kind.TheConstants.{HELLO, ERROR, ECHO_REQUEST, ECHO_REPLY, VENDOR, FEATURES_REQUEST, GET_CONFIG_REQUEST, SET_CONFIG, PACKET_OUT, FLOW_MOD, PORT_MOD, STATS_REQUEST, BARRIER_REQUEST, QUEUE_GET_CONFIG_REQUEST}
 use Rattle.of10_ctl.specs.Frames.{is_bad}
@@ -47,7 +47,7 @@ module _ (bytes : List ℕ) (out : is_of PACKET_OUT bytes ≡ false) (flow : is_
   unfolding read_typed
   typed one bad =
       either IsLast (is_kind ERROR bytes) (Ok said.Error) _ (plain (Ok said.Error) refl)
-      (either IsLast (is_kind ECHO_REQUEST bytes) (Ok said.EchoRequest) _ (plain (Ok said.EchoRequest) refl)
+      (either IsLast (is_kind ECHO_REQUEST bytes) (Ok (said.EchoRequest (drop 8 bytes))) _ (plain (Ok (said.EchoRequest (drop 8 bytes))) refl)
       (either IsLast (is_kind ECHO_REPLY bytes) (Ok said.EchoReply) _ (plain (Ok said.EchoReply) refl)
       (either IsLast (is_kind VENDOR bytes) (Ok said.Vendor) _ (plain (Ok said.Vendor) refl)
       (either IsLast (is_kind FEATURES_REQUEST bytes) _ _ (plain_sized 8 said.FeaturesRequest refl)

@@ -3,7 +3,7 @@ use Rattle.std.proofs.Common.{◌≡◌, ℕ, ◌+◌, List, [], ◌∷◌, ◌+
 use Rattle.std.specs.Prelude.{Option, Some, None}
 use Rattle.std.proofs.lemmas.List.{map-append, length-append}
 use Rattle.turn_desk.specs.Histories.{Called}
-use Rattle.fv_live.specs.Live.{Asked, Moved, moments_after}
+use Rattle.fv_live.specs.Live.{WasAsked, Moved, moments_after}
 use Rattle.desk_words.specs.declared.event.Event.{Event}
 use Rattle.live_desk.specs.declared.object.DeskOp.{DeskOp}
 use Rattle.live_desk.specs.declared.object.DeskOp.TheVariants.{Step}
@@ -18,13 +18,13 @@ use Rattle.live_session.specs.Stretches.{ops_of, AreSteps, at_moment, DeskCall, 
 use Rattle.turn_desk.proofs.Making.{made_none, made_one, made_more, acted}
 use Rattle.live_session.proofs.Making.{ops_append}
 
-pub asked_none : (told : Option (List ℕ)) → Asked told [] told
+pub asked_none : (told : Option (List ℕ)) → WasAsked told [] told
 asked_none None = refl
 asked_none (Some coming) = refl
 
-pub asked_more : (told : Option (List ℕ)) (xs ys : List ℕ) (mid rest : Option (List ℕ)) → Asked told xs mid → Asked mid ys rest → Asked told (xs ++ ys) rest
-asked_more None xs ys mid rest h k = subst (λ m. Asked m ys rest) h k
-asked_more (Some coming) [] ys mid rest h k = subst (λ m. Asked m ys rest) h k
+pub asked_more : (told : Option (List ℕ)) (xs ys : List ℕ) (mid rest : Option (List ℕ)) → WasAsked told xs mid → WasAsked mid ys rest → WasAsked told (xs ++ ys) rest
+asked_more None xs ys mid rest h k = subst (λ m. WasAsked m ys rest) h k
+asked_more (Some coming) [] ys mid rest h k = subst (λ m. WasAsked m ys rest) h k
 asked_more (Some coming) (x ∷ xs) ys mid rest h k = (h.0, asked_more (Some (moments_after coming)) xs ys mid rest h.1 k)
 
 pub moved_none : (told : Option (List ℕ)) → Moved told [] told
@@ -48,7 +48,7 @@ steps_more os ps es fs ms ns h k = (
 pub went_none : (a : Spot) → Went a [] [] a
 went_none a = record { moments = []; made = made_none _ a.view; steps = ([], refl, refl, refl); asked = asked_none a.coming; fewer = omega arith }
 
-pub went_one : (a b : Spot) (event : Event) (moment : ℕ) (reply : DeskReply) → Called Operates a.view (at_moment event moment) reply b.view → Asked a.coming (moment ∷ []) b.coming → b.left + 1 ≡ a.left → WentOne a event reply b
+pub went_one : (a b : Spot) (event : Event) (moment : ℕ) (reply : DeskReply) → Called Operates a.view (at_moment event moment) reply b.view → WasAsked a.coming (moment ∷ []) b.coming → b.left + 1 ≡ a.left → WentOne a event reply b
 went_one a b event moment reply c m f = (
   at_moment event moment,
   record {

@@ -1,7 +1,7 @@
 -- What a seat asks of a desk for one connection. This proxy's own rules.
 use Rattle.std.specs.Prelude.{◌≡◌, ◌⊎◌, ◌+◌, ℕ, List, [], ◌∷◌, ◌++◌, map, length, Option, Some, None, Ok, Err, Bool, true, false}
 use Rattle.of10_ctl.specs.Streams.{frames_of, AreFirst, Stream, Stands}
-use Rattle.fv_live.specs.Live.{Asked, Moved}
+use Rattle.fv_live.specs.Live.{WasAsked, Moved}
 use Rattle.desk_words.specs.declared.event.Event.{Event}
 use Rattle.desk_words.specs.declared.event.Event.TheVariants.{SwitchUp, SwitchMsg, SwitchDown, SliceUp, SliceMsg, SliceDown}
 use Rattle.desk_words.specs.declared.event.Timed.{Timed}
@@ -69,7 +69,7 @@ pub record Went (a : Spot) (events : List Event) (calls : List DeskCall) (b : Sp
   pub moments : List ℕ
   pub made : Made Operates a.view calls b.view
   pub steps : AreSteps (ops_of calls) events moments
-  pub asked : Asked a.coming moments b.coming
+  pub asked : WasAsked a.coming moments b.coming
   pub fewer : b.left + length calls ≡ a.left
 
 -- one event, which was replied so

@@ -1,5 +1,6 @@
 pub mod Loop
 pub mod Again
+pub mod Views
 pub mod Cut
 pub mod Lengths
 pub mod Refused

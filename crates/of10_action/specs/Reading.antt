@@ -70,6 +70,15 @@ actions_at (suc n) (byte ∷ bytes) = do
 abbrev pub read_all : List ℕ → Result (List Action) WireFault
 read_all bytes = actions_at (length bytes) bytes
 
+-- the list that is given, and none where a fault is
+abbrev pub list_given : {A E : Type 0} → Result (List A) E → List A
+list_given (Ok items) = items
+list_given (Err fault) = []
+
+-- the actions that the bytes spell, none where one of them is wrong
+abbrev pub actions_in : List ℕ → List Action
+actions_in bytes = list_given (read_all bytes)
+
 -- the fault of an action that is wrong, behind a list of actions that are right
 pub record IsFirstFault (bytes : List ℕ) (fault : WireFault) : Type 0 where
   pub front : List ℕ

@@ -73,7 +73,7 @@ fn action(kind: u16, bytes: &[u8]) -> Action
 
 /// The first action and the bytes behind it.
 #[tactic(auto, unfolding(crate::specs::Reading::action_at))]
-fn first(bytes: &[u8]) -> Result<(Action, &[u8]), WireFault>
+pub(crate) fn first(bytes: &[u8]) -> Result<(Action, &[u8]), WireFault>
     ensures value { Reads (λ x. (x.0, x.1.now)) result (action_at bytes.now) }
     ensures range { IfOk result (λ x. IsAction x.0) }
     ensures address { IfOk result (λ x. HasAddress x.0) }
@@ -83,7 +83,7 @@ fn first(bytes: &[u8]) -> Result<(Action, &[u8]), WireFault>
     Ok((action(kind, bytes), &bytes[usize::from(length)..]))
 }
 
-fn list(alloc: Global, bytes: &[u8]) -> Result<Vec<Action>, DecodeFault>
+pub(crate) fn list(alloc: Global, bytes: &[u8]) -> Result<Vec<Action>, DecodeFault>
     ensures exact { Gives (λ v. v.items) result (read_all bytes.now) }
     ensures memory { result ≡ Err Memory → is_ok (action_at bytes.now) ≡ true }
     ensures range { IfOk result (λ v. All IsAction v.items) }

@@ -6,6 +6,7 @@ mod decode;
 mod encode;
 pub mod error;
 mod fault;
+mod view;
 
 pub use action::{Action, Actions, Bytes};
 pub use decode::{
@@ -14,3 +15,4 @@ pub use decode::{
 };
 pub use encode::{encode_list, list_size};
 pub use fault::{DecodeFault, WireFault, code};
+pub use view::ActionsView;

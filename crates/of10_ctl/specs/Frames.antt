@@ -1,7 +1,6 @@
 -- Frames: the pieces that a stream of messages is cut into, and the messages that this proxy makes.
-use Rattle.std.specs.Prelude.{◌≡◌, ℕ, ◌+◌, ◌≤◌, nat_lt, Bool, if◌then◌else◌, List, ◌++◌, length, take, drop}
+use Rattle.std.specs.Prelude.{◌≡◌, ℕ, ◌+◌, ◌≤◌, nat_lt, Bool, if◌then◌else◌, List, ◌++◌, length, take}
 use Rattle.byteorder.specs.Endian.{big_bytes}
-use Rattle.of10_model.specs.Normal.{number_at}
 use Rattle.of10_ctl.specs.declared.kind.TheConstants.{ERROR, ECHO_REPLY}
 use Rattle.of10_ctl.specs.Heads.{length_field, head_bytes}
 
@@ -27,6 +26,6 @@ message_of kind xid body = head_bytes kind (8 + length body) xid ++ body
 abbrev pub error_of : ℕ → ℕ → ℕ → List ℕ → List ℕ
 error_of xid class code cause = message_of ERROR xid (big_bytes 2 class ++ (big_bytes 2 code ++ take 64 cause))
 
--- the reply to an echo (OpenFlow 1.0.0, section 5.5): the same transaction and the same body
-abbrev pub echo_reply_to : List ℕ → List ℕ
-echo_reply_to message = message_of ECHO_REPLY (number_at message 4 4) (drop 8 message)
+-- the reply to an echo (OpenFlow 1.0.0, section 5.5): its transaction and its body
+abbrev pub echo_reply_to : ℕ → List ℕ → List ℕ
+echo_reply_to xid body = message_of ECHO_REPLY xid body

@@ -97,7 +97,8 @@ impl Frame {
 
     /// What follows the header.
     pub fn body(&self) -> &[u8]
-        ensures { result.now ≡ drop 8 self.now }
+        ensures value { result.now ≡ drop 8 self.now }
+        ensures short { length result.now ≤ 65527 }
     {
         &self.items[8..]
     }

@@ -2,6 +2,7 @@
 //! into them.
 #![tactic(auto)]
 
+mod body;
 mod frame;
 mod framer;
 mod head;
@@ -9,6 +10,7 @@ pub mod kind;
 pub mod laws;
 mod messages;
 
+pub use body::BodyView;
 pub use frame::{Frame, is_frame};
 pub use framer::{Framer, Next};
 pub use head::Head;

@@ -4,6 +4,7 @@ ghost use Rattle.of10_ctl.specs.Heads.{head_bytes};
 ghost use Rattle.of10_ctl.specs.Frames.{message_of, error_of, echo_reply_to};
 ghost use Rattle.of10_ctl.specs.Kinds.{IsOf};
 
+use crate::body::BodyView;
 use crate::frame::{Frame, HEADER};
 use crate::kind::{ECHO_REPLY, ERROR};
 use of10_model::wire::{put_u16, set_u16, set_u32};
@@ -45,12 +46,12 @@ pub fn message(alloc: Global, kind: u8, xid: u32, body: &[u8]) -> Result<Frame, 
     Ok(Frame::of(bytes))
 }
 
-/// The reply to an ECHO_REQUEST, with its transaction and its body (OpenFlow 1.0.0, section 5.5).
-pub fn echo_reply(alloc: Global, request: &Frame) -> Result<Frame, AllocError>
-    ensures value { IfOk result (λ f. f ≡ echo_reply_to request.now) }
+/// The reply to an ECHO_REQUEST under this transaction with this body (OpenFlow 1.0.0, section 5.5).
+pub fn echo_reply(alloc: Global, xid: u32, body: &BodyView<'_>) -> Result<Frame, AllocError>
+    ensures value { IfOk result (λ f. f ≡ echo_reply_to xid body.now) }
     ensures kind { IfOk result (λ f. IsOf ECHO_REPLY f) }
 {
-    message(alloc, ECHO_REPLY, request.head().xid, request.body())
+    message(alloc, ECHO_REPLY, xid, body.as_slice())
 }
 
 /// What an error message carries of the message at fault.

@@ -10,3 +10,4 @@ pub mod Splitting
 pub mod Turns
 pub mod Faithful
 pub mod Removed
+pub mod Viewed

@@ -5,7 +5,7 @@ use Rattle.of10_model.proofs.Applied.{IsNormal-Norm}
 use Rattle.of10_flow.specs.FlowRemoveds.{IsFlowRemoved, removal_in}
 
 -- the first of bytes are bytes
-bytes-take : (n : ℕ) (bytes : List ℕ) → ((k : ℕ) → slice_index bytes k < 256) → (k : ℕ) → slice_index (take n bytes) k < 256
+pub bytes-take : (n : ℕ) (bytes : List ℕ) → ((k : ℕ) → slice_index bytes k < 256) → (k : ℕ) → slice_index (take n bytes) k < 256
 bytes-take zero bytes h k = omega arith
 bytes-take (suc n) [] h k = omega arith
 bytes-take (suc n) (byte ∷ bytes) h zero = h zero

@@ -13,23 +13,23 @@ use Rattle.of10_action.specs.Reading.{read_all}
 use Rattle.of10_ctl.specs.declared.kind.TheConstants.{FLOW_MOD}
 use Rattle.of10_ctl.specs.Frames.{message_of}
 use Rattle.of10_flow.specs.declared.flow_mod.FlowMod.{FlowMod}
-use Rattle.of10_flow.specs.declared.flow_mod.FlowModView.{FlowModView}
+use Rattle.of10_flow.specs.declared.flow_mod.FlowModParts.{FlowModParts}
 
--- what a view of a flow-mod shows
-abbrev pub shown_flow_mod : FlowModView → FlowMod
-shown_flow_mod view =
+-- what a flow-mod in parts shows
+abbrev pub shown_flow_mod : FlowModParts → FlowMod
+shown_flow_mod parts =
     record {
-      xid = view.xid;
-      pattern = view.pattern.now;
-      cookie = view.cookie;
-      command = view.command;
-      idle = view.idle;
-      hard = view.hard;
-      priority = view.priority;
-      buffer = view.buffer;
-      out_port = view.out_port;
-      flags = view.flags;
-      actions = view.actions.now;
+      xid = parts.xid;
+      pattern = parts.pattern.now;
+      cookie = parts.cookie;
+      command = parts.command;
+      idle = parts.idle;
+      hard = parts.hard;
+      priority = parts.priority;
+      buffer = parts.buffer;
+      out_port = parts.out_port;
+      flags = parts.flags;
+      actions = parts.actions.now;
     }
 
 -- each field lies in the range of its place in the message, and the message fits its length field (section 5.3.3)

@@ -1,4 +1,4 @@
-ghost use Rattle.std.specs.Prelude.{◌≡◌, ◌+◌, ◌≤◌, ◌++◌, true, length, drop, is_ok, Err, OnOk, IfOk};
+ghost use Rattle.std.specs.Prelude.{◌≡◌, ◌+◌, ◌≤◌, ◌++◌, true, false, length, drop, is_ok, Err, OnOk, IfOk};
 ghost use Rattle.std.specs.List.{All};
 ghost use Rattle.byteorder.specs.Endian.{big_bytes};
 ghost use Rattle.of10_action.specs.declared.fault.DecodeFault.TheVariants.{Memory};
@@ -9,12 +9,13 @@ ghost use Rattle.of10_ctl.specs.Kinds.{IsOf};
 ghost use Rattle.of10_flow.specs.FlowMods.{IsFlowMod, flow_mod_with, read_flow_mod, shown_flow_mod, spell_flow_mod};
 
 use crate::fields::{put_buffer, put_entry};
-use of10_action::{Action, Actions, DecodeFault, WireFault, decode_list, encode_list, list_size};
+use of10_action::{Action, Actions, ActionsView, DecodeFault, WireFault, encode_list, list_size};
 use of10_ctl::kind::FLOW_MOD;
 use of10_ctl::{Frame, begin};
 use of10_match::Match;
 use of10_model::wire::{put_u16, u16_at, u32_at, u64_at};
 use std::alloc::{AllocError, Global};
+use std::marker::Model;
 
 /// A change of a flow table (OpenFlow 1.0.0, section 5.3.3).
 #[derive(Debug, Drop)]
@@ -40,9 +41,9 @@ pub struct FlowMod {
     pub actions: Actions,
 }
 
-/// The same with its match and its actions where they lie: nothing is copied.
+/// The same with its match and its actions where they stand, as each piece of one is sent: nothing is copied.
 #[derive(Clone, Copy)]
-pub struct FlowModView<'a> {
+pub struct FlowModParts<'a> {
     pub xid: u32,
     pub pattern: &'a Match,
     /// A number of the controller's own, which the switch keeps with the entry.
@@ -64,28 +65,24 @@ pub struct FlowModView<'a> {
     pub actions: &'a [Action],
 }
 
-/// The flow-mod with these actions whose other fields the bytes have.
-#[tactic(auto, unfolding(crate::specs::FlowMods::flow_mod_with))]
-fn with_actions(actions: Actions, bytes: &[u8]) -> FlowMod
-    requires fields { 72 ≤ length bytes.now }
-    requires range { All IsAction actions }
-    requires fits { 72 + length (spelling actions) ≤ 65535 }
-    ensures value { result ≡ flow_mod_with actions bytes.now }
-    ensures range { IsFlowMod result }
-{
-    FlowMod {
-        xid: u32_at(bytes, 4),
-        pattern: Match::decode_at(bytes, 8),
-        cookie: u64_at(bytes, 48),
-        command: u16_at(bytes, 56),
-        idle: u16_at(bytes, 58),
-        hard: u16_at(bytes, 60),
-        priority: u16_at(bytes, 62),
-        buffer: u32_at(bytes, 64),
-        out_port: u16_at(bytes, 68),
-        flags: u16_at(bytes, 70),
-        actions,
-    }
+/// The same where it lies, as in the frame that carries it: its actions are right, and nothing is copied. Its fields
+/// are read as it is copied, so that the view is small.
+#[derive(Drop)]
+pub struct FlowModView<'a> {
+    bytes: &'a [u8],
+    actions: ActionsView<'a>,
+}
+
+impl<'a> Model for FlowModView<'a> {
+    ghost use Rattle.std.specs.Prelude.{◌≤◌, length};
+    ghost use Rattle.of10_flow.specs.declared.flow_mod.FlowMod.{FlowMod};
+    ghost use Rattle.of10_flow.specs.FlowMods.{flow_mod_with};
+
+    ghost Value = { FlowMod };
+
+    ghost view = { λ v. flow_mod_with v.actions v.bytes.now };
+
+    ghost invariant = { λ v. 72 ≤ length v.bytes.now };
 }
 
 fn behind(bytes: &[u8], at: usize) -> &[u8]
@@ -97,18 +94,52 @@ fn behind(bytes: &[u8], at: usize) -> &[u8]
 }
 
 /// What the bytes of a flow-mod say.
-#[tactic(auto, using(of10_action::proofs::Lengths::spelled_length), unfolding(crate::specs::FlowMods::read_flow_mod))]
-fn read(alloc: Global, bytes: &[u8]) -> Result<FlowMod, DecodeFault>
+#[tactic(auto, using(of10_action::proofs::Lengths::spelled_length), unfolding(crate::specs::FlowMods::read_flow_mod, crate::specs::FlowMods::flow_mod_with))]
+fn read(bytes: &[u8]) -> Result<FlowModView<'_>, WireFault>
     requires { length bytes.now ≤ 65535 }
-    ensures exact { Gives (λ m. m) result (read_flow_mod bytes.now) }
+    ensures exact { result ≡ read_flow_mod bytes.now }
     ensures range { IfOk result IsFlowMod }
-    ensures memory { result ≡ Err Memory → (72 ≤ length bytes.now) × (is_ok (action_at (drop 72 bytes.now)) ≡ true) }
 {
     if bytes.len() < 72 {
-        return Err(DecodeFault::Wire(WireFault::Length(bytes.len() as u16)));
+        return Err(WireFault::Length(bytes.len() as u16));
     }
-    let actions = decode_list(alloc, behind(bytes, 72))?;
-    Ok(with_actions(actions, bytes))
+    let actions = ActionsView::decode(behind(bytes, 72))?;
+    Ok(FlowModView { bytes, actions })
+}
+
+impl<'a> FlowModView<'a> {
+    /// The flow-mod that the frame is, or the first fault in it: its length where it is shorter than its fields,
+    /// then what is wrong with the first action that is wrong. Takes no memory.
+    pub fn decode(frame: &'a Frame) -> Result<FlowModView<'a>, WireFault>
+        requires { IsOf FLOW_MOD frame.now }
+        ensures exact { result ≡ read_flow_mod frame.now }
+        ensures range { IfOk result IsFlowMod }
+    {
+        read(frame.as_slice())
+    }
+
+    /// The same with a copy of the actions, for which memory is taken where there are some.
+    #[tactic(auto, unfolding(crate::specs::FlowMods::flow_mod_with))]
+    pub fn copied(&self, alloc: Global) -> Result<FlowMod, AllocError>
+        ensures value { IfOk result (λ m. m ≡ self.now) }
+        ensures memory { is_ok result ≡ false → 1 ≤ length self.now.actions }
+    {
+        let bytes = self.bytes;
+        let actions = self.actions.copied(alloc)?;
+        Ok(FlowMod {
+            xid: u32_at(bytes, 4),
+            pattern: Match::decode_at(bytes, 8),
+            cookie: u64_at(bytes, 48),
+            command: u16_at(bytes, 56),
+            idle: u16_at(bytes, 58),
+            hard: u16_at(bytes, 60),
+            priority: u16_at(bytes, 62),
+            buffer: u32_at(bytes, 64),
+            out_port: u16_at(bytes, 68),
+            flags: u16_at(bytes, 70),
+            actions,
+        })
+    }
 }
 
 fn put_times(out: &mut Vec<u8>, idle: u16, hard: u16, priority: u16) -> Result<(), AllocError>
@@ -119,7 +150,7 @@ fn put_times(out: &mut Vec<u8>, idle: u16, hard: u16, priority: u16) -> Result<(
     put_u16(out, priority)
 }
 
-impl<'a> FlowModView<'a> {
+impl<'a> FlowModParts<'a> {
     /// The message, of at most 65,535 bytes.
     #[tactic(auto, unfolding(crate::specs::FlowMods::spell_flow_mod))]
     pub fn encode(&self, alloc: Global) -> Result<Frame, AllocError>
@@ -149,15 +180,18 @@ impl FlowMod {
         // Memory is taken for actions alone, and once the first of them is right.
         ensures memory { result ≡ Err Memory → (72 ≤ length frame.now) × (is_ok (action_at (drop 72 frame.now)) ≡ true) }
     {
-        read(alloc, frame.as_slice())
+        match FlowModView::decode(frame) {
+            Ok(view) => Ok(view.copied(alloc)?),
+            Err(fault) => Err(DecodeFault::Wire(fault)),
+        }
     }
 
     /// The same flow-mod; nothing is copied.
-    pub fn view(&self) -> FlowModView<'_>
+    pub fn parts(&self) -> FlowModParts<'_>
         ensures value { shown_flow_mod result ≡ self.now }
         ensures addresses { All HasAddress result.actions.now }
     {
-        FlowModView {
+        FlowModParts {
             xid: self.xid,
             pattern: &self.pattern,
             cookie: self.cookie,
@@ -179,6 +213,6 @@ impl FlowMod {
         ensures kind { IfOk result (λ f. IsOf FLOW_MOD f) }
         ensures size { IfOk result (λ f. length f ≡ 72 + length (spelling self.now.actions)) }
     {
-        self.view().encode(alloc)
+        self.parts().encode(alloc)
     }
 }

@@ -13,7 +13,7 @@ pub mod protocol;
 pub mod tables;
 
 pub use entry::FlowEntry;
-pub use flow_mod::{FlowMod, FlowModView};
+pub use flow_mod::{FlowMod, FlowModParts, FlowModView};
 pub use flow_removed::{FlowRemoved, FlowRemovedView};
 pub use packet_in::{PacketIn, PacketInView};
-pub use packet_out::PacketOut;
+pub use packet_out::{PacketOut, PacketOutView};

@@ -8,11 +8,12 @@ ghost use Rattle.of10_ctl.specs.Kinds.{IsOf};
 ghost use Rattle.of10_flow.specs.PacketOuts.{IsPacketOut, begins_well, read_packet_out, spell_packet_out};
 
 use crate::fields::put_buffer;
-use of10_action::{Actions, Bytes, DecodeFault, WireFault, decode_list, encode_list, list_size};
+use of10_action::{Actions, ActionsView, Bytes, DecodeFault, WireFault, encode_list, list_size};
 use of10_ctl::kind::PACKET_OUT;
 use of10_ctl::{Frame, begin};
 use of10_model::wire::{u16_at, u32_at};
 use std::alloc::{AllocError, Global};
+use std::marker::Model;
 
 /// A packet that a switch is to send out (OpenFlow 1.0.0, section 5.3.6).
 #[derive(Debug, Drop)]
@@ -27,30 +28,73 @@ pub struct PacketOut {
     pub payload: Bytes,
 }
 
+/// The same where it lies, as in the frame that carries it: its actions are right, and nothing is copied.
+#[derive(Drop)]
+pub struct PacketOutView<'a> {
+    xid: u32,
+    buffer: u32,
+    in_port: u16,
+    actions: ActionsView<'a>,
+    payload: &'a [u8],
+}
+
+impl<'a> Model for PacketOutView<'a> {
+    ghost use Rattle.of10_flow.specs.declared.packet_out.PacketOut.{PacketOut};
+
+    ghost Value = { PacketOut };
+
+    ghost view = { λ v. record { xid = v.xid; buffer = v.buffer; in_port = v.in_port; actions = v.actions; payload = v.payload.now } };
+}
+
 /// What the bytes of a packet-out say.
-#[tactic(auto, using(of10_action::proofs::Lengths::spelled_length, crate::proofs::Begins::begins), unfolding(crate::specs::PacketOuts::read_packet_out))]
-fn read(alloc: Global, bytes: &[u8]) -> Result<PacketOut, DecodeFault>
+#[tactic(auto, using(of10_action::proofs::Lengths::spelled_length), unfolding(crate::specs::PacketOuts::read_packet_out))]
+fn read(bytes: &[u8]) -> Result<PacketOutView<'_>, WireFault>
     requires { length bytes.now ≤ 65535 }
-    ensures exact { Gives (λ m. m) result (read_packet_out bytes.now) }
+    ensures exact { result ≡ read_packet_out bytes.now }
     ensures range { IfOk result IsPacketOut }
-    ensures memory { result ≡ Err Memory → (16 + number_at bytes.now 14 2 ≤ length bytes.now) × (begins_well (take (number_at bytes.now 14 2) (drop 16 bytes.now)) ≡ true) }
 {
     if bytes.len() < 16 {
-        return Err(DecodeFault::Wire(WireFault::Length(bytes.len() as u16)));
+        return Err(WireFault::Length(bytes.len() as u16));
     }
     let end = 16 + usize::from(u16_at(bytes, 14));
     if bytes.len() < end {
-        return Err(DecodeFault::Wire(WireFault::Length(bytes.len() as u16)));
+        return Err(WireFault::Length(bytes.len() as u16));
     }
-    let actions = decode_list(alloc, &bytes[16..end])?;
-    let payload = Bytes::of(alloc, &bytes[end..])?;
-    Ok(PacketOut {
+    let actions = ActionsView::decode(&bytes[16..end])?;
+    Ok(PacketOutView {
         xid: u32_at(bytes, 4),
         buffer: u32_at(bytes, 8),
         in_port: u16_at(bytes, 12),
         actions,
-        payload,
+        payload: &bytes[end..],
     })
+}
+
+impl<'a> PacketOutView<'a> {
+    /// The packet-out that the frame is, or the first fault in it: its length where it is shorter than its fields
+    /// or than fields and actions, then what is wrong with the first action that is wrong. Takes no memory.
+    pub fn decode(frame: &'a Frame) -> Result<PacketOutView<'a>, WireFault>
+        requires { IsOf PACKET_OUT frame.now }
+        ensures exact { result ≡ read_packet_out frame.now }
+        ensures range { IfOk result IsPacketOut }
+    {
+        read(frame.as_slice())
+    }
+
+    /// The same with copies of the actions and of the packet.
+    pub fn copied(&self, alloc: Global) -> Result<PacketOut, AllocError>
+        ensures { IfOk result (λ m. m ≡ self.now) }
+    {
+        let actions = self.actions.copied(alloc)?;
+        let payload = Bytes::of(alloc, self.payload)?;
+        Ok(PacketOut {
+            xid: self.xid,
+            buffer: self.buffer,
+            in_port: self.in_port,
+            actions,
+            payload,
+        })
+    }
 }
 
 impl PacketOut {
@@ -63,7 +107,10 @@ impl PacketOut {
         // Memory is taken for actions and the packet, and only where the first action, if there is one, is right.
         ensures memory { result ≡ Err Memory → (16 + number_at frame.now 14 2 ≤ length frame.now) × (begins_well (take (number_at frame.now 14 2) (drop 16 frame.now)) ≡ true) }
     {
-        read(alloc, frame.as_slice())
+        match PacketOutView::decode(frame) {
+            Ok(view) => Ok(view.copied(alloc)?),
+            Err(fault) => Err(DecodeFault::Wire(fault)),
+        }
     }
 
     /// The message, of at most 65,535 bytes.

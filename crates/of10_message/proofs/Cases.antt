@@ -1,5 +1,5 @@
 -- What a controller's message says, case by case.
-use Rattle.std.proofs.Common.{◌≡◌, ℕ, ◌==◌, not, Bool, true, false, List, length, true≢false, ap, sym, refl, Result, Ok, Err, ◌∙◌}
+use Rattle.std.proofs.Common.{◌≡◌, ℕ, ◌==◌, not, Bool, true, false, List, length, drop, true≢false, ap, sym, refl, Result, Ok, Err, ◌∙◌}
 use Rattle.of10_model.proofs.Results.{either}
 use Rattle.of10_action.specs.declared.fault.WireFault.{WireFault}
 use Rattle.of10_action.specs.declared.fault.WireFault.TheVariants.{Length}
@@ -25,6 +25,7 @@ use Rattle.of10_message.specs.Controller.{read_typed, read_controller}
 
 -- a message whose body is read by no layout that says more than its type
 abbrev pub is_plain : FromController → Bool
+is_plain (said.EchoRequest body) = false
 is_plain (said.SetConfig config) = false
 is_plain (said.PacketOut m) = false
 is_plain (said.FlowMod m) = false
@@ -36,6 +37,7 @@ is_plain message = true
 pub record HoldsOf (P : Result FromController Unread → Type 0) (bytes : List ℕ) : Type 0 where
   pub unread : (fault : Unread) → P (Err fault)
   pub plain : (message : FromController) → is_plain message ≡ true → P (Ok message)
+  pub echo_request : P (Ok (said.EchoRequest (drop 8 bytes)))
   pub config : (config : SwitchConfig) → read_config bytes ≡ Ok config → P (Ok (said.SetConfig config))
   pub packet_out : (m : PacketOut) → read_packet_out bytes ≡ Ok m → P (Ok (said.PacketOut m))
   pub flow_mod : (m : FlowMod) → read_flow_mod bytes ≡ Ok m → P (Ok (said.FlowMod m))
@@ -54,7 +56,7 @@ module _ (P : Result FromController Unread → Type 0) (bytes : List ℕ) (holds
   unfolding read_typed
   of_typed =
       either P (is_kind kinds.ERROR bytes) _ _ (holds.plain said.Error refl)
-      (either P (is_kind kinds.ECHO_REQUEST bytes) _ _ (holds.plain said.EchoRequest refl)
+      (either P (is_kind kinds.ECHO_REQUEST bytes) _ _ holds.echo_request
       (either P (is_kind kinds.ECHO_REPLY bytes) _ _ (holds.plain said.EchoReply refl)
       (either P (is_kind kinds.VENDOR bytes) _ _ (holds.plain said.Vendor refl)
       (either P (is_kind kinds.FEATURES_REQUEST bytes) _ _ (of_bare said.FeaturesRequest refl)
@@ -78,24 +80,28 @@ module _ (P : Result FromController Unread → Type 0) (bytes : List ℕ) (holds
 -- ---- what is read by a layout
 
 module _ (bytes : List ℕ) where
-  -- where a message reads as a request for statistics its bytes do, and so where it reads as a question for queues
+  -- where a message reads as a request for statistics its bytes do, and so where it reads as a question for queues; of an echo all behind the head is read
   record IsAsBytes (read : Result FromController Unread) : Type 0 where
     request : (request : StatsRequest) → read ≡ Ok (said.StatsRequest request) → read_request bytes ≡ Ok request
     queues : (queues : QueuesQuestion) → read ≡ Ok (said.QueueGetConfigRequest queues) → read_queues_request bytes ≡ Ok queues
+    echo : (body : List ℕ) → read ≡ Ok (said.EchoRequest body) → body ≡ drop 8 bytes
 
-  -- a message is one of the two
-  abbrev is_either : Result FromController Unread → Bool
-  is_either (Ok (said.StatsRequest request)) = true
-  is_either (Ok (said.QueueGetConfigRequest queues)) = true
-  is_either read = false
+  -- a message is one of the three
+  abbrev is_of_these : Result FromController Unread → Bool
+  is_of_these (Ok (said.EchoRequest body)) = true
+  is_of_these (Ok (said.StatsRequest request)) = true
+  is_of_these (Ok (said.QueueGetConfigRequest queues)) = true
+  is_of_these read = false
 
-  other : (read : Result FromController Unread) → is_either read ≡ false → IsAsBytes read
+  other : (read : Result FromController Unread) → is_of_these read ≡ false → IsAsBytes read
   other read isnt = record {
-    request = λ request e. absurd (true≢false (sym (ap is_either e) ∙ isnt));
-    queues = λ queues e. absurd (true≢false (sym (ap is_either e) ∙ isnt));
+    request = λ request e. absurd (true≢false (sym (ap is_of_these e) ∙ isnt));
+    queues = λ queues e. absurd (true≢false (sym (ap is_of_these e) ∙ isnt));
+    echo = λ body e. absurd (true≢false (sym (ap is_of_these e) ∙ isnt));
   }
 
-  other_plain : (message : FromController) → is_plain message ≡ true → is_either (Ok message) ≡ false
+  other_plain : (message : FromController) → is_plain message ≡ true → is_of_these (Ok message) ≡ false
+  other_plain (said.EchoRequest body) is = absurd (true≢false (sym is))
   other_plain (said.SetConfig config) is = absurd (true≢false (sym is))
   other_plain (said.PacketOut m) is = absurd (true≢false (sym is))
   other_plain (said.FlowMod m) is = absurd (true≢false (sym is))
@@ -103,7 +109,6 @@ module _ (bytes : List ℕ) where
   other_plain (said.QueueGetConfigRequest queues) is = absurd (true≢false (sym is))
   other_plain said.Hello is = refl
   other_plain said.Error is = refl
-  other_plain said.EchoRequest is = refl
   other_plain said.EchoReply is = refl
   other_plain said.Vendor is = refl
   other_plain said.FeaturesRequest is = refl
@@ -115,11 +120,12 @@ module _ (bytes : List ℕ) where
   as_bytes = of_controller IsAsBytes bytes (record {
     unread = λ fault. other (Err fault) refl;
     plain = λ message is. other (Ok message) (other_plain message is);
+    echo_request = record { request = λ request e. absurd cc; queues = λ queues e. absurd cc; echo = λ body e. cc };
     config = λ config is. other (Ok (said.SetConfig config)) refl;
     packet_out = λ m is. other (Ok (said.PacketOut m)) refl;
     flow_mod = λ m is. other (Ok (said.FlowMod m)) refl;
-    statistics = λ r is. record { request = λ request e. is ∙ cc; queues = λ queues e. absurd cc };
-    queues = λ q is. record { request = λ request e. absurd cc; queues = λ queues e. is ∙ cc };
+    statistics = λ r is. record { request = λ request e. is ∙ cc; queues = λ queues e. absurd cc; echo = λ body e. absurd cc };
+    queues = λ q is. record { request = λ request e. absurd cc; queues = λ queues e. is ∙ cc; echo = λ body e. absurd cc };
   })
 
 -- a message that reads as a request for statistics does so by its bytes
@@ -129,3 +135,7 @@ request_as_read message request read = (as_bytes message).request request read
 -- and so one that reads as a question for queues
 pub queues_as_read : (message : List ℕ) (queues : QueuesQuestion) → read_controller message ≡ Ok (said.QueueGetConfigRequest queues) → read_queues_request message ≡ Ok queues
 queues_as_read message queues read = (as_bytes message).queues queues read
+
+-- and of an echo all behind the head is read
+pub echo_as_read : (message body : List ℕ) → read_controller message ≡ Ok (said.EchoRequest body) → body ≡ drop 8 message
+echo_as_read message body read = (as_bytes message).echo body read

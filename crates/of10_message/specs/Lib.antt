@@ -2,4 +2,3 @@ pub mod Heads
 pub mod Forms
 pub mod Controller
 pub mod Errors
-pub mod Replies

@@ -1,17 +1,19 @@
 use of10_config::{QueuesQuestion, SwitchConfig};
-use of10_flow::{FlowMod, PacketOut};
+use of10_ctl::BodyView;
+use of10_flow::{FlowModView, PacketOutView};
 use of10_stats::StatsRequest;
 
-/// A message that a controller sends (OpenFlow 1.0.0, section 5), but for its head.
+/// A message that a controller sends (OpenFlow 1.0.0, section 5), but for its head: what has lists stays where it
+/// lies.
 #[derive(Drop)]
-pub enum FromController {
+pub enum FromController<'a> {
     /// Section 5.5; any version but 0.
     Hello,
     /// Section 5.4.4; its body isn't read.
     Error,
-    /// Section 5.5; its body goes back as it came.
-    EchoRequest,
-    /// Section 5.5.
+    /// Section 5.5: the body, which goes back as it came.
+    EchoRequest(BodyView<'a>),
+    /// Section 5.5; its body isn't read.
     EchoReply,
     /// Section 5.5; its body isn't read.
     Vendor,
@@ -22,9 +24,9 @@ pub enum FromController {
     /// Section 5.3.2.
     SetConfig(SwitchConfig),
     /// Section 5.3.6.
-    PacketOut(PacketOut),
+    PacketOut(PacketOutView<'a>),
     /// Section 5.3.3.
-    FlowMod(FlowMod),
+    FlowMod(FlowModView<'a>),
     /// Section 5.3.3; its body isn't read.
     PortMod,
     /// Section 5.3.5.

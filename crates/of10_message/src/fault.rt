@@ -14,12 +14,3 @@ pub enum Unread {
     /// Its bytes aren't laid out as its type wants it.
     BadForm(WireFault),
 }
-
-/// Why no message was read.
-#[derive(Clone, Copy, PartialEq, Eq)]
-pub enum MessageFault {
-    /// It is wrong.
-    Unread(Unread),
-    /// There is no memory for it.
-    Memory,
-}

@@ -2,16 +2,16 @@
 //! that is wrong with its bytes; and the errors of a switch.
 #![tactic(auto)]
 
-mod bare;
+mod body;
 mod controller;
 mod error;
 mod fault;
 pub mod laws;
 mod reading;
 
-pub use bare::is_bare;
+pub use body::bare;
 pub use controller::FromController;
 pub use error::{ErrorView, pair_in};
-pub use fault::{MessageFault, Unread};
+pub use fault::Unread;
 pub use of10_config::{QueuesQuestion, QueuesView, SwitchConfig};
 pub use reading::read_controller;

@@ -16,7 +16,7 @@ use Rattle.of10_switch.specs.Messages.{SwitchMessage, Hello, Error, EchoRequest,
 abbrev pub said_by : FromSwitch → SwitchMessage
 said_by views.Hello = Hello
 said_by (views.Error error) = Error (error_of_view error)
-said_by (views.EchoRequest body) = EchoRequest body.now
+said_by (views.EchoRequest body) = EchoRequest body
 said_by views.EchoReply = EchoReply
 said_by views.Vendor = Vendor
 said_by (views.FeaturesReply features) = FeaturesReply (features_of features)

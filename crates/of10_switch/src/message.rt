@@ -1,18 +1,19 @@
 use of10_config::{QueuesView, SwitchConfig};
+use of10_ctl::BodyView;
 use of10_flow::{FlowRemovedView, PacketInView};
 use of10_message::ErrorView;
 use of10_port::{FeaturesView, PortStatusView};
 use of10_stats::StatsPart;
 
 /// A message that a switch sends (OpenFlow 1.0.0, section 5), but for its head, where it lies.
-#[derive(Clone, Copy)]
+#[derive(Drop)]
 pub enum FromSwitch<'a> {
     /// Section 5.5; any version but 0.
     Hello,
     /// Section 5.4.4.
     Error(ErrorView<'a>),
     /// Section 5.5: the body, which goes back as it came.
-    EchoRequest(&'a [u8]),
+    EchoRequest(BodyView<'a>),
     /// Section 5.5; its body isn't read.
     EchoReply,
     /// Section 5.5; its body isn't read.

@@ -19,15 +19,14 @@ ghost use Rattle.of10_switch.specs.Views.{said_by, ReadsAsSaid};
 ghost use Rattle.of10_switch.specs.Ranges.{IsSaid};
 
 use crate::message::FromSwitch;
-use of10_action::WireFault;
 use of10_config::{QueuesView, SwitchConfig};
-use of10_ctl::Frame;
 use of10_ctl::kind::{
     BARRIER_REPLY, ECHO_REPLY, ECHO_REQUEST, ERROR, FEATURES_REPLY, FLOW_REMOVED, GET_CONFIG_REPLY,
     HELLO, PACKET_IN, PORT_STATUS, QUEUE_GET_CONFIG_REPLY, STATS_REPLY, VENDOR,
 };
+use of10_ctl::{BodyView, Frame};
 use of10_flow::{FlowRemovedView, PacketInView};
-use of10_message::{ErrorView, Unread, is_bare};
+use of10_message::{ErrorView, Unread, bare};
 use of10_port::{FeaturesView, PortStatusView};
 use of10_stats::part;
 
@@ -111,11 +110,8 @@ fn barrier(frame: &Frame) -> Result<FromSwitch<'_>, Unread>
     ensures exact { ReadsAsSaid result (sized 8 said.BarrierReply frame.now) }
     ensures range { IfOk result (λ m. IsSaid (said_by m)) }
 {
-    if is_bare(frame) {
-        Ok(FromSwitch::BarrierReply)
-    } else {
-        Err(Unread::BadForm(WireFault::Length(frame.as_slice().len() as u16)))
-    }
+    bare(frame)?;
+    Ok(FromSwitch::BarrierReply)
 }
 
 fn queues(frame: &Frame) -> Result<FromSwitch<'_>, Unread>
@@ -141,7 +137,7 @@ fn sent(frame: &Frame) -> Result<FromSwitch<'_>, Unread>
     let _bytes = frame.as_slice();
     match frame.head().kind {
         ERROR => error(frame),
-        ECHO_REQUEST => Ok(FromSwitch::EchoRequest(frame.body())),
+        ECHO_REQUEST => Ok(FromSwitch::EchoRequest(BodyView::of(frame))),
         ECHO_REPLY => Ok(FromSwitch::EchoReply),
         VENDOR => Ok(FromSwitch::Vendor),
         FEATURES_REPLY => features(frame),

@@ -3,7 +3,7 @@ use Rattle.std.proofs.Common.{◌≡◌, ◌⊎◌, ℕ, ◌+◌, ◌-◌, ◌<�
 use Rattle.std.proofs.lemmas.Bool.{cases_Bool, lt-ltb, le-ltb, ltb-false, or_parts, or_left, or_right}
 use Rattle.std.proofs.lemmas.List.{append-nil}
 use Rattle.std.proofs.lemmas.List.Sums.{sum_by-append, sum_by-cons}
-use Rattle.outbox.specs.Queues.{Queue, size, push, push_all, Kept, QueueStands}
+use Rattle.outbox.specs.Queues.{Queue, size, push, push_all, OutboxState, QueueStands}
 
 -- one message behind others
 pub size-push : (pending : List (List ℕ)) (message : List ℕ) → size (pending ++ message ∷ []) ≡ size pending + length message
@@ -71,7 +71,7 @@ push_all-within limit q (message ∷ later) h = push_all-within limit (push limi
 
 -- ---- what an outbox keeps after one message more
 
-pub stands-dropped : (limit : ℕ) (q : Queue) (kept : Kept) (message : List ℕ) → QueueStands limit q kept
+pub stands-dropped : (limit : ℕ) (q : Queue) (kept : OutboxState) (message : List ℕ) → QueueStands limit q kept
     → (kept.choked ≡ true) ⊎ (kept.limit - kept.bytes < length message) → QueueStands limit (push limit q message) (record kept { choked = true })
 unfolding push
 stands-dropped limit q kept message s cause =
@@ -81,7 +81,7 @@ stands-dropped limit q kept message s cause =
     ] in
     rw dropped (record { pending = s.pending; choked = refl; bytes = s.bytes; bound = s.bound; within = s.within })
 
-pub stands-kept : (limit : ℕ) (q : Queue) (kept after : Kept) (message : List ℕ) → QueueStands limit q kept
+pub stands-kept : (limit : ℕ) (q : Queue) (kept after : OutboxState) (message : List ℕ) → QueueStands limit q kept
     → kept.choked ≡ false → 1 ≤ length message → length message ≤ kept.limit - kept.bytes
     → after.pending ≡ kept.pending ++ message ∷ [] → after.choked ≡ false → after.bytes ≡ kept.bytes + length message → after.limit ≡ kept.limit
     → QueueStands limit (push limit q message) after

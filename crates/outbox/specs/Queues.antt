@@ -30,7 +30,7 @@ abbrev pub without_first : Queue → Queue
 without_first q = record q { pending = drop 1 q.pending }
 
 -- what an outbox keeps: its queue, the bytes that wait, the most that may, and for how many more messages memory was taken
-pub record Kept : Type 0 where
+pub record OutboxState : Type 0 where
   pub pending : List (List ℕ)
   pub choked : Bool
   pub bytes : ℕ
@@ -38,7 +38,7 @@ pub record Kept : Type 0 where
   pub room : ℕ
 
 -- an outbox with this limit keeps this queue
-pub record QueueStands (limit : ℕ) (q : Queue) (kept : Kept) : Type 0 where
+pub record QueueStands (limit : ℕ) (q : Queue) (kept : OutboxState) : Type 0 where
   pub pending : kept.pending ≡ q.pending
   pub choked : kept.choked ≡ q.choked
   pub bytes : kept.bytes ≡ size q.pending

@@ -21,9 +21,9 @@ pub struct Outbox {
 impl Model for Outbox {
     ghost use Rattle.std.specs.Prelude.{◌-◌};
     ghost use Rattle.std.specs.VecDeque.{deque_len, deque_capacity};
-    ghost use Rattle.outbox.specs.Queues.{Kept};
+    ghost use Rattle.outbox.specs.Queues.{OutboxState};
 
-    ghost Value = { Kept };
+    ghost Value = { OutboxState };
 
     ghost view = { λ o. record { pending = o.frames.items; choked = o.choked; bytes = o.bytes; limit = o.limit; room = deque_capacity o.frames - deque_len o.frames } };
 }

@@ -4,14 +4,14 @@ use Rattle.std.specs.Prelude.{ltb}
 use Rattle.std.proofs.lemmas.Option.{none-some}
 use Rattle.of10_port.specs.declared.features.Features.{Features}
 use Rattle.flowspace.specs.Policies.{PolicyView}
-use Rattle.outbox.specs.Queues.{Queue, no_messages, push_all, Kept, QueueStands}
+use Rattle.outbox.specs.Queues.{Queue, no_messages, push_all, OutboxState, QueueStands}
 use Rattle.slice_words.specs.Items.{Item, End}
 use Rattle.slice_words.specs.Alone.{sent_for}
 use Rattle.desk_words.specs.declared.event.Timed.{Timed}
 use Rattle.desk_words.specs.declared.phase.Phase.{Phase}
 use Rattle.desk_words.specs.declared.phase.Phase.TheVariants.{Fresh, Begun, Opened, Gone}
 use Rattle.desk_words.specs.Openings.{phase_after, opening_after, known_after, KnownSwitch, switch_after}
-use Rattle.desk_words.specs.Histories.{is_slot, settings_at, Side, items_of, phase_items, is_open}
+use Rattle.desk_words.specs.Histories.{is_slot, settings_at, SliceSide, items_of, phase_items, is_open}
 use Rattle.desk_words.specs.Sent.{lane_in, put_with}
 use Rattle.desk_words.specs.Verdicts.{is_ended, is_before}
 use Rattle.desk_words.proofs.Alone.{none_in}
@@ -30,19 +30,19 @@ either_empty true q is = refl
 either_empty false q is = is
 
 -- nothing waits after an event that shows nothing where nothing waited
-empty_after : (p : PolicyView) (switch : KnownSwitch) (sides : ℕ → Side) (qs : ℕ → Queue) (timed : Timed) (slot : ℕ) → items_of p slot switch (sides slot) timed ≡ [] → qs slot ≡ no_messages
+empty_after : (p : PolicyView) (switch : KnownSwitch) (sides : ℕ → SliceSide) (qs : ℕ → Queue) (timed : Timed) (slot : ℕ) → items_of p slot switch (sides slot) timed ≡ [] → qs slot ≡ no_messages
     → queues_after p switch sides qs timed slot ≡ no_messages
 unfolding push_all
 empty_after p switch sides qs timed slot none empty =
     ap₂ (λ (q : Queue) (items : List Item). push_all slice_limit q (sent_for (settings_at p slot switch.features) (sides slot).sight.view items))
     (either_empty (empties slot (up_after p switch sides timed slot) timed.event) (qs slot) empty) none
 
-beyond_after : (p : PolicyView) (switch : KnownSwitch) (sides : ℕ → Side) (qs : ℕ → Queue) (timed : Timed) (slot : ℕ) → is_slot p slot ≡ false → qs slot ≡ no_messages
+beyond_after : (p : PolicyView) (switch : KnownSwitch) (sides : ℕ → SliceSide) (qs : ℕ → Queue) (timed : Timed) (slot : ℕ) → is_slot p slot ≡ false → qs slot ≡ no_messages
     → queues_after p switch sides qs timed slot ≡ no_messages
 beyond_after p switch sides qs timed slot out empty =
     empty_after p switch sides qs timed slot (ap (λ (b : Bool). if b then phase_items p slot switch (sides slot) timed switch.phase else []) out) empty
 
-pub body_after : (p : PolicyView) (switch : KnownSwitch) (sides : ℕ → Side) (qs : ℕ → Queue) (ql : Queue) (timed : Timed) (old new : Desk)
+pub body_after : (p : PolicyView) (switch : KnownSwitch) (sides : ℕ → SliceSide) (qs : ℕ → Queue) (ql : Queue) (timed : Timed) (old new : Desk)
     → Body p switch sides qs ql old → new.policy ≡ old.policy → new.phase ≡ phase_after switch.phase timed.event
     → QueueStands lane_limit (lane_after p switch sides ql timed) new.lane
     → Opens p (switch_after switch timed.event) (sides_after p switch sides timed) (queues_after p switch sides qs timed) new.session
@@ -64,7 +64,7 @@ opened_in Begun told features before some on = absurd (none-some features (sym (
 opened_in Opened told features before some on = refl
 opened_in Gone told features before some on = absurd (true≢false on)
 
-pub is_opened : (p : PolicyView) (switch : KnownSwitch) (sides : ℕ → Side) (qs : ℕ → Queue) (session : Session) → Coherent p switch sides → SessionStands p switch sides qs session → is_ended switch.phase ≡ false
+pub is_opened : (p : PolicyView) (switch : KnownSwitch) (sides : ℕ → SliceSide) (qs : ℕ → Queue) (session : Session) → Coherent p switch sides → SessionStands p switch sides qs session → is_ended switch.phase ≡ false
     → switch.phase ≡ Opened
 is_opened p switch sides qs session fit s on = opened_in switch.phase switch.features session.features fit.before_untold s.told on
 
@@ -75,7 +75,7 @@ shut_in Opened told opens none = (let some = opens refl in absurd (none-some som
 shut_in Gone told opens none = refl
 
 -- before the opening there is no session after an event that doesn't open it
-pub still_none : (p : PolicyView) (switch : KnownSwitch) (sides : ℕ → Side) (qs : ℕ → Queue) (timed : Timed) → Coherent p switch sides → Opens p switch sides qs None
+pub still_none : (p : PolicyView) (switch : KnownSwitch) (sides : ℕ → SliceSide) (qs : ℕ → Queue) (timed : Timed) → Coherent p switch sides → Opens p switch sides qs None
     → opening_after switch.phase None timed.event ≡ None
     → Opens p (switch_after switch timed.event) (sides_after p switch sides timed) (queues_after p switch sides qs timed) None
 still_none p switch sides qs timed fit opens none = (
@@ -87,7 +87,7 @@ still_none p switch sides qs timed fit opens none = (
 )
 
 -- a session by which an event passes
-pub session_passes : (p : PolicyView) (switch : KnownSwitch) (sides : ℕ → Side) (qs : ℕ → Queue) (timed : Timed) (session : Session)
+pub session_passes : (p : PolicyView) (switch : KnownSwitch) (sides : ℕ → SliceSide) (qs : ℕ → Queue) (timed : Timed) (session : Session)
     → SessionStands p switch sides qs session → known_after switch.phase switch.known timed.event ≡ switch.known
     → ((slot : ℕ) → items_of p slot switch (sides slot) timed ≡ []) → ((slot : ℕ) → empties slot (up_after p switch sides timed slot) timed.event ≡ false)
     → SessionStands p (switch_after switch timed.event) (sides_after p switch sides timed) (queues_after p switch sides qs timed) session
@@ -96,7 +96,7 @@ session_passes p switch sides qs timed session s known none keeps =
     (λ slot x y gx gy. passes p switch sides qs timed slot x y (none slot) (keeps slot) (s.each slot x y gx gy))
 
 -- a session whose switch ends
-pub session_ends : (p : PolicyView) (switch : KnownSwitch) (sides : ℕ → Side) (qs : ℕ → Queue) (timed : Timed) (session : Session)
+pub session_ends : (p : PolicyView) (switch : KnownSwitch) (sides : ℕ → SliceSide) (qs : ℕ → Queue) (timed : Timed) (session : Session)
     → SessionStands p switch sides qs session → known_after switch.phase switch.known timed.event ≡ switch.known
     → ((slot : ℕ) → is_slot p slot ≡ true → items_of p slot switch (sides slot) timed ≡ End ∷ []) → ((slot : ℕ) → empties slot (up_after p switch sides timed slot) timed.event ≡ false)
     → SessionStands p (switch_after switch timed.event) (sides_after p switch sides timed) (queues_after p switch sides qs timed) session
@@ -107,14 +107,14 @@ session_ends p switch sides qs timed session s known shown keeps =
 
 -- ---- the lane
 
-pub lane_is : (p : PolicyView) (switch : KnownSwitch) (sides : ℕ → Side) (ql : Queue) (timed : Timed) (over : Bool) (messages : List (List ℕ)) (lane : Kept)
+pub lane_is : (p : PolicyView) (switch : KnownSwitch) (sides : ℕ → SliceSide) (ql : Queue) (timed : Timed) (over : Bool) (messages : List (List ℕ)) (lane : OutboxState)
     → is_ending switch.phase timed.event ≡ over → lane_in (λ slot. put_with p slot switch (sides slot) timed) switch.phase timed.event ≡ messages
     → QueueStands lane_limit (push_all lane_limit (if over then no_messages else ql) messages) lane → QueueStands lane_limit (lane_after p switch sides ql timed) lane
 lane_is p switch sides ql timed over messages lane ends is stands =
     subst (λ (b : Bool). QueueStands lane_limit (push_all lane_limit (if b then no_messages else ql) (lane_in (λ slot. put_with p slot switch (sides slot) timed) switch.phase timed.event)) lane) (sym ends)
     (subst (λ (m : List (List ℕ)). QueueStands lane_limit (push_all lane_limit (if over then no_messages else ql) m) lane) (sym is) stands)
 
-pub lane_stays : (p : PolicyView) (switch : KnownSwitch) (sides : ℕ → Side) (ql : Queue) (timed : Timed) (lane : Kept)
+pub lane_stays : (p : PolicyView) (switch : KnownSwitch) (sides : ℕ → SliceSide) (ql : Queue) (timed : Timed) (lane : OutboxState)
     → QueueStands lane_limit ql lane → is_ending switch.phase timed.event ≡ false → lane_in (λ slot. put_with p slot switch (sides slot) timed) switch.phase timed.event ≡ []
     → QueueStands lane_limit (lane_after p switch sides ql timed) lane
 unfolding push_all

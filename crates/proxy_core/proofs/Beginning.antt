@@ -18,7 +18,7 @@ use Rattle.port_view.specs.KnownPorts.{first_known, known_of}
 use Rattle.flow_book.specs.declared.state.SliceState.{SliceState}
 use Rattle.xid_map.specs.Requests.{RequestsStand}
 use Rattle.flow_book.specs.States.{IsFreshState}
-use Rattle.outbox.specs.Queues.{Queue, no_messages, push_all, Kept, QueueStands}
+use Rattle.outbox.specs.Queues.{Queue, no_messages, push_all, OutboxState, QueueStands}
 use Rattle.slice_words.specs.Items.{Settings, Item, Opened as Told}
 use Rattle.slice_words.specs.Alone.{sent_for}
 use Rattle.slice_words.specs.Standing.{SliceStands}
@@ -26,7 +26,7 @@ use Rattle.desk_words.specs.declared.event.Event.TheVariants.{SwitchMsg}
 use Rattle.desk_words.specs.declared.phase.Phase.{Phase}
 use Rattle.desk_words.specs.declared.phase.Phase.TheVariants.{Begun}
 use Rattle.desk_words.specs.Openings.{ends_switch, features_said, features_told, opening_after, known_after, rules_of, KnownSwitch, switch_after}
-use Rattle.desk_words.specs.Histories.{is_slot, settings_at, own_features, Side, side_start, items_of, phase_items, opening_items, with_shown}
+use Rattle.desk_words.specs.Histories.{is_slot, settings_at, own_features, SliceSide, side_start, items_of, phase_items, opening_items, with_shown}
 use Rattle.desk_words.specs.Sent.{echo_said, echo_for}
 use Rattle.desk_words.specs.Operations.{slice_limit}
 use Rattle.switch_side.specs.Dispatches.{told_at}
@@ -89,14 +89,14 @@ opens_now : (switch : KnownSwitch) (message : List ℕ) (features : Features) �
     → opening_after switch.phase switch.features (SwitchMsg message) ≡ Some features
 opens_now switch message features begun none told = ap₂ (λ (phase : Phase) (t : Option Features). opening_after phase t (SwitchMsg message)) begun none ∙ told
 
-shown_first : (p : PolicyView) (slot : ℕ) (switch : KnownSwitch) (side : Side) (moment : ℕ) (message : List ℕ) (features : Features) → switch.phase ≡ Begun → features_told message ≡ Some features → is_slot p slot ≡ true
+shown_first : (p : PolicyView) (slot : ℕ) (switch : KnownSwitch) (side : SliceSide) (moment : ℕ) (message : List ℕ) (features : Features) → switch.phase ≡ Begun → features_told message ≡ Some features → is_slot p slot ≡ true
     → items_of p slot switch side (told_at moment message) ≡ Told (own_features (settings_at p slot (Some features)) features) ∷ []
 shown_first p slot switch side moment message features begun told here =
     ap₂ (λ (b : Bool) (phase : Phase). if b then phase_items p slot switch side (told_at moment message) phase else []) here begun
     ∙ ap (opening_items p slot) told
 
 -- one slot of the session
-slot_begins : (p : PolicyView) (switch : KnownSwitch) (sides : ℕ → Side) (qs : ℕ → Queue) (moment : ℕ) (message : List ℕ) (features : Features) (slot : ℕ) (slice : Slice) (state : SliceState) (queue : Kept)
+slot_begins : (p : PolicyView) (switch : KnownSwitch) (sides : ℕ → SliceSide) (qs : ℕ → Queue) (moment : ℕ) (message : List ℕ) (features : Features) (slot : ℕ) (slice : Slice) (state : SliceState) (queue : OutboxState)
     → switch.phase ≡ Begun → switch.features ≡ None → features_told message ≡ Some features → sides slot ≡ side_start → qs slot ≡ no_messages
     → slice_get p.slices slot ≡ Some slice → IsFreshState slot slice state → QueueStands slice_limit no_messages queue
     → SlotStands p slot (switch_after switch (SwitchMsg message)) (sides_after p switch sides (told_at moment message) slot) (queues_after p switch sides qs (told_at moment message) slot) state queue
@@ -106,21 +106,21 @@ slot_begins p switch sides qs moment message features slot slice state queue beg
     let own = own_features (settings_at p slot (Some features)) features in
     let shown = shown_first p slot switch (sides slot) moment message features begun told (within p.slices slot slice at) in
     let side : sides_after p switch sides timed slot ≡ record { sight = record { view = Told own ∷ []; came = [] }; numbered = [] } =
-    ap₂ (λ (items : List Item) (before : Side). with_shown switch.phase timed items before) shown start
+    ap₂ (λ (items : List Item) (before : SliceSide). with_shown switch.phase timed items before) shown start
     ∙ ap (λ (phase : Phase). with_shown phase timed (Told own ∷ []) side_start) begun in
     let known = settings_known p slot (Some features) slice at in
     record {
       state_stands =
           subst (λ (t : Option Features). SliceStands (settings_at p slot t) (sides_after p switch sides timed slot).sight state) (sym (opens_now switch message features begun none told))
-          (subst (λ (after : Side). SliceStands (settings_at p slot (Some features)) after.sight state) (sym side)
+          (subst (λ (after : SliceSide). SliceStands (settings_at p slot (Some features)) after.sight state) (sym side)
           (first_stands slice (settings_at p slot (Some features)) slot own state (ap (λ (s : Settings). s.slot) known) (ap (λ (s : Settings). s.rate) known) (ap (λ (s : Settings). s.burst) known) fresh));
       queue_stands = subst (λ (q : Queue). QueueStands slice_limit q queue)
           (sym (ap (λ (items : List Item). push_all slice_limit (qs slot) (sent_for (settings_at p slot switch.features) (sides slot).sight.view items)) shown
-          ∙ ap₂ (λ (q : Queue) (before : Side). push_all slice_limit q (sent_for (settings_at p slot switch.features) before.sight.view (Told own ∷ []))) empty start))
+          ∙ ap₂ (λ (q : Queue) (before : SliceSide). push_all slice_limit q (sent_for (settings_at p slot switch.features) before.sight.view (Told own ∷ []))) empty start))
           waits;
     }
 
-pub session_begins : (p : PolicyView) (switch : KnownSwitch) (sides : ℕ → Side) (qs : ℕ → Queue) (moment : ℕ) (message : List ℕ) (features : Features) (session : Session)
+pub session_begins : (p : PolicyView) (switch : KnownSwitch) (sides : ℕ → SliceSide) (qs : ℕ → Queue) (moment : ℕ) (message : List ℕ) (features : Features) (session : Session)
     → Coherent p switch sides → Opens p switch sides qs None → switch.phase ≡ Begun → features_told message ≡ Some features → Begins p features session
     → SessionStands p (switch_after switch (SwitchMsg message)) (sides_after p switch sides (told_at moment message)) (queues_after p switch sides qs (told_at moment message)) session
 session_begins p switch sides qs moment message features session fit opens begun told b =

@@ -10,7 +10,7 @@ use Rattle.desk_words.specs.declared.event.Timed.{Timed}
 use Rattle.desk_words.specs.declared.phase.Phase.{Phase}
 use Rattle.desk_words.specs.declared.phase.Phase.TheVariants.{Fresh, Begun, Opened, Gone}
 use Rattle.desk_words.specs.Openings.{phase_after, opening_with, opening_after, known_after, KnownSwitch, switch_after}
-use Rattle.desk_words.specs.Histories.{is_slot, Side, is_open}
+use Rattle.desk_words.specs.Histories.{is_slot, SliceSide, is_open}
 use Rattle.desk_words.specs.Sent.{greeting, lane_in, put_with}
 use Rattle.desk_words.specs.Verdicts.{is_fresh, is_ended, is_before, is_switch_up, is_down, is_of_policy, is_connected, is_closing}
 use Rattle.desk_words.specs.Operations.{lane_limit}
@@ -47,7 +47,7 @@ comes_up p up f Begun on = (refl, refl, refl)
 comes_up p up f Opened on = (refl, refl, refl)
 comes_up p up f Gone on = absurd (true≢false on)
 
-opens_up : (p : PolicyView) (switch : KnownSwitch) (sides : ℕ → Side) (qs : ℕ → Queue) (moment : ℕ) (session : Option Session) → Coherent p switch sides → is_ended switch.phase ≡ false → Opens p switch sides qs session
+opens_up : (p : PolicyView) (switch : KnownSwitch) (sides : ℕ → SliceSide) (qs : ℕ → Queue) (moment : ℕ) (session : Option Session) → Coherent p switch sides → is_ended switch.phase ≡ false → Opens p switch sides qs session
     → Opens p (switch_after switch SwitchUp) (sides_after p switch sides (record { event = SwitchUp; moment = moment })) (queues_after p switch sides qs (record { event = SwitchUp; moment = moment })) session
 opens_up p switch sides qs moment None fit on opens = still_none p switch sides qs (record { event = SwitchUp; moment = moment }) fit opens (nothing_told switch.phase SwitchUp refl)
 opens_up p switch sides qs moment (Some session) fit on stands =
@@ -78,7 +78,7 @@ goes_down p up f Begun on far = (refl, refl, refl)
 goes_down p up f Opened on far = (refl, refl, refl)
 goes_down p up f Gone on far = absurd (true≢false on)
 
-opens_down : (p : PolicyView) (switch : KnownSwitch) (sides : ℕ → Side) (qs : ℕ → Queue) (moment : ℕ) (session : Option Session) → Coherent p switch sides → is_ended switch.phase ≡ false → Opens p switch sides qs session
+opens_down : (p : PolicyView) (switch : KnownSwitch) (sides : ℕ → SliceSide) (qs : ℕ → Queue) (moment : ℕ) (session : Option Session) → Coherent p switch sides → is_ended switch.phase ≡ false → Opens p switch sides qs session
     → Opens p (switch_after switch SwitchDown) (sides_after p switch sides (record { event = SwitchDown; moment = moment })) (queues_after p switch sides qs (record { event = SwitchDown; moment = moment })) session
 opens_down p switch sides qs moment None fit on opens = still_none p switch sides qs (record { event = SwitchDown; moment = moment }) fit opens (nothing_told switch.phase SwitchDown refl)
 opens_down p switch sides qs moment (Some session) fit on stands =
@@ -104,11 +104,11 @@ not_both : (b : Bool) → (not b && b) ≡ false
 not_both true = refl
 not_both false = refl
 
-no_session : (p : PolicyView) (switch : KnownSwitch) (sides : ℕ → Side) (qs : ℕ → Queue) (session : Option Session) → Coherent p switch sides → Opens p switch sides qs session → is_before switch.phase ≡ true → session ≡ None
+no_session : (p : PolicyView) (switch : KnownSwitch) (sides : ℕ → SliceSide) (qs : ℕ → Queue) (session : Option Session) → Coherent p switch sides → Opens p switch sides qs session → is_before switch.phase ≡ true → session ≡ None
 no_session p switch sides qs None fit opens before = refl
 no_session p switch sides qs (Some session) fit stands before = absurd (none-some session.features (sym (fit.before_untold before) ∙ stands.told))
 
-idle : (p : PolicyView) (switch : KnownSwitch) (sides : ℕ → Side) (qs : ℕ → Queue) (ql : Queue) (timed : Timed) (desk : Desk) → Coherent p switch sides → Body p switch sides qs ql desk
+idle : (p : PolicyView) (switch : KnownSwitch) (sides : ℕ → SliceSide) (qs : ℕ → Queue) (ql : Queue) (timed : Timed) (desk : Desk) → Coherent p switch sides → Body p switch sides qs ql desk
     → is_before switch.phase ≡ true → phase_after switch.phase timed.event ≡ switch.phase → opening_after switch.phase None timed.event ≡ None
     → lane_in (λ slot. put_with p slot switch (sides slot) timed) switch.phase timed.event ≡ []
     → Body p (switch_after switch timed.event) (sides_after p switch sides timed) (queues_after p switch sides qs timed) (lane_after p switch sides ql timed) desk
@@ -149,7 +149,7 @@ before_of Begun on far = refl
 before_of Opened on far = absurd (far refl)
 before_of Gone on far = absurd (true≢false on)
 
-pub before_in : (p : PolicyView) (switch : KnownSwitch) (sides : ℕ → Side) (qs : ℕ → Queue) → Coherent p switch sides → Opens p switch sides qs None → is_ended switch.phase ≡ false → is_before switch.phase ≡ true
+pub before_in : (p : PolicyView) (switch : KnownSwitch) (sides : ℕ → SliceSide) (qs : ℕ → Queue) → Coherent p switch sides → Opens p switch sides qs None → is_ended switch.phase ≡ false → is_before switch.phase ≡ true
 before_in p switch sides qs fit opens on = before_of switch.phase on (λ opened. (let some = fit.open_told opened in absurd (none-some some.0 (sym opens.0 ∙ some.1))))
 
 -- what holds in both phases before the opening
@@ -168,14 +168,14 @@ third false true up is = refl
 third false false up is = rw is refl
 
 -- a slice isn't up after an event that leaves a phase before the opening
-down_before : (p : PolicyView) (switch : KnownSwitch) (sides : ℕ → Side) (timed : Timed) (slot : ℕ) → is_before switch.phase ≡ true → phase_after switch.phase timed.event ≡ switch.phase → up_after p switch sides timed slot ≡ false
+down_before : (p : PolicyView) (switch : KnownSwitch) (sides : ℕ → SliceSide) (timed : Timed) (slot : ℕ) → is_before switch.phase ≡ true → phase_after switch.phase timed.event ≡ switch.phase → up_after p switch sides timed slot ≡ false
 down_before p switch sides timed slot before stays =
     ap (λ (b : Bool). b && is_up (sides_after p switch sides timed slot).sight.view) (ap is_open stays ∙ shut_before switch.phase before)
 
 -- an event of a slice where there is no session
 none_acts : (desk : Desk) (event : Event) (moment : ℕ) (go : Bool) → desk.session ≡ None → ((switch : KnownSwitch) → switch_after switch event ≡ switch)
     → ((f : ℕ → List (List ℕ)) (phase : Phase) → is_before phase ≡ true → lane_in f phase event ≡ [])
-    → ((p : PolicyView) (switch : KnownSwitch) (sides : ℕ → Side) → desk.phase ≡ switch.phase → desk.policy ≡ p → is_before switch.phase ≡ true → phase_after switch.phase event ≡ switch.phase
+    → ((p : PolicyView) (switch : KnownSwitch) (sides : ℕ → SliceSide) → desk.phase ≡ switch.phase → desk.policy ≡ p → is_before switch.phase ≡ true → phase_after switch.phase event ≡ switch.phase
     → go ≡ not (closes_now p switch sides (record { event = event; moment = moment })))
     → Acts desk (record { event = event; moment = moment }) go desk
 none_acts desk event moment go none still silent goes p switch sides qs ql fit b on =

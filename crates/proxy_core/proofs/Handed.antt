@@ -6,10 +6,10 @@ use Rattle.std.proofs.lemmas.List.{length-set}
 use Rattle.std.proofs.lemmas.Option.{same_Some, slice_get_within}
 use Rattle.flowspace.specs.declared.slices.Slice.{Slice}
 use Rattle.flowspace.specs.Policies.{PolicyView}
-use Rattle.outbox.specs.Queues.{Queue, no_messages, push, push_all, Kept, QueueStands}
+use Rattle.outbox.specs.Queues.{Queue, no_messages, push, push_all, OutboxState, QueueStands}
 use Rattle.desk_words.specs.declared.event.Timed.{Timed}
 use Rattle.desk_words.specs.Openings.{KnownSwitch}
-use Rattle.desk_words.specs.Histories.{Side}
+use Rattle.desk_words.specs.Histories.{SliceSide}
 use Rattle.desk_words.specs.Sent.{sent_with}
 use Rattle.switch_side.specs.Dispatches.{addressed, sent_to_all}
 use Rattle.proxy_core.specs.Slots.{SameQueue, HasMore, HasOnly}
@@ -19,37 +19,37 @@ use Rattle.proxy_core.proofs.Places.{get_set, get_other}
 
 -- ---- one queue
 
-pub only_none : (a b : Kept) → ((limit : ℕ) (q : Queue) → QueueStands limit q a → QueueStands limit no_messages b) → HasOnly [] a b
+pub only_none : (a b : OutboxState) → ((limit : ℕ) (q : Queue) → QueueStands limit q a → QueueStands limit no_messages b) → HasOnly [] a b
 unfolding push_all
 only_none a b clear = clear
 
-pub only_one : (message : List ℕ) (a b c d : Kept) → SameQueue a b → ((limit : ℕ) (q : Queue) → QueueStands limit q b → QueueStands limit no_messages c)
+pub only_one : (message : List ℕ) (a b c d : OutboxState) → SameQueue a b → ((limit : ℕ) (q : Queue) → QueueStands limit q b → QueueStands limit no_messages c)
     → ((limit : ℕ) (q : Queue) → QueueStands limit q c → QueueStands limit (push limit q message) d) → HasOnly (message ∷ []) a d
 unfolding push_all
 only_one message a b c d same clear more = λ limit q h. more limit no_messages (clear limit q (same limit q h))
 
-pub none_more : (a : Kept) → HasMore [] a a
+pub none_more : (a : OutboxState) → HasMore [] a a
 unfolding push_all
 none_more a = λ limit q h. h
 
-one_more : (message : List ℕ) (a b : Kept) → ((limit : ℕ) (q : Queue) → QueueStands limit q a → QueueStands limit (push limit q message) b) → HasMore (message ∷ []) a b
+one_more : (message : List ℕ) (a b : OutboxState) → ((limit : ℕ) (q : Queue) → QueueStands limit q a → QueueStands limit (push limit q message) b) → HasMore (message ∷ []) a b
 unfolding push_all
 one_more message a b more = more
 
-first_more : (message : List ℕ) (later : List (List ℕ)) (a b c : Kept) → HasMore (message ∷ []) a b → HasMore later b c → HasMore (message ∷ later) a c
+first_more : (message : List ℕ) (later : List (List ℕ)) (a b c : OutboxState) → HasMore (message ∷ []) a b → HasMore later b c → HasMore (message ∷ later) a c
 unfolding push_all
 first_more message later a b c one others = λ limit q h. others limit (push limit q message) (one limit q h)
 
-then_more : (later : List (List ℕ)) (a b c : Kept) → HasMore [] a b → HasMore later b c → HasMore later a c
+then_more : (later : List (List ℕ)) (a b c : OutboxState) → HasMore [] a b → HasMore later b c → HasMore later a c
 unfolding push_all
 then_more later a b c one others = λ limit q h. others limit q (one limit q h)
 
 -- ---- all queues
 
-same_kept : (slot : ℕ) (xs : List Kept) (a b : Kept) → slice_get xs slot ≡ Some a → slice_get xs slot ≡ Some b → a ≡ b
+same_kept : (slot : ℕ) (xs : List OutboxState) (a b : OutboxState) → slice_get xs slot ≡ Some a → slice_get xs slot ≡ Some b → a ≡ b
 same_kept slot xs a b ga gb = same_Some _ _ (sym ga ∙ gb)
 
-pub same_then : (xs ys zs : List Kept) → AreSame xs ys → AreSame ys zs → AreSame xs zs
+pub same_then : (xs ys zs : List OutboxState) → AreSame xs ys → AreSame ys zs → AreSame xs zs
 same_then xs ys zs one other = record {
   count = other.count ∙ one.count;
   each = λ i a c ga gc.
@@ -57,17 +57,17 @@ same_then xs ys zs one other = record {
       λ limit q h. other.each i b.0 c b.1 gc limit q (one.each i a b.0 ga b.1 limit q h);
 }
 
-pub none_handed : (xs : List Kept) → AreHanded [] xs xs
+pub none_handed : (xs : List OutboxState) → AreHanded [] xs xs
 none_handed xs = record {
   count = refl;
-  each = λ slot a b ga gb. subst (λ (k : Kept). HasMore [] a k) (same_kept slot xs a b ga gb) (none_more a);
+  each = λ slot a b ga gb. subst (λ (k : OutboxState). HasMore [] a k) (same_kept slot xs a b ga gb) (none_more a);
 }
 
 slot_one : (slot i : ℕ) (message : List ℕ) (b : Bool) → (slot == i) ≡ b → of_slot i ((slot, message) ∷ []) ≡ (if b then message ∷ [] else [])
 slot_one slot i message true is = rw is refl
 slot_one slot i message false is = rw is refl
 
-pub put_handed : (xs : List Kept) (slot : ℕ) (message : List ℕ) (x y : Kept) → slice_get xs slot ≡ Some x
+pub put_handed : (xs : List OutboxState) (slot : ℕ) (message : List ℕ) (x y : OutboxState) → slice_get xs slot ≡ Some x
     → ((limit : ℕ) (q : Queue) → QueueStands limit q x → QueueStands limit (push limit q message) y)
     → AreHanded ((slot, message) ∷ []) xs (set xs slot y)
 put_handed xs slot message x y gx more = record {
@@ -78,22 +78,22 @@ put_handed xs slot message x y gx more = record {
         let is_x : x ≡ a = same_Some _ _ (sym gx ∙ subst (λ (k : ℕ). slice_get xs k ≡ Some a) (sym e) ga) in
         let is_y : y ≡ b = same_Some _ _ (sym (get_set xs slot x y gx) ∙ subst (λ (k : ℕ). slice_get (set xs slot y) k ≡ Some b) (sym e) gb) in
         subst (λ (m : List (List ℕ)). HasMore m a b) (sym (slot_one slot i message true is))
-        (subst (λ (k : Kept). HasMore (message ∷ []) k b) is_x (subst (λ (k : Kept). HasMore (message ∷ []) x k) is_y (one_more message x y more)))
+        (subst (λ (k : OutboxState). HasMore (message ∷ []) k b) is_x (subst (λ (k : OutboxState). HasMore (message ∷ []) x k) is_y (one_more message x y more)))
     | inr isnt ↦
         let far : i ≢ slot = λ e. eqb-false slot i isnt (sym e) in
         subst (λ (m : List (List ℕ)). HasMore m a b) (sym (slot_one slot i message false isnt))
-        (subst (λ (k : Kept). HasMore [] a k) (same_Some _ _ (sym ga ∙ sym (get_other xs slot i y far) ∙ gb)) (none_more a))
+        (subst (λ (k : OutboxState). HasMore [] a k) (same_Some _ _ (sym ga ∙ sym (get_other xs slot i y far) ∙ gb)) (none_more a))
   ];
 }
 
-pub none_put : (xs : List Kept) (slot : ℕ) (message : List ℕ) → length xs ≤ slot → AreHanded ((slot, message) ∷ []) xs xs
+pub none_put : (xs : List OutboxState) (slot : ℕ) (message : List ℕ) → length xs ≤ slot → AreHanded ((slot, message) ∷ []) xs xs
 none_put xs slot message out = record {
   count = refl;
   each = λ i a b ga gb.
       let inside = slice_get_within xs i a ga in
       let far : slot ≢ i = λ e. absurd (omega (arith, e)) in
       subst (λ (m : List (List ℕ)). HasMore m a b) (sym (slot_one slot i message false (ne_eqb slot i far)))
-      (subst (λ (k : Kept). HasMore [] a k) (same_kept i xs a b ga gb) (none_more a));
+      (subst (λ (k : OutboxState). HasMore [] a k) (same_kept i xs a b ga gb) (none_more a));
 }
 
 slot_first : (slot i : ℕ) (message : List ℕ) (later : List (ℕ × List ℕ)) (b : Bool) → (slot == i) ≡ b
@@ -101,7 +101,7 @@ slot_first : (slot i : ℕ) (message : List ℕ) (later : List (ℕ × List ℕ)
 slot_first slot i message later true is = rw is refl
 slot_first slot i message later false is = rw is refl
 
-pub handed_more : (slot : ℕ) (message : List ℕ) (later : List (ℕ × List ℕ)) (xs ys zs : List Kept) → AreHanded ((slot, message) ∷ []) xs ys → AreHanded later ys zs
+pub handed_more : (slot : ℕ) (message : List ℕ) (later : List (ℕ × List ℕ)) (xs ys zs : List OutboxState) → AreHanded ((slot, message) ∷ []) xs ys → AreHanded later ys zs
     → AreHanded ((slot, message) ∷ later) xs zs
 handed_more slot message later xs ys zs one others = record {
   count = others.count ∙ one.count;
@@ -125,7 +125,7 @@ first_room slot i n message later room = elim (cases_Bool (slot == i)) [
   | inr isnt ↦ (let first = ap length (slot_first slot i message later false isnt) in omega (arith, room))
 ]
 
-pub put_room : (xs : List Kept) (slot : ℕ) (message : List ℕ) (later : List (ℕ × List ℕ)) (x y : Kept) → slice_get xs slot ≡ Some x → x.room ≤ y.room + 1
+pub put_room : (xs : List OutboxState) (slot : ℕ) (message : List ℕ) (later : List (ℕ × List ℕ)) (x y : OutboxState) → slice_get xs slot ≡ Some x → x.room ≤ y.room + 1
     → HaveRoom ((slot, message) ∷ later) xs → HaveRoom later (set xs slot y)
 put_room xs slot message later x y gx less room i b gb = elim (cases_Bool (slot == i)) [
   | inl is ↦
@@ -133,17 +133,17 @@ put_room xs slot message later x y gx less room i b gb = elim (cases_Bool (slot 
       let is_y : y ≡ b = same_Some _ _ (sym (get_set xs slot x y gx) ∙ subst (λ (k : ℕ). slice_get (set xs slot y) k ≡ Some b) (sym e) gb) in
       let was = room i x (subst (λ (k : ℕ). slice_get xs k ≡ Some x) e gx) in
       let first = ap length (slot_first slot i message later true is) in
-      subst (λ (k : Kept). length (of_slot i later) ≤ k.room) is_y (omega (arith, less, was, first))
+      subst (λ (k : OutboxState). length (of_slot i later) ≤ k.room) is_y (omega (arith, less, was, first))
   | inr isnt ↦
       let far : i ≢ slot = λ e. eqb-false slot i isnt (sym e) in
       first_room slot i b.room message later (room i b (sym (get_other xs slot i y far) ∙ gb))
 ]
 
 -- without the first message
-pub less_room : (xs : List Kept) (slot : ℕ) (message : List ℕ) (later : List (ℕ × List ℕ)) → HaveRoom ((slot, message) ∷ later) xs → HaveRoom later xs
+pub less_room : (xs : List OutboxState) (slot : ℕ) (message : List ℕ) (later : List (ℕ × List ℕ)) → HaveRoom ((slot, message) ∷ later) xs → HaveRoom later xs
 less_room xs slot message later room i b gb = first_room slot i b.room message later (room i b gb)
 
-pub room_of_first : (xs : List Kept) (slot : ℕ) (message : List ℕ) (later : List (ℕ × List ℕ)) → HaveRoom ((slot, message) ∷ later) xs → HasRoomAt slot 1 xs
+pub room_of_first : (xs : List OutboxState) (slot : ℕ) (message : List ℕ) (later : List (ℕ × List ℕ)) → HaveRoom ((slot, message) ∷ later) xs → HasRoomAt slot 1 xs
 room_of_first xs slot message later room b gb =
     let was = room slot b gb in
     let first = ap length (slot_first slot slot message later true (eq-eqb slot slot refl)) in
@@ -153,7 +153,7 @@ nearer : (a b : ℕ) → a < b + 1 → a ≢ b → a < b
 nearer a b less far = elim (cases_lt a b) [ inl is ↦ is | inr more ↦ absurd (far (omega arith)) ]
 
 -- one place further, where the message there has room and what had room still has
-pub rooms_more : (messages : List (ℕ × List ℕ)) (at n : ℕ) (here : ℕ × List ℕ) (xs zs : List Kept) → slice_get messages at ≡ Some here → HasRoomAt here.0 n zs
+pub rooms_more : (messages : List (ℕ × List ℕ)) (at n : ℕ) (here : ℕ × List ℕ) (xs zs : List OutboxState) → slice_get messages at ≡ Some here → HasRoomAt here.0 n zs
     → ((slot : ℕ) → HasRoomAt slot n xs → HasRoomAt slot n zs)
     → ((i : ℕ) (pair : ℕ × List ℕ) → i < at → slice_get messages i ≡ Some pair → HasRoomAt pair.0 n xs)
     → (i : ℕ) (pair : ℕ × List ℕ) → i < at + 1 → slice_get messages i ≡ Some pair → HasRoomAt pair.0 n zs
@@ -206,7 +206,7 @@ slot_others other slot (message ∷ later) far = slot_first other slot message (
 further : (a b : ℕ) → a ≤ b → a ≢ b → a + 1 ≤ b
 further a b low far = elim (cases_lt a b) [ inl less ↦ omega arith | inr more ↦ absurd (far (omega arith)) ]
 
-slot_behind : (p : PolicyView) (switch : KnownSwitch) (sides : ℕ → Side) (timed : Timed) (from slot : ℕ) (slices : List Slice) → slot < from
+slot_behind : (p : PolicyView) (switch : KnownSwitch) (sides : ℕ → SliceSide) (timed : Timed) (from slot : ℕ) (slices : List Slice) → slot < from
     → of_slot slot (sent_to_all p switch sides timed from slices) ≡ []
 slot_behind p switch sides timed from slot [] less = refl
 slot_behind p switch sides timed from slot (slice ∷ others) less =
@@ -214,14 +214,14 @@ slot_behind p switch sides timed from slot (slice ∷ others) less =
     ∙ ap₂ (λ (a b : List (List ℕ)). a ++ b) (slot_others from slot (sent_with p from switch (sides from) timed) (λ e. absurd (omega (arith, e))))
     (slot_behind p switch sides timed (from + 1) slot others (omega arith))
 
-slot_here : (p : PolicyView) (switch : KnownSwitch) (sides : ℕ → Side) (timed : Timed) (from : ℕ) (slice : Slice) (others : List Slice)
+slot_here : (p : PolicyView) (switch : KnownSwitch) (sides : ℕ → SliceSide) (timed : Timed) (from : ℕ) (slice : Slice) (others : List Slice)
     → of_slot from (sent_to_all p switch sides timed from (slice ∷ others)) ≡ sent_with p from switch (sides from) timed
 slot_here p switch sides timed from slice others =
     slot_append from (addressed from (sent_with p from switch (sides from) timed)) (sent_to_all p switch sides timed (from + 1) others)
     ∙ ap₂ (λ (a b : List (List ℕ)). a ++ b) (slot_own from (sent_with p from switch (sides from) timed)) (slot_behind p switch sides timed (from + 1) from others (omega arith))
     ∙ append-nil _
 
-pub slot_sent : (p : PolicyView) (switch : KnownSwitch) (sides : ℕ → Side) (timed : Timed) (from slot : ℕ) (slices : List Slice) → from ≤ slot → slot < from + length slices
+pub slot_sent : (p : PolicyView) (switch : KnownSwitch) (sides : ℕ → SliceSide) (timed : Timed) (from slot : ℕ) (slices : List Slice) → from ≤ slot → slot < from + length slices
     → of_slot slot (sent_to_all p switch sides timed from slices) ≡ sent_with p slot switch (sides slot) timed
 slot_sent p switch sides timed from slot [] low high = absurd (omega arith)
 slot_sent p switch sides timed from slot (slice ∷ others) low high = elim (cases_Bool (from == slot)) [

@@ -3,11 +3,11 @@ use Rattle.std.proofs.Common.{◌≡◌, ℕ, ◌==◌, ◌&&◌, ltb, not, Bool
 use Rattle.std.proofs.lemmas.Bool.{ltb-false}
 use Rattle.std.proofs.lemmas.Option.{slice_get_past}
 use Rattle.flowspace.specs.Policies.{PolicyView}
-use Rattle.outbox.specs.Queues.{Queue, no_messages, Kept}
+use Rattle.outbox.specs.Queues.{Queue, no_messages, OutboxState}
 use Rattle.slice_words.specs.Items.{is_up}
 use Rattle.desk_words.specs.declared.answer.Dest.TheVariants.{Switch, Slice}
 use Rattle.desk_words.specs.Openings.{KnownSwitch as Known, switch_of, phase_of}
-use Rattle.desk_words.specs.Histories.{is_slot, Side, side_of, is_open}
+use Rattle.desk_words.specs.Histories.{is_slot, SliceSide, side_of, is_open}
 use Rattle.desk_words.specs.Verdicts.{is_ended}
 use Rattle.desk_words.specs.Operations.{Operation, events_of, queue_of}
 use Rattle.proxy_core.specs.declared.parts.Session.{Session}
@@ -20,14 +20,14 @@ use Rattle.proxy_core.proofs.Sliced.{up_state}
 use Rattle.proxy_core.proofs.Fitting.{coherent}
 
 -- as many messages wait at a slot as its queue has
-queue_length : (p : PolicyView) (switch : Known) (sides : ℕ → Side) (qs : ℕ → Queue) (a : Session) (slot : ℕ) → SessionStands p switch sides qs a → (is_slot p slot ≡ false → qs slot ≡ no_messages)
+queue_length : (p : PolicyView) (switch : Known) (sides : ℕ → SliceSide) (qs : ℕ → Queue) (a : Session) (slot : ℕ) → SessionStands p switch sides qs a → (is_slot p slot ≡ false → qs slot ≡ no_messages)
     → (here : Bool) → is_slot p slot ≡ here → pending_at slot (Some a) ≡ length (qs slot).pending
 queue_length p switch sides qs a slot s beyond false out =
-    ap (λ (o : Option Kept). elim o [ None ↦ 0 | Some queue ↦ length queue.pending ]) (slice_get_past a.queues.items slot (ltb-false slot (length a.queues.items) (ap (λ (n : ℕ). ltb slot n) s.queues_count ∙ out)))
+    ap (λ (o : Option OutboxState). elim o [ None ↦ 0 | Some queue ↦ length queue.pending ]) (slice_get_past a.queues.items slot (ltb-false slot (length a.queues.items) (ap (λ (n : ℕ). ltb slot n) s.queues_count ∙ out)))
     ∙ sym (ap (λ (q : Queue). length q.pending) (beyond out))
 queue_length p switch sides qs a slot s beyond true here =
     let at = slot_there p switch sides qs a slot s here in
-    ap (λ (o : Option Kept). elim o [ None ↦ 0 | Some queue ↦ length queue.pending ]) at.3 ∙ ap length at.4.queue_stands.pending
+    ap (λ (o : Option OutboxState). elim o [ None ↦ 0 | Some queue ↦ length queue.pending ]) at.3 ∙ ap length at.4.queue_stands.pending
 
 slice_length : (desk : Desk) (p : PolicyView) (ops : List Operation) (slot : ℕ) (o : Option Session) → desk.session ≡ o → DeskStands p ops desk → pending_at slot o ≡ length (queue_of p slot ops).pending
 slice_length desk p ops slot None was s =
@@ -45,7 +45,7 @@ lane_waits desk p ops s = ap (λ (messages : List (List ℕ)). not (length messa
 
 -- ---- who is up
 
-with_session : (p : PolicyView) (switch : Known) (sides : ℕ → Side) (qs : ℕ → Queue) (a : Session) (slot : ℕ) (open_ : Bool) → SessionStands p switch sides qs a → (is_slot p slot ≡ false → is_up (sides slot).sight.view ≡ false)
+with_session : (p : PolicyView) (switch : Known) (sides : ℕ → SliceSide) (qs : ℕ → Queue) (a : Session) (slot : ℕ) (open_ : Bool) → SessionStands p switch sides qs a → (is_slot p slot ≡ false → is_up (sides slot).sight.view ≡ false)
     → (here : Bool) → is_slot p slot ≡ here → (open_ && is_up_at a slot) ≡ (open_ && is_up (sides slot).sight.view)
 with_session p switch sides qs a slot open_ s beyond true here = ap (λ (up : Bool). open_ && up) (up_state p switch sides qs a slot s here)
 with_session p switch sides qs a slot open_ s beyond false out =

@@ -7,7 +7,7 @@ use Rattle.std.proofs.lemmas.Option.{none-some, same_Some, slice_get_read}
 use Rattle.flowspace.specs.declared.slices.Slice.{Slice}
 use Rattle.flow_book.specs.declared.state.SliceState.{SliceState}
 use Rattle.flow_book.specs.States.{IsFreshState}
-use Rattle.outbox.specs.Queues.{Queue, push, push_all, Kept}
+use Rattle.outbox.specs.Queues.{Queue, push, push_all, OutboxState}
 use Rattle.proxy_core.specs.declared.parts.Session.{Session}
 use Rattle.proxy_core.specs.Desks.{pending_at}
 use Rattle.proxy_core.specs.Opening.{has_slot, is_up_at, AtSlot}
@@ -54,7 +54,7 @@ there_up session slot is = (and_parts (has_slot session slot) (elim (slice_get s
 in_queues : (session : Session) (slot : ℕ) → has_slot session slot ≡ true → slot < length session.queues.items
 in_queues session slot is = ltb-true slot (length session.queues.items) ((and_parts (ltb slot (length session.states.items)) (ltb slot (length session.queues.items)) is).1)
 
-placed : (slot at : ℕ) (Becomes : SliceState → Kept → SliceState → Kept → Type 0) (old new : Session) (a x : SliceState) (b y : Kept) → at ≡ slot
+placed : (slot at : ℕ) (Becomes : SliceState → OutboxState → SliceState → OutboxState → Type 0) (old new : Session) (a x : SliceState) (b y : OutboxState) → at ≡ slot
     → new.policy ≡ old.policy → new.features ≡ old.features → new.ports ≡ old.ports
     → new.states.items ≡ set old.states.items at x → new.queues.items ≡ set old.queues.items at y
     → slice_get old.states.items at ≡ Some a → slice_get old.queues.items at ≡ Some b → Becomes a b x y → AtSlot slot Becomes old new
@@ -68,19 +68,19 @@ placed slot at Becomes old new a x b y here policy features ports states queues 
       let is_a : a ≡ a2 = same_Some _ _ (sym ga ∙ subst (λ (k : ℕ). slice_get old.states.items k ≡ Some a2) (sym here) ga2) in
       let is_b : b ≡ b2 = same_Some _ _ (sym gb ∙ subst (λ (k : ℕ). slice_get old.queues.items k ≡ Some b2) (sym here) gb2) in
       let is_x : x ≡ x2 = same_Some _ _ (sym (get_set old.states.items at a x ga) ∙ subst (λ (l : List SliceState). slice_get l at ≡ Some x2) states (subst (λ (k : ℕ). slice_get new.states.items k ≡ Some x2) (sym here) gx2)) in
-      let is_y : y ≡ y2 = same_Some _ _ (sym (get_set old.queues.items at b y gb) ∙ subst (λ (l : List Kept). slice_get l at ≡ Some y2) queues (subst (λ (k : ℕ). slice_get new.queues.items k ≡ Some y2) (sym here) gy2)) in
-      subst (λ (k : SliceState). Becomes k b2 x2 y2) is_a (subst (λ (k : Kept). Becomes a k x2 y2) is_b (subst (λ (k : SliceState). Becomes a b k y2) is_x (subst (λ (k : Kept). Becomes a b x k) is_y becomes)));
+      let is_y : y ≡ y2 = same_Some _ _ (sym (get_set old.queues.items at b y gb) ∙ subst (λ (l : List OutboxState). slice_get l at ≡ Some y2) queues (subst (λ (k : ℕ). slice_get new.queues.items k ≡ Some y2) (sym here) gy2)) in
+      subst (λ (k : SliceState). Becomes k b2 x2 y2) is_a (subst (λ (k : OutboxState). Becomes a k x2 y2) is_b (subst (λ (k : SliceState). Becomes a b k y2) is_x (subst (λ (k : OutboxState). Becomes a b x k) is_y becomes)));
   others = λ i far. (
     ap (λ (l : List SliceState). slice_get l i) states ∙ get_other old.states.items at i x (λ e. far (e ∙ here)),
-    ap (λ (l : List Kept). slice_get l i) queues ∙ get_other old.queues.items at i y (λ e. far (e ∙ here)),
+    ap (λ (l : List OutboxState). slice_get l i) queues ∙ get_other old.queues.items at i y (λ e. far (e ∙ here)),
   );
 }
 
-is_there : (session : Session) (slot : ℕ) (a : SliceState) (b : Kept) → slice_get session.states.items slot ≡ Some a → slice_get session.queues.items slot ≡ Some b → has_slot session slot ≡ true
+is_there : (session : Session) (slot : ℕ) (a : SliceState) (b : OutboxState) → slice_get session.states.items slot ≡ Some a → slice_get session.queues.items slot ≡ Some b → has_slot session slot ≡ true
 is_there session slot a b ga gb = ap₂ (λ (x y : Bool). x && y) (within session.states.items slot a ga) (within session.queues.items slot b gb)
 
 -- the queue that was read at a place
-pub queue_read : (slot at : ℕ) (session : Session) (queue : Kept) → at ≡ slot → has_slot session slot ≡ true → queue ≡ get_or session.queues.items at queue → slice_get session.queues.items at ≡ Some queue
+pub queue_read : (slot at : ℕ) (session : Session) (queue : OutboxState) → at ≡ slot → has_slot session slot ≡ true → queue ≡ get_or session.queues.items at queue → slice_get session.queues.items at ≡ Some queue
 queue_read slot at session queue here has read =
     let q = in_queues session slot has in
     slice_get_read session.queues.items (length session.queues.items) at queue refl (omega (arith, q, here)) read
@@ -94,7 +94,7 @@ state_read slot at session read here has is state g =
     ∙ subst (λ (k : ℕ). slice_get session.states.items k ≡ Some state) (sym here) g)
 
 -- what was at a place, where the state and the queue were read there
-pub placed_here : (slot at : ℕ) (Becomes : SliceState → Kept → SliceState → Kept → Type 0) (old new : Session) (a x : SliceState) (b y : Kept) → at ≡ slot → has_slot old slot ≡ true
+pub placed_here : (slot at : ℕ) (Becomes : SliceState → OutboxState → SliceState → OutboxState → Type 0) (old new : Session) (a x : SliceState) (b y : OutboxState) → at ≡ slot → has_slot old slot ≡ true
     → new.policy ≡ old.policy → new.features ≡ old.features → new.ports ≡ old.ports
     → new.states.items ≡ set old.states.items at x → new.queues.items ≡ set old.queues.items at y
     → a ≡ get_or old.states.items at a → b ≡ get_or old.queues.items at b → Becomes a b x y → AtSlot slot Becomes old new
@@ -104,7 +104,7 @@ placed_here slot at Becomes old new a x b y here has policy features ports state
     (slice_get_read old.states.items (length old.states.items) at a refl (omega (arith, s, here)) ga) (queue_read slot at old b here has gb) becomes
 
 -- the queue at a place was changed
-pub placed_queue : (slot at : ℕ) (Becomes : SliceState → Kept → SliceState → Kept → Type 0) (old new : Session) (b y : Kept) → at ≡ slot → has_slot old slot ≡ true
+pub placed_queue : (slot at : ℕ) (Becomes : SliceState → OutboxState → SliceState → OutboxState → Type 0) (old new : Session) (b y : OutboxState) → at ≡ slot → has_slot old slot ≡ true
     → new.policy ≡ old.policy → new.features ≡ old.features → new.ports ≡ old.ports
     → new.states.items ≡ old.states.items → new.queues.items ≡ set old.queues.items at y
     → slice_get old.queues.items at ≡ Some b → ((a : SliceState) → Becomes a b a y) → AtSlot slot Becomes old new
@@ -114,5 +114,5 @@ placed_queue slot at Becomes old new b y here has policy features ports states q
     placed slot at Becomes old new a.0 a.0 b y here policy features ports (states ∙ sym (set_there old.states.items at a.0 a.1)) queues a.1 gb (becomes a.0)
 
 -- how many messages wait at a place
-pub waits_at : (session : Session) (slot : ℕ) (queue : Kept) → slice_get session.queues.items slot ≡ Some queue → length queue.pending ≡ pending_at slot (Some session)
-waits_at session slot queue g = sym (ap (λ (o : Option Kept). elim o [ None ↦ 0 | Some q ↦ length q.pending ]) g)
+pub waits_at : (session : Session) (slot : ℕ) (queue : OutboxState) → slice_get session.queues.items slot ≡ Some queue → length queue.pending ≡ pending_at slot (Some session)
+waits_at session slot queue g = sym (ap (λ (o : Option OutboxState). elim o [ None ↦ 0 | Some q ↦ length q.pending ]) g)

@@ -8,7 +8,7 @@ use Rattle.flowmod_expand.specs.Pieces.{writes_of}
 use Rattle.flowspace.specs.Policies.{PolicyView}
 use Rattle.port_view.specs.SlicePorts.{ports_of_slice}
 use Rattle.flow_book.specs.declared.state.SliceState.{SliceState}
-use Rattle.outbox.specs.Queues.{Queue, push_all, Kept, QueueStands}
+use Rattle.outbox.specs.Queues.{Queue, push_all, OutboxState, QueueStands}
 use Rattle.slice_words.specs.Messages.{is_dismissing}
 use Rattle.slice_words.specs.Items.{Settings, Item, Msg, is_up}
 use Rattle.slice_words.specs.Alone.{put_for, answer_to, with_items, rendered}
@@ -20,7 +20,7 @@ use Rattle.desk_words.specs.declared.event.Timed.{Timed}
 use Rattle.desk_words.specs.declared.phase.Phase.{Phase}
 use Rattle.desk_words.specs.declared.phase.Phase.TheVariants.{Opened}
 use Rattle.desk_words.specs.Openings.{rules_of, phase_after, known_after, KnownSwitch, switch_after}
-use Rattle.desk_words.specs.Histories.{is_slot, settings_at, own_features, Side, items_of, is_open}
+use Rattle.desk_words.specs.Histories.{is_slot, settings_at, own_features, SliceSide, items_of, is_open}
 use Rattle.desk_words.specs.Sent.{lane_in, put_with}
 use Rattle.desk_words.specs.Verdicts.{is_fresh, is_ended}
 use Rattle.desk_words.specs.Operations.{slice_limit, lane_limit, empties, is_ending}
@@ -39,7 +39,7 @@ use Rattle.proxy_core.proofs.Acting.{body_after, is_opened, session_passes, lane
 
 -- ---- the desk has a session
 
-pub stands_in : (p : PolicyView) (switch : KnownSwitch) (sides : ℕ → Side) (qs : ℕ → Queue) (session : Session) (o : Option Session) → o ≡ Some session → Opens p switch sides qs o → SessionStands p switch sides qs session
+pub stands_in : (p : PolicyView) (switch : KnownSwitch) (sides : ℕ → SliceSide) (qs : ℕ → Queue) (session : Session) (o : Option Session) → o ≡ Some session → Opens p switch sides qs o → SessionStands p switch sides qs session
 stands_in p switch sides qs session o is opens = subst (λ (k : Option Session). Opens p switch sides qs k) is opens
 
 -- want of memory changes nothing
@@ -101,7 +101,7 @@ abbrev StaysSame : Event → Type 0
 StaysSame event = (switch : KnownSwitch) → switch_after switch event ≡ switch
 
 -- by the lane and the session after it
-slice_body : (p : PolicyView) (switch : KnownSwitch) (sides : ℕ → Side) (qs : ℕ → Queue) (ql : Queue) (timed : Timed) (old new : Desk) (b : Session) → StaysSame timed.event
+slice_body : (p : PolicyView) (switch : KnownSwitch) (sides : ℕ → SliceSide) (qs : ℕ → Queue) (ql : Queue) (timed : Timed) (old new : Desk) (b : Session) → StaysSame timed.event
     → Body p switch sides qs ql old → new.policy ≡ old.policy → new.phase ≡ old.phase → new.session ≡ Some b
     → QueueStands lane_limit (lane_after p switch sides ql timed) new.lane
     → SessionStands p (switch_after switch timed.event) (sides_after p switch sides timed) (queues_after p switch sides qs timed) b
@@ -111,28 +111,28 @@ slice_body p switch sides qs ql timed old new b still body policy phase now lane
     (subst (λ (k : Option Session). Opens p (switch_after switch timed.event) (sides_after p switch sides timed) (queues_after p switch sides qs timed) k) (sym now) stands)
 
 -- the lane as it was
-lane_same : (p : PolicyView) (switch : KnownSwitch) (sides : ℕ → Side) (ql : Queue) (timed : Timed) (old new : Kept) → StaysSame timed.event → is_ended switch.phase ≡ false → switch.phase ≡ Opened
+lane_same : (p : PolicyView) (switch : KnownSwitch) (sides : ℕ → SliceSide) (ql : Queue) (timed : Timed) (old new : OutboxState) → StaysSame timed.event → is_ended switch.phase ≡ false → switch.phase ≡ Opened
     → lane_in (λ i. put_with p i switch (sides i) timed) Opened timed.event ≡ [] → QueueStands lane_limit ql old → new ≡ old → QueueStands lane_limit (lane_after p switch sides ql timed) new
 lane_same p switch sides ql timed old new still on opened silent stands same =
-    subst (λ (k : Kept). QueueStands lane_limit (lane_after p switch sides ql timed) k) (sym same)
+    subst (λ (k : OutboxState). QueueStands lane_limit (lane_after p switch sides ql timed) k) (sym same)
     (lane_stays p switch sides ql timed old stands (no_end switch timed (phase_same switch timed.event (still switch)) on)
     (ap (λ (k : Phase). lane_in (λ i. put_with p i switch (sides i) timed) k timed.event) opened ∙ silent))
 
 -- what becomes of a slot at an event of its slice
-abbrev Follows : ℕ → Event → ℕ → (SliceState → Kept → SliceState → Kept → Type 0) → Type 0
+abbrev Follows : ℕ → Event → ℕ → (SliceState → OutboxState → SliceState → OutboxState → Type 0) → Type 0
 Follows slot event moment Becomes =
-    (p : PolicyView) (switch : KnownSwitch) (sides : ℕ → Side) (qs : ℕ → Queue) (a : SliceState) (b : Kept) (x : SliceState) (y : Kept) → switch.phase ≡ Opened → is_slot p slot ≡ true
+    (p : PolicyView) (switch : KnownSwitch) (sides : ℕ → SliceSide) (qs : ℕ → Queue) (a : SliceState) (b : OutboxState) (x : SliceState) (y : OutboxState) → switch.phase ≡ Opened → is_slot p slot ≡ true
     → SlotStands p slot switch (sides slot) (qs slot) a b → Becomes a b x y
     → SlotStands p slot switch (sides_after p switch sides (record { event = event; moment = moment }) slot) (queues_after p switch sides qs (record { event = event; moment = moment }) slot) x y
 
 -- the slice's connection came or went
-moved : (old new : Desk) (a b : Session) (slot moment : ℕ) (event : Event) (Becomes : SliceState → Kept → SliceState → Kept → Type 0) (there_ : Bool) → StaysSame event
+moved : (old new : Desk) (a b : Session) (slot moment : ℕ) (event : Event) (Becomes : SliceState → OutboxState → SliceState → OutboxState → Type 0) (there_ : Bool) → StaysSame event
     → old.session ≡ Some a → new.policy ≡ old.policy → new.phase ≡ old.phase → new.lane ≡ old.lane → new.session ≡ Some b → there_ ≡ has_slot a slot → AtSlot slot Becomes a b
     → ((f : ℕ → List (List ℕ)) → lane_in f Opened event ≡ [])
-    → ((p : PolicyView) (switch : KnownSwitch) (sides : ℕ → Side) (i : ℕ) → i ≢ slot
+    → ((p : PolicyView) (switch : KnownSwitch) (sides : ℕ → SliceSide) (i : ℕ) → i ≢ slot
     → (items_of p i switch (sides i) (record { event = event; moment = moment }) ≡ []) × (empties i (up_after p switch sides (record { event = event; moment = moment }) i) event ≡ false))
     → Follows slot event moment Becomes
-    → ((p : PolicyView) (switch : KnownSwitch) (sides : ℕ → Side) → switch.phase ≡ Opened → there_ ≡ is_slot p slot → there_ ≡ not (closes_now p switch sides (record { event = event; moment = moment })))
+    → ((p : PolicyView) (switch : KnownSwitch) (sides : ℕ → SliceSide) → switch.phase ≡ Opened → there_ ≡ is_slot p slot → there_ ≡ not (closes_now p switch sides (record { event = event; moment = moment })))
     → Acts old (record { event = event; moment = moment }) there_ new
 moved old new a b slot moment event Becomes there_ still was policy phase lane now is at silent others own goes p switch sides qs ql fit body on =
     let timed : Timed = record { event = event; moment = moment } in
@@ -163,7 +163,7 @@ went old new a b slot moment there_ was policy phase lane now is at =
 -- ---- a message of it, where it is up
 
 -- what the slice is told of its switch is what it saw
-pub sees : (p : PolicyView) (switch : KnownSwitch) (sides : ℕ → Side) (qs : ℕ → Queue) (a : Session) (slot : ℕ) → Coherent p switch sides → SessionStands p switch sides qs a → is_slot p slot ≡ true → is_up (sides slot).sight.view ≡ true
+pub sees : (p : PolicyView) (switch : KnownSwitch) (sides : ℕ → SliceSide) (qs : ℕ → Queue) (a : Session) (slot : ℕ) → Coherent p switch sides → SessionStands p switch sides qs a → is_slot p slot ≡ true → is_up (sides slot).sight.view ≡ true
     → Sees (settings_at p slot switch.features) (sides slot).sight.view a.policy a.ports a.features slot
 sees p switch sides qs a slot fit s here up =
     let saw = fit.seen a.features s.told slot here in
@@ -182,14 +182,14 @@ sees p switch sides qs a slot fit s here up =
     }
 
 -- what follows for the slice at the slot
-heard_at : (p : PolicyView) (switch : KnownSwitch) (sides : ℕ → Side) (qs : ℕ → Queue) (a : Session) (slot moment : ℕ) (message : List ℕ) (on : Bool) (lane new_lane : Kept) (x : SliceState) (y : Kept) (z : SliceState) (w : Kept)
+heard_at : (p : PolicyView) (switch : KnownSwitch) (sides : ℕ → SliceSide) (qs : ℕ → Queue) (a : Session) (slot moment : ℕ) (message : List ℕ) (on : Bool) (lane new_lane : OutboxState) (x : SliceState) (y : OutboxState) (z : SliceState) (w : OutboxState)
     → Coherent p switch sides → SessionStands p switch sides qs a → is_slot p slot ≡ true → is_up (sides slot).sight.view ≡ true → SlotStands p slot switch (sides slot) (qs slot) x y
     → Hears a.policy a.ports a.features slot message moment on x y lane z w new_lane
     → Heard (settings_at p slot switch.features) (sides slot).sight (Msg message moment) on y lane z w new_lane
 heard_at p switch sides qs a slot moment message on lane new_lane x y z w fit s here up one hears =
     hears (settings_at p slot switch.features) (sides slot).sight one.state_stands (sees p switch sides qs a slot fit s here up)
 
-hears_slot : (p : PolicyView) (switch : KnownSwitch) (sides : ℕ → Side) (qs : ℕ → Queue) (slot moment : ℕ) (message : List ℕ) (on : Bool) (lane new_lane : Kept) (x : SliceState) (y : Kept) (z : SliceState) (w : Kept) → switch.phase ≡ Opened
+hears_slot : (p : PolicyView) (switch : KnownSwitch) (sides : ℕ → SliceSide) (qs : ℕ → Queue) (slot moment : ℕ) (message : List ℕ) (on : Bool) (lane new_lane : OutboxState) (x : SliceState) (y : OutboxState) (z : SliceState) (w : OutboxState) → switch.phase ≡ Opened
     → is_slot p slot ≡ true → is_up (sides slot).sight.view ≡ true → SlotStands p slot switch (sides slot) (qs slot) x y
     → Heard (settings_at p slot switch.features) (sides slot).sight (Msg message moment) on y lane z w new_lane
     → SlotStands p slot switch (sides_after p switch sides (record { event = SliceMsg slot message; moment = moment }) slot) (queues_after p switch sides qs (record { event = SliceMsg slot message; moment = moment }) slot) z w
@@ -201,7 +201,7 @@ hears_slot p switch sides qs slot moment message on lane new_lane x y z w opened
           (sym (append-nil (answer_to (settings_at p slot switch.features) (sides slot).sight.view (Msg message moment)).to_slice)) (heard.to_slice slice_limit (qs slot) one.queue_stands),
     )
 
-pub put_heard : (p : PolicyView) (switch : KnownSwitch) (sides : ℕ → Side) (slot moment : ℕ) (message : List ℕ) → switch.phase ≡ Opened → is_slot p slot ≡ true → is_up (sides slot).sight.view ≡ true
+pub put_heard : (p : PolicyView) (switch : KnownSwitch) (sides : ℕ → SliceSide) (slot moment : ℕ) (message : List ℕ) → switch.phase ≡ Opened → is_slot p slot ≡ true → is_up (sides slot).sight.view ≡ true
     → put_with p slot switch (sides slot) (record { event = SliceMsg slot message; moment = moment })
     ≡ map (rendered (sides slot).sight.came) (answer_to (settings_at p slot switch.features) (sides slot).sight.view (Msg message moment)).to_switch
 put_heard p switch sides slot moment message opened here up =
@@ -213,7 +213,7 @@ goes_heard : (fresh on here up dismissing up_then : Bool) → fresh ≡ false �
 goes_heard fresh on here up true up_then f h u is then_ = is ∙ rw (f, h, u, then_) refl
 goes_heard fresh on here up false up_then f h u is then_ = is ∙ rw (f, h, then_, u) refl
 
-up_heard : (p : PolicyView) (switch : KnownSwitch) (sides : ℕ → Side) (slot moment : ℕ) (message : List ℕ) → switch.phase ≡ Opened → is_slot p slot ≡ true → is_up (sides slot).sight.view ≡ true
+up_heard : (p : PolicyView) (switch : KnownSwitch) (sides : ℕ → SliceSide) (slot moment : ℕ) (message : List ℕ) → switch.phase ≡ Opened → is_slot p slot ≡ true → is_up (sides slot).sight.view ≡ true
     → up_after p switch sides (record { event = SliceMsg slot message; moment = moment }) slot ≡ (if is_dismissing message then false else is_up (sides slot).sight.view)
 up_heard p switch sides slot moment message opened here up =
     ap₂ (λ (phase : Phase) (items : List Item). is_open (phase_after phase (SliceMsg slot message)) && is_up (with_items items (sides slot).sight.view)) opened
@@ -223,7 +223,7 @@ up_heard p switch sides slot moment message opened here up =
 up_there : (a : Session) (slot : ℕ) (state : SliceState) (here : Bool) → has_slot a slot ≡ here → slice_get a.states.items slot ≡ Some state → is_up_at a slot ≡ (here && state.up)
 up_there a slot state here is g = ap₂ (λ (b : Bool) (o : Option SliceState). b && elim o [ None ↦ false | Some k ↦ k.up ]) is g
 
-pub up_state : (p : PolicyView) (switch : KnownSwitch) (sides : ℕ → Side) (qs : ℕ → Queue) (a : Session) (slot : ℕ) → SessionStands p switch sides qs a → is_slot p slot ≡ true → is_up_at a slot ≡ is_up (sides slot).sight.view
+pub up_state : (p : PolicyView) (switch : KnownSwitch) (sides : ℕ → SliceSide) (qs : ℕ → Queue) (a : Session) (slot : ℕ) → SessionStands p switch sides qs a → is_slot p slot ≡ true → is_up_at a slot ≡ is_up (sides slot).sight.view
 up_state p switch sides qs a slot s here =
     let at = slot_there p switch sides qs a slot s here in
     up_there a slot at.0 true (slots_are p switch sides qs a slot s ∙ here) at.2 ∙ at.4.state_stands.up
@@ -266,13 +266,13 @@ by_slot : (here up said : Bool) → (here ≡ true → said ≡ up) → said ≡
 by_slot true up said is no_ = sym (is refl) ∙ no_
 by_slot false up said is no_ = refl
 
-unshown : (p : PolicyView) (switch : KnownSwitch) (sides : ℕ → Side) (slot moment : ℕ) (message : List ℕ) → switch.phase ≡ Opened → (is_slot p slot && is_up (sides slot).sight.view) ≡ false
+unshown : (p : PolicyView) (switch : KnownSwitch) (sides : ℕ → SliceSide) (slot moment : ℕ) (message : List ℕ) → switch.phase ≡ Opened → (is_slot p slot && is_up (sides slot).sight.view) ≡ false
     → items_of p slot switch (sides slot) (record { event = SliceMsg slot message; moment = moment }) ≡ []
 unshown p switch sides slot moment message opened down =
     items_opened p slot switch (sides slot) (record { event = SliceMsg slot message; moment = moment }) opened
     ∙ not_shown (is_slot p slot) (slot == slot) (is_up (sides slot).sight.view) (Msg message moment ∷ []) down
 
-unshown_all : (p : PolicyView) (switch : KnownSwitch) (sides : ℕ → Side) (slot moment : ℕ) (message : List ℕ) → switch.phase ≡ Opened → (is_slot p slot && is_up (sides slot).sight.view) ≡ false
+unshown_all : (p : PolicyView) (switch : KnownSwitch) (sides : ℕ → SliceSide) (slot moment : ℕ) (message : List ℕ) → switch.phase ≡ Opened → (is_slot p slot && is_up (sides slot).sight.view) ≡ false
     → (i : ℕ) → items_of p i switch (sides i) (record { event = SliceMsg slot message; moment = moment }) ≡ []
 unshown_all p switch sides slot moment message opened down i = elim (cases_Bool (i == slot)) [
   | inl is ↦ subst (λ (k : ℕ). items_of p k switch (sides k) (record { event = SliceMsg slot message; moment = moment }) ≡ []) (sym (eqb-true i slot is)) (unshown p switch sides slot moment message opened down)

@@ -4,7 +4,7 @@ use Rattle.std.specs.Prelude.{ltb}
 use Rattle.std.proofs.lemmas.Bool.{eq-eqb, ne_eqb}
 use Rattle.flowspace.specs.Policies.{PolicyView}
 use Rattle.flow_book.specs.declared.state.SliceState.{SliceState}
-use Rattle.outbox.specs.Queues.{Queue, no_messages, push_all, Kept, QueueStands}
+use Rattle.outbox.specs.Queues.{Queue, no_messages, push_all, OutboxState, QueueStands}
 use Rattle.slice_words.specs.Items.{Item, Up, Down, Msg, is_up}
 use Rattle.slice_words.specs.Alone.{with_items}
 use Rattle.desk_words.specs.declared.event.Event.TheVariants.{SliceUp, SliceMsg, SliceDown}
@@ -12,7 +12,7 @@ use Rattle.desk_words.specs.declared.event.Timed.{Timed}
 use Rattle.desk_words.specs.declared.phase.Phase.{Phase}
 use Rattle.desk_words.specs.declared.phase.Phase.TheVariants.{Opened}
 use Rattle.desk_words.specs.Openings.{phase_after, known_after, KnownSwitch, switch_after}
-use Rattle.desk_words.specs.Histories.{is_slot, settings_at, Side, items_of, is_open}
+use Rattle.desk_words.specs.Histories.{is_slot, settings_at, SliceSide, items_of, is_open}
 use Rattle.desk_words.specs.Operations.{slice_limit, empties}
 use Rattle.desk_words.proofs.Erasing.{others_items}
 use Rattle.desk_words.proofs.Ends.{down_sent}
@@ -24,11 +24,11 @@ use Rattle.proxy_core.proofs.Lists.{within}
 use Rattle.proxy_core.proofs.Standing.{slot_after, passes, items_opened, session_goes, at_each, slot_becomes}
 
 -- all slots, where an event changed what is at one
-pub one_slot : (p : PolicyView) (switch : KnownSwitch) (sides : ℕ → Side) (qs : ℕ → Queue) (timed : Timed) (slot : ℕ) (Becomes : SliceState → Kept → SliceState → Kept → Type 0) (old new : Session)
+pub one_slot : (p : PolicyView) (switch : KnownSwitch) (sides : ℕ → SliceSide) (qs : ℕ → Queue) (timed : Timed) (slot : ℕ) (Becomes : SliceState → OutboxState → SliceState → OutboxState → Type 0) (old new : Session)
     → SessionStands p switch sides qs old → AtSlot slot Becomes old new
     → known_after switch.phase switch.known timed.event ≡ switch.known
     → ((i : ℕ) → i ≢ slot → (items_of p i switch (sides i) timed ≡ []) × (empties i (up_after p switch sides timed i) timed.event ≡ false))
-    → ((a : SliceState) (b : Kept) (x : SliceState) (y : Kept) → is_slot p slot ≡ true → SlotStands p slot switch (sides slot) (qs slot) a b → Becomes a b x y
+    → ((a : SliceState) (b : OutboxState) (x : SliceState) (y : OutboxState) → is_slot p slot ≡ true → SlotStands p slot switch (sides slot) (qs slot) a b → Becomes a b x y
     → SlotStands p slot switch (sides_after p switch sides timed slot) (queues_after p switch sides qs timed slot) x y)
     → SessionStands p (switch_after switch timed.event) (sides_after p switch sides timed) (queues_after p switch sides qs timed) new
 one_slot p switch sides qs timed slot Becomes old new s at known others own =
@@ -49,7 +49,7 @@ kept_slot slot old new at p switch sides qs s = slot_becomes p switch sides qs q
 
 -- ---- an event of a slice shows the others nothing
 
-pub others_up : (p : PolicyView) (switch : KnownSwitch) (sides : ℕ → Side) (slot moment i : ℕ) → i ≢ slot
+pub others_up : (p : PolicyView) (switch : KnownSwitch) (sides : ℕ → SliceSide) (slot moment i : ℕ) → i ≢ slot
     → (items_of p i switch (sides i) (record { event = SliceUp slot; moment = moment }) ≡ [])
     × (empties i (up_after p switch sides (record { event = SliceUp slot; moment = moment }) i) (SliceUp slot) ≡ false)
 others_up p switch sides slot moment i far = (
@@ -57,13 +57,13 @@ others_up p switch sides slot moment i far = (
   ap (λ (b : Bool). b && up_after p switch sides (record { event = SliceUp slot; moment = moment }) i) (ne_eqb slot i (λ e. far (sym e))),
 )
 
-pub others_down : (p : PolicyView) (switch : KnownSwitch) (sides : ℕ → Side) (slot moment i : ℕ) → i ≢ slot
+pub others_down : (p : PolicyView) (switch : KnownSwitch) (sides : ℕ → SliceSide) (slot moment i : ℕ) → i ≢ slot
     → (items_of p i switch (sides i) (record { event = SliceDown slot; moment = moment }) ≡ [])
     × (empties i (up_after p switch sides (record { event = SliceDown slot; moment = moment }) i) (SliceDown slot) ≡ false)
 others_down p switch sides slot moment i far =
     (others_items p i switch (sides i) (record { event = SliceDown slot; moment = moment }) (ap not (ne_eqb slot i (λ e. far (sym e)))), ne_eqb slot i (λ e. far (sym e)))
 
-pub others_msg : (p : PolicyView) (switch : KnownSwitch) (sides : ℕ → Side) (slot moment : ℕ) (message : List ℕ) (i : ℕ) → i ≢ slot
+pub others_msg : (p : PolicyView) (switch : KnownSwitch) (sides : ℕ → SliceSide) (slot moment : ℕ) (message : List ℕ) (i : ℕ) → i ≢ slot
     → (items_of p i switch (sides i) (record { event = SliceMsg slot message; moment = moment }) ≡ [])
     × (empties i (up_after p switch sides (record { event = SliceMsg slot message; moment = moment }) i) (SliceMsg slot message) ≡ false)
 others_msg p switch sides slot moment message i far =
@@ -74,34 +74,34 @@ others_msg p switch sides slot moment message i far =
 both : (here own : Bool) (items : List Item) → here ≡ true → own ≡ true → (if here then (if own then items else []) else []) ≡ items
 both here own items is too = rw (is, too) refl
 
-pub shown_up : (p : PolicyView) (switch : KnownSwitch) (side : Side) (slot moment : ℕ) → switch.phase ≡ Opened → is_slot p slot ≡ true
+pub shown_up : (p : PolicyView) (switch : KnownSwitch) (side : SliceSide) (slot moment : ℕ) → switch.phase ≡ Opened → is_slot p slot ≡ true
     → items_of p slot switch side (record { event = SliceUp slot; moment = moment }) ≡ Up ∷ []
 shown_up p switch side slot moment opened here =
     items_opened p slot switch side (record { event = SliceUp slot; moment = moment }) opened ∙ both (is_slot p slot) (slot == slot) (Up ∷ []) here (eq-eqb slot slot refl)
 
-pub shown_down : (p : PolicyView) (switch : KnownSwitch) (side : Side) (slot moment : ℕ) → switch.phase ≡ Opened → is_slot p slot ≡ true
+pub shown_down : (p : PolicyView) (switch : KnownSwitch) (side : SliceSide) (slot moment : ℕ) → switch.phase ≡ Opened → is_slot p slot ≡ true
     → items_of p slot switch side (record { event = SliceDown slot; moment = moment }) ≡ Down ∷ []
 shown_down p switch side slot moment opened here =
     items_opened p slot switch side (record { event = SliceDown slot; moment = moment }) opened ∙ both (is_slot p slot) (slot == slot) (Down ∷ []) here (eq-eqb slot slot refl)
 
-pub shown_msg : (p : PolicyView) (switch : KnownSwitch) (side : Side) (slot moment : ℕ) (message : List ℕ) → switch.phase ≡ Opened → is_slot p slot ≡ true → is_up side.sight.view ≡ true
+pub shown_msg : (p : PolicyView) (switch : KnownSwitch) (side : SliceSide) (slot moment : ℕ) (message : List ℕ) → switch.phase ≡ Opened → is_slot p slot ≡ true → is_up side.sight.view ≡ true
     → items_of p slot switch side (record { event = SliceMsg slot message; moment = moment }) ≡ Msg message moment ∷ []
 shown_msg p switch side slot moment message opened here up =
     items_opened p slot switch side (record { event = SliceMsg slot message; moment = moment }) opened
     ∙ both (is_slot p slot) (slot == slot && is_up side.sight.view) (Msg message moment ∷ []) here (ap₂ (λ (a b : Bool). a && b) (eq-eqb slot slot refl) up)
 
 -- who is up after an event of a slice, by what it shows
-up_by : (p : PolicyView) (switch : KnownSwitch) (sides : ℕ → Side) (timed : Timed) (slot : ℕ) (items : List Item) → switch.phase ≡ Opened → items_of p slot switch (sides slot) timed ≡ items
+up_by : (p : PolicyView) (switch : KnownSwitch) (sides : ℕ → SliceSide) (timed : Timed) (slot : ℕ) (items : List Item) → switch.phase ≡ Opened → items_of p slot switch (sides slot) timed ≡ items
     → up_after p switch sides timed slot ≡ (is_open (phase_after Opened timed.event) && is_up (with_items items (sides slot).sight.view))
 up_by p switch sides timed slot items opened shown =
     ap₂ (λ (phase : Phase) (is : List Item). is_open (phase_after phase timed.event) && is_up (with_items is (sides slot).sight.view)) opened shown
 
-pub up_comes : (p : PolicyView) (switch : KnownSwitch) (sides : ℕ → Side) (slot moment : ℕ) → switch.phase ≡ Opened → is_slot p slot ≡ true
+pub up_comes : (p : PolicyView) (switch : KnownSwitch) (sides : ℕ → SliceSide) (slot moment : ℕ) → switch.phase ≡ Opened → is_slot p slot ≡ true
     → up_after p switch sides (record { event = SliceUp slot; moment = moment }) slot ≡ true
 up_comes p switch sides slot moment opened here =
     up_by p switch sides (record { event = SliceUp slot; moment = moment }) slot (Up ∷ []) opened (shown_up p switch (sides slot) slot moment opened here)
 
-pub comes_slot : (p : PolicyView) (switch : KnownSwitch) (sides : ℕ → Side) (qs : ℕ → Queue) (slot moment : ℕ) (a : SliceState) (b : Kept) (x : SliceState) (y : Kept) → switch.phase ≡ Opened
+pub comes_slot : (p : PolicyView) (switch : KnownSwitch) (sides : ℕ → SliceSide) (qs : ℕ → Queue) (slot moment : ℕ) (a : SliceState) (b : OutboxState) (x : SliceState) (y : OutboxState) → switch.phase ≡ Opened
     → is_slot p slot ≡ true → SlotStands p slot switch (sides slot) (qs slot) a b → Comes a b x y
     → SlotStands p slot switch (sides_after p switch sides (record { event = SliceUp slot; moment = moment }) slot) (queues_after p switch sides qs (record { event = SliceUp slot; moment = moment }) slot) x y
 comes_slot p switch sides qs slot moment a b x y opened here stands comes =
@@ -111,7 +111,7 @@ comes_slot p switch sides qs slot moment a b x y opened here stands comes =
     (ap₂ (λ (a b : Bool). a && b) (eq-eqb slot slot refl) (up_comes p switch sides slot moment opened here))
     (comes.0 (settings_at p slot switch.features) (sides slot).sight stands.state_stands, comes.1 _ (qs slot) stands.queue_stands)
 
-pub goes_slot : (p : PolicyView) (switch : KnownSwitch) (sides : ℕ → Side) (qs : ℕ → Queue) (slot moment : ℕ) (a : SliceState) (b : Kept) (x : SliceState) (y : Kept) → switch.phase ≡ Opened
+pub goes_slot : (p : PolicyView) (switch : KnownSwitch) (sides : ℕ → SliceSide) (qs : ℕ → Queue) (slot moment : ℕ) (a : SliceState) (b : OutboxState) (x : SliceState) (y : OutboxState) → switch.phase ≡ Opened
     → is_slot p slot ≡ true → SlotStands p slot switch (sides slot) (qs slot) a b → Goes a b x y
     → SlotStands p slot switch (sides_after p switch sides (record { event = SliceDown slot; moment = moment }) slot) (queues_after p switch sides qs (record { event = SliceDown slot; moment = moment }) slot) x y
 goes_slot p switch sides qs slot moment a b x y opened here stands goes =

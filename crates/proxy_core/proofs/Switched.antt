@@ -15,7 +15,7 @@ use Rattle.port_view.specs.declared.answer.Kept.TheVariants.{Kept as IsKept, Ign
 use Rattle.port_view.specs.KnownPorts.{changed, kept_of}
 use Rattle.port_view.proofs.Knowing.{changed-not_kept}
 use Rattle.flow_book.specs.declared.state.SliceState.{SliceState}
-use Rattle.outbox.specs.Queues.{Queue, no_messages, push_all, Kept, QueueStands}
+use Rattle.outbox.specs.Queues.{Queue, no_messages, push_all, OutboxState, QueueStands}
 use Rattle.slice_words.specs.Items.{Item, End}
 use Rattle.desk_words.specs.declared.event.Event.{Event}
 use Rattle.desk_words.specs.declared.event.Event.TheVariants.{SwitchMsg}
@@ -23,7 +23,7 @@ use Rattle.desk_words.specs.declared.event.Timed.{Timed}
 use Rattle.desk_words.specs.declared.phase.Phase.{Phase}
 use Rattle.desk_words.specs.declared.phase.Phase.TheVariants.{Fresh, Begun, Opened, Gone}
 use Rattle.desk_words.specs.Openings.{ends_switch, features_said, status_said, features_told, status_told, kept_beside, status_kept, phase_after, opening_after, known_after, KnownSwitch, switch_after}
-use Rattle.desk_words.specs.Histories.{settings_at, Side, said_items, message_items}
+use Rattle.desk_words.specs.Histories.{settings_at, SliceSide, said_items, message_items}
 use Rattle.desk_words.specs.Sent.{preparation, echo_said, echo_for, lane_in, put_with}
 use Rattle.desk_words.specs.Verdicts.{is_fresh, is_ended, is_before, is_closing}
 use Rattle.desk_words.specs.Operations.{slice_limit, lane_limit}
@@ -70,12 +70,12 @@ closes_msg p up Begun after message far = twice (is_ended after)
 closes_msg p up Opened after message far = twice (is_ended after)
 closes_msg p up Gone after message far = twice (is_ended after)
 
-none_begun : (p : PolicyView) (switch : KnownSwitch) (sides : ℕ → Side) (qs : ℕ → Queue) (session : Option Session) → Coherent p switch sides → switch.phase ≡ Begun → Opens p switch sides qs session → session ≡ None
+none_begun : (p : PolicyView) (switch : KnownSwitch) (sides : ℕ → SliceSide) (qs : ℕ → Queue) (session : Option Session) → Coherent p switch sides → switch.phase ≡ Begun → Opens p switch sides qs session → session ≡ None
 none_begun p switch sides qs None fit begun opens = refl
 none_begun p switch sides qs (Some session) fit begun stands = absurd (none-some session.features (sym (fit.before_untold (ap is_before begun)) ∙ stands.told))
 
 -- the desk after a message that opens nothing
-begun_still : (p : PolicyView) (switch : KnownSwitch) (sides : ℕ → Side) (qs : ℕ → Queue) (moment : ℕ) (message : List ℕ) (session : Option Session) → Coherent p switch sides → switch.phase ≡ Begun → features_told message ≡ None
+begun_still : (p : PolicyView) (switch : KnownSwitch) (sides : ℕ → SliceSide) (qs : ℕ → Queue) (moment : ℕ) (message : List ℕ) (session : Option Session) → Coherent p switch sides → switch.phase ≡ Begun → features_told message ≡ None
     → Opens p switch sides qs session
     → Opens p (switch_after switch (SwitchMsg message)) (sides_after p switch sides (told_at moment message)) (queues_after p switch sides qs (told_at moment message)) session
 begun_still p switch sides qs moment message session fit begun none opens =
@@ -90,7 +90,7 @@ is_kept_answer Ignored = false
 is_kept_answer TooManyPorts = false
 
 -- the desk after a message of the switch, by the phase before it and the phase after it
-told : (p : PolicyView) (switch : KnownSwitch) (sides : ℕ → Side) (qs : ℕ → Queue) (ql : Queue) (moment : ℕ) (message : List ℕ) (before after : Phase) (over : Bool) (sent : List (List ℕ)) (old new : Desk)
+told : (p : PolicyView) (switch : KnownSwitch) (sides : ℕ → SliceSide) (qs : ℕ → Queue) (ql : Queue) (moment : ℕ) (message : List ℕ) (before after : Phase) (over : Bool) (sent : List (List ℕ)) (old new : Desk)
     → Body p switch sides qs ql old → switch.phase ≡ before → is_fresh before ≡ false → phase_after before (SwitchMsg message) ≡ after → (not (is_ended before) && is_ended after) ≡ over
     → lane_in (λ i. put_with p i switch (sides i) (told_at moment message)) before (SwitchMsg message) ≡ sent → new.policy ≡ old.policy → new.phase ≡ after
     → QueueStands lane_limit (push_all lane_limit (if over then no_messages else ql) sent) new.lane
@@ -149,12 +149,12 @@ opened_bad message bad = ap (λ (b : Bool). if b then Gone else Opened) bad
 opened_good : (message : List ℕ) → ends_switch message ≡ false → phase_after Opened (SwitchMsg message) ≡ Opened
 opened_good message good = ap (λ (b : Bool). if b then Gone else Opened) good
 
-bad_shown : (p : PolicyView) (slot : ℕ) (switch : KnownSwitch) (side : Side) (message : List ℕ) → ends_switch message ≡ true → message_items p slot switch side message ≡ End ∷ []
+bad_shown : (p : PolicyView) (slot : ℕ) (switch : KnownSwitch) (side : SliceSide) (message : List ℕ) → ends_switch message ≡ true → message_items p slot switch side message ≡ End ∷ []
 unfolding message_items
 bad_shown p slot switch side message bad = ap (said_items p slot switch side (xid_of message)) (bad_read (read_switch message) bad)
 
 -- the session of a switch that ends
-pub bad_ends : (p : PolicyView) (switch : KnownSwitch) (sides : ℕ → Side) (qs : ℕ → Queue) (moment : ℕ) (message : List ℕ) (session : Session) → SessionStands p switch sides qs session → switch.phase ≡ Opened → ends_switch message ≡ true
+pub bad_ends : (p : PolicyView) (switch : KnownSwitch) (sides : ℕ → SliceSide) (qs : ℕ → Queue) (moment : ℕ) (message : List ℕ) (session : Session) → SessionStands p switch sides qs session → switch.phase ≡ Opened → ends_switch message ≡ true
     → SessionStands p (switch_after switch (SwitchMsg message)) (sides_after p switch sides (told_at moment message)) (queues_after p switch sides qs (told_at moment message)) session
 bad_ends p switch sides qs moment message session stands open_ bad =
     session_ends p switch sides qs (told_at moment message) session stands
@@ -163,7 +163,7 @@ bad_ends p switch sides qs moment message session stands open_ bad =
     ∙ ap₂ (λ (b : Bool) (items : List Item). if b then items else []) here (bad_shown p slot switch (sides slot) message bad))
     (λ slot. refl)
 
-opens_bad : (p : PolicyView) (switch : KnownSwitch) (sides : ℕ → Side) (qs : ℕ → Queue) (moment : ℕ) (message : List ℕ) (session : Option Session) → Coherent p switch sides → switch.phase ≡ Opened → ends_switch message ≡ true → Opens p switch sides qs session
+opens_bad : (p : PolicyView) (switch : KnownSwitch) (sides : ℕ → SliceSide) (qs : ℕ → Queue) (moment : ℕ) (message : List ℕ) (session : Option Session) → Coherent p switch sides → switch.phase ≡ Opened → ends_switch message ≡ true → Opens p switch sides qs session
     → Opens p (switch_after switch (SwitchMsg message)) (sides_after p switch sides (told_at moment message)) (queues_after p switch sides qs (told_at moment message)) session
 opens_bad p switch sides qs moment message (Some session) fit open_ bad stands = bad_ends p switch sides qs moment message session stands open_ bad
 opens_bad p switch sides qs moment message None fit open_ bad opens = (let some = fit.open_told open_ in absurd (none-some some.0 (sym opens.0 ∙ some.1)))
@@ -174,7 +174,7 @@ hears_bad old mid new moment message passes ends p switch sides qs ql fit body o
     let passed = passes p switch sides qs ql fit body open_ in
     let bad = passed.0 in
     told p switch sides qs ql moment message Opened Gone true [] old new body open_ refl (opened_bad message bad) refl (bad_echo message bad)
-    (ends.same_policy ∙ passed.1) ends.phase (subst (λ (lane : Kept). HasOnly [] lane new.lane) passed.2 ends.lane lane_limit ql body.lane)
+    (ends.same_policy ∙ passed.1) ends.phase (subst (λ (lane : OutboxState). HasOnly [] lane new.lane) passed.2 ends.lane lane_limit ql body.lane)
     (subst (λ (o : Option Session). Opens p (switch_after switch (SwitchMsg message)) (sides_after p switch sides (told_at moment message)) (queues_after p switch sides qs (told_at moment message)) o)
     (sym ends.session) (opens_bad p switch sides qs moment message mid.session fit open_ bad passed.3))
 
@@ -198,14 +198,14 @@ ports_kept : (known : List (List ℕ)) (told : Option PortStatus) → (elim told
 ports_kept known None = refl
 ports_kept known (Some status) = by_answer status known (kept_of status known) refl
 
-pub surrounds : (p : PolicyView) (switch : KnownSwitch) (sides : ℕ → Side) (qs : ℕ → Queue) (session : Session) → SessionStands p switch sides qs session → switch.phase ≡ Opened → Surrounds p switch session.policy session.ports
+pub surrounds : (p : PolicyView) (switch : KnownSwitch) (sides : ℕ → SliceSide) (qs : ℕ → Queue) (session : Session) → SessionStands p switch sides qs session → switch.phase ≡ Opened → Surrounds p switch session.policy session.ports
 surrounds p switch sides qs session s open_ = record { opened = open_; slices = s.slices; rules = s.rules; known = s.known }
 
-pub all_stand : (p : PolicyView) (switch : KnownSwitch) (sides : ℕ → Side) (qs : ℕ → Queue) (session : Session) → SessionStands p switch sides qs session → AllStand p switch sides session.states.items
+pub all_stand : (p : PolicyView) (switch : KnownSwitch) (sides : ℕ → SliceSide) (qs : ℕ → Queue) (session : Session) → SessionStands p switch sides qs session → AllStand p switch sides session.states.items
 all_stand p switch sides qs session s slot state g = (queue_there p switch sides qs session slot state s g).2.state_stands
 
 -- the session after it
-pub carried_session : (p : PolicyView) (switch : KnownSwitch) (sides : ℕ → Side) (qs : ℕ → Queue) (moment : ℕ) (message : List ℕ) (old new : Session) (rooms : List Kept) → SessionStands p switch sides qs old → switch.phase ≡ Opened
+pub carried_session : (p : PolicyView) (switch : KnownSwitch) (sides : ℕ → SliceSide) (qs : ℕ → Queue) (moment : ℕ) (message : List ℕ) (old new : Session) (rooms : List OutboxState) → SessionStands p switch sides qs old → switch.phase ≡ Opened
     → new.policy ≡ old.policy → new.features ≡ old.features → length new.states.items ≡ length old.states.items → AllStand p switch (sides_after p switch sides (told_at moment message)) new.states.items
     → new.ports ≡ kept_by (status_kept switch.known message) old.ports → AreSame old.queues.items rooms → AreHanded (sent_to_all p switch sides (told_at moment message) 0 p.slices) rooms new.queues.items
     → SessionStands p (switch_after switch (SwitchMsg message)) (sides_after p switch sides (told_at moment message)) (queues_after p switch sides qs (told_at moment message)) new
@@ -237,7 +237,7 @@ kept_queues old new policy features states ports same p switch sides qs s =
     })
 
 -- room that was made for changes leaves what the states belong to
-pub all_stand_on : (p : PolicyView) (switch : KnownSwitch) (sides : ℕ → Side) (old new : List SliceState) → StandOn old new → AllStand p switch sides old → AllStand p switch sides new
+pub all_stand_on : (p : PolicyView) (switch : KnownSwitch) (sides : ℕ → SliceSide) (old new : List SliceState) → StandOn old new → AllStand p switch sides old → AllStand p switch sides new
 all_stand_on p switch sides old new on stand slot state g =
     let before = there old slot (subst (λ (n : ℕ). ltb slot n ≡ true) on.count (within new slot state g)) in
     on.each slot before.0 state before.1 g (settings_at p slot switch.features) (sides slot).sight (stand slot before.0 before.1)
@@ -247,8 +247,8 @@ pub stands_back : (old now : List SliceState) (n : ℕ) → StandOn old now → 
 stands_back old now n on count = subst (StandOn old) (sym (written_back old now n on.count count)) on
 
 -- all that follows from a message, for the session and the lane
-pub carried_out : (moment : ℕ) (message : List ℕ) (old new : Session) (lane new_lane : Kept) (rooms : List Kept) (p : PolicyView) (switch : KnownSwitch) (sides : ℕ → Side) (qs : ℕ → Queue) (d : Dispatch) → switch.phase ≡ Opened → AllNumbered p switch sides → SessionStands p switch sides qs old
-    → ((p : PolicyView) (switch : KnownSwitch) (sides : ℕ → Side) (moment : ℕ) → Surrounds p switch old.policy old.ports → AllStand p switch sides old.states.items → AllNumbered p switch sides → IsDispatch p switch sides moment message d)
+pub carried_out : (moment : ℕ) (message : List ℕ) (old new : Session) (lane new_lane : OutboxState) (rooms : List OutboxState) (p : PolicyView) (switch : KnownSwitch) (sides : ℕ → SliceSide) (qs : ℕ → Queue) (d : Dispatch) → switch.phase ≡ Opened → AllNumbered p switch sides → SessionStands p switch sides qs old
+    → ((p : PolicyView) (switch : KnownSwitch) (sides : ℕ → SliceSide) (moment : ℕ) → Surrounds p switch old.policy old.ports → AllStand p switch sides old.states.items → AllNumbered p switch sides → IsDispatch p switch sides moment message d)
     → d.close ≡ false → new.policy ≡ old.policy → new.features ≡ old.features → length new.states.items ≡ length old.states.items
     → (AllStand p switch sides old.states.items → AreChanges p switch sides moment message d.changes.items → AllStand p switch (sides_after p switch sides (told_at moment message)) new.states.items)
     → new.ports ≡ kept_by d.port old.ports
@@ -262,15 +262,15 @@ carried_out moment message old new lane new_lane rooms p switch sides qs d open_
       subst (λ (m : List (List ℕ)). HasMore m lane new_lane) is.to_switch more,
     )
 
-pub closed_bad : (moment : ℕ) (message : List ℕ) (old : Session) (p : PolicyView) (switch : KnownSwitch) (sides : ℕ → Side) (qs : ℕ → Queue) (d : Dispatch) → switch.phase ≡ Opened → AllNumbered p switch sides → SessionStands p switch sides qs old
-    → ((p : PolicyView) (switch : KnownSwitch) (sides : ℕ → Side) (moment : ℕ) → Surrounds p switch old.policy old.ports → AllStand p switch sides old.states.items → AllNumbered p switch sides → IsDispatch p switch sides moment message d)
+pub closed_bad : (moment : ℕ) (message : List ℕ) (old : Session) (p : PolicyView) (switch : KnownSwitch) (sides : ℕ → SliceSide) (qs : ℕ → Queue) (d : Dispatch) → switch.phase ≡ Opened → AllNumbered p switch sides → SessionStands p switch sides qs old
+    → ((p : PolicyView) (switch : KnownSwitch) (sides : ℕ → SliceSide) (moment : ℕ) → Surrounds p switch old.policy old.ports → AllStand p switch sides old.states.items → AllNumbered p switch sides → IsDispatch p switch sides moment message d)
     → d.close ≡ true → ends_switch message ≡ true
 closed_bad moment message old p switch sides qs d open_ numbered s dispatched goes =
     bad_length-read message ∙ sym (dispatched p switch sides moment (surrounds p switch sides qs old s open_) (all_stand p switch sides qs old s) numbered).close ∙ goes
 
 -- ---- the desk hands a message on
 
-pub passes_on : (moment : ℕ) (message : List ℕ) (go : Bool) (old : Desk) (a b : Session) (lane : Kept) → old.session ≡ Some a → Carries moment message go a old.lane b lane
+pub passes_on : (moment : ℕ) (message : List ℕ) (go : Bool) (old : Desk) (a b : Session) (lane : OutboxState) → old.session ≡ Some a → Carries moment message go a old.lane b lane
     → PassesOn moment message go old (record old { lane = lane; session = Some b })
 passes_on moment message true old a b lane was carries p switch sides qs ql fit body open_ =
     let r = carries p switch sides qs open_ fit.numbered (subst (λ (o : Option Session). Opens p switch sides qs o) was body.opens) in

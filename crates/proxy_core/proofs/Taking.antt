@@ -3,7 +3,7 @@ use Rattle.std.proofs.Common.{◌≡◌, ℕ, ◌==◌, ◌&&◌, ◌||◌, not,
 use Rattle.std.proofs.lemmas.Bool.{eq-eqb, ne_eqb}
 use Rattle.flowspace.specs.Policies.{PolicyView}
 use Rattle.flow_book.specs.declared.state.SliceState.{SliceState}
-use Rattle.outbox.specs.Queues.{Queue, no_messages, without_first, Kept, QueueStands}
+use Rattle.outbox.specs.Queues.{Queue, no_messages, without_first, OutboxState, QueueStands}
 use Rattle.slice_words.specs.Items.{is_up}
 use Rattle.slice_words.specs.Standing.{SliceStands}
 use Rattle.desk_words.specs.declared.phase.Phase.{Phase}
@@ -14,7 +14,7 @@ use Rattle.desk_words.specs.declared.answer.Taken.{Taken}
 use Rattle.desk_words.specs.declared.answer.Taken.TheVariants as takens
 use Rattle.desk_words.specs.declared.answer.Taken.TheVariants.{Message, Nothing, Choked, NotOpen}
 use Rattle.desk_words.specs.Openings.{KnownSwitch as Known}
-use Rattle.desk_words.specs.Histories.{is_slot, settings_at, Side, is_open}
+use Rattle.desk_words.specs.Histories.{is_slot, settings_at, SliceSide, is_open}
 use Rattle.desk_words.specs.Verdicts.{is_ended}
 use Rattle.desk_words.specs.Operations.{slice_limit, lane_limit, why_none}
 use Rattle.proxy_core.specs.declared.parts.Session.{Session}
@@ -32,7 +32,7 @@ less_if : (b : Bool) (q : Queue) → q ≡ no_messages → (if b then without_fi
 less_if true q is = ap without_first is
 less_if false q is = is
 
-by_place : (p : PolicyView) (switch : Known) (sides : ℕ → Side) (qs : ℕ → Queue) (a : Session) (slot : ℕ) (next : Option (List ℕ)) (b : Session) → SessionStands p switch sides qs a → AtSlot slot (IsNext next) a b → (has_slot a slot ≡ false → next ≡ None)
+by_place : (p : PolicyView) (switch : Known) (sides : ℕ → SliceSide) (qs : ℕ → Queue) (a : Session) (slot : ℕ) (next : Option (List ℕ)) (b : Session) → SessionStands p switch sides qs a → AtSlot slot (IsNext next) a b → (has_slot a slot ≡ false → next ≡ None)
     → (is_slot p slot ≡ false → qs slot ≡ no_messages) → (here : Bool) → is_slot p slot ≡ here → next ≡ slice_get (qs slot).pending 0
 by_place p switch sides qs a slot next b s at nowhere beyond false is =
     nowhere (slots_are p switch sides qs a slot s ∙ is) ∙ sym (ap (λ (q : Queue). slice_get q.pending 0) (beyond is))
@@ -43,7 +43,7 @@ by_place p switch sides qs a slot next b s at nowhere beyond true is =
 less_one : (slot i : ℕ) (q : Queue) (b : Bool) → (slot == i) ≡ b → (if slot == i then without_first q else q) ≡ (if b then without_first q else q)
 less_one slot i q b is = ap (λ (k : Bool). if k then without_first q else q) is
 
-session_less : (p : PolicyView) (switch : Known) (sides : ℕ → Side) (qs : ℕ → Queue) (a : Session) (slot : ℕ) (next : Option (List ℕ)) (b : Session) → SessionStands p switch sides qs a → AtSlot slot (IsNext next) a b
+session_less : (p : PolicyView) (switch : Known) (sides : ℕ → SliceSide) (qs : ℕ → Queue) (a : Session) (slot : ℕ) (next : Option (List ℕ)) (b : Session) → SessionStands p switch sides qs a → AtSlot slot (IsNext next) a b
     → SessionStands p switch sides (queues_less (Slice slot) qs) b
 session_less p switch sides qs a slot next b s at = slot_becomes p switch sides qs (queues_less (Slice slot) qs) slot (IsNext next) a b s at
     (λ x y z w was taken. record {
@@ -83,7 +83,7 @@ took_none old slot was p switch sides qs ql body =
 
 -- ---- the first message for the switch
 
-pub took_lane : (old : Desk) (lane : Kept) (next : Option (List ℕ)) → ((limit : ℕ) (q : Queue) → QueueStands limit q old.lane → next ≡ slice_get q.pending 0)
+pub took_lane : (old : Desk) (lane : OutboxState) (next : Option (List ℕ)) → ((limit : ℕ) (q : Queue) → QueueStands limit q old.lane → next ≡ slice_get q.pending 0)
     → ((limit : ℕ) (q : Queue) → QueueStands limit q old.lane → QueueStands limit (without_first q) lane) → TakesNext old Switch next (record old { lane = lane })
 took_lane old lane next value stands p switch sides qs ql body = record {
   first = value lane_limit ql body.lane;
@@ -102,9 +102,9 @@ silent_gone true true choked phase o gone = absurd (true≢false gone)
 silent_gone true false choked phase o gone = sym (rw o refl)
 silent_gone false up choked phase o gone = sym (rw o refl)
 
-at_up : (a : Session) (slot : ℕ) (queue : Kept) → is_up_at a slot ≡ true → slice_get a.queues.items slot ≡ Some queue → silence_at slot a ≡ (if queue.choked then Choked else Nothing)
+at_up : (a : Session) (slot : ℕ) (queue : OutboxState) → is_up_at a slot ≡ true → slice_get a.queues.items slot ≡ Some queue → silence_at slot a ≡ (if queue.choked then Choked else Nothing)
 at_up a slot queue up g =
-    ap₂ (λ (b : Bool) (o : Option Kept). if b then elim o [ None ↦ takens.Ended | Some q ↦ if q.choked then Choked else Nothing ] else takens.Ended) up g
+    ap₂ (λ (b : Bool) (o : Option OutboxState). if b then elim o [ None ↦ takens.Ended | Some q ↦ if q.choked then Choked else Nothing ] else takens.Ended) up g
 
 at_down : (a : Session) (slot : ℕ) → is_up_at a slot ≡ false → silence_at slot a ≡ takens.Ended
 at_down a slot down = ap (λ (b : Bool). if b then elim (slice_get a.queues.items slot) [ None ↦ takens.Ended | Some q ↦ if q.choked then Choked else Nothing ] else takens.Ended) down
@@ -112,7 +112,7 @@ at_down a slot down = ap (λ (b : Bool). if b then elim (slice_get a.queues.item
 not_here : (a : Session) (slot : ℕ) → has_slot a slot ≡ false → is_up_at a slot ≡ false
 not_here a slot out = ap (λ (b : Bool). b && elim (slice_get a.states.items slot) [ None ↦ false | Some state ↦ state.up ]) out
 
-silence_cases : (p : PolicyView) (switch : Known) (sides : ℕ → Side) (qs : ℕ → Queue) (a : Session) (slot : ℕ) (here up : Bool) → SessionStands p switch sides qs a → switch.phase ≡ Opened → is_slot p slot ≡ here → is_up (sides slot).sight.view ≡ up
+silence_cases : (p : PolicyView) (switch : Known) (sides : ℕ → SliceSide) (qs : ℕ → Queue) (a : Session) (slot : ℕ) (here up : Bool) → SessionStands p switch sides qs a → switch.phase ≡ Opened → is_slot p slot ≡ here → is_up (sides slot).sight.view ≡ up
     → silence_at slot a ≡ why_none p switch.phase (up_now switch sides) (Slice slot) (qs slot).choked
 silence_cases p switch sides qs a slot false up s open_ here is =
     at_down a slot (not_here a slot (slots_are p switch sides qs a slot s ∙ here))

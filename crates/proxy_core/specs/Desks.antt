@@ -3,7 +3,7 @@ use Rattle.std.specs.Prelude.{ℕ, ◌≡◌, ◌<◌, ◌==◌, ◌&&◌, not, 
 use Rattle.std.specs.declared.alloc.AllocError.{AllocError}
 use Rattle.flowspace.specs.Policies.{PolicyView}
 use Rattle.flow_book.specs.declared.state.SliceState.{SliceState}
-use Rattle.outbox.specs.Queues.{Queue, no_messages, push_all, size, without_first, Kept, QueueStands}
+use Rattle.outbox.specs.Queues.{Queue, no_messages, push_all, size, without_first, OutboxState, QueueStands}
 use Rattle.slice_words.specs.Items.{is_up}
 use Rattle.slice_words.specs.Standing.{SliceStands}
 use Rattle.of10_port.specs.declared.features.Features.{Features}
@@ -18,7 +18,7 @@ use Rattle.desk_words.specs.declared.answer.Taken.TheVariants as takens
 use Rattle.desk_words.specs.declared.answer.Taken.TheVariants.{Message, NotOpen}
 use Rattle.desk_words.specs.declared.answer.Verdict.{Verdict}
 use Rattle.desk_words.specs.Openings.{ends_switch, rules_of, phase_of, phase_after, KnownSwitch as Known, switch_after, switch_of}
-use Rattle.desk_words.specs.Histories.{is_slot, settings_at, Side, side_start, items_of, with_shown, side_of, is_open, is_slice_up}
+use Rattle.desk_words.specs.Histories.{is_slot, settings_at, SliceSide, side_start, items_of, with_shown, side_of, is_open, is_slice_up}
 use Rattle.desk_words.specs.Numbers.{AreNumbered}
 use Rattle.desk_words.specs.Sent.{sent_with, put_with, lane_in, echo_for}
 use Rattle.desk_words.specs.Verdicts.{is_ended, is_before, is_closing}
@@ -31,28 +31,28 @@ use Rattle.proxy_core.specs.Slots.{HasMore, HasOnly}
 -- ---- what a desk stands for: what is known of the switch, what each slice sees, and what waits
 
 -- the state and the queue at a slot belong to what its slice sees and to what waits for it
-pub record SlotStands (policy : PolicyView) (slot : ℕ) (switch : Known) (side : Side) (q : Queue) (state : SliceState) (queue : Kept) : Type 0 where
+pub record SlotStands (policy : PolicyView) (slot : ℕ) (switch : Known) (side : SliceSide) (q : Queue) (state : SliceState) (queue : OutboxState) : Type 0 where
   pub state_stands : SliceStands (settings_at policy slot switch.features) side.sight state
   pub queue_stands : QueueStands slice_limit q queue
 
 -- the switch told these features first, its policy and its ports are so known, and each slot stands
-pub record SessionStands (policy : PolicyView) (switch : Known) (sides : ℕ → Side) (queues : ℕ → Queue) (session : Session) : Type 0 where
+pub record SessionStands (policy : PolicyView) (switch : Known) (sides : ℕ → SliceSide) (queues : ℕ → Queue) (session : Session) : Type 0 where
   pub told : switch.features ≡ Some session.features
   pub slices : session.policy.slices ≡ policy.slices
   pub rules : session.policy.rules ≡ rules_of policy switch.features
   pub known : session.ports ≡ switch.known
   pub states_count : length session.states.items ≡ length policy.slices
   pub queues_count : length session.queues.items ≡ length policy.slices
-  pub each : (slot : ℕ) (state : SliceState) (queue : Kept) → slice_get session.states.items slot ≡ Some state → slice_get session.queues.items slot ≡ Some queue
+  pub each : (slot : ℕ) (state : SliceState) (queue : OutboxState) → slice_get session.states.items slot ≡ Some state → slice_get session.queues.items slot ≡ Some queue
       → SlotStands policy slot switch (sides slot) (queues slot) state queue
 
 -- there is no session before the switch has told what it is, and nothing waits for a slice
-abbrev pub Opens : PolicyView → Known → (ℕ → Side) → (ℕ → Queue) → Option Session → Type 0
+abbrev pub Opens : PolicyView → Known → (ℕ → SliceSide) → (ℕ → Queue) → Option Session → Type 0
 Opens policy switch sides queues None = (switch.features ≡ None) × ((slot : ℕ) → queues slot ≡ no_messages)
 Opens policy switch sides queues (Some session) = SessionStands policy switch sides queues session
 
 -- all of a desk but its count of events
-pub record Body (policy : PolicyView) (switch : Known) (sides : ℕ → Side) (queues : ℕ → Queue) (lane_queue : Queue) (desk : Desk) : Type 0 where
+pub record Body (policy : PolicyView) (switch : Known) (sides : ℕ → SliceSide) (queues : ℕ → Queue) (lane_queue : Queue) (desk : Desk) : Type 0 where
   pub same_policy : desk.policy ≡ policy
   pub phase : desk.phase ≡ switch.phase
   pub lane : QueueStands lane_limit lane_queue desk.lane
@@ -62,7 +62,7 @@ pub record Body (policy : PolicyView) (switch : Known) (sides : ℕ → Side) (q
 -- ---- what holds of every history
 
 -- what is known of a switch and what slices see fit together
-pub record Coherent (policy : PolicyView) (switch : Known) (sides : ℕ → Side) : Type 0 where
+pub record Coherent (policy : PolicyView) (switch : Known) (sides : ℕ → SliceSide) : Type 0 where
   pub open_told : switch.phase ≡ Opened → (features : Features) × (switch.features ≡ Some features)
   pub before_untold : is_before switch.phase ≡ true → switch.features ≡ None
   pub blind : switch.features ≡ None → (slot : ℕ) → sides slot ≡ side_start
@@ -71,48 +71,48 @@ pub record Coherent (policy : PolicyView) (switch : Known) (sides : ℕ → Side
   pub numbered : (slot : ℕ) → is_slot policy slot ≡ true → AreNumbered (settings_at policy slot switch.features) (sides slot)
 
 -- whether each slice is up
-abbrev pub up_now : Known → (ℕ → Side) → ℕ → Bool
+abbrev pub up_now : Known → (ℕ → SliceSide) → ℕ → Bool
 up_now switch sides slot = is_open switch.phase && is_up (sides slot).sight.view
 
 -- ---- after an event
 
 -- what each slice sees after an event
-abbrev pub sides_after : PolicyView → Known → (ℕ → Side) → Timed → ℕ → Side
+abbrev pub sides_after : PolicyView → Known → (ℕ → SliceSide) → Timed → ℕ → SliceSide
 sides_after policy switch sides timed slot = with_shown switch.phase timed (items_of policy slot switch (sides slot) timed) (sides slot)
 
 -- whether each slice is up after it
-abbrev pub up_after : PolicyView → Known → (ℕ → Side) → Timed → ℕ → Bool
+abbrev pub up_after : PolicyView → Known → (ℕ → SliceSide) → Timed → ℕ → Bool
 up_after policy switch sides timed slot = is_open (phase_after switch.phase timed.event) && is_up (sides_after policy switch sides timed slot).sight.view
 
 -- what waits for each slice after it
-abbrev pub queues_after : PolicyView → Known → (ℕ → Side) → (ℕ → Queue) → Timed → ℕ → Queue
+abbrev pub queues_after : PolicyView → Known → (ℕ → SliceSide) → (ℕ → Queue) → Timed → ℕ → Queue
 queues_after policy switch sides queues timed slot =
     push_all slice_limit (if empties slot (up_after policy switch sides timed slot) timed.event then no_messages else queues slot) (sent_with policy slot switch (sides slot) timed)
 
 -- what waits for the switch after it
-abbrev pub lane_after : PolicyView → Known → (ℕ → Side) → Queue → Timed → Queue
+abbrev pub lane_after : PolicyView → Known → (ℕ → SliceSide) → Queue → Timed → Queue
 lane_after policy switch sides lane_queue timed =
     push_all lane_limit (if is_ending switch.phase timed.event then no_messages else lane_queue) (lane_in (λ slot. put_with policy slot switch (sides slot) timed) switch.phase timed.event)
 
 -- whether an event closes its connection
-abbrev pub closes_now : PolicyView → Known → (ℕ → Side) → Timed → Bool
+abbrev pub closes_now : PolicyView → Known → (ℕ → SliceSide) → Timed → Bool
 closes_now policy switch sides timed = is_closing policy switch.phase (up_after policy switch sides timed) (phase_after switch.phase timed.event) timed.event
 
 -- a desk after an event, and whether the connection goes on that the event came from
-pub record Acted (policy : PolicyView) (switch : Known) (sides : ℕ → Side) (queues : ℕ → Queue) (lane_queue : Queue) (timed : Timed) (go : Bool) (desk : Desk) : Type 0 where
+pub record Acted (policy : PolicyView) (switch : Known) (sides : ℕ → SliceSide) (queues : ℕ → Queue) (lane_queue : Queue) (timed : Timed) (go : Bool) (desk : Desk) : Type 0 where
   pub body : Body policy (switch_after switch timed.event) (sides_after policy switch sides timed) (queues_after policy switch sides queues timed) (lane_after policy switch sides lane_queue timed) desk
   pub goes_on : go ≡ not (closes_now policy switch sides timed)
 
 -- what the desk stood for before an event, it stands for with the event after it
 abbrev pub Acts : Desk → Timed → Bool → Desk → Type 0
 Acts old timed go new =
-    (policy : PolicyView) (switch : Known) (sides : ℕ → Side) (queues : ℕ → Queue) (lane_queue : Queue)
+    (policy : PolicyView) (switch : Known) (sides : ℕ → SliceSide) (queues : ℕ → Queue) (lane_queue : Queue)
     → Coherent policy switch sides → Body policy switch sides queues lane_queue old → is_ended switch.phase ≡ false → Acted policy switch sides queues lane_queue timed go new
 
 -- the same where the switch's connection is in a phase
 abbrev pub ActsIn : Phase → Desk → Timed → Bool → Desk → Type 0
 ActsIn phase old timed go new =
-    (policy : PolicyView) (switch : Known) (sides : ℕ → Side) (queues : ℕ → Queue) (lane_queue : Queue)
+    (policy : PolicyView) (switch : Known) (sides : ℕ → SliceSide) (queues : ℕ → Queue) (lane_queue : Queue)
     → Coherent policy switch sides → Body policy switch sides queues lane_queue old → switch.phase ≡ phase → Acted policy switch sides queues lane_queue timed go new
 
 -- the switch's connection ended, and nothing waits for it
@@ -123,7 +123,7 @@ pub record Ends (old new : Desk) : Type 0 where
   pub session : new.session ≡ old.session
 
 -- a message of the switch went to the session, or has a bad length, so that the session stands for what it stood for
-abbrev pub PassedOn : PolicyView → Known → (ℕ → Side) → (ℕ → Queue) → Timed → List ℕ → Bool → Desk → Desk → Type 0
+abbrev pub PassedOn : PolicyView → Known → (ℕ → SliceSide) → (ℕ → Queue) → Timed → List ℕ → Bool → Desk → Desk → Type 0
 PassedOn policy switch sides queues timed message true old new =
     (ends_switch message ≡ false) × (new.policy ≡ old.policy) × (new.phase ≡ old.phase)
     × Opens policy (switch_after switch timed.event) (sides_after policy switch sides timed) (queues_after policy switch sides queues timed) new.session
@@ -132,7 +132,7 @@ PassedOn policy switch sides queues timed message false old new = (ends_switch m
 
 abbrev pub PassesOn : ℕ → List ℕ → Bool → Desk → Desk → Type 0
 PassesOn moment message go old new =
-    (policy : PolicyView) (switch : Known) (sides : ℕ → Side) (queues : ℕ → Queue) (lane_queue : Queue)
+    (policy : PolicyView) (switch : Known) (sides : ℕ → SliceSide) (queues : ℕ → Queue) (lane_queue : Queue)
     → Coherent policy switch sides → Body policy switch sides queues lane_queue old → switch.phase ≡ Opened
     → PassedOn policy switch sides queues (record { event = SwitchMsg message; moment = moment }) message go old new
 
@@ -154,13 +154,13 @@ abbrev pub lane_less : Dest → Queue → Queue
 lane_less dest lane_queue = if is_switch dest then without_first lane_queue else lane_queue
 
 -- the first message that waits for a destination was taken
-pub record TookNext (policy : PolicyView) (switch : Known) (sides : ℕ → Side) (queues : ℕ → Queue) (lane_queue : Queue) (dest : Dest) (next : Option (List ℕ)) (desk : Desk) : Type 0 where
+pub record TookNext (policy : PolicyView) (switch : Known) (sides : ℕ → SliceSide) (queues : ℕ → Queue) (lane_queue : Queue) (dest : Dest) (next : Option (List ℕ)) (desk : Desk) : Type 0 where
   pub first : next ≡ slice_get (waiting_in dest queues lane_queue).pending 0
   pub body : Body policy switch sides (queues_less dest queues) (lane_less dest lane_queue) desk
 
 abbrev pub TakesNext : Desk → Dest → Option (List ℕ) → Desk → Type 0
 TakesNext old dest next new =
-    (policy : PolicyView) (switch : Known) (sides : ℕ → Side) (queues : ℕ → Queue) (lane_queue : Queue) → Body policy switch sides queues lane_queue old → TookNext policy switch sides queues lane_queue dest next new
+    (policy : PolicyView) (switch : Known) (sides : ℕ → SliceSide) (queues : ℕ → Queue) (lane_queue : Queue) → Body policy switch sides queues lane_queue old → TookNext policy switch sides queues lane_queue dest next new
 
 -- what is said of a slice before the switch has told what it is
 abbrev pub silence_before : PolicyView → ℕ → Taken
@@ -169,7 +169,7 @@ silence_before policy slot = if is_slot policy slot then NotOpen else takens.End
 -- what there is to say of a destination for which nothing waits, by all that a desk stands for
 abbrev pub IsSilence : Desk → Dest → Taken → Type 0
 IsSilence desk dest taken =
-    (policy : PolicyView) (switch : Known) (sides : ℕ → Side) (queues : ℕ → Queue) (lane_queue : Queue)
+    (policy : PolicyView) (switch : Known) (sides : ℕ → SliceSide) (queues : ℕ → Queue) (lane_queue : Queue)
     → Coherent policy switch sides → Body policy switch sides queues lane_queue desk → taken ≡ why_none policy switch.phase (up_now switch sides) dest (waiting_in dest queues lane_queue).choked
 
 abbrev pub is_message : Taken → Bool
@@ -187,7 +187,7 @@ left (Slice slot) desk = pending_at slot desk.session
 
 -- what the desk stood for it stands for still
 abbrev pub Stays : Desk → Desk → Type 0
-Stays old new = (policy : PolicyView) (switch : Known) (sides : ℕ → Side) (queues : ℕ → Queue) (lane_queue : Queue) → Body policy switch sides queues lane_queue old → Body policy switch sides queues lane_queue new
+Stays old new = (policy : PolicyView) (switch : Known) (sides : ℕ → SliceSide) (queues : ℕ → Queue) (lane_queue : Queue) → Body policy switch sides queues lane_queue old → Body policy switch sides queues lane_queue new
 
 -- ---- operations
 

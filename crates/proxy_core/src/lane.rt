@@ -9,8 +9,8 @@ ghost use Rattle.proxy_core.specs.Slots.{HasMore};
 
 use of10_action::Actions;
 use of10_config::set_config;
-use of10_ctl::kind::{BARRIER_REQUEST, ECHO_REPLY, FEATURES_REQUEST, HELLO};
-use of10_ctl::{Frame, message};
+use of10_ctl::kind::{BARRIER_REQUEST, FEATURES_REQUEST, HELLO};
+use of10_ctl::{Frame, echo_reply, message};
 use of10_flow::FlowMod;
 use of10_flow::protocol::{DELETE, NO_BUFFER};
 use of10_match::Match;
@@ -94,7 +94,7 @@ pub(crate) fn echo(alloc: Global, xid: u32, said: &FromSwitch<'_>) -> Result<Vec
 {
     let mut messages = Vec::new(alloc);
     if let FromSwitch::EchoRequest(body) = said {
-        messages.push(message(alloc, ECHO_REPLY, xid, body)?)?;
+        messages.push(echo_reply(alloc, xid, body)?)?;
     }
     Ok(messages)
 }

@@ -3,10 +3,7 @@ use Rattle.std.proofs.Common.{◌≡◌, ℕ, Bool, true, if◌then◌else◌, L
 use Rattle.of10_port.specs.declared.features.Features.{Features}
 use Rattle.of10_message.specs.declared.controller.FromController.{FromController}
 use Rattle.of10_message.specs.declared.controller.FromController.TheVariants as said
-use Rattle.of10_message.specs.declared.fault.Unread.{Unread}
-use Rattle.of10_message.specs.declared.fault.MessageFault.{MessageFault}
-use Rattle.of10_message.specs.declared.fault.MessageFault.TheVariants as faults
-use Rattle.of10_message.specs.Controller.{GivesMessage, read_controller}
+use Rattle.of10_message.specs.Controller.{read_controller}
 use Rattle.flowspace.specs.Policies.{SwitchView}
 use Rattle.port_view.specs.SlicePorts.{ports_of_slice, features_with}
 use Rattle.flow_book.specs.declared.state.SliceState.{SliceState}
@@ -53,13 +50,10 @@ asked_answer s view past moment message said.BarrierRequest is = refl
 asked_answer s view past moment message (said.QueueGetConfigRequest queues) is = refl
 asked_answer s view past moment message said.Hello is = absurd (true≢false (sym is))
 asked_answer s view past moment message said.Error is = absurd (true≢false (sym is))
-asked_answer s view past moment message said.EchoRequest is = absurd (true≢false (sym is))
+asked_answer s view past moment message (said.EchoRequest body) is = absurd (true≢false (sym is))
 asked_answer s view past moment message said.EchoReply is = absurd (true≢false (sym is))
 asked_answer s view past moment message said.Vendor is = absurd (true≢false (sym is))
 asked_answer s view past moment message said.FeaturesRequest is = absurd (true≢false (sym is))
 asked_answer s view past moment message said.GetConfigRequest is = absurd (true≢false (sym is))
 asked_answer s view past moment message (said.SetConfig config) is = absurd (true≢false (sym is))
 asked_answer s view past moment message said.PortMod is = absurd (true≢false (sym is))
-
-pub unread_is : (fault : MessageFault) (found : Unread) (read : Reading) → fault ≡ faults.Unread found → GivesMessage (Err fault) read → read ≡ Err found
-unread_is fault found read is gives = subst (λ (f : MessageFault). GivesMessage (Err f) read) is gives

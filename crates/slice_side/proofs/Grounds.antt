@@ -6,6 +6,7 @@ use Rattle.std.proofs.lemmas.List.Concat.{flat_map-cons}
 use Rattle.std.proofs.lemmas.List.Elements.{All-nil, All-cons}
 use Rattle.of10_action.specs.declared.action.Action.{Action}
 use Rattle.of10_action.specs.declared.action.Action.TheVariants.{Output}
+use Rattle.of10_action.specs.Reading.{list_given}
 use Rattle.of10_flow.specs.declared.flow_mod.FlowMod.{FlowMod}
 use Rattle.of10_flow.specs.declared.packet_out.PacketOut.{PacketOut}
 use Rattle.of10_port.specs.declared.features.Features.{Features}
@@ -26,7 +27,7 @@ use Rattle.flow_book.proofs.Counts.{fits_same, overlaps_same}
 use Rattle.xid_map.specs.Requests.{issued, physical_of}
 use Rattle.slice_words.specs.Items.{Settings, Sight, lone_rules}
 use Rattle.flowspace.specs.Options.{first_some, when}
-use Rattle.slice_words.specs.FlowMods.{Ground, ground_of, pieces_on, packet_at, list_given, too_many_actions, is_too_long, flow_mod_fault}
+use Rattle.slice_words.specs.FlowMods.{Ground, ground_of, pieces_on, packet_at, too_many_actions, is_too_long, flow_mod_fault}
 use Rattle.slice_words.specs.Pasts.{SendsOut}
 use Rattle.slice_words.specs.Buffers.{HeldPacket}
 use Rattle.slice_words.specs.PacketOuts.{permitted_out, sent_out_with, sent_out, names_no_packet, comes_by_another, carries_another, forbidden_out, packet_out_size, packet_out_fault}

@@ -10,11 +10,12 @@ use Rattle.of10_flow.specs.Tables.{is_delete}
 use Rattle.of10_flow.specs.declared.protocol.TheConstants.{NO_BUFFER}
 use Rattle.of10_model.specs.declared.pattern.Pattern.{Pattern}
 use Rattle.of10_action.specs.declared.action.Action.{Action}
+use Rattle.of10_action.specs.Reading.{list_given}
 use Rattle.flowmod_expand.specs.Messages.{are_too_large, flow_messages, GivesMessages}
 use Rattle.flowmod_expand.specs.declared.fault.BuildFault.{BuildFault}
 use Rattle.flowmod_expand.specs.declared.fault.BuildFault.TheVariants.{TooLarge}
 use Rattle.flowspace.specs.Options.{first_some, when}
-use Rattle.slice_words.specs.FlowMods.{Ground, first_refusal, list_given, permitted_on, entry_not_permitted, bad_command, wrong_command, emergency, buffer_not_held, outside_flowspace, forbidden_action, first_forbidden, too_large, is_too_long, pieces_on, lists_on, sent_on, flow_mods_on, is_packet_in, unknown_buffer, overlapping, over_quota, flow_mod_fault, too_many_actions, bad_action}
+use Rattle.slice_words.specs.FlowMods.{Ground, first_refusal, permitted_on, entry_not_permitted, bad_command, wrong_command, emergency, buffer_not_held, outside_flowspace, forbidden_action, first_forbidden, too_large, is_too_long, pieces_on, lists_on, sent_on, flow_mods_on, is_packet_in, unknown_buffer, overlapping, over_quota, flow_mod_fault, too_many_actions, bad_action}
 use Rattle.slice_words.specs.Alone.{rendered}
 use Rattle.slice_words.proofs.Forwarding.{rendered_sent, same_large}
 use Rattle.flow_book.specs.declared.state.SliceState.{SliceState}

@@ -6,7 +6,8 @@ use Rattle.std.proofs.lemmas.List.Folds.{list_any-append}
 use Rattle.std.specs.List.{list_any}
 use Rattle.of10_model.specs.declared.pattern.Pattern.{Pattern}
 use Rattle.of10_action.specs.declared.action.Action.{Action}
-use Rattle.slice_words.specs.FlowMods.{first_refusal, list_given, is_too_long}
+use Rattle.of10_action.specs.Reading.{list_given}
+use Rattle.slice_words.specs.FlowMods.{first_refusal, is_too_long}
 use Rattle.slice_side.specs.Checking.{AreListed}
 
 -- ---- lists behind others

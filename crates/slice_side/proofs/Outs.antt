@@ -11,6 +11,7 @@ use Rattle.of10_model.specs.Pattern.{has}
 use Rattle.of10_model.specs.Inclusion.{any_in_port}
 use Rattle.of10_action.specs.declared.action.Action.{Action}
 use Rattle.of10_action.specs.Actions.{padding}
+use Rattle.of10_action.specs.Reading.{list_given}
 use Rattle.of10_flow.specs.declared.packet_out.PacketOut.{PacketOut}
 use Rattle.of10_flow.specs.PacketOuts.{spell_packet_out}
 use Rattle.of10_port.specs.declared.protocol.TheConstants.{NONE, CONTROLLER}
@@ -24,7 +25,7 @@ use Rattle.slice_words.specs.Items.{lone_rules}
 use Rattle.slice_words.specs.Pasts.{SendsOut}
 use Rattle.slice_words.specs.Buffers.{HeldPacket}
 use Rattle.flowspace.specs.Options.{first_some, when}
-use Rattle.slice_words.specs.FlowMods.{Ground, packet_at, list_given, unknown_buffer, bad_action, too_many_actions, is_too_long, not_permitted}
+use Rattle.slice_words.specs.FlowMods.{Ground, packet_at, unknown_buffer, bad_action, too_many_actions, is_too_long, not_permitted}
 use Rattle.slice_words.specs.PacketOuts.{is_buffered_out, carried_header, is_probe, may_come_by, lies_aside, permitted_out, sent_out_with, packet_out_on, sent_out, names_no_packet, comes_by_another, carries_another, code_given, packet_out_size, packet_out_fault}
 use Rattle.slice_words.specs.Alone.{rendered}
 use Rattle.slice_words.specs.Standing.{held_as}

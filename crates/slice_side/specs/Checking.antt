@@ -5,6 +5,7 @@ use Rattle.of10_model.specs.declared.pattern.Pattern.{Pattern}
 use Rattle.of10_action.specs.declared.action.Action.{Action}
 use Rattle.of10_flow.specs.declared.flow_mod.FlowMod.{FlowMod}
 use Rattle.of10_action.specs.declared.action.Action.TheVariants.{Output}
+use Rattle.of10_action.specs.Reading.{list_given}
 use Rattle.of10_flow.specs.declared.packet_out.PacketOut.{PacketOut}
 use Rattle.of10_flow.specs.declared.protocol.TheConstants.{NO_BUFFER}
 use Rattle.of10_flow.specs.FlowMods.{spell_flow_mod}
@@ -29,7 +30,7 @@ use Rattle.slice_side.specs.Reactions.{without_physical, ground_at}
 use Rattle.slice_side.specs.declared.packet_outs.PacketOutcome.{PacketOutcome}
 use Rattle.slice_side.specs.declared.packet_outs.PacketOutcome.TheVariants as packet_outcome
 use Rattle.flowspace.specs.Options.{first_some}
-use Rattle.slice_words.specs.FlowMods.{Ground, pieces_on, first_refusal, list_given, is_too_long, first_forbidden, lists_on, packet_at, named_packet, is_packet_in, piece_place, carrier_of, wrong_command, emergency, buffer_not_held, outside_flowspace, flow_mod_fault}
+use Rattle.slice_words.specs.FlowMods.{Ground, pieces_on, first_refusal, is_too_long, first_forbidden, lists_on, packet_at, named_packet, is_packet_in, piece_place, carrier_of, wrong_command, emergency, buffer_not_held, outside_flowspace, flow_mod_fault}
 use Rattle.slice_side.specs.declared.pieces.Checked.{Checked}
 use Rattle.slice_side.specs.declared.pieces.Checked.TheVariants as checked
 use Rattle.slice_side.specs.declared.pieces.Listing.{Listing}

@@ -47,7 +47,8 @@ pub enum Change {
         moment: u64,
         asked: Asked,
         used: Option<u32>,
-    }, /// A barrier, a question for queues or a request for statistics came that is sent on (OpenFlow 1.0.0,
+    },
+    /// A barrier, a question for queues or a request for statistics came that is sent on (OpenFlow 1.0.0,
     /// sections 5.3.7, 5.3.4 and 5.3.5): the request as it is remembered. Statistics begin to collect.
     Inquired {
         moment: u64,

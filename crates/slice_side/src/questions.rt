@@ -118,7 +118,7 @@ fn packet_out(
 pub(crate) fn question(
     alloc: Global,
     around: &Around<'_>,
-    message: &FromController,
+    message: &FromController<'_>,
     frame: &Frame,
     moment: u64,
 ) -> Result<Reaction, AllocError>
@@ -138,8 +138,10 @@ pub(crate) fn question(
         );
     }
     match message {
-        FromController::FlowMod(m) => flow_mod(alloc, around, m, frame, moment),
-        FromController::PacketOut(m) => packet_out(alloc, around, m, frame, moment),
+        FromController::FlowMod(m) => flow_mod(alloc, around, &m.copied(alloc)?, frame, moment),
+        FromController::PacketOut(m) => {
+            packet_out(alloc, around, &m.copied(alloc)?, frame, moment)
+        }
         FromController::StatsRequest(request) => {
             statistics(alloc, around, request, frame, moment)
         }

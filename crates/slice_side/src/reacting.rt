@@ -12,13 +12,13 @@ use crate::replying::{Around, local, unread};
 use flow_book::SliceState;
 use flowspace::SwitchPolicy;
 use of10_ctl::Frame;
-use of10_message::{FromController, MessageFault, read_controller};
+use of10_message::{FromController, read_controller};
 use of10_port::Features;
 use port_view::PortView;
 use std::alloc::{AllocError, Global};
 
 /// Whether a message asks something of the switch.
-fn asks_switch(message: &FromController) -> bool
+fn asks_switch(message: &FromController<'_>) -> bool
     ensures { result ≡ asks_switch (Ok message.now) }
 {
     matches!(
@@ -56,11 +56,8 @@ pub fn react(
         slot,
         state,
     };
-    match read_controller(alloc, frame) {
-        Err(fault) => match fault {
-            MessageFault::Memory => Err(AllocError),
-            MessageFault::Unread(found) => unread(alloc, found, frame, moment),
-        },
+    match read_controller(frame) {
+        Err(fault) => unread(alloc, fault, frame, moment),
         Ok(message) => {
             if asks_switch(&message) {
                 question(alloc, &around, &message, frame, moment)

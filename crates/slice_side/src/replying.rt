@@ -5,7 +5,8 @@ ghost use Rattle.of10_message.specs.declared.controller.FromController.TheVarian
 ghost use Rattle.slice_words.specs.Messages.{asks_switch};
 ghost use Rattle.slice_words.specs.Items.{Settings, Sight};
 ghost use Rattle.slice_words.specs.Pasts.{Past};
-ghost use Rattle.slice_words.specs.Answers.{error_for, unread_answer, config_reply, setting_answer, read_answer};
+ghost use Rattle.slice_words.specs.Answers.{error_for, unread_answer, config_told, setting_answer, read_answer};
+ghost use Rattle.of10_ctl.specs.Frames.{echo_reply_to};
 ghost use Rattle.of10_port.specs.Features.{spell_features};
 ghost use Rattle.of10_message.specs.Heads.{xid_of};
 ghost use Rattle.port_view.specs.SlicePorts.{ports_of_slice, features_with};
@@ -22,7 +23,7 @@ use of10_action::error::{
     REQUEST_NOT_PERMITTED,
 };
 use of10_config::config_reply;
-use of10_ctl::{Frame, echo_reply, error_frame};
+use of10_ctl::{BodyView, Frame, echo_reply, error_frame};
 use of10_message::{FromController, SwitchConfig, Unread};
 use of10_port::Features;
 use port_view::PortView;
@@ -134,9 +135,16 @@ pub(crate) fn unread(
     }
 }
 
+/// The reply to ECHO_REQUEST (OpenFlow 1.0.0, section 5.5).
+fn echo(alloc: Global, body: &BodyView<'_>, frame: &Frame) -> Result<Frame, AllocError>
+    ensures { IfOk result (λ reply. reply ≡ echo_reply_to (xid_of frame.now) body.now) }
+{
+    echo_reply(alloc, frame.head().xid, body)
+}
+
 /// The reply to GET_CONFIG_REQUEST (OpenFlow 1.0.0, section 5.3.2).
 fn config(alloc: Global, wanted: u16, frame: &Frame) -> Result<Frame, AllocError>
-    ensures { IfOk result (λ reply. reply ≡ config_reply wanted frame.now) }
+    ensures { IfOk result (λ reply. reply ≡ config_told wanted frame.now) }
 {
     let config = SwitchConfig {
         flags: 0,
@@ -202,7 +210,7 @@ fn features(alloc: Global, around: &Around<'_>, frame: &Frame) -> Result<Frame, 
 pub(crate) fn local(
     alloc: Global,
     around: &Around<'_>,
-    message: &FromController,
+    message: &FromController<'_>,
     frame: &Frame,
     moment: u64,
 ) -> Result<Reaction, AllocError>
@@ -212,7 +220,7 @@ pub(crate) fn local(
     ensures follows { (s : Settings) (sight : Sight) (past : List Past) → Shown sight.view around.now.policy.now.rules around.now.ports.now around.now.features.now around.now.slot around.now.state.now.miss_send_len → IfOk result (Follows s sight frame.now (Ok message.now) (read_answer s sight.view past moment message.now frame.now) moment) }
 {
     match message {
-        FromController::EchoRequest => replied(alloc, echo_reply(alloc, frame)?, moment),
+        FromController::EchoRequest(body) => replied(alloc, echo(alloc, body, frame)?, moment),
         FromController::Vendor => refused(
             alloc,
             BAD_REQUEST,

@@ -22,7 +22,7 @@ use Rattle.slice_words.specs.Pasts.{ForStatistics, Answer, Past, no_answer, told
 use Rattle.slice_words.specs.FlowMods.{ground_of, flow_mod_fault, sent_on, not_permitted}
 use Rattle.slice_words.specs.PacketOuts.{packet_out_fault, sent_out}
 use Rattle.slice_words.specs.Questions.{may_ask, asking, statistics_asked, barrier_asked, queues_asked}
-use Rattle.slice_words.specs.Answers.{error_for, refused, refusal_of, no_common_version, bad_length, bad_vendor, config_reply, unread_answer, forwarded_answer, keeps_rate, rated_answer, read_answer, message_answer}
+use Rattle.slice_words.specs.Answers.{error_for, refused, refusal_of, no_common_version, bad_length, bad_vendor, config_told, unread_answer, forwarded_answer, keeps_rate, rated_answer, read_answer, message_answer}
 
 -- a property of answers, beside whether the connection is to end, holds of each kind of answer to a message
 pub record HoldsOfEach (P : Bool → Answer → Type 0) (s : Settings) (view : List Item) (past : List Past) (message : List ℕ) : Type 0 where
@@ -30,9 +30,9 @@ pub record HoldsOfEach (P : Bool → Answer → Type 0) (s : Settings) (view : L
   pub old : P true (dismissal (error_of (xid_of message) no_common_version.0 no_common_version.1 [] ∷ []))
   pub nothing : P false no_answer
   pub refuses : (fault : ℕ × ℕ) → P false (refused fault message)
-  pub echoes : P false (answered (echo_reply_to message ∷ []))
+  pub echoes : (body : List ℕ) → read_controller message ≡ Ok (said.EchoRequest body) → P false (answered (echo_reply_to (xid_of message) body ∷ []))
   pub tells_features : (features : Features) → P false (answered (spell_features (features_with features (known_ports view)) (xid_of message) ∷ []))
-  pub tells_configuration : P false (answered (config_reply (miss_send_len view) message ∷ []))
+  pub tells_configuration : P false (answered (config_told (miss_send_len view) message ∷ []))
   pub forwards : (m : FlowMod) → read_controller message ≡ Ok (said.FlowMod m) → flow_mod_fault (ground_of s view past) m ≡ None → P false (forwarded (sent_on (ground_of s view past) m))
   pub sends_out : (m : PacketOut) → read_controller message ≡ Ok (said.PacketOut m) → packet_out_fault (ground_of s view past) m ≡ None → P false (forwarded (sent_out (ground_of s view past) m))
   pub tells_table : P false (answered (table_reply (length (ground_of s view past).booked) s.quota (xid_of message) ∷ []))
@@ -79,7 +79,7 @@ forwarded_holds : (P : Bool → Answer → Type 0) (s : Settings) (view : List I
     → read_controller message ≡ Ok asked → P false (forwarded_answer s view past asked message)
 forwarded_holds P s view past message said.Hello each read = each.nothing
 forwarded_holds P s view past message said.Error each read = each.nothing
-forwarded_holds P s view past message said.EchoRequest each read = each.nothing
+forwarded_holds P s view past message (said.EchoRequest body) each read = each.nothing
 forwarded_holds P s view past message said.EchoReply each read = each.nothing
 forwarded_holds P s view past message said.Vendor each read = each.nothing
 forwarded_holds P s view past message said.FeaturesRequest each read = each.nothing
@@ -102,7 +102,7 @@ read_holds : (P : Bool → Answer → Type 0) (s : Settings) (view : List Item) 
 unfolding read_answer
 read_holds P s view past moment message said.Hello each read = each.nothing
 read_holds P s view past moment message said.Error each read = each.nothing
-read_holds P s view past moment message said.EchoRequest each read = each.echoes
+read_holds P s view past moment message (said.EchoRequest body) each read = each.echoes body read
 read_holds P s view past moment message said.EchoReply each read = each.nothing
 read_holds P s view past moment message said.Vendor each read = each.refuses bad_vendor
 read_holds P s view past moment message said.FeaturesRequest each read = features_holds P s view past message (features_in view) each

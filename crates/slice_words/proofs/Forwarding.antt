@@ -5,6 +5,7 @@ use Rattle.std.proofs.lemmas.Bool.{or_parts}
 use Rattle.std.proofs.lemmas.List.Sums.{sum_by-cons}
 use Rattle.of10_model.specs.declared.pattern.Pattern.{Pattern}
 use Rattle.of10_action.specs.declared.action.Action.{Action}
+use Rattle.of10_action.specs.Reading.{list_given}
 use Rattle.of10_flow.specs.declared.flow_mod.FlowMod.{FlowMod}
 use Rattle.of10_flow.specs.declared.packet_out.PacketOut.{PacketOut}
 use Rattle.of10_flow.specs.declared.protocol.TheConstants.{NO_BUFFER}
@@ -18,7 +19,6 @@ use Rattle.slice_words.specs.Buffers.{HeldPacket}
 use Rattle.flowspace.specs.Options.{first_some, when}
 use Rattle.slice_words.specs.FlowMods.{Ground, pieces_on, packet_at, named_packet, naming, carrier_of, sent_on, wrong_command, emergency, buffer_not_held, outside_flowspace, forbidden_action, is_too_long, lists_on, flow_mods_on, too_large, too_many_actions, overlapping, over_quota, flow_mod_fault}
 use Rattle.slice_words.specs.PacketOuts.{names_no_packet, comes_by_another, carries_another, forbidden_out, out_too_large, packet_out_on, packet_out_size, permitted_out, packet_out_fault}
-use Rattle.slice_words.specs.FlowMods.{list_given}
 use Rattle.slice_words.specs.Alone.{number_it_came_with, rendered}
 
 -- ---- the switch's number of the packet

@@ -86,8 +86,8 @@ abbrev pub features_answer : List Item → List ℕ → Answer
 features_answer view message = elim (features_in view) [ None ↦ no_answer | Some features ↦ told (spell_features (features_with features (known_ports view)) (xid_of message) ∷ []) ]
 
 -- the reply to GET_CONFIG_REQUEST: no flags, and what the controller set (section 5.3.2)
-abbrev pub config_reply : ℕ → List ℕ → List ℕ
-config_reply length_set message = spell_config_reply (xid_of message) (record { flags = 0; miss_send_len = length_set })
+abbrev pub config_told : ℕ → List ℕ → List ℕ
+config_told length_set message = spell_config_reply (xid_of message) (record { flags = 0; miss_send_len = length_set })
 
 -- SET_CONFIG is taken where it asks for fragments to be handled as usual (section 5.3.2)
 abbrev pub setting_answer : SwitchConfig → List ℕ → Answer
@@ -130,11 +130,11 @@ rated_answer s view past moment asked message = if keeps_rate s view past moment
 unfoldable pub read_answer : Settings → List Item → List Past → ℕ → FromController → List ℕ → Answer
 read_answer s view past moment said.Hello message = no_answer
 read_answer s view past moment said.Error message = no_answer
-read_answer s view past moment said.EchoRequest message = told (echo_reply_to message ∷ [])
+read_answer s view past moment (said.EchoRequest body) message = told (echo_reply_to (xid_of message) body ∷ [])
 read_answer s view past moment said.EchoReply message = no_answer
 read_answer s view past moment said.Vendor message = refused bad_vendor message
 read_answer s view past moment said.FeaturesRequest message = features_answer view message
-read_answer s view past moment said.GetConfigRequest message = told (config_reply (miss_send_len view) message ∷ [])
+read_answer s view past moment said.GetConfigRequest message = told (config_told (miss_send_len view) message ∷ [])
 read_answer s view past moment (said.SetConfig config) message = setting_answer config message
 read_answer s view past moment said.PortMod message = refused not_permitted message
 read_answer s view past moment asked message = rated_answer s view past moment asked message

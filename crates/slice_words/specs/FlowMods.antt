@@ -6,6 +6,7 @@ use Rattle.of10_model.specs.Header.{Header}
 use Rattle.of10_model.specs.Pattern.{has}
 use Rattle.of10_action.specs.declared.action.Action.{Action}
 use Rattle.of10_action.specs.Actions.{spelling}
+use Rattle.of10_action.specs.Reading.{list_given}
 use Rattle.of10_flow.specs.declared.protocol.TheConstants.{NO_BUFFER, ADD, DELETE_STRICT, CHECK_OVERLAP, EMERG}
 use Rattle.of10_flow.specs.declared.flow_mod.FlowMod.{FlowMod}
 use Rattle.of10_flow.specs.FlowMods.{spell_flow_mod}
@@ -63,11 +64,6 @@ abbrev pub first_refusal : {A : Type 0} → List (Result A ℕ) → Option ℕ
 first_refusal [] = None
 first_refusal (Ok x ∷ others) = first_refusal others
 first_refusal (Err code ∷ others) = Some code
-
--- the list that is given, and none where a code is
-abbrev pub list_given : Result (List Action) ℕ → List Action
-list_given (Ok actions) = actions
-list_given (Err code) = []
 
 -- the code of the first action that is forbidden, by piece and then by action; a delete's actions are disregarded
 abbrev pub first_forbidden : Ground → FlowMod → Option ℕ

@@ -6,6 +6,7 @@ use Rattle.of10_model.specs.Pattern.{has}
 use Rattle.of10_model.specs.Inclusion.{any_in_port}
 use Rattle.of10_action.specs.declared.action.Action.{Action}
 use Rattle.of10_action.specs.Actions.{spelling, padding}
+use Rattle.of10_action.specs.Reading.{list_given}
 use Rattle.of10_port.specs.declared.protocol.TheConstants.{NONE, CONTROLLER}
 use Rattle.of10_flow.specs.declared.protocol.TheConstants.{NO_BUFFER}
 use Rattle.of10_flow.specs.declared.packet_out.PacketOut.{PacketOut}
@@ -19,7 +20,7 @@ use Rattle.slice_words.specs.Items.{lone_rules, is_own_port}
 use Rattle.slice_words.specs.Pasts.{Outgoing, SendsOut}
 use Rattle.slice_words.specs.Buffers.{HeldPacket}
 use Rattle.flowspace.specs.Options.{first_some, when}
-use Rattle.slice_words.specs.FlowMods.{Ground, packet_at, list_given, unknown_buffer, bad_action, too_many_actions, is_too_long, not_permitted}
+use Rattle.slice_words.specs.FlowMods.{Ground, packet_at, unknown_buffer, bad_action, too_many_actions, is_too_long, not_permitted}
 
 -- ---- the packet
 

@@ -14,7 +14,7 @@ use Rattle.slice_words.specs.Items.{Item}
 use Rattle.desk_words.specs.declared.event.Event.TheVariants.{SwitchMsg}
 use Rattle.desk_words.specs.declared.phase.Phase.TheVariants.{Opened}
 use Rattle.desk_words.specs.Openings.{status_kept, rules_of, KnownSwitch}
-use Rattle.desk_words.specs.Histories.{is_slot, settings_at, items_of, number_told, packet_said, Side}
+use Rattle.desk_words.specs.Histories.{is_slot, settings_at, items_of, number_told, packet_said, SliceSide}
 use Rattle.switch_side.specs.declared.change.Change.{Change}
 use Rattle.switch_side.specs.declared.dispatch.Dispatch.{Dispatch}
 use Rattle.switch_side.specs.Changes.{SlotChanges}
@@ -29,10 +29,10 @@ use Rattle.switch_side.proofs.Turning.{IsWithin, EachFollows, unseen, sent_turn,
 use Rattle.switch_side.proofs.Turns.{called_at, removed_within, removals_follow, error_within, errors_follow}
 
 -- messages and changes that are those of the event
-abbrev Follow : PolicyView → KnownSwitch → (ℕ → Side) → ℕ → List ℕ → List (ℕ × List ℕ) → List (ℕ × Change) → Type 0
+abbrev Follow : PolicyView → KnownSwitch → (ℕ → SliceSide) → ℕ → List ℕ → List (ℕ × List ℕ) → List (ℕ × Change) → Type 0
 Follow p switch sides moment message told listed = (told ≡ sent_to_all p switch sides (told_at moment message) 0 p.slices) × AreChanges p switch sides moment message listed
 
-module _ (p : PolicyView) (switch : KnownSwitch) (sides : ℕ → Side) (moment : ℕ) (message : List ℕ) (states : List SliceState)
+module _ (p : PolicyView) (switch : KnownSwitch) (sides : ℕ → SliceSide) (moment : ℕ) (message : List ℕ) (states : List SliceState)
     (opened : switch.phase ≡ Opened) (same : length states ≡ length p.slices) (stand : AllStand p switch sides states) (numbered : AllNumbered p switch sides) where
   -- what is told and what changes, by what was read of the message
   abbrev FollowSaid : Result SwitchMessage Unread → Type 0
@@ -78,7 +78,7 @@ module _ (p : PolicyView) (switch : KnownSwitch) (sides : ℕ → Side) (moment 
   by_said slices said policy is right =
       (told_sent p switch sides moment message said states opened same stand is refl, none_changed said is (number_of_said switch message said opened is) refl refl)
 
-pub dispatched : (p : PolicyView) (switch : KnownSwitch) (sides : ℕ → Side) (moment : ℕ) (policy : SwitchView) (ports : List (List ℕ)) (states : List SliceState) (message : List ℕ) (d : Dispatch)
+pub dispatched : (p : PolicyView) (switch : KnownSwitch) (sides : ℕ → SliceSide) (moment : ℕ) (policy : SwitchView) (ports : List (List ℕ)) (states : List SliceState) (message : List ℕ) (d : Dispatch)
     → length states ≡ length policy.slices → IsSwitchPolicy policy.slices policy.rules → IfOk (read_switch message) IsSaid
     → Surrounds p switch policy ports → AllStand p switch sides states → AllNumbered p switch sides
     → carried d ≡ carried_for (called_at p switch sides) policy.rules ports states message → IsDispatch p switch sides moment message d

@@ -19,7 +19,7 @@ use Rattle.slice_words.specs.Standing.{past_of}
 use Rattle.desk_words.specs.declared.phase.Phase.TheVariants.{Opened}
 use Rattle.desk_words.specs.declared.event.Event.TheVariants.{SwitchMsg}
 use Rattle.desk_words.specs.Openings.{rules_of, KnownSwitch}
-use Rattle.desk_words.specs.Histories.{is_slot, settings_at, items_of, Side, holder, handed, header_in, number_given, number_told, marked_slot, shares_of, packet_items, packet_in_items}
+use Rattle.desk_words.specs.Histories.{is_slot, settings_at, items_of, SliceSide, holder, handed, header_in, number_given, number_told, marked_slot, shares_of, packet_items, packet_in_items}
 use Rattle.desk_words.specs.Numbers.{AreNumbered}
 use Rattle.desk_words.proofs.Numbering.{lost_of}
 use Rattle.switch_side.specs.declared.change.Change.{Change}
@@ -36,7 +36,7 @@ use Rattle.switch_side.proofs.Told.{has_item}
 
 -- ---- what is lost
 
-not_lost : (s : Settings) (side : Side) (physical : ℕ) (packet : HeldPacket) (found : Option ℕ) → AreNumbered s side → holder physical side.numbered ≡ found
+not_lost : (s : Settings) (side : SliceSide) (physical : ℕ) (packet : HeldPacket) (found : Option ℕ) → AreNumbered s side → holder physical side.numbered ≡ found
     → (number_it_came_with side.sight.came packet.ordinal == physical) ≡ false → is_lost found packet ≡ false
 not_lost s side physical packet None n is other = refl
 not_lost s side physical packet (Some k) n is other = elim (eqb_tells packet.ordinal k) [
@@ -44,7 +44,7 @@ not_lost s side physical packet (Some k) n is other = elim (eqb_tells packet.ord
   | inr apart ↦ apart.0
 ]
 
-by_number : (s : Settings) (side : Side) (physical : ℕ) (packet : HeldPacket) → AreNumbered s side → holder (number_it_came_with side.sight.came packet.ordinal) side.numbered ≡ Some packet.ordinal
+by_number : (s : Settings) (side : SliceSide) (physical : ℕ) (packet : HeldPacket) → AreNumbered s side → holder (number_it_came_with side.sight.came packet.ordinal) side.numbered ≡ Some packet.ordinal
     → (number_it_came_with side.sight.came packet.ordinal == physical) ≡ is_lost (holder physical side.numbered) packet
 by_number s side physical packet n at = elim (eqb_tells (number_it_came_with side.sight.came packet.ordinal) physical) [
   | inl same ↦
@@ -54,7 +54,7 @@ by_number s side physical packet n at = elim (eqb_tells (number_it_came_with sid
 ]
 
 -- of the packets that a slice holds the one that came last under a number is lost
-lost_only : (s : Settings) (side : Side) (physical : ℕ) → AreNumbered s side → IsLost s side.sight physical (holder physical side.numbered)
+lost_only : (s : Settings) (side : SliceSide) (physical : ℕ) → AreNumbered s side → IsLost s side.sight physical (holder physical side.numbered)
 lost_only s side physical n =
     λ k d within. by_number s side physical (get_or (held_packets (past_of s side.sight.view)) k d) n (n.held k d within)
 
@@ -105,7 +105,7 @@ module _ (s : Settings) (sight : Sight) (physical : ℕ) (packet : PacketIn) (lo
   by_up policy rules slot true is = up_change slot (is_some (number_given packet)) (marked_slot (length policy.slices) packet.payload) (first_rule rules (header_in packet)) is
   by_up policy rules slot false is = (refl, record { lost = lost; shares = []; packet = packet; shown = refl; only = only; none_given = refl })
 
-packet_change : (s : Settings) (policy : PolicyView) (rules : List Rule) (slot : ℕ) (side : Side) (packet : PacketIn) (physical : ℕ) (up : Bool) → number_given packet ≡ Some physical → AreNumbered s side → up ≡ is_up side.sight.view
+packet_change : (s : Settings) (policy : PolicyView) (rules : List Rule) (slot : ℕ) (side : SliceSide) (packet : PacketIn) (physical : ℕ) (up : Bool) → number_given packet ≡ Some physical → AreNumbered s side → up ≡ is_up side.sight.view
     → IsChangeOfItems s (Some physical) side.sight (packet_in_items policy rules slot side packet) (change_for (audience_of (length policy.slices) rules packet) physical (header_in packet) slot up)
 packet_change s policy rules slot side packet physical up given n is =
     subst (λ (found : Option ℕ). IsChangeOfItems s (Some physical) side.sight (lost_of found ++ packet_items policy rules slot side.sight.view packet) (change_for (audience_of (length policy.slices) rules packet) physical (header_in packet) slot up))
@@ -131,7 +131,7 @@ unkept_up s policy rules slot sight packet true none =
     (bit (unwrap_or (option_map (λ (rule : Rule). rule.readers) (first_rule rules (header_in packet))) 0) slot) (is_some (number_given packet)) (ap is_some none)) stands
 unkept_up s policy rules slot sight packet false none = λ state stands. stands
 
-unkept : (s : Settings) (policy : PolicyView) (rules : List Rule) (slot : ℕ) (side : Side) (packet : PacketIn) → number_given packet ≡ None → SlotChanges s None side.sight (packet_in_items policy rules slot side packet) []
+unkept : (s : Settings) (policy : PolicyView) (rules : List Rule) (slot : ℕ) (side : SliceSide) (packet : PacketIn) → number_given packet ≡ None → SlotChanges s None side.sight (packet_in_items policy rules slot side packet) []
 unkept s policy rules slot side packet none =
     subst (λ (found : Option ℕ). SlotChanges s None side.sight (lost_of found ++ packet_items policy rules slot side.sight.view packet) [])
     (sym (ap (option_and_then (λ number. holder number side.numbered)) none))
@@ -178,7 +178,7 @@ abbrev changed_among : ℕ → List Rule → List SliceState → PacketIn → Li
 changed_among count rules states packet = if packet.buffer == NO_BUFFER then [] else changes_from (change_for (audience_of count rules packet) packet.buffer (header_in packet)) 0 states
 
 module _ (policy : PolicyView) (rules : List Rule) (states : List SliceState) (slot : ℕ) where
-  by_kept : (s : Settings) (side : Side) (packet : PacketIn) (state : SliceState) (free : Bool) → (packet.buffer == NO_BUFFER) ≡ free → slice_get states slot ≡ Some state → AreNumbered s side → state.up ≡ is_up side.sight.view
+  by_kept : (s : Settings) (side : SliceSide) (packet : PacketIn) (state : SliceState) (free : Bool) → (packet.buffer == NO_BUFFER) ≡ free → slice_get states slot ≡ Some state → AreNumbered s side → state.up ≡ is_up side.sight.view
       → SlotChanges s (if free then None else Some packet.buffer) side.sight (packet_in_items policy rules slot side packet)
       (changes_for slot (if free then [] else changes_from (change_for (audience_of (length policy.slices) rules packet) packet.buffer (header_in packet)) 0 states))
   by_kept s side packet state true is there n up = unkept s policy rules slot side packet (ap (λ (free : Bool). if free then None else Some packet.buffer) is)
@@ -192,7 +192,7 @@ module _ (policy : PolicyView) (rules : List Rule) (states : List SliceState) (s
   none_kept_past packet true past = refl
   none_kept_past packet false past = none_past (change_for (audience_of (length policy.slices) rules packet) packet.buffer (header_in packet)) states 0 slot (omega (arith, past))
 
-module _ (p : PolicyView) (switch : KnownSwitch) (sides : ℕ → Side) (moment : ℕ) (message : List ℕ) (states : List SliceState)
+module _ (p : PolicyView) (switch : KnownSwitch) (sides : ℕ → SliceSide) (moment : ℕ) (message : List ℕ) (states : List SliceState)
     (opened : switch.phase ≡ Opened) (same : length states ≡ length p.slices) (stand : AllStand p switch sides states) (numbered : AllNumbered p switch sides)
     (packet : PacketIn) (is : read_switch message ≡ Ok (says.PacketIn packet)) where
   abbrev changed : ℕ → Option ℕ → List Item → List Change → Type 0

@@ -20,7 +20,7 @@ use Rattle.slice_words.specs.Statistics.{finished}
 use Rattle.slice_words.specs.Calls.{error_marks, failure, request_calls, collection_calls, book_calls}
 use Rattle.slice_words.specs.Standing.{SliceStands, past_of}
 use Rattle.desk_words.specs.Openings.{KnownSwitch}
-use Rattle.desk_words.specs.Histories.{settings_at, items_of, number_told, Side}
+use Rattle.desk_words.specs.Histories.{settings_at, items_of, number_told, SliceSide}
 use Rattle.desk_words.specs.declared.event.Event.TheVariants.{SwitchMsg}
 use Rattle.switch_side.specs.declared.change.Change.{Change}
 use Rattle.switch_side.specs.Changes.{seen_with, side_after, IsRemoval, IsFailure, IsAnswer, IsMore, IsEnd, IsChangeOfItems, changes_for, SlotChanges, IsMade, IsMadeAt, StateHasRoom, StateHasRoomAt, StatesHaveRoom, StandOn}
@@ -140,16 +140,16 @@ steps s number sight items change [] old new (stands, is) made = made stands is
 steps s number sight items change (other ∷ others) old new none made = absurd none
 
 -- the states while changes are made
-abbrev pub AllOnTheWay : PolicyView → KnownSwitch → (ℕ → Side) → ℕ → List ℕ → List (ℕ × Change) → List SliceState → Type 0
+abbrev pub AllOnTheWay : PolicyView → KnownSwitch → (ℕ → SliceSide) → ℕ → List ℕ → List (ℕ × Change) → List SliceState → Type 0
 AllOnTheWay p switch sides moment message listed states =
     (slot : ℕ) (state : SliceState) → slice_get states slot ≡ Some state
     → IsOnTheWay (settings_at p slot switch.features) (number_told switch.phase (SwitchMsg message)) (sides slot).sight (items_of p slot switch (sides slot) (told_at moment message)) (changes_for slot listed) state
 
-pub all_begin : (p : PolicyView) (switch : KnownSwitch) (sides : ℕ → Side) (moment : ℕ) (message : List ℕ) (listed : List (ℕ × Change)) (states : List SliceState)
+pub all_begin : (p : PolicyView) (switch : KnownSwitch) (sides : ℕ → SliceSide) (moment : ℕ) (message : List ℕ) (listed : List (ℕ × Change)) (states : List SliceState)
     → AllStand p switch sides states → AreChanges p switch sides moment message listed → AllOnTheWay p switch sides moment message listed states
 all_begin p switch sides moment message listed states stand are = λ slot state there. begins _ _ _ (items_of p slot switch (sides slot) (told_at moment message)) (changes_for slot listed) state (stand slot state there) (are slot)
 
-pub all_end : (p : PolicyView) (switch : KnownSwitch) (sides : ℕ → Side) (moment : ℕ) (message : List ℕ) (states : List SliceState)
+pub all_end : (p : PolicyView) (switch : KnownSwitch) (sides : ℕ → SliceSide) (moment : ℕ) (message : List ℕ) (states : List SliceState)
     → AllOnTheWay p switch sides moment message [] states → AllStand p switch (λ slot. side_after p slot switch (sides slot) (told_at moment message)) states
 all_end p switch sides moment message states way = way
 
@@ -168,7 +168,7 @@ some_before old new slot after None count there is =
     let item = has_item old slot (omega (arith, under, count)) in
     absurd (true≢false (sym (ap is_some (sym is ∙ item.1))))
 
-module _ (p : PolicyView) (switch : KnownSwitch) (sides : ℕ → Side) (moment : ℕ) (message : List ℕ) where
+module _ (p : PolicyView) (switch : KnownSwitch) (sides : ℕ → SliceSide) (moment : ℕ) (message : List ℕ) where
   abbrev way : ℕ → List Change → SliceState → Type 0
   way slot listed state = IsOnTheWay (settings_at p slot switch.features) (number_told switch.phase (SwitchMsg message)) (sides slot).sight (items_of p slot switch (sides slot) (told_at moment message)) listed state
 

@@ -9,7 +9,7 @@ use Rattle.flowspace.specs.Policies.{PolicyView}
 use Rattle.desk_words.specs.declared.event.Event.TheVariants.{SwitchMsg}
 use Rattle.desk_words.specs.declared.phase.Phase.TheVariants.{Opened}
 use Rattle.desk_words.specs.Openings.{KnownSwitch}
-use Rattle.desk_words.specs.Histories.{is_slot, Side, number_given, number_told, packet_said, said_items, message_items, phase_items, items_of}
+use Rattle.desk_words.specs.Histories.{is_slot, SliceSide, number_given, number_told, packet_said, said_items, message_items, phase_items, items_of}
 use Rattle.switch_side.specs.Dispatches.{told_at}
 
 -- what is for one slice at most
@@ -27,19 +27,19 @@ pub number_of_said : (switch : KnownSwitch) (message : List ℕ) (said : Result 
 number_of_said switch message said opened is =
     ap (λ phase. number_told phase (SwitchMsg message)) opened ∙ ap (λ (found : Result SwitchMessage Unread). option_and_then number_given (packet_said found)) is
 
-items_at : (p : PolicyView) (slot moment : ℕ) (switch : KnownSwitch) (side : Side) (message : List ℕ) → switch.phase ≡ Opened → is_slot p slot ≡ true
+items_at : (p : PolicyView) (slot moment : ℕ) (switch : KnownSwitch) (side : SliceSide) (message : List ℕ) → switch.phase ≡ Opened → is_slot p slot ≡ true
     → items_of p slot switch side (told_at moment message) ≡ message_items p slot switch side message
 items_at p slot moment switch side message opened here =
     ap (λ (is_here : Bool). if is_here then phase_items p slot switch side (told_at moment message) switch.phase else []) here
     ∙ ap (λ phase. phase_items p slot switch side (told_at moment message) phase) opened
 
-pub items_of_said : (p : PolicyView) (slot moment : ℕ) (switch : KnownSwitch) (side : Side) (message : List ℕ) (said : Result SwitchMessage Unread) → switch.phase ≡ Opened → is_slot p slot ≡ true → read_switch message ≡ said
+pub items_of_said : (p : PolicyView) (slot moment : ℕ) (switch : KnownSwitch) (side : SliceSide) (message : List ℕ) (said : Result SwitchMessage Unread) → switch.phase ≡ Opened → is_slot p slot ≡ true → read_switch message ≡ said
     → items_of p slot switch side (told_at moment message) ≡ said_items p slot switch side (xid_of message) said
 unfolding message_items
 items_of_said p slot moment switch side message said opened here is =
     items_at p slot moment switch side message opened here ∙ ap (said_items p slot switch side (xid_of message)) is
 
-pub items_none : (p : PolicyView) (slot moment : ℕ) (switch : KnownSwitch) (side : Side) (message : List ℕ) → is_slot p slot ≡ false
+pub items_none : (p : PolicyView) (slot moment : ℕ) (switch : KnownSwitch) (side : SliceSide) (message : List ℕ) → is_slot p slot ≡ false
     → items_of p slot switch side (told_at moment message) ≡ []
 items_none p slot moment switch side message none =
     ap (λ (is_here : Bool). if is_here then phase_items p slot switch side (told_at moment message) switch.phase else []) none

@@ -29,7 +29,7 @@ use Rattle.slice_words.proofs.Forgetting.{found_up}
 use Rattle.slice_words.proofs.LoneRules.{same_port, same_entry}
 use Rattle.desk_words.specs.declared.phase.Phase.TheVariants.{Opened}
 use Rattle.desk_words.specs.Openings.{rules_of, KnownSwitch}
-use Rattle.desk_words.specs.Histories.{is_slot, settings_at, Side, barrier_items, queues_items, own_entries, is_part, part_items, statistics_items}
+use Rattle.desk_words.specs.Histories.{is_slot, settings_at, SliceSide, barrier_items, queues_items, own_entries, is_part, part_items, statistics_items}
 use Rattle.switch_side.specs.declared.change.Change.TheVariants.{Collected, Finished}
 use Rattle.switch_side.specs.Changes.{seen_with, is_reply_under}
 use Rattle.switch_side.specs.Collecting.{entry_calls}
@@ -204,7 +204,7 @@ module _ (s : Settings) (sight : Sight) (x : ℕ) where
 
 -- ---- one slice among all
 
-module _ (p : PolicyView) (switch : KnownSwitch) (sides : ℕ → Side) (states : List SliceState) (same : length states ≡ length p.slices) (stand : AllStand p switch sides states) where
+module _ (p : PolicyView) (switch : KnownSwitch) (sides : ℕ → SliceSide) (states : List SliceState) (same : length states ≡ length p.slices) (stand : AllStand p switch sides states) where
   abbrev called : ℕ → Called
   called = called_at p switch sides
 

@@ -24,7 +24,7 @@ use Rattle.slice_words.specs.Alone.{answer_to, sent_for}
 use Rattle.slice_words.specs.Standing.{SliceStands}
 use Rattle.desk_words.specs.declared.phase.Phase.TheVariants.{Opened}
 use Rattle.desk_words.specs.Openings.{status_said, kept_beside, rules_of, KnownSwitch}
-use Rattle.desk_words.specs.Histories.{is_slot, settings_at, Side, handed, header_in, number_given, marked_slot, shares_of, packet_items, packet_in_items, holder, said_items}
+use Rattle.desk_words.specs.Histories.{is_slot, settings_at, SliceSide, handed, header_in, number_given, marked_slot, shares_of, packet_items, packet_in_items, holder, said_items}
 use Rattle.desk_words.specs.Sent.{sent_with}
 use Rattle.desk_words.proofs.Ends.{end_sent}
 use Rattle.switch_side.specs.declared.audience.Audience.TheVariants.{Prober}
@@ -93,7 +93,7 @@ by_lost s view policy rules slot packet state (Some k) wants given =
     ap (λ (first : List (List ℕ)). first ++ sent_for s (Lost k ∷ view) (packet_items policy rules slot view packet)) (lost_silent s view k (is_up view) refl)
     ∙ by_up s (Lost k ∷ view) policy rules slot packet state (is_up view) refl wants given
 
-packet_sent : (s : Settings) (policy : PolicyView) (rules : List Rule) (slot : ℕ) (side : Side) (packet : PacketIn) (state : SliceState) → SliceStands s side.sight state
+packet_sent : (s : Settings) (policy : PolicyView) (rules : List Rule) (slot : ℕ) (side : SliceSide) (packet : PacketIn) (state : SliceState) → SliceStands s side.sight state
     → sent_for s side.sight.view (packet_in_items policy rules slot side packet) ≡ packet_for (audience_of (length policy.slices) rules packet) packet slot state
 packet_sent s policy rules slot side packet state stands =
     by_lost s side.sight.view policy rules slot packet state (option_and_then (λ number. holder number side.numbered) (number_given packet)) stands.miss_send_len stands.given
@@ -126,7 +126,7 @@ abbrev pub say : ℕ → List Rule → List (List ℕ) → Result SwitchMessage 
 say count rules known (Ok (says.PacketIn packet)) slot state = packet_for (audience_of count rules packet) packet slot state
 say count rules known said slot state = say_status rules (kept_beside known (status_said said)) slot state
 
-said_sent : (p : PolicyView) (slot : ℕ) (switch : KnownSwitch) (side : Side) (xid : ℕ) (said : Result SwitchMessage Unread) (state : SliceState) → is_for_one said ≡ false
+said_sent : (p : PolicyView) (slot : ℕ) (switch : KnownSwitch) (side : SliceSide) (xid : ℕ) (said : Result SwitchMessage Unread) (state : SliceState) → is_for_one said ≡ false
     → SliceStands (settings_at p slot switch.features) side.sight state
     → ((port : ℕ) → is_own_port (settings_at p slot switch.features).slot (settings_at p slot switch.features).patterns port ≡ has_port (rules_of p switch.features) slot port)
     → sent_for (settings_at p slot switch.features) side.sight.view (said_items p slot switch side xid said) ≡ say (length p.slices) (rules_of p switch.features) switch.known said slot state
@@ -142,7 +142,7 @@ said_sent p slot switch side xid (Ok (says.StatsReply part body)) state all stan
 said_sent p slot switch side xid said state all stands own = refl
 
 -- a slice of the policy is sent what is said to it
-pub slot_sent : (p : PolicyView) (slot moment : ℕ) (switch : KnownSwitch) (side : Side) (message : List ℕ) (said : Result SwitchMessage Unread) (state : SliceState)
+pub slot_sent : (p : PolicyView) (slot moment : ℕ) (switch : KnownSwitch) (side : SliceSide) (message : List ℕ) (said : Result SwitchMessage Unread) (state : SliceState)
     → switch.phase ≡ Opened → is_slot p slot ≡ true → read_switch message ≡ said → is_for_one said ≡ false → SliceStands (settings_at p slot switch.features) side.sight state
     → ((port : ℕ) → is_own_port (settings_at p slot switch.features).slot (settings_at p slot switch.features).patterns port ≡ has_port (rules_of p switch.features) slot port)
     → sent_with p slot switch side (told_at moment message) ≡ say (length p.slices) (rules_of p switch.features) switch.known said slot state

@@ -26,7 +26,7 @@ use Rattle.slice_words.specs.Statistics.{finished}
 use Rattle.slice_words.specs.Calls.{request_for, error_marks, failure, request_calls, collection_calls, questions, book_calls}
 use Rattle.slice_words.specs.Standing.{SliceStands, past_of, held_as}
 use Rattle.desk_words.specs.Openings.{KnownSwitch}
-use Rattle.desk_words.specs.Histories.{settings_at, handed, packet_said, said_items, Side}
+use Rattle.desk_words.specs.Histories.{settings_at, handed, packet_said, said_items, SliceSide}
 use Rattle.switch_side.specs.Changes.{seen_with}
 use Rattle.switch_side.proofs.MessageTypes.{is_for_one}
 
@@ -175,7 +175,7 @@ either : (s : Settings) (sight : Sight) (state : SliceState) (b : Bool) (some ot
 either s sight state b some others one other = cond_both b some others (λ items. SliceStands s (seen_with None items sight) state) (λ is. one) (λ isnt. other)
 
 -- a message that tells of no packet, and is not for one slice at most
-pub said_stands : (p : PolicyView) (slot : ℕ) (switch : KnownSwitch) (side : Side) (xid : ℕ) (said : Result SwitchMessage Unread) (state : SliceState) → packet_said said ≡ None → is_for_one said ≡ false
+pub said_stands : (p : PolicyView) (slot : ℕ) (switch : KnownSwitch) (side : SliceSide) (xid : ℕ) (said : Result SwitchMessage Unread) (state : SliceState) → packet_said said ≡ None → is_for_one said ≡ false
     → SliceStands (settings_at p slot switch.features) side.sight state
     → SliceStands (settings_at p slot switch.features) (seen_with None (said_items p slot switch side xid said) side.sight) state
 said_stands p slot switch side xid (Err BadLength) state none all stands = end_stands (settings_at p slot switch.features) side.sight state stands

@@ -16,7 +16,7 @@ use Rattle.slice_words.proofs.LoneRules.{same_port}
 use Rattle.desk_words.specs.declared.event.Timed.{Timed}
 use Rattle.desk_words.specs.declared.phase.Phase.TheVariants.{Opened}
 use Rattle.desk_words.specs.Openings.{status_said, kept_beside, rules_of, KnownSwitch}
-use Rattle.desk_words.specs.Histories.{settings_at, Side}
+use Rattle.desk_words.specs.Histories.{settings_at, SliceSide}
 use Rattle.desk_words.specs.Sent.{sent_with}
 use Rattle.switch_side.specs.Dispatches.{addressed, sent_to_all, told_at, AllStand}
 use Rattle.switch_side.specs.Audiences.{audience_of}
@@ -52,7 +52,7 @@ said_told count rules known states said = said_status rules states (kept_beside 
 
 -- ---- what is said to each is what it is sent
 
-all_sent : (p : PolicyView) (switch : KnownSwitch) (sides : ℕ → Side) (timed : Timed) (said : Say) (slot : ℕ) (slices : List Slice) (states : List SliceState)
+all_sent : (p : PolicyView) (switch : KnownSwitch) (sides : ℕ → SliceSide) (timed : Timed) (said : Say) (slot : ℕ) (slices : List Slice) (states : List SliceState)
     → length states ≡ length slices
     → ((i k : ℕ) (state : SliceState) → slot + i ≡ k → slice_get states i ≡ Some state → said k state ≡ sent_with p k switch (sides k) timed)
     → said_from said slot states ≡ sent_to_all p switch sides timed slot slices
@@ -75,7 +75,7 @@ has_item [] i lt = absurd (omega (arith, lt))
 has_item (x ∷ xs) zero lt = (x, refl)
 has_item (x ∷ xs) (suc i) lt = has_item xs i (omega (arith, lt))
 
-one_sent : (p : PolicyView) (switch : KnownSwitch) (sides : ℕ → Side) (moment : ℕ) (message : List ℕ) (said : Result SwitchMessage Unread) (states : List SliceState)
+one_sent : (p : PolicyView) (switch : KnownSwitch) (sides : ℕ → SliceSide) (moment : ℕ) (message : List ℕ) (said : Result SwitchMessage Unread) (states : List SliceState)
     → switch.phase ≡ Opened → length states ≡ length p.slices → AllStand p switch sides states → read_switch message ≡ said → is_for_one said ≡ false
     → (slot k : ℕ) (state : SliceState) → 0 + slot ≡ k → slice_get states slot ≡ Some state
     → say (length p.slices) (rules_of p switch.features) switch.known said k state ≡ sent_with p k switch (sides k) (told_at moment message)
@@ -87,7 +87,7 @@ one_sent p switch sides moment message said states opened same stand is all slot
     sym (slot_sent p k moment switch (sides k) message said state opened (lt-ltb k (length p.slices) lt) is all (stand k state here) (λ port. own_ports p switch k port slice.0 slice.1))
 
 -- what the states are told is what the slices are sent, for a message that is for all
-pub told_sent : (p : PolicyView) (switch : KnownSwitch) (sides : ℕ → Side) (moment : ℕ) (message : List ℕ) (said : Result SwitchMessage Unread) (states : List SliceState)
+pub told_sent : (p : PolicyView) (switch : KnownSwitch) (sides : ℕ → SliceSide) (moment : ℕ) (message : List ℕ) (said : Result SwitchMessage Unread) (states : List SliceState)
     → switch.phase ≡ Opened → length states ≡ length p.slices → AllStand p switch sides states → read_switch message ≡ said → is_for_one said ≡ false
     → told_among (length states) (rules_of p switch.features) switch.known states said ≡ sent_to_all p switch sides (told_at moment message) 0 p.slices
 told_sent p switch sides moment message said states opened same stand is all =

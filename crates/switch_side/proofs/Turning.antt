@@ -7,7 +7,7 @@ use Rattle.slice_words.specs.Items.{Settings, Sight, Item}
 use Rattle.slice_words.specs.Alone.{sent_for}
 use Rattle.desk_words.specs.declared.event.Timed.{Timed}
 use Rattle.desk_words.specs.Openings.{KnownSwitch}
-use Rattle.desk_words.specs.Histories.{is_slot, settings_at, Side, items_of, number_told}
+use Rattle.desk_words.specs.Histories.{is_slot, settings_at, SliceSide, items_of, number_told}
 use Rattle.desk_words.specs.declared.event.Event.TheVariants.{SwitchMsg}
 use Rattle.desk_words.specs.Sent.{sent_with}
 use Rattle.switch_side.specs.declared.change.Change.{Change}
@@ -34,7 +34,7 @@ IsWithin p (Some turn) = turn.slot < length p.slices
 
 -- ---- what is sent
 
-module _ (p : PolicyView) (switch : KnownSwitch) (sides : ℕ → Side) (timed : Timed) where
+module _ (p : PolicyView) (switch : KnownSwitch) (sides : ℕ → SliceSide) (timed : Timed) where
   abbrev to : ℕ → List (List ℕ)
   to k = sent_with p k switch (sides k) timed
 
@@ -75,7 +75,7 @@ FollowsFrom s sight items (Some turn) = (sent_for s sight.view items ≡ turn.me
 pub nothing_follows : (s : Settings) (sight : Sight) → FollowsFrom s sight [] None
 nothing_follows s sight = (refl, λ state stands. stands)
 
-module _ (p : PolicyView) (switch : KnownSwitch) (sides : ℕ → Side) (moment : ℕ) (message : List ℕ) where
+module _ (p : PolicyView) (switch : KnownSwitch) (sides : ℕ → SliceSide) (moment : ℕ) (message : List ℕ) where
   abbrev items : ℕ → List Item
   items slot = items_of p slot switch (sides slot) (told_at moment message)
 

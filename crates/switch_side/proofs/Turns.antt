@@ -31,7 +31,7 @@ use Rattle.slice_words.specs.Calls.{request_for, request_calls, collection_calls
 use Rattle.slice_words.specs.Standing.{past_of}
 use Rattle.desk_words.specs.declared.phase.Phase.TheVariants.{Opened}
 use Rattle.desk_words.specs.Openings.{rules_of, KnownSwitch}
-use Rattle.desk_words.specs.Histories.{is_slot, settings_at, Side, removed_items, error_items}
+use Rattle.desk_words.specs.Histories.{is_slot, settings_at, SliceSide, removed_items, error_items}
 use Rattle.switch_side.specs.declared.change.Change.TheVariants.{Released}
 use Rattle.switch_side.specs.declared.dispatch.Dispatch.{Dispatch}
 use Rattle.switch_side.specs.Dispatches.{AllStand}
@@ -64,13 +64,13 @@ settings_patterns p slot told slice there = ap (λ (s : Settings). s.patterns) (
 
 -- ---- the calls of a view
 
-abbrev pub called_at : PolicyView → KnownSwitch → (ℕ → Side) → ℕ → Called
+abbrev pub called_at : PolicyView → KnownSwitch → (ℕ → SliceSide) → ℕ → Called
 called_at p switch sides slot =
     let s = settings_at p slot switch.features in
     let past = past_of s (sides slot).sight.view in
     record { requests = request_calls s past; book = book_calls s past; collections = collection_calls s past }
 
-pub all_called : (p : PolicyView) (switch : KnownSwitch) (sides : ℕ → Side) (states : List SliceState) → AllStand p switch sides states → AllCalled (called_at p switch sides) states
+pub all_called : (p : PolicyView) (switch : KnownSwitch) (sides : ℕ → SliceSide) (states : List SliceState) → AllStand p switch sides states → AllCalled (called_at p switch sides) states
 all_called p switch sides states stand = λ slot state there.
     (subst (λ (n : ℕ). RequestsStand n (called_at p switch sides slot).requests state.xids) (settings_slot p slot switch.features) (stand slot state there).requests, (stand slot state there).book, (stand slot state there).collections)
 
@@ -121,7 +121,7 @@ sought_within p called xid error top (Some state) within = mapped_within p (fail
 
 -- ---- one slice among all
 
-module _ (p : PolicyView) (switch : KnownSwitch) (sides : ℕ → Side) (states : List SliceState) (same : length states ≡ length p.slices) (stand : AllStand p switch sides states) where
+module _ (p : PolicyView) (switch : KnownSwitch) (sides : ℕ → SliceSide) (states : List SliceState) (same : length states ≡ length p.slices) (stand : AllStand p switch sides states) where
   abbrev called : ℕ → Called
   called = called_at p switch sides
 

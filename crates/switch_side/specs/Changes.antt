@@ -20,7 +20,7 @@ use Rattle.slice_words.specs.Calls.{request_for, request_calls, collection_calls
 use Rattle.slice_words.specs.Standing.{SliceStands, past_of}
 use Rattle.desk_words.specs.declared.event.Timed.{Timed}
 use Rattle.desk_words.specs.Openings.{KnownSwitch}
-use Rattle.desk_words.specs.Histories.{Side, header_in, handed, items_of, came_with, with_shown}
+use Rattle.desk_words.specs.Histories.{SliceSide, header_in, handed, items_of, came_with, with_shown}
 use Rattle.switch_side.specs.declared.change.Change.{Change}
 use Rattle.switch_side.specs.declared.change.Change.TheVariants as changes
 
@@ -29,7 +29,7 @@ abbrev pub seen_with : Option ℕ → List Item → Sight → Sight
 seen_with number items sight = record { view = with_items items sight.view; came = came_with number items sight.came }
 
 -- what a slice sees after an event
-abbrev pub side_after : PolicyView → ℕ → KnownSwitch → Side → Timed → Side
+abbrev pub side_after : PolicyView → ℕ → KnownSwitch → SliceSide → Timed → SliceSide
 side_after p slot switch side timed = with_shown switch.phase timed (items_of p slot switch side timed) side
 
 -- ---- one change

@@ -9,7 +9,7 @@ use Rattle.desk_words.specs.declared.event.Event.TheVariants.{SwitchMsg}
 use Rattle.desk_words.specs.declared.event.Timed.{Timed}
 use Rattle.desk_words.specs.declared.phase.Phase.TheVariants.{Opened}
 use Rattle.desk_words.specs.Openings.{status_kept, rules_of, KnownSwitch}
-use Rattle.desk_words.specs.Histories.{is_slot, settings_at, items_of, number_told, Side}
+use Rattle.desk_words.specs.Histories.{is_slot, settings_at, items_of, number_told, SliceSide}
 use Rattle.desk_words.specs.Numbers.{AreNumbered}
 use Rattle.desk_words.specs.Sent.{sent_with, echo_for}
 use Rattle.switch_side.specs.declared.change.Change.{Change}
@@ -26,12 +26,12 @@ pub record Surrounds (p : PolicyView) (switch : KnownSwitch) (policy : SwitchVie
   pub known : ports ≡ switch.known
 
 -- each slice's state is the one that belongs to what the slice sees
-abbrev pub AllStand : PolicyView → KnownSwitch → (ℕ → Side) → List SliceState → Type 0
+abbrev pub AllStand : PolicyView → KnownSwitch → (ℕ → SliceSide) → List SliceState → Type 0
 AllStand p switch sides states =
     (slot : ℕ) (state : SliceState) → slice_get states slot ≡ Some state → SliceStands (settings_at p slot switch.features) (sides slot).sight state
 
 -- the switch's numbers of each slice's packets are those that the slice sees
-abbrev pub AllNumbered : PolicyView → KnownSwitch → (ℕ → Side) → Type 0
+abbrev pub AllNumbered : PolicyView → KnownSwitch → (ℕ → SliceSide) → Type 0
 AllNumbered p switch sides = (slot : ℕ) → is_slot p slot ≡ true → AreNumbered (settings_at p slot switch.features) (sides slot)
 
 -- ---- what follows
@@ -41,7 +41,7 @@ abbrev pub addressed : ℕ → List (List ℕ) → List (ℕ × List ℕ)
 addressed slot messages = map (λ message. (slot, message)) messages
 
 -- what each slice from a slot on is sent at an event, slice by slice
-abbrev pub sent_to_all : PolicyView → KnownSwitch → (ℕ → Side) → Timed → ℕ → List Slice → List (ℕ × List ℕ)
+abbrev pub sent_to_all : PolicyView → KnownSwitch → (ℕ → SliceSide) → Timed → ℕ → List Slice → List (ℕ × List ℕ)
 sent_to_all p switch sides timed slot [] = []
 sent_to_all p switch sides timed slot (slice ∷ others) =
     addressed slot (sent_with p slot switch (sides slot) timed) ++ sent_to_all p switch sides timed (slot + 1) others
@@ -51,12 +51,12 @@ abbrev pub told_at : ℕ → List ℕ → Timed
 told_at moment message = record { event = SwitchMsg message; moment = moment }
 
 -- of these changes each slice's are what the message changes in its state
-abbrev pub AreChanges : PolicyView → KnownSwitch → (ℕ → Side) → ℕ → List ℕ → List (ℕ × Change) → Type 0
+abbrev pub AreChanges : PolicyView → KnownSwitch → (ℕ → SliceSide) → ℕ → List ℕ → List (ℕ × Change) → Type 0
 AreChanges p switch sides moment message listed =
     (slot : ℕ) → SlotChanges (settings_at p slot switch.features) (number_told switch.phase (SwitchMsg message)) (sides slot).sight (items_of p slot switch (sides slot) (told_at moment message)) (changes_for slot listed)
 
 -- what follows from a message of the switch: what each slice is sent, what the switch is sent, what changes in the slices' states, the change of a port, and whether the switch's connection ends, as it does at a length field that doesn't even count the header
-pub record IsDispatch (p : PolicyView) (switch : KnownSwitch) (sides : ℕ → Side) (moment : ℕ) (message : List ℕ) (d : Dispatch) : Type 0 where
+pub record IsDispatch (p : PolicyView) (switch : KnownSwitch) (sides : ℕ → SliceSide) (moment : ℕ) (message : List ℕ) (d : Dispatch) : Type 0 where
   pub to_slices : d.to_slices.items ≡ sent_to_all p switch sides (told_at moment message) 0 p.slices
   pub to_switch : d.to_switch.items ≡ echo_for message
   pub changes : AreChanges p switch sides moment message d.changes.items

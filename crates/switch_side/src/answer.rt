@@ -1,12 +1,11 @@
 ghost use Rattle.std.specs.Prelude.{ℕ, ◌≡◌, ◌≤◌, List, ◌∷◌, [], length, Ok, Err, IfOk, OnOk};
-ghost use Rattle.of10_ctl.specs.declared.kind.TheConstants.{ECHO_REPLY};
-ghost use Rattle.of10_ctl.specs.Frames.{message_of};
+ghost use Rattle.of10_ctl.specs.Frames.{echo_reply_to};
 ghost use Rattle.of10_switch.specs.Messages.{read_switch};
 ghost use Rattle.of10_switch.specs.Views.{said_by};
 ghost use Rattle.of10_switch.specs.Ranges.{IsSaid};
 ghost use Rattle.flowspace.specs.Policies.{PolicyView};
 ghost use Rattle.desk_words.specs.Openings.{KnownSwitch};
-ghost use Rattle.desk_words.specs.Histories.{Side};
+ghost use Rattle.desk_words.specs.Histories.{SliceSide};
 ghost use Rattle.switch_side.specs.Dispatches.{Surrounds, AllStand, AllNumbered, IsDispatch};
 ghost use Rattle.flow_book.specs.declared.state.SliceState.{SliceState};
 ghost use Rattle.flowspace.specs.declared.rules.Rule.{Rule};
@@ -22,8 +21,7 @@ use crate::spare::Spare;
 use crate::statistics::statistics;
 use flow_book::SliceState;
 use flowspace::SwitchPolicy;
-use of10_ctl::kind::ECHO_REPLY;
-use of10_ctl::{Frame, message};
+use of10_ctl::{BodyView, Frame, echo_reply};
 use of10_message::Unread;
 use of10_switch::{FromSwitch, read_switch};
 use port_view::PortView;
@@ -31,11 +29,10 @@ use rule_index::RuleIndex;
 use std::alloc::{AllocError, Global};
 
 /// The reply to an ECHO_REQUEST (OpenFlow 1.0.0, section 5.5).
-fn echo(alloc: Global, xid: u32, body: &[u8]) -> Result<Dispatch, AllocError>
-    requires { length body.now ≤ 65527 }
-    ensures { IfOk result (λ d. carried d ≡ record (telling [] None) { replies = message_of ECHO_REPLY xid body.now ∷ [] }) }
+fn echo(alloc: Global, xid: u32, body: &BodyView<'_>) -> Result<Dispatch, AllocError>
+    ensures { IfOk result (λ d. carried d ≡ record (telling [] None) { replies = echo_reply_to xid body.now ∷ [] }) }
 {
-    Dispatch::replying(alloc, message(alloc, ECHO_REPLY, xid, body)?)
+    Dispatch::replying(alloc, echo_reply(alloc, xid, body)?)
 }
 
 /// What follows from a message under a transaction id that is no PACKET_IN, by its type. Types that say nothing
@@ -158,7 +155,7 @@ pub fn react(
 ) -> Result<Dispatch, AllocError>
     requires count { length states.now ≡ length policy.now.slices }
     requires index { index.now ≡ policy.now.rules }
-    ensures dispatch { (p : PolicyView) (switch : KnownSwitch) (sides : ℕ → Side) (moment : ℕ) → Surrounds p switch policy.now ports.now → AllStand p switch sides states.now → AllNumbered p switch sides → IfOk result (IsDispatch p switch sides moment frame.now) }
+    ensures dispatch { (p : PolicyView) (switch : KnownSwitch) (sides : ℕ → SliceSide) (moment : ℕ) → Surrounds p switch policy.now ports.now → AllStand p switch sides states.now → AllNumbered p switch sides → IfOk result (IsDispatch p switch sides moment frame.now) }
 {
     let mut spare = Spare::none(alloc);
     react_in(alloc, &mut spare, policy, index, ports, states, frame)?;
@@ -179,7 +176,7 @@ pub fn react_in(
 ) -> Result<(), AllocError>
     requires count { length states.now ≡ length policy.now.slices }
     requires index { index.now ≡ policy.now.rules }
-    ensures dispatch { (p : PolicyView) (switch : KnownSwitch) (sides : ℕ → Side) (moment : ℕ) → Surrounds p switch policy.now ports.now → AllStand p switch sides states.now → AllNumbered p switch sides → OnOk result (IsDispatch p switch sides moment frame.now spare.new.dispatch) }
+    ensures dispatch { (p : PolicyView) (switch : KnownSwitch) (sides : ℕ → SliceSide) (moment : ℕ) → Surrounds p switch policy.now ports.now → AllStand p switch sides states.now → AllNumbered p switch sides → OnOk result (IsDispatch p switch sides moment frame.now spare.new.dispatch) }
 {
     // A policy has at most 32 slices.
     let _slices = policy.slices();

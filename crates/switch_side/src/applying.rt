@@ -6,7 +6,7 @@ ghost use Rattle.flow_book.specs.Books as books;
 ghost use Rattle.slice_words.specs.Items.{Settings, Sight};
 ghost use Rattle.slice_words.specs.Standing.{SliceStands};
 ghost use Rattle.desk_words.specs.Openings.{KnownSwitch};
-ghost use Rattle.desk_words.specs.Histories.{Side};
+ghost use Rattle.desk_words.specs.Histories.{SliceSide};
 ghost use Rattle.switch_side.specs.declared.change.Change.TheVariants.{Failed, Collected, Finished, Given};
 ghost use Rattle.switch_side.specs.Changes.{IsMade, IsMadeAt, StateHasRoom, StateHasRoomAt, StatesHaveRoom, StandOn, side_after};
 ghost use Rattle.switch_side.specs.Dispatches.{AllStand, AreChanges, told_at};
@@ -166,7 +166,7 @@ fn apply_at(states: &mut Vec<SliceState>, slot: u8, change: Change)
 #[inline(never)]
 fn apply_each(states: &mut Vec<SliceState>, changes: Vec<(u8, Change)>)
     requires { StatesHaveRoom changes.items states.old.items }
-    ensures stands { (p : PolicyView) (switch : KnownSwitch) (sides : ℕ → Side) (moment : ℕ) (message : List ℕ) → AllStand p switch sides states.old.items → AreChanges p switch sides moment message changes.items → AllStand p switch (λ slot. side_after p slot switch (sides slot) (told_at moment message)) states.new.items }
+    ensures stands { (p : PolicyView) (switch : KnownSwitch) (sides : ℕ → SliceSide) (moment : ℕ) (message : List ℕ) → AllStand p switch sides states.old.items → AreChanges p switch sides moment message changes.items → AllStand p switch (λ slot. side_after p slot switch (sides slot) (told_at moment message)) states.new.items }
     ensures count { length states.new.items ≡ length states.old.items }
 {
     for (slot, change) in changes {
@@ -179,7 +179,7 @@ fn apply_each(states: &mut Vec<SliceState>, changes: Vec<(u8, Change)>)
 #[inline(always)]
 pub fn apply_all(alloc: Global, states: &mut Vec<SliceState>, changes: &mut Vec<(u8, Change)>)
     requires { StatesHaveRoom changes.old.items states.old.items }
-    ensures stands { (p : PolicyView) (switch : KnownSwitch) (sides : ℕ → Side) (moment : ℕ) (message : List ℕ) → AllStand p switch sides states.old.items → AreChanges p switch sides moment message changes.old.items → AllStand p switch (λ slot. side_after p slot switch (sides slot) (told_at moment message)) states.new.items }
+    ensures stands { (p : PolicyView) (switch : KnownSwitch) (sides : ℕ → SliceSide) (moment : ℕ) (message : List ℕ) → AllStand p switch sides states.old.items → AreChanges p switch sides moment message changes.old.items → AllStand p switch (λ slot. side_after p slot switch (sides slot) (told_at moment message)) states.new.items }
     ensures count { length states.new.items ≡ length states.old.items }
     ensures none { changes.new.items ≡ [] }
 {

@@ -11,7 +11,7 @@ use Rattle.turn_desk.specs.declared.view.Stage.{Stage}
 use Rattle.turn_desk.specs.declared.view.Stage.TheVariants.{Idle, Waits, Holds}
 use Rattle.turn_desk.specs.declared.view.Member.{Member}
 use Rattle.turn_desk.specs.Histories.{Runs, seen_of}
-use Rattle.turn_desk.specs.Rule.{total, IsHolder, lefts, tickets, tickets_of, Fits, Apart, Kept, newcomer, idle_of}
+use Rattle.turn_desk.specs.Rule.{total, IsHolder, lefts, tickets, tickets_of, Fits, Apart, IsRuled, newcomer, idle_of}
 use Rattle.turn_desk.proofs.Lists.{part_total}
 
 module _ {O : Type 0} where
@@ -36,7 +36,7 @@ module _ {O P R : Type 0} (acts : O → P → R → O → Type 0) (first : O) wh
   here : (m : Member O P R) → some (newcomer {O = O} {P = P} {R = R} first) ≡ some (Some m) → newest ≡ m
   here m e = cc
 
-  pub begins : Kept acts first (opening (0 ∷ 0 ∷ []) (Some first ∷ []) (newcomer first))
+  pub begins : IsRuled acts first (opening (0 ∷ 0 ∷ []) (Some first ∷ []) (newcomer first))
   begins = record {
     log = [];
     now = first;
@@ -63,7 +63,7 @@ module _ {O P R : Type 0} (acts : O → P → R → O → Type 0) (first : O) wh
   no_more [] e = refl
   no_more (x ∷ xs) e = absurd (omega arith)
 
-  pub closes : (id : ℕ) (v : Option (Member O P R)) (ws : List ℕ) (xs : List (Option O)) → idle_of v ≡ true → 2 ^ 63 ≤ lefts v + length (seen_of v) → Final (Seen (Kept acts first) id v) ws xs
+  pub closes : (id : ℕ) (v : Option (Member O P R)) (ws : List ℕ) (xs : List (Option O)) → idle_of v ≡ true → 2 ^ 63 ≤ lefts v + length (seen_of v) → Final (Seen (IsRuled acts first) id v) ws xs
       → (x : O) × (get_elem? xs 0 ≡ some (Some x)) × Runs acts first (seen_of v) x
   closes id None ws xs idle most final = absurd (true≢false (sym idle))
   closes id (Some m) ws xs idle most final = (
@@ -72,7 +72,7 @@ module _ {O P R : Type 0} (acts : O → P → R → O → Type 0) (first : O) wh
     subst (λ l. Runs acts first l h.now) all_seen h.runs,
   )
     where
-      h : Kept acts first final.0
+      h : IsRuled acts first final.0
       h = final.1.0
 
       f : Fits first h.log h.now h.drawn m

@@ -13,7 +13,7 @@ use Rattle.turn_desk.specs.declared.view.Stage.{Stage}
 use Rattle.turn_desk.specs.declared.view.Stage.TheVariants.{Idle, Waits, Holds}
 use Rattle.turn_desk.specs.declared.view.Member.{Member}
 use Rattle.turn_desk.specs.Histories.{NoneBy, if_longer}
-use Rattle.turn_desk.specs.Rule.{tickets_of, IsHolder, lefts, tickets, FitsStage, Fits, Apart, Kept, left_of, right_of, cut_left, cut_right, both_of, joined, idle_of, idle_stage, Known, is_idle, is_empty, Learned}
+use Rattle.turn_desk.specs.Rule.{tickets_of, IsHolder, lefts, tickets, FitsStage, Fits, Apart, IsRuled, left_of, right_of, cut_left, cut_right, both_of, joined, idle_of, idle_stage, Known, is_idle, is_empty, Learned}
 use Rattle.turn_desk.proofs.Lists.{part_total, total_set, total_snoc, set_there, kept_at, at_end, none_front, none_back, shorter}
 use Rattle.turn_desk.proofs.Numbers.{left_ahead, right_ahead, left_number, right_number, never_one}
 
@@ -82,7 +82,7 @@ module _ {O P R : Type 0} where
     right_apart b x = record { numbers = (λ i j e. x.numbers (1 + 2 * i) j (sym (right_number m.number m.stride i) ∙ e)); turns = (λ t p q. p) }
 
   module _ (acts : O → P → R → O → Type 0) (first : O) where
-    module _ (id n : ℕ) (m : Member O P R) (s : State (Option O) (Option (Member O P R))) (h : Kept acts first s) (at : get_elem? s.views id ≡ some (Some m)) (enough : n ≤ m.left) where
+    module _ (id n : ℕ) (m : Member O P R) (s : State (Option O) (Option (Member O P R))) (h : IsRuled acts first s) (at : get_elem? s.views id ≡ some (Some m)) (enough : n ≤ m.left) where
       abbrev half : List (Option (Member O P R))
       half = set s.views id (Some (left_of n m))
 
@@ -122,7 +122,7 @@ module _ {O P R : Type 0} where
           (λ p. none_holds k a (at_longer half (Some (right_of n m) ∷ []) k (Some a) p) held)
           (kept_at s.views id k (Some (left_of n m)) (Some a) e)
 
-      cut_kept : Kept acts first (record { words = s.words; homes = s.homes; views = after })
+      cut_kept : IsRuled acts first (record { words = s.words; homes = s.homes; views = after })
       cut_kept = record {
         log = h.log;
         now = h.now;
@@ -136,7 +136,7 @@ module _ {O P R : Type 0} where
         home = (λ none_holds. h.home (λ k a e held. still k a e held none_holds));
       }
 
-    pub cuts : (id n : ℕ) (v : Option (Member O P R)) → idle_of v ≡ true → n ≤ lefts v → Splits (Kept acts first) id v (cut_left n v) (cut_right n v)
+    pub cuts : (id n : ℕ) (v : Option (Member O P R)) → idle_of v ≡ true → n ≤ lefts v → Splits (IsRuled acts first) id v (cut_left n v) (cut_right n v)
     cuts id n None i e = absurd (true≢false (sym i))
     cuts id n (Some m) i e = λ s h at. cut_kept id n m s h at e
 
@@ -198,7 +198,7 @@ module _ {O P R : Type 0} where
         }
 
   module _ (acts : O → P → R → O → Type 0) (first : O) where
-    module _ (id other : ℕ) (a b : Member O P R) (s : State (Option O) (Option (Member O P R))) (h : Kept acts first s) (at : get_elem? s.views id ≡ some (Some a)) (ne : ¬ (other ≡ id)) (there : get_elem? (set s.views id (Some (both_of a b))) other ≡ some (Some b)) (idle : idle_stage a.stage ≡ true) (idle' : idle_stage b.stage ≡ true) where
+    module _ (id other : ℕ) (a b : Member O P R) (s : State (Option O) (Option (Member O P R))) (h : IsRuled acts first s) (at : get_elem? s.views id ≡ some (Some a)) (ne : ¬ (other ≡ id)) (there : get_elem? (set s.views id (Some (both_of a b))) other ≡ some (Some b)) (idle : idle_stage a.stage ≡ true) (idle' : idle_stage b.stage ≡ true) where
       abbrev once : List (Option (Member O P R))
       once = set s.views id (Some (both_of a b))
 
@@ -241,7 +241,7 @@ module _ {O P R : Type 0} where
           same : (i : ℕ) (z : Member O P R) → k ≡ i → get_elem? s.views i ≡ some (Some z) → x ≡ z
           same i z p q = member_is x z (some-injective (Some x) (Some z) (sym (subst (λ i. get_elem? s.views i ≡ some (Some x)) p e) ∙ q))
 
-      meet_kept : Kept acts first (record { words = s.words; homes = s.homes; views = after2 })
+      meet_kept : IsRuled acts first (record { words = s.words; homes = s.homes; views = after2 })
       meet_kept = record {
         log = h.log;
         now = h.now;
@@ -255,16 +255,16 @@ module _ {O P R : Type 0} where
         home = (λ none_holds. h.home (λ k x e held. remains k x e held none_holds));
       }
 
-    pub meets : (id other : ℕ) (v w : Option (Member O P R)) → idle_of v ≡ true → idle_of w ≡ true → Joins (Kept acts first) id v other w (joined v w) None
+    pub meets : (id other : ℕ) (v w : Option (Member O P R)) → idle_of v ≡ true → idle_of w ≡ true → Joins (IsRuled acts first) id v other w (joined v w) None
     meets id other None w i j = absurd (true≢false (sym i))
     meets id other (Some a) None i j = absurd (true≢false (sym j))
     meets id other (Some a) (Some b) i j = λ s h at ne there. meet_kept id other a b s h at ne there i j
 
-    pub learns : (slots id : ℕ) (me : Me (Option O) (Option (Member O P R))) → Allows (Kept acts first) slots id me 1 (λ n. n) (Learned (step slots 1 0 0 none) me)
+    pub learns : (slots id : ℕ) (me : Me (Option O) (Option (Member O P R))) → Allows (IsRuled acts first) slots id me 1 (λ n. n) (Learned (step slots 1 0 0 none) me)
     learns slots id me s h size at bound = (me.0, keeps, tt, same, (refl, known me.0 at))
       where
-        same : Kept acts first (record { words = set s.words 1 (slice_index s.words 1); homes = s.homes; views = set s.views id me.0 })
-        same = rw (set_again s.views id me.0 at) (subst (λ ws. Kept acts first (record { words = set ws 1 (slice_index ws 1); homes = s.homes; views = s.views })) (sym h.words) (subst (λ ws. Kept acts first (record { words = ws; homes = s.homes; views = s.views })) h.words h))
+        same : IsRuled acts first (record { words = set s.words 1 (slice_index s.words 1); homes = s.homes; views = set s.views id me.0 })
+        same = rw (set_again s.views id me.0 at) (subst (λ ws. IsRuled acts first (record { words = set ws 1 (slice_index ws 1); homes = s.homes; views = s.views })) (sym h.words) (subst (λ ws. IsRuled acts first (record { words = ws; homes = s.homes; views = s.views })) h.words h))
 
         known : (v : Option (Member O P R)) → get_elem? s.views id ≡ some v → Known v
         known None e = tt

@@ -13,7 +13,7 @@ use Rattle.turn_desk.specs.declared.view.Stage.{Stage}
 use Rattle.turn_desk.specs.declared.view.Stage.TheVariants.{Idle, Waits, Holds}
 use Rattle.turn_desk.specs.declared.view.Member.{Member}
 use Rattle.turn_desk.specs.Histories.{NoneBy, Runs, entry}
-use Rattle.turn_desk.specs.Rule.{HasTicket, tickets_of, IsHolder, lefts, tickets, FitsStage, Fits, Apart, Kept, idle_of, idle_stage, staged, Drawn, HasTurn, Looked, LookedAt, Passed}
+use Rattle.turn_desk.specs.Rule.{HasTicket, tickets_of, IsHolder, lefts, tickets, FitsStage, Fits, Apart, IsRuled, idle_of, idle_stage, staged, Drawn, HasTurn, Looked, LookedAt, Passed}
 use Rattle.turn_desk.proofs.Lists.{part_total, total_set, set_there, kept_at}
 use Rattle.turn_desk.proofs.Keeps.{member_is, flip, idle_tickets}
 
@@ -49,7 +49,7 @@ module _ {O P R : Type 0} where
     fits_drawn : Fits first log now (suc drawn) a
     fits_drawn = record { opening = f.opening; later = f.later; whole = f.whole; others = f.others; ahead = f.ahead; gap = f.gap; own = f.own; met = f.met; place = more_drawn log now drawn a.seen a.stage f.place }
 
-  module _ (acts : O → P → R → O → Type 0) (first : O) (id : ℕ) (m w : Member O P R) (s : State (Option O) (Option (Member O P R))) (h : Kept acts first s) (at : get_elem? s.views id ≡ some (Some m)) where
+  module _ (acts : O → P → R → O → Type 0) (first : O) (id : ℕ) (m w : Member O P R) (s : State (Option O) (Option (Member O P R))) (h : IsRuled acts first s) (at : get_elem? s.views id ≡ some (Some m)) where
     abbrev next : List (Option (Member O P R))
     next = set s.views id (Some w)
 
@@ -81,7 +81,7 @@ module _ {O P R : Type 0} where
         (kept_at s.views id k (Some w) (Some a) e)
 
   module _ (acts : O → P → R → O → Type 0) (first : O) where
-    module _ (id : ℕ) (m : Member O P R) (s : State (Option O) (Option (Member O P R))) (h : Kept acts first s) (at : get_elem? s.views id ≡ some (Some m)) (idle : idle_stage m.stage ≡ true) (some_left : 0 < m.left) where
+    module _ (id : ℕ) (m : Member O P R) (s : State (Option O) (Option (Member O P R))) (h : IsRuled acts first s) (at : get_elem? s.views id ≡ some (Some m)) (idle : idle_stage m.stage ≡ true) (some_left : 0 < m.left) where
       abbrev waiting : Member O P R
       waiting = staged m (m.left - 1) (Waits h.drawn) m.seen
 
@@ -101,7 +101,7 @@ module _ {O P R : Type 0} where
         turns = (λ t p q. let r = below h.log h.now h.drawn b.seen b.stage t (h.each k b e).place q in let l = r.1 in let u : h.drawn ≡ t = p in absurd (omega arith));
       }
 
-      draw_kept : Kept acts first (record { words = suc h.drawn ∷ length h.log ∷ []; homes = s.homes; views = set s.views id (Some waiting) })
+      draw_kept : IsRuled acts first (record { words = suc h.drawn ∷ length h.log ∷ []; homes = s.homes; views = set s.views id (Some waiting) })
       draw_kept = record {
         log = h.log;
         now = h.now;
@@ -115,11 +115,11 @@ module _ {O P R : Type 0} where
         home = (λ none_holds. h.home (holder_next acts first id m waiting s h at (not_holder m.stage idle) none_holds));
       }
 
-      draw_state : Kept acts first (record { words = set s.words 0 ((slice_index s.words 0 + 1) % 2 ^ 64); homes = s.homes; views = set s.views id (Some waiting) })
-      draw_state = subst (λ ws. Kept acts first (record { words = set ws 0 ((slice_index ws 0 + 1) % 2 ^ 64); homes = s.homes; views = set s.views id (Some waiting) })) (sym h.words)
-          (subst (λ k. Kept acts first (record { words = k ∷ length h.log ∷ []; homes = s.homes; views = set s.views id (Some waiting) })) up draw_kept)
+      draw_state : IsRuled acts first (record { words = set s.words 0 ((slice_index s.words 0 + 1) % 2 ^ 64); homes = s.homes; views = set s.views id (Some waiting) })
+      draw_state = subst (λ ws. IsRuled acts first (record { words = set ws 0 ((slice_index ws 0 + 1) % 2 ^ 64); homes = s.homes; views = set s.views id (Some waiting) })) (sym h.words)
+          (subst (λ k. IsRuled acts first (record { words = k ∷ length h.log ∷ []; homes = s.homes; views = set s.views id (Some waiting) })) up draw_kept)
 
-    pub draws : (slots id : ℕ) (v : Option (Member O P R)) (c : List (ℕ × Option O)) → idle_of v ≡ true → 0 < lefts v → Allows (Kept acts first) slots id (v, c) 0 (λ n. (n + 1) % 2 ^ 64) (Drawn (step slots 0 1 0 none) (v, c))
+    pub draws : (slots id : ℕ) (v : Option (Member O P R)) (c : List (ℕ × Option O)) → idle_of v ≡ true → 0 < lefts v → Allows (IsRuled acts first) slots id (v, c) 0 (λ n. (n + 1) % 2 ^ 64) (Drawn (step slots 0 1 0 none) (v, c))
     draws slots id None c idle left = absurd (true≢false (sym idle))
     draws slots id (Some m) c idle left = λ s h size at fits. (
       Some (waiting id m s h at idle left),
@@ -129,7 +129,7 @@ module _ {O P R : Type 0} where
       subst (λ ws. Drawn (step slots 0 1 0 none) (Some m, c) (slice_index ws 0) (Some (waiting id m s h at idle left), c)) (sym h.words) (refl, bound id m s h at idle left),
     )
 
-    module _ (id t : ℕ) (m : Member O P R) (s : State (Option O) (Option (Member O P R))) (h : Kept acts first s) (at : get_elem? s.views id ≡ some (Some m)) (waits : m.stage ≡ Waits t) (turn : length h.log ≡ t) where
+    module _ (id t : ℕ) (m : Member O P R) (s : State (Option O) (Option (Member O P R))) (h : IsRuled acts first s) (at : get_elem? s.views id ≡ some (Some m)) (waits : m.stage ≡ Waits t) (turn : length h.log ≡ t) where
       abbrev holding : Member O P R
       holding = staged m m.left (Holds t h.now) h.log
 
@@ -182,7 +182,7 @@ module _ {O P R : Type 0} where
       one_ticket : tickets_of m.stage ≡ 1
       one_ticket = subst (λ st. tickets_of st ≡ 1) (sym waits) refl
 
-      turn_kept : Kept acts first (record { words = s.words; homes = set s.homes 0 none; views = set s.views id (Some holding) })
+      turn_kept : IsRuled acts first (record { words = s.words; homes = set s.homes 0 none; views = set s.views id (Some holding) })
       turn_kept = record {
         log = h.log;
         now = h.now;
@@ -202,14 +202,14 @@ module _ {O P R : Type 0} where
     same_words : (ws : List ℕ) (a b : ℕ) → ws ≡ a ∷ b ∷ [] → set ws 1 (slice_index ws 1) ≡ ws
     same_words ws a b e = subst (λ xs. set xs 1 (slice_index xs 1) ≡ xs) (sym e) refl
 
-    pub looks : (slots id t : ℕ) (m : Member O P R) → m.stage ≡ Waits t → Allows (Kept acts first) slots id (Some m, []) 1 (λ n. n) (Looked acts (step slots 1 0 0 none) (Some m, []))
+    pub looks : (slots id t : ℕ) (m : Member O P R) → m.stage ≡ Waits t → Allows (IsRuled acts first) slots id (Some m, []) 1 (λ n. n) (Looked acts (step slots 1 0 0 none) (Some m, []))
     looks slots id t m waits s h size at fits = subst (λ found. Goal found) (sym found) (by_turn (length h.log == t) refl)
       where
         found : slice_index s.words 1 ≡ length h.log
         found = subst (λ ws. slice_index ws 1 ≡ length h.log) (sym h.words) refl
 
         Goal : ℕ → Type 0
-        Goal found = (w : Option (Member O P R)) × (a : Act (Option O)) × Valid s.homes [] a × Kept acts first (stepped s 1 (slice_index s.words 1) id [] w a) × Looked acts (step slots 1 0 0 none) (Some m, []) found (w, carried_after [] a)
+        Goal found = (w : Option (Member O P R)) × (a : Act (Option O)) × Valid s.homes [] a × IsRuled acts first (stepped s 1 (slice_index s.words 1) id [] w a) × Looked acts (step slots 1 0 0 none) (Some m, []) found (w, carried_after [] a)
 
         tells : (found : ℕ) (b : Bool) (you : Me (Option O) (Option (Member O P R))) → (found == t) ≡ b → MatchBool b (HasTurn acts t m you) (you ≡ (Some m, [])) → LookedAt acts m.stage m (Some m, []) found you
         tells found b you e x = subst (λ st. LookedAt acts st m (Some m, []) found you) (sym waits) (subst (λ c. MatchBool c (HasTurn acts t m you) (you ≡ (Some m, []))) (sym e) x)
@@ -220,18 +220,18 @@ module _ {O P R : Type 0} where
               Some (holding id t m s h at waits turn),
               takes 0 (Some h.now),
               h.home (no_holder id t m s h at waits turn),
-              subst (λ ws. Kept acts first (record { words = ws; homes = set s.homes 0 none; views = set s.views id (Some (holding id t m s h at waits turn)) })) (sym (same_words s.words h.drawn (length h.log) h.words)) (turn_kept id t m s h at waits turn),
+              subst (λ ws. IsRuled acts first (record { words = ws; homes = set s.homes 0 none; views = set s.views id (Some (holding id t m s h at waits turn)) })) (sym (same_words s.words h.drawn (length h.log) h.words)) (turn_kept id t m s h at waits turn),
               tells (length h.log) true _ e (has_turn id t m s h at waits turn),
             )
         by_turn false e = (
           Some m,
           keeps,
           tt,
-          subst (λ ws. Kept acts first (record { words = ws; homes = s.homes; views = set s.views id (Some m) })) (sym (same_words s.words h.drawn (length h.log) h.words)) (rw (set_again s.views id (Some m) at) h),
+          subst (λ ws. IsRuled acts first (record { words = ws; homes = s.homes; views = set s.views id (Some m) })) (sym (same_words s.words h.drawn (length h.log) h.words)) (rw (set_again s.views id (Some m) at) h),
           tells (length h.log) false _ e refl,
         )
 
-    module _ (id t : ℕ) (m : Member O P R) (x y : O) (op : P) (reply : R) (s : State (Option O) (Option (Member O P R))) (h : Kept acts first s) (at : get_elem? s.views id ≡ some (Some m)) (holds : m.stage ≡ Holds t x) (acted : acts x op reply y) where
+    module _ (id t : ℕ) (m : Member O P R) (x y : O) (op : P) (reply : R) (s : State (Option O) (Option (Member O P R))) (h : IsRuled acts first s) (at : get_elem? s.views id ≡ some (Some m)) (holds : m.stage ≡ Holds t x) (acted : acts x op reply y) where
       abbrev new : Entry P R
       new = entry m.number op reply
 
@@ -303,7 +303,7 @@ module _ {O P R : Type 0} where
           here : (n d : ℕ) → n + 0 * d ≡ n
           here n d = grind arith
 
-      pass_kept : 0 < length s.homes → Kept acts first (record { words = h.drawn ∷ suc (length h.log) ∷ []; homes = set s.homes 0 (some (Some y)); views = set s.views id (Some passed) })
+      pass_kept : 0 < length s.homes → IsRuled acts first (record { words = h.drawn ∷ suc (length h.log) ∷ []; homes = set s.homes 0 (some (Some y)); views = set s.views id (Some passed) })
       pass_kept room = record {
         log = log';
         now = y;
@@ -317,15 +317,15 @@ module _ {O P R : Type 0} where
         home = (λ none_holds. set_here s.homes 0 (some (Some y)) room);
       }
 
-      pass_state : 0 < length s.homes → Kept acts first (record { words = set s.words 1 ((slice_index s.words 1 + 1) % 2 ^ 64); homes = set s.homes 0 (some (Some y)); views = set s.views id (Some passed) })
-      pass_state room = subst (λ ws. Kept acts first (record { words = set ws 1 ((slice_index ws 1 + 1) % 2 ^ 64); homes = set s.homes 0 (some (Some y)); views = set s.views id (Some passed) })) (sym h.words)
-          (subst (λ k. Kept acts first (record { words = h.drawn ∷ k ∷ []; homes = set s.homes 0 (some (Some y)); views = set s.views id (Some passed) })) up_one (pass_kept room))
+      pass_state : 0 < length s.homes → IsRuled acts first (record { words = set s.words 1 ((slice_index s.words 1 + 1) % 2 ^ 64); homes = set s.homes 0 (some (Some y)); views = set s.views id (Some passed) })
+      pass_state room = subst (λ ws. IsRuled acts first (record { words = set ws 1 ((slice_index ws 1 + 1) % 2 ^ 64); homes = set s.homes 0 (some (Some y)); views = set s.views id (Some passed) })) (sym h.words)
+          (subst (λ k. IsRuled acts first (record { words = h.drawn ∷ k ∷ []; homes = set s.homes 0 (some (Some y)); views = set s.views id (Some passed) })) up_one (pass_kept room))
         where
           up_one : suc (length h.log) ≡ (length h.log + 1) % 2 ^ 64
           up_one = let b = size_bound in omega arith
 
     pub passes : (slots id t : ℕ) (m : Member O P R) (x y : O) (op : P) (reply : R) → 0 < slots → m.stage ≡ Holds t x → acts x op reply y
-        → Allows (Kept acts first) slots id (Some m, (0, Some y) ∷ []) 1 (λ n. (n + 1) % 2 ^ 64) (Passed (Some op) (Some reply) (step slots 1 1 0 none) (Some m, (0, Some y) ∷ []))
+        → Allows (IsRuled acts first) slots id (Some m, (0, Some y) ∷ []) 1 (λ n. (n + 1) % 2 ^ 64) (Passed (Some op) (Some reply) (step slots 1 1 0 none) (Some m, (0, Some y) ∷ []))
     passes slots id t m x y op reply room holds acted s h size at fits = (
       Some (passed id t m x y op reply s h at holds acted),
       gives,

@@ -8,7 +8,7 @@ use Rattle.atomic_table.specs.Table.{Me, Step, Allows, step, rest}
 use Rattle.turn_desk.specs.declared.view.Stage.TheVariants.{Waits, Holds}
 use Rattle.turn_desk.specs.declared.view.Member.{Member}
 use Rattle.turn_desk.specs.Histories.{entry, Called}
-use Rattle.turn_desk.specs.Rule.{staged, idle_of, drawn_view, passed_view, Kept, HasTurn, Looked, LookedAt, Passed, TakesTurn, WaitsWith, HoldsWith}
+use Rattle.turn_desk.specs.Rule.{staged, idle_of, drawn_view, passed_view, IsRuled, HasTurn, Looked, LookedAt, Passed, TakesTurn, WaitsWith, HoldsWith}
 use Rattle.turn_desk.proofs.Steps.{looks, passes, runs_snoc}
 
 module _ {O : Type 0} where
@@ -23,19 +23,19 @@ module _ {O P R : Type 0} where
   IsMe u w = u ≡ w
 
 module _ {O P R : Type 0} (acts : O → P → R → O → Type 0) where
-  pub looks' : (first : O) (slots id t : ℕ) (me : Me (Option O) (Option (Member O P R))) → WaitsWith t me → Allows (Kept acts first) slots id me 1 (λ n. n) (Looked acts (step slots 1 0 0 none) me)
-  looks' first slots id t me h = subst (λ u. Allows (Kept acts first) slots id u 1 (λ n. n) (Looked acts (step slots 1 0 0 none) u)) (sym h.1) (looks acts first slots id t h.0 h.2)
+  pub looks' : (first : O) (slots id t : ℕ) (me : Me (Option O) (Option (Member O P R))) → WaitsWith t me → Allows (IsRuled acts first) slots id me 1 (λ n. n) (Looked acts (step slots 1 0 0 none) me)
+  looks' first slots id t me h = subst (λ u. Allows (IsRuled acts first) slots id u 1 (λ n. n) (Looked acts (step slots 1 0 0 none) u)) (sym h.1) (looks acts first slots id t h.0 h.2)
 
   pub told : (st : Step (Option O)) (t found : ℕ) (me you : Me (Option O) (Option (Member O P R))) → WaitsWith t me → Looked acts st me found you → MatchBool (found == t) (TakesTurn acts t me.0 you) (you ≡ me)
   told st t found me you h l = subst (λ u. MatchBool (found == t) (TakesTurn acts t u.0 you) (you ≡ u)) (sym h.1)
       (subst (λ s. LookedAt acts s h.0 (Some h.0, []) found you) h.2 (subst (λ u. Looked acts st u found you) h.1 l))
 
   pub passes' : (first : O) (slots id : ℕ) (me : Me (Option O) (Option (Member O P R))) (op : P) (reply : R) (o : Option P) (r : Option R) → 0 < slots → HoldsWith acts op reply me → o ≡ Some op → r ≡ Some reply
-      → Allows (Kept acts first) slots id me 1 (λ n. (n + 1) % 2 ^ 64) (Passed o r (step slots 1 1 0 none) me)
+      → Allows (IsRuled acts first) slots id me 1 (λ n. (n + 1) % 2 ^ 64) (Passed o r (step slots 1 1 0 none) me)
   passes' first slots id me op reply o r room h eo er =
-      subst (λ o'. Allows (Kept acts first) slots id me 1 (λ n. (n + 1) % 2 ^ 64) (Passed o' r (step slots 1 1 0 none) me)) (sym eo)
-      (subst (λ r'. Allows (Kept acts first) slots id me 1 (λ n. (n + 1) % 2 ^ 64) (Passed (Some op) r' (step slots 1 1 0 none) me)) (sym er)
-      (subst (λ u. Allows (Kept acts first) slots id u 1 (λ n. (n + 1) % 2 ^ 64) (Passed (Some op) (Some reply) (step slots 1 1 0 none) u)) (sym h.4)
+      subst (λ o'. Allows (IsRuled acts first) slots id me 1 (λ n. (n + 1) % 2 ^ 64) (Passed o' r (step slots 1 1 0 none) me)) (sym eo)
+      (subst (λ r'. Allows (IsRuled acts first) slots id me 1 (λ n. (n + 1) % 2 ^ 64) (Passed (Some op) r' (step slots 1 1 0 none) me)) (sym er)
+      (subst (λ u. Allows (IsRuled acts first) slots id u 1 (λ n. (n + 1) % 2 ^ 64) (Passed (Some op) (Some reply) (step slots 1 1 0 none) u)) (sym h.4)
       (passes acts first slots id h.1 h.0 h.2 h.3 op reply room h.5 h.6)))
 
   pub passed_is : (st : Step (Option O)) (found : ℕ) (me you : Me (Option O) (Option (Member O P R))) (op : P) (reply : R) (o : Option P) (r : Option R) → o ≡ Some op → r ≡ Some reply → Passed o r st me found you → Passed (Some op) (Some reply) st me found you

@@ -85,7 +85,7 @@ module _ {O P R : Type 0} where
   -- The rule. There is one history, which leads from the first object to the one now. Word 0 counts the tickets drawn and
   -- word 1 the turns passed. The tickets drawn and the calls that all seats have left are together 2 ^ 63; the tickets drawn
   -- are the turns passed and the seats that have a ticket. While no seat has the turn, the slot has the object.
-  pub record Kept (acts : O → P → R → O → Type 0) (first : O) (s : State (Option O) (Option (Member O P R))) : Type 0 where
+  pub record IsRuled (acts : O → P → R → O → Type 0) (first : O) (s : State (Option O) (Option (Member O P R))) : Type 0 where
     pub log : List (Entry P R)
     pub now : O
     pub drawn : ℕ

@@ -11,9 +11,9 @@ pub struct Turns<O: Object> {
 }
 
 impl<O: Object> TableRule<Option<O>, Option<Member<O, O::Op, O::Reply>>, Snapshot<O>> for Turns<O> {
-    ghost use Rattle.turn_desk.specs.Rule.{Kept, newcomer};
+    ghost use Rattle.turn_desk.specs.Rule.{IsRuled, newcomer};
 
-    ghost holds = { λ key. Kept O.acts key.value };
+    ghost holds = { λ key. IsRuled O.acts key.value };
 
     ghost first = { λ key. newcomer key.value };
 }

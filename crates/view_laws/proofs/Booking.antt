@@ -50,7 +50,7 @@ read_one : (s : Settings) (number : ℕ) (read : Reading) → AtMostOne (booking
 read_one s number (Err fault) = inl refl
 read_one s number (Ok said.Hello) = inl refl
 read_one s number (Ok said.Error) = inl refl
-read_one s number (Ok said.EchoRequest) = inl refl
+read_one s number (Ok (said.EchoRequest body)) = inl refl
 read_one s number (Ok said.EchoReply) = inl refl
 read_one s number (Ok said.Vendor) = inl refl
 read_one s number (Ok said.FeaturesRequest) = inl refl
@@ -146,7 +146,7 @@ read_as : (s : Settings) (number : ℕ) (read : Reading) (c : BookCall) → book
 read_as s number (Err fault) c is = cc
 read_as s number (Ok said.Hello) c is = cc
 read_as s number (Ok said.Error) c is = cc
-read_as s number (Ok said.EchoRequest) c is = cc
+read_as s number (Ok (said.EchoRequest body)) c is = cc
 read_as s number (Ok said.EchoReply) c is = cc
 read_as s number (Ok said.Vendor) c is = cc
 read_as s number (Ok said.FeaturesRequest) c is = cc

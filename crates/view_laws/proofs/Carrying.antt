@@ -5,6 +5,7 @@ use Rattle.byteorder.specs.Endian.{big_bytes}
 use Rattle.byteorder.specs.Numbers.{big_number-reads_back}
 use Rattle.of10_action.specs.declared.action.Action.{Action}
 use Rattle.of10_action.specs.Actions.{padding}
+use Rattle.of10_action.specs.Reading.{list_given}
 use Rattle.of10_model.specs.declared.pattern.Pattern.{Pattern}
 use Rattle.of10_ctl.specs.declared.kind.TheConstants.{STATS_REQUEST, BARRIER_REQUEST, QUEUE_GET_CONFIG_REQUEST}
 use Rattle.of10_ctl.specs.Frames.{message_of}
@@ -18,7 +19,7 @@ use Rattle.xid_map.specs.Requests.{physical_of, issued}
 use Rattle.slice_words.specs.Items.{Settings, Item, Opened, Up, Down, Msg, Lost, Handed, Removed, Status, Fault, Barrier, Queues, Entry, Last, End, is_up}
 use Rattle.slice_words.specs.Pasts.{Inquiry, ForStatistics, ForBarrier, ForQueues, Answer, Past, Outgoing, Modifies, SendsOut, Asks, no_answer}
 use Rattle.slice_words.specs.Buffers.{HeldPacket}
-use Rattle.slice_words.specs.FlowMods.{Ground, ground_of, list_given, packet_at, named_packet, naming, carrier_of, flow_mods_on, pieces_on, lists_on, sent_on}
+use Rattle.slice_words.specs.FlowMods.{Ground, ground_of, packet_at, named_packet, naming, carrier_of, flow_mods_on, pieces_on, lists_on, sent_on}
 use Rattle.slice_words.specs.PacketOuts.{permitted_out, sent_out_with, packet_out_on, sent_out}
 use Rattle.slice_words.specs.Questions.{asking}
 use Rattle.slice_words.specs.Answers.{message_answer}
@@ -69,7 +70,7 @@ message_under s view past moment message =
       old = none;
       nothing = none;
       refuses = λ fault. none;
-      echoes = none;
+      echoes = λ body read. none;
       tells_features = λ features. none;
       tells_configuration = none;
       forwards = λ m read fault. on_under (ground_of s view past) m;

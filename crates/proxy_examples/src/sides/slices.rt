@@ -57,30 +57,11 @@ impl Bench {
         )
     }
 
-    /// A message comes, and changes the state; the moment of that, and how many bytes of a packet it sets.
-    fn settle(
-        &mut self,
-        alloc: Global,
-        digits: &str,
-        moment: u64,
-    ) -> Result<(u64, u16), AllocError> {
+    /// A message comes, and changes the state.
+    fn settle(&mut self, alloc: Global, digits: &str, moment: u64) -> Result<(), AllocError> {
         let message = frame(alloc, &[digits])?;
         let Reaction { change, .. } = self.hear(alloc, &message, moment)?;
-        let set = set_by(&change);
-        put(&mut self.state, change)?;
-        Ok(set)
-    }
-}
-
-/// The moment of a message that comes, and how many bytes of a packet it sets, or 0.
-fn set_by(change: &Change) -> (u64, u16) {
-    match change {
-        Change::Heard { moment } => (*moment, 0),
-        Change::Set {
-            moment,
-            miss_send_len,
-        } => (*moment, *miss_send_len),
-        _ => (0, 0),
+        put(&mut self.state, change)
     }
 }
 
@@ -168,20 +149,11 @@ fn features_are_those_of_the_slice(rt: HostRuntime) -> Result<(), Fail> {
 }
 
 impl Bench {
-    /// Whether the message that comes at that moment sets so many bytes of a packet, or 0, and whether the slice wants
-    /// so many then and was heard last at that moment.
-    fn is_settled(
-        &mut self,
-        alloc: Global,
-        digits: &str,
-        moment: u64,
-        sets: u16,
-        then: (u16, u64),
-    ) -> bool {
+    /// Whether the slice wants so many bytes of a packet once the message has come at its moment, and was heard last
+    /// at that other moment.
+    fn is_settled(&mut self, alloc: Global, digits: &str, moment: u64, then: (u16, u64)) -> bool {
         match self.settle(alloc, digits, moment) {
-            Ok((at, set)) => {
-                at == moment && set == sets && stands_so(&self.state, true, then.0, then.1)
-            }
+            Ok(()) => stands_so(&self.state, true, then.0, then.1),
             Err(_) => false,
         }
     }
@@ -198,8 +170,8 @@ impl Bench {
 fn what_was_set_lasts_as_long_as_the_connection(rt: HostRuntime) -> Result<(), Fail> {
     let alloc = rt.alloc();
     let mut bench = set_up(alloc)?;
-    let is_set = bench.is_settled(alloc, "0109000c0000000100000010", 7, 16, (16, 7));
-    let is_kept = bench.is_settled(alloc, "0103000800000001", 5, 0, (16, 7));
+    let is_set = bench.is_settled(alloc, "0109000c0000000100000010", 7, (16, 7));
+    let is_kept = bench.is_settled(alloc, "0103000800000001", 5, (16, 7));
     let is_left = bench.is_left(128, 7);
     expect(&rt, is_set, "a setting");
     expect(&rt, is_kept, "an echo after it");

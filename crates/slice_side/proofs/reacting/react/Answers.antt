@@ -6,24 +6,23 @@ use Rattle.slice_words.specs.Pasts.{Answer}
 use Rattle.slice_words.specs.Standing.{past_of}
 use Rattle.slice_side.specs.Reactions.{Follows}
 use Rattle.slice_side.specs.Checking.{AreSentOn}
-use Rattle.slice_side.proofs.Answering.{shown, reaction_of, asked_answer, unread_is}
+use Rattle.slice_side.proofs.Answering.{shown, reaction_of, asked_answer}
 use Rattle.slice_side.proofs.Sending.{nothing_sent}
 use Rattle.slice_side.proofs.reacting.react.Goals as goal
 
 pub returns-in-Err-clause-reaction : goal.returns-in-Err-clause-reaction
 returns-in-Err-clause-reaction c s sight stands sees = IfOk-weaker c.unread.result _ _
-    (λ r follows. reaction_of s sight c.args.frame.now c.args.moment r (Err c.in-Unread.found) sees.up
-    (unread_is c.in-Err.fault c.in-Unread.found (read_controller c.args.frame.now) c.in-Unread.is c.in-Err.ensures) follows) (c.unread.ensures.follows s sight)
+    (λ r follows. reaction_of s sight c.args.frame.now c.args.moment r (Err c.in-Err.fault) sees.up (sym c.in-Err.ensures) follows) (c.unread.ensures.follows s sight)
 
 pub returns-then-asks_switch-clause-reaction : goal.returns-then-asks_switch-clause-reaction
 returns-then-asks_switch-clause-reaction c s sight stands sees = IfOk-weaker c.question.result _ _
-    (λ r follows. reaction_of s sight c.args.frame.now c.args.moment r (Ok c.in-Ok.message) sees.up c.in-Ok.ensures
+    (λ r follows. reaction_of s sight c.args.frame.now c.args.moment r (Ok c.in-Ok.message) sees.up (sym c.in-Ok.ensures)
     (subst (λ (a : Answer). Follows s sight c.args.frame.now (Ok c.in-Ok.message) a c.args.moment r)
     (asked_answer s sight.view (past_of s sight.view) c.args.moment c.args.frame.now c.in-Ok.message (sym c.asks_switch.ensures ∙ c.if-asks_switch.true)) follows)) (c.question.ensures.follows s sight stands sees)
 
-pub returns-clause-reaction : goal.returns-clause-reaction
-returns-clause-reaction c s sight stands sees = IfOk-weaker c.local.result _ _
-    (λ r follows. reaction_of s sight c.args.frame.now c.args.moment r (Ok c.in-Ok.message) sees.up c.in-Ok.ensures follows)
+pub returns-else-asks_switch-clause-reaction : goal.returns-else-asks_switch-clause-reaction
+returns-else-asks_switch-clause-reaction c s sight stands sees = IfOk-weaker c.local.result _ _
+    (λ r follows. reaction_of s sight c.args.frame.now c.args.moment r (Ok c.in-Ok.message) sees.up (sym c.in-Ok.ensures) follows)
     (c.local.ensures.follows s sight (past_of s sight.view) (shown s sight c.args.state.now c.args.policy.now c.args.ports.now c.args.features.now c.args.slot stands sees))
 
 pub returns-in-Err-clause-sent : goal.returns-in-Err-clause-sent
@@ -31,7 +30,7 @@ returns-in-Err-clause-sent c = nothing_sent c.unread.result c.args.policy.now.ru
 
 pub returns-then-asks_switch-clause-sent : goal.returns-then-asks_switch-clause-sent
 returns-then-asks_switch-clause-sent c =
-    subst (λ (read : Reading). IfOk c.question.result (λ r. AreSentOn c.args.policy.now.rules c.args.slot c.args.ports.now c.args.state.now read r.to_switch.items)) (sym c.in-Ok.ensures) c.question.ensures.sent
+    subst (λ (read : Reading). IfOk c.question.result (λ r. AreSentOn c.args.policy.now.rules c.args.slot c.args.ports.now c.args.state.now read r.to_switch.items)) c.in-Ok.ensures c.question.ensures.sent
 
-pub returns-clause-sent : goal.returns-clause-sent
-returns-clause-sent c = nothing_sent c.local.result c.args.policy.now.rules c.args.slot c.args.ports.now c.args.state.now (read_controller c.args.frame.now) c.local.ensures.nothing
+pub returns-else-asks_switch-clause-sent : goal.returns-else-asks_switch-clause-sent
+returns-else-asks_switch-clause-sent c = nothing_sent c.local.result c.args.policy.now.rules c.args.slot c.args.ports.now c.args.state.now (read_controller c.args.frame.now) c.local.ensures.nothing

@@ -13,8 +13,8 @@ loop-at-init g c = record {
   sixteen = c.in_ok-switches.ensures.0;
 }
 
-pub record_at-item-requires : goal.record_at-item-requires
-record_at-item-requires g c =
+pub item_at-item-requires : goal.item_at-item-requires
+item_at-item-requires g c =
     let all = c.requires.items in
     (walking_next g.T.Teller.Tells c.args.self.now.policy.now c.args.file.now all.0 c.loop-at.at c.args.self.now c.loop-at.self c.loop-at.switches.items c.loop-at-test.true (c.loop-at.invariant.walking all.0 all.1)).0
 
@@ -22,33 +22,33 @@ pub play_item-requires-clause-item : goal.play_item-requires-clause-item
 play_item-requires-clause-item g c =
     let all = c.requires.items in
     (walking_next g.T.Teller.Tells c.args.self.now.policy.now c.args.file.now all.0 c.loop-at.at c.args.self.now c.loop-at.self c.loop-at.switches.items c.loop-at-test.true (c.loop-at.invariant.walking all.0 all.1)).1
-    c.record_at-item.result c.record_at-item.ensures
+    c.item_at-item.result c.item_at-item.ensures
 
 pub returns-in_err-play_item : goal.returns-in_err-play_item
 returns-in_err-play_item g c = λ items read.
-    walking_part g.T.Teller.Tells c.args.self.now.policy.now c.args.file.now items c.loop-at.at c.record_at-item.result _ c.from_residual-in_err-play_item.result c.args.self.now c.loop-at.self c.play_item.new.self c.loop-at.switches.items c.play_item.new.switches.items
-    c.loop-at-test.true c.record_at-item.ensures (c.loop-at.invariant.walking items read) c.from_residual-in_err-play_item.ensures.1 c.in_err-play_item.ensures.plays
+    walking_part g.T.Teller.Tells c.args.self.now.policy.now c.args.file.now items c.loop-at.at c.item_at-item.result _ c.from_residual-in_err-play_item.result c.args.self.now c.loop-at.self c.play_item.new.self c.loop-at.switches.items c.play_item.new.switches.items
+    c.loop-at-test.true c.item_at-item.ensures (c.loop-at.invariant.walking items read) c.from_residual-in_err-play_item.ensures.1 c.in_err-play_item.ensures.plays
 
 pub overflow_add-at : goal.overflow_add-at
 overflow_add-at g c =
     let all = c.requires.items in
     let item = (walking_next g.T.Teller.Tells c.args.self.now.policy.now c.args.file.now all.0 c.loop-at.at c.args.self.now c.loop-at.self c.loop-at.switches.items c.loop-at-test.true (c.loop-at.invariant.walking all.0 all.1)).1
-    c.record_at-item.result c.record_at-item.ensures in
-    let within : c.record_at-item.result.from + c.record_at-item.result.size ≤ length c.args.file.now = item.within in
+    c.item_at-item.result c.item_at-item.ensures in
+    let within : c.item_at-item.result.from + c.item_at-item.result.size ≤ length c.args.file.now = item.within in
     let fits = c.type_inv.file in
     omega (arith, within, fits)
 
 pub loop-at-smaller : goal.loop-at-smaller
 loop-at-smaller g c =
-    let from = from_is c.args.file.now c.loop-at.at c.record_at-item.result c.record_at-item.ensures in
+    let from = from_is c.args.file.now c.loop-at.at c.item_at-item.result c.item_at-item.ensures in
     let more = c.loop-at-test.true in
     omega (arith, from, more)
 
 pub loop-at-preserved : goal.loop-at-preserved
 loop-at-preserved g c = record {
   walking = λ items read.
-      walking_more g.T.Teller.Tells c.args.self.now.policy.now c.args.file.now items c.loop-at.at c.record_at-item.result tt c.args.self.now c.loop-at.self c.play_item.new.self c.loop-at.switches.items c.play_item.new.switches.items
-      c.loop-at-test.true c.record_at-item.ensures (c.loop-at.invariant.walking items read) c.in_ok-play_item.ensures.plays;
+      walking_more g.T.Teller.Tells c.args.self.now.policy.now c.args.file.now items c.loop-at.at c.item_at-item.result tt c.args.self.now c.loop-at.self c.play_item.new.self c.loop-at.switches.items c.play_item.new.switches.items
+      c.loop-at-test.true c.item_at-item.ensures (c.loop-at.invariant.walking items read) c.in_ok-play_item.ensures.plays;
   sixteen = c.in_ok-play_item.ensures.count;
 }
 
