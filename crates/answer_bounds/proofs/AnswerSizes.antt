@@ -35,7 +35,7 @@ use Rattle.slice_words.specs.Questions.{asking}
 use Rattle.slice_words.specs.Calls.{request_calls, request_for, book_calls}
 use Rattle.slice_words.specs.FlowMods.{Ground, ground_of, packet_at, sent_on, flow_mod_fault}
 use Rattle.slice_words.specs.PacketOuts.{packet_out_on, packet_out_size, sent_out, packet_out_fault}
-use Rattle.slice_words.specs.Answers.{error_for, refused, no_common_version, bad_length, config_told, packet_message, packet_told, message_answer, removal_told, error_told, answer}
+use Rattle.slice_words.specs.Answers.{error_for, refused, no_common_version, bad_request_length, config_told, packet_message, packet_told, message_answer, removal_told, error_told, answer}
 use Rattle.slice_words.specs.Alone.{number_it_came_with, spell_inquiry, rendered, played, answer_to, sent_for, put_for}
 use Rattle.of10_model.proofs.Results.{either}
 use Rattle.slice_words.proofs.AnswerKinds.{message_holds}
@@ -122,7 +122,7 @@ short-queues xid message queues read =
 
 message_size : (s : Settings) (view : List Item) (past : List Past) (moment : ℕ) (message : List ℕ) → IsShort message → HasFewPorts view → IsSmall (message_answer s view past moment message)
 message_size s view past moment message short ports = message_holds (λ (ends : Bool) (a : Answer). IsSmall a) s view past moment message (record {
-  bad = small_dismissal (error_for bad_length message) (short-error (xid_of message) bad_length.0 bad_length.1 message);
+  bad = small_dismissal (error_for bad_request_length message) (short-error (xid_of message) bad_request_length.0 bad_request_length.1 message);
   old = small_dismissal (error_of (xid_of message) no_common_version.0 no_common_version.1 []) (short-error (xid_of message) no_common_version.0 no_common_version.1 []);
   nothing = small_silence;
   refuses = λ fault. small_refused fault message;

@@ -11,7 +11,7 @@ use Rattle.desk_words.specs.declared.phase.Phase.TheVariants.{Fresh, Begun, Open
 use Rattle.desk_words.specs.Openings.{phase_of, opening_of}
 use Rattle.desk_words.specs.Histories.{is_slot, settings_at, side_of, view_of}
 use Rattle.desk_words.specs.Sent.{slice_lane}
-use Rattle.answer_bounds.specs.Bounds.{IsFramed, AreFramed, Fits, AreSmall, SendsLittle}
+use Rattle.answer_bounds.specs.Bounds.{IsFramed, AreFramed, FitsQueues, AreSmall, SendsLittle}
 use Rattle.answer_bounds.proofs.Messages.{small-none}
 use Rattle.answer_bounds.proofs.AnswerSizes.{IsBounded, put_size}
 use Rattle.answer_bounds.proofs.Items.{items_answered}
@@ -52,7 +52,7 @@ answers_little policy h timed framed one = record {
   few = λ plain slot. (items_answered policy slot h timed framed one).few plain;
 }
 
-pub answers_fit : (policy : PolicyView) (h : List Timed) (timed : Timed) → AreFramed h → IsFramed timed.event → Fits policy h timed
+pub answers_fit : (policy : PolicyView) (h : List Timed) (timed : Timed) → AreFramed h → IsFramed timed.event → FitsQueues policy h timed
 answers_fit policy h timed framed one =
     let little = answers_little policy h timed framed one in
     let lane = little.lane.small in

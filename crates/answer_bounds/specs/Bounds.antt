@@ -24,7 +24,7 @@ abbrev pub AreFramed : List Timed → Type 0
 AreFramed h = All (λ timed. IsFramed timed.event) h
 
 -- what follows from an event after a history fits the limits: for the switch, and for each slice
-pub record Fits (policy : PolicyView) (h : List Timed) (timed : Timed) : Type 0 where
+pub record FitsQueues (policy : PolicyView) (h : List Timed) (timed : Timed) : Type 0 where
   pub lane : size (lane_by policy h timed) ≤ lane_limit
   pub slices : (slot : ℕ) → size (sent_by policy slot h timed) ≤ slice_limit
 

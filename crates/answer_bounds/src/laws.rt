@@ -3,7 +3,7 @@
 ghost use Rattle.std.specs.Prelude.{List};
 ghost use Rattle.flowspace.specs.Policies.{PolicyView};
 ghost use Rattle.desk_words.specs.declared.event.Timed.{Timed};
-ghost use Rattle.answer_bounds.specs.Bounds.{IsFramed, AreFramed, Fits, SendsLittle};
+ghost use Rattle.answer_bounds.specs.Bounds.{IsFramed, AreFramed, FitsQueues, SendsLittle};
 
 /// Where all messages that come in are frames, one event has at most 262,144 bytes sent to the switch and
 /// 524,492 to each slice, and if it tells no statistics at most two messages to each slice; each message has
@@ -14,5 +14,5 @@ pub fn answers_are_bounded()
 
 /// So what one event has sent always fits the limits of the queues, for the switch and for each slice.
 pub fn answers_fit()
-    ensures { (policy : PolicyView) (h : List Timed) (timed : Timed) → AreFramed h → IsFramed timed.event → Fits policy h timed }
+    ensures { (policy : PolicyView) (h : List Timed) (timed : Timed) → AreFramed h → IsFramed timed.event → FitsQueues policy h timed }
 {}

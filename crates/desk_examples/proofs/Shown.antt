@@ -41,7 +41,7 @@ use Rattle.slice_words.specs.PacketOuts.{packet_out_fault}
 use Rattle.slice_words.specs.Answers.{read_answer, packet_told}
 use Rattle.desk_words.specs.Histories.{message_items}
 use Rattle.desk_words.specs.Recorded.{all_happened}
-use Rattle.desk_words.specs.Reports.{report}
+use Rattle.desk_words.specs.Reports.{lines_from, report}
 use Rattle.desk_examples.specs.Examples.{policy, PacketReaches, PacketPasses, BadLengthCloses, FeaturesAreTold, ConfigIsKept, FlagsAreRefused, OldVersionCloses, EchoIsAnswered, VendorIsRefused, PortModIsRefused}
 use Rattle.desk_examples.specs.Ports.{StatusReachesBob, OwnPortsAreTold, OtherPortIsRefused}
 use Rattle.desk_examples.specs.Connections.{NothingHappens, SwitchGoes, BadLengthEndsTheSwitch, EarlySliceIsRefused}
@@ -54,7 +54,7 @@ use Rattle.desk_examples.specs.PacketOuts.{ReusedPacketIsLost, PacketIsUsedOnce,
 
 -- what the examples compute with
 computing : Bool
-unfolding digits encode_with has Spell frames_at frames_of features_front read_features spell_features read_port_status spell_port_status ports_in spell_flow_mod read_packet_in spell_packet_in header_of_packet link_of tagged_link typed arp_of ipv4_of network_of transport_at transport_of probe_slot_of trailer_slot changed changed_plainly first_known kept_of with_port without_port spelled applied includes_of meet_of is_same head_at action_of action_at actions_at flow_mod_with read_flow_mod read_flow_removed read_controller read_typed read_switch read_sent read_error pair_in code_of piece_message has_room is_conforming accepted is_accepted requests remembered found book flow_mod_fault read_answer packet_told message_items report all_happened part_of read_request request_of spell_request length_of entries_at entries_in is_own_entry collecting since added summed joined_entries kept_run gathered paged replies_of sum_reply table_reply read_queues spell_flow_removed read_packet_out spell_packet_out packet_out_fault
+unfolding digits encode_with has Spell frames_at frames_of features_front read_features spell_features read_port_status spell_port_status ports_in spell_flow_mod read_packet_in spell_packet_in header_of_packet link_of tagged_link typed arp_of ipv4_of network_of transport_at transport_of probe_slot_of trailer_slot changed changed_plainly first_known kept_of with_port without_port spelled applied includes_of meet_of is_same head_at action_of action_at actions_at flow_mod_with read_flow_mod read_flow_removed read_controller read_typed read_switch read_sent read_error pair_in code_of piece_message has_room is_conforming accepted is_accepted requests remembered found book flow_mod_fault read_answer packet_told message_items lines_from report all_happened part_of read_request request_of spell_request length_of entries_at entries_in is_own_entry collecting since added summed joined_entries kept_run gathered paged replies_of sum_reply table_reply read_queues spell_flow_removed read_packet_out spell_packet_out packet_out_fault
 computing = true
 
 pub packet_reaches_shown : PacketReaches

@@ -1,51 +1,52 @@
 -- Which events a record makes, and what history they make.
-use Rattle.std.proofs.Common.{◌≡◌, ℕ, zero, suc, ◌<◌, ◌≤◌, Bool, true, false, if◌then◌else◌, List, [], ◌∷◌, ◌++◌, length, map, take, reverse, refl, ap, sym, ◌∙◌, eq-eqb, arith}
+use Rattle.std.proofs.Common.{◌≡◌, ℕ, zero, suc, ◌<◌, ◌≤◌, Bool, true, false, if◌then◌else◌, List, [], ◌∷◌, ◌++◌, length, map, take, reverse, slice_get, Some, refl, ap, sym, subst, ◌∙◌, eq-eqb, arith}
 use Rattle.std.specs.List.{take_while}
 use Rattle.std.proofs.lemmas.List.Sums.{take_while-cons}
+use Rattle.std.proofs.lemmas.Option.{none-some, same_Some}
 use Rattle.flowspace.specs.Policies.{PolicyView}
 use Rattle.recording.specs.Recordings.{Told}
 use Rattle.recording.proofs.Refused.{newest_first}
 use Rattle.desk_words.specs.declared.event.Event.{Event}
 use Rattle.desk_words.specs.declared.event.Timed.{Timed}
 use Rattle.desk_words.specs.Verdicts.{is_over}
-use Rattle.desk_words.specs.Recorded.{timed_at, happenings, is_there, next_of, next_after, Happened, each_after, timed_of, history_at, happened_in, events_in}
+use Rattle.desk_words.specs.Recorded.{timed_at, happenings, happens, next_of, next_after, Happened, each_after, timed_of, history_at, happened_in, events_in}
 use Rattle.desk_words.specs.Laws.{MakesTheFirst, GetsTheFirst, ComeAtTheirSwitch}
 use Rattle.desk_words.proofs.Reporting.{each_next}
 
 -- ---- what happens
 
--- of these events after a history the first, as long as a test of the history says so
-abbrev pub made_where : (List Timed → Bool) → ℕ → List Timed → List Timed → List Happened
-made_where test switch h events = take_while (λ one. test one.history) (each_after switch h events)
+-- of these events after a history the first, as long as a test of the history before each and of the event says so
+abbrev pub made_where : (List Timed → Event → Bool) → ℕ → List Timed → List Timed → List Happened
+made_where test switch h events = take_while (λ one. test one.history one.timed.event) (each_after switch h events)
 
-pub made_next : (test : List Timed → Bool) (switch : ℕ) (h : List Timed) (timed : Timed) (later : List Timed) (now : Bool) → test h ≡ now
+pub made_next : (test : List Timed → Event → Bool) (switch : ℕ) (h : List Timed) (timed : Timed) (later : List Timed) (now : Bool) → test h timed.event ≡ now
     → made_where test switch h (timed ∷ later) ≡ (if now then record { switch = switch; history = h; timed = timed } ∷ made_where test switch (next_of h timed) later else [])
 made_next test switch h timed later now is =
     let first : Happened = record { switch = switch; history = h; timed = timed } in
     let others = each_after switch (next_of h timed) later in
-    ap (take_while (λ one. test one.history)) (each_next switch h timed later)
-    ∙ take_while-cons (λ one. test one.history) first others
-    ∙ ap (λ (b : Bool). if b then first ∷ take_while (λ one. test one.history) others else []) is
+    ap (take_while (λ one. test one.history one.timed.event)) (each_next switch h timed later)
+    ∙ take_while-cons (λ one. test one.history one.timed.event) first others
+    ∙ ap (λ (b : Bool). if b then first ∷ take_while (λ one. test one.history one.timed.event) others else []) is
 
 pub timed_each : (switch : ℕ) (h events : List Timed) → timed_of (each_after switch h events) ≡ events
 timed_each switch h [] = refl
 timed_each switch h (timed ∷ later) = ap timed_of (each_next switch h timed later) ∙ ap (λ (events : List Timed). timed ∷ events) (timed_each switch (next_of h timed) later)
 
--- so many of them are made: the test says so before each, and not after them where any is left
-record AreFirst (test : List Timed → Bool) (switch moment : ℕ) (h : List Timed) (events : List Event) : Type 0 where
+-- so many of them are made: the test says so of each, and not of the next where any is left
+record AreFirst (test : List Timed → Event → Bool) (switch moment : ℕ) (h : List Timed) (events : List Event) : Type 0 where
   count : ℕ
   within : count ≤ length events
   made : made_where test switch h (map (timed_at moment) events) ≡ each_after switch h (map (timed_at moment) (take count events))
-  there : (k : ℕ) → k < count → test (next_after h (map (timed_at moment) (take k events))) ≡ true
-  gone : count < length events → test (next_after h (map (timed_at moment) (take count events))) ≡ false
+  there : (k : ℕ) (event : Event) → k < count → slice_get events k ≡ Some event → test (next_after h (map (timed_at moment) (take k events))) event ≡ true
+  gone : (event : Event) → slice_get events count ≡ Some event → test (next_after h (map (timed_at moment) (take count events))) event ≡ false
 
-first_there : (moment : ℕ) (test : List Timed → Bool) (h : List Timed) (event : Event) (later : List Event) (count : ℕ) → test h ≡ true
-    → ((k : ℕ) → k < count → test (next_after (next_of h (timed_at moment event)) (map (timed_at moment) (take k later))) ≡ true)
-    → (k : ℕ) → k < suc count → test (next_after h (map (timed_at moment) (take k (event ∷ later)))) ≡ true
-first_there moment test h event later count is others zero lt = is
-first_there moment test h event later count is others (suc k) lt = others k (omega arith)
+first_there : (moment : ℕ) (test : List Timed → Event → Bool) (h : List Timed) (event : Event) (later : List Event) (count : ℕ) → test h event ≡ true
+    → ((k : ℕ) (next : Event) → k < count → slice_get later k ≡ Some next → test (next_after (next_of h (timed_at moment event)) (map (timed_at moment) (take k later))) next ≡ true)
+    → (k : ℕ) (next : Event) → k < suc count → slice_get (event ∷ later) k ≡ Some next → test (next_after h (map (timed_at moment) (take k (event ∷ later)))) next ≡ true
+first_there moment test h event later count is others zero next lt at = subst (λ (e : Event). test h e ≡ true) (same_Some event next at) is
+first_there moment test h event later count is others (suc k) next lt at = others k next (omega arith) at
 
-first_by : (test : List Timed → Bool) (switch moment : ℕ) (h : List Timed) (event : Event) (later : List Event) (now : Bool) → test h ≡ now
+first_by : (test : List Timed → Event → Bool) (switch moment : ℕ) (h : List Timed) (event : Event) (later : List Event) (now : Bool) → test h event ≡ now
     → AreFirst test switch moment (next_of h (timed_at moment event)) later → AreFirst test switch moment h (event ∷ later)
 first_by test switch moment h event later true is first =
     let timed = timed_at moment event in
@@ -58,22 +59,22 @@ first_by test switch moment h event later true is first =
           ∙ ap (λ (others : List Happened). one ∷ others) first.made
           ∙ sym (each_next switch h timed (map (timed_at moment) (take first.count later)));
       there = first_there moment test h event later first.count is first.there;
-      gone = λ lt. first.gone (omega arith);
+      gone = λ next at. first.gone next at;
     }
 first_by test switch moment h event later false is first = record {
   count = 0;
   within = omega arith;
   made = made_next test switch h (timed_at moment event) (map (timed_at moment) later) false is;
-  there = λ k lt. absurd (omega arith);
-  gone = λ lt. is;
+  there = λ k next lt at. absurd (omega arith);
+  gone = λ next at. subst (λ (e : Event). test h e ≡ false) (same_Some event next at) is;
 }
 
-first_of : (test : List Timed → Bool) (switch moment : ℕ) (h : List Timed) (events : List Event) → AreFirst test switch moment h events
-first_of test switch moment h [] = record { count = 0; within = omega arith; made = refl; there = λ k lt. absurd (omega arith); gone = λ lt. absurd (omega arith) }
-first_of test switch moment h (event ∷ later) = first_by test switch moment h event later (test h) refl (first_of test switch moment (next_of h (timed_at moment event)) later)
+first_of : (test : List Timed → Event → Bool) (switch moment : ℕ) (h : List Timed) (events : List Event) → AreFirst test switch moment h events
+first_of test switch moment h [] = record { count = 0; within = omega arith; made = refl; there = λ k next lt at. absurd (omega arith); gone = λ next at. absurd (none-some next at) }
+first_of test switch moment h (event ∷ later) = first_by test switch moment h event later (test h event) refl (first_of test switch moment (next_of h (timed_at moment event)) later)
 
-first_in : (policy : PolicyView) (r : Told) (before : List Told) → AreFirst (is_there policy r) r.switch r.moment (history_at policy r before) (happenings r before)
-first_in policy r before = first_of (is_there policy r) r.switch r.moment (history_at policy r before) (happenings r before)
+first_in : (policy : PolicyView) (r : Told) (before : List Told) → AreFirst (happens policy) r.switch r.moment (history_at policy r before) (happenings r before)
+first_in policy r before = first_of (happens policy) r.switch r.moment (history_at policy r before) (happenings r before)
 
 made_as : (policy : PolicyView) (r : Told) (before : List Told) → events_in policy r before ≡ map (timed_at r.moment) (take (first_in policy r before).count (happenings r before))
 made_as policy r before =

@@ -13,7 +13,7 @@ use Rattle.of10_flow.specs.declared.packet_in.PacketIn.{PacketIn}
 use Rattle.flowspace.specs.declared.rules.Rule.{Rule}
 use Rattle.flowspace.specs.Order.{writer_of, readers_of}
 use Rattle.flowspace.specs.Policies.{PolicyView}
-use Rattle.slice_words.specs.Items.{Settings, Writer, Reader, Probe, Packet, Item, Opened as Told, Up, Down, Msg, Lost, Handed, Removed, Status, Fault, Barrier, Queues, Entry, Last, End, is_up, is_own_port, is_buffered, buffered_count}
+use Rattle.slice_words.specs.Items.{Settings, Writer, Reader, Probe, Packet, Item, Opened as Told, Up, Down, Msg, Lost, Handed, Removed, Status, Fault, Barrier, Queues, Entry, Last, End, is_up, is_own_port, is_buffered, buffered_count, hands_up_buffered}
 use Rattle.slice_words.specs.Messages.{is_dismissing}
 use Rattle.slice_words.specs.Pasts.{Answer, view_in}
 use Rattle.slice_words.specs.Buffers.{HeldPacket, packet_header, is_named, is_recent_packet, held_after, held_packets}
@@ -21,7 +21,7 @@ use Rattle.slice_words.specs.Answers.{answer}
 use Rattle.slice_words.specs.Alone.{number_it_came_with, with_items, answer_to}
 use Rattle.slice_words.specs.Standing.{past_of}
 use Rattle.slice_words.proofs.Holding.{recent, view_in-played}
-use Rattle.desk_words.specs.Histories.{is_slot, settings_at, header_in, handed, packet_said, packet_in_read, number_given, marked_slot, packet_items, packet_in_items, said_items, message_items, event_items, opening_items, phase_items, number_told, with_shown, side_start, side_of, Numbered, SliceSide, holder, hands_up_buffered, is_any_given, came_with, numbered_with}
+use Rattle.desk_words.specs.Histories.{is_slot, settings_at, header_in, handed, packet_said, packet_in_read, number_given, marked_slot, packet_items, packet_in_items, said_items, message_items, event_items, opening_items, phase_items, number_told, with_shown, side_start, side_of, Numbered, SliceSide, holder, is_any_given, came_with, numbered_with}
 use Rattle.desk_words.specs.Numbers.{AreNumbered}
 use Rattle.of10_message.specs.declared.fault.Unread.{Unread}
 use Rattle.of10_message.specs.Heads.{xid_of}

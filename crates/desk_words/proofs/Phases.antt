@@ -9,10 +9,10 @@ use Rattle.desk_words.specs.declared.event.Event.TheVariants.{SwitchUp, SwitchMs
 use Rattle.desk_words.specs.declared.event.Timed.{Timed}
 use Rattle.desk_words.specs.declared.phase.Phase.{Phase}
 use Rattle.desk_words.specs.declared.phase.Phase.TheVariants.{Fresh, Begun, Opened, Gone}
-use Rattle.desk_words.specs.Openings.{ends_switch, features_told, phase_after, phase_of, opening_after, opening_of}
+use Rattle.desk_words.specs.Openings.{ends_switch, features_told, phase_after, phase_of, opening_after, opening_of, features_in_event}
 use Rattle.desk_words.specs.Histories.{is_open}
 use Rattle.desk_words.specs.Verdicts.{is_fresh, is_ended, is_switch_up}
-use Rattle.desk_words.specs.Laws.{has_begun, is_last, has_ended, features_in_event, first_told, IsPhaseByEvents}
+use Rattle.desk_words.specs.Laws.{has_begun, is_last, has_ended, first_told, IsPhaseByEvents}
 
 -- what events say: whether the switch has connected and ended, and what it told first; beside that the phase and the opening
 record Says (begun ended : Bool) (told : Option Features) (phase : Phase) (opening : Option Features) : Type 0 where

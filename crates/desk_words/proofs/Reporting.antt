@@ -1,8 +1,9 @@
--- All that happened in a recording, record by record; and the lines of an event for the slices.
+-- All that happened in a recording, record by record; its lines, and those of an event for the slices.
 use Rattle.std.proofs.Common.{◌≡◌, ℕ, suc, Bool, true, false, ◌+◌, if◌then◌else◌, List, [], ◌∷◌, ◌++◌, length, map, take, reverse, refl, ap, ap₂, sym, ◌∙◌, append_assoc, append-nil, slice_get, Option, Some, None, arith}
 use Rattle.std.specs.List.{flat_map, enumerate_from, range_with_len}
 use Rattle.std.proofs.lemmas.List.{length-map}
 use Rattle.std.proofs.lemmas.List.FromFn.{length-enumerate_from}
+use Rattle.std.proofs.lemmas.Grind.{flat_map-append}
 use Rattle.std.proofs.Math.Seq.{take-append_seam}
 use Rattle.flowspace.specs.declared.slices.Slice.{Slice}
 use Rattle.flowspace.specs.Policies.{PolicyView}
@@ -11,7 +12,7 @@ use Rattle.desk_words.specs.declared.event.Timed.{Timed}
 use Rattle.desk_words.specs.Sent.{lane_by}
 use Rattle.desk_words.specs.Verdicts.{is_over}
 use Rattle.desk_words.specs.Recorded.{next_of, next_after, Happened, each_after, happened_in, all_happened}
-use Rattle.desk_words.specs.Reports.{sent_to_slice, LinePlace, lane_lines, slice_lines, name_at, close_lines, down_lines}
+use Rattle.desk_words.specs.Reports.{sent_to_slice, LinePlace, Line, lane_lines, slice_lines, lines_by_slot, name_at, close_lines, down_lines, lines_at, lines_from}
 use Rattle.desk_words.specs.Laws.{ComeBeforeLater, ShowsEachSlice}
 use Rattle.recording.proofs.Refused.{newest_first}
 
@@ -32,7 +33,7 @@ map_later : {X Y : Type 0} (f : ℕ × X → Y) (n : ℕ) (xs : List X) → map 
 map_later f n [] = refl
 map_later f n (x ∷ xs) = ap (λ (k : ℕ). f (suc n, x) ∷ map f (enumerate_from k xs)) (one_more n) ∙ ap (λ rest. f (suc n, x) ∷ rest) (map_later f (n + 1) xs)
 
-pub enumerate_both : {X : Type 0} (n : ℕ) (xs ys : List X) → enumerate_from n (xs ++ ys) ≡ enumerate_from n xs ++ enumerate_from (n + length xs) ys
+enumerate_both : {X : Type 0} (n : ℕ) (xs ys : List X) → enumerate_from n (xs ++ ys) ≡ enumerate_from n xs ++ enumerate_from (n + length xs) ys
 enumerate_both n [] ys = ap (λ (k : ℕ). enumerate_from k ys) (let none : n ≡ n + 0 = omega arith in none)
 enumerate_both n (x ∷ xs) ys =
     ap (λ rest. (n, x) ∷ rest) (enumerate_both (n + 1) xs ys)
@@ -45,6 +46,14 @@ pub each_next : (switch : ℕ) (h : List Timed) (timed : Timed) (later : List Ti
 each_next switch h timed later =
     ap (λ (rest : List Happened). record { switch = switch; history = h; timed = timed } ∷ rest)
     (map_later (λ one. record { switch = switch; history = next_after h (take one.0 (timed ∷ later)); timed = one.1 }) 0 later)
+
+-- events and those behind them
+pub each_both : (switch : ℕ) (h first second : List Timed) → each_after switch h (first ++ second) ≡ each_after switch h first ++ each_after switch (next_after h first) second
+each_both switch h [] second = refl
+each_both switch h (timed ∷ first) second =
+    each_next switch h timed (first ++ second)
+    ∙ ap (λ (rest : List Happened). record { switch = switch; history = h; timed = timed } ∷ rest) (each_both switch (next_of h timed) first second)
+    ∙ ap (λ (front : List Happened). front ++ each_after switch (next_after (next_of h timed) first) second) (sym (each_next switch h timed first))
 
 pub count_of_each : (switch : ℕ) (h own : List Timed) → length (each_after switch h own) ≡ length own
 count_of_each switch h own = length-map (enumerate_from 0 own) _ ∙ length-enumerate_from 0 own
@@ -89,21 +98,27 @@ come_before_later policy earlier later =
     sym (from_none policy (earlier ++ later)) ∙ happened_both policy [] earlier later ∙ ap (λ first. first ++ behind) (from_none policy earlier) in
     ap (take (length events)) both ∙ take-append_seam events behind
 
--- ---- the lines for the slices
+-- ---- lines
+
+-- the lines of events and of those behind them
+pub lines_from_both : (policy : PolicyView) (number : ℕ) (first second : List Happened) → lines_from policy number (first ++ second) ≡ lines_from policy number first ++ lines_from policy (number + length first) second
+unfolding lines_from
+lines_from_both policy number first second =
+    ap (flat_map (lines_at policy)) (enumerate_both number first second) ∙ flat_map-append (lines_at policy) (enumerate_from number first) (enumerate_from (number + length first) second)
 
 pub at_once : (n : ℕ) → n ≡ n + 0
 at_once n = omega arith
 
-pub one_further : (n k : ℕ) → n + 1 + k ≡ n + suc k
+one_further : (n k : ℕ) → n + 1 + k ≡ n + suc k
 one_further n k = omega arith
 
 -- the slices from a slot on, where the slices of the policy have these there
 slices_shown : (policy : PolicyView) (place : LinePlace) (messages : ℕ → List (List ℕ)) (slot : ℕ) (slices : List Slice)
     → ((k : ℕ) → slice_get policy.slices (slot + k) ≡ slice_get slices k)
-    → flat_map (λ one. slice_lines place one.1.name (messages one.0)) (enumerate_from slot slices) ≡ flat_map (λ s. slice_lines place (name_at policy.slices s) (messages s)) (range_with_len slot (length slices))
+    → lines_by_slot place messages slot slices ≡ flat_map (λ s. slice_lines place s (name_at policy.slices s) (messages s)) (range_with_len slot (length slices))
 slices_shown policy place messages slot [] at = refl
 slices_shown policy place messages slot (slice ∷ others) at =
-    ap₂ (λ (text rest : List ℕ). slice_lines place text (messages slot) ++ rest)
+    ap₂ (λ (name : List ℕ) (rest : List Line). slice_lines place slot name (messages slot) ++ rest)
     (sym (ap (λ (found : Option Slice). elim found [ None ↦ [] | Some one ↦ one.name ]) (ap (slice_get policy.slices) (at_once slot) ∙ at 0)))
     (slices_shown policy place messages (slot + 1) others (λ k. ap (slice_get policy.slices) (one_further slot k) ∙ at (suc k)))
 
@@ -113,6 +128,6 @@ lane_unless place false messages = refl
 
 pub each_slice : (policy : PolicyView) (place : LinePlace) (h : List Timed) (timed : Timed) → ShowsEachSlice policy place h timed
 each_slice policy place h timed =
-    ap₂ (λ (lane slices : List ℕ). lane ++ slices ++ close_lines policy place (next_of h timed) timed.event ++ (if is_over h then [] else down_lines place h timed))
+    ap₂ (λ (lane slices : List Line). lane ++ slices ++ close_lines policy place (next_of h timed) timed.event ++ (if is_over h then [] else down_lines place h timed))
     (lane_unless place (is_over h) (lane_by policy h timed))
     (slices_shown policy place (λ s. sent_to_slice policy s h timed) 0 policy.slices (λ k. ap (slice_get policy.slices) (from_zero k)))

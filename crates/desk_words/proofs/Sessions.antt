@@ -11,11 +11,9 @@ use Rattle.of10_model.proofs.Results.{either}
 use Rattle.desk_words.specs.declared.event.Event.{Event}
 use Rattle.desk_words.specs.declared.event.Event.TheVariants.{SwitchUp, SwitchMsg, SliceMsg}
 use Rattle.desk_words.specs.declared.event.Timed.{Timed}
-use Rattle.desk_words.specs.Openings.{phase_of}
-use Rattle.desk_words.specs.Histories.{is_slice_up}
 use Rattle.desk_words.specs.Sent.{sent}
-use Rattle.desk_words.specs.Verdicts.{is_ended, is_over, is_switch_up}
-use Rattle.desk_words.specs.Recorded.{completed, timed_at, happenings, is_there, next_of, next_after, Happened, each_after, timed_of, history_of, history_at, happened_in, events_in}
+use Rattle.desk_words.specs.Verdicts.{is_over, is_switch_up}
+use Rattle.desk_words.specs.Recorded.{completed, timed_at, happenings, happens, next_of, next_after, Happened, each_after, timed_of, history_of, history_at, happened_in, events_in}
 use Rattle.desk_words.specs.Reports.{sent_to_slice, told_over}
 use Rattle.desk_words.specs.Laws.{comes_up, since_up, IsToldAsAlone}
 use Rattle.desk_words.proofs.Alone.{sent_alone}
@@ -127,17 +125,14 @@ told_with_others policy slot switch events before r differs told =
     ap (told_over policy slot) (since_both switch events (happened_in policy before r) none.0 ∙ ap (λ (rest : List Happened). since_up switch events ++ rest) none.1 ∙ append-nil (since_up switch events))
     ∙ told ∙ ap (sent policy slot) (sym ((at_their_switch policy r before).others switch differs))
 
-there_at_up : (policy : PolicyView) (r : Told) (h : List Timed) → (r.kind == switch_up) ≡ true → is_there policy r h ≡ true
-there_at_up policy r h comes = ap (λ (kind : ℕ). if kind == switch_bytes then not (is_ended (phase_of h)) else if kind == slice_bytes then is_slice_up policy r.slot h else true) (eqb-true r.kind switch_up comes)
-
 told_from_up : (policy : PolicyView) (slot : ℕ) (events : List Happened) (before : List Told) (r : Told) → (r.kind == switch_up) ≡ true
     → AreTold policy slot r.switch (events ++ happened_in policy before r) (r ∷ before)
 told_from_up policy slot events before r comes =
     let h = history_at policy r before in
     let own = events_in policy r before in
     let own_is : own ≡ timed_at r.moment SwitchUp ∷ [] =
-    ap (λ (events : List Event). timed_of (made_where (is_there policy r) r.switch h (map (timed_at r.moment) events))) (one_of_kind r before comes)
-    ∙ ap timed_of (made_next (is_there policy r) r.switch h (timed_at r.moment SwitchUp) [] true (there_at_up policy r h comes)) in
+    ap (λ (events : List Event). timed_of (made_where (happens policy) r.switch h (map (timed_at r.moment) events))) (one_of_kind r before comes)
+    ∙ ap timed_of (made_next (happens policy) r.switch h (timed_at r.moment SwitchUp) [] true refl) in
     let fresh : h ≡ [] = ap (λ (b : Bool). if b then [] else history_of policy r.switch before) comes in
     let last = subst (λ (made : List Timed). since_up r.switch (events ++ each_after r.switch h made) ≡ each_after r.switch h made) (sym own_is)
     (since_last r.switch events (record { switch = r.switch; history = h; timed = timed_at r.moment SwitchUp }) (eq-eqb r.switch r.switch refl) refl) in

@@ -12,7 +12,7 @@ use Rattle.desk_words.specs.declared.phase.Phase.TheVariants.{Fresh, Begun, Open
 use Rattle.desk_words.specs.Openings.{features_told, status_told, phase_of, opening_after, opening_of, known_after, ports_after}
 use Rattle.desk_words.specs.Verdicts.{is_before}
 use Rattle.desk_words.specs.Histories.{is_open}
-use Rattle.desk_words.specs.Laws.{after_opening, status_with, statuses_since, AreKnownAsTold}
+use Rattle.desk_words.specs.Laws.{after_opening, status_in_event, statuses_since, AreKnownAsTold}
 use Rattle.desk_words.proofs.Alone.{has_told, opened_told}
 use Rattle.desk_words.proofs.Silence.{untold}
 
@@ -24,7 +24,7 @@ record AreBy (told : Option Features) (known : List (List ℕ)) (statuses : List
 
 -- the statuses with those of one event more
 abbrev statuses_in : Phase → Timed → List Timed → List PortStatus
-statuses_in phase timed events = filter_map (λ timed. status_with timed.event) (if is_open phase then timed ∷ events else events)
+statuses_in phase timed events = filter_map (λ timed. status_in_event timed.event) (if is_open phase then timed ∷ events else events)
 
 first : (features : Features) (statuses : List PortStatus) → statuses ≡ [] → first_known features.ports ≡ known_by features statuses
 unfolding known_by
@@ -62,11 +62,11 @@ by_status (Some status) opening known statuses are = record {
 
 by_event : (phase : Phase) (told : Option Features) (known : List (List ℕ)) (timed : Timed) (events : List Timed) (event : Event) → timed.event ≡ event
     → (is_before phase ≡ true → told ≡ None) → (is_open phase ≡ true → has_told told ≡ true)
-    → AreBy told known (filter_map (λ timed. status_with timed.event) events)
+    → AreBy told known (filter_map (λ timed. status_in_event timed.event) events)
     → AreBy (opening_after phase told event) (known_after phase known event) (statuses_in phase timed events)
 by_event Fresh None known timed events event e early opened are = are
 by_event Fresh (Some opening) known timed events event e early opened are = are
-by_event Begun None known timed events (SwitchMsg message) e early opened are = by_opening (features_told message) known (filter_map (λ timed. status_with timed.event) events) are
+by_event Begun None known timed events (SwitchMsg message) e early opened are = by_opening (features_told message) known (filter_map (λ timed. status_in_event timed.event) events) are
 by_event Begun None known timed events SwitchUp e early opened are = are
 by_event Begun None known timed events SwitchDown e early opened are = are
 by_event Begun None known timed events (SliceUp slot) e early opened are = are
@@ -74,7 +74,7 @@ by_event Begun None known timed events (SliceMsg slot message) e early opened ar
 by_event Begun None known timed events (SliceDown slot) e early opened are = are
 by_event Begun (Some opening) known timed events event e early opened are = absurd (true≢false (ap has_told (early refl)))
 by_event Opened None known timed events event e early opened are = absurd (true≢false (sym (opened refl)))
-by_event Opened (Some opening) known timed events (SwitchMsg message) e early opened are = rw e (by_status (status_told message) opening known (filter_map (λ timed. status_with timed.event) events) are)
+by_event Opened (Some opening) known timed events (SwitchMsg message) e early opened are = rw e (by_status (status_told message) opening known (filter_map (λ timed. status_in_event timed.event) events) are)
 by_event Opened (Some opening) known timed events SwitchUp e early opened are = rw e are
 by_event Opened (Some opening) known timed events SwitchDown e early opened are = rw e are
 by_event Opened (Some opening) known timed events (SliceUp slot) e early opened are = rw e are

@@ -27,7 +27,7 @@ use Rattle.flowspace.specs.Policies.{PolicyView}
 use Rattle.port_view.specs.KnownPorts.{first_known, is_kept}
 use Rattle.port_view.specs.SlicePorts.{ports_of_slice}
 use Rattle.stats_filter.specs.Keeping.{entries_in, is_own_entry}
-use Rattle.slice_words.specs.Items.{Settings, settings_of, own_rules, is_own_port, Share, Writer, Reader, Probe, Item, Up, Down, Msg, Lost, Handed, Removed, Status, Fault, Barrier, Queues, Entry, Last, End, Sight, is_up, is_buffered, buffered_count}
+use Rattle.slice_words.specs.Items.{Settings, settings_of, own_rules, is_own_port, Share, Writer, Reader, Probe, Item, Up, Down, Msg, Lost, Handed, Removed, Status, Fault, Barrier, Queues, Entry, Last, End, Sight, is_up, hands_up_buffered, buffered_count}
 use Rattle.slice_words.specs.Items as items
 use Rattle.slice_words.specs.Alone.{with_items}
 use Rattle.desk_words.specs.declared.event.Event.{Event}
@@ -82,6 +82,10 @@ abbrev pub handed : Share → PacketIn → Item
 handed share packet =
     Handed (record { share = share; total_len = packet.total_len; in_port = packet.in_port; reason = packet.reason; payload = packet.payload })
 
+-- the packet once for each of these shares
+abbrev pub handed_by : List Share → PacketIn → List Item
+handed_by shares packet = map (λ share. handed share packet) shares
+
 -- the header of a packet that came in at a port
 abbrev pub header_in : PacketIn → Header
 header_in packet = header_of_packet packet.in_port packet.payload
@@ -103,27 +107,39 @@ number_given packet = if packet.buffer == NO_BUFFER then None else Some packet.b
 abbrev pub marked_slot : ℕ → List ℕ → Option ℕ
 marked_slot count bytes = elim (probe_slot_of bytes) [ None ↦ None | Some slot ↦ if ltb slot count then Some slot else None ]
 
--- the first rule that has the packet's header says who may write it, and who reads it. The writer may use by number what the switch keeps
+-- the shares of the slice at a slot in a packet that one slice may write, if one may, and that these read. The writer may use by number what the switch keeps
+abbrev pub shares_named : Option ℕ → ℕ → ℕ → PacketIn → List Share
+shares_named writer readers slot packet =
+    (if is_value slot writer then Writer (is_some (number_given packet)) ∷ [] else [])
+    ++ (if bit readers slot then Reader ∷ [] else [])
+
+-- the first rule that has the packet's header says who may write it, and who reads it
 abbrev pub shares_by : List Rule → ℕ → PacketIn → List Share
-shares_by rules slot packet =
-    (if is_value slot (writer_of rules (header_in packet)) then Writer (is_some (number_given packet)) ∷ [] else [])
-    ++ (if bit (readers_of rules (header_in packet)) slot then Reader ∷ [] else [])
+shares_by rules slot packet = shares_named (writer_of rules (header_in packet)) (readers_of rules (header_in packet)) slot packet
+
+-- the share in a probe of the slice at a slot, which is that of one slice alone
+abbrev pub shares_probed : ℕ → ℕ → List Share
+shares_probed prober slot = if prober == slot then Probe ∷ [] else []
 
 -- a packet that bears the mark of a slot of the policy is a probe of that slice alone
 abbrev pub shares_of : PolicyView → List Rule → ℕ → PacketIn → List Share
-shares_of policy rules slot packet = elim (marked_slot (length policy.slices) packet.payload) [ None ↦ shares_by rules slot packet | Some other ↦ if other == slot then Probe ∷ [] else [] ]
+shares_of policy rules slot packet = elim (marked_slot (length policy.slices) packet.payload) [ None ↦ shares_by rules slot packet | Some other ↦ shares_probed other slot ]
 
 -- a packet-in shows the slice its packet once for each of its shares, where it is up
 abbrev pub packet_items : PolicyView → List Rule → ℕ → List Item → PacketIn → List Item
-packet_items policy rules slot view packet = if is_up view then map (λ share. handed share packet) (shares_of policy rules slot packet) else []
+packet_items policy rules slot view packet = if is_up view then handed_by (shares_of policy rules slot packet) packet else []
 
 -- the packet of the slice that came last under a number, by how many the slice was given before it; none where another's packet came under it since
 abbrev pub holder : ℕ → List Numbered → Option ℕ
 holder number numbered = option_and_then (λ n. n.ordinal) (find (λ n. n.number == number) numbered)
 
+-- the packet before which the slice was given so many is lost, if one is
+abbrev pub lost_one : Option ℕ → List Item
+lost_one lost = elim lost [ None ↦ [] | Some k ↦ Lost k ∷ [] ]
+
 -- a packet whose number comes again is lost
 abbrev pub lost_items : List Numbered → PacketIn → List Item
-lost_items numbered packet = elim (option_and_then (λ number. holder number numbered) (number_given packet)) [ None ↦ [] | Some k ↦ Lost k ∷ [] ]
+lost_items numbered packet = lost_one (option_and_then (λ number. holder number numbered) (number_given packet))
 
 -- first what is lost, then the packet
 abbrev pub packet_in_items : PolicyView → List Rule → ℕ → SliceSide → PacketIn → List Item
@@ -157,9 +173,13 @@ queues_items s xid queues = if is_reply_to s xid && is_own_port s.slot s.pattern
 abbrev pub is_type_asked : ℕ → Bool
 is_type_asked kind = kind == statistics.DESC || kind == statistics.FLOW || kind == statistics.PORT || kind == statistics.QUEUE
 
--- of a part of statistics the slice's own entries, up to the first that isn't well formed
+-- of a part of statistics the entries of the slice at a slot by these rules, up to the first that isn't well formed
+abbrev pub kept_entries : List Rule → ℕ → ℕ → List ℕ → List (List ℕ)
+kept_entries rules slot kind body = filter (is_own_entry rules slot kind) (entries_in kind body)
+
+-- of a part of statistics the slice's own entries
 abbrev pub own_entries : Settings → ℕ → List ℕ → List (List ℕ)
-own_entries s kind body = filter (is_own_entry (own_rules s) s.slot kind) (entries_in kind body)
+own_entries s kind body = kept_entries (own_rules s) s.slot kind body
 
 -- what the switch is is told whole in one entry, and in no other form; other statistics come in any number of entries
 abbrev pub is_part : ℕ → List ℕ → Bool
@@ -216,17 +236,16 @@ items_of policy slot switch side timed = if is_slot policy slot then phase_items
 
 -- ---- what a history shows a slice
 
--- the number of the packet that an event hands up, once the switch has told what it is
+-- the packet that an event hands up, once the switch has told what it is
+abbrev pub packet_handed : Phase → Event → Option PacketIn
+packet_handed Opened (SwitchMsg message) = packet_in_read message
+packet_handed phase event = None
+
+-- the number of that packet
 abbrev pub number_told : Phase → Event → Option ℕ
-number_told Opened (SwitchMsg message) = option_and_then number_given (packet_in_read message)
-number_told phase event = None
+number_told phase event = option_and_then number_given (packet_handed phase event)
 
--- an item hands up a packet that the slice may use by number
-abbrev pub hands_up_buffered : Item → Bool
-hands_up_buffered (Handed packet) = is_buffered packet.share
-hands_up_buffered item = false
-
--- one of these does
+-- one of these hands up a packet that the slice may use by number
 abbrev pub is_any_given : List Item → Bool
 is_any_given items = list_any hands_up_buffered items
 
@@ -240,17 +259,25 @@ abbrev pub numbered_with : Option ℕ → List Item → List Item → List Numbe
 numbered_with None items view numbered = numbered
 numbered_with (Some number) items view numbered = record { number = number; ordinal = if is_any_given items then Some (buffered_count view) else None } ∷ numbered
 
--- what a slice sees with these items of an event in a phase
+-- what a slice sees with these items, where a packet that is given by number came under this one
+abbrev pub seen_with : Option ℕ → List Item → Sight → Sight
+seen_with number items sight = record { view = with_items items sight.view; came = came_with number items sight.came }
+
+-- the same, and the numbers beside it, with these items of an event in a phase
 abbrev pub with_shown : Phase → Timed → List Item → SliceSide → SliceSide
 with_shown phase timed items side = record {
-  sight = record { view = with_items items side.sight.view; came = came_with (number_told phase timed.event) items side.sight.came };
+  sight = seen_with (number_told phase timed.event) items side.sight;
   numbered = numbered_with (number_told phase timed.event) items side.sight.view side.numbered;
 }
+
+-- the same with all that an event shows the slice at a slot
+abbrev pub side_after : PolicyView → ℕ → KnownSwitch → SliceSide → Timed → SliceSide
+side_after policy slot switch side timed = with_shown switch.phase timed (items_of policy slot switch side timed) side
 
 -- what a history shows the slice at a slot: each event its items, after what the events before it showed
 abbrev pub side_of : PolicyView → ℕ → List Timed → SliceSide
 side_of policy slot [] = side_start
-side_of policy slot (timed ∷ h) = with_shown (phase_of h) timed (items_of policy slot (switch_of h) (side_of policy slot h) timed) (side_of policy slot h)
+side_of policy slot (timed ∷ h) = side_after policy slot (switch_of h) (side_of policy slot h) timed
 
 -- the view of the slice at a slot after a history
 abbrev pub view_of : PolicyView → ℕ → List Timed → List Item
@@ -261,6 +288,10 @@ abbrev pub is_open : Phase → Bool
 is_open Opened = true
 is_open phase = false
 
--- the slice at a slot is up after a history: the switch has told what it is and hasn't ended, and the slice's connection came and hasn't gone
+-- a slice with a view is up in a phase: the switch has told what it is and hasn't ended, and the slice's connection came and hasn't gone
+abbrev pub is_up_in : Phase → List Item → Bool
+is_up_in phase view = is_open phase && is_up view
+
+-- the slice at a slot is up after a history
 abbrev pub is_slice_up : PolicyView → ℕ → List Timed → Bool
-is_slice_up policy slot h = is_open (phase_of h) && is_up (view_of policy slot h)
+is_slice_up policy slot h = is_up_in (phase_of h) (view_of policy slot h)

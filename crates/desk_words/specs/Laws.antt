@@ -1,5 +1,5 @@
 -- Statements about histories and operations. `src/laws.rt` has a function for each, which is proved.
-use Rattle.std.specs.Prelude.{ℕ, ◌≡◌, ◌+◌, ◌==◌, ◌&&◌, ◌||◌, not, Bool, true, false, if◌then◌else◌, List, [], ◌∷◌, ◌++◌, filter, filter_map, length, map, take, reverse, is_some, IfSome, ◌<◌, ◌≤◌, Option, Some, None, Result}
+use Rattle.std.specs.Prelude.{ℕ, ◌≡◌, ◌+◌, ◌==◌, ◌&&◌, ◌||◌, not, Bool, true, false, if◌then◌else◌, List, [], ◌∷◌, ◌++◌, filter, filter_map, length, map, take, reverse, slice_get, is_some, IfSome, ◌<◌, ◌≤◌, Option, Some, None, Result}
 use Rattle.std.specs.declared.alloc.AllocError.{AllocError}
 use Rattle.std.specs.List.{list_any, take_while, flat_map, range_with_len}
 use Rattle.std.specs.Option.{option_or}
@@ -10,7 +10,7 @@ use Rattle.of10_ctl.specs.Streams.{frames_of}
 use Rattle.flowspace.specs.Policies.{PolicyView}
 use Rattle.port_view.specs.KnownPorts.{IsAscending, known_of as known_by}
 use Rattle.recording.specs.Recordings.{Told}
-use Rattle.outbox.specs.Queues.{Queue, size}
+use Rattle.outbox.specs.Queues.{Queue, size, waiting}
 use Rattle.slice_words.specs.Messages.{is_dismissing}
 use Rattle.slice_words.specs.Items.{features_in, known_ports}
 use Rattle.slice_words.specs.Items as items
@@ -20,13 +20,12 @@ use Rattle.desk_words.specs.declared.event.Event.TheVariants.{SwitchUp, SwitchMs
 use Rattle.desk_words.specs.declared.event.Timed.{Timed}
 use Rattle.desk_words.specs.declared.answer.Verdict.{Verdict}
 use Rattle.desk_words.specs.declared.answer.Taken.{Taken}
-use Rattle.desk_words.specs.declared.answer.Taken.TheVariants.{Message}
-use Rattle.desk_words.specs.Openings.{features_told, status_told, phase_of, opening_of, ports_after, switch_of}
+use Rattle.desk_words.specs.Openings.{status_told, phase_of, opening_of, ports_after, switch_of, features_in_event}
 use Rattle.desk_words.specs.Histories.{is_slot, settings_at, own_ports, own_features, side_start, side_of, view_of, is_open, is_slice_up}
 use Rattle.desk_words.specs.Sent.{sent_by, sent, lane_by}
 use Rattle.desk_words.specs.Verdicts.{is_fresh, is_ended, is_over, is_switch_up, closes}
-use Rattle.desk_words.specs.Operations.{Operation, Step, Take, takes_in, events_of, empties_slice, ends, slice_limit, lane_limit, is_slice, is_switch, queue_of, lane_of}
-use Rattle.desk_words.specs.Recorded.{is_same_stream, begins_stream, stream_before, timed_at, happenings, is_there, next_of, next_after, history_of, history_at, events_in, completed, Happened, all_happened}
+use Rattle.desk_words.specs.Operations.{Operation, Step, Take, takes_in, events_of, empties_slice, ends, slice_limit, lane_limit, is_slice, is_switch, queue_of, lane_of, message_taken}
+use Rattle.desk_words.specs.Recorded.{is_same_stream, begins_stream, stream_before, timed_at, happenings, happens, next_of, next_after, history_of, history_at, events_in, completed, Happened, all_happened}
 use Rattle.desk_words.specs.Reports.{sent_to_slice, told_over, LinePlace, lane_lines, slice_lines, name_at, speaker, close_lines, down_lines, event_lines}
 
 -- ---- the switch's connection
@@ -45,11 +44,6 @@ is_last event = false
 abbrev pub has_ended : List Timed → Bool
 has_ended [] = false
 has_ended (timed ∷ h) = has_ended h || (has_begun h && is_last timed.event)
-
--- what an event tells of the switch
-abbrev pub features_in_event : Event → Option Features
-features_in_event (SwitchMsg message) = features_told message
-features_in_event event = None
 
 -- what the switch told of itself first, after it connected and before it ended
 abbrev pub first_told : List Timed → Option Features
@@ -128,7 +122,7 @@ IsSilentUntilUp policy slot later h =
 
 -- a slice isn't up after its down
 abbrev pub IsDownAfterDown : PolicyView → ℕ → ℕ → List Timed → Type 0
-IsDownAfterDown policy slot moment h = is_slice_up policy slot (record { event = SliceDown slot; moment = moment } ∷ h) ≡ false
+IsDownAfterDown policy slot moment h = is_slice_up policy slot (timed_at moment (SliceDown slot) ∷ h) ≡ false
 
 -- ---- who is up, by the events
 
@@ -157,10 +151,9 @@ IsUpByEvents policy slot h =
 
 -- ---- what is taken
 
--- the message that a take was answered by, if it was
+-- the message that a take was answered by, or none
 abbrev pub message_in : Taken → List (List ℕ)
-message_in (Message message) = message ∷ []
-message_in taken = []
+message_in taken = elim (message_taken taken) [ None ↦ [] | Some message ↦ message ∷ [] ]
 
 -- what a slice was sent since its queue was last emptied
 abbrev pub sent_since : PolicyView → ℕ → List Operation → List (List ℕ)
@@ -201,8 +194,8 @@ pub record AreInOrder (messages taken : List (List ℕ)) (q : Queue) : Type 0 wh
 
 -- where there is room all messages wait: alone where the queue is emptied for them, else behind those of a queue that isn't choked
 pub record AllWait (limit : ℕ) (empties : Bool) (messages : List (List ℕ)) (old new : Queue) : Type 0 where
-  pub alone : empties ≡ true → size messages ≤ limit → new ≡ record { pending = messages; choked = false }
-  pub behind : empties ≡ false → old.choked ≡ false → size old.pending + size messages ≤ limit → new ≡ record { pending = old.pending ++ messages; choked = false }
+  pub alone : empties ≡ true → size messages ≤ limit → new ≡ waiting messages
+  pub behind : empties ≡ false → old.choked ≡ false → size old.pending + size messages ≤ limit → new ≡ waiting (old.pending ++ messages)
 
 -- so it is for a slice at a step that is taken in
 abbrev pub SliceWaits : PolicyView → ℕ → List Operation → Timed → Result Verdict AllocError → Type 0
@@ -246,13 +239,13 @@ pub record AreKnownInOrder (h : List Timed) : Type 0 where
 -- ---- the known ports, by the events
 
 -- what an event tells of a port (section 5.4.3)
-abbrev pub status_with : Event → Option PortStatus
-status_with (SwitchMsg message) = status_told message
-status_with event = None
+abbrev pub status_in_event : Event → Option PortStatus
+status_in_event (SwitchMsg message) = status_told message
+status_in_event event = None
 
 -- the statuses that the switch sent since it told what it is, newest first
 abbrev pub statuses_since : List Timed → List PortStatus
-statuses_since h = filter_map (λ timed. status_with timed.event) (after_opening h)
+statuses_since h = filter_map (λ timed. status_in_event timed.event) (after_opening h)
 
 -- no port is known before the switch tells what it is; then those are known that follow from its features and its statuses since
 pub record AreKnownAsTold (h : List Timed) : Type 0 where
@@ -265,13 +258,13 @@ pub record AreKnownAsTold (h : List Timed) : Type 0 where
 abbrev pub after_first : PolicyView → Told → List Told → ℕ → List Timed
 after_first policy r before k = next_after (history_at policy r before) (map (timed_at r.moment) (take k (happenings r before)))
 
--- a record's events are the first of what it can make happen: its connection is there before each of them, and isn't there after them where any is left
+-- a record's events are the first of what it can make happen: each of them happens after those before it, and where any is left the next one doesn't
 pub record MakesTheFirst (policy : PolicyView) (r : Told) (before : List Told) : Type 0 where
   pub count : ℕ
   pub within : count ≤ length (happenings r before)
   pub events : events_in policy r before ≡ map (timed_at r.moment) (take count (happenings r before))
-  pub there : (k : ℕ) → k < count → is_there policy r (after_first policy r before k) ≡ true
-  pub gone : count < length (happenings r before) → is_there policy r (after_first policy r before count) ≡ false
+  pub there : (k : ℕ) (event : Event) → k < count → slice_get (happenings r before) k ≡ Some event → happens policy (after_first policy r before k) event ≡ true
+  pub gone : (event : Event) → slice_get (happenings r before) count ≡ Some event → happens policy (after_first policy r before count) event ≡ false
 
 -- a history gets the first of events that come one after another: it isn't over before each of them, and is over after them where any is left
 pub record GetsTheFirst (h events : List Timed) : Type 0 where
@@ -288,17 +281,20 @@ pub record ComeAtTheirSwitch (policy : PolicyView) (r : Told) (before : List Tol
 
 -- ---- the report of a recording
 
+-- as many of a recording's first events as its first records make
+abbrev pub first_events : PolicyView → List Told → List Told → List Happened
+first_events policy earlier later = take (length (all_happened policy earlier)) (all_happened policy (earlier ++ later))
+
 -- the events of a recording's first records are the first of all its events, whatever records come behind them
 abbrev pub ComeBeforeLater : PolicyView → List Told → List Told → Type 0
-ComeBeforeLater policy earlier later =
-    take (length (all_happened policy earlier)) (all_happened policy (earlier ++ later)) ≡ all_happened policy earlier
+ComeBeforeLater policy earlier later = first_events policy earlier later ≡ all_happened policy earlier
 
 -- the lines of an event are those for the switch, and by slot those of each slice's name for what it is told; then the connection that is closed, and the end
 abbrev pub ShowsEachSlice : PolicyView → LinePlace → List Timed → Timed → Type 0
 ShowsEachSlice policy place h timed =
     event_lines policy place h timed
     ≡ (if is_over h then [] else lane_lines place (lane_by policy h timed))
-    ++ flat_map (λ slot. slice_lines place (name_at policy.slices slot) (sent_to_slice policy slot h timed)) (range_with_len 0 (length policy.slices))
+    ++ flat_map (λ slot. slice_lines place slot (name_at policy.slices slot) (sent_to_slice policy slot h timed)) (range_with_len 0 (length policy.slices))
     ++ close_lines policy place (next_of h timed) timed.event
     ++ (if is_over h then [] else down_lines place h timed)
 
@@ -315,8 +311,12 @@ abbrev pub since_up : ℕ → List Happened → List Happened
 since_up switch [] = []
 since_up switch (one ∷ later) = if one.switch == switch && not (list_any (comes_up switch) later) then one ∷ since_up switch later else since_up switch later
 
--- from a switch's last up on a report tells a slice what a proxy sends that serves it alone, with its settings on its view of the switch's history
-abbrev pub IsToldAsAlone : PolicyView → ℕ → ℕ → List Told → Type 0
-IsToldAsAlone policy slot switch records =
+-- what these events of records tell a slice from a switch's last up on is what a proxy sends that serves it alone, with its settings on its view of the switch's history
+abbrev pub TellAsAlone : PolicyView → ℕ → ℕ → List Told → List Happened → Type 0
+TellAsAlone policy slot switch records events =
     let h = history_of policy switch (reverse records) in
-    told_over policy slot (since_up switch (all_happened policy records)) ≡ alone (settings_at policy slot (opening_of h)) (view_of policy slot h)
+    told_over policy slot (since_up switch events) ≡ alone (settings_at policy slot (opening_of h)) (view_of policy slot h)
+
+-- so it is of all that happened in a recording
+abbrev pub IsToldAsAlone : PolicyView → ℕ → ℕ → List Told → Type 0
+IsToldAsAlone policy slot switch records = TellAsAlone policy slot switch records (all_happened policy records)

@@ -68,9 +68,14 @@ phase_of (timed ∷ h) = phase_after (phase_of h) timed.event
 
 -- ---- the opening
 
+-- what an event tells of the switch
+abbrev pub features_in_event : Event → Option Features
+features_in_event (SwitchMsg message) = features_told message
+features_in_event event = None
+
 -- what the switch told of itself with an event, where that opens the desk
 abbrev pub opening_with : Phase → Event → Option Features
-opening_with Begun (SwitchMsg message) = features_told message
+opening_with Begun event = features_in_event event
 opening_with phase event = None
 
 -- only what opens the desk counts
@@ -90,10 +95,14 @@ rules_of policy (Some features) = rules_on features.datapath policy.rules
 
 -- ---- known ports
 
+-- the known ports after what was told of one, if something was
+abbrev pub kept_by : Option PortStatus → List (List ℕ) → List (List ℕ)
+kept_by told known = elim told [ None ↦ known | Some status ↦ changed status known ]
+
 -- the ports that are known after an event
 abbrev pub known_after : Phase → List (List ℕ) → Event → List (List ℕ)
 known_after Begun known (SwitchMsg message) = elim (features_told message) [ None ↦ known | Some features ↦ first_known features.ports ]
-known_after Opened known (SwitchMsg message) = elim (status_told message) [ None ↦ known | Some status ↦ changed status known ]
+known_after Opened known (SwitchMsg message) = kept_by (status_told message) known
 known_after phase known event = known
 
 -- the ports that the switch told of: those of the opening, and then each change (sections 5.3.1 and 5.4.3)

@@ -1,5 +1,5 @@
 -- What a desk was asked to do, and what it must answer: steps, which are events, and takes, which are questions for the oldest message that waits. Lists have the newest first. All of this is this proxy's own rule.
-use Rattle.std.specs.Prelude.{ℕ, ◌≡◌, ◌==◌, ◌&&◌, ◌||◌, not, Bool, true, false, if◌then◌else◌, List, [], ◌∷◌, Result, Ok, Err}
+use Rattle.std.specs.Prelude.{ℕ, ◌≡◌, ◌==◌, ◌&&◌, ◌||◌, not, Bool, true, false, if◌then◌else◌, List, [], ◌∷◌, Option, Some, None, Result, Ok, Err}
 use Rattle.std.specs.declared.alloc.AllocError.{AllocError}
 use Rattle.flowspace.specs.Policies.{PolicyView}
 use Rattle.outbox.specs.Queues.{Queue, no_messages, push_all, without_first}
@@ -65,13 +65,24 @@ is_ending before event = not (is_ended before) && is_ended (phase_after before e
 abbrev pub ends : List Timed → Timed → Bool
 ends h timed = is_ending (phase_of h) timed.event
 
--- what waits for a slice after an event
-abbrev pub queue_event : PolicyView → ℕ → List Timed → Timed → Queue → Queue
-queue_event policy slot h timed q = push_all slice_limit (if empties_slice policy slot h timed then no_messages else q) (sent_by policy slot h timed)
+-- what waits for the slice at a slot after an event that sends it these messages, where it is so up after it
+abbrev pub queue_with : ℕ → Bool → Event → List (List ℕ) → Queue → Queue
+queue_with slot up event messages q = push_all slice_limit (if empties slot up event then no_messages else q) messages
 
--- what waits for the switch after an event
+-- what waits for the switch after an event in a phase that sends it these messages
+abbrev pub lane_with : Phase → Event → List (List ℕ) → Queue → Queue
+lane_with phase event messages q = push_all lane_limit (if is_ending phase event then no_messages else q) messages
+
+-- the same of an event after a history
+abbrev pub queue_event : PolicyView → ℕ → List Timed → Timed → Queue → Queue
+queue_event policy slot h timed q = queue_with slot (is_slice_up policy slot (timed ∷ h)) timed.event (sent_by policy slot h timed) q
+
 abbrev pub lane_event : PolicyView → List Timed → Timed → Queue → Queue
-lane_event policy h timed q = push_all lane_limit (if ends h timed then no_messages else q) (lane_by policy h timed)
+lane_event policy h timed q = lane_with (phase_of h) timed.event (lane_by policy h timed) q
+
+-- what waits for a destination after a take: less its first message where it was the one that was asked for
+abbrev pub less_taken : Bool → Queue → Queue
+less_taken own q = if own then without_first q else q
 
 -- a destination is the switch
 abbrev pub is_switch : Dest → Bool
@@ -87,13 +98,13 @@ is_slice slot (Slice other) = other == slot
 abbrev pub queue_of : PolicyView → ℕ → List Operation → Queue
 queue_of policy slot [] = no_messages
 queue_of policy slot (Step timed reply ∷ before) = if takes_in reply then queue_event policy slot (events_of before) timed (queue_of policy slot before) else queue_of policy slot before
-queue_of policy slot (Take dest taken ∷ before) = if is_slice slot dest then without_first (queue_of policy slot before) else queue_of policy slot before
+queue_of policy slot (Take dest taken ∷ before) = less_taken (is_slice slot dest) (queue_of policy slot before)
 
 -- what waits for the switch after these operations
 abbrev pub lane_of : PolicyView → List Operation → Queue
 lane_of policy [] = no_messages
 lane_of policy (Step timed reply ∷ before) = if takes_in reply then lane_event policy (events_of before) timed (lane_of policy before) else lane_of policy before
-lane_of policy (Take dest taken ∷ before) = if is_switch dest then without_first (lane_of policy before) else lane_of policy before
+lane_of policy (Take dest taken ∷ before) = less_taken (is_switch dest) (lane_of policy before)
 
 -- what waits for a destination, where so much waits for the slices and for the switch
 abbrev pub waiting_in : Dest → (ℕ → Queue) → Queue → Queue
@@ -105,6 +116,11 @@ abbrev pub waiting_of : PolicyView → Dest → List Operation → Queue
 waiting_of policy dest before = waiting_in dest (λ slot. queue_of policy slot before) (lane_of policy before)
 
 -- ---- replies
+
+-- the message that a take was answered by, if it was
+abbrev pub message_taken : Taken → Option (List ℕ)
+message_taken (Message message) = Some message
+message_taken taken = None
 
 -- no message will come for a destination, where the switch's connection is in a phase and those of the slices are so up: the switch's has ended, there is no such slot, or the slice isn't up though the switch has told what it is
 abbrev pub is_gone : PolicyView → Phase → (ℕ → Bool) → Dest → Bool

@@ -49,9 +49,11 @@ happenings r before =
     else if r.kind == slice_bytes then map (λ frame. SliceMsg r.slot frame) (completed r before)
     else SliceDown r.slot ∷ []
 
--- the connection that a record brings bytes of is there after a history: the switch's hasn't ended, or the slice is up. Other records need none
-abbrev pub is_there : PolicyView → Told → List Timed → Bool
-is_there policy r h = if r.kind == switch_bytes then not (is_ended (phase_of h)) else if r.kind == slice_bytes then is_slice_up policy r.slot h else true
+-- an event happens after a history: a message is none of a switch's connection that has ended, and none of a slice that isn't up; anything else happens
+abbrev pub happens : PolicyView → List Timed → Event → Bool
+happens policy h (SwitchMsg message) = not (is_ended (phase_of h))
+happens policy h (SliceMsg slot message) = is_slice_up policy slot h
+happens policy h event = true
 
 -- the history after an event: one that is over takes nothing in
 abbrev pub next_of : List Timed → Timed → List Timed
@@ -74,26 +76,30 @@ pub record Happened : Type 0 where
 abbrev pub each_after : ℕ → List Timed → List Timed → List Happened
 each_after switch h events = map (λ one. record { switch = switch; history = next_after h (take one.0 events); timed = one.1 }) (enumerate_from 0 events)
 
--- what a record makes happen after a history: the first of what it can make happen, as long as its connection is there before each
+-- what a record makes happen after a history: the first of what it can make happen, as long as each happens after those before it
 abbrev pub happened_from : PolicyView → Told → List Told → List Timed → List Happened
-happened_from policy r before h = take_while (λ one. is_there policy r one.history) (each_after r.switch h (map (timed_at r.moment) (happenings r before)))
+happened_from policy r before h = take_while (λ one. happens policy one.history one.timed.event) (each_after r.switch h (map (timed_at r.moment) (happenings r before)))
 
 -- these events alone, with their moments
 abbrev pub timed_of : List Happened → List Timed
 timed_of events = map (λ one. one.timed) events
 
--- the history of a switch after records. A switch that comes up has a fresh desk
+-- the history at which a record of a switch begins: that of the switch, or none where the switch comes up, for which there is a fresh desk
+abbrev pub begun_from : Told → List Timed → List Timed
+begun_from r h = if r.kind == switch_up then [] else h
+
+-- the history of a switch after records
 abbrev pub history_of : PolicyView → ℕ → List Told → List Timed
 history_of policy switch [] = []
 history_of policy switch (r ∷ before) =
     if r.switch == switch then
-    (let h = (if r.kind == switch_up then [] else history_of policy switch before) in
+    (let h = begun_from r (history_of policy switch before) in
     next_after h (timed_of (happened_from policy r before h)))
     else history_of policy switch before
 
 -- the history in which a record's events come
 abbrev pub history_at : PolicyView → Told → List Told → List Timed
-history_at policy r before = if r.kind == switch_up then [] else history_of policy r.switch before
+history_at policy r before = begun_from r (history_of policy r.switch before)
 
 -- the events of a record after others
 abbrev pub happened_in : PolicyView → List Told → Told → List Happened

@@ -1,9 +1,9 @@
 -- The recording that is made of a seed and a count (this proxy's own rule).
-use Rattle.std.specs.Prelude.{ℕ, zero, suc, ◌+◌, ltb, if◌then◌else◌, List, [], ◌∷◌, ◌++◌, replicate, ◌≡◌}
-use Rattle.byteorder.specs.Endian.{big_bytes}
+use Rattle.std.specs.Prelude.{ℕ, zero, suc, ◌+◌, ltb, if◌then◌else◌, List, [], ◌∷◌, ◌++◌, ◌≡◌}
 use Rattle.of10_port.specs.declared.features.Features.{Features}
 use Rattle.of10_port.specs.declared.protocol.TheConstants.{LOCAL}
 use Rattle.of10_port.specs.Features.{spell_features}
+use Rattle.of10_port.specs.Ports.{bare_port}
 use Rattle.recording.specs.Recordings.{Told, switch_up, switch_bytes, slice_up, slice_bytes, record_bytes, recording}
 use Rattle.fv_generator.specs.Drawing.{Drawing, draw, drawn_none, ◌>>=◌}
 use Rattle.fv_generator.specs.Messages.{drawn_packet_in, drawn_request}
@@ -27,10 +27,6 @@ abbrev pub by_slice : ℕ → ℕ → List ℕ → Told
 by_slice moment slot message = record { kind = slice_bytes; switch = 0; slot = slot; moment = moment; bytes = message }
 
 -- ---- how a recording begins
-
--- a port's number, and nothing else of it
-abbrev pub bare_port : ℕ → List ℕ
-bare_port number = big_bytes 2 number ++ replicate 46 0
 
 -- the switch a1 with the ports 1 to 3 and its own, 256 buffers and all actions of the standard
 abbrev pub the_switch : Features

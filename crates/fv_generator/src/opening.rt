@@ -2,10 +2,9 @@
 
 ghost use Rattle.std.specs.Prelude.{◌≡◌, ◌++◌, IfOk, OnOk, flat_map};
 ghost use Rattle.recording.specs.Recordings.{record_bytes};
-ghost use Rattle.fv_generator.specs.Made.{features_message, opening, bare_port};
+ghost use Rattle.fv_generator.specs.Made.{features_message, opening};
 
 use of10_ctl::Frame;
-use of10_model::wire::set_u16;
 use of10_port::protocol::LOCAL;
 use of10_port::{Features, Port, Ports};
 use recording::{SLICE_UP, SWITCH_BYTES, SWITCH_UP, add_item};
@@ -14,27 +13,24 @@ use std::alloc::{AllocError, Global};
 /// The transaction id under which the proxy asks a switch for its features.
 const ASKED: u32 = 0xff00_0001;
 
-/// A port of which all but its number is zero.
-fn port(number: u16) -> Port
-    ensures { result ≡ bare_port number }
-{
-    let mut raw = [0; 48];
-    set_u16(&mut raw, 0, number);
-    Port::of(raw)
-}
-
 /// What the switch tells of itself: four ports, one of them its own.
 #[tactic(auto, unfolding(crate::specs::Made::features_message))]
 fn features(alloc: Global) -> Result<Frame, AllocError>
     ensures { IfOk result (λ f. f ≡ features_message) }
 {
+    let ports = [
+        Port::bare(1),
+        Port::bare(2),
+        Port::bare(3),
+        Port::bare(LOCAL),
+    ];
     let features = Features {
         datapath: 0xa1,
         buffers: 256,
         tables: 1,
         capabilities: 0,
         actions: 0xfff,
-        ports: Ports::of(alloc, &[port(1), port(2), port(3), port(LOCAL)])?,
+        ports: Ports::of(alloc, &ports)?,
     };
     features.encode(alloc, ASKED)
 }

@@ -5,7 +5,8 @@ use Rattle.std.proofs.lemmas.List.{append-nil}
 use Rattle.std.proofs.lemmas.Option.{none-some, same_Some}
 use Rattle.fv_report.specs.declared.fault.ReportFault.{ReportFault}
 use Rattle.fv_report.specs.declared.player.Player.{Player}
-use Rattle.fv_report.specs.Telling.{Line, Outcome}
+use Rattle.desk_words.specs.Reports.{Line}
+use Rattle.fv_report.specs.Telling.{Outcome}
 use Rattle.fv_report.specs.Players.{Scene, IsPlaying, HasTold}
 use Rattle.fv_report.proofs.Players.{told_nothing, told_second, told_first, told_as, told_so}
 

@@ -8,9 +8,9 @@ use Rattle.desk_words.specs.declared.event.Timed.{Timed}
 use Rattle.desk_words.specs.Openings.{phase_of}
 use Rattle.desk_words.specs.Histories.{is_slice_up}
 use Rattle.desk_words.specs.Verdicts.{is_ended}
-use Rattle.desk_words.specs.Recorded.{completed, timed_at, happenings, is_there, next_of, timed_of, history_at, events_in}
+use Rattle.desk_words.specs.Recorded.{completed, timed_at, happenings, happens, next_of, timed_of, history_at, events_in}
 use Rattle.desk_words.proofs.Making.{made_where, made_next}
-use Rattle.fv_report.specs.Plays.{happens, happening}
+use Rattle.fv_report.specs.Plays.{happening}
 
 -- each of these events happens after a history exactly where a test of it says so
 abbrev AreBy : PolicyView → (List Timed → Bool) → List Event → Type 0
@@ -22,19 +22,19 @@ none_happen : (policy : PolicyView) (moment : ℕ) (test : List Timed → Bool) 
 none_happen policy moment test h [] by none = refl
 none_happen policy moment test h (event ∷ later) by none = rw (by.0 h ∙ none) (none_happen policy moment test h later by.1 none)
 
--- what happens is made, as the test says
+-- what happens is made
 made_by : (policy : PolicyView) (switch moment : ℕ) (test : List Timed → Bool) (h : List Timed) (event : Event) (later : List Event) → AreBy policy test (event ∷ later) → (now : Bool) → test h ≡ now
-    → happening policy moment (next_of h (timed_at moment event)) later ≡ timed_of (made_where test switch (next_of h (timed_at moment event)) (map (timed_at moment) later))
-    → happening policy moment h (event ∷ later) ≡ timed_of (made_where test switch h (map (timed_at moment) (event ∷ later)))
+    → happening policy moment (next_of h (timed_at moment event)) later ≡ timed_of (made_where (happens policy) switch (next_of h (timed_at moment event)) (map (timed_at moment) later))
+    → happening policy moment h (event ∷ later) ≡ timed_of (made_where (happens policy) switch h (map (timed_at moment) (event ∷ later)))
 made_by policy switch moment test h event later by true is others =
     rw (by.0 h ∙ is) (ap (λ (made : List Timed). timed_at moment event ∷ made) others)
-    ∙ ap timed_of (sym (made_next test switch h (timed_at moment event) (map (timed_at moment) later) true is))
+    ∙ ap timed_of (sym (made_next (happens policy) switch h (timed_at moment event) (map (timed_at moment) later) true (by.0 h ∙ is)))
 made_by policy switch moment test h event later by false is others =
     none_happen policy moment test h (event ∷ later) by is
-    ∙ ap timed_of (sym (made_next test switch h (timed_at moment event) (map (timed_at moment) later) false is))
+    ∙ ap timed_of (sym (made_next (happens policy) switch h (timed_at moment event) (map (timed_at moment) later) false (by.0 h ∙ is)))
 
 all_made : (policy : PolicyView) (switch moment : ℕ) (test : List Timed → Bool) (h : List Timed) (events : List Event) → AreBy policy test events
-    → happening policy moment h events ≡ timed_of (made_where test switch h (map (timed_at moment) events))
+    → happening policy moment h events ≡ timed_of (made_where (happens policy) switch h (map (timed_at moment) events))
 all_made policy switch moment test h [] by = refl
 all_made policy switch moment test h (event ∷ later) by =
     made_by policy switch moment test h event later by (test h) refl (all_made policy switch moment test (next_of h (timed_at moment event)) later by.1)
@@ -69,11 +69,15 @@ by_kind policy r before false false false false false a b c d = (λ h. refl, tt)
 apart : (kind one other : ℕ) → (one == other) ≡ false → (kind == one) ≡ true → (kind == other) ≡ false
 apart kind one other differ is = ap (λ (k : ℕ). k == other) (eqb-true kind one is) ∙ differ
 
-all_by : (policy : PolicyView) (r : Told) (before : List Told) → AreBy policy (is_there policy r) (happenings r before)
+-- whether what a record can make happen does, which is told of all of it by the history
+abbrev all_happen : PolicyView → Told → List Timed → Bool
+all_happen policy r h = if r.kind == switch_bytes then not (is_ended (phase_of h)) else if r.kind == slice_bytes then is_slice_up policy r.slot h else true
+
+all_by : (policy : PolicyView) (r : Told) (before : List Told) → AreBy policy (all_happen policy r) (happenings r before)
 all_by policy r before =
     by_kind policy r before (r.kind == switch_up) (r.kind == switch_bytes) (r.kind == switch_down) (r.kind == slice_up) (r.kind == slice_bytes)
     (apart r.kind switch_up switch_bytes refl) (apart r.kind switch_up slice_bytes refl) (apart r.kind switch_down slice_bytes refl) (apart r.kind slice_up slice_bytes refl)
 
 -- what happens of what a record can make happen are its events
 pub happening_is : (policy : PolicyView) (r : Told) (before : List Told) → happening policy r.moment (history_at policy r before) (happenings r before) ≡ events_in policy r before
-happening_is policy r before = all_made policy r.switch r.moment (is_there policy r) (history_at policy r before) (happenings r before) (all_by policy r before)
+happening_is policy r before = all_made policy r.switch r.moment (all_happen policy r) (history_at policy r before) (happenings r before) (all_by policy r before)

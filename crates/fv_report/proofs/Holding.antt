@@ -3,7 +3,7 @@ use Rattle.std.proofs.Common.{◌≡◌, ◌≤◌, ◌+◌, ◌==◌, ◌||◌,
 use Rattle.std.proofs.lemmas.Bool.{ne_eqb}
 use Rattle.std.proofs.lemmas.Bool.Decides.{nat_tests}
 use Rattle.flowspace.specs.Policies.{PolicyView}
-use Rattle.outbox.specs.Queues.{Queue, no_messages, size, push_all, without_first}
+use Rattle.outbox.specs.Queues.{Queue, no_messages, size, push_all, without_first, waiting}
 use Rattle.outbox.proofs.Keeping.{push_all-kept}
 use Rattle.desk_words.specs.declared.event.Timed.{Timed}
 use Rattle.desk_words.specs.declared.answer.Dest.TheVariants.{Switch, Slice}
@@ -16,14 +16,13 @@ use Rattle.desk_words.specs.Openings.{phase_of}
 use Rattle.desk_words.specs.Histories.{is_slot, is_open, is_slice_up}
 use Rattle.desk_words.specs.Verdicts.{is_ended, is_fresh, is_over, closes, verdict}
 use Rattle.desk_words.specs.Sent.{sent_by, lane_by}
-use Rattle.desk_words.specs.Operations.{Step, Take, takes_in, events_of, slice_limit, lane_limit, empties_slice, ends, queue_of, lane_of, empty_reply}
+use Rattle.desk_words.specs.Operations.{Step, Take, takes_in, events_of, slice_limit, lane_limit, empties_slice, ends, queue_of, lane_of, empty_reply, message_taken}
 use Rattle.answer_bounds.specs.Bounds.{IsFramed, AreFramed}
 use Rattle.answer_bounds.proofs.Fitting.{answers_fit}
 use Rattle.proxy_core.specs.declared.parts.Desk.{Desk}
 use Rattle.proxy_core.proofs.Acting.{either_empty}
 use Rattle.proxy_core.specs.Desks.{Takes, Steps, TellsEnd, TellsUp, TellsWaiting}
-use Rattle.fv_report.specs.Holding.{waiting, Holds, nothing, IsQuiet, with_waiting, After}
-use Rattle.fv_report.specs.Taking.{message_taken}
+use Rattle.fv_report.specs.Holding.{Holds, nothing, IsQuiet, with_waiting, After}
 use Rattle.fv_report.proofs.Slices.{from_slot}
 
 -- ---- what waits, said otherwise

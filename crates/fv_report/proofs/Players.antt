@@ -3,11 +3,11 @@ use Rattle.std.proofs.Common.{◌≡◌, ◌+◌, ℕ, List, [], ◌∷◌, ◌+
 use Rattle.std.specs.Result.{IsErrAnd}
 use Rattle.flowspace.specs.Policies.{PolicyView}
 use Rattle.recording.specs.Recordings.{Told}
-use Rattle.desk_words.specs.Reports.{LinePlace}
+use Rattle.desk_words.specs.Reports.{LinePlace, Line, Saying}
 use Rattle.fv_report.specs.declared.fault.ReportFault.{ReportFault}
 use Rattle.fv_report.specs.declared.fault.ReportFault.TheVariants.{Memory}
 use Rattle.fv_report.specs.declared.player.Player.{Player}
-use Rattle.fv_report.specs.Telling.{Line, Saying, Outcome, Tell}
+use Rattle.fv_report.specs.Telling.{Outcome, Tell}
 use Rattle.fv_report.specs.Players.{Scene, IsPlaying, PlaysOn, later, HasTold, TellsAll}
 use Rattle.fv_report.proofs.Writing.{heard_none, heard_part_of_first, tell_line, tell_second, tell_on}
 

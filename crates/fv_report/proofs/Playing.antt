@@ -1,5 +1,5 @@
 -- Events that are played one after another.
-use Rattle.std.proofs.Common.{◌≡◌, ◌+◌, ℕ, suc, Bool, true, false, if◌then◌else◌, List, [], ◌∷◌, ◌++◌, map, length, refl, sym, ap, ◌∙◌, append_assoc, subst, Some, None, Result, Ok, Err, arith}
+use Rattle.std.proofs.Common.{◌≡◌, ◌+◌, ℕ, Bool, true, false, if◌then◌else◌, List, [], ◌∷◌, ◌++◌, map, length, refl, sym, ap, ◌∙◌, append_assoc, subst, Some, None, Result, Ok, Err, arith}
 use Rattle.std.specs.Result.{IsErrAnd}
 use Rattle.std.proofs.lemmas.List.{append-nil, length-append}
 use Rattle.std.proofs.lemmas.List.Elements.{All-cons}
@@ -12,18 +12,18 @@ use Rattle.desk_words.specs.declared.event.Timed.{Timed}
 use Rattle.desk_words.specs.declared.answer.Dest.{Dest}
 use Rattle.desk_words.specs.declared.answer.Dest.TheVariants.{Switch, Slice}
 use Rattle.desk_words.specs.Verdicts.{is_over}
-use Rattle.desk_words.specs.Recorded.{timed_at, next_of, next_after}
-use Rattle.desk_words.specs.Reports as report
+use Rattle.desk_words.specs.Recorded.{timed_at, next_of, next_after, each_after, happens}
 use Rattle.proxy_core.specs.declared.parts.Desk.{Desk}
-use Rattle.desk_words.proofs.Reporting.{at_once, one_further}
+use Rattle.desk_words.proofs.Reporting.{at_once, each_both, count_of_each, lines_from_both}
 use Rattle.fv_report.specs.declared.fault.ReportFault.{ReportFault}
 use Rattle.fv_report.specs.declared.fault.ReportFault.TheVariants.{Memory}
 use Rattle.fv_report.specs.declared.player.Player.{Player}
-use Rattle.fv_report.specs.Telling.{Line, Outcome, event_told, told_of}
+use Rattle.desk_words.specs.Reports.{Line, event_lines, lines_from}
+use Rattle.fv_report.specs.Telling.{Outcome, lines_after}
 use Rattle.fv_report.specs.Holding.{IsQuiet}
 use Rattle.fv_report.specs.Players.{Scene, IsPlaying, PlaysOn, later, HasTold}
 use Rattle.fv_report.specs.Streams.{TookFrame}
-use Rattle.fv_report.specs.Plays.{event_from, happens, happening, Rests, PlaysEvents, Plays, PlaysFrames}
+use Rattle.fv_report.specs.Plays.{event_from, happening, Rests, PlaysEvents, Plays, PlaysFrames}
 use Rattle.fv_report.proofs.Streaming.{next_left, nothing_left}
 use Rattle.fv_report.proofs.Players.{later_none, later_both, told_nothing, told_none, told_second, told_first, told_as, told_so, told_still}
 
@@ -51,22 +51,25 @@ played_as Tells scene h event outcome old new desk is played =
 
 -- the event was played, and counted if there is a number for it
 pub played_one : {T : Type 0} (Tells : T → Line → Outcome → T → Type 0) (scene : Scene) (h : List Timed) (event : Event) (value : Unit {0}) (outcome : Outcome) (old now new : Player T) (desk : Desk) → happens scene.policy h event ≡ true → AreFramed h → IsFramed event
-    → HasTold {A = Unit {0}} Tells scene (IsQuiet scene.policy (next_of h (timed_at scene.moment event)) desk) (Ok value) (event_told scene.policy scene.place h (timed_at scene.moment event)) old now
+    → HasTold {A = Unit {0}} Tells scene (IsQuiet scene.policy (next_of h (timed_at scene.moment event)) desk) (Ok value) (event_lines scene.policy scene.place h (timed_at scene.moment event)) old now
     → HasTold Tells (later 1 scene) (Unit {0}) outcome [] now new → Plays Tells scene h (event ∷ []) outcome old new desk
+unfolding lines_from
 played_one Tells scene h event value outcome old now new desk is framed one turned counted =
     let timed = timed_at scene.moment event in
     played_as Tells scene h event outcome old new desk is
-    (told_second Tells scene (later 1 scene) value outcome (event_told scene.policy scene.place h timed) [] old now new turned
+    (told_second Tells scene (later 1 scene) value outcome (event_lines scene.policy scene.place h timed) [] old now new turned
     (told_so Tells (later 1 scene) outcome [] now new (λ _. record { quiet = turned.more; framed = framed_next h timed (is_over h) framed one }) counted))
 
 -- a fault came in its lines
 pub failed_one : {T : Type 0} (Tells : T → Line → Outcome → T → Type 0) (scene : Scene) (h : List Timed) (event : Event) (fault : ReportFault) (outcome : Outcome) (old new : Player T) (desk : Desk) → happens scene.policy h event ≡ true → IsErrAnd outcome (λ e. e ≡ fault)
-    → HasTold {A = Unit {0}} Tells scene (IsQuiet scene.policy (next_of h (timed_at scene.moment event)) desk) (Err fault) (event_told scene.policy scene.place h (timed_at scene.moment event)) old new → Plays Tells scene h (event ∷ []) outcome old new desk
+    → HasTold {A = Unit {0}} Tells scene (IsQuiet scene.policy (next_of h (timed_at scene.moment event)) desk) (Err fault) (event_lines scene.policy scene.place h (timed_at scene.moment event)) old new → Plays Tells scene h (event ∷ []) outcome old new desk
+unfolding lines_from
 failed_one Tells scene h event fault outcome old new desk is same turned =
-    played_as Tells scene h event outcome old new desk is (told_first Tells scene (later 1 scene) fault outcome (event_told scene.policy scene.place h (timed_at scene.moment event)) [] old new same turned)
+    played_as Tells scene h event outcome old new desk is (told_first Tells scene (later 1 scene) fault outcome (event_lines scene.policy scene.place h (timed_at scene.moment event)) [] old new same turned)
 
 -- nothing happened
 pub played_none : {T : Type 0} (Tells : T → Line → Outcome → T → Type 0) (scene : Scene) (h : List Timed) (event : Event) (player : Player T) (desk : Desk) → happens scene.policy h event ≡ false → IsPlaying scene player → IsQuiet scene.policy h desk → AreFramed h → Plays Tells scene h (event ∷ []) (Ok tt) player player desk
+unfolding lines_from
 played_none Tells scene h event player desk isnt is quiet framed =
     subst (λ (own : List Timed). PlaysEvents Tells scene h own (Rests scene.policy h own desk) (Ok tt) player player) (sym (no_event scene.policy scene.moment h event isnt))
     (told_nothing Tells (later 0 scene) tt player (subst (λ (s : Scene). IsPlaying s player) (sym (later_none scene)) is) (record { quiet = quiet; framed = framed }))
@@ -84,13 +87,11 @@ next_after_both h [] second = refl
 next_after_both h (timed ∷ first) second = next_after_both (next_of h timed) first second
 
 lines_both : (p : PolicyView) (number switch : ℕ) (h first second : List Timed)
-    → told_of p (record { number = number; switch = switch }) h (first ++ second) ≡ told_of p (record { number = number; switch = switch }) h first ++ told_of p (record { number = number + length first; switch = switch }) (next_after h first) second
-lines_both p number switch h [] second = ap (λ (n : ℕ). told_of p (record { number = n; switch = switch }) h second) (at_once number)
-lines_both p number switch h (timed ∷ first) second =
-    let place : report.LinePlace = record { number = number; switch = switch } in
-    ap (λ (lines : List Line). event_told p place h timed ++ lines) (lines_both p (number + 1) switch (next_of h timed) first second)
-    ∙ ap (λ (n : ℕ). event_told p place h timed ++ (told_of p (record { number = number + 1; switch = switch }) (next_of h timed) first ++ told_of p (record { number = n; switch = switch }) (next_after (next_of h timed) first) second)) (one_further number (length first))
-    ∙ sym (append_assoc (event_told p place h timed) (told_of p (record { number = number + 1; switch = switch }) (next_of h timed) first) (told_of p (record { number = number + suc (length first); switch = switch }) (next_after (next_of h timed) first) second))
+    → lines_after p (record { number = number; switch = switch }) h (first ++ second) ≡ lines_after p (record { number = number; switch = switch }) h first ++ lines_after p (record { number = number + length first; switch = switch }) (next_after h first) second
+lines_both p number switch h first second =
+    let earlier = each_after switch h first in
+    let later = each_after switch (next_after h first) second in
+    ap (lines_from p number) (each_both switch h first second) ∙ lines_from_both p number earlier later ∙ ap (λ (n : ℕ). lines_from p number earlier ++ lines_from p (number + n) later) (count_of_each switch h first)
 
 -- ---- the frames of a connection
 
@@ -106,7 +107,7 @@ pub record Hearing {T : Type 0} (Tells : T → Line → Outcome → T → Type 0
   pub events : ℕ
   pub done : List Line
   pub told : HasTold {A = Unit {0}} Tells (later events scene) (Unit {0}) (Ok tt) done before now
-  pub lines : done ++ told_of scene.policy (later events scene).place h (happening scene.policy scene.moment h (map (event_from from) rest)) ≡ told_of scene.policy scene.place first (happening scene.policy scene.moment first (map (event_from from) all))
+  pub lines : done ++ lines_after scene.policy (later events scene).place h (happening scene.policy scene.moment h (map (event_from from) rest)) ≡ lines_after scene.policy scene.place first (happening scene.policy scene.moment first (map (event_from from) all))
   pub count : events + length (happening scene.policy scene.moment h (map (event_from from) rest)) ≡ length (happening scene.policy scene.moment first (map (event_from from) all))
   pub next : next_after h (happening scene.policy scene.moment h (map (event_from from) rest)) ≡ next_after first (happening scene.policy scene.moment first (map (event_from from) all))
 
@@ -142,7 +143,7 @@ hearing_first Tells scene from h fed given rest player desk framer is quiet fram
   events = 0;
   done = [];
   told = told_nothing Tells (later 0 scene) tt player (subst (λ (s : Scene). IsPlaying s player) (sym (later_none scene)) is) tt;
-  lines = ap (λ (s : Scene). told_of scene.policy s.place h (happening scene.policy scene.moment h (map (event_from from) rest))) (later_none scene);
+  lines = ap (λ (s : Scene). lines_after scene.policy s.place h (happening scene.policy scene.moment h (map (event_from from) rest))) (later_none scene);
   count = omega arith;
   next = refl;
 }
@@ -156,12 +157,12 @@ next_happening p moment from h rest others frame left =
 -- the lines of the next frame, and then those of the others
 next_lines : (scene : Scene) (from : Dest) (h : List Timed) (rest others : List (List ℕ)) (frame : List ℕ) → rest ≡ frame ∷ others
     → (let own = happening scene.policy scene.moment h (event_from from frame ∷ []) in
-    told_of scene.policy scene.place h own ++ told_of scene.policy (later (length own) scene).place (next_after h own) (happening scene.policy scene.moment (next_after h own) (map (event_from from) others)))
-    ≡ told_of scene.policy scene.place h (happening scene.policy scene.moment h (map (event_from from) rest))
+    lines_after scene.policy scene.place h own ++ lines_after scene.policy (later (length own) scene).place (next_after h own) (happening scene.policy scene.moment (next_after h own) (map (event_from from) others)))
+    ≡ lines_after scene.policy scene.place h (happening scene.policy scene.moment h (map (event_from from) rest))
 next_lines scene from h rest others frame left =
     let own = happening scene.policy scene.moment h (event_from from frame ∷ []) in
     sym (lines_both scene.policy scene.place.number scene.place.switch h own (happening scene.policy scene.moment (next_after h own) (map (event_from from) others)))
-    ∙ ap (told_of scene.policy scene.place h) (sym (next_happening scene.policy scene.moment from h rest others frame left))
+    ∙ ap (lines_after scene.policy scene.place h) (sym (next_happening scene.policy scene.moment from h rest others frame left))
 
 -- one message more was heard
 pub hearing_more : {T : Type 0} (Tells : T → Line → Outcome → T → Type 0) (scene : Scene) (from : Dest) (first : List Timed) (all : List (List ℕ)) (fed : List ℕ) (before now new : Player T) (old desk : Desk) (framer framer_after : Stream) (frame : List ℕ) (value : Unit {0})
@@ -176,7 +177,7 @@ hearing_more Tells scene from first all fed before now new old desk framer frame
     let events = map (event_from from) others in
     let h = next_after s.h own in
     let split = next_happening p scene.moment from s.h s.rest others frame left in
-    let text = told_of p here.place s.h own in
+    let text = lines_after p here.place s.h own in
     let counted = ap length split ∙ length-append own (happening p scene.moment h events) in
     let was = s.count in
     record {
@@ -192,8 +193,8 @@ hearing_more Tells scene from first all fed before now new old desk framer frame
       told = subst (λ (at : Scene). HasTold {A = Unit {0}} Tells at (Unit {0}) (Ok tt) (s.done ++ text) before new) (later_both s.events (length own) scene)
           (told_second Tells here (later (length own) here) tt (Ok tt) s.done text before now new s.told (told_so Tells (later (length own) here) (Ok tt) text now new (λ _. tt) played));
       lines =
-          append_assoc s.done text (told_of p (later (s.events + length own) scene).place h (happening p scene.moment h events))
-          ∙ ap (λ (at : Scene). s.done ++ (text ++ told_of p at.place h (happening p scene.moment h events))) (sym (later_both s.events (length own) scene))
+          append_assoc s.done text (lines_after p (later (s.events + length own) scene).place h (happening p scene.moment h events))
+          ∙ ap (λ (at : Scene). s.done ++ (text ++ lines_after p at.place h (happening p scene.moment h events))) (sym (later_both s.events (length own) scene))
           ∙ ap (λ (t : List Line). s.done ++ t) (next_lines here from s.h s.rest others frame left)
           ∙ s.lines;
       count = omega (arith, counted, was);
@@ -204,7 +205,7 @@ hearing_more Tells scene from first all fed before now new old desk framer frame
 pub hearing_part : {A T More : Type 0} (Tells : T → Line → Outcome → T → Type 0) (scene at : Scene) (from : Dest) (first : List Timed) (all : List (List ℕ)) (fed : List ℕ) (before now new : Player T) (old desk : Desk) (framer framer_after : Stream) (frame : List ℕ) (fault : ReportFault) (result : Result A ReportFault)
     (s : Hearing Tells scene from first all fed before now old framer) → TookFrame (Some frame) fed s.given framer_after → IsErrAnd result (λ e. e ≡ fault)
     → Plays Tells (later s.events scene) s.h (event_from from frame ∷ []) (Err fault) now new desk
-    → HasTold {A = A} Tells at More result (told_of scene.policy scene.place first (happening scene.policy scene.moment first (map (event_from from) all))) before new
+    → HasTold {A = A} Tells at More result (lines_after scene.policy scene.place first (happening scene.policy scene.moment first (map (event_from from) all))) before new
 hearing_part {A} {T} {More} Tells scene at from first all fed before now new old desk framer framer_after frame fault result s took same part =
     let p = scene.policy in
     let here = later s.events scene in
@@ -212,26 +213,27 @@ hearing_part {A} {T} {More} Tells scene at from first all fed before now new old
     let others = took.0.0 in
     let left : s.rest ≡ frame ∷ others = next_left s.given s.rest others frame (frames_of fed) s.cut took.0.1 in
     let h = next_after s.h own in
-    let text = told_of p here.place s.h own in
-    let behind = told_of p (later (length own) here).place h (happening p scene.moment h (map (event_from from) others)) in
-    told_as Tells at result (s.done ++ (text ++ behind)) (told_of p scene.place first (happening p scene.moment first (map (event_from from) all))) before new
+    let text = lines_after p here.place s.h own in
+    let behind = lines_after p (later (length own) here).place h (happening p scene.moment h (map (event_from from) others)) in
+    told_as Tells at result (s.done ++ (text ++ behind)) (lines_after p scene.place first (happening p scene.moment first (map (event_from from) all))) before new
     (ap (λ (t : List Line). s.done ++ t) (next_lines here from s.h s.rest others frame left) ∙ s.lines)
     (told_second Tells here at tt result s.done (text ++ behind) before now new s.told (told_first {More = More} Tells (later (length own) here) at fault result text behind now new same part))
 
 -- memory ran out between two messages
 pub hearing_stopped : {A T More : Type 0} (Tells : T → Line → Outcome → T → Type 0) (scene at : Scene) (from : Dest) (first : List Timed) (all : List (List ℕ)) (fed : List ℕ) (before now : Player T) (desk : Desk) (framer : Stream) (result : Result A ReportFault)
     (s : Hearing Tells scene from first all fed before now desk framer) → IsErrAnd result (λ e. e ≡ Memory)
-    → HasTold {A = A} Tells at More result (told_of scene.policy scene.place first (happening scene.policy scene.moment first (map (event_from from) all))) before now
+    → HasTold {A = A} Tells at More result (lines_after scene.policy scene.place first (happening scene.policy scene.moment first (map (event_from from) all))) before now
 hearing_stopped {A} {T} {More} Tells scene at from first all fed before now desk framer result s same =
     let p = scene.policy in
     let here = later s.events scene in
-    let left = told_of p here.place s.h (happening p scene.moment s.h (map (event_from from) s.rest)) in
-    told_as Tells at result (s.done ++ left) (told_of p scene.place first (happening p scene.moment first (map (event_from from) all))) before now s.lines
+    let left = lines_after p here.place s.h (happening p scene.moment s.h (map (event_from from) s.rest)) in
+    told_as Tells at result (s.done ++ left) (lines_after p scene.place first (happening p scene.moment first (map (event_from from) all))) before now s.lines
     (told_second Tells here at tt result s.done left before now now s.told (told_none {More = More} Tells at result left now same))
 
 -- all frames were heard
 pub hearing_all : {T : Type 0} (Tells : T → Line → Outcome → T → Type 0) (scene : Scene) (from : Dest) (first : List Timed) (all : List (List ℕ)) (fed : List ℕ) (before now : Player T) (desk : Desk) (framer framer_after : Stream)
     (s : Hearing Tells scene from first all fed before now desk framer) → TookFrame None fed s.given framer_after → PlaysFrames Tells scene from first fed all (Ok tt) before now desk framer_after
+unfolding lines_from
 hearing_all Tells scene from first all fed before now desk framer framer_after s took =
     let p = scene.policy in
     let m = scene.moment in
@@ -239,9 +241,9 @@ hearing_all Tells scene from first all fed before now desk framer framer_after s
     let none : s.rest ≡ [] = nothing_left s.given s.rest (frames_of fed) s.cut took.0 in
     let empty : happening p m s.h (map (event_from from) s.rest) ≡ [] = ap (λ (r : List (List ℕ)). happening p m s.h (map (event_from from) r)) none in
     let number : s.events ≡ length whole = at_once s.events ∙ ap (λ (e : List Timed). s.events + length e) (sym empty) ∙ s.count in
-    subst (λ (n : ℕ). HasTold {A = Unit {0}} Tells (later n scene) (Rests p first whole desk × Stands framer_after fed (frames_of fed)) (Ok tt) (told_of p scene.place first whole) before now) number
-    (told_as Tells (later s.events scene) (Ok tt) s.done (told_of p scene.place first whole) before now
-    (sym (append-nil s.done) ∙ ap (λ (e : List Timed). s.done ++ told_of p (later s.events scene).place s.h e) (sym empty) ∙ s.lines)
+    subst (λ (n : ℕ). HasTold {A = Unit {0}} Tells (later n scene) (Rests p first whole desk × Stands framer_after fed (frames_of fed)) (Ok tt) (lines_after p scene.place first whole) before now) number
+    (told_as Tells (later s.events scene) (Ok tt) s.done (lines_after p scene.place first whole) before now
+    (sym (append-nil s.done) ∙ ap (λ (e : List Timed). s.done ++ lines_after p (later s.events scene).place s.h e) (sym empty) ∙ s.lines)
     (told_so Tells (later s.events scene) (Ok tt) s.done before now (λ _. (
       record {
         quiet = subst (λ (e : List Timed). IsQuiet p e desk) (ap (next_after s.h) (sym empty) ∙ s.next) s.quiet;

@@ -22,7 +22,8 @@ use Rattle.std.specs.Result.{IsErrAnd}
 use Rattle.fv_report.specs.declared.fault.ReportFault.{ReportFault}
 use Rattle.fv_report.specs.declared.fault.ReportFault.TheVariants.{Memory}
 use Rattle.fv_report.specs.declared.player.Player.{Player}
-use Rattle.fv_report.specs.Telling.{Line, Outcome, told_of}
+use Rattle.desk_words.specs.Reports.{Line}
+use Rattle.fv_report.specs.Telling.{Outcome, lines_after}
 use Rattle.fv_report.specs.Players.{later, scene_of}
 use Rattle.proxy_core.specs.declared.parts.Desk.{Desk}
 use Rattle.fv_report.specs.declared.switch.Switch.{Switch}
@@ -213,18 +214,18 @@ pub played_on : {T First More : Type 0} (Tells : T → Line → Outcome → T �
     → RecordPlayed Tells p number r before First (Err fault) old new → RecordPlayed Tells p number r before More outcome old new
 played_on Tells p number r before fault outcome old new same played =
     let scene = later (length (events_in p r before)) (scene_of p number r) in
-    told_on Tells scene scene fault outcome (told_of p (record { number = number; switch = r.switch }) (history_at p r before) (events_in p r before)) old new same played
+    told_on Tells scene scene fault outcome (lines_after p (record { number = number; switch = r.switch }) (history_at p r before) (events_in p r before)) old new same played
 
 -- memory ran out before anything was played
 pub played_none : {T More : Type 0} (Tells : T → Line → Outcome → T → Type 0) (p : PolicyView) (number : ℕ) (r : Told) (before : List Told) (outcome : Outcome) (player : Player T) → IsErrAnd outcome (λ e. e ≡ Memory) → RecordPlayed Tells p number r before More outcome player player
 played_none Tells p number r before outcome player same =
-    told_none Tells (later (length (events_in p r before)) (scene_of p number r)) outcome (told_of p (record { number = number; switch = r.switch }) (history_at p r before) (events_in p r before)) player same
+    told_none Tells (later (length (events_in p r before)) (scene_of p number r)) outcome (lines_after p (record { number = number; switch = r.switch }) (history_at p r before) (events_in p r before)) player same
 
 -- what follows otherwise from a record that was played
 pub played_so : {T First More : Type 0} (Tells : T → Line → Outcome → T → Type 0) (p : PolicyView) (number : ℕ) (r : Told) (before : List Told) (outcome : Outcome) (old new : Player T) → (First → More)
     → RecordPlayed Tells p number r before First outcome old new → RecordPlayed Tells p number r before More outcome old new
 played_so Tells p number r before outcome old new so played =
-    told_so Tells (later (length (events_in p r before)) (scene_of p number r)) outcome (told_of p (record { number = number; switch = r.switch }) (history_at p r before) (events_in p r before)) old new so played
+    told_so Tells (later (length (events_in p r before)) (scene_of p number r)) outcome (lines_after p (record { number = number; switch = r.switch }) (history_at p r before) (events_in p r before)) old new so played
 
 pub less_or_more : (n m : ℕ) → (n < m → ⊥) → m ≤ n
 less_or_more n m unlike = elim (cases_Bool (ltb n m)) [ inl is ↦ absurd (unlike (ltb-true n m is)) | inr isnt ↦ ltb-false n m isnt ]

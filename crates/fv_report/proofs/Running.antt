@@ -1,8 +1,6 @@
 -- All switches of a recording, and all its records.
-use Rattle.std.proofs.Common.{◌≡◌, ◌≤◌, ◌+◌, ◌==◌, ◌||◌, ℕ, true, false, if◌then◌else◌, true≢false, eq-eqb, take, drop, List, [], ◌∷◌, ◌++◌, set, length, refl, sym, ap, ap₂, ◌∙◌, append_assoc, subst, Option, Some, None, Result, Ok, Err, slice_get, Bool, arith}
-use Rattle.std.specs.List.{enumerate_from, flat_map}
+use Rattle.std.proofs.Common.{◌≡◌, ◌≤◌, ◌+◌, ◌==◌, ◌||◌, ℕ, true, false, if◌then◌else◌, true≢false, eq-eqb, take, drop, List, [], ◌∷◌, ◌++◌, set, length, refl, sym, ap, ◌∙◌, append_assoc, subst, Option, Some, None, Result, Ok, Err, slice_get, Bool, arith}
 use Rattle.std.proofs.lemmas.List.{length-append, length-map, length-set}
-use Rattle.std.proofs.lemmas.List.Concat.{flat_map-append}
 use Rattle.std.proofs.lemmas.List.Elements.{All-nil}
 use Rattle.std.proofs.lemmas.Bool.{or_parts, ne_eqb}
 use Rattle.flowspace.specs.Policies.{PolicyView}
@@ -11,17 +9,17 @@ use Rattle.recording.specs.declared.item.Item.{Item}
 use Rattle.recording.specs.Recordings.{Told, IsItem, switch_up, switch_bytes, slice_bytes}
 use Rattle.answer_bounds.specs.Bounds.{IsFramed, AreFramed}
 use Rattle.desk_words.specs.declared.event.Timed.{Timed}
-use Rattle.desk_words.specs.Recorded.{told_by, stream_before, next_of, history_of, history_at, events_in, bytes_carried, told_in, Happened, each_after, happened_in}
+use Rattle.desk_words.specs.Recorded.{told_by, stream_before, history_of, history_at, events_in, bytes_carried, told_in, Happened, each_after, happened_in}
 use Rattle.std.specs.Result.{IsErrAnd}
-use Rattle.desk_words.specs.Reports.{LinePlace}
+use Rattle.desk_words.specs.Reports.{LinePlace, Line, lines_from, all_lines}
 use Rattle.fv_report.specs.declared.fault.ReportFault.{ReportFault}
 use Rattle.fv_report.specs.declared.fault.ReportFault.TheVariants.{Memory}
 use Rattle.fv_report.specs.declared.player.Player.{Player}
-use Rattle.fv_report.specs.Telling.{Line, Outcome, ToldWhole, HeardPart, Tell, event_told, told_of, lines_from, all_lines}
+use Rattle.fv_report.specs.Telling.{Outcome, ToldWhole, HeardPart, Tell, lines_after}
 use Rattle.fv_report.specs.Players.{scene_of, IsPlaying, TellsAll}
 use Rattle.summary_words.specs.Summaries.{event_count}
 use Rattle.desk_words.proofs.Making.{happened_each}
-use Rattle.desk_words.proofs.Reporting.{enumerate_both, each_next, count_of_each, happened_after, next_happened, from_none}
+use Rattle.desk_words.proofs.Reporting.{count_of_each, lines_from_both, happened_after, next_happened, from_none}
 use Rattle.fv_report.specs.declared.switch.Switch.{Switch}
 use Rattle.fv_report.specs.declared.streams.Streams.{Streams}
 use Rattle.fv_report.specs.Holding.{IsQuiet}
@@ -105,37 +103,24 @@ pub played_among : {T : Type 0} (Tells : T → Line → Outcome → T → Type 0
 played_among {T} Tells p number r before outcome old begun new switches known known_after same is there stands plays =
     let played = played_so Tells p number r before outcome begun new (λ own. among p r before switches known_after stands own) (plays p number before is (stands.each r.switch known there)) in
     record {
-      told = subst (λ (t : T). Tell Tells outcome (told_of p (record { number = number; switch = r.switch }) (history_at p r before) (events_in p r before)) t new.teller) same played.told;
+      told = subst (λ (t : T). Tell Tells outcome (lines_after p (record { number = number; switch = r.switch }) (history_at p r before) (events_in p r before)) t new.teller) same played.told;
       at = played.at;
       more = played.more;
     }
 
 -- ---- the events of all records
 
--- the lines of events and of those behind them
-lines_both : (p : PolicyView) (number : ℕ) (first second : List Happened) → lines_from p number (first ++ second) ≡ lines_from p number first ++ lines_from p (number + length first) second
-unfolding lines_from
-lines_both p number first second = ap (flat_map _) (enumerate_both number first second) ∙ flat_map-append _ (enumerate_from number first) (enumerate_from (number + length first) second)
-
--- the lines of events that come one after another at a switch
-lines_of_each : (p : PolicyView) (number switch : ℕ) (h own : List Timed) → told_of p (record { number = number; switch = switch }) h own ≡ lines_from p number (each_after switch h own)
-unfolding lines_from
-lines_of_each p number switch h [] = refl
-lines_of_each p number switch h (timed ∷ later) =
-    ap (λ (lines : List Line). event_told p (record { number = number; switch = switch }) h timed ++ lines) (lines_of_each p (number + 1) switch (next_of h timed) later)
-    ∙ ap (lines_from p number) (sym (each_next switch h timed later))
-
 -- the lines of a record's events, and then those of the later ones
 lines_next : (p : PolicyView) (number : ℕ) (before : List Told) (r : Told) (later : List Told)
     → lines_from p number (happened_after p before (r ∷ later))
-    ≡ told_of p (record { number = number; switch = r.switch }) (history_at p r before) (events_in p r before) ++ lines_from p (number + length (events_in p r before)) (happened_after p (r ∷ before) later)
+    ≡ lines_after p (record { number = number; switch = r.switch }) (history_at p r before) (events_in p r before) ++ lines_from p (number + length (events_in p r before)) (happened_after p (r ∷ before) later)
 lines_next p number before r later =
     let h = history_at p r before in
     let own = events_in p r before in
     let rest = happened_after p (r ∷ before) later in
     ap (lines_from p number) (next_happened p before r later ∙ ap (λ (made : List Happened). made ++ rest) (happened_each p before r))
-    ∙ lines_both p number (each_after r.switch h own) rest
-    ∙ ap₂ (λ (lines : List Line) (n : ℕ). lines ++ lines_from p (number + n) rest) (sym (lines_of_each p number r.switch h own)) (count_of_each r.switch h own)
+    ∙ lines_from_both p number (each_after r.switch h own) rest
+    ∙ ap (λ (n : ℕ). lines_from p number (each_after r.switch h own) ++ lines_from p (number + n) rest) (count_of_each r.switch h own)
 
 -- how many events there are
 count_next : (p : PolicyView) (before : List Told) (r : Told) (later : List Told)
@@ -183,7 +168,7 @@ running_more Tells p file all from left item value before now after old new is s
     let r = told_by item (bytes_carried file item) in
     let events = now.place.number in
     let own = events_in p r s.past in
-    let lines = told_of p (record { number = events; switch = r.switch }) (history_at p r s.past) own in
+    let lines = lines_after p (record { number = events; switch = r.switch }) (history_at p r s.past) own in
     let others = happened_after p (r ∷ s.past) (told_in file left) in
     let played = plays p events s.past (record { policy = s.policy; events = refl }) s.stands in
     let number : after.place.number ≡ events + length own = ap (λ (place : LinePlace). place.number) played.at.place in
@@ -208,7 +193,7 @@ pub running_part : {A T : Type 0} (Tells : T → Line → Outcome → T → Type
 running_part {A} Tells p file all from left item fault (Err e) before now after old new is s same plays =
     let r = told_by item (bytes_carried file item) in
     let events = now.place.number in
-    let lines = told_of p (record { number = events; switch = r.switch }) (history_at p r s.past) (events_in p r s.past) in
+    let lines = lines_after p (record { number = events; switch = r.switch }) (history_at p r s.past) (events_in p r s.past) in
     let rest = lines_from p (events + length (events_in p r s.past)) (happened_after p (r ∷ s.past) (told_in file left)) in
     let played = plays p events s.past (record { policy = s.policy; events = refl }) s.stands in
     record {

@@ -3,7 +3,7 @@ use Rattle.std.proofs.Common.{ℕ, List, ◌≡◌, ◌*◌, ◌+◌, ◌++◌, 
 use Rattle.std.proofs.lemmas.List.{length-append}
 use Rattle.hex.specs.Hex.{encode_lower, lower_digits}
 use Rattle.hex.proofs.HexLemmas.{length-encode_with}
-use Rattle.fv_report.specs.Telling.{saying_text, Lane, To}
+use Rattle.desk_words.specs.Reports.{saying_text, Lane, To}
 
 pub lane_size : (message : List ℕ) → length (saying_text (Lane message)) ≡ length message * 2 + 5
 lane_size message =

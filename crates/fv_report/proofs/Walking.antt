@@ -15,7 +15,8 @@ use Rattle.fv_report.specs.declared.switch.Switch.{Switch}
 use Rattle.std.specs.Result.{IsErrAnd}
 use Rattle.fv_report.specs.declared.fault.ReportFault.{ReportFault}
 use Rattle.fv_report.specs.declared.player.Player.{Player}
-use Rattle.fv_report.specs.Telling.{Line, Outcome}
+use Rattle.desk_words.specs.Reports.{Line}
+use Rattle.fv_report.specs.Telling.{Outcome}
 use Rattle.fv_report.specs.Players.{TellsAll}
 use Rattle.fv_report.specs.Switches.{AreUnknown, PlaysAmong}
 use Rattle.fv_report.proofs.Running.{Running, running_first, running_more, running_part, running_last}

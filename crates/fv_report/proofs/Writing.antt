@@ -5,7 +5,8 @@ use Rattle.fv_base.specs.Told.{appended}
 use Rattle.fv_base.proofs.Appending.{appended_none}
 use Rattle.fv_report.specs.declared.fault.ReportFault.{ReportFault}
 use Rattle.fv_report.specs.declared.fault.ReportFault.TheVariants.{Memory}
-use Rattle.fv_report.specs.Telling.{Line, Outcome, ToldWhole, HeardPart, Tell}
+use Rattle.desk_words.specs.Reports.{Line}
+use Rattle.fv_report.specs.Telling.{Outcome, ToldWhole, HeardPart, Tell}
 use Rattle.fv_report.specs.Writing.{WrotePart, Wrote, CountedFault, Counted}
 
 pub appended_twice : (told : Option (List ℕ)) (first second : List ℕ) → appended (appended told first) second ≡ appended told (first ++ second)

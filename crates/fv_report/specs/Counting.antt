@@ -1,15 +1,15 @@
 -- What is told is counted (this proxy's own rule).
-use Rattle.std.specs.Prelude.{ℕ, ◌≡◌, ◌+◌, ◌==◌, if◌then◌else◌, List, [], ◌∷◌, ◌++◌, length, slice_get, Some, Ok, Err, codes, decimal}
-use Rattle.std.specs.List.{flat_map, sum_by}
+use Rattle.std.specs.Prelude.{ℕ, ◌≡◌, ◌+◌, ◌==◌, if◌then◌else◌, List, [], ◌∷◌, ◌++◌, length, slice_get, Some, Ok, Err}
+use Rattle.std.specs.List.{flat_map}
+use Rattle.outbox.specs.Queues.{size}
 use Rattle.fv_report.specs.declared.counter.Count.{Count}
 use Rattle.fv_report.specs.declared.counter.Counter.{Counter}
-use Rattle.flowspace.specs.declared.slices.Slice.{Slice}
-use Rattle.summary_words.specs.Summaries.{count_line, count_lines}
 use Rattle.fv_report.specs.declared.fault.ReportFault.TheVariants.{Memory}
-use Rattle.fv_report.specs.Telling.{Line, Outcome, Saying, Lane, To}
+use Rattle.desk_words.specs.Reports.{Line, Saying, Lane, To}
+use Rattle.fv_report.specs.Telling.{Outcome}
 
 -- a message more was counted
-pub record Added (message : List ℕ) (old new : Count) : Type 0 where
+pub record CountsMore (message : List ℕ) (old new : Count) : Type 0 where
   pub messages : new.messages ≡ old.messages + 1
   pub bytes : new.bytes ≡ old.bytes + length message
 
@@ -34,14 +34,14 @@ slice_told_in slot lines = flat_map (λ line. slice_in slot line.saying) lines
 -- a count is that of these messages
 pub record IsCount (all : List (List ℕ)) (count : Count) : Type 0 where
   pub messages : count.messages ≡ length all
-  pub bytes : count.bytes ≡ sum_by (λ message. length message) all
+  pub bytes : count.bytes ≡ size all
 
 -- counts are those of the messages by slot
 abbrev pub AreCounts : (ℕ → List (List ℕ)) → List Count → Type 0
 AreCounts messages counts = (slot : ℕ) (count : Count) → slice_get counts slot ≡ Some count → IsCount (messages slot) count
 
 -- of so many slices and of the switch these messages were counted
-pub record Counts (slots : ℕ) (lane : List (List ℕ)) (slices : ℕ → List (List ℕ)) (counter : Counter) : Type 0 where
+pub record HasCounted (slots : ℕ) (lane : List (List ℕ)) (slices : ℕ → List (List ℕ)) (counter : Counter) : Type 0 where
   pub known : length counter.slices.items ≡ slots
   pub for_lane : IsCount lane counter.lane
   pub for_slices : AreCounts slices counter.slices.items
@@ -50,9 +50,5 @@ pub record Counts (slots : ℕ) (lane : List (List ℕ)) (slices : ℕ → List 
 abbrev pub CountsLine : Saying → Outcome → Counter → Counter → Type 0
 CountsLine saying (Err fault) old new = fault ≡ Memory
 CountsLine saying (Ok value) old new =
-    (slots : ℕ) (lane : List (List ℕ)) (slices : ℕ → List (List ℕ)) → Counts slots lane slices old
-    → Counts slots (lane ++ lane_said saying) (λ slot. slices slot ++ slice_in slot saying) new
-
--- the summary of so many events with these messages
-abbrev pub summary_text : ℕ → List (List ℕ) → (ℕ → List (List ℕ)) → List Slice → List ℕ
-summary_text events lane messages slices = codes "events " ++ decimal events ++ codes "\n" ++ count_line (codes "lane") lane ++ count_lines messages slices
+    (slots : ℕ) (lane : List (List ℕ)) (slices : ℕ → List (List ℕ)) → HasCounted slots lane slices old
+    → HasCounted slots (lane ++ lane_said saying) (λ slot. slices slot ++ slice_in slot saying) new

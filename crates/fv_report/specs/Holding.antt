@@ -1,17 +1,13 @@
 -- What a desk of a recording stands for: a history, and the messages that wait (this proxy's own rule).
 use Rattle.std.specs.Prelude.{ℕ, ◌≡◌, ◌==◌, Bool, true, false, if◌then◌else◌, List, [], ◌∷◌}
 use Rattle.flowspace.specs.Policies.{PolicyView}
-use Rattle.outbox.specs.Queues.{Queue}
+use Rattle.outbox.specs.Queues.{waiting}
 use Rattle.desk_words.specs.declared.event.Timed.{Timed}
 use Rattle.desk_words.specs.Verdicts.{is_over}
 use Rattle.desk_words.specs.Sent.{sent_by, lane_by}
 use Rattle.desk_words.specs.Operations.{Operation, events_of, queue_of, lane_of}
 use Rattle.proxy_core.specs.declared.parts.Desk.{Desk}
 use Rattle.proxy_core.specs.Desks.{DeskStands}
-
--- so much waits, and nothing was dropped
-abbrev pub waiting : List (List ℕ) → Queue
-waiting messages = record { pending = messages; choked = false }
 
 -- a desk of a policy took this history in, and so much waits for each slice and for the switch
 pub record Holds (policy : PolicyView) (h : List Timed) (slices : ℕ → List (List ℕ)) (lane : List (List ℕ)) (desk : Desk) : Type 0 where

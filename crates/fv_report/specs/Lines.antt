@@ -1,19 +1,18 @@
 -- Lines as the code has them (this proxy's own rule).
-use Rattle.desk_words.specs.Reports.{LinePlace}
+use Rattle.desk_words.specs.Reports.{LinePlace, Line, Saying}
+use Rattle.desk_words.specs.Reports as report
 use Rattle.fv_report.specs.declared.teller.LinePlace as code
 use Rattle.fv_report.specs.declared.teller.Said.{Said}
 use Rattle.fv_report.specs.declared.teller.Said.TheVariants.{Lane, To, Close, Down}
-use Rattle.fv_report.specs.Telling.{Line, Saying}
-use Rattle.fv_report.specs.Telling as telling
 
 abbrev pub place_of : code.LinePlace → LinePlace
 place_of place = record { number = place.number; switch = place.switch }
 
 abbrev pub saying_of : Said → Saying
-saying_of (Lane message) = telling.Lane message.now
-saying_of (To slot name message) = telling.To slot name.now message.now
-saying_of (Close name) = telling.Close name.now
-saying_of Down = telling.Down
+saying_of (Lane message) = report.Lane message.now
+saying_of (To slot name message) = report.To slot name.now message.now
+saying_of (Close name) = report.Close name.now
+saying_of Down = report.SwitchEnd
 
 abbrev pub line_of : code.LinePlace → Said → Line
 line_of place said = record { place = place_of place; saying = saying_of said }

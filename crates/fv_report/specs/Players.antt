@@ -2,12 +2,12 @@
 use Rattle.std.specs.Prelude.{ℕ, ◌≡◌, ◌+◌, List, Result, OnOk}
 use Rattle.flowspace.specs.Policies.{PolicyView}
 use Rattle.recording.specs.Recordings.{Told}
-use Rattle.desk_words.specs.Reports.{LinePlace}
+use Rattle.desk_words.specs.Reports.{LinePlace, Line, all_lines}
 use Rattle.summary_words.specs.Summaries.{event_count}
 use Rattle.fv_report.specs.declared.fault.ReportFault.{ReportFault}
 use Rattle.fv_report.specs.declared.player.Player.{Player}
 use Rattle.fv_report.specs.Lines.{place_of}
-use Rattle.fv_report.specs.Telling.{Line, Outcome, Tell, all_lines}
+use Rattle.fv_report.specs.Telling.{Outcome, Tell}
 
 -- what is played: by a policy, at the place of the next event, what came at a moment
 pub record Scene : Type 0 where

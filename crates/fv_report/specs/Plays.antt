@@ -1,5 +1,5 @@
 -- What becomes of things that can happen one after another at a desk (this proxy's own rule).
-use Rattle.std.specs.Prelude.{ℕ, not, Bool, true, if◌then◌else◌, List, [], ◌∷◌, map, length}
+use Rattle.std.specs.Prelude.{ℕ, if◌then◌else◌, List, [], ◌∷◌, map, length}
 use Rattle.flowspace.specs.Policies.{PolicyView}
 use Rattle.of10_ctl.specs.Streams.{Stream, Stands, frames_of}
 use Rattle.answer_bounds.specs.Bounds.{AreFramed}
@@ -8,11 +8,9 @@ use Rattle.desk_words.specs.declared.event.Event.TheVariants.{SwitchMsg, SliceMs
 use Rattle.desk_words.specs.declared.event.Timed.{Timed}
 use Rattle.desk_words.specs.declared.answer.Dest.{Dest}
 use Rattle.desk_words.specs.declared.answer.Dest.TheVariants.{Switch, Slice}
-use Rattle.desk_words.specs.Openings.{phase_of}
-use Rattle.desk_words.specs.Histories.{is_slice_up}
-use Rattle.desk_words.specs.Verdicts.{is_ended}
-use Rattle.desk_words.specs.Recorded.{timed_at, next_of, next_after}
-use Rattle.fv_report.specs.Telling.{Line, Outcome, told_of}
+use Rattle.desk_words.specs.Recorded.{timed_at, happens, next_of, next_after}
+use Rattle.desk_words.specs.Reports.{Line}
+use Rattle.fv_report.specs.Telling.{Outcome, lines_after}
 use Rattle.proxy_core.specs.declared.parts.Desk.{Desk}
 use Rattle.fv_report.specs.declared.player.Player.{Player}
 use Rattle.fv_report.specs.Players.{Scene, later, HasTold}
@@ -22,12 +20,6 @@ use Rattle.fv_report.specs.Holding.{IsQuiet}
 abbrev pub event_from : Dest → List ℕ → Event
 event_from Switch message = SwitchMsg message
 event_from (Slice slot) message = SliceMsg slot message
-
--- a message is none of an ended switch, and none of a connection that was closed; anything else happens
-abbrev pub happens : PolicyView → List Timed → Event → Bool
-happens policy h (SwitchMsg message) = not (is_ended (phase_of h))
-happens policy h (SliceMsg slot message) = is_slice_up policy slot h
-happens policy h event = true
 
 -- of what can happen one after another, what does
 abbrev pub happening : PolicyView → ℕ → List Timed → List Event → List Timed
@@ -43,7 +35,7 @@ pub record Rests (policy : PolicyView) (h own : List Timed) (desk : Desk) : Type
 
 -- these events were played: their lines were told, they were counted, and more holds
 abbrev pub PlaysEvents : {T : Type 0} → (T → Line → Outcome → T → Type 0) → Scene → List Timed → List Timed → Type 0 → Outcome → Player T → Player T → Type 0
-PlaysEvents Tells scene h own More result old new = HasTold Tells (later (length own) scene) More result (told_of scene.policy scene.place h own) old new
+PlaysEvents Tells scene h own More result old new = HasTold Tells (later (length own) scene) More result (lines_after scene.policy scene.place h own) old new
 
 -- of what can happen what does was played, and the desk is at rest after it
 abbrev pub Plays : {T : Type 0} → (T → Line → Outcome → T → Type 0) → Scene → List Timed → List Event → Outcome → Player T → Player T → Desk → Type 0

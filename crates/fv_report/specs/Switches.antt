@@ -8,7 +8,8 @@ use Rattle.answer_bounds.specs.Bounds.{AreFramed}
 use Rattle.desk_words.specs.declared.answer.Dest.{Dest}
 use Rattle.desk_words.specs.declared.answer.Dest.TheVariants.{Switch as ToSwitch, Slice}
 use Rattle.desk_words.specs.Recorded.{history_of, history_at, events_in}
-use Rattle.fv_report.specs.Telling.{Line, Outcome}
+use Rattle.desk_words.specs.Reports.{Line}
+use Rattle.fv_report.specs.Telling.{Outcome}
 use Rattle.fv_report.specs.declared.player.Player.{Player}
 use Rattle.fv_report.specs.Players.{scene_of, IsPlaying, HasPlayed}
 use Rattle.fv_report.specs.Plays.{PlaysEvents}

@@ -1,16 +1,9 @@
 -- What taking a message changes of what waits (this proxy's own rule).
-use Rattle.std.specs.Prelude.{ℕ, ◌≡◌, List, drop, Option, Some, None, slice_get}
+use Rattle.std.specs.Prelude.{ℕ, ◌≡◌, List, drop, Option, slice_get}
 use Rattle.flowspace.specs.Policies.{PolicyView}
 use Rattle.desk_words.specs.declared.event.Timed.{Timed}
-use Rattle.desk_words.specs.declared.answer.Taken.{Taken}
-use Rattle.desk_words.specs.declared.answer.Taken.TheVariants.{Message}
 use Rattle.proxy_core.specs.declared.parts.Desk.{Desk}
 use Rattle.fv_report.specs.Holding.{Holds, with_waiting}
-
--- the message that was taken, if one was
-abbrev pub message_taken : Taken → Option (List ℕ)
-message_taken (Message message) = Some message
-message_taken taken = None
 
 -- of what waits for the switch the first was taken
 abbrev pub TakesFromLane : Desk → Option (List ℕ) → Desk → Type 0

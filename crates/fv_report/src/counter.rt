@@ -1,8 +1,8 @@
 //! The messages that are told are counted.
 
 ghost use Rattle.std.specs.Prelude.{ℕ, ◌≡◌, List, [], Ok, OnOk, IfOk, IfErr};
-ghost use Rattle.fv_report.specs.Telling.{To};
-ghost use Rattle.fv_report.specs.Counting.{Added, Counts, CountsLine};
+ghost use Rattle.desk_words.specs.Reports.{To};
+ghost use Rattle.fv_report.specs.Counting.{CountsMore, HasCounted, CountsLine};
 
 use crate::fault::ReportFault;
 use crate::teller::{LinePlace, Said, Teller};
@@ -23,7 +23,7 @@ impl Count {
 
     /// Counts a message more. A recording has far fewer than 2^64 bytes of messages.
     fn add(&mut self, message: &[u8]) -> Result<(), ReportFault>
-        ensures added { OnOk result (Added message.now self.old self.new) }
+        ensures added { OnOk result (CountsMore message.now self.old self.new) }
         ensures memory { IfErr result (λ f. f ≡ ReportFault.Memory) }
     {
         let messages = self.messages.checked_add(1);
@@ -46,7 +46,7 @@ pub(crate) struct Counter {
 impl Counter {
     /// Nothing was told yet.
     pub(crate) fn new(alloc: Global, slices: u8) -> Result<Counter, AllocError>
-        ensures { IfOk result (Counts slices [] (λ slot. [])) }
+        ensures { IfOk result (HasCounted slices [] (λ slot. [])) }
     {
         let mut counts = Vec::new(alloc);
         counts.resize(usize::from(slices), Count::NONE)?;

@@ -3,11 +3,12 @@
 ghost use Rattle.std.specs.Prelude.{ℕ, ◌≡◌, ◌<◌, List, [], IfSome};
 ghost use Rattle.desk_words.specs.declared.event.Timed.{Timed};
 ghost use Rattle.desk_words.specs.declared.answer.Dest.TheVariants.{Switch, Slice};
-ghost use Rattle.fv_report.specs.Telling.{lane_told, slice_told, told_by_slot};
+ghost use Rattle.desk_words.specs.Reports.{lane_lines, slice_lines, lines_by_slot};
+ghost use Rattle.desk_words.specs.Operations.{message_taken};
 ghost use Rattle.fv_report.specs.Players.{Scene, IsPlaying, HasTold};
 ghost use Rattle.proxy_core.specs.Desks.{left};
 ghost use Rattle.fv_report.specs.Holding.{Holds, nothing, with_waiting};
-ghost use Rattle.fv_report.specs.Taking.{message_taken, TakesFromLane, TakesFromSlice};
+ghost use Rattle.fv_report.specs.Taking.{TakesFromLane, TakesFromSlice};
 
 use crate::fault::ReportFault;
 use crate::player::Player;
@@ -51,7 +52,7 @@ impl<T: Teller> Player<'_, T> {
     #[inline(always)]
     pub(crate) fn drain_lane(&mut self, desk: &mut Desk) -> Result<(), ReportFault>
         ensures { (scene : Scene) (h : List Timed) (slices : ℕ → List (List ℕ)) (lane : List (List ℕ)) → IsPlaying scene self.old → Holds scene.policy h slices lane desk.old
-            → HasTold T.Tells scene (Holds scene.policy h slices [] desk.new) result (lane_told scene.place lane) self.old self.new }
+            → HasTold T.Tells scene (Holds scene.policy h slices [] desk.new) result (lane_lines scene.place lane) self.old self.new }
     {
         while let Some(message) = next_of_lane(desk) {
             self.say(Said::Lane(message.as_slice()))?;
@@ -64,7 +65,7 @@ impl<T: Teller> Player<'_, T> {
     #[inline(always)]
     fn drain_slice(&mut self, desk: &mut Desk, slot: u8, name: &str) -> Result<(), ReportFault>
         ensures { (scene : Scene) (h : List Timed) (slices : ℕ → List (List ℕ)) (lane : List (List ℕ)) → IsPlaying scene self.old → Holds scene.policy h slices lane desk.old
-            → HasTold T.Tells scene (Holds scene.policy h (with_waiting slot [] slices) lane desk.new) result (slice_told scene.place slot name.now (slices slot)) self.old self.new }
+            → HasTold T.Tells scene (Holds scene.policy h (with_waiting slot [] slices) lane desk.new) result (slice_lines scene.place slot name.now (slices slot)) self.old self.new }
     {
         while let Some(message) = next_of_slice(desk, slot) {
             self.say(Said::To(slot, name, message.as_slice()))?;
@@ -77,7 +78,7 @@ impl<T: Teller> Player<'_, T> {
     #[inline(always)]
     pub(crate) fn drain_slices(&mut self, desk: &mut Desk) -> Result<(), ReportFault>
         ensures { (scene : Scene) (h : List Timed) (slices : ℕ → List (List ℕ)) (lane : List (List ℕ)) → IsPlaying scene self.old → Holds scene.policy h slices lane desk.old
-            → HasTold T.Tells scene (Holds scene.policy h nothing lane desk.new) result (told_by_slot scene.place slices 0 scene.policy.slices) self.old self.new }
+            → HasTold T.Tells scene (Holds scene.policy h nothing lane desk.new) result (lines_by_slot scene.place slices 0 scene.policy.slices) self.old self.new }
     {
         let policy = self.policy;
         for (slot, slice) in policy.slices().iter().enumerate() {

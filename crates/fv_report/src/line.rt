@@ -2,8 +2,7 @@
 
 ghost use Rattle.std.specs.Prelude.{ℕ, ◌≡◌, ◌≤◌, ◌+◌, ◌-◌, ◌*◌, ◌^◌, ◌++◌, OnOk, length, min, take};
 ghost use Rattle.hex.specs.Hex.{encode_lower};
-ghost use Rattle.desk_words.specs.Reports.{place_text, last_line};
-ghost use Rattle.fv_report.specs.Telling.{saying_text, line_text};
+ghost use Rattle.desk_words.specs.Reports.{place_text, saying_text, line_text, last_line};
 ghost use Rattle.fv_report.specs.Lines.{place_of, saying_of, line_of};
 ghost use Rattle.fv_report.specs.Writing.{Wrote, Counted};
 
@@ -200,7 +199,7 @@ pub(crate) struct Writer<'a, K: Sink> {
 
 impl<'a, K: Sink> Teller for Writer<'a, K> {
     ghost use Rattle.std.specs.Prelude.{◌≡◌};
-    ghost use Rattle.fv_report.specs.Telling.{line_text};
+    ghost use Rattle.desk_words.specs.Reports.{line_text};
     ghost use Rattle.fv_report.specs.Writing.{Wrote, Counted};
 
     ghost Tells = { λ old line outcome new. (new.out.ghost_name ≡ old.out.ghost_name) × Wrote outcome (line_text line) (K.contents old.out.now) (K.contents new.out.now) × Counted outcome (K.faults old.out.now) (K.faults new.out.now) };

@@ -8,7 +8,8 @@ ghost use Rattle.answer_bounds.specs.Bounds.{IsFramed, AreFramed};
 ghost use Rattle.desk_words.specs.declared.event.Timed.{Timed};
 ghost use Rattle.fv_report.specs.Holding.{IsQuiet};
 ghost use Rattle.fv_report.specs.Players.{Scene, IsPlaying};
-ghost use Rattle.fv_report.specs.Plays.{event_from, happens, Plays, PlaysFrames};
+ghost use Rattle.fv_report.specs.Plays.{event_from, Plays, PlaysFrames};
+ghost use Rattle.desk_words.specs.Recorded.{happens};
 
 use crate::fault::ReportFault;
 use crate::player::Player;

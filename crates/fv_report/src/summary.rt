@@ -4,8 +4,8 @@ ghost use Rattle.std.specs.Prelude.{ℕ, ◌≡◌, ◌++◌, List, length, code
 ghost use Rattle.recording.specs.declared.item.Item.{Item};
 ghost use Rattle.recording.specs.Recordings.{read_items};
 ghost use Rattle.desk_words.specs.Recorded.{told_in};
-ghost use Rattle.summary_words.specs.Summaries.{count_line, count_lines, summary};
-ghost use Rattle.fv_report.specs.Counting.{IsCount, AreCounts, Counts, summary_text};
+ghost use Rattle.summary_words.specs.Summaries.{count_line, count_lines, summary, summary_text};
+ghost use Rattle.fv_report.specs.Counting.{IsCount, AreCounts, HasCounted};
 ghost use Rattle.fv_report.specs.Writing.{Wrote, Counted};
 
 use crate::counter::{Count, Counter};
@@ -54,7 +54,7 @@ fn made(
     counter: &Counter,
 ) -> Result<Vec<u8>, AllocError>
     requires { length counter.now.slices.items ≡ length policy.now.slices }
-    ensures { IfOk result (λ text. (slots : ℕ) (lane : List (List ℕ)) (slices : ℕ → List (List ℕ)) → Counts slots lane slices counter.now → text.items ≡ summary_text events lane slices policy.now.slices) }
+    ensures { IfOk result (λ text. (slots : ℕ) (lane : List (List ℕ)) (slices : ℕ → List (List ℕ)) → HasCounted slots lane slices counter.now → text.items ≡ summary_text events lane slices policy.now.slices) }
 {
     let mut text = Vec::new(alloc);
     text.extend_from_slice(b"events ")?;

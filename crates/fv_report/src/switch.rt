@@ -5,8 +5,7 @@ ghost use Rattle.flowspace.specs.Policies.{PolicyView};
 ghost use Rattle.recording.specs.Recordings.{Told};
 ghost use Rattle.answer_bounds.specs.Bounds.{IsFramed};
 ghost use Rattle.desk_words.specs.declared.event.Timed.{Timed};
-ghost use Rattle.desk_words.specs.Recorded.{told_by, happenings};
-ghost use Rattle.fv_report.specs.Plays.{happens};
+ghost use Rattle.desk_words.specs.Recorded.{told_by, happenings, happens};
 ghost use Rattle.fv_report.specs.Switches.{IsFreshSwitch, SwitchStands, IsFound, IsRecord, IsTurn, Readies, told_from, PlaysRecord, PlaysAt};
 
 use crate::fault::ReportFault;

@@ -24,7 +24,8 @@ pub(crate) enum Said<'a> {
 
 /// Whoever hears what is told.
 pub(crate) trait Teller: Drop {
-    ghost use Rattle.fv_report.specs.Telling.{Line, Outcome};
+    ghost use Rattle.desk_words.specs.Reports.{Line};
+    ghost use Rattle.fv_report.specs.Telling.{Outcome};
     ghost use Rattle.fv_report.specs.Lines.{line_of};
 
     /// From one state to another by a line that was told whole, or that a fault broke off.

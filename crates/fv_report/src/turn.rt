@@ -9,8 +9,8 @@ ghost use Rattle.desk_words.specs.Histories.{is_slice_up};
 ghost use Rattle.desk_words.specs.Verdicts.{is_ended, verdict};
 ghost use Rattle.desk_words.specs.Operations.{takes_in};
 ghost use Rattle.desk_words.specs.Recorded.{timed_at, next_of};
-ghost use Rattle.desk_words.specs.Reports.{name_at, speaker};
-ghost use Rattle.fv_report.specs.Telling.{closing_told, closed_told, state_told, event_told, end_told, told_parts};
+ghost use Rattle.desk_words.specs.Reports.{name_at, speaker, closing_lines, event_lines, closed_lines};
+ghost use Rattle.fv_report.specs.Telling.{state_lines, end_lines, lines_in_parts};
 ghost use Rattle.fv_report.specs.Holding.{Holds, IsQuiet, After};
 ghost use Rattle.fv_report.specs.Players.{Scene, IsPlaying, HasTold};
 
@@ -72,7 +72,7 @@ impl<T: Teller> Player<'_, T> {
     /// The line of a connection that is closed, if it is.
     #[inline(never)]
     fn put_close(&mut self, slot: u8, closed: bool) -> Result<(), ReportFault>
-        ensures { (scene : Scene) → IsPlaying scene self.old → HasTold T.Tells scene (Unit {0}) result (closed_told scene.policy scene.place slot closed) self.old self.new }
+        ensures { (scene : Scene) → IsPlaying scene self.old → HasTold T.Tells scene (Unit {0}) result (closed_lines scene.policy scene.place slot closed) self.old self.new }
     {
         if !closed {
             return Ok(());
@@ -83,7 +83,7 @@ impl<T: Teller> Player<'_, T> {
 
     /// The line of the end of the switch's connection, where it has ended.
     fn put_end(&mut self, desk: &Desk) -> Result<(), ReportFault>
-        ensures { (scene : Scene) (h : List Timed) → IsPlaying scene self.old → IsQuiet scene.policy h desk.now → HasTold T.Tells scene (Unit {0}) result (end_told scene.place h) self.old self.new }
+        ensures { (scene : Scene) (h : List Timed) → IsPlaying scene self.old → IsQuiet scene.policy h desk.now → HasTold T.Tells scene (Unit {0}) result (end_lines scene.place h) self.old self.new }
     {
         if !has_ended(desk) {
             return Ok(());
@@ -100,7 +100,7 @@ impl<T: Teller> Player<'_, T> {
         closed: bool,
     ) -> Result<(), ReportFault>
         ensures { (scene : Scene) (h : List Timed) → IsPlaying scene self.old → IsQuiet scene.policy h desk.now
-            → HasTold T.Tells scene (Unit {0}) result (state_told scene.policy scene.place h speaker closed) self.old self.new }
+            → HasTold T.Tells scene (Unit {0}) result (state_lines scene.policy scene.place h speaker closed) self.old self.new }
     {
         match speaker {
             Some(slot) => self.put_close(slot, closed),
@@ -118,7 +118,7 @@ impl<T: Teller> Player<'_, T> {
         closed: bool,
     ) -> Result<(), ReportFault>
         ensures { (scene : Scene) (h : List Timed) (slices : ℕ → List (List ℕ)) (lane : List (List ℕ)) → IsPlaying scene self.old → Holds scene.policy h slices lane desk.old
-            → HasTold T.Tells scene (IsQuiet scene.policy h desk.new) result (told_parts scene.policy scene.place h slices lane speaker closed) self.old self.new }
+            → HasTold T.Tells scene (IsQuiet scene.policy h desk.new) result (lines_in_parts scene.policy scene.place h slices lane speaker closed) self.old self.new }
     {
         self.drain_lane(desk)?;
         self.drain_slices(desk)?;
@@ -128,7 +128,7 @@ impl<T: Teller> Player<'_, T> {
     /// The line of an event that wasn't taken in: nothing comes of it but that the slice that spoke isn't up.
     fn put_over(&mut self, desk: &Desk, speaker: Option<u8>) -> Result<(), ReportFault>
         ensures { (scene : Scene) (h : List Timed) → IsPlaying scene self.old → IsQuiet scene.policy h desk.now
-            → HasTold T.Tells scene (Unit {0}) result (closing_told scene.policy scene.place h speaker) self.old self.new }
+            → HasTold T.Tells scene (Unit {0}) result (closing_lines scene.policy scene.place h speaker) self.old self.new }
     {
         let Some(slot) = speaker else {
             return Ok(());
@@ -141,7 +141,7 @@ impl<T: Teller> Player<'_, T> {
     #[inline(always)]
     pub(crate) fn turn(&mut self, desk: &mut Desk, event: Event) -> Result<(), ReportFault>
         ensures { (scene : Scene) (h : List Timed) → IsPlaying scene self.old → IsQuiet scene.policy h desk.old → AreFramed h → IsFramed event
-            → HasTold T.Tells scene (IsQuiet scene.policy (next_of h (timed_at scene.moment event)) desk.new) result (event_told scene.policy scene.place h (timed_at scene.moment event)) self.old self.new }
+            → HasTold T.Tells scene (IsQuiet scene.policy (next_of h (timed_at scene.moment event)) desk.new) result (event_lines scene.policy scene.place h (timed_at scene.moment event)) self.old self.new }
     {
         let speaker = speaker(&event);
         let timed = Timed {

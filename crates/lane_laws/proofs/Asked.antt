@@ -6,7 +6,7 @@ use Rattle.std.proofs.lemmas.Bool.{or_cases, eq-eqb}
 use Rattle.std.proofs.lemmas.Option.{none-some, same_Some}
 use Rattle.of10_model.specs.Normal.{number_at, match_at}
 use Rattle.of10_model.proofs.Applied.{IsNormal-Norm}
-use Rattle.of10_model.proofs.Ranges.{bytes-drop, number_at-lt}
+use Rattle.of10_model.proofs.Ranges.{bytes-drop, bytes-take, number_at-lt}
 use Rattle.of10_model.proofs.Results.{either, ok_is, passed}
 use Rattle.of10_action.specs.declared.fault.WireFault.TheVariants.{Length, StatKind, StatVendor}
 use Rattle.of10_ctl.specs.declared.kind.TheConstants.{STATS_REQUEST, BARRIER_REQUEST, QUEUE_GET_CONFIG_REQUEST}
@@ -37,7 +37,6 @@ use Rattle.slice_words.specs.FlowMods.{Ground}
 use Rattle.slice_words.specs.Questions.{may_ask}
 use Rattle.slice_words.proofs.LoneRules.{same_port}
 use Rattle.lane_laws.specs.Lane.{AsksForReply, AsksOwnPort, MayBeAsked, IsReadAsInquiry}
-use Rattle.lane_laws.proofs.Reading.{bytes-take}
 use Rattle.slice_side.specs.Checking.{IsInquirySent}
 
 -- ---- ranges

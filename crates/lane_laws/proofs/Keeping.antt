@@ -18,7 +18,7 @@ use Rattle.flowspace.specs.Owners.{Writes}
 use Rattle.flowspace.specs.Policies.{PolicyView}
 use Rattle.flowspace.proofs.Refusing.{is_value-Some}
 use Rattle.flowmod_expand.proofs.Somewhere.{Any-first, Any-later}
-use Rattle.slice_words.specs.Items.{Settings, Writer, Reader, Probe, Item, Up, Down, Msg, Lost, is_up, buffered_count}
+use Rattle.slice_words.specs.Items.{Settings, Writer, Reader, Probe, Item, Up, Down, Msg, Lost, is_up, buffered_count, hands_up_buffered}
 use Rattle.slice_words.specs.Pasts.{view_in}
 use Rattle.slice_words.specs.Buffers.{HeldPacket, is_recent_packet}
 use Rattle.slice_words.specs.Answers.{answer}
@@ -31,12 +31,12 @@ use Rattle.desk_words.specs.declared.event.Timed.{Timed}
 use Rattle.desk_words.specs.declared.phase.Phase.{Phase}
 use Rattle.desk_words.specs.declared.phase.Phase.TheVariants.{Fresh, Begun, Opened, Gone}
 use Rattle.desk_words.specs.Openings.{opening_with, rules_of, KnownSwitch, switch_of, phase_of, opening_of}
-use Rattle.desk_words.specs.Histories.{is_slot, SliceSide, side_of, header_in, handed, number_given, marked_slot, lost_items, packet_items, packet_in_items, packet_said, said_items, message_items, event_items, opening_items, phase_items, items_of, number_told, Numbered, holder, hands_up_buffered, is_any_given, numbered_with, is_open}
+use Rattle.desk_words.specs.Histories.{is_slot, SliceSide, side_of, header_in, handed, number_given, marked_slot, lost_items, packet_items, packet_in_items, packet_said, said_items, message_items, event_items, opening_items, phase_items, items_of, number_told, Numbered, holder, is_any_given, numbered_with, is_open, packet_handed}
 use Rattle.desk_words.specs.Numbers.{AreNumbered}
 use Rattle.desk_words.proofs.Alone.{has_told, opened_told, blind}
 use Rattle.desk_words.proofs.Silence.{none_or, none_both}
 use Rattle.desk_words.proofs.Numbering.{held_in, kept_all, same_count_all, none_given, numbered}
-use Rattle.lane_laws.specs.Lane.{Arrival, packet_handed, arrivals, arrival_under, switch_number}
+use Rattle.lane_laws.specs.Lane.{Arrival, arrivals, arrival_under, switch_number}
 
 -- ---- what an event shows a slice
 

@@ -44,9 +44,9 @@ use Rattle.desk_words.specs.declared.phase.Phase.{Phase}
 use Rattle.desk_words.specs.declared.phase.Phase.TheVariants.{Fresh, Begun, Opened, Gone}
 use Rattle.desk_words.specs.declared.event.Timed.{Timed}
 use Rattle.desk_words.specs.Openings.{phase_of, opening_of}
-use Rattle.desk_words.specs.Histories.{is_slot, header_in, packet_said, number_given, side_of}
+use Rattle.desk_words.specs.Histories.{is_slot, header_in, packet_said, number_given, side_of, packet_handed}
 use Rattle.desk_words.specs.Sent.{lane_by}
-use Rattle.lane_laws.specs.Lane.{IsRanged, IsRangedOut, IsEitherThat, AsksForReply, IsSentThat, LiesInFlowspace, OutputsToOwnPorts, LeavesOtherHeaders, SendsOwnPacket, SendsToOwnPorts, ChangesNoTable, IsOfBytes, Arrival, packet_handed, arrivals, arrival_under, IsBufferHeader, CarriesOwnBuffer, SendsOwnBuffer, switch_number, rules_in}
+use Rattle.lane_laws.specs.Lane.{IsRanged, IsRangedOut, IsEitherThat, AsksForReply, IsSentThat, LiesInFlowspace, OutputsToOwnPorts, LeavesOtherHeaders, SendsOwnPacket, SendsToOwnPorts, ChangesNoTable, IsOfBytes, Arrival, arrivals, arrival_under, IsBufferHeader, CarriesOwnBuffer, SendsOwnBuffer, switch_number, rules_in}
 use Rattle.lane_laws.proofs.Reading.{IsRead, IsReadOut, IsReadIn, read_in, read_of, read_out_of}
 use Rattle.lane_laws.proofs.Keeping.{IsKept}
 use Rattle.lane_laws.proofs.Own.{HoldsOfLists}

@@ -42,7 +42,7 @@ use Rattle.slice_words.specs.PacketOuts.{carried_header, is_probe, origin_with, 
 use Rattle.slice_words.specs.Standing.{SliceStands, past_of, held_as}
 use Rattle.slice_words.proofs.Holding.{found_holds}
 use Rattle.slice_side.specs.Reactions.{without_physical, ground_at}
-use Rattle.slice_side.specs.Checking.{packet_in, held_for, carrier_in, number_in, flow_mods_from, packet_out_from, IsSentOn, AreSentOn}
+use Rattle.slice_side.specs.Checking.{packet_kept, held_for, carrier_in, number_in, flow_mods_from, packet_out_from, IsSentOn, AreSentOn}
 use Rattle.slice_side.proofs.Packets.{kept_packet}
 use Rattle.desk_words.specs.declared.event.Timed.{Timed}
 use Rattle.desk_words.specs.Histories.{side_of, view_of}
@@ -143,7 +143,7 @@ module _ (rules : List Rule) (slot : ℕ) (known : List (List ℕ)) (state : Sli
   buffer_below (Some packet) pieces k each = placed_below packet (piece_place packet.header pieces) k (each packet refl)
 
   -- a packet that a flow-mod names is one that the state holds
-  named_in : (deletes : Bool) (buffer : ℕ) (packet : Held) → KeepsRanged state → (if deletes then None else packet_in state buffer) ≡ Some packet → HasRanges packet
+  named_in : (deletes : Bool) (buffer : ℕ) (packet : Held) → KeepsRanged state → (if deletes then None else packet_kept state buffer) ≡ Some packet → HasRanges packet
   named_in true buffer packet without_physical is = absurd (true≢false (sym (ap is_some is)))
   named_in false buffer packet without_physical is = found_in HasRanges (buffer == NO_BUFFER) buffer state.buffers.held packet without_physical is
 
@@ -175,10 +175,10 @@ module _ (rules : List Rule) (slot : ℕ) (known : List (List ℕ)) (state : Sli
 
   -- the number that it carries
   abbrev number : PacketOut → ℕ
-  number m = number_in (packet_in state m.buffer)
+  number m = number_in (packet_kept state m.buffer)
 
   no_number : (m : PacketOut) → m.buffer ≡ NO_BUFFER → number m ≡ NO_BUFFER
-  no_number m is = ap (λ (buffer : ℕ). number_in (packet_in state buffer)) is
+  no_number m is = ap (λ (buffer : ℕ). number_in (packet_kept state buffer)) is
 
   numbered_out : (m : PacketOut) (named : Option HeldPacket)
       → record (out_with [] ground m named) { buffer = number m } ≡ record (sent_out_with named ground m (list_for ground m (origin_with named m))) { buffer = number m }
@@ -196,17 +196,17 @@ module _ (rules : List Rule) (slot : ℕ) (known : List (List ℕ)) (state : Sli
       let packet = get_or state.buffers.held k d in
       (k, packet, within, get_or_default state.buffers.held k packet d within, (refl, refl))
 
-  port_below : KeepsRanged state → (m : PacketOut) (packet : HeldPacket) (found : Option Held) → packet_in state m.buffer ≡ found → option_map without_physical found ≡ Some packet → packet.header.in_port < 2 ^ 16
+  port_below : KeepsRanged state → (m : PacketOut) (packet : HeldPacket) (found : Option Held) → packet_kept state m.buffer ≡ found → option_map without_physical found ≡ Some packet → packet.header.in_port < 2 ^ 16
   port_below ranged m packet None is named = absurd (true≢false (sym (ap is_some named)))
   port_below ranged m packet (Some held) is named = subst (λ (other : HeldPacket). other.header.in_port < 2 ^ 16) (same_Some (without_physical held) packet named) (named_in false m.buffer held ranged is).1
 
   ranged_out_from : KeepsRanged state → (m : PacketOut) → IsReadOut m → packet_out_fault ground m ≡ None → IsRangedOut (packet_out_from state ground m)
   ranged_out_from ranged m read none =
-      let below = number_below (packet_in state m.buffer) (λ packet is. (named_in false m.buffer packet ranged is).0) in
+      let below = number_below (packet_kept state m.buffer) (λ packet is. (named_in false m.buffer packet ranged is).0) in
       out_from IsRangedOut m none (record {
         held = λ packet is. record {
           buffer = below;
-          in_port = port_below ranged m packet (packet_in state m.buffer) refl (kept_packet state ground m.buffer refl ∙ is);
+          in_port = port_below ranged m packet (packet_kept state m.buffer) refl (kept_packet state ground m.buffer refl ∙ is);
           actions = list_ranged (origins.Packet packet.header) m.actions read.actions;
         };
         probe = λ comes is. record { buffer = below; in_port = read.in_port; actions = list_ranged (origins.Probe m.in_port) m.actions read.actions };
@@ -219,7 +219,7 @@ module _ (rules : List Rule) (slot : ℕ) (known : List (List ℕ)) (state : Sli
     packet_outs = λ m read none. ranged_out_from ranged m (read_out_of message m (bytes_of message bytes) read) none;
   }
 
-  own_held : KeepsWritten rules slot state → (m : PacketOut) (packet : HeldPacket) (found : Option Held) → packet_in state m.buffer ≡ found → option_map without_physical found ≡ Some packet
+  own_held : KeepsWritten rules slot state → (m : PacketOut) (packet : HeldPacket) (found : Option Held) → packet_kept state m.buffer ≡ found → option_map without_physical found ≡ Some packet
       → (h : Header) × IsKeptHeader state (number_in found) h × Writes rules slot h
   own_held written m packet None is named = absurd (true≢false (sym (ap is_some named)))
   own_held written m packet (Some held) is named = (
@@ -232,7 +232,7 @@ module _ (rules : List Rule) (slot : ℕ) (known : List (List ℕ)) (state : Sli
       → SendsOwnPacket (IsKeptHeader state) rules slot (packet_out_from state ground m)
   out_lies_from slices accepted written m none =
       out_from (SendsOwnPacket (IsKeptHeader state) rules slot) m none (record {
-        held = λ packet is. inl (own_held written m packet (packet_in state m.buffer) refl (kept_packet state ground m.buffer refl ∙ is));
+        held = λ packet is. inl (own_held written m packet (packet_kept state m.buffer) refl (kept_packet state ground m.buffer refl ∙ is));
         probe = λ comes is. inr (no_number m comes.0, came_in ground rules slot m.in_port refl refl comes.1, inr (IsProbe-marked slot m is));
         carried = λ comes is lies. inr (no_number m comes.0, came_in ground rules slot m.in_port refl refl comes.1, inl (carries_written slices rules accepted ground slot m refl lies));
       })

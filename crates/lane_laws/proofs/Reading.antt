@@ -1,11 +1,9 @@
 -- Each field of a flow-mod, of a packet-out and of a packet-in that is read of bytes lies in its range.
-use Rattle.std.proofs.Common.{◌≡◌, refl, sym, ◌∙◌, ap, subst, ℕ, ◌+◌, zero, suc, ◌<◌, ◌^◌, ◌==◌, not, nat_lt, Bool, true, false, if◌then◌else◌, List, [], ◌∷◌, length, take, drop, slice_index, inl, inr, All, Result, Ok, Err, arith}
-use Rattle.std.proofs.lemmas.Bool.{cases_lt}
-use Rattle.std.proofs.lemmas.List.{get_or-take, get_or_past, length-take}
+use Rattle.std.proofs.Common.{◌≡◌, refl, sym, ◌∙◌, ap, subst, ℕ, ◌+◌, zero, suc, ◌<◌, ◌^◌, ◌==◌, not, nat_lt, Bool, true, false, if◌then◌else◌, List, [], ◌∷◌, length, take, drop, slice_index, All, Result, Ok, Err}
 use Rattle.std.proofs.lemmas.List.Elements.{All-nil, All-cons}
 use Rattle.of10_model.specs.Normal.{number_at, IsNormal}
 use Rattle.of10_model.proofs.Applied.{IsNormal-Norm}
-use Rattle.of10_model.proofs.Ranges.{bytes-drop, number_at-lt}
+use Rattle.of10_model.proofs.Ranges.{bytes-drop, bytes-take, number_at-lt}
 use Rattle.of10_model.proofs.Results.{either, ok_is, passed, bind_ok}
 use Rattle.of10_action.specs.declared.action.Action.{Action}
 use Rattle.of10_action.specs.declared.action.Action.TheVariants.{Output, SetVlanVid, SetVlanPcp, StripVlan, SetDlSrc, SetDlDst, SetNwSrc, SetNwDst, SetNwTos, SetTpSrc, SetTpDst, Enqueue}
@@ -32,15 +30,6 @@ use Rattle.of10_message.specs.declared.fault.Unread.TheVariants.{BadLength, NoCo
 use Rattle.of10_message.specs.Heads.{version_of, is_kind}
 use Rattle.of10_message.specs.Forms.{sized, formed, read_hello}
 use Rattle.of10_message.specs.Controller.{read_typed, read_controller}
-
--- ---- bytes
-
--- what is taken of bytes are bytes
-pub bytes-take : (n : ℕ) (bytes : List ℕ) → ((k : ℕ) → slice_index bytes k < 256) → (k : ℕ) → slice_index (take n bytes) k < 256
-bytes-take n bytes h k = elim (cases_lt k n) [
-  | inl lt ↦ rw (get_or-take n bytes k 0 lt) (h k)
-  | inr le ↦ (let long = length-take n bytes in rw (get_or_past (take n bytes) k 0 (omega arith)) (omega arith))
-]
 
 -- ---- actions
 

@@ -8,7 +8,6 @@ use Rattle.of10_model.specs.declared.pattern.Pattern.{Pattern}
 use Rattle.of10_model.specs.Header.{Header, IsHeader}
 use Rattle.of10_action.specs.declared.action.Action.{Action}
 use Rattle.of10_action.specs.Actions.{IsAction}
-use Rattle.of10_action.specs.Reading.{list_given}
 use Rattle.of10_ctl.specs.declared.kind.TheConstants.{FLOW_MOD, PACKET_OUT}
 use Rattle.of10_ctl.specs.Kinds.{IsOf}
 use Rattle.of10_port.specs.declared.features.Features.{Features}

@@ -28,13 +28,12 @@ use Rattle.flowspace.specs.Owners.{Writes, HasPort}
 use Rattle.flowspace.specs.Policies.{PolicyView}
 use Rattle.port_view.specs.SlicePorts.{ports_of_slice}
 use Rattle.flow_book.specs.declared.state.SliceState.{SliceState}
-use Rattle.flowmod_expand.specs.Messages.{piece_messages}
 use Rattle.action_check.specs.declared.origin.Origin.TheVariants.{Piece, Packet}
 use Rattle.action_check.specs.Soundness.{IsSound}
 use Rattle.stats_filter.specs.Asking.{asked_as}
 use Rattle.slice_words.specs.Items.{Settings, Sight, Writer}
 use Rattle.slice_words.specs.Buffers.{held_packets}
-use Rattle.slice_words.specs.FlowMods.{Ground, ground_of, pieces_on, lists_on, packet_at, named_packet, carrier_of, flow_mod_fault}
+use Rattle.slice_words.specs.FlowMods.{Ground, ground_of, pieces_on, packet_at, named_packet, carrier_of, flow_mod_fault, flow_mods_with}
 use Rattle.slice_words.specs.PacketOuts.{carried_header, is_probe, packet_out_on, packet_out_fault}
 use Rattle.slice_words.specs.Answers.{keeps_rate}
 use Rattle.slice_words.specs.Alone.{number_it_came_with}
@@ -42,10 +41,8 @@ use Rattle.slice_words.specs.Standing.{past_of}
 use Rattle.desk_words.specs.declared.event.Event.{Event}
 use Rattle.desk_words.specs.declared.event.Event.TheVariants.{SwitchMsg, SliceMsg}
 use Rattle.desk_words.specs.declared.event.Timed.{Timed}
-use Rattle.desk_words.specs.declared.phase.Phase.{Phase}
-use Rattle.desk_words.specs.declared.phase.Phase.TheVariants.{Opened}
 use Rattle.desk_words.specs.Openings.{phase_of, opening_of, rules_of, ports_after, switch_of}
-use Rattle.desk_words.specs.Histories.{settings_at, header_in, handed, packet_in_read, number_given, items_of, side_of, view_of}
+use Rattle.desk_words.specs.Histories.{settings_at, header_in, handed, number_given, items_of, side_of, view_of, packet_handed}
 
 -- ---- of one message
 
@@ -218,11 +215,6 @@ pub record Arrival : Type 0 where
   pub timed : Timed
   pub packet : PacketIn
 
--- what an event says of a packet, once the switch has told what it is
-abbrev pub packet_handed : Phase → Event → Option PacketIn
-packet_handed Opened (SwitchMsg message) = packet_in_read message
-packet_handed phase event = None
-
 -- the packet-ins of a history, newest first
 abbrev pub arrivals : List Timed → List Arrival
 arrivals [] = []
@@ -300,7 +292,7 @@ switch_number policy slot h ordinal = number_it_came_with (side_of policy slot h
 abbrev pub flow_mods_at : PolicyView → ℕ → List Timed → FlowMod → List FlowMod
 flow_mods_at policy slot h m =
     let g = ground_in policy slot h in
-    piece_messages 0 m g.xid (pieces_on g m) (lists_on g m) (option_map (λ own. (own.0, switch_number policy slot h own.1)) (carrier_of (named_packet g m) (pieces_on g m)))
+    flow_mods_with g m (option_map (λ own. (own.0, switch_number policy slot h own.1)) (carrier_of (named_packet g m) (pieces_on g m)))
 
 -- the packet-out that is sent, with the switch's number for the packet that is named
 abbrev pub packet_out_at : PolicyView → ℕ → List Timed → PacketOut → PacketOut

@@ -6,6 +6,7 @@ use Rattle.desk_words.specs.declared.event.Event.{Event}
 use Rattle.desk_words.specs.declared.event.Event.TheVariants.{SwitchUp, SwitchMsg, SwitchDown, SliceUp, SliceMsg, SliceDown}
 use Rattle.desk_words.specs.declared.event.Timed.{Timed}
 use Rattle.desk_words.specs.declared.answer.Verdict.TheVariants as verdict
+use Rattle.desk_words.specs.Recorded.{timed_at}
 use Rattle.turn_desk.specs.declared.view.Member.{Member}
 use Rattle.live_desk.specs.declared.object.DeskObject.{DeskObject}
 use Rattle.live_desk.specs.declared.object.DeskOp.{DeskOp}
@@ -39,7 +40,7 @@ down_of (Slice slot) = SliceDown slot
 
 -- the step of an event at a moment
 abbrev pub at_moment : Event → ℕ → DeskOp
-at_moment event moment = Step (record { event = event; moment = moment })
+at_moment event moment = Step (timed_at moment event)
 
 -- the operations are the steps of these events in their order, each at the moment at its place
 abbrev pub AreSteps : List DeskOp → List Event → List ℕ → Type 0

@@ -1,9 +1,10 @@
 -- What a seat takes of a desk for one destination, and what of it is written. This proxy's own rules.
-use Rattle.std.specs.Prelude.{◌≡◌, ◌+◌, ℕ, List, [], ◌∷◌, ◌++◌, length, Option}
+use Rattle.std.specs.Prelude.{◌≡◌, ◌+◌, ℕ, List, [], ◌∷◌, ◌++◌, length, Option, unwrap_or}
 use Rattle.fv_base.specs.Told.{appended, IsBeginning}
 use Rattle.desk_words.specs.declared.answer.Dest.{Dest}
 use Rattle.desk_words.specs.declared.answer.Taken.{Taken}
 use Rattle.desk_words.specs.declared.answer.Taken.TheVariants as taken
+use Rattle.desk_words.specs.Operations.{message_taken}
 use Rattle.turn_desk.specs.declared.view.Member.{Member}
 use Rattle.live_desk.specs.declared.object.DeskObject.{DeskObject}
 use Rattle.live_desk.specs.declared.object.DeskOp.{DeskOp}
@@ -24,8 +25,7 @@ View = Option (Member DeskObject DeskOp DeskReply)
 
 -- the message that a take gave
 abbrev pub given_by : Taken → List ℕ
-given_by (taken.Message frame) = frame
-given_by other = []
+given_by answer = unwrap_or (message_taken answer) []
 
 -- the message that a reply gave
 abbrev pub message_replied : DeskReply → List ℕ

@@ -11,7 +11,7 @@ use std::thread;
 // What came to one destination: how often its bell was rung, how many ups were answered, and how many writers
 // began.
 #[derive(Drop)]
-struct Counts {
+struct BellCounts {
     rings: u64,
     ups: u64,
     writers: u64,
@@ -19,14 +19,14 @@ struct Counts {
 
 #[derive(Drop)]
 struct Bell {
-    counts: Mutex<Counts>,
+    counts: Mutex<BellCounts>,
     changed: Condvar,
 }
 
 impl Bell {
     fn new() -> Bell {
         Bell {
-            counts: Mutex::new(Counts {
+            counts: Mutex::new(BellCounts {
                 rings: 0,
                 ups: 0,
                 writers: 0,

@@ -1,15 +1,8 @@
 -- What 88 bytes say of a removed entry lies in range.
-use Rattle.std.proofs.Common.{ℕ, zero, suc, ◌<◌, List, [], ◌∷◌, take, drop, slice_index, arith}
-use Rattle.of10_model.proofs.Ranges.{bytes-drop, number_at-lt}
+use Rattle.std.proofs.Common.{ℕ, ◌<◌, List, take, drop, slice_index, arith}
+use Rattle.of10_model.proofs.Ranges.{bytes-drop, bytes-take, number_at-lt}
 use Rattle.of10_model.proofs.Applied.{IsNormal-Norm}
 use Rattle.of10_flow.specs.FlowRemoveds.{IsFlowRemoved, removal_in}
-
--- the first of bytes are bytes
-pub bytes-take : (n : ℕ) (bytes : List ℕ) → ((k : ℕ) → slice_index bytes k < 256) → (k : ℕ) → slice_index (take n bytes) k < 256
-bytes-take zero bytes h k = omega arith
-bytes-take (suc n) [] h k = omega arith
-bytes-take (suc n) (byte ∷ bytes) h zero = h zero
-bytes-take (suc n) (byte ∷ bytes) h (suc k) = bytes-take n bytes (λ j. h (suc j)) k
 
 pub IsFlowRemoved-removal_in : (bytes : List ℕ) → ((k : ℕ) → slice_index bytes k < 256) → IsFlowRemoved (removal_in bytes)
 IsFlowRemoved-removal_in bytes h = record {

@@ -5,7 +5,7 @@ use Rattle.std.specs.Prelude.{is_ok}
 use Rattle.std.specs.List.{All}
 use Rattle.of10_model.specs.Normal.{number_at}
 use Rattle.of10_model.proofs.Results.{ok_is, passed, bind_ok}
-use Rattle.of10_model.proofs.Ranges.{bytes-drop, number_at-lt}
+use Rattle.of10_model.proofs.Ranges.{bytes-drop, bytes-take, number_at-lt}
 use Rattle.of10_model.proofs.Applied.{IsNormal-Norm}
 use Rattle.of10_action.specs.declared.action.Action.{Action}
 use Rattle.of10_action.specs.declared.fault.WireFault.TheVariants.{Length}
@@ -16,7 +16,6 @@ use Rattle.of10_flow.specs.declared.packet_out.PacketOut.{PacketOut}
 use Rattle.of10_flow.specs.FlowMods.{IsFlowMod, flow_mod_with, read_flow_mod}
 use Rattle.of10_flow.specs.PacketOuts.{begins_well, read_packet_out}
 use Rattle.of10_flow.proofs.Begins.{begins}
-use Rattle.of10_flow.proofs.Removed.{bytes-take}
 
 -- a flow-mod of bytes with right actions lies in range
 pub IsFlowMod-with : (actions : List Action) (bytes : List ℕ) → ((k : ℕ) → slice_index bytes k < 256) → All IsAction actions → 72 + length (spelling actions) ≤ 65535 → IsFlowMod (flow_mod_with actions bytes)

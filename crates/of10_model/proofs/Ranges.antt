@@ -1,5 +1,5 @@
 -- What bytes spell lies in range, and so does its normal form.
-use Rattle.std.proofs.Common.{ℕ, ◌≡◌, ◌+◌, ◌-◌, ◌*◌, ◌/◌, ◌%◌, ◌^◌, ◌<◌, ◌≤◌, ◌&&◌, Bool, true, false, if◌then◌else◌, leb, List, drop, slice_index, Option, Some, None, refl, arith}
+use Rattle.std.proofs.Common.{ℕ, zero, suc, ◌≡◌, ◌+◌, ◌-◌, ◌*◌, ◌/◌, ◌%◌, ◌^◌, ◌<◌, ◌≤◌, ◌&&◌, Bool, true, false, if◌then◌else◌, leb, List, [], ◌∷◌, take, drop, slice_index, Option, Some, None, refl, arith}
 use Rattle.std.proofs.Math.Nat.{div-mul-le_self, mul-mod_left}
 use Rattle.std.proofs.lemmas.List.{get_or-drop}
 use Rattle.std.proofs.lemmas.Bool.{leb-true, leb-false, and_parts}
@@ -18,6 +18,13 @@ between low high n e = let (from, to) = and_parts (leb low n) (leb n high) e in 
 -- what is left of bytes are bytes
 pub bytes-drop : (bytes : List ℕ) (n : ℕ) → ((k : ℕ) → slice_index bytes k < 256) → (k : ℕ) → slice_index (drop n bytes) k < 256
 bytes-drop bytes n h k = rw (get_or-drop n bytes k 0) (h (n + k))
+
+-- and the first of bytes are bytes
+pub bytes-take : (n : ℕ) (bytes : List ℕ) → ((k : ℕ) → slice_index bytes k < 256) → (k : ℕ) → slice_index (take n bytes) k < 256
+bytes-take zero bytes h k = omega arith
+bytes-take (suc n) [] h k = omega arith
+bytes-take (suc n) (byte ∷ bytes) h zero = h zero
+bytes-take (suc n) (byte ∷ bytes) h (suc k) = bytes-take n bytes (λ j. h (suc j)) k
 
 pub number_at-lt : (bytes : List ℕ) (at n : ℕ) → ((k : ℕ) → slice_index bytes k < 256) → number_at bytes at n < 256 ^ n
 number_at-lt bytes at n h = big_from-lt 0 n (drop at bytes) (bytes-drop bytes at h)

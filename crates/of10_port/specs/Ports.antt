@@ -1,7 +1,8 @@
 -- Ports as a switch describes them (OpenFlow 1.0.0, section 5.2.1).
-use Rattle.std.specs.Prelude.{◌≡◌, ℕ, ◌/◌, List, length}
+use Rattle.std.specs.Prelude.{◌≡◌, ℕ, ◌/◌, List, ◌++◌, length, replicate}
 use Rattle.std.specs.List.{flat_map}
 use Rattle.std.specs.Simd.{first_chunks}
+use Rattle.byteorder.specs.Endian.{big_bytes}
 use Rattle.of10_model.specs.Normal.{number_at}
 
 -- a port is described by 48 bytes: its number, hardware address and name, and six words, the first of them its configuration
@@ -11,6 +12,10 @@ IsPort raw = length raw ≡ 48
 -- the number of a port
 abbrev pub port_number : List ℕ → ℕ
 port_number raw = number_at raw 0 2
+
+-- a port of which nothing but its number is told
+abbrev pub bare_port : ℕ → List ℕ
+bare_port number = big_bytes 2 number ++ replicate 46 0
 
 -- the configuration of a port
 abbrev pub port_config : List ℕ → ℕ

@@ -1,7 +1,7 @@
 ghost use Rattle.std.specs.Prelude.{◌≡◌, ◌++◌, ◌*◌, IfOk, OnOk, length};
-ghost use Rattle.of10_port.specs.Ports.{IsPort, port_number, port_config, port_bytes};
+ghost use Rattle.of10_port.specs.Ports.{IsPort, bare_port, port_number, port_config, port_bytes};
 
-use of10_model::wire::{u16_at, u32_at};
+use of10_model::wire::{set_u16, u16_at, u32_at};
 use std::alloc::{AllocError, Global};
 use std::marker::Model;
 
@@ -27,6 +27,16 @@ impl Port {
     pub fn of(raw: [u8; 48]) -> Port
         ensures { result ≡ raw }
     {
+        Port { raw }
+    }
+
+    /// A port of this number, whose other bytes are zero.
+    pub fn bare(number: u16) -> Port
+        ensures value { result ≡ bare_port number }
+        ensures number { port_number result ≡ number }
+    {
+        let mut raw = [0; 48];
+        set_u16(&mut raw, 0, number);
         Port { raw }
     }
 

@@ -6,9 +6,13 @@ pub record Queue : Type 0 where
   pub pending : List (List ℕ)
   pub choked : Bool
 
+-- these messages wait, and none was dropped
+abbrev pub waiting : List (List ℕ) → Queue
+waiting messages = record { pending = messages; choked = false }
+
 -- the queue that is empty and not choked
 abbrev pub no_messages : Queue
-no_messages = record { pending = []; choked = false }
+no_messages = waiting []
 
 -- how many bytes messages have
 abbrev pub size : List (List ℕ) → ℕ

@@ -12,8 +12,9 @@ use Rattle.desk_words.specs.Openings.{KnownSwitch}
 use Rattle.desk_words.specs.Histories.{SliceSide}
 use Rattle.desk_words.specs.Sent.{sent_with}
 use Rattle.switch_side.specs.Dispatches.{addressed, sent_to_all}
+use Rattle.switch_side.specs.Changes.{of_slot}
 use Rattle.proxy_core.specs.Slots.{SameQueue, HasMore, HasOnly}
-use Rattle.proxy_core.specs.Handing.{of_slot, HasRoomAt, HaveRoom, AreSame, AreHanded}
+use Rattle.proxy_core.specs.Handing.{HasRoomAt, HaveRoom, AreSame, AreHanded}
 use Rattle.proxy_core.proofs.Lists.{there, within}
 use Rattle.proxy_core.proofs.Places.{get_set, get_other}
 
@@ -193,7 +194,11 @@ joined_if false message whole front back is = is
 
 slot_append : (slot : ℕ) (a b : List (ℕ × List ℕ)) → of_slot slot (a ++ b) ≡ of_slot slot a ++ of_slot slot b
 slot_append slot [] b = refl
-slot_append slot (pair ∷ later) b = joined_if (pair.0 == slot) pair.1 (of_slot slot (later ++ b)) (of_slot slot later) (of_slot slot b) (slot_append slot later b)
+slot_append slot (pair ∷ later) b =
+    let own = pair.0 == slot in
+    slot_first pair.0 slot pair.1 (later ++ b) own refl
+    ∙ joined_if own pair.1 (of_slot slot (later ++ b)) (of_slot slot later) (of_slot slot b) (slot_append slot later b)
+    ∙ ap (λ (m : List (List ℕ)). m ++ of_slot slot b) (sym (slot_first pair.0 slot pair.1 later own refl))
 
 slot_own : (slot : ℕ) (messages : List (List ℕ)) → of_slot slot (addressed slot messages) ≡ messages
 slot_own slot [] = refl

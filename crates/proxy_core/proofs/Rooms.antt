@@ -10,7 +10,7 @@ use Rattle.flow_book.specs.States.{IsFreshState}
 use Rattle.outbox.specs.Queues.{Queue, push, push_all, OutboxState}
 use Rattle.proxy_core.specs.declared.parts.Session.{Session}
 use Rattle.proxy_core.specs.Desks.{pending_at}
-use Rattle.proxy_core.specs.Opening.{has_slot, is_up_at, AtSlot}
+use Rattle.proxy_core.specs.Opening.{has_side_at, is_up_at, AtSlot}
 use Rattle.proxy_core.proofs.Lists.{there, within}
 use Rattle.proxy_core.proofs.Places.{get_set, get_other, get_more, set_there}
 
@@ -45,13 +45,13 @@ one_longer xs zs x n is count = ap length is ∙ length-append xs (x ∷ []) ∙
 
 -- ---- one slot of a session
 
-in_states : (session : Session) (slot : ℕ) → has_slot session slot ≡ true → slot < length session.states.items
+in_states : (session : Session) (slot : ℕ) → has_side_at session slot ≡ true → slot < length session.states.items
 in_states session slot is = ltb-true slot (length session.states.items) ((and_parts (ltb slot (length session.states.items)) (ltb slot (length session.queues.items)) is).0)
 
-pub there_up : (session : Session) (slot : ℕ) → is_up_at session slot ≡ true → has_slot session slot ≡ true
-there_up session slot is = (and_parts (has_slot session slot) (elim (slice_get session.states.items slot) as (λ o. Bool) [ None ↦ false | Some state ↦ state.up ]) is).0
+pub there_up : (session : Session) (slot : ℕ) → is_up_at session slot ≡ true → has_side_at session slot ≡ true
+there_up session slot is = (and_parts (has_side_at session slot) (elim (slice_get session.states.items slot) as (λ o. Bool) [ None ↦ false | Some state ↦ state.up ]) is).0
 
-in_queues : (session : Session) (slot : ℕ) → has_slot session slot ≡ true → slot < length session.queues.items
+in_queues : (session : Session) (slot : ℕ) → has_side_at session slot ≡ true → slot < length session.queues.items
 in_queues session slot is = ltb-true slot (length session.queues.items) ((and_parts (ltb slot (length session.states.items)) (ltb slot (length session.queues.items)) is).1)
 
 placed : (slot at : ℕ) (Becomes : SliceState → OutboxState → SliceState → OutboxState → Type 0) (old new : Session) (a x : SliceState) (b y : OutboxState) → at ≡ slot
@@ -76,17 +76,17 @@ placed slot at Becomes old new a x b y here policy features ports states queues 
   );
 }
 
-is_there : (session : Session) (slot : ℕ) (a : SliceState) (b : OutboxState) → slice_get session.states.items slot ≡ Some a → slice_get session.queues.items slot ≡ Some b → has_slot session slot ≡ true
+is_there : (session : Session) (slot : ℕ) (a : SliceState) (b : OutboxState) → slice_get session.states.items slot ≡ Some a → slice_get session.queues.items slot ≡ Some b → has_side_at session slot ≡ true
 is_there session slot a b ga gb = ap₂ (λ (x y : Bool). x && y) (within session.states.items slot a ga) (within session.queues.items slot b gb)
 
 -- the queue that was read at a place
-pub queue_read : (slot at : ℕ) (session : Session) (queue : OutboxState) → at ≡ slot → has_slot session slot ≡ true → queue ≡ get_or session.queues.items at queue → slice_get session.queues.items at ≡ Some queue
+pub queue_read : (slot at : ℕ) (session : Session) (queue : OutboxState) → at ≡ slot → has_side_at session slot ≡ true → queue ≡ get_or session.queues.items at queue → slice_get session.queues.items at ≡ Some queue
 queue_read slot at session queue here has read =
     let q = in_queues session slot has in
     slice_get_read session.queues.items (length session.queues.items) at queue refl (omega (arith, q, here)) read
 
 -- the state that was read at a place
-pub state_read : (slot at : ℕ) (session : Session) (read : SliceState) → at ≡ slot → has_slot session slot ≡ true → read ≡ get_or session.states.items at read
+pub state_read : (slot at : ℕ) (session : Session) (read : SliceState) → at ≡ slot → has_side_at session slot ≡ true → read ≡ get_or session.states.items at read
     → (state : SliceState) → slice_get session.states.items slot ≡ Some state → read ≡ state
 state_read slot at session read here has is state g =
     let s = in_states session slot has in
@@ -94,7 +94,7 @@ state_read slot at session read here has is state g =
     ∙ subst (λ (k : ℕ). slice_get session.states.items k ≡ Some state) (sym here) g)
 
 -- what was at a place, where the state and the queue were read there
-pub placed_here : (slot at : ℕ) (Becomes : SliceState → OutboxState → SliceState → OutboxState → Type 0) (old new : Session) (a x : SliceState) (b y : OutboxState) → at ≡ slot → has_slot old slot ≡ true
+pub placed_here : (slot at : ℕ) (Becomes : SliceState → OutboxState → SliceState → OutboxState → Type 0) (old new : Session) (a x : SliceState) (b y : OutboxState) → at ≡ slot → has_side_at old slot ≡ true
     → new.policy ≡ old.policy → new.features ≡ old.features → new.ports ≡ old.ports
     → new.states.items ≡ set old.states.items at x → new.queues.items ≡ set old.queues.items at y
     → a ≡ get_or old.states.items at a → b ≡ get_or old.queues.items at b → Becomes a b x y → AtSlot slot Becomes old new
@@ -104,7 +104,7 @@ placed_here slot at Becomes old new a x b y here has policy features ports state
     (slice_get_read old.states.items (length old.states.items) at a refl (omega (arith, s, here)) ga) (queue_read slot at old b here has gb) becomes
 
 -- the queue at a place was changed
-pub placed_queue : (slot at : ℕ) (Becomes : SliceState → OutboxState → SliceState → OutboxState → Type 0) (old new : Session) (b y : OutboxState) → at ≡ slot → has_slot old slot ≡ true
+pub placed_queue : (slot at : ℕ) (Becomes : SliceState → OutboxState → SliceState → OutboxState → Type 0) (old new : Session) (b y : OutboxState) → at ≡ slot → has_side_at old slot ≡ true
     → new.policy ≡ old.policy → new.features ≡ old.features → new.ports ≡ old.ports
     → new.states.items ≡ old.states.items → new.queues.items ≡ set old.queues.items at y
     → slice_get old.queues.items at ≡ Some b → ((a : SliceState) → Becomes a b a y) → AtSlot slot Becomes old new

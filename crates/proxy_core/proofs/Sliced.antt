@@ -30,7 +30,7 @@ use Rattle.proxy_core.specs.declared.parts.Session.{Session}
 use Rattle.proxy_core.specs.declared.parts.Desk.{Desk}
 use Rattle.proxy_core.specs.Slots.{Comes, Keeps, Heard, Hears, SameQueue}
 use Rattle.proxy_core.specs.Desks.{SlotStands, SessionStands, Opens, Body, Coherent, sides_after, up_after, queues_after, lane_after, closes_now, Acts, Stays}
-use Rattle.proxy_core.specs.Opening.{has_slot, is_up_at, AtSlot, Goes, StandsOn}
+use Rattle.proxy_core.specs.Opening.{has_side_at, is_up_at, AtSlot, Goes, StandsOn}
 use Rattle.proxy_core.proofs.Lists.{there}
 use Rattle.proxy_core.proofs.Fitting.{settings_known, ports_same}
 use Rattle.proxy_core.proofs.Standing.{slot_after, items_opened, slots_are, slot_there, change_there}
@@ -127,7 +127,7 @@ Follows slot event moment Becomes =
 
 -- the slice's connection came or went
 moved : (old new : Desk) (a b : Session) (slot moment : ℕ) (event : Event) (Becomes : SliceState → OutboxState → SliceState → OutboxState → Type 0) (there_ : Bool) → StaysSame event
-    → old.session ≡ Some a → new.policy ≡ old.policy → new.phase ≡ old.phase → new.lane ≡ old.lane → new.session ≡ Some b → there_ ≡ has_slot a slot → AtSlot slot Becomes a b
+    → old.session ≡ Some a → new.policy ≡ old.policy → new.phase ≡ old.phase → new.lane ≡ old.lane → new.session ≡ Some b → there_ ≡ has_side_at a slot → AtSlot slot Becomes a b
     → ((f : ℕ → List (List ℕ)) → lane_in f Opened event ≡ [])
     → ((p : PolicyView) (switch : KnownSwitch) (sides : ℕ → SliceSide) (i : ℕ) → i ≢ slot
     → (items_of p i switch (sides i) (record { event = event; moment = moment }) ≡ []) × (empties i (up_after p switch sides (record { event = event; moment = moment }) i) event ≡ false))
@@ -146,7 +146,7 @@ moved old new a b slot moment event Becomes there_ still was policy phase lane n
     }
 
 pub came : (old new : Desk) (a b : Session) (slot moment : ℕ) (there_ : Bool) → old.session ≡ Some a → new.policy ≡ old.policy → new.phase ≡ old.phase → new.lane ≡ old.lane → new.session ≡ Some b
-    → there_ ≡ has_slot a slot → AtSlot slot Comes a b → Acts old (record { event = SliceUp slot; moment = moment }) there_ new
+    → there_ ≡ has_side_at a slot → AtSlot slot Comes a b → Acts old (record { event = SliceUp slot; moment = moment }) there_ new
 came old new a b slot moment there_ was policy phase lane now is at =
     moved old new a b slot moment (SliceUp slot) Comes there_ (λ switch. slices_switch switch (SliceUp slot) refl) was policy phase lane now is at (λ f. refl)
     (λ p switch sides. others_up p switch sides slot moment) (λ p switch sides qs. comes_slot p switch sides qs slot moment)
@@ -154,7 +154,7 @@ came old new a b slot moment there_ was policy phase lane now is at =
     (λ is_here. up_comes p switch sides slot moment opened is_here))
 
 pub went : (old new : Desk) (a b : Session) (slot moment : ℕ) (there_ : Bool) → old.session ≡ Some a → new.policy ≡ old.policy → new.phase ≡ old.phase → new.lane ≡ old.lane → new.session ≡ Some b
-    → there_ ≡ has_slot a slot → AtSlot slot Goes a b → Acts old (record { event = SliceDown slot; moment = moment }) there_ new
+    → there_ ≡ has_side_at a slot → AtSlot slot Goes a b → Acts old (record { event = SliceDown slot; moment = moment }) there_ new
 went old new a b slot moment there_ was policy phase lane now is at =
     moved old new a b slot moment (SliceDown slot) Goes there_ (λ switch. slices_switch switch (SliceDown slot) refl) was policy phase lane now is at (λ f. refl)
     (λ p switch sides. others_down p switch sides slot moment) (λ p switch sides qs. goes_slot p switch sides qs slot moment)
@@ -220,7 +220,7 @@ up_heard p switch sides slot moment message opened here up =
     (shown_msg p switch (sides slot) slot moment message opened here up)
 
 -- who is up, by the state
-up_there : (a : Session) (slot : ℕ) (state : SliceState) (here : Bool) → has_slot a slot ≡ here → slice_get a.states.items slot ≡ Some state → is_up_at a slot ≡ (here && state.up)
+up_there : (a : Session) (slot : ℕ) (state : SliceState) (here : Bool) → has_side_at a slot ≡ here → slice_get a.states.items slot ≡ Some state → is_up_at a slot ≡ (here && state.up)
 up_there a slot state here is g = ap₂ (λ (b : Bool) (o : Option SliceState). b && elim o [ None ↦ false | Some k ↦ k.up ]) is g
 
 pub up_state : (p : PolicyView) (switch : KnownSwitch) (sides : ℕ → SliceSide) (qs : ℕ → Queue) (a : Session) (slot : ℕ) → SessionStands p switch sides qs a → is_slot p slot ≡ true → is_up_at a slot ≡ is_up (sides slot).sight.view
@@ -236,7 +236,7 @@ heard_up old new a b slot moment message on was policy phase now is at p switch 
     let stands = stands_in p switch sides qs a old.session was body.opens in
     let opened = is_opened p switch sides qs a fit stands alive in
     let still : StaysSame (SliceMsg slot message) = λ k. slices_switch k (SliceMsg slot message) refl in
-    let here : is_slot p slot ≡ true = sym (slots_are p switch sides qs a slot stands) ∙ (and_parts (has_slot a slot) (elim (slice_get a.states.items slot) as (λ o. Bool) [ None ↦ false | Some k ↦ k.up ]) is).0 in
+    let here : is_slot p slot ≡ true = sym (slots_are p switch sides qs a slot stands) ∙ (and_parts (has_side_at a slot) (elim (slice_get a.states.items slot) as (λ o. Bool) [ None ↦ false | Some k ↦ k.up ]) is).0 in
     let up : is_up (sides slot).sight.view ≡ true = sym (up_state p switch sides qs a slot stands here) ∙ is in
     let c = change_there p switch sides qs slot (λ x y z w. Hears a.policy a.ports a.features slot message moment on x y old.lane z w new.lane) a b stands at here in
     let heard = heard_at p switch sides qs a slot moment message on old.lane new.lane c.0 c.1 c.2 c.3 fit stands here up c.5 c.4 in

@@ -18,7 +18,7 @@ use Rattle.desk_words.specs.Sent.{sent_with}
 use Rattle.desk_words.specs.Operations.{slice_limit, empties}
 use Rattle.proxy_core.specs.declared.parts.Session.{Session}
 use Rattle.proxy_core.specs.Desks.{SlotStands, SessionStands, sides_after, up_after, queues_after}
-use Rattle.proxy_core.specs.Opening.{has_slot, AtSlot}
+use Rattle.proxy_core.specs.Opening.{has_side_at, AtSlot}
 use Rattle.desk_words.proofs.Ends.{end_sent}
 use Rattle.switch_side.proofs.Standing.{end_stands}
 use Rattle.proxy_core.proofs.Lists.{both_same, there, within}
@@ -171,5 +171,5 @@ change_there p switch sides qs slot Becomes old new s at here =
     (was.0, was.1, x.0, y.0, at.own was.0 was.1 x.0 y.0 was.2 was.3 x.1 y.1, was.4)
 
 -- a session has just the slots of its policy
-pub slots_are : (p : PolicyView) (switch : KnownSwitch) (sides : ℕ → SliceSide) (qs : ℕ → Queue) (session : Session) (slot : ℕ) → SessionStands p switch sides qs session → has_slot session slot ≡ is_slot p slot
+pub slots_are : (p : PolicyView) (switch : KnownSwitch) (sides : ℕ → SliceSide) (qs : ℕ → Queue) (session : Session) (slot : ℕ) → SessionStands p switch sides qs session → has_side_at session slot ≡ is_slot p slot
 slots_are p switch sides qs session slot s = rw (s.states_count, s.queues_count) (both_same (is_slot p slot))

@@ -22,7 +22,7 @@ use Rattle.desk_words.specs.declared.event.Event.TheVariants.{SwitchMsg}
 use Rattle.desk_words.specs.declared.event.Timed.{Timed}
 use Rattle.desk_words.specs.declared.phase.Phase.{Phase}
 use Rattle.desk_words.specs.declared.phase.Phase.TheVariants.{Fresh, Begun, Opened, Gone}
-use Rattle.desk_words.specs.Openings.{ends_switch, features_said, status_said, features_told, status_told, kept_beside, status_kept, phase_after, opening_after, known_after, KnownSwitch, switch_after}
+use Rattle.desk_words.specs.Openings.{ends_switch, features_said, status_said, features_told, status_told, kept_beside, status_kept, phase_after, opening_after, known_after, KnownSwitch, switch_after, kept_by}
 use Rattle.desk_words.specs.Histories.{settings_at, SliceSide, said_items, message_items}
 use Rattle.desk_words.specs.Sent.{preparation, echo_said, echo_for, lane_in, put_with}
 use Rattle.desk_words.specs.Verdicts.{is_fresh, is_ended, is_before, is_closing}
@@ -33,7 +33,7 @@ use Rattle.switch_side.specs.Dispatches.{Surrounds, AllStand, AllNumbered, IsDis
 use Rattle.proxy_core.specs.declared.parts.Session.{Session}
 use Rattle.proxy_core.specs.declared.parts.Desk.{Desk}
 use Rattle.proxy_core.specs.Slots.{HasOnly, HasMore}
-use Rattle.proxy_core.specs.Handing.{AreSame, AreHanded, kept_by}
+use Rattle.proxy_core.specs.Handing.{AreSame, AreHanded}
 use Rattle.proxy_core.specs.Desks.{SessionStands, Opens, Body, Coherent, sides_after, up_after, queues_after, Acted, Acts, ActsIn, Ends, PassesOn}
 use Rattle.proxy_core.specs.Opening.{Begins, CarriedOut, Carries, StandsOn}
 use Rattle.proxy_core.proofs.Lists.{there, within, written_back}

@@ -20,7 +20,7 @@ use Rattle.desk_words.specs.Operations.{slice_limit, lane_limit, why_none}
 use Rattle.proxy_core.specs.declared.parts.Session.{Session}
 use Rattle.proxy_core.specs.declared.parts.Desk.{Desk}
 use Rattle.proxy_core.specs.Desks.{SessionStands, Opens, up_now, queues_less, TakesNext, silence_before, IsSilence, is_message, Shrinks}
-use Rattle.proxy_core.specs.Opening.{has_slot, is_up_at, AtSlot, IsNext, silence_at}
+use Rattle.proxy_core.specs.Opening.{has_side_at, is_up_at, AtSlot, IsNext, silence_at}
 use Rattle.proxy_core.proofs.Standing.{slots_are, slot_becomes, slot_there, change_there}
 use Rattle.proxy_core.proofs.Acting.{is_opened}
 use Rattle.proxy_core.proofs.Events.{before_in, shut_before}
@@ -32,7 +32,7 @@ less_if : (b : Bool) (q : Queue) → q ≡ no_messages → (if b then without_fi
 less_if true q is = ap without_first is
 less_if false q is = is
 
-by_place : (p : PolicyView) (switch : Known) (sides : ℕ → SliceSide) (qs : ℕ → Queue) (a : Session) (slot : ℕ) (next : Option (List ℕ)) (b : Session) → SessionStands p switch sides qs a → AtSlot slot (IsNext next) a b → (has_slot a slot ≡ false → next ≡ None)
+by_place : (p : PolicyView) (switch : Known) (sides : ℕ → SliceSide) (qs : ℕ → Queue) (a : Session) (slot : ℕ) (next : Option (List ℕ)) (b : Session) → SessionStands p switch sides qs a → AtSlot slot (IsNext next) a b → (has_side_at a slot ≡ false → next ≡ None)
     → (is_slot p slot ≡ false → qs slot ≡ no_messages) → (here : Bool) → is_slot p slot ≡ here → next ≡ slice_get (qs slot).pending 0
 by_place p switch sides qs a slot next b s at nowhere beyond false is =
     nowhere (slots_are p switch sides qs a slot s ∙ is) ∙ sym (ap (λ (q : Queue). slice_get q.pending 0) (beyond is))
@@ -52,7 +52,7 @@ session_less p switch sides qs a slot next b s at = slot_becomes p switch sides 
     })
     (λ i far. less_one slot i (qs i) false (ne_eqb slot i (λ e. far (sym e))))
 
-pub took_slice : (old : Desk) (a b : Session) (slot : ℕ) (next : Option (List ℕ)) → old.session ≡ Some a → AtSlot slot (IsNext next) a b → (has_slot a slot ≡ false → next ≡ None)
+pub took_slice : (old : Desk) (a b : Session) (slot : ℕ) (next : Option (List ℕ)) → old.session ≡ Some a → AtSlot slot (IsNext next) a b → (has_side_at a slot ≡ false → next ≡ None)
     → TakesNext old (Slice slot) next (record old { session = Some b })
 took_slice old a b slot next was at nowhere p switch sides qs ql body =
     let s = subst (λ (o : Option Session). Opens p switch sides qs o) was body.opens in
@@ -109,7 +109,7 @@ at_up a slot queue up g =
 at_down : (a : Session) (slot : ℕ) → is_up_at a slot ≡ false → silence_at slot a ≡ takens.Ended
 at_down a slot down = ap (λ (b : Bool). if b then elim (slice_get a.queues.items slot) [ None ↦ takens.Ended | Some q ↦ if q.choked then Choked else Nothing ] else takens.Ended) down
 
-not_here : (a : Session) (slot : ℕ) → has_slot a slot ≡ false → is_up_at a slot ≡ false
+not_here : (a : Session) (slot : ℕ) → has_side_at a slot ≡ false → is_up_at a slot ≡ false
 not_here a slot out = ap (λ (b : Bool). b && elim (slice_get a.states.items slot) [ None ↦ false | Some state ↦ state.up ]) out
 
 silence_cases : (p : PolicyView) (switch : Known) (sides : ℕ → SliceSide) (qs : ℕ → Queue) (a : Session) (slot : ℕ) (here up : Bool) → SessionStands p switch sides qs a → switch.phase ≡ Opened → is_slot p slot ≡ here → is_up (sides slot).sight.view ≡ up

@@ -1,14 +1,8 @@
 -- How messages come into the queues of their slices (this proxy's own rule).
-use Rattle.std.specs.Prelude.{ℕ, ◌≡◌, ◌≤◌, ◌==◌, if◌then◌else◌, List, [], ◌∷◌, length, slice_get, Option, Some, None}
-use Rattle.of10_port.specs.declared.status.PortStatus.{PortStatus}
-use Rattle.port_view.specs.KnownPorts.{changed}
+use Rattle.std.specs.Prelude.{ℕ, ◌≡◌, ◌≤◌, List, length, slice_get, Some}
 use Rattle.outbox.specs.Queues.{OutboxState}
 use Rattle.proxy_core.specs.Slots.{SameQueue, HasMore}
-
--- of messages with their slots those of one slot
-abbrev pub of_slot : ℕ → List (ℕ × List ℕ) → List (List ℕ)
-of_slot slot [] = []
-of_slot slot (pair ∷ later) = if pair.0 == slot then pair.1 ∷ of_slot slot later else of_slot slot later
+use Rattle.switch_side.specs.Changes.{of_slot}
 
 -- the queue of a slot, if there is one, has room for so many messages more
 abbrev pub HasRoomAt : ℕ → ℕ → List OutboxState → Type 0
@@ -31,7 +25,3 @@ pub record AreSame (old new : List OutboxState) : Type 0 where
 pub record AreHanded (messages : List (ℕ × List ℕ)) (old new : List OutboxState) : Type 0 where
   pub count : length new ≡ length old
   pub each : (slot : ℕ) (a b : OutboxState) → slice_get old slot ≡ Some a → slice_get new slot ≡ Some b → HasMore (of_slot slot messages) a b
-
--- the known ports after what was told of one
-abbrev pub kept_by : Option PortStatus → List (List ℕ) → List (List ℕ)
-kept_by told known = elim told [ None ↦ known | Some status ↦ changed status known ]

@@ -25,12 +25,12 @@ use Rattle.proxy_core.specs.Desks.{SessionStands, sides_after, queues_after}
 -- ---- one slot
 
 -- there is a state and a queue at a slot
-abbrev pub has_slot : Session → ℕ → Bool
-has_slot session slot = ltb slot (length session.states.items) && ltb slot (length session.queues.items)
+abbrev pub has_side_at : Session → ℕ → Bool
+has_side_at session slot = ltb slot (length session.states.items) && ltb slot (length session.queues.items)
 
 -- the slice at a slot is up
 abbrev pub is_up_at : Session → ℕ → Bool
-is_up_at session slot = has_slot session slot && elim (slice_get session.states.items slot) [ None ↦ false | Some state ↦ state.up ]
+is_up_at session slot = has_side_at session slot && elim (slice_get session.states.items slot) [ None ↦ false | Some state ↦ state.up ]
 
 -- of a session nothing changed but what is at a slot, and of that this holds
 pub record AtSlot (slot : ℕ) (Becomes : SliceState → OutboxState → SliceState → OutboxState → Type 0) (old new : Session) : Type 0 where

@@ -10,6 +10,7 @@ use Rattle.slice_words.specs.Items.{Settings, Sight, Item, Up, Msg}
 use Rattle.slice_words.specs.Alone.{answer_to, rendered}
 use Rattle.slice_words.specs.Standing.{SliceStands}
 use Rattle.slice_side.specs.Reactions.{with_item, Sees}
+use Rattle.switch_side.specs.Changes.{SameState}
 
 -- an outbox keeps the queue that it kept
 abbrev pub SameQueue : OutboxState → OutboxState → Type 0
@@ -26,10 +27,6 @@ HasOnly messages old new = (limit : ℕ) (q : Queue) → QueueStands limit q old
 -- a state that belonged to what was seen belongs to it with one item more
 abbrev pub IsSeen : Item → SliceState → SliceState → Type 0
 IsSeen item old new = (s : Settings) (sight : Sight) → SliceStands s sight old → SliceStands s (with_item item sight) new
-
--- a state belongs to what it belonged to
-abbrev pub SameState : SliceState → SliceState → Type 0
-SameState old new = (s : Settings) (sight : Sight) → SliceStands s sight old → SliceStands s sight new
 
 -- the state stands as it stood, and what waits is what waited
 abbrev pub Keeps : SliceState → OutboxState → SliceState → OutboxState → Type 0

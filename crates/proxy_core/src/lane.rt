@@ -3,7 +3,7 @@
 ghost use Rattle.std.specs.Prelude.{ℕ, ◌≡◌, ◌≤◌, ◌<◌, [], length, Ok, IfOk, OnOk, OnErr};
 ghost use Rattle.of10_switch.specs.Views.{said_by};
 ghost use Rattle.of10_switch.specs.Ranges.{IsSaid};
-ghost use Rattle.outbox.specs.Queues.{Queue, QueueStands};
+ghost use Rattle.outbox.specs.Queues.{Queue, QueueStands, waiting};
 ghost use Rattle.desk_words.specs.Sent.{greeting, whole_packets, clearing, preparation, echo_said};
 ghost use Rattle.proxy_core.specs.Slots.{HasMore};
 

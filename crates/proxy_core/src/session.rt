@@ -3,7 +3,7 @@
 ghost use Rattle.std.specs.Prelude.{ℕ, ◌≡◌, true, false, slice_get, Some, IfOk, OnOk, OnErr, IsTrue};
 ghost use Rattle.flow_book.specs.declared.state.SliceState.{SliceState};
 ghost use Rattle.proxy_core.specs.Slots.{Comes, Hears, Keeps, SameQueue};
-ghost use Rattle.proxy_core.specs.Opening.{has_slot, is_up_at, AtSlot, Goes, Carries, StandsOn};
+ghost use Rattle.proxy_core.specs.Opening.{has_side_at, is_up_at, AtSlot, Goes, Carries, StandsOn};
 
 use crate::lane::{make_room, push_more};
 use crate::opened::{hand_out, keep, make_rooms};
@@ -15,8 +15,8 @@ use std::alloc::{AllocError, Global};
 use switch_side::{apply_all, react_in, reserve};
 
 impl Session {
-    pub(crate) fn has_slot(&self, slot: u8) -> bool
-        ensures { result ≡ has_slot self.now slot }
+    pub(crate) fn has_side_at(&self, slot: u8) -> bool
+        ensures { result ≡ has_side_at self.now slot }
     {
         let at = usize::from(slot);
         at < self.states.len() && at < self.queues.len()
@@ -26,16 +26,16 @@ impl Session {
     pub(crate) fn is_up(&self, slot: u8) -> bool
         ensures { result ≡ is_up_at self.now slot }
     {
-        self.has_slot(slot) && self.states[usize::from(slot)].up
+        self.has_side_at(slot) && self.states[usize::from(slot)].up
     }
 
     /// A slice's controller connected. Whether there is such a slice.
     pub(crate) fn come(&mut self, alloc: Global, slot: u8) -> Result<bool, AllocError>
-        ensures value { IfOk result (λ there. there ≡ has_slot self.old slot) }
+        ensures value { IfOk result (λ there. there ≡ has_side_at self.old slot) }
         ensures ok { OnOk result (AtSlot slot Comes self.old self.new) }
         ensures err { OnErr result (AtSlot slot Keeps self.old self.new) }
     {
-        if !self.has_slot(slot) {
+        if !self.has_side_at(slot) {
             return Ok(false);
         }
         let at = usize::from(slot);
@@ -45,10 +45,10 @@ impl Session {
 
     /// The connection of a slice's controller ended. Whether there is such a slice.
     pub(crate) fn go(&mut self, slot: u8) -> bool
-        ensures value { result ≡ has_slot self.old slot }
+        ensures value { result ≡ has_side_at self.old slot }
         ensures change { AtSlot slot Goes self.old self.new }
     {
-        if !self.has_slot(slot) {
+        if !self.has_side_at(slot) {
             return false;
         }
         let at = usize::from(slot);

@@ -1,7 +1,7 @@
 //! What events make of one slice: its state, and the messages that wait for its controller.
 
 ghost use Rattle.std.specs.Prelude.{ℕ, OnOk, OnErr, IfOk};
-ghost use Rattle.outbox.specs.Queues.{Queue, no_messages, QueueStands};
+ghost use Rattle.outbox.specs.Queues.{Queue, no_messages, QueueStands, waiting};
 ghost use Rattle.slice_words.specs.Items.{Down};
 ghost use Rattle.proxy_core.specs.Slots.{Comes, Hears, IsSeen, Keeps, SameQueue};
 

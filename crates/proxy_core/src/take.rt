@@ -4,7 +4,7 @@ ghost use Rattle.std.specs.Prelude.{◌≡◌, ◌<◌, false, None, Some, if◌
 ghost use Rattle.desk_words.specs.declared.answer.Dest.TheVariants.{Switch, Slice};
 ghost use Rattle.desk_words.specs.declared.answer.Taken.TheVariants.{Nothing, Choked};
 ghost use Rattle.proxy_core.specs.Desks.{is_message, TakesNext, IsSilence, left, pending_at, silence_before, Shrinks, Takes};
-ghost use Rattle.proxy_core.specs.Opening.{has_slot, AtSlot, IsNext, silence_at};
+ghost use Rattle.proxy_core.specs.Opening.{has_side_at, AtSlot, IsNext, silence_at};
 
 use crate::parts::{Desk, Session};
 use desk_words::{Dest, Phase, Taken};
@@ -26,10 +26,10 @@ impl Session {
     /// The oldest message that waits for a slice.
     fn next(&mut self, slot: u8) -> Option<Frame>
         ensures there { AtSlot slot (IsNext result) self.old self.new }
-        ensures nowhere { has_slot self.old slot ≡ false → result ≡ None }
+        ensures nowhere { has_side_at self.old slot ≡ false → result ≡ None }
         ensures fewer { IfSome result (λ _. pending_at slot (Some self.new) < pending_at slot (Some self.old)) }
     {
-        if !self.has_slot(slot) {
+        if !self.has_side_at(slot) {
             return None;
         }
         self.queues[usize::from(slot)].take()

@@ -1,6 +1,5 @@
 -- What the makers make.
-use Rattle.std.specs.Prelude.{ℕ, ◌-◌, ◌==◌, ◌||◌, if◌then◌else◌, List, [], ◌∷◌, ◌++◌, replicate, codes, Option, Some, None, is_some}
-use Rattle.byteorder.specs.Endian.{big_bytes}
+use Rattle.std.specs.Prelude.{ℕ, ◌-◌, ◌==◌, ◌||◌, if◌then◌else◌, List, [], ◌∷◌, codes, Option, Some, None, is_some}
 use Rattle.of10_model.specs.declared.pattern.Prefix.{Prefix}
 use Rattle.of10_model.specs.declared.pattern.Pattern.{Pattern}
 use Rattle.of10_model.specs.Pattern.{leading_bits}
@@ -46,10 +45,6 @@ slice_called name = record { name = name; controller = codes "192.0.2.1:6633"; r
 
 abbrev pub alice_and_bob : List Slice
 alice_and_bob = slice_called (codes "alice") ∷ slice_called (codes "bob") ∷ []
-
--- a port's number and 46 zeros
-abbrev pub port_numbered : ℕ → List ℕ
-port_numbered number = big_bytes 2 number ++ replicate 46 0
 
 -- the switch 0xa1 with these ports
 abbrev pub switch_with : List (List ℕ) → Features

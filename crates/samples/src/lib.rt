@@ -10,5 +10,5 @@ mod switches;
 
 pub use matches::{ANY, Packets, match_of, packet, tcp};
 pub use policies::{plain_rules, policy, rule, slice, switch_policy, two_slices};
-pub use switches::{features, port, three_ports};
+pub use switches::{features, three_ports};
 pub use wire_samples::{TO_TCP_80, bytes, frame};

@@ -25,13 +25,13 @@ use Rattle.slice_words.specs.Items.{lone_rules}
 use Rattle.slice_words.specs.Pasts.{SendsOut}
 use Rattle.slice_words.specs.Buffers.{HeldPacket}
 use Rattle.flowspace.specs.Options.{first_some, when}
-use Rattle.slice_words.specs.FlowMods.{Ground, packet_at, unknown_buffer, bad_action, too_many_actions, is_too_long, not_permitted}
-use Rattle.slice_words.specs.PacketOuts.{is_buffered_out, carried_header, is_probe, may_come_by, lies_aside, permitted_out, sent_out_with, packet_out_on, sent_out, names_no_packet, comes_by_another, carries_another, code_given, packet_out_size, packet_out_fault}
+use Rattle.slice_words.specs.FlowMods.{Ground, packet_at, unknown_buffer, bad_action, too_many_actions, is_too_long, not_permitted, code_given}
+use Rattle.slice_words.specs.PacketOuts.{is_buffered_out, carried_header, is_probe, may_come_by, lies_aside, permitted_out, sent_out_with, packet_out_on, sent_out, names_no_packet, comes_by_another, carries_another, packet_out_size, packet_out_fault}
 use Rattle.slice_words.specs.Alone.{rendered}
 use Rattle.slice_words.specs.Standing.{held_as}
 use Rattle.slice_words.proofs.LoneRules.{same_port, any_alone}
 use Rattle.slice_side.specs.Reactions.{without_physical, ground_at}
-use Rattle.slice_side.specs.Checking.{packet_in, number_in, packet_out_from, early, MayBeSent}
+use Rattle.slice_side.specs.Checking.{number_in, packet_out_from, early, MayBeSent, packet_kept}
 use Rattle.slice_side.proofs.Lines.{before, behind}
 use Rattle.slice_side.proofs.Packets.{HaveCome, kept_packet, come_packet}
 
@@ -95,11 +95,11 @@ module _ (g : Ground) (m : PacketOut) where
 
   -- as it is sent, with the switch's number of the packet that it names
   pub out_sent : (state : SliceState) (actions : List Action) (out : PacketOut) → g.held ≡ map without_physical state.buffers.held → permitted_out g m ≡ Ok actions
-      → out ≡ record (sent_out_with (option_map without_physical (packet_in state m.buffer)) g m actions) { buffer = number_in (packet_in state m.buffer) } → out ≡ packet_out_from state g m
+      → out ≡ record (sent_out_with (option_map without_physical (packet_kept state m.buffer)) g m actions) { buffer = number_in (packet_kept state m.buffer) } → out ≡ packet_out_from state g m
   out_sent state actions out same is built =
       built
-      ∙ ap (λ (packet : Option HeldPacket). record (sent_out_with packet g m actions) { buffer = number_in (packet_in state m.buffer) }) (kept_packet state g m.buffer same)
-      ∙ ap (λ (permitted : Result (List Action) ℕ). record (sent_out_with (packet_at g m.buffer) g m (list_given permitted)) { buffer = number_in (packet_in state m.buffer) }) (sym is)
+      ∙ ap (λ (packet : Option HeldPacket). record (sent_out_with packet g m actions) { buffer = number_in (packet_kept state m.buffer) }) (kept_packet state g m.buffer same)
+      ∙ ap (λ (permitted : Result (List Action) ℕ). record (sent_out_with (packet_at g m.buffer) g m (list_given permitted)) { buffer = number_in (packet_kept state m.buffer) }) (sym is)
 
   -- under the numbers with which packets came it is the one that the slice has sent on
   pub out_rendered : (came : List ℕ) (state : SliceState) → HaveCome came state.buffers.held → g.held ≡ map without_physical state.buffers.held → spell_packet_out (packet_out_from state g m) ∷ [] ≡ map (rendered came) (sent_out g m)
@@ -112,8 +112,8 @@ module _ (g : Ground) (m : PacketOut) where
   number_of_kept (Some held) = refl
 
   -- it is used up by the number that the packet-out names it by
-  pub out_used : (state : SliceState) → g.held ≡ map without_physical state.buffers.held → option_map (λ (held : Held). m.buffer) (packet_in state m.buffer) ≡ option_map (λ (packet : HeldPacket). m.buffer) (packet_at g m.buffer)
-  out_used state same = number_of_kept (packet_in state m.buffer) ∙ ap (option_map (λ (packet : HeldPacket). m.buffer)) (kept_packet state g m.buffer same)
+  pub out_used : (state : SliceState) → g.held ≡ map without_physical state.buffers.held → option_map (λ (held : Held). m.buffer) (packet_kept state m.buffer) ≡ option_map (λ (packet : HeldPacket). m.buffer) (packet_at g m.buffer)
+  out_used state same = number_of_kept (packet_kept state m.buffer) ∙ ap (option_map (λ (packet : HeldPacket). m.buffer)) (kept_packet state g m.buffer same)
 
 -- ---- the tests by the rules of the switch
 
@@ -125,7 +125,7 @@ lone_any : (slot : ℕ) (test : Pattern → Bool) (patterns : List Pattern) → 
 lone_any slot test [] = refl
 lone_any slot test (m ∷ patterns) = rw (eq-eqb slot slot refl) (ap (λ (others : Bool). test m || others) (lone_any slot test patterns))
 
-pub early_same : (rules : List Rule) (slot quota xid : ℕ) (known : List (List ℕ)) (state : SliceState) (m : PacketOut) (packet : Option Held) (a b c : Bool) → packet ≡ packet_in state m.buffer
+pub early_same : (rules : List Rule) (slot quota xid : ℕ) (known : List (List ℕ)) (state : SliceState) (m : PacketOut) (packet : Option Held) (a b c : Bool) → packet ≡ packet_kept state m.buffer
     → a ≡ (is_buffered_out m && is_none packet) → b ≡ (not (is_buffered_out m) && not (has_port rules slot m.in_port || m.in_port == NONE || m.in_port == CONTROLLER))
     → c ≡ (not (is_buffered_out m) && not (is_probe m) && not (list_any (λ rule. is_written_by slot rule && has (any_in_port rule.pattern) (carried_header m)) rules))
     → first_some (when a unknown_buffer ∷ when b not_permitted ∷ when c not_permitted ∷ []) ≡ first_some (early (ground_at rules slot known quota xid state) m)

@@ -26,7 +26,7 @@ use Rattle.slice_words.specs.Standing.{SliceStands, past_of, held_as}
 use Rattle.slice_words.proofs.Holding.{find_of_map, recent, number_tells, none_named, one_named}
 use Rattle.slice_words.proofs.Forwarding.{numbered}
 use Rattle.slice_side.specs.Reactions.{without_physical, Uses}
-use Rattle.slice_side.specs.Checking.{packet_in, held_for, carrier_in}
+use Rattle.slice_side.specs.Checking.{held_for, carrier_in, packet_kept}
 
 -- ---- the state and the view
 
@@ -53,11 +53,11 @@ kept_if false buffer state packets same =
     sym (find_of_map (λ (packet : HeldPacket). packet.ordinal % 16777216 == buffer) (has_number buffer) without_physical state.buffers.held (λ k d within. refl)) ∙ ap (packet_under buffer) (sym same)
 
 -- without the switch's number it is the slice's
-pub kept_packet : (state : SliceState) (g : Ground) (buffer : ℕ) → g.held ≡ map without_physical state.buffers.held → option_map without_physical (packet_in state buffer) ≡ packet_at g buffer
+pub kept_packet : (state : SliceState) (g : Ground) (buffer : ℕ) → g.held ≡ map without_physical state.buffers.held → option_map without_physical (packet_kept state buffer) ≡ packet_at g buffer
 kept_packet state g buffer same = kept_if (buffer == NO_BUFFER) buffer state g.held same
 
 kept_unless : (deletes : Bool) (state : SliceState) (g : Ground) (buffer : ℕ) → g.held ≡ map without_physical state.buffers.held
-    → option_map without_physical (if deletes then None else packet_in state buffer) ≡ (if deletes then None else packet_at g buffer)
+    → option_map without_physical (if deletes then None else packet_kept state buffer) ≡ (if deletes then None else packet_at g buffer)
 kept_unless true state g buffer same = refl
 kept_unless false state g buffer same = kept_packet state g buffer same
 
@@ -72,13 +72,13 @@ come_if false came buffer held come =
 
 -- the switch's number of it is that with which it came
 pub come_packet : (came : List ℕ) (state : SliceState) (g : Ground) (buffer : ℕ) → HaveCome came state.buffers.held → g.held ≡ map without_physical state.buffers.held
-    → packet_in state buffer ≡ option_map (held_as came) (packet_at g buffer)
+    → packet_kept state buffer ≡ option_map (held_as came) (packet_at g buffer)
 come_packet came state g buffer come same =
     come_if (buffer == NO_BUFFER) came buffer state.buffers.held come
     ∙ ap (λ (packets : List HeldPacket). option_map (held_as came) (if buffer == NO_BUFFER then None else packet_under buffer packets)) (sym same)
 
 come_unless : (deletes : Bool) (came : List ℕ) (state : SliceState) (g : Ground) (buffer : ℕ) → HaveCome came state.buffers.held → g.held ≡ map without_physical state.buffers.held
-    → (if deletes then None else packet_in state buffer) ≡ option_map (held_as came) (if deletes then None else packet_at g buffer)
+    → (if deletes then None else packet_kept state buffer) ≡ option_map (held_as came) (if deletes then None else packet_at g buffer)
 come_unless true came state g buffer come same = refl
 come_unless false came state g buffer come same = come_packet came state g buffer come same
 

@@ -1,5 +1,5 @@
 -- What comes of actions, flow-mods and packet-outs, in words of the code.
-use Rattle.std.specs.Prelude.{ℕ, ◌≡◌, ◌≢◌, ◌⊎◌, ◌≤◌, ◌==◌, ◌&&◌, not, Bool, true, false, if◌then◌else◌, List, [], ◌∷◌, length, map, AllPairs, Option, Some, None, option_map, Result, Ok, Err}
+use Rattle.std.specs.Prelude.{ℕ, ◌≡◌, ◌≢◌, ◌⊎◌, ◌≤◌, ◌==◌, Bool, true, false, if◌then◌else◌, List, [], ◌∷◌, length, map, AllPairs, Option, Some, None, option_map, Result, Ok, Err}
 use Rattle.std.specs.List.{list_any}
 use Rattle.of10_model.specs.declared.pattern.Pattern.{Pattern}
 use Rattle.of10_action.specs.declared.action.Action.{Action}
@@ -17,7 +17,6 @@ use Rattle.of10_message.specs.declared.controller.FromController.{FromController
 use Rattle.of10_message.specs.declared.controller.FromController.TheVariants as said
 use Rattle.of10_config.specs.Queues.{spell_queues_request}
 use Rattle.flowspace.specs.declared.rules.Rule.{Rule}
-use Rattle.flowmod_expand.specs.Messages.{piece_messages}
 use Rattle.stats_filter.specs.Asking.{question_for}
 use Rattle.buffer_map.specs.declared.held.Held.{Held}
 use Rattle.buffer_map.specs.Buffers.{held_under}
@@ -30,27 +29,27 @@ use Rattle.slice_side.specs.Reactions.{without_physical, ground_at}
 use Rattle.slice_side.specs.declared.packet_outs.PacketOutcome.{PacketOutcome}
 use Rattle.slice_side.specs.declared.packet_outs.PacketOutcome.TheVariants as packet_outcome
 use Rattle.flowspace.specs.Options.{first_some}
-use Rattle.slice_words.specs.FlowMods.{Ground, pieces_on, first_refusal, is_too_long, first_forbidden, lists_on, packet_at, named_packet, is_packet_in, piece_place, carrier_of, wrong_command, emergency, buffer_not_held, outside_flowspace, flow_mod_fault}
+use Rattle.slice_words.specs.FlowMods.{Ground, pieces_on, first_refusal, is_too_long, first_forbidden, lists_on, packet_at, named_packet, piece_place, carrier_of, wrong_command, emergency, buffer_not_held, outside_flowspace, flow_mod_fault, flow_mods_with, is_not_held}
 use Rattle.slice_side.specs.declared.pieces.Checked.{Checked}
 use Rattle.slice_side.specs.declared.pieces.Checked.TheVariants as checked
 use Rattle.slice_side.specs.declared.pieces.Listing.{Listing}
 use Rattle.slice_side.specs.declared.pieces.Listing.TheVariants as listing
-use Rattle.slice_side.specs.declared.flow_mods.Outcome.{Outcome}
-use Rattle.slice_side.specs.declared.flow_mods.Outcome.TheVariants as outcome
+use Rattle.slice_side.specs.declared.flow_mods.FlowModOutcome.{FlowModOutcome}
+use Rattle.slice_side.specs.declared.flow_mods.FlowModOutcome.TheVariants as outcome
 
 -- ---- packets that are held
 
 -- the packet that a state holds under a number, where a message has one
-abbrev pub packet_in : SliceState → ℕ → Option Held
-packet_in state buffer = if buffer == NO_BUFFER then None else held_under buffer state.buffers.held
+abbrev pub packet_kept : SliceState → ℕ → Option Held
+packet_kept state buffer = if buffer == NO_BUFFER then None else held_under buffer state.buffers.held
 
 -- the packet that a flow-mod names; a delete's number is disregarded
 abbrev pub held_for : SliceState → FlowMod → Option Held
-held_for state m = if is_delete m then None else packet_in state m.buffer
+held_for state m = if is_delete m then None else packet_kept state m.buffer
 
 -- a flow-mod names a packet that the state doesn't hold, or whose header isn't in its match; a delete's number is disregarded
 abbrev pub not_held_in : SliceState → FlowMod → Bool
-not_held_in state m = not (is_delete m) && not (m.buffer == NO_BUFFER) && not (is_packet_in m.pattern (option_map without_physical (held_for state m)))
+not_held_in state m = is_not_held (option_map without_physical (held_for state m)) m
 
 -- the place of the first piece that has a packet's header, and the switch's number of the packet
 abbrev pub carrier_in : Option Held → List Pattern → Option (ℕ × ℕ)
@@ -66,11 +65,11 @@ number_in (Some packet) = packet.physical
 
 -- the flow-mods for the pieces of a match: the first whose piece has the header of the packet that is named carries the switch's number for it
 abbrev pub flow_mods_from : SliceState → Ground → FlowMod → List FlowMod
-flow_mods_from state g m = piece_messages 0 m g.xid (pieces_on g m) (lists_on g m) (carrier_in (held_for state m) (pieces_on g m))
+flow_mods_from state g m = flow_mods_with g m (carrier_in (held_for state m) (pieces_on g m))
 
 -- the packet-out that is sent, with the switch's number for the packet that is named
 abbrev pub packet_out_from : SliceState → Ground → PacketOut → PacketOut
-packet_out_from state g m = record (packet_out_on g m) { buffer = number_in (packet_in state m.buffer) }
+packet_out_from state g m = record (packet_out_on g m) { buffer = number_in (packet_kept state m.buffer) }
 
 -- with a message of which this was read the slice may ask the switch this
 abbrev pub IsInquirySent : Ground → FromController → List ℕ → Type 0
@@ -141,14 +140,14 @@ abbrev pub PassesEarly : Ground → FlowMod → Type 0
 PassesEarly g m = (first_some (wrong_command m ∷ emergency m ∷ buffer_not_held g m ∷ []) ≡ None) × (outside_flowspace g m ≡ None)
 
 -- the class and code of the first line that refuses it, or what is sent on for its pieces, and the number of the packet that is used up
-abbrev pub IsOutcome : SliceState → Ground → FlowMod → Outcome → Type 0
+abbrev pub IsOutcome : SliceState → Ground → FlowMod → FlowModOutcome → Type 0
 IsOutcome state g m (outcome.Refused class code) = flow_mod_fault g m ≡ Some (class, code)
 IsOutcome state g m (outcome.Sent frames pieces used) =
     (flow_mod_fault g m ≡ None) × (frames.items ≡ map spell_flow_mod (flow_mods_from state g m)) × (pieces.items ≡ pieces_on g m)
     × (used ≡ option_map (λ own. m.buffer) (carrier_of (named_packet g m) (pieces_on g m)))
 
 -- the pieces of one that is sent on differ, and are few
-abbrev pub HasDistinctPieces : Outcome → Type 0
+abbrev pub HasDistinctPieces : FlowModOutcome → Type 0
 HasDistinctPieces (outcome.Refused class code) = Unit {0}
 HasDistinctPieces (outcome.Sent frames pieces used) = AllPairs (λ a b. a ≢ b) pieces.items × (length pieces.items ≤ 256)
 

@@ -1,5 +1,5 @@
 -- What follows from a slice's message: what is answered, what is sent on, and what changes in the slice's state (this proxy's own rule).
-use Rattle.std.specs.Prelude.{ℕ, ◌≡◌, ◌≢◌, ◌<◌, ◌≤◌, ◌+◌, ◌^◌, ◌%◌, ◌==◌, Bool, true, false, List, [], ◌∷◌, length, map, slice_get, AllPairs, Option, Some, None, option_map, Ok}
+use Rattle.std.specs.Prelude.{ℕ, ◌≡◌, ◌≢◌, ◌<◌, ◌≤◌, ◌+◌, ◌^◌, Bool, true, false, List, [], ◌∷◌, length, map, slice_get, AllPairs, Option, Some, None, option_map, Ok}
 use Rattle.std.specs.List.{All}
 use Rattle.of10_model.specs.declared.pattern.Pattern.{Pattern}
 use Rattle.of10_flow.specs.declared.flow_mod.FlowMod.{FlowMod}
@@ -20,7 +20,7 @@ use Rattle.flow_book.specs.Books.{newcomers_in}
 use Rattle.slice_words.specs.Messages.{Reading, ends_connection, length_wanted, asks_switch, asked_of}
 use Rattle.slice_words.specs.Items.{Settings, Sight, Item, Msg, is_up, miss_send_len, features_in, known_ports}
 use Rattle.slice_words.specs.Pasts.{Outgoing, Answer, is_any}
-use Rattle.slice_words.specs.Buffers.{HeldPacket, is_named, held_packets}
+use Rattle.slice_words.specs.Buffers.{HeldPacket, is_named, held_packets, has_number}
 use Rattle.slice_words.specs.FlowMods.{Ground}
 use Rattle.slice_words.specs.Alone.{answer_to, rendered}
 use Rattle.slice_words.specs.Standing.{past_of}
@@ -74,7 +74,7 @@ with_item item sight = record { view = item ∷ sight.view; came = sight.came }
 -- a packet has the number that is used up, where one is
 abbrev pub is_used_up : Option ℕ → HeldPacket → Bool
 is_used_up None packet = false
-is_used_up (Some number) packet = packet.ordinal % 2 ^ 24 == number
+is_used_up (Some number) packet = has_number number packet
 
 -- of the packets that are held these messages name the one that is used up, and no other
 abbrev pub Uses : Option ℕ → List HeldPacket → List Outgoing → Type 0

@@ -31,7 +31,7 @@ use std::alloc::{AllocError, Global};
 
 /// What becomes of a flow-mod.
 #[derive(Drop)]
-pub(crate) enum Outcome {
+pub(crate) enum FlowModOutcome {
     /// It is refused with this class and code (OpenFlow 1.0.0, section 5.4.4).
     Refused(u16, u16),
     /// These messages are sent on, one for each of the pieces; one of them uses up the packet of this number
@@ -158,7 +158,7 @@ fn built(
     m: &FlowMod,
     pieces: Vec<Match>,
     lists: &[Actions],
-) -> Result<Outcome, AllocError>
+) -> Result<FlowModOutcome, AllocError>
     requires command { m.now.command ≤ 4 }
     requires pieces { pieces.items ≡ pieces_of around.now.policy.now.rules around.now.slot m.now.pattern }
     requires distinct { AllPairs (λ a b. a ≢ b) pieces.items }
@@ -169,11 +169,11 @@ fn built(
 {
     let carrier = carrier(&packet_for(around.state, m), &pieces);
     match build(alloc, m, xid, &pieces, lists, carrier) {
-        Err(BuildFault::TooLarge) => Ok(Outcome::Refused(BAD_ACTION, TOO_MANY_ACTIONS)),
+        Err(BuildFault::TooLarge) => Ok(FlowModOutcome::Refused(BAD_ACTION, TOO_MANY_ACTIONS)),
         Err(BuildFault::Memory) => Err(AllocError),
         Ok(frames) => match late_fault(around.state, m, &pieces, quota) {
-            Some((class, code)) => Ok(Outcome::Refused(class, code)),
-            None => Ok(Outcome::Sent {
+            Some((class, code)) => Ok(FlowModOutcome::Refused(class, code)),
+            None => Ok(FlowModOutcome::Sent {
                 frames,
                 pieces,
                 used: used(m, &carrier),
@@ -190,21 +190,21 @@ pub(crate) fn outcome_of(
     quota: u32,
     xid: u32,
     m: &FlowMod,
-) -> Result<Outcome, AllocError>
+) -> Result<FlowModOutcome, AllocError>
     ensures sound { IfOk result HasDistinctPieces }
     ensures outcome { IfOk result (IsOutcome around.now.state.now (ground_at around.now.policy.now.rules around.now.slot around.now.ports.now quota xid around.now.state.now) m.now) }
 {
     match early_fault(around.state, m) {
-        Some((class, code)) => return Ok(Outcome::Refused(class, code)),
+        Some((class, code)) => return Ok(FlowModOutcome::Refused(class, code)),
         None => {}
     }
     let pieces = pieces(alloc, around.policy, around.slot, &m.pattern)?;
     if is_outside(m, &pieces) {
-        return Ok(Outcome::Refused(FLOW_MOD_FAILED, FLOW_MOD_NOT_PERMITTED));
+        return Ok(FlowModOutcome::Refused(FLOW_MOD_FAILED, FLOW_MOD_NOT_PERMITTED));
     }
     match lists(alloc, around, m, &pieces)? {
-        Listing::Forbidden(code) => Ok(Outcome::Refused(BAD_ACTION, code)),
-        Listing::TooMany => Ok(Outcome::Refused(BAD_ACTION, TOO_MANY_ACTIONS)),
+        Listing::Forbidden(code) => Ok(FlowModOutcome::Refused(BAD_ACTION, code)),
+        Listing::TooMany => Ok(FlowModOutcome::Refused(BAD_ACTION, TOO_MANY_ACTIONS)),
         Listing::Given(lists) => built(alloc, around, quota, xid, m, pieces, &lists),
     }
 }

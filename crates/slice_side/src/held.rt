@@ -2,7 +2,7 @@
 
 ghost use Rattle.std.specs.Prelude.{◌≡◌, ◌<◌, ◌≤◌, length, IfSome};
 ghost use Rattle.slice_words.specs.FlowMods.{piece_place};
-ghost use Rattle.slice_side.specs.Checking.{packet_in, carrier_in};
+ghost use Rattle.slice_side.specs.Checking.{packet_kept, carrier_in};
 
 use buffer_map::Held;
 use flow_book::SliceState;
@@ -11,7 +11,7 @@ use of10_match::{Header12, Match};
 
 /// The packet that the slice holds under a number; none where a message has no number.
 pub(crate) fn packet_at(state: &SliceState, buffer: u32) -> Option<Held>
-    ensures { result ≡ packet_in state.now buffer }
+    ensures { result ≡ packet_kept state.now buffer }
 {
     if buffer == NO_BUFFER {
         return None;

@@ -11,7 +11,7 @@ ghost use Rattle.flowspace.specs.Rules.{is_written_by};
 ghost use Rattle.slice_words.specs.PacketOuts.{is_buffered_out, carried_header, is_probe, marked, origin_with, permitted_out, sent_out_with, packet_out_size};
 ghost use Rattle.flowspace.specs.Options.{first_some};
 ghost use Rattle.slice_side.specs.Reactions.{without_physical, ground_at};
-ghost use Rattle.slice_side.specs.Checking.{packet_in, number_in, IsChecked, early, MayBeSent, IsPacketOutcome};
+ghost use Rattle.slice_side.specs.Checking.{packet_kept, number_in, IsChecked, early, MayBeSent, IsPacketOutcome};
 
 use crate::held::packet_at;
 use crate::pieces::{Checked, check_actions};
@@ -110,7 +110,7 @@ fn carries_another(around: &Around<'_>, m: &PacketOut) -> bool
 /// The lines before its actions: the packet that it names is held, and the one that it carries comes by a port
 /// of the slice and is one that the slice may write.
 fn early_fault(around: &Around<'_>, m: &PacketOut, packet: &Option<Held>) -> Option<(u16, u16)>
-    requires { packet.now ≡ packet_in around.now.state.now m.now.buffer }
+    requires { packet.now ≡ packet_kept around.now.state.now m.now.buffer }
     ensures { (quota xid : ℕ) → result ≡ first_some (early (ground_at around.now.policy.now.rules around.now.slot around.now.ports.now quota xid around.now.state.now) m.now) }
 {
     if names_no_packet(m, packet) {
@@ -148,7 +148,7 @@ fn check_out(
     m: &PacketOut,
     packet: &Option<Held>,
 ) -> Result<Checked, AllocError>
-    requires { packet.now ≡ packet_in around.now.state.now m.now.buffer }
+    requires { packet.now ≡ packet_kept around.now.state.now m.now.buffer }
     ensures { (quota xid : ℕ) → IfOk result (IsChecked (permitted_out (ground_at around.now.policy.now.rules around.now.slot around.now.ports.now quota xid around.now.state.now) m.now)) }
 {
     let actions = m.actions.as_slice();
@@ -235,7 +235,7 @@ fn sent(
     packet: &Option<Held>,
     actions: Actions,
 ) -> Result<PacketOutcome, AllocError>
-    requires { packet.now ≡ packet_in around.now.state.now m.now.buffer }
+    requires { packet.now ≡ packet_kept around.now.state.now m.now.buffer }
     ensures { (quota : ℕ) → MayBeSent (ground_at around.now.policy.now.rules around.now.slot around.now.ports.now quota xid around.now.state.now) m.now actions → IfOk result (IsPacketOutcome around.now.state.now (ground_at around.now.policy.now.rules around.now.slot around.now.ports.now quota xid around.now.state.now) m.now) }
 {
     let out = packet_out_for(alloc, around, xid, m, packet, actions)?;

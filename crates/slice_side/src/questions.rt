@@ -15,7 +15,7 @@ ghost use Rattle.slice_side.specs.Checking.{AreSentOn};
 use crate::answered::Reaction;
 use crate::asking::{barrier, queues, statistics};
 use crate::change::{Change, Modification};
-use crate::flow_mods::{Outcome, outcome_of};
+use crate::flow_mods::{FlowModOutcome, outcome_of};
 use crate::packet_outs::{PacketOutcome, packet_outcome};
 use crate::remembering::asked;
 use crate::replying::{Around, refused};
@@ -64,14 +64,14 @@ fn flow_mod(
     let quota = around.quota();
     let (_, xid) = around.state.xids.next();
     match outcome_of(alloc, around, quota, xid, m)? {
-        Outcome::Refused(class, code) => refused(
+        FlowModOutcome::Refused(class, code) => refused(
             alloc,
             class,
             code,
             frame,
             Change::Rated { moment },
         ),
-        Outcome::Sent {
+        FlowModOutcome::Sent {
             frames,
             pieces,
             used,

@@ -22,11 +22,11 @@ use Rattle.slice_words.specs.Pasts.{ForStatistics, Answer, Past, no_answer, told
 use Rattle.slice_words.specs.FlowMods.{ground_of, flow_mod_fault, sent_on, not_permitted}
 use Rattle.slice_words.specs.PacketOuts.{packet_out_fault, sent_out}
 use Rattle.slice_words.specs.Questions.{may_ask, asking, statistics_asked, barrier_asked, queues_asked}
-use Rattle.slice_words.specs.Answers.{error_for, refused, refusal_of, no_common_version, bad_length, bad_vendor, config_told, unread_answer, forwarded_answer, keeps_rate, rated_answer, read_answer, message_answer}
+use Rattle.slice_words.specs.Answers.{error_for, refused, refusal_of, no_common_version, bad_request_length, bad_vendor, config_told, unread_answer, forwarded_answer, keeps_rate, rated_answer, read_answer, message_answer}
 
 -- a property of answers, beside whether the connection is to end, holds of each kind of answer to a message
 pub record HoldsOfEach (P : Bool → Answer → Type 0) (s : Settings) (view : List Item) (past : List Past) (message : List ℕ) : Type 0 where
-  pub bad : P true (dismissal (error_for bad_length message ∷ []))
+  pub bad : P true (dismissal (error_for bad_request_length message ∷ []))
   pub old : P true (dismissal (error_of (xid_of message) no_common_version.0 no_common_version.1 [] ∷ []))
   pub nothing : P false no_answer
   pub refuses : (fault : ℕ × ℕ) → P false (refused fault message)

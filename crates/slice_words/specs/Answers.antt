@@ -54,8 +54,8 @@ abbrev pub bad_vendor : ℕ × ℕ
 bad_vendor = (1, 3)
 
 -- BAD_REQUEST, BAD_LEN
-abbrev pub bad_length : ℕ × ℕ
-bad_length = (1, 6)
+abbrev pub bad_request_length : ℕ × ℕ
+bad_request_length = (1, 6)
 
 -- the error that answers a message, with the message's transaction id and its first 64 bytes
 abbrev pub error_for : ℕ × ℕ → List ℕ → List ℕ
@@ -67,7 +67,7 @@ refused fault message = told (error_for fault message ∷ [])
 
 -- what a message is refused with that isn't read
 abbrev pub refusal_of : Unread → ℕ × ℕ
-refusal_of BadLength = bad_length
+refusal_of BadLength = bad_request_length
 refusal_of NoCommonVersion = no_common_version
 refusal_of BadVersion = bad_version
 refusal_of BadType = bad_type
@@ -77,7 +77,7 @@ refusal_of (BadForm fault) = class_and_code fault
 
 -- what follows from a message that isn't read: one whose length is bad, or that has no version in common, as a HELLO of version 0 hasn't, ends the connection, and the second is quoted nothing of (section 4.2)
 abbrev pub unread_answer : Unread → List ℕ → Answer
-unread_answer BadLength message = dismissal (error_for bad_length message ∷ [])
+unread_answer BadLength message = dismissal (error_for bad_request_length message ∷ [])
 unread_answer NoCommonVersion message = dismissal (error_of (xid_of message) no_common_version.0 no_common_version.1 [] ∷ [])
 unread_answer fault message = refused (refusal_of fault) message
 

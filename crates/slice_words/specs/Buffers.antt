@@ -46,6 +46,10 @@ abbrev pub held_packets : List Past → List HeldPacket
 held_packets [] = []
 held_packets (p ∷ past) = held_after (buffered_count (view_in past)) p.item p.answer (held_packets past)
 
--- the one of a number: how many were given before it, in 24 bits
+-- a packet has a number: how many were given before it, in 24 bits
+abbrev pub has_number : ℕ → HeldPacket → Bool
+has_number number packet = packet.ordinal % 2 ^ 24 == number
+
+-- the one that has a number
 abbrev pub packet_under : ℕ → List HeldPacket → Option HeldPacket
-packet_under number held = find (λ packet. packet.ordinal % 2 ^ 24 == number) held
+packet_under number held = find (λ packet. has_number number packet) held

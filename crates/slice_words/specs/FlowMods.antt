@@ -59,11 +59,14 @@ pieces_on g m = pieces_within g.patterns m.pattern
 abbrev pub permitted_on : Ground → FlowMod → Pattern → Result (List Action) ℕ
 permitted_on g m piece = permitted (lone_rules g.slot g.patterns) g.slot (Piece piece) m.actions (flooded false g.ports) (flooded true g.ports)
 
+-- the code of a refusal
+abbrev pub code_given : {A : Type 0} → Result A ℕ → Option ℕ
+code_given (Ok x) = None
+code_given (Err code) = Some code
+
 -- the first code among those of the pieces
 abbrev pub first_refusal : {A : Type 0} → List (Result A ℕ) → Option ℕ
-first_refusal [] = None
-first_refusal (Ok x ∷ others) = first_refusal others
-first_refusal (Err code ∷ others) = Some code
+first_refusal results = first_some (map code_given results)
 
 -- the code of the first action that is forbidden, by piece and then by action; a delete's actions are disregarded
 abbrev pub first_forbidden : Ground → FlowMod → Option ℕ
@@ -85,9 +88,13 @@ named_packet g m = if is_delete m then None else packet_at g m.buffer
 
 -- ---- what is sent on
 
--- the flow-mods that are sent for the pieces, under the transaction id that the slice gets next
+-- the flow-mods that are sent for the pieces, under the transaction id that the slice gets next, where the one for the piece at a place carries a number, if one does
+abbrev pub flow_mods_with : Ground → FlowMod → Option (ℕ × ℕ) → List FlowMod
+flow_mods_with g m carrier = piece_messages 0 m g.xid (pieces_on g m) (lists_on g m) carrier
+
+-- the same before a number is put into one
 abbrev pub flow_mods_on : Ground → FlowMod → List FlowMod
-flow_mods_on g m = piece_messages 0 m g.xid (pieces_on g m) (lists_on g m) None
+flow_mods_on g m = flow_mods_with g m None
 
 -- the place of the first piece that has a packet's header
 abbrev pub piece_place : Header → List Pattern → Option ℕ
@@ -156,9 +163,13 @@ abbrev pub is_packet_in : Pattern → Option HeldPacket → Bool
 is_packet_in m None = false
 is_packet_in m (Some packet) = has m packet.header
 
--- it names a packet that isn't held, or whose header isn't in its match; a delete's number is disregarded
+-- a flow-mod that names this packet, or none that is held, names one that isn't held or whose header isn't in its match; a delete's number is disregarded
+abbrev pub is_not_held : Option HeldPacket → FlowMod → Bool
+is_not_held named m = not (is_delete m) && not (m.buffer == NO_BUFFER) && not (is_packet_in m.pattern named)
+
+-- so it is of the packet that the slice holds under its number
 abbrev pub buffer_not_held : Ground → FlowMod → Option (ℕ × ℕ)
-buffer_not_held g m = when (not (is_delete m) && not (m.buffer == NO_BUFFER) && not (is_packet_in m.pattern (named_packet g m))) unknown_buffer
+buffer_not_held g m = when (is_not_held (named_packet g m) m) unknown_buffer
 
 -- the slice may write nothing of the match; a delete then deletes nothing
 abbrev pub outside_flowspace : Ground → FlowMod → Option (ℕ × ℕ)

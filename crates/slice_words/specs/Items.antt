@@ -137,11 +137,15 @@ is_buffered (Writer buffered) = buffered
 is_buffered Reader = false
 is_buffered Probe = false
 
+-- an item hands up a packet that the slice may use by number
+abbrev pub hands_up_buffered : Item → Bool
+hands_up_buffered (Handed packet) = is_buffered packet.share
+hands_up_buffered item = false
+
 -- how many buffered packets the slice was given
 abbrev pub buffered_count : List Item → ℕ
 buffered_count [] = 0
-buffered_count (Handed packet ∷ view) = if is_buffered packet.share then buffered_count view + 1 else buffered_count view
-buffered_count (item ∷ view) = buffered_count view
+buffered_count (item ∷ view) = if hands_up_buffered item then buffered_count view + 1 else buffered_count view
 
 -- what the switch told of itself
 abbrev pub features_in : List Item → Option Features

@@ -1,5 +1,5 @@
 -- What follows from a packet-out of a slice (OpenFlow 1.0.0, section 5.3.6). Which lines refuse it, and in which order, and what a probe is, is this proxy's own rule.
-use Rattle.std.specs.Prelude.{ℕ, ◌+◌, ◌-◌, ◌==◌, ◌&&◌, ◌||◌, not, nat_lt, Bool, false, true, if◌then◌else◌, List, [], ◌∷◌, ◌++◌, length, Option, Some, None, option_map, is_none, Result, Ok, Err}
+use Rattle.std.specs.Prelude.{ℕ, ◌+◌, ◌-◌, ◌==◌, ◌&&◌, ◌||◌, not, nat_lt, Bool, false, true, if◌then◌else◌, List, [], ◌∷◌, ◌++◌, length, Option, Some, None, option_map, is_none, Result}
 use Rattle.std.specs.List.{list_any}
 use Rattle.of10_model.specs.Header.{Header}
 use Rattle.of10_model.specs.Pattern.{has}
@@ -20,7 +20,7 @@ use Rattle.slice_words.specs.Items.{lone_rules, is_own_port}
 use Rattle.slice_words.specs.Pasts.{Outgoing, SendsOut}
 use Rattle.slice_words.specs.Buffers.{HeldPacket}
 use Rattle.flowspace.specs.Options.{first_some, when}
-use Rattle.slice_words.specs.FlowMods.{Ground, packet_at, unknown_buffer, bad_action, too_many_actions, is_too_long, not_permitted}
+use Rattle.slice_words.specs.FlowMods.{Ground, packet_at, unknown_buffer, bad_action, too_many_actions, is_too_long, not_permitted, code_given}
 
 -- ---- the packet
 
@@ -85,11 +85,6 @@ lies_aside g header = list_any (λ pattern. has (any_in_port pattern) header) g.
 -- the slice may not write the packet that it carries, which is no probe
 abbrev pub carries_another : Ground → PacketOut → Option (ℕ × ℕ)
 carries_another g m = when (not (is_buffered_out m) && not (is_probe m) && not (lies_aside g (carried_header m))) not_permitted
-
--- the code of a refusal
-abbrev pub code_given : {A : Type 0} → Result A ℕ → Option ℕ
-code_given (Ok x) = None
-code_given (Err code) = Some code
 
 -- an action is forbidden
 abbrev pub forbidden_out : Ground → PacketOut → Option (ℕ × ℕ)

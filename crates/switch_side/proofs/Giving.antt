@@ -26,7 +26,7 @@ use Rattle.switch_side.specs.declared.change.Change.{Change}
 use Rattle.switch_side.specs.declared.change.Change.TheVariants.{Lost, Given}
 use Rattle.switch_side.specs.declared.audience.Audience.TheVariants.{Prober}
 use Rattle.switch_side.specs.Audiences.{named_by, audience_of, writes}
-use Rattle.switch_side.specs.Changes.{is_lost, IsLost, IsChangeOfItems, changes_for, SlotChanges}
+use Rattle.switch_side.specs.Changes.{is_lost, IsLost, IsChangeOfItems, of_slot, SlotChanges}
 use Rattle.switch_side.specs.Dispatches.{AllStand, AllNumbered, AreChanges, told_at}
 use Rattle.switch_side.specs.Carrying.{change_for, changes_from, packet_changes}
 use Rattle.switch_side.proofs.Making.{first_for}
@@ -139,13 +139,13 @@ unkept s policy rules slot side packet none =
 
 -- ---- the changes of one slice among all
 
-none_before : (change : ℕ → Bool → Change) (states : List SliceState) (from slot : ℕ) → slot < from → changes_for slot (changes_from change from states) ≡ []
+none_before : (change : ℕ → Bool → Change) (states : List SliceState) (from slot : ℕ) → slot < from → of_slot slot (changes_from change from states) ≡ []
 none_before change [] from slot behind = refl
 none_before change (state ∷ others) from slot behind =
     first_for false slot from (change from state.up) (changes_from change (from + 1) others) (ne_eqb from slot (λ e. absurd (omega (arith, behind, e))))
     ∙ none_before change others (from + 1) slot (omega (arith, behind))
 
-none_past : (change : ℕ → Bool → Change) (states : List SliceState) (from slot : ℕ) → from + length states ≤ slot → changes_for slot (changes_from change from states) ≡ []
+none_past : (change : ℕ → Bool → Change) (states : List SliceState) (from slot : ℕ) → from + length states ≤ slot → of_slot slot (changes_from change from states) ≡ []
 none_past change [] from slot past = refl
 none_past change (state ∷ others) from slot past =
     first_for false slot from (change from state.up) (changes_from change (from + 1) others) (ne_eqb from slot (λ e. absurd (omega (arith, past, e))))
@@ -156,7 +156,7 @@ unwrap state None = state
 unwrap state (Some other) = other
 
 own_change : (change : ℕ → Bool → Change) (states : List SliceState) (from i slot : ℕ) (state : SliceState) → from + i ≡ slot → slice_get states i ≡ Some state
-    → changes_for slot (changes_from change from states) ≡ change slot state.up ∷ []
+    → of_slot slot (changes_from change from states) ≡ change slot state.up ∷ []
 own_change change [] from i slot state at there = absurd (true≢false (sym (ap is_some there)))
 own_change change (first ∷ others) from zero slot state at there =
     let here : from ≡ slot = omega (arith, at) in
@@ -180,7 +180,7 @@ changed_among count rules states packet = if packet.buffer == NO_BUFFER then [] 
 module _ (policy : PolicyView) (rules : List Rule) (states : List SliceState) (slot : ℕ) where
   by_kept : (s : Settings) (side : SliceSide) (packet : PacketIn) (state : SliceState) (free : Bool) → (packet.buffer == NO_BUFFER) ≡ free → slice_get states slot ≡ Some state → AreNumbered s side → state.up ≡ is_up side.sight.view
       → SlotChanges s (if free then None else Some packet.buffer) side.sight (packet_in_items policy rules slot side packet)
-      (changes_for slot (if free then [] else changes_from (change_for (audience_of (length policy.slices) rules packet) packet.buffer (header_in packet)) 0 states))
+      (of_slot slot (if free then [] else changes_from (change_for (audience_of (length policy.slices) rules packet) packet.buffer (header_in packet)) 0 states))
   by_kept s side packet state true is there n up = unkept s policy rules slot side packet (ap (λ (free : Bool). if free then None else Some packet.buffer) is)
   by_kept s side packet state false is there n up =
       subst (SlotChanges s (Some packet.buffer) side.sight (packet_in_items policy rules slot side packet))
@@ -188,7 +188,7 @@ module _ (policy : PolicyView) (rules : List Rule) (states : List SliceState) (s
       (packet_change s policy rules slot side packet packet.buffer state.up (ap (λ (free : Bool). if free then None else Some packet.buffer) is) n up)
 
   none_kept_past : (packet : PacketIn) (free : Bool) → length states ≤ slot
-      → changes_for slot (if free then [] else changes_from (change_for (audience_of (length policy.slices) rules packet) packet.buffer (header_in packet)) 0 states) ≡ []
+      → of_slot slot (if free then [] else changes_from (change_for (audience_of (length policy.slices) rules packet) packet.buffer (header_in packet)) 0 states) ≡ []
   none_kept_past packet true past = refl
   none_kept_past packet false past = none_past (change_for (audience_of (length policy.slices) rules packet) packet.buffer (header_in packet)) states 0 slot (omega (arith, past))
 
@@ -199,7 +199,7 @@ module _ (p : PolicyView) (switch : KnownSwitch) (sides : ℕ → SliceSide) (mo
   changed slot number shown listed = SlotChanges (settings_at p slot switch.features) number (sides slot).sight shown listed
 
   abbrev listed : ℕ → List Change
-  listed slot = changes_for slot (changed_among (length p.slices) (rules_of p switch.features) states packet)
+  listed slot = of_slot slot (changed_among (length p.slices) (rules_of p switch.features) states packet)
 
   by_slot : (slot : ℕ) (here : Bool) → is_slot p slot ≡ here → changed slot (number_told switch.phase (SwitchMsg message)) (items_of p slot switch (sides slot) (told_at moment message)) (listed slot)
   by_slot slot true here =
@@ -217,5 +217,5 @@ module _ (p : PolicyView) (switch : KnownSwitch) (sides : ℕ → SliceSide) (mo
   pub packet_changed : AreChanges p switch sides moment message (packet_changes (rules_of p switch.features) states packet)
   packet_changed slot =
       subst (λ (count : ℕ). changed slot (number_told switch.phase (SwitchMsg message)) (items_of p slot switch (sides slot) (told_at moment message))
-      (changes_for slot (changed_among count (rules_of p switch.features) states packet)))
+      (of_slot slot (changed_among count (rules_of p switch.features) states packet)))
       (sym same) (by_slot slot (is_slot p slot) refl)

@@ -14,9 +14,9 @@ use Rattle.slice_words.specs.Answers.{answer}
 use Rattle.slice_words.specs.Alone.{with_items, number_it_came_with}
 use Rattle.slice_words.specs.Standing.{SliceStands, past_of, held_as}
 use Rattle.slice_words.proofs.Holding.{filter_of_map, filter_all, IsRecent, recent, view_in-played}
-use Rattle.desk_words.specs.Histories.{header_in, handed, is_any_given}
+use Rattle.desk_words.specs.Histories.{header_in, handed, is_any_given, seen_with}
 use Rattle.desk_words.proofs.Numbering.{lost_of, number_earlier, number_newest}
-use Rattle.switch_side.specs.Changes.{seen_with, is_lost, IsLost, IsLoss, IsGift}
+use Rattle.switch_side.specs.Changes.{is_lost, IsLost, IsLoss, IsGift}
 use Rattle.switch_side.proofs.Standing.{Holds, stands_again, same_none, same_lost, same_handed, shares_stand}
 
 -- ---- what is lost

@@ -20,10 +20,10 @@ use Rattle.slice_words.specs.Statistics.{finished}
 use Rattle.slice_words.specs.Calls.{error_marks, failure, request_calls, collection_calls, book_calls}
 use Rattle.slice_words.specs.Standing.{SliceStands, past_of}
 use Rattle.desk_words.specs.Openings.{KnownSwitch}
-use Rattle.desk_words.specs.Histories.{settings_at, items_of, number_told, SliceSide}
+use Rattle.desk_words.specs.Histories.{settings_at, items_of, number_told, SliceSide, seen_with, side_after}
 use Rattle.desk_words.specs.declared.event.Event.TheVariants.{SwitchMsg}
 use Rattle.switch_side.specs.declared.change.Change.{Change}
-use Rattle.switch_side.specs.Changes.{seen_with, side_after, IsRemoval, IsFailure, IsAnswer, IsMore, IsEnd, IsChangeOfItems, changes_for, SlotChanges, IsMade, IsMadeAt, StateHasRoom, StateHasRoomAt, StatesHaveRoom, StandOn}
+use Rattle.switch_side.specs.Changes.{IsRemoval, IsFailure, IsAnswer, IsMore, IsEnd, IsChangeOfItems, of_slot, SlotChanges, IsMade, IsMadeAt, StateHasRoom, StateHasRoomAt, StatesHaveRoom, StandOn}
 use Rattle.switch_side.specs.Collecting.{entry_calls, calls_with}
 use Rattle.switch_side.specs.Dispatches.{AllStand, AreChanges, told_at}
 use Rattle.switch_side.proofs.Gathering.{calls_by, entries_finished}
@@ -143,11 +143,11 @@ steps s number sight items change (other ∷ others) old new none made = absurd 
 abbrev pub AllOnTheWay : PolicyView → KnownSwitch → (ℕ → SliceSide) → ℕ → List ℕ → List (ℕ × Change) → List SliceState → Type 0
 AllOnTheWay p switch sides moment message listed states =
     (slot : ℕ) (state : SliceState) → slice_get states slot ≡ Some state
-    → IsOnTheWay (settings_at p slot switch.features) (number_told switch.phase (SwitchMsg message)) (sides slot).sight (items_of p slot switch (sides slot) (told_at moment message)) (changes_for slot listed) state
+    → IsOnTheWay (settings_at p slot switch.features) (number_told switch.phase (SwitchMsg message)) (sides slot).sight (items_of p slot switch (sides slot) (told_at moment message)) (of_slot slot listed) state
 
 pub all_begin : (p : PolicyView) (switch : KnownSwitch) (sides : ℕ → SliceSide) (moment : ℕ) (message : List ℕ) (listed : List (ℕ × Change)) (states : List SliceState)
     → AllStand p switch sides states → AreChanges p switch sides moment message listed → AllOnTheWay p switch sides moment message listed states
-all_begin p switch sides moment message listed states stand are = λ slot state there. begins _ _ _ (items_of p slot switch (sides slot) (told_at moment message)) (changes_for slot listed) state (stand slot state there) (are slot)
+all_begin p switch sides moment message listed states stand are = λ slot state there. begins _ _ _ (items_of p slot switch (sides slot) (told_at moment message)) (of_slot slot listed) state (stand slot state there) (are slot)
 
 pub all_end : (p : PolicyView) (switch : KnownSwitch) (sides : ℕ → SliceSide) (moment : ℕ) (message : List ℕ) (states : List SliceState)
     → AllOnTheWay p switch sides moment message [] states → AllStand p switch (λ slot. side_after p slot switch (sides slot) (told_at moment message)) states
@@ -155,7 +155,7 @@ all_end p switch sides moment message states way = way
 
 -- ---- one change more
 
-pub first_for : (here : Bool) (slot k : ℕ) (change : Change) (later : List (ℕ × Change)) → (k == slot) ≡ here → changes_for slot ((k, change) ∷ later) ≡ (if here then change ∷ changes_for slot later else changes_for slot later)
+pub first_for : (here : Bool) (slot k : ℕ) (change : Change) (later : List (ℕ × Change)) → (k == slot) ≡ here → of_slot slot ((k, change) ∷ later) ≡ (if here then change ∷ of_slot slot later else of_slot slot later)
 first_for true slot k change later is = rw is refl
 first_for false slot k change later isnt = rw isnt refl
 
@@ -173,13 +173,13 @@ module _ (p : PolicyView) (switch : KnownSwitch) (sides : ℕ → SliceSide) (mo
   way slot listed state = IsOnTheWay (settings_at p slot switch.features) (number_told switch.phase (SwitchMsg message)) (sides slot).sight (items_of p slot switch (sides slot) (told_at moment message)) listed state
 
   by_place : (k : ℕ) (change : Change) (later : List (ℕ × Change)) (old new : List SliceState) → IsMadeAt k change old new → AllOnTheWay p switch sides moment message ((k, change) ∷ later) old
-      → (slot : ℕ) (state : SliceState) → slice_get new slot ≡ Some state → (here : Bool) → (k == slot) ≡ here → way slot (changes_for slot later) state
+      → (slot : ℕ) (state : SliceState) → slice_get new slot ≡ Some state → (here : Bool) → (k == slot) ≡ here → way slot (of_slot slot later) state
   by_place k change later old new made all slot state there false isnt =
       subst (λ listed. way slot listed state) (first_for false slot k change later isnt) (all slot state (sym (made.others slot isnt) ∙ there))
   by_place k change later old new made all slot state there true is =
       let same = eqb-true k slot is in
       let before = some_before old new slot state (slice_get old slot) made.count there refl in
-      steps _ _ _ _ change (changes_for slot later) before.0 state (subst (λ listed. way slot listed before.0) (first_for true slot k change later is) (all slot before.0 before.1))
+      steps _ _ _ _ change (of_slot slot later) before.0 state (subst (λ listed. way slot listed before.0) (first_for true slot k change later is) (all slot before.0 before.1))
       (made.own before.0 state (subst (λ (n : ℕ). slice_get old n ≡ Some before.0) (sym same) before.1) (subst (λ (n : ℕ). slice_get new n ≡ Some state) (sym same) there) _ _ _ _)
 
   pub all_step : (k : ℕ) (change : Change) (later : List (ℕ × Change)) (old new : List SliceState) → IsMadeAt k change old new

@@ -29,12 +29,12 @@ use Rattle.slice_words.proofs.Forgetting.{found_up}
 use Rattle.slice_words.proofs.LoneRules.{same_port, same_entry}
 use Rattle.desk_words.specs.declared.phase.Phase.TheVariants.{Opened}
 use Rattle.desk_words.specs.Openings.{rules_of, KnownSwitch}
-use Rattle.desk_words.specs.Histories.{is_slot, settings_at, SliceSide, barrier_items, queues_items, own_entries, is_part, part_items, statistics_items}
+use Rattle.desk_words.specs.Histories.{is_slot, settings_at, SliceSide, barrier_items, queues_items, own_entries, is_part, part_items, statistics_items, seen_with, kept_entries}
 use Rattle.switch_side.specs.declared.change.Change.TheVariants.{Collected, Finished}
-use Rattle.switch_side.specs.Changes.{seen_with, is_reply_under}
+use Rattle.switch_side.specs.Changes.{is_reply_under}
 use Rattle.switch_side.specs.Collecting.{entry_calls}
 use Rattle.switch_side.specs.Dispatches.{AllStand}
-use Rattle.switch_side.specs.Carrying.{Called, Turn, while_up, request_seen, answer_turn, barrier_turn, queues_turn, kept_entries, part_turn, collecting_turn, statistics_turn}
+use Rattle.switch_side.specs.Carrying.{CallsOf, Turn, while_up, request_seen, answer_turn, barrier_turn, queues_turn, part_turn, collecting_turn, statistics_turn}
 use Rattle.switch_side.proofs.MessageTypes.{items_of_said}
 use Rattle.switch_side.proofs.Replying.{with_entries, entries_rest, entries_requests, entries_book, entries_sent, entries_then, is_open, entries_closed, end_sent, ended, ended_rest, closed_sent, closed_requests, closed_collections, reply_rest, reply_collections, reply_book, reply_unmarked, some_more}
 use Rattle.switch_side.proofs.Standing.{Differs, stands_on}
@@ -70,11 +70,11 @@ answer_at : (top : ℕ) (messages : List (List ℕ)) (number : ℕ) → IsAt top
 answer_at top [] number = tt
 answer_at top (message ∷ others) number = refl
 
-part_slot : (rules : List Rule) (called : Called) (top : ℕ) (part : StatsPart) (body : List ℕ) (request : Issued) (more : Bool) → part.more ≡ more → (part_turn rules called top part body request).slot ≡ top
+part_slot : (rules : List Rule) (called : CallsOf) (top : ℕ) (part : StatsPart) (body : List ℕ) (request : Issued) (more : Bool) → part.more ≡ more → (part_turn rules called top part body request).slot ≡ top
 part_slot rules called top part body request true is = rw is refl
 part_slot rules called top part body request false is = rw is refl
 
-collecting_at : (rules : List Rule) (called : Called) (top : ℕ) (part : StatsPart) (body : List ℕ) (request : Issued) → IsAt top (collecting_turn rules called top part body request)
+collecting_at : (rules : List Rule) (called : CallsOf) (top : ℕ) (part : StatsPart) (body : List ℕ) (request : Issued) → IsAt top (collecting_turn rules called top part body request)
 collecting_at rules called top part body request = by_test (collects request part.kind called.collections)
   where
     by_test : (open_ : Bool) → IsAt top (if open_ then Some (part_turn rules called top part body request) else None)
@@ -205,7 +205,7 @@ module _ (s : Settings) (sight : Sight) (x : ℕ) where
 -- ---- one slice among all
 
 module _ (p : PolicyView) (switch : KnownSwitch) (sides : ℕ → SliceSide) (states : List SliceState) (same : length states ≡ length p.slices) (stand : AllStand p switch sides states) where
-  abbrev called : ℕ → Called
+  abbrev called : ℕ → CallsOf
   called = called_at p switch sides
 
   abbrev settings : ℕ → Settings

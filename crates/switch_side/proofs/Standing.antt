@@ -26,8 +26,7 @@ use Rattle.slice_words.specs.Statistics.{finished}
 use Rattle.slice_words.specs.Calls.{request_for, error_marks, failure, request_calls, collection_calls, questions, book_calls}
 use Rattle.slice_words.specs.Standing.{SliceStands, past_of, held_as}
 use Rattle.desk_words.specs.Openings.{KnownSwitch}
-use Rattle.desk_words.specs.Histories.{settings_at, handed, packet_said, said_items, SliceSide}
-use Rattle.switch_side.specs.Changes.{seen_with}
+use Rattle.desk_words.specs.Histories.{settings_at, handed, packet_said, said_items, SliceSide, seen_with}
 use Rattle.switch_side.proofs.MessageTypes.{is_for_one}
 
 -- ---- what a state keeps

@@ -18,9 +18,9 @@ use Rattle.desk_words.specs.declared.phase.Phase.TheVariants.{Opened}
 use Rattle.desk_words.specs.Openings.{status_said, kept_beside, rules_of, KnownSwitch}
 use Rattle.desk_words.specs.Histories.{settings_at, SliceSide}
 use Rattle.desk_words.specs.Sent.{sent_with}
-use Rattle.switch_side.specs.Dispatches.{addressed, sent_to_all, told_at, AllStand}
+use Rattle.switch_side.specs.Dispatches.{addressed, sent_to_all, told_at, AllStand, said_from}
 use Rattle.switch_side.specs.Audiences.{audience_of}
-use Rattle.switch_side.specs.Carrying.{packet_for, said_from, port_told}
+use Rattle.switch_side.specs.Carrying.{packet_for, port_told}
 use Rattle.switch_side.proofs.MessageTypes.{is_for_one}
 use Rattle.switch_side.proofs.Slots.{say_status, say, slot_sent}
 

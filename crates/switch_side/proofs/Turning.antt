@@ -11,7 +11,7 @@ use Rattle.desk_words.specs.Histories.{is_slot, settings_at, SliceSide, items_of
 use Rattle.desk_words.specs.declared.event.Event.TheVariants.{SwitchMsg}
 use Rattle.desk_words.specs.Sent.{sent_with}
 use Rattle.switch_side.specs.declared.change.Change.{Change}
-use Rattle.switch_side.specs.Changes.{changes_for, IsChangeOfItems, SlotChanges}
+use Rattle.switch_side.specs.Changes.{of_slot, IsChangeOfItems, SlotChanges}
 use Rattle.switch_side.specs.Dispatches.{addressed, sent_to_all, told_at, AreChanges}
 use Rattle.switch_side.specs.Carrying.{Turn, turn_told, turn_changes}
 use Rattle.switch_side.proofs.MessageTypes.{items_none}
@@ -61,7 +61,7 @@ module _ (p : PolicyView) (switch : KnownSwitch) (sides : ℕ → SliceSide) (ti
 
 -- ---- what changes
 
-changes_by : (here : Bool) (slot k : ℕ) (change : Change) → (k == slot) ≡ here → changes_for slot ((k, change) ∷ []) ≡ (if here then change ∷ [] else [])
+changes_by : (here : Bool) (slot k : ℕ) (change : Change) → (k == slot) ≡ here → of_slot slot ((k, change) ∷ []) ≡ (if here then change ∷ [] else [])
 changes_by true slot k change is = rw is refl
 changes_by false slot k change isnt = rw isnt refl
 
@@ -119,7 +119,7 @@ module _ (p : PolicyView) (switch : KnownSwitch) (sides : ℕ → SliceSide) (mo
   by_slot slot true here each = (each here).1
   by_slot slot false none each = unseen slot none
 
-  changed_all : (turn : Option Turn) → IsWithin p turn → EachFollows turn → (slot : ℕ) → changed slot (changes_for slot (turn_changes turn))
+  changed_all : (turn : Option Turn) → IsWithin p turn → EachFollows turn → (slot : ℕ) → changed slot (of_slot slot (turn_changes turn))
   changed_all None within each slot = by_slot slot (is_slot p slot) refl (each slot)
   changed_all (Some turn) within each slot =
       subst (changed slot) (sym (changes_by (turn.slot == slot) slot turn.slot turn.change refl))
@@ -127,4 +127,4 @@ module _ (p : PolicyView) (switch : KnownSwitch) (sides : ℕ → SliceSide) (mo
 
   pub changed_turn : (turn : Option Turn) → number_told switch.phase (SwitchMsg message) ≡ None → IsWithin p turn → EachFollows turn → AreChanges p switch sides moment message (turn_changes turn)
   changed_turn turn none within each slot =
-      subst (λ (number : Option ℕ). SlotChanges (settings_at p slot switch.features) number (sides slot).sight (items slot) (changes_for slot (turn_changes turn))) (sym none) (changed_all turn within each slot)
+      subst (λ (number : Option ℕ). SlotChanges (settings_at p slot switch.features) number (sides slot).sight (items slot) (of_slot slot (turn_changes turn))) (sym none) (changed_all turn within each slot)

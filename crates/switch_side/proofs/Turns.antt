@@ -35,7 +35,7 @@ use Rattle.desk_words.specs.Histories.{is_slot, settings_at, SliceSide, removed_
 use Rattle.switch_side.specs.declared.change.Change.TheVariants.{Released}
 use Rattle.switch_side.specs.declared.dispatch.Dispatch.{Dispatch}
 use Rattle.switch_side.specs.Dispatches.{AllStand}
-use Rattle.switch_side.specs.Carrying.{carried, Called, AllCalled, Turn, turning, while_up, removal_turn, owner_turn, removed_turn, failure_turn, request_turn, error_turn}
+use Rattle.switch_side.specs.Carrying.{carried, CallsOf, AllCalled, Turn, turning, while_up, removal_turn, owner_turn, removed_turn, failure_turn, request_turn, error_turn}
 use Rattle.switch_side.proofs.MessageTypes.{items_of_said}
 use Rattle.switch_side.proofs.Owning.{is_owner}
 use Rattle.switch_side.proofs.Standing.{fault_stands}
@@ -64,7 +64,7 @@ settings_patterns p slot told slice there = ap (λ (s : Settings). s.patterns) (
 
 -- ---- the calls of a view
 
-abbrev pub called_at : PolicyView → KnownSwitch → (ℕ → SliceSide) → ℕ → Called
+abbrev pub called_at : PolicyView → KnownSwitch → (ℕ → SliceSide) → ℕ → CallsOf
 called_at p switch sides slot =
     let s = settings_at p slot switch.features in
     let past = past_of s (sides slot).sight.view in
@@ -109,12 +109,12 @@ mapped_within p make None within = tt
 mapped_within p make (Some a) within = within a refl
 
 -- a request that is sought at another slot
-sought_elsewhere : (slot : ℕ) (called : Called) (xid : ℕ) (error : ErrorMessage) (top : ℕ) (given : Option SliceState) → (top == slot) ≡ false
+sought_elsewhere : (slot : ℕ) (called : CallsOf) (xid : ℕ) (error : ErrorMessage) (top : ℕ) (given : Option SliceState) → (top == slot) ≡ false
     → turn_at slot (option_and_then (λ state. request_turn called xid error top state) given) ≡ None
 sought_elsewhere slot called xid error top None other = refl
 sought_elsewhere slot called xid error top (Some state) other = mapped_elsewhere slot (failure_turn xid error top state) (found top xid called.requests) (λ request. other)
 
-sought_within : (p : PolicyView) (called : Called) (xid : ℕ) (error : ErrorMessage) (top : ℕ) (given : Option SliceState) → ((state : SliceState) → given ≡ Some state → top < length p.slices)
+sought_within : (p : PolicyView) (called : CallsOf) (xid : ℕ) (error : ErrorMessage) (top : ℕ) (given : Option SliceState) → ((state : SliceState) → given ≡ Some state → top < length p.slices)
     → IsWithin p (option_and_then (λ state. request_turn called xid error top state) given)
 sought_within p called xid error top None within = tt
 sought_within p called xid error top (Some state) within = mapped_within p (failure_turn xid error top state) (found top xid called.requests) (λ request there. within state refl)
@@ -122,7 +122,7 @@ sought_within p called xid error top (Some state) within = mapped_within p (fail
 -- ---- one slice among all
 
 module _ (p : PolicyView) (switch : KnownSwitch) (sides : ℕ → SliceSide) (states : List SliceState) (same : length states ≡ length p.slices) (stand : AllStand p switch sides states) where
-  abbrev called : ℕ → Called
+  abbrev called : ℕ → CallsOf
   called = called_at p switch sides
 
   abbrev settings : ℕ → Settings
@@ -240,13 +240,13 @@ module _ (p : PolicyView) (switch : KnownSwitch) (sides : ℕ → SliceSide) (st
 
 -- ---- the same of what the code finds
 
-pub owner_found : (called : ℕ → Called) (states : List SliceState) (slot : ℕ) (state : SliceState) (entry : FlowRemoved) (b : Option Booked) (r : Result Dispatch AllocError)
+pub owner_found : (called : ℕ → CallsOf) (states : List SliceState) (slot : ℕ) (state : SliceState) (entry : FlowRemoved) (b : Option Booked) (r : Result Dispatch AllocError)
     → slice_get states slot ≡ Some state → b ≡ booking entry.pattern entry.priority (called slot).book
     → IfOk r (λ d. carried d ≡ turning (Some (record { slot = slot; messages = while_up state.up (removal_told b entry); change = Released entry.pattern entry.priority })))
     → IfOk r (λ d. carried d ≡ turning (owner_turn called states entry (Some slot)))
 owner_found called states slot state entry b r there is ok = rw (there, sym is) ok
 
-pub request_found : (called : ℕ → Called) (states : List SliceState) (xid slot : ℕ) (state : SliceState) (error : ErrorMessage) (request : Issued) (r : Result Dispatch AllocError)
+pub request_found : (called : ℕ → CallsOf) (states : List SliceState) (xid slot : ℕ) (state : SliceState) (error : ErrorMessage) (request : Issued) (r : Result Dispatch AllocError)
     → slot ≡ xid / 2 ^ 24 → slice_get states slot ≡ Some state → Some request ≡ found slot xid (called slot).requests
     → IfOk r (λ d. carried d ≡ turning (Some (failure_turn xid error slot state request)))
     → IfOk r (λ d. carried d ≡ turning (error_turn called states xid error))
@@ -255,11 +255,11 @@ request_found called states xid slot state error request r top there is ok =
     (rw (there, sym is) ok)
 
 -- no request is found
-pub request_none : (called : ℕ → Called) (states : List SliceState) (xid slot : ℕ) (state : SliceState) (error : ErrorMessage) → slot ≡ xid / 2 ^ 24 → slice_get states slot ≡ Some state → None ≡ found slot xid (called slot).requests
+pub request_none : (called : ℕ → CallsOf) (states : List SliceState) (xid slot : ℕ) (state : SliceState) (error : ErrorMessage) → slot ≡ xid / 2 ^ 24 → slice_get states slot ≡ Some state → None ≡ found slot xid (called slot).requests
     → None ≡ error_turn called states xid error
 request_none called states xid slot state error top there is =
     subst (λ (n : ℕ). None ≡ option_and_then (λ state. request_turn (called n) xid error n state) (slice_get states n)) top (rw (there, sym is) refl)
 
-pub removed_found : (called : ℕ → Called) (rules : List Rule) (states : List SliceState) (slot : ℕ) (entry : FlowRemoved) (r : Result Dispatch AllocError) → Some slot ≡ owner_of_match rules entry.pattern
+pub removed_found : (called : ℕ → CallsOf) (rules : List Rule) (states : List SliceState) (slot : ℕ) (entry : FlowRemoved) (r : Result Dispatch AllocError) → Some slot ≡ owner_of_match rules entry.pattern
     → IfOk r (λ d. carried d ≡ turning (owner_turn called states entry (Some slot))) → IfOk r (λ d. carried d ≡ turning (removed_turn called rules states entry))
 removed_found called rules states slot entry r owner_is ok = rw (sym owner_is) ok

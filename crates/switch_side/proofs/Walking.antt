@@ -17,7 +17,7 @@ use Rattle.stats_filter.specs.Laws.{FitPages}
 use Rattle.stats_filter.specs.Replies.{page_size}
 use Rattle.stats_filter.proofs.Rows.{first_entry, no_entries, entry_begins, entries_in-concat}
 use Rattle.switch_side.specs.Collecting.{kept_within, with_flow, with_flows}
-use Rattle.switch_side.specs.Carrying.{kept_entries}
+use Rattle.desk_words.specs.Histories.{kept_entries}
 
 -- a well-formed entry begins the bytes, and the others stand behind it
 pub record IsAhead (kind : ℕ) (rest entry later : List ℕ) : Type 0 where

@@ -1,11 +1,11 @@
 -- Whom a packet is for that the switch hands up (this proxy's own rule).
-use Rattle.std.specs.Prelude.{ℕ, ◌==◌, Bool, false, if◌then◌else◌, List, [], ◌∷◌, ◌++◌, Option, Some, None, is_some}
-use Rattle.of10_model.specs.Normal.{is_value, bit}
+use Rattle.std.specs.Prelude.{ℕ, Bool, false, List, Option, Some, None}
+use Rattle.of10_model.specs.Normal.{is_value}
 use Rattle.of10_flow.specs.declared.packet_in.PacketIn.{PacketIn}
 use Rattle.flowspace.specs.declared.rules.Rule.{Rule}
 use Rattle.flowspace.specs.Order.{first_rule}
-use Rattle.slice_words.specs.Items.{Share, Writer, Reader, Probe}
-use Rattle.desk_words.specs.Histories.{header_in, number_given, marked_slot}
+use Rattle.slice_words.specs.Items.{Share}
+use Rattle.desk_words.specs.Histories.{header_in, marked_slot, shares_named, shares_probed}
 use Rattle.switch_side.specs.declared.audience.Audience.{Audience}
 use Rattle.switch_side.specs.declared.audience.Audience.TheVariants.{Prober, Named}
 
@@ -20,10 +20,8 @@ audience_of count rules packet = elim (marked_slot count packet.payload) [ None 
 
 -- the shares of a packet that the slice at a slot has: as the prober alone, or as the writer and as a reader
 abbrev pub shares_in : Audience → PacketIn → ℕ → List Share
-shares_in (Prober other) packet slot = if other == slot then Probe ∷ [] else []
-shares_in (Named writer readers) packet slot =
-    (if is_value slot writer then Writer (is_some (number_given packet)) ∷ [] else [])
-    ++ (if bit readers slot then Reader ∷ [] else [])
+shares_in (Prober other) packet slot = shares_probed other slot
+shares_in (Named writer readers) packet slot = shares_named writer readers slot packet
 
 -- the slice at a slot may write such packets
 abbrev pub writes : Audience → ℕ → Bool

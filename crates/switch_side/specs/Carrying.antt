@@ -1,5 +1,5 @@
 -- The same by the slices' states, in place of what each slice sees. The parts of the code are proved by this.
-use Rattle.std.specs.Prelude.{ℕ, ◌≡◌, ◌&&◌, ◌+◌, ◌-◌, ◌/◌, ◌%◌, ◌^◌, ◌==◌, Bool, false, if◌then◌else◌, List, [], ◌∷◌, ◌++◌, length, take, filter, slice_get, Option, Some, None, option_map, option_and_then, Result, Ok}
+use Rattle.std.specs.Prelude.{ℕ, ◌≡◌, ◌&&◌, ◌+◌, ◌-◌, ◌/◌, ◌%◌, ◌^◌, ◌==◌, Bool, false, if◌then◌else◌, List, [], ◌∷◌, ◌++◌, length, take, slice_get, Option, Some, None, option_map, option_and_then, Result, Ok}
 use Rattle.std.specs.List.{concat}
 use Rattle.of10_model.specs.Header.{Header}
 use Rattle.of10_model.specs.Normal.{is_value, bit}
@@ -22,13 +22,12 @@ use Rattle.flowspace.specs.Owners.{has_port, owner_of_match}
 use Rattle.xid_map.specs.declared.asked.Issued.{Issued}
 use Rattle.xid_map.specs.Requests.{RequestCall, RequestsStand, found}
 use Rattle.xid_map.specs.Collections.{CollectionCall, CollectionsStand, Gathered, gathered}
-use Rattle.stats_filter.specs.Keeping.{entries_in, is_own_entry}
 use Rattle.flow_book.specs.declared.state.SliceState.{SliceState}
 use Rattle.flow_book.specs.Books.{BookCall, BookStands, booking}
 use Rattle.slice_words.specs.Statistics.{collects, barrier_told, queues_told, collected_replies}
 use Rattle.slice_words.specs.Answers.{removal_told, error_told}
 use Rattle.desk_words.specs.Openings.{status_said, kept_beside}
-use Rattle.desk_words.specs.Histories.{header_in, is_part}
+use Rattle.desk_words.specs.Histories.{header_in, is_part, kept_entries}
 use Rattle.desk_words.specs.Sent.{echo_said}
 use Rattle.switch_side.specs.declared.audience.Audience.{Audience}
 use Rattle.switch_side.specs.declared.audience.Audience.TheVariants.{Prober, Named}
@@ -37,7 +36,7 @@ use Rattle.switch_side.specs.declared.change.Change.TheVariants.{Released, Faile
 use Rattle.switch_side.specs.declared.dispatch.Dispatch.{Dispatch}
 use Rattle.switch_side.specs.Audiences.{audience_of, writes}
 use Rattle.switch_side.specs.Collecting.{entry_calls}
-use Rattle.switch_side.specs.Dispatches.{addressed}
+use Rattle.switch_side.specs.Dispatches.{addressed, said_from}
 
 -- what a dispatch carries
 pub record Carried : Type 0 where
@@ -57,13 +56,13 @@ telling messages status = record { messages = messages; replies = []; changes = 
 -- ---- what the states stand for
 
 -- the calls that made one slice's requests, book and collections
-pub record Called : Type 0 where
+pub record CallsOf : Type 0 where
   pub requests : List RequestCall
   pub book : List BookCall
   pub collections : List CollectionCall
 
 -- each state's were made by these
-abbrev pub AllCalled : (ℕ → Called) → List SliceState → Type 0
+abbrev pub AllCalled : (ℕ → CallsOf) → List SliceState → Type 0
 AllCalled called states =
     (slot : ℕ) (state : SliceState) → slice_get states slot ≡ Some state → RequestsStand slot (called slot).requests state.xids × BookStands (called slot).book state.book × CollectionsStand (called slot).collections state.collections
 
@@ -72,11 +71,6 @@ AllCalled called states =
 -- a message where it is due
 abbrev pub once : Bool → List ℕ → List (List ℕ)
 once due message = if due then message ∷ [] else []
-
--- what is said to each slice from a slot on
-abbrev pub said_from : (ℕ → SliceState → List (List ℕ)) → ℕ → List SliceState → List (ℕ × List ℕ)
-said_from say slot [] = []
-said_from say slot (state ∷ others) = addressed slot (say slot state) ++ said_from say (slot + 1) others
 
 -- the change of a port for the slice at a slot, if it is up and has the port
 abbrev pub status_for : List Rule → PortStatus → ℕ → SliceState → List (List ℕ)
@@ -175,7 +169,7 @@ abbrev pub while_up : Bool → List (List ℕ) → List (List ℕ)
 while_up up messages = if up then messages else []
 
 -- what follows for a slice of whose match an entry is gone
-abbrev pub removal_turn : Called → FlowRemoved → ℕ → SliceState → Turn
+abbrev pub removal_turn : CallsOf → FlowRemoved → ℕ → SliceState → Turn
 removal_turn called entry slot state = record {
   slot = slot;
   messages = while_up state.up (removal_told (booking entry.pattern entry.priority called.book) entry);
@@ -183,11 +177,11 @@ removal_turn called entry slot state = record {
 }
 
 -- the slice that owns the match is told
-abbrev pub owner_turn : (ℕ → Called) → List SliceState → FlowRemoved → Option ℕ → Option Turn
+abbrev pub owner_turn : (ℕ → CallsOf) → List SliceState → FlowRemoved → Option ℕ → Option Turn
 owner_turn called states entry None = None
 owner_turn called states entry (Some slot) = option_map (removal_turn (called slot) entry slot) (slice_get states slot)
 
-abbrev pub removed_turn : (ℕ → Called) → List Rule → List SliceState → FlowRemoved → Option Turn
+abbrev pub removed_turn : (ℕ → CallsOf) → List Rule → List SliceState → FlowRemoved → Option Turn
 removed_turn called rules states entry = owner_turn called states entry (owner_of_match rules entry.pattern)
 
 -- what follows for the slice whose request an error is for
@@ -199,18 +193,18 @@ failure_turn xid error slot state request = record {
 }
 
 -- the request is sought at one slot
-abbrev pub request_turn : Called → ℕ → ErrorMessage → ℕ → SliceState → Option Turn
+abbrev pub request_turn : CallsOf → ℕ → ErrorMessage → ℕ → SliceState → Option Turn
 request_turn called xid error slot state = option_map (failure_turn xid error slot state) (found slot xid called.requests)
 
 -- at that of the transaction id's top byte
-abbrev pub error_turn : (ℕ → Called) → List SliceState → ℕ → ErrorMessage → Option Turn
+abbrev pub error_turn : (ℕ → CallsOf) → List SliceState → ℕ → ErrorMessage → Option Turn
 error_turn called states xid error =
     option_and_then (λ state. request_turn (called (xid / 2 ^ 24)) xid error (xid / 2 ^ 24) state) (slice_get states (xid / 2 ^ 24))
 
 -- ---- what the switch replies to one slice
 
 -- the request that the switch sees under a transaction id, of the slice whose slot is the id's top byte
-abbrev pub request_seen : (ℕ → Called) → List SliceState → ℕ → Option Issued
+abbrev pub request_seen : (ℕ → CallsOf) → List SliceState → ℕ → Option Issued
 request_seen called states xid = option_and_then (λ state. found (xid / 2 ^ 24) xid (called (xid / 2 ^ 24)).requests) (slice_get states (xid / 2 ^ 24))
 
 -- what follows for a slice that is told a reply, if it is: its request is marked
@@ -219,26 +213,22 @@ answer_turn slot [] number = None
 answer_turn slot (message ∷ others) number = Some (record { slot = slot; messages = message ∷ others; change = Replied number })
 
 -- of a reply to a barrier
-abbrev pub barrier_turn : (ℕ → Called) → List SliceState → ℕ → Option Turn
+abbrev pub barrier_turn : (ℕ → CallsOf) → List SliceState → ℕ → Option Turn
 barrier_turn called states xid = option_and_then (λ request. answer_turn (xid / 2 ^ 24) (barrier_told (Some request)) request.number) (request_seen called states xid)
 
 -- of a reply on the queues of a port of the slice
-abbrev pub queues_turn : (ℕ → Called) → List Rule → List SliceState → ℕ → QueuesMessage → Option Turn
+abbrev pub queues_turn : (ℕ → CallsOf) → List Rule → List SliceState → ℕ → QueuesMessage → Option Turn
 queues_turn called rules states xid queues =
     if has_port rules (xid / 2 ^ 24) queues.port
     then option_and_then (λ request. answer_turn (xid / 2 ^ 24) (queues_told (Some request) queues.body) request.number) (request_seen called states xid)
     else None
 
--- of a part of statistics the entries of the slice at a slot
-abbrev pub kept_entries : List Rule → ℕ → ℕ → List ℕ → List (List ℕ)
-kept_entries rules slot kind body = filter (is_own_entry rules slot kind) (entries_in kind body)
-
 -- what a request has collected with these entries
-abbrev pub gathered_with : Called → Issued → List (List ℕ) → Gathered
+abbrev pub gathered_with : CallsOf → Issued → List (List ℕ) → Gathered
 gathered_with called request entries = gathered request.number (entry_calls request.asked.kind request.number entries called.collections)
 
 -- what follows from a part for a slice whose request collects it: where more parts come its entries are collected, and with the last one it is told what was collected
-abbrev pub part_turn : List Rule → Called → ℕ → StatsPart → List ℕ → Issued → Turn
+abbrev pub part_turn : List Rule → CallsOf → ℕ → StatsPart → List ℕ → Issued → Turn
 part_turn rules called slot part body request =
     if part.more then record { slot = slot; messages = []; change = Collected request.number request.asked.kind (concat (kept_entries rules slot part.kind body)) }
     else record {
@@ -248,11 +238,11 @@ part_turn rules called slot part body request =
     }
 
 -- it follows only for a request that collects statistics of the part's type
-abbrev pub collecting_turn : List Rule → Called → ℕ → StatsPart → List ℕ → Issued → Option Turn
+abbrev pub collecting_turn : List Rule → CallsOf → ℕ → StatsPart → List ℕ → Issued → Option Turn
 collecting_turn rules called slot part body request = if collects request part.kind called.collections then Some (part_turn rules called slot part body request) else None
 
 -- and from no part in another form than its type has
-abbrev pub statistics_turn : (ℕ → Called) → List Rule → List SliceState → ℕ → StatsPart → List ℕ → Option Turn
+abbrev pub statistics_turn : (ℕ → CallsOf) → List Rule → List SliceState → ℕ → StatsPart → List ℕ → Option Turn
 statistics_turn called rules states xid part body =
     if is_part part.kind body
     then option_and_then (collecting_turn rules (called (xid / 2 ^ 24)) (xid / 2 ^ 24) part body) (request_seen called states xid)
@@ -261,7 +251,7 @@ statistics_turn called rules states xid part body =
 -- ---- all, by what was read of a message
 
 -- messages for one slice at most: of an entry that is gone, an error, or a reply
-abbrev pub turn_for : (ℕ → Called) → List Rule → List SliceState → ℕ → Result SwitchMessage Unread → Option Turn
+abbrev pub turn_for : (ℕ → CallsOf) → List Rule → List SliceState → ℕ → Result SwitchMessage Unread → Option Turn
 turn_for called rules states xid (Ok (says.FlowRemoved entry)) = removed_turn called rules states entry
 turn_for called rules states xid (Ok (says.Error error)) = error_turn called states xid error
 turn_for called rules states xid (Ok says.BarrierReply) = barrier_turn called states xid
@@ -270,13 +260,13 @@ turn_for called rules states xid (Ok (says.StatsReply part body)) = statistics_t
 turn_for called rules states xid said = None
 
 -- messages for all slices: of a packet, or of a port; or for one
-abbrev pub message_told : (ℕ → Called) → List Rule → List (List ℕ) → List SliceState → ℕ → Result SwitchMessage Unread → List (ℕ × List ℕ)
+abbrev pub message_told : (ℕ → CallsOf) → List Rule → List (List ℕ) → List SliceState → ℕ → Result SwitchMessage Unread → List (ℕ × List ℕ)
 message_told called rules known states xid (Ok (says.PacketIn packet)) = packets_for_all rules states packet
 message_told called rules known states xid (Ok (says.PortStatus status)) = port_told rules states (kept_beside known (Some status))
 message_told called rules known states xid said = turn_told (turn_for called rules states xid said)
 
 -- what changes
-abbrev pub message_changes : (ℕ → Called) → List Rule → List SliceState → ℕ → Result SwitchMessage Unread → List (ℕ × Change)
+abbrev pub message_changes : (ℕ → CallsOf) → List Rule → List SliceState → ℕ → Result SwitchMessage Unread → List (ℕ × Change)
 message_changes called rules states xid (Ok (says.PacketIn packet)) = packet_changes rules states packet
 message_changes called rules states xid said = turn_changes (turn_for called rules states xid said)
 
@@ -286,7 +276,7 @@ IsOther (says.PacketIn packet) = ⊥
 IsOther said = Unit {0}
 
 -- all that follows
-abbrev pub carried_with : (ℕ → Called) → List Rule → List (List ℕ) → List SliceState → ℕ → Result SwitchMessage Unread → Carried
+abbrev pub carried_with : (ℕ → CallsOf) → List Rule → List (List ℕ) → List SliceState → ℕ → Result SwitchMessage Unread → Carried
 carried_with called rules known states xid said = record {
   messages = message_told called rules known states xid said;
   replies = echo_said xid said;
@@ -296,5 +286,5 @@ carried_with called rules known states xid said = record {
 }
 
 -- from a message
-abbrev pub carried_for : (ℕ → Called) → List Rule → List (List ℕ) → List SliceState → List ℕ → Carried
+abbrev pub carried_for : (ℕ → CallsOf) → List Rule → List (List ℕ) → List SliceState → List ℕ → Carried
 carried_for called rules known states message = carried_with called rules known states (xid_of message) (read_switch message)

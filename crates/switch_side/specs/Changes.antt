@@ -5,32 +5,21 @@ use Rattle.of10_model.specs.Header.{Header}
 use Rattle.of10_flow.specs.declared.packet_in.PacketIn.{PacketIn}
 use Rattle.of10_model.specs.declared.pattern.Pattern.{Pattern}
 use Rattle.of10_flow.specs.declared.flow_removed.FlowRemoved.{FlowRemoved}
-use Rattle.flowspace.specs.Policies.{PolicyView}
 use Rattle.xid_map.specs.declared.asked.AskKind.{AskKind}
 use Rattle.xid_map.specs.declared.asked.Issued.{Issued}
 use Rattle.xid_map.specs.Collections as collections
 use Rattle.stats_filter.specs.Keeping.{entries_in}
 use Rattle.flow_book.specs.declared.state.SliceState.{SliceState}
-use Rattle.slice_words.specs.Items.{Settings, Sight, Share, Writer, Item, Lost, Removed, Fault, Barrier, Queues, Entry, Last, is_buffered, buffered_count}
+use Rattle.slice_words.specs.Items.{Settings, Sight, Share, Writer, Item, Removed, Fault, Barrier, Queues, Entry, Last, is_buffered, buffered_count}
 use Rattle.slice_words.specs.Pasts.{is_any}
 use Rattle.slice_words.specs.Statistics.{collects}
 use Rattle.slice_words.specs.Buffers.{HeldPacket, held_packets}
-use Rattle.slice_words.specs.Alone.{answer_to, with_items, number_it_came_with}
+use Rattle.slice_words.specs.Alone.{answer_to, number_it_came_with}
 use Rattle.slice_words.specs.Calls.{request_for, request_calls, collection_calls}
 use Rattle.slice_words.specs.Standing.{SliceStands, past_of}
-use Rattle.desk_words.specs.declared.event.Timed.{Timed}
-use Rattle.desk_words.specs.Openings.{KnownSwitch}
-use Rattle.desk_words.specs.Histories.{SliceSide, header_in, handed, items_of, came_with, with_shown}
+use Rattle.desk_words.specs.Histories.{header_in, seen_with, handed_by, lost_one}
 use Rattle.switch_side.specs.declared.change.Change.{Change}
 use Rattle.switch_side.specs.declared.change.Change.TheVariants as changes
-
--- what a slice sees with items that come one after another with an event, where a packet that is given by number has this number
-abbrev pub seen_with : Option ℕ → List Item → Sight → Sight
-seen_with number items sight = record { view = with_items items sight.view; came = came_with number items sight.came }
-
--- what a slice sees after an event
-abbrev pub side_after : PolicyView → ℕ → KnownSwitch → SliceSide → Timed → SliceSide
-side_after p slot switch side timed = with_shown switch.phase timed (items_of p slot switch side timed) side
 
 -- ---- one change
 
@@ -93,7 +82,7 @@ pub record IsEnd (s : Settings) (sight : Sight) (items : List Item) (number : �
 
 -- the items of a packet-in: the packet that is lost, if one is, and then a packet with each of these shares
 abbrev pub packet_shown : Option ℕ → List Share → PacketIn → List Item
-packet_shown lost shares packet = (elim lost [ None ↦ [] | Some k ↦ Lost k ∷ [] ]) ++ map (λ share. handed share packet) shares
+packet_shown lost shares packet = lost_one lost ++ handed_by shares packet
 
 -- a packet is the one that is lost
 abbrev pub is_lost : Option ℕ → HeldPacket → Bool
@@ -136,9 +125,9 @@ IsChangeOfItems s number sight items (changes.Given physical header) = (number �
 
 -- ---- the changes of one slice
 
--- those for the slice at a slot, in order
-abbrev pub changes_for : ℕ → List (ℕ × Change) → List Change
-changes_for slot listed = map (λ c. c.1) (filter (λ c. c.0 == slot) listed)
+-- of things with slots those of one slot, in order
+abbrev pub of_slot : {A : Type 0} → ℕ → List (ℕ × A) → List A
+of_slot slot listed = map (λ c. c.1) (filter (λ c. c.0 == slot) listed)
 
 -- what items change after what a slice sees: nothing, so that each state that belonged to it before does so after; or this
 abbrev pub SlotChanges : Settings → Option ℕ → Sight → List Item → List Change → Type 0
@@ -176,7 +165,11 @@ pub record StatesHaveRoom (listed : List (ℕ × Change)) (states : List SliceSt
   pub apart : (i j : ℕ) (one other : ℕ × Change) → i < j → slice_get listed i ≡ Some one → slice_get listed j ≡ Some other → one.0 < other.0
   pub rooms : (i : ℕ) (one : ℕ × Change) → slice_get listed i ≡ Some one → StateHasRoomAt one.0 one.1 states
 
--- each state belongs to all that it belonged to before
+-- a state belongs to what it belonged to
+abbrev pub SameState : SliceState → SliceState → Type 0
+SameState old new = (s : Settings) (sight : Sight) → SliceStands s sight old → SliceStands s sight new
+
+-- so it is of each state
 pub record StandOn (old new : List SliceState) : Type 0 where
   pub count : length new ≡ length old
-  pub each : (slot : ℕ) (before after : SliceState) → slice_get old slot ≡ Some before → slice_get new slot ≡ Some after → (s : Settings) (sight : Sight) → SliceStands s sight before → SliceStands s sight after
+  pub each : (slot : ℕ) (before after : SliceState) → slice_get old slot ≡ Some before → slice_get new slot ≡ Some after → SameState before after

@@ -1,5 +1,6 @@
 -- What follows from one message of a switch that has told what it is, for all slices at once (this proxy's own rule).
-use Rattle.std.specs.Prelude.{ℕ, ◌≡◌, ◌+◌, true, List, [], ◌∷◌, ◌++◌, map, slice_get, Some}
+use Rattle.std.specs.Prelude.{ℕ, ◌≡◌, true, List, map, slice_get, Some}
+use Rattle.std.specs.List.{flat_map, enumerate_from}
 use Rattle.of10_ctl.specs.Frames.{is_bad}
 use Rattle.flowspace.specs.declared.slices.Slice.{Slice}
 use Rattle.flowspace.specs.Policies.{PolicyView, SwitchView}
@@ -12,9 +13,10 @@ use Rattle.desk_words.specs.Openings.{status_kept, rules_of, KnownSwitch}
 use Rattle.desk_words.specs.Histories.{is_slot, settings_at, items_of, number_told, SliceSide}
 use Rattle.desk_words.specs.Numbers.{AreNumbered}
 use Rattle.desk_words.specs.Sent.{sent_with, echo_for}
+use Rattle.desk_words.specs.Recorded.{timed_at}
 use Rattle.switch_side.specs.declared.change.Change.{Change}
 use Rattle.switch_side.specs.declared.dispatch.Dispatch.{Dispatch}
-use Rattle.switch_side.specs.Changes.{changes_for, SlotChanges}
+use Rattle.switch_side.specs.Changes.{of_slot, SlotChanges}
 
 -- ---- where a message is answered
 
@@ -40,20 +42,22 @@ AllNumbered p switch sides = (slot : ℕ) → is_slot p slot ≡ true → AreNum
 abbrev pub addressed : ℕ → List (List ℕ) → List (ℕ × List ℕ)
 addressed slot messages = map (λ message. (slot, message)) messages
 
+-- what is said to each of some, from a slot on
+abbrev pub said_from : {A : Type 0} → (ℕ → A → List (List ℕ)) → ℕ → List A → List (ℕ × List ℕ)
+said_from say slot all = flat_map (λ one. addressed one.0 (say one.0 one.1)) (enumerate_from slot all)
+
 -- what each slice from a slot on is sent at an event, slice by slice
 abbrev pub sent_to_all : PolicyView → KnownSwitch → (ℕ → SliceSide) → Timed → ℕ → List Slice → List (ℕ × List ℕ)
-sent_to_all p switch sides timed slot [] = []
-sent_to_all p switch sides timed slot (slice ∷ others) =
-    addressed slot (sent_with p slot switch (sides slot) timed) ++ sent_to_all p switch sides timed (slot + 1) others
+sent_to_all p switch sides timed slot slices = said_from (λ at slice. sent_with p at switch (sides at) timed) slot slices
 
 -- a message came from the switch
 abbrev pub told_at : ℕ → List ℕ → Timed
-told_at moment message = record { event = SwitchMsg message; moment = moment }
+told_at moment message = timed_at moment (SwitchMsg message)
 
 -- of these changes each slice's are what the message changes in its state
 abbrev pub AreChanges : PolicyView → KnownSwitch → (ℕ → SliceSide) → ℕ → List ℕ → List (ℕ × Change) → Type 0
 AreChanges p switch sides moment message listed =
-    (slot : ℕ) → SlotChanges (settings_at p slot switch.features) (number_told switch.phase (SwitchMsg message)) (sides slot).sight (items_of p slot switch (sides slot) (told_at moment message)) (changes_for slot listed)
+    (slot : ℕ) → SlotChanges (settings_at p slot switch.features) (number_told switch.phase (SwitchMsg message)) (sides slot).sight (items_of p slot switch (sides slot) (told_at moment message)) (of_slot slot listed)
 
 -- what follows from a message of the switch: what each slice is sent, what the switch is sent, what changes in the slices' states, the change of a port, and whether the switch's connection ends, as it does at a length field that doesn't even count the header
 pub record IsDispatch (p : PolicyView) (switch : KnownSwitch) (sides : ℕ → SliceSide) (moment : ℕ) (message : List ℕ) (d : Dispatch) : Type 0 where

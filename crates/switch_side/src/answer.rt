@@ -9,7 +9,7 @@ ghost use Rattle.desk_words.specs.Histories.{SliceSide};
 ghost use Rattle.switch_side.specs.Dispatches.{Surrounds, AllStand, AllNumbered, IsDispatch};
 ghost use Rattle.flow_book.specs.declared.state.SliceState.{SliceState};
 ghost use Rattle.flowspace.specs.declared.rules.Rule.{Rule};
-ghost use Rattle.switch_side.specs.Carrying.{IsOther, carried, telling, Called, AllCalled, carried_with, carried_for};
+ghost use Rattle.switch_side.specs.Carrying.{IsOther, carried, telling, CallsOf, AllCalled, carried_with, carried_for};
 
 use crate::dispatch::Dispatch;
 use crate::errors::error;
@@ -51,7 +51,7 @@ fn follow_other(
     requires index { index.now ≡ policy.now.rules }
     requires said { IsSaid (said_by said.now) }
     requires other { IsOther (said_by said.now) }
-    ensures { (called : ℕ → Called) → AllCalled called states.now → IfOk result (λ d. carried d ≡ carried_with called policy.now.rules ports.now states.now xid (Ok (said_by said.now))) }
+    ensures { (called : ℕ → CallsOf) → AllCalled called states.now → IfOk result (λ d. carried d ≡ carried_with called policy.now.rules ports.now states.now xid (Ok (said_by said.now))) }
 {
     match said {
         FromSwitch::EchoRequest(body) => echo(alloc, xid, body),
@@ -85,7 +85,7 @@ fn follow(
     requires few { length states.now ≤ 32 }
     requires index { index.now ≡ policy.now.rules }
     requires said { IsSaid (said_by said.now) }
-    ensures { (called : ℕ → Called) → AllCalled called states.now → OnOk result (carried spare.new.dispatch ≡ carried_with called policy.now.rules ports.now states.now xid (Ok (said_by said.now))) }
+    ensures { (called : ℕ → CallsOf) → AllCalled called states.now → OnOk result (carried spare.new.dispatch ≡ carried_with called policy.now.rules ports.now states.now xid (Ok (said_by said.now))) }
 {
     match said {
         FromSwitch::PacketIn(packet) => packet_in(alloc, spare, policy, index, states, packet),
@@ -99,7 +99,7 @@ fn follow(
 /// What follows from a message that can't be read. It is dropped, but for one whose length doesn't count its header:
 /// that ends the connection.
 fn unread(alloc: Global, fault: &Unread) -> Dispatch
-    ensures { (called : ℕ → Called) (policy : List Rule) (ports : List (List ℕ)) (states : List SliceState) (xid : ℕ) → carried result ≡ carried_with called policy ports states xid (Err fault.now) }
+    ensures { (called : ℕ → CallsOf) (policy : List Rule) (ports : List (List ℕ)) (states : List SliceState) (xid : ℕ) → carried result ≡ carried_with called policy ports states xid (Err fault.now) }
 {
     match fault {
         Unread::BadLength => Dispatch::closing(alloc),
@@ -119,7 +119,7 @@ fn dispatch(
 ) -> Result<(), AllocError>
     requires few { length states.now ≤ 32 }
     requires index { index.now ≡ policy.now.rules }
-    ensures value { (called : ℕ → Called) → AllCalled called states.now → OnOk result (carried spare.new.dispatch ≡ carried_for called policy.now.rules ports.now states.now frame.now) }
+    ensures value { (called : ℕ → CallsOf) → AllCalled called states.now → OnOk result (carried spare.new.dispatch ≡ carried_for called policy.now.rules ports.now states.now frame.now) }
     ensures right { IfOk (read_switch frame.now) IsSaid }
 {
     let read = read_switch(frame);

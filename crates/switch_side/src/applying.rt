@@ -6,9 +6,9 @@ ghost use Rattle.flow_book.specs.Books as books;
 ghost use Rattle.slice_words.specs.Items.{Settings, Sight};
 ghost use Rattle.slice_words.specs.Standing.{SliceStands};
 ghost use Rattle.desk_words.specs.Openings.{KnownSwitch};
-ghost use Rattle.desk_words.specs.Histories.{SliceSide};
+ghost use Rattle.desk_words.specs.Histories.{SliceSide, side_after};
 ghost use Rattle.switch_side.specs.declared.change.Change.TheVariants.{Failed, Collected, Finished, Given};
-ghost use Rattle.switch_side.specs.Changes.{IsMade, IsMadeAt, StateHasRoom, StateHasRoomAt, StatesHaveRoom, StandOn, side_after};
+ghost use Rattle.switch_side.specs.Changes.{IsMade, IsMadeAt, StateHasRoom, StateHasRoomAt, StatesHaveRoom, StandOn};
 ghost use Rattle.switch_side.specs.Dispatches.{AllStand, AreChanges, told_at};
 
 use crate::change::Change;

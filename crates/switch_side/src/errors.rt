@@ -5,7 +5,7 @@ ghost use Rattle.of10_ctl.specs.Frames.{error_of};
 ghost use Rattle.of10_message.specs.Errors.{error_of_view};
 ghost use Rattle.slice_words.specs.Messages.{quoted};
 ghost use Rattle.slice_words.specs.Answers.{error_told};
-ghost use Rattle.switch_side.specs.Carrying.{carried, Called, AllCalled, while_up, failure_turn, error_turn, turning};
+ghost use Rattle.switch_side.specs.Carrying.{carried, CallsOf, AllCalled, while_up, failure_turn, error_turn, turning};
 
 use crate::change::Change;
 use crate::dispatch::{Dispatch, one};
@@ -72,7 +72,7 @@ pub(crate) fn error(
     xid: u32,
     error: &ErrorView<'_>,
 ) -> Result<Dispatch, AllocError>
-    ensures { (called : ℕ → Called) → AllCalled called states.now → IfOk result (λ d. carried d ≡ turning (error_turn called states.now xid (error_of_view error.now))) }
+    ensures { (called : ℕ → CallsOf) → AllCalled called states.now → IfOk result (λ d. carried d ≡ turning (error_turn called states.now xid (error_of_view error.now))) }
 {
     let slot = slot_of(xid);
     let Some(state) = states.get(usize::from(slot)) else {

@@ -3,8 +3,8 @@
 ghost use Rattle.std.specs.Prelude.{◌≡◌, ◌+◌, ◌≤◌, ◌++◌, ◌∷◌, [], length, OnOk};
 ghost use Rattle.of10_flow.specs.PacketIns.{packet_of, spell_packet_in};
 ghost use Rattle.desk_words.specs.Histories.{header_in};
-ghost use Rattle.switch_side.specs.Dispatches.{addressed};
-ghost use Rattle.switch_side.specs.Carrying.{carried, once, said_from, unnumbered, unmarked, wanted, written, named_told, packet_for, change_for, changes_from, changes_with, packets_for_all, packet_changes, handing};
+ghost use Rattle.switch_side.specs.Dispatches.{addressed, said_from};
+ghost use Rattle.switch_side.specs.Carrying.{carried, once, unnumbered, unmarked, wanted, written, named_told, packet_for, change_for, changes_from, changes_with, packets_for_all, packet_changes, handing};
 
 use crate::audience::Audience;
 use crate::change::Change;

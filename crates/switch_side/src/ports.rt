@@ -3,8 +3,8 @@
 ghost use Rattle.std.specs.Prelude.{◌≡◌, ◌≤◌, ◌++◌, length, Some, IfOk, OnOk};
 ghost use Rattle.of10_port.specs.PortStatus.{spell_port_status};
 ghost use Rattle.desk_words.specs.Openings.{kept_beside};
-ghost use Rattle.switch_side.specs.Dispatches.{addressed};
-ghost use Rattle.switch_side.specs.Carrying.{carried, telling, once, status_for, said_from, port_told};
+ghost use Rattle.switch_side.specs.Dispatches.{addressed, said_from};
+ghost use Rattle.switch_side.specs.Carrying.{carried, telling, once, status_for, port_told};
 ghost use Rattle.switch_side.specs.Sharing.{HasNoted, HaveNoted, AreSlotsWith};
 
 use crate::dispatch::Dispatch;

@@ -3,7 +3,7 @@
 ghost use Rattle.std.specs.Prelude.{ℕ, ◌≡◌, Some, IfOk};
 ghost use Rattle.slice_words.specs.Answers.{removal_told};
 ghost use Rattle.switch_side.specs.declared.change.Change.TheVariants.{Released};
-ghost use Rattle.switch_side.specs.Carrying.{carried, Called, AllCalled, while_up, owner_turn, removed_turn, turning};
+ghost use Rattle.switch_side.specs.Carrying.{carried, CallsOf, AllCalled, while_up, owner_turn, removed_turn, turning};
 
 use crate::change::Change;
 use crate::dispatch::{Dispatch, one};
@@ -56,7 +56,7 @@ fn owned(
     slot: u8,
     entry: &FlowRemoved,
 ) -> Result<Dispatch, AllocError>
-    ensures { (called : ℕ → Called) → AllCalled called states.now → IfOk result (λ d. carried d ≡ turning (owner_turn called states.now entry.now (Some slot))) }
+    ensures { (called : ℕ → CallsOf) → AllCalled called states.now → IfOk result (λ d. carried d ≡ turning (owner_turn called states.now entry.now (Some slot))) }
 {
     let Some(state) = states.get(usize::from(slot)) else {
         return Ok(Dispatch::nothing(alloc));
@@ -72,7 +72,7 @@ pub(crate) fn flow_removed(
     states: &[SliceState],
     entry: &FlowRemoved,
 ) -> Result<Dispatch, AllocError>
-    ensures { (called : ℕ → Called) → AllCalled called states.now → IfOk result (λ d. carried d ≡ turning (removed_turn called index.now states.now entry.now)) }
+    ensures { (called : ℕ → CallsOf) → AllCalled called states.now → IfOk result (λ d. carried d ≡ turning (removed_turn called index.now states.now entry.now)) }
 {
     match index.owner_of(&entry.pattern) {
         None => Ok(Dispatch::nothing(alloc)),

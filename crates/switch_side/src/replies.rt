@@ -3,7 +3,7 @@
 ghost use Rattle.std.specs.Prelude.{ℕ, ◌≡◌, ◌/◌, ◌^◌, [], Some, IfOk};
 ghost use Rattle.of10_config.specs.Queues.{queues_of_view, AreQueues};
 ghost use Rattle.slice_words.specs.Statistics.{barrier_told, queues_told};
-ghost use Rattle.switch_side.specs.Carrying.{carried, Called, AllCalled, turning, answer_turn, barrier_turn, queues_turn};
+ghost use Rattle.switch_side.specs.Carrying.{carried, CallsOf, AllCalled, turning, answer_turn, barrier_turn, queues_turn};
 
 use crate::change::Change;
 use crate::dispatch::{Dispatch, one};
@@ -69,7 +69,7 @@ pub(crate) fn barrier(
     states: &[SliceState],
     xid: u32,
 ) -> Result<Dispatch, AllocError>
-    ensures { (called : ℕ → Called) → AllCalled called states.now → IfOk result (λ d. carried d ≡ turning (barrier_turn called states.now xid)) }
+    ensures { (called : ℕ → CallsOf) → AllCalled called states.now → IfOk result (λ d. carried d ≡ turning (barrier_turn called states.now xid)) }
 {
     match request_seen(states, xid) {
         None => Ok(Dispatch::nothing(alloc)),
@@ -87,7 +87,7 @@ pub(crate) fn queues(
     queues: &QueuesView<'_>,
 ) -> Result<Dispatch, AllocError>
     requires { AreQueues (queues_of_view queues.now) }
-    ensures { (called : ℕ → Called) → AllCalled called states.now → IfOk result (λ d. carried d ≡ turning (queues_turn called policy.now.rules states.now xid (queues_of_view queues.now))) }
+    ensures { (called : ℕ → CallsOf) → AllCalled called states.now → IfOk result (λ d. carried d ≡ turning (queues_turn called policy.now.rules states.now xid (queues_of_view queues.now))) }
 {
     let slot = slot_of(xid);
     if !policy.has_port(slot, queues.port) {

@@ -1,7 +1,7 @@
 //! Requests of slices, as the switch sees them.
 
 ghost use Rattle.std.specs.Prelude.{ℕ, ◌≡◌, ◌/◌, ◌^◌};
-ghost use Rattle.switch_side.specs.Carrying.{Called, AllCalled, request_seen};
+ghost use Rattle.switch_side.specs.Carrying.{CallsOf, AllCalled, request_seen};
 
 use flow_book::SliceState;
 use xid_map::Issued;
@@ -15,7 +15,7 @@ pub(crate) fn slot_of(xid: u32) -> u8
 
 /// The request of a slice that the switch sees under a transaction id.
 pub(crate) fn request_seen(states: &[SliceState], xid: u32) -> Option<Issued>
-    ensures { (called : ℕ → Called) → AllCalled called states.now → result ≡ request_seen called states.now xid }
+    ensures { (called : ℕ → CallsOf) → AllCalled called states.now → result ≡ request_seen called states.now xid }
 {
     let slot = slot_of(xid);
     match states.get(usize::from(slot)) {

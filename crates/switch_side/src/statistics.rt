@@ -6,8 +6,8 @@ ghost use Rattle.std.specs.List.{concat};
 ghost use Rattle.xid_map.specs.Collections.{CollectionCall, CollectionsStand};
 ghost use Rattle.stats_filter.specs.Asking.{type_sent};
 ghost use Rattle.slice_words.specs.Statistics.{collects};
-ghost use Rattle.desk_words.specs.Histories.{is_part};
-ghost use Rattle.switch_side.specs.Carrying.{carried, Called, AllCalled, turning, kept_entries, collecting_turn, statistics_turn, request_seen};
+ghost use Rattle.desk_words.specs.Histories.{is_part, kept_entries};
+ghost use Rattle.switch_side.specs.Carrying.{carried, CallsOf, AllCalled, turning, collecting_turn, statistics_turn, request_seen};
 
 use crate::change::Change;
 use crate::dispatch::Dispatch;
@@ -68,7 +68,7 @@ fn followed(
     part: &StatsPart,
     body: &[u8],
 ) -> Result<Dispatch, AllocError>
-    ensures { (called : Called) → CollectionsStand called.collections collections.now → IfOk result (λ d. carried d ≡ turning (collecting_turn policy.now.rules called slot part.now body.now request.now)) }
+    ensures { (called : CallsOf) → CollectionsStand called.collections collections.now → IfOk result (λ d. carried d ≡ turning (collecting_turn policy.now.rules called slot part.now body.now request.now)) }
 {
     if !collects(collections, request, part.kind) {
         return Ok(Dispatch::nothing(alloc));
@@ -99,7 +99,7 @@ fn answered(
     part: &StatsPart,
     body: &[u8],
 ) -> Result<Dispatch, AllocError>
-    ensures { (called : ℕ → Called) → AllCalled called states.now → IfOk result (λ d. carried d ≡ turning (option_and_then (collecting_turn policy.now.rules (called (xid / 2 ^ 24)) (xid / 2 ^ 24) part.now body.now) (request_seen called states.now xid))) }
+    ensures { (called : ℕ → CallsOf) → AllCalled called states.now → IfOk result (λ d. carried d ≡ turning (option_and_then (collecting_turn policy.now.rules (called (xid / 2 ^ 24)) (xid / 2 ^ 24) part.now body.now) (request_seen called states.now xid))) }
 {
     let slot = slot_of(xid);
     let Some(state) = states.get(usize::from(slot)) else {
@@ -141,7 +141,7 @@ pub(crate) fn statistics(
     part: &StatsPart,
     body: &[u8],
 ) -> Result<Dispatch, AllocError>
-    ensures { (called : ℕ → Called) → AllCalled called states.now → IfOk result (λ d. carried d ≡ turning (statistics_turn called policy.now.rules states.now xid part.now body.now)) }
+    ensures { (called : ℕ → CallsOf) → AllCalled called states.now → IfOk result (λ d. carried d ≡ turning (statistics_turn called policy.now.rules states.now xid part.now body.now)) }
 {
     if !is_part(part.kind, body) {
         return Ok(Dispatch::nothing(alloc));

@@ -3,7 +3,7 @@ use Rattle.std.specs.Prelude.{◌≡◌, ◌==◌, ℕ, if◌then◌else◌, Lis
 use Rattle.std.specs.declared.option.Option.{Option}
 use Rattle.turn_desk.specs.declared.view.Entry.{Entry}
 use Rattle.turn_desk.specs.declared.view.Member.{Member}
-use Rattle.turn_desk.specs.Histories.{seen_of, number_of, IsLegal}
+use Rattle.turn_desk.specs.Histories.{seen_of, seat_number, IsLegalList}
 
 -- what was asked in a turn, and what was answered
 pub record Call (P R : Type 0) : Type 0 where
@@ -29,6 +29,6 @@ module _ {P R : Type 0} where
 pub record Made {O P R : Type 0} (acts : O → P → R → O → Type 0) (v : Option (Member O P R)) (calls : List (Call P R)) (w : Option (Member O P R)) : Type 0 where
   pub later : List (Entry P R)
   pub seen : seen_of w ≡ seen_of v ++ later
-  pub own : calls_by (number_of v) later ≡ calls
-  pub number : number_of w ≡ number_of v
-  pub legal : (opening : O) → IsLegal acts opening v → IsLegal acts opening w
+  pub own : calls_by (seat_number v) later ≡ calls
+  pub number : seat_number w ≡ seat_number v
+  pub legal : (opening : O) → IsLegalList acts opening v → IsLegalList acts opening w

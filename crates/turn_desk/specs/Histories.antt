@@ -40,9 +40,9 @@ module _ {O P R : Type 0} (acts : O → P → R → O → Type 0) where
 
 module _ {O P R : Type 0} where
   -- the number of a seat; that of a view that was joined to another says nothing
-  abbrev pub number_of : Option (Member O P R) → ℕ
-  number_of None = 0
-  number_of (Some m) = m.number
+  abbrev pub seat_number : Option (Member O P R) → ℕ
+  seat_number None = 0
+  seat_number (Some m) = m.number
 
   -- the list that a seat has seen, oldest entry first
   abbrev pub seen_of : Option (Member O P R) → List (Entry P R)
@@ -50,21 +50,21 @@ module _ {O P R : Type 0} where
   seen_of (Some m) = m.seen
 
   -- the object that the desk was made of
-  abbrev pub first_of : Option (Member O P R) → Option O
-  first_of None = None
-  first_of (Some m) = Some m.first
+  abbrev pub first_in_view : Option (Member O P R) → Option O
+  first_in_view None = None
+  first_in_view (Some m) = Some m.first
 
   -- the list seen is legal from this object on, which is the one that the desk was made of
-  abbrev pub IsLegal : (O → P → R → O → Type 0) → O → Option (Member O P R) → Type 0
-  IsLegal acts opening v = (first_of v ≡ Some opening) × (last : O) × Runs acts opening (seen_of v) last
+  abbrev pub IsLegalList : (O → P → R → O → Type 0) → O → Option (Member O P R) → Type 0
+  IsLegalList acts opening v = (first_in_view v ≡ Some opening) × (last : O) × Runs acts opening (seen_of v) last
 
   -- One call, from the view before to the view after: the list seen went on, ends with this call and its reply, and has
   -- no other new entry of this seat; it is legal from the object that the desk was made of.
   pub record Called (acts : O → P → R → O → Type 0) (v : Option (Member O P R)) (op : P) (reply : R) (w : Option (Member O P R)) : Type 0 where
     pub between : List (Entry P R)
-    pub seen : seen_of w ≡ (seen_of v ++ between) ++ entry (number_of v) op reply ∷ []
-    pub others : NoneBy (number_of v) between
-    pub number : number_of w ≡ number_of v
+    pub seen : seen_of w ≡ (seen_of v ++ between) ++ entry (seat_number v) op reply ∷ []
+    pub others : NoneBy (seat_number v) between
+    pub number : seat_number w ≡ seat_number v
     pub opening : O
-    pub first : first_of v ≡ Some opening
-    pub legal : IsLegal acts opening w
+    pub first : first_in_view v ≡ Some opening
+    pub legal : IsLegalList acts opening w

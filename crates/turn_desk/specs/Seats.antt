@@ -6,7 +6,7 @@ use Rattle.turn_desk.specs.declared.view.Member.{Member}
 use Rattle.turn_desk.specs.declared.object.Object.{Ghosts}
 use Rattle.turn_desk.specs.declared.parts.TurnDesk.{TurnDesk}
 use Rattle.turn_desk.specs.declared.parts.TurnSeat.{TurnSeat}
-use Rattle.turn_desk.specs.Histories.{number_of, seen_of, first_of}
+use Rattle.turn_desk.specs.Histories.{seat_number, seen_of, first_in_view}
 
 -- the object that the desk was made of
 abbrev pub first_object : {O P R : Type 0} → TurnDesk O P R → O
@@ -26,8 +26,8 @@ module _ {O P R : Type 0} {acts : Ghosts O P R} where
   view seat = seat.seat.me.0
 
   -- its number, which its entries in the history bear
-  abbrev pub number : TurnSeat O P R acts → ℕ
-  number seat = number_of (view seat)
+  abbrev pub own_number : TurnSeat O P R acts → ℕ
+  own_number seat = seat_number (view seat)
 
   -- the list that it has seen
   abbrev pub seen : TurnSeat O P R acts → List (Entry P R)
@@ -35,4 +35,4 @@ module _ {O P R : Type 0} {acts : Ghosts O P R} where
 
   -- the object that its desk was made of
   abbrev pub first : TurnSeat O P R acts → Option O
-  first seat = first_of (view seat)
+  first seat = first_in_view (view seat)

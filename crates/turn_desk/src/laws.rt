@@ -3,7 +3,7 @@
 ghost use Rattle.std.specs.Prelude.{List, [], ◌∷◌, ◌++◌, ◌≡◌};
 ghost use Rattle.std.specs.declared.option.Option.{Option};
 ghost use Rattle.turn_desk.specs.declared.view.Member.{Member};
-ghost use Rattle.turn_desk.specs.Histories.{Called, GoesOn, IsLegal, first_of, longer, number_of, seen_of};
+ghost use Rattle.turn_desk.specs.Histories.{Called, GoesOn, IsLegalList, first_in_view, longer, seat_number, seen_of};
 ghost use Rattle.turn_desk.specs.Calls.{Call, Made};
 
 use crate::object::Object;
@@ -24,11 +24,11 @@ pub fn replies_are_allowed<O: Object>()
 /// Where two seats' lists are legal from one object on, so is the longer of them, which both have seen after
 /// they met.
 pub fn longer_list_is_legal<O: Object>()
-    ensures { (opening : O) (u v w : Option (Member O O.Op O.Reply)) → IsLegal O.acts opening u → IsLegal O.acts opening v → first_of w ≡ first_of u → seen_of w ≡ longer (seen_of u) (seen_of v) → IsLegal O.acts opening w }
+    ensures { (opening : O) (u v w : Option (Member O O.Op O.Reply)) → IsLegalList O.acts opening u → IsLegalList O.acts opening v → first_in_view w ≡ first_in_view u → seen_of w ≡ longer (seen_of u) (seen_of v) → IsLegalList O.acts opening w }
 {}
 
 /// A meeting is no call of a seat: it made the same calls as before, where the list that it has seen then is
 /// legal.
 pub fn meetings_are_no_calls<O: Object>()
-    ensures { (opening : O) (v w : Option (Member O O.Op O.Reply)) → IsLegal O.acts opening v → IsLegal O.acts opening w → number_of w ≡ number_of v → GoesOn (number_of v) (seen_of w) (seen_of v) → Made O.acts v [] w }
+    ensures { (opening : O) (v w : Option (Member O O.Op O.Reply)) → IsLegalList O.acts opening v → IsLegalList O.acts opening w → seat_number w ≡ seat_number v → GoesOn (seat_number v) (seen_of w) (seen_of v) → Made O.acts v [] w }
 {}

@@ -43,9 +43,9 @@ impl<O, P, R, W: Amount> Split<Option<Member<O, P, R>>> for Cut<W> {
 }
 
 // Two seats become one.
-pub struct Meets;
+pub struct Merges;
 
-impl<O, P, R> Join<Option<Member<O, P, R>>> for Meets {
+impl<O, P, R> Join<Option<Member<O, P, R>>> for Merges {
     ghost use Rattle.turn_desk.specs.Rule.{joined};
     ghost use Rattle.std.specs.declared.option.Option.TheVariants.{None};
 

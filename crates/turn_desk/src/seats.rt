@@ -3,11 +3,11 @@
 ghost use Rattle.std.specs.Prelude.{true, ◌≡◌, ◌≢◌, ◌≤◌, ◌+◌, ◌^◌, length};
 ghost use Rattle.turn_desk.specs.Histories.{GoesOn, NoneBy, StartsWith, longer};
 ghost use Rattle.turn_desk.specs.Rule.{is_idle, joined, Known};
-ghost use Rattle.turn_desk.specs.Seats.{IsSeatOf, SameDesk, number, seen, first};
+ghost use Rattle.turn_desk.specs.Seats.{IsSeatOf, SameDesk, own_number, seen, first};
 
 use crate::object::Object;
 use crate::parts::{TurnDesk, TurnSeat, View};
-use crate::rule::{Amount, Cut, Learns, Meets};
+use crate::rule::{Amount, Cut, Learns, Merges};
 use atomic_table::Seat;
 use std::marker::Brand;
 
@@ -29,9 +29,9 @@ impl<O: Object> TurnDesk<O> {
         ensures desk { SameDesk seat.new seat.old × SameDesk result seat.old }
         ensures calls { (result.left ≡ calls) × (seat.new.left + calls ≡ seat.old.left) }
         ensures seen { (seen seat.new ≡ seen seat.old) × (seen result ≡ seen seat.old) }
-        ensures number { number seat.new ≡ number seat.old }
-        ensures own { number result ≢ number seat.new }
-        ensures fresh { NoneBy (number result) (seen result) }
+        ensures number { own_number seat.new ≡ own_number seat.old }
+        ensures own { own_number result ≢ own_number seat.new }
+        ensures fresh { NoneBy (own_number result) (seen result) }
         ensures first { (first seat.new ≡ first seat.old) × (first result ≡ first seat.old) }
     {
         let mut other = self.table.shared.split_seat::<Cut<W>>(&mut seat.seat);
@@ -52,9 +52,9 @@ impl<O: Object> TurnDesk<O> {
         ensures desk { SameDesk seat.new seat.old × SameDesk result seat.old }
         ensures calls { (result.left ≡ calls) × (seat.new.left + calls ≡ seat.old.left) }
         ensures seen { (seen seat.new ≡ seen seat.old) × (seen result ≡ seen seat.old) }
-        ensures number { number seat.new ≡ number seat.old }
-        ensures own { number result ≢ number seat.new }
-        ensures fresh { NoneBy (number result) (seen result) }
+        ensures number { own_number seat.new ≡ own_number seat.old }
+        ensures own { own_number result ≢ own_number seat.new }
+        ensures fresh { NoneBy (own_number result) (seen result) }
         ensures first { (first seat.new ≡ first seat.old) × (first result ≡ first seat.old) }
     {
         self.cut::<Brand>(seat, calls)
@@ -79,7 +79,7 @@ impl<O: Object> TurnDesk<O> {
         ensures view { seat.new.me ≡ (joined seat.old.me.0 other.me.0, seat.old.me.1) }
         ensures known { Known seat.new.me.0 }
     {
-        self.table.shared.join_seat::<Meets>(seat, other);
+        self.table.shared.join_seat::<Merges>(seat, other);
         self.learn(seat);
     }
 
@@ -92,9 +92,9 @@ impl<O: Object> TurnDesk<O> {
         ensures calls { seat.new.left ≡ seat.old.left + other.left }
         ensures seen { seen seat.new ≡ longer (seen seat.old) (seen other) }
         ensures mine { StartsWith (seen seat.new) (seen seat.old) }
-        ensures own { GoesOn (number seat.old) (seen seat.new) (seen seat.old) }
+        ensures own { GoesOn (own_number seat.old) (seen seat.new) (seen seat.old) }
         ensures theirs { StartsWith (seen seat.new) (seen other) }
-        ensures number { number seat.new ≡ number seat.old }
+        ensures number { own_number seat.new ≡ own_number seat.old }
         ensures within { seat.new.left + length (seen seat.new) ≤ 2 ^ 63 }
         ensures first { first seat.new ≡ first seat.old }
     {
@@ -118,8 +118,8 @@ impl<O: Object> TurnDesk<O> {
         ensures same { seen a.new ≡ seen b.new }
         ensures from_a { StartsWith (seen b.new) (seen a.old) }
         ensures from_b { StartsWith (seen b.new) (seen b.old) }
-        ensures own { GoesOn (number a.old) (seen a.new) (seen a.old) × GoesOn (number b.old) (seen b.new) (seen b.old) }
-        ensures number { (number a.new ≡ number a.old) × (number b.new ≡ number b.old) }
+        ensures own { GoesOn (own_number a.old) (seen a.new) (seen a.old) × GoesOn (own_number b.old) (seen b.new) (seen b.old) }
+        ensures number { (own_number a.new ≡ own_number a.old) × (own_number b.new ≡ own_number b.old) }
         ensures first { (first a.new ≡ first a.old) × (first b.new ≡ first b.old) }
     {
         let one = self.split(a, 0);

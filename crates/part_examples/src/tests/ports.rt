@@ -34,7 +34,7 @@ enum Call {
 
 /// A port of this number and configuration, with a mark in its last byte.
 fn port(number: u16, config: u32, mark: u8) -> Port {
-    let mut raw = *samples::port(number).raw();
+    let mut raw = *Port::bare(number).raw();
     raw[27] = (config & 0xff) as u8;
     raw[47] = mark;
     Port::of(raw)

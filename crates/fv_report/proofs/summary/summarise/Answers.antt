@@ -2,10 +2,10 @@ use Rattle.std.proofs.Common.{ℕ, List, ◌≡◌, ◌∙◌, [], Ok, length, a
 use Rattle.flowspace.specs.Policies.{PolicyView}
 use Rattle.recording.specs.Recordings.{read_items}
 use Rattle.desk_words.specs.Recorded.{told_in}
-use Rattle.summary_words.specs.Summaries.{summary}
-use Rattle.fv_report.specs.Telling.{all_lines}
+use Rattle.summary_words.specs.Summaries.{summary, summary_text}
+use Rattle.desk_words.specs.Reports.{all_lines}
 use Rattle.fv_report.specs.Writing.{Wrote}
-use Rattle.fv_report.specs.Counting.{Counts, CountsLine, lane_told_in, slice_told_in, summary_text}
+use Rattle.fv_report.specs.Counting.{HasCounted, CountsLine, lane_told_in, slice_told_in}
 use Rattle.fv_report.proofs.Players.{tells_by}
 use Rattle.fv_report.proofs.Counting.{counted_lines, summary_told, only_memory, nothing_counted}
 use Rattle.fv_report.proofs.summary.summarise.Goals as goal
@@ -16,7 +16,7 @@ made-requires g c =
     let items = c.requires.0 in
     let read = subst (λ (p : PolicyView). read_items (length p.slices) c.args.bytes.now ≡ Ok items) (sym c.new-player.ensures.policy) c.requires.1 in
     let lines = all_lines player.policy.now (told_in c.args.bytes.now items) in
-    let begun = subst (Counts c.slice_count.result [] (λ slot. [])) (sym c.new-player.ensures.teller) c.in_ok-counter.ensures in
+    let begun = subst (HasCounted c.slice_count.result [] (λ slot. [])) (sym c.new-player.ensures.teller) c.in_ok-counter.ensures in
     let counts = counted_lines lines player.teller c.play_file.new.self.teller c.slice_count.result [] (λ slot. []) begun (c.in_ok-play_file.ensures items read).told in
     counts.known ∙ c.slice_count.ensures
 
@@ -37,7 +37,7 @@ returns-clause-writes g c = λ items read.
     let lines = all_lines p records in
     let slices = λ (slot : ℕ). slice_told_in slot lines in
     let slots = c.slice_count.result in
-    let begun = subst (Counts slots [] (λ slot. [])) (sym c.new-player.ensures.teller) c.in_ok-counter.ensures in
+    let begun = subst (HasCounted slots [] (λ slot. [])) (sym c.new-player.ensures.teller) c.in_ok-counter.ensures in
     let all = tells_by (λ was line outcome is. CountsLine line.saying outcome was is) player.policy.now p records (Ok tt) player c.play_file.new.self c.new-player.ensures.policy
     (c.in_ok-play_file.ensures items (subst (λ (q : PolicyView). read_items (length q.slices) c.args.bytes.now ≡ Ok items) (sym c.new-player.ensures.policy) read)) in
     let counts = counted_lines lines player.teller c.play_file.new.self.teller slots [] (λ slot. []) begun all.told in

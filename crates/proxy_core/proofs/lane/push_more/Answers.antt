@@ -1,4 +1,4 @@
-use Rattle.std.proofs.Common.{◌≡◌, ℕ, List, [], length, sym, ◌∙◌, rules, eqb-true}
+use Rattle.std.proofs.Common.{◌≡◌, [], length, sym, ◌∙◌, rules, eqb-true}
 use Rattle.std.specs.Prelude.{vec_len}
 use Rattle.std.proofs.lemmas.List.{nil_from_length}
 use Rattle.outbox.specs.Queues.{push_all}

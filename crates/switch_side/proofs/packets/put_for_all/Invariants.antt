@@ -1,6 +1,7 @@
 use Rattle.std.proofs.Common.{◌≡◌, ◌++◌, drop}
 use Rattle.of10_flow.specs.PacketIns.{packet_of}
-use Rattle.switch_side.specs.Carrying.{packet_for, said_from}
+use Rattle.switch_side.specs.Carrying.{packet_for}
+use Rattle.switch_side.specs.Dispatches.{said_from}
 use Rattle.switch_side.proofs.packets.put_for_all.Given as goal
 
 abbrev pub invariant-loop-place : goal.invariant-loop-place

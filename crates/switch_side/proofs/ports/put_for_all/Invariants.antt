@@ -1,5 +1,6 @@
 use Rattle.std.proofs.Common.{◌≡◌, ◌++◌, drop}
-use Rattle.switch_side.specs.Carrying.{status_for, said_from}
+use Rattle.switch_side.specs.Carrying.{status_for}
+use Rattle.switch_side.specs.Dispatches.{said_from}
 use Rattle.switch_side.proofs.ports.put_for_all.Given as goal
 
 abbrev pub invariant-loop-place : goal.invariant-loop-place

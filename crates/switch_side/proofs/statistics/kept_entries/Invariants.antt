@@ -1,7 +1,7 @@
 use Rattle.std.proofs.Common.{◌≡◌, ◌++◌, length}
 use Rattle.std.specs.List.{concat}
-use Rattle.switch_side.specs.Carrying.{kept_entries}
 use Rattle.switch_side.proofs.statistics.kept_entries.Given as goal
+use Rattle.desk_words.specs.Histories.{kept_entries}
 
 abbrev pub invariant-loop-size : goal.invariant-loop-size
 invariant-loop-size l = l.kept.items ++ concat (kept_entries l.policy.rules l.slot l.kind l.rest) ≡ concat (kept_entries l.policy.rules l.slot l.kind l.body)

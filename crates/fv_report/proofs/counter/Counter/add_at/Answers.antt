@@ -1,7 +1,7 @@
 use Rattle.std.proofs.Common.{ℕ, Ok, sym, subst}
 use Rattle.std.specs.Vec.{with_item}
 use Rattle.fv_report.specs.declared.counter.Counter.{Counter}
-use Rattle.fv_report.specs.Telling.{To}
+use Rattle.desk_words.specs.Reports.{To}
 use Rattle.fv_report.specs.Counting.{CountsLine}
 use Rattle.fv_report.proofs.Counting.{slice_counted, none_counted, ok_so}
 use Rattle.fv_report.proofs.Recorded.{found}

@@ -1,7 +1,7 @@
 use Rattle.std.proofs.Common.{sym, subst}
 use Rattle.fv_report.specs.declared.counter.Counter.{Counter}
 use Rattle.fv_report.specs.declared.teller.Said.{Said}
-use Rattle.fv_report.specs.Telling.{Lane, To}
+use Rattle.desk_words.specs.Reports.{Lane, To}
 use Rattle.fv_report.specs.Lines.{saying_of}
 use Rattle.fv_report.specs.Counting.{CountsLine}
 use Rattle.fv_report.proofs.Counting.{lane_counted, ok_so, told_as}

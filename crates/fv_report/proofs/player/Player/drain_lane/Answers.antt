@@ -1,5 +1,5 @@
 use Rattle.std.proofs.Common.{ℕ, [], ◌∷◌, List, Ok, Err, subst}
-use Rattle.fv_report.specs.Telling.{lane_line}
+use Rattle.desk_words.specs.Reports.{lane_line}
 use Rattle.fv_report.specs.Holding.{Holds}
 use Rattle.fv_report.specs.Players.{HasTold}
 use Rattle.fv_report.proofs.Players.{told_still}

@@ -1,5 +1,5 @@
 use Rattle.std.proofs.Common.{ℕ, [], ◌∷◌, List, Ok, Err, subst}
-use Rattle.fv_report.specs.Telling.{slice_line}
+use Rattle.desk_words.specs.Reports.{slice_line}
 use Rattle.fv_report.specs.Holding.{Holds, with_waiting}
 use Rattle.fv_report.specs.Players.{HasTold}
 use Rattle.fv_report.proofs.Holding.{holds_own}

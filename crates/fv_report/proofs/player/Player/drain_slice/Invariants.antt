@@ -2,7 +2,7 @@ use Rattle.std.proofs.Common.{ℕ, List}
 use Rattle.desk_words.specs.declared.event.Timed.{Timed}
 use Rattle.desk_words.specs.declared.answer.Dest.TheVariants.{Slice}
 use Rattle.proxy_core.specs.Desks.{left}
-use Rattle.fv_report.specs.Telling.{slice_line}
+use Rattle.desk_words.specs.Reports.{slice_line}
 use Rattle.fv_report.specs.Holding.{Holds, with_waiting}
 use Rattle.fv_report.specs.Players.{Scene, IsPlaying}
 use Rattle.fv_report.proofs.Draining.{Drained}

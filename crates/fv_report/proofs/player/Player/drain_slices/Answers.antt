@@ -2,7 +2,7 @@ use Rattle.std.proofs.Common.{◌≡◌, ℕ, List, [], length, refl, ap, subst,
 use Rattle.std.proofs.lemmas.Option.{slice_get_read}
 use Rattle.flowspace.specs.declared.slices.Slice.{Slice}
 use Rattle.flowspace.specs.Policies.{PolicyView}
-use Rattle.fv_report.specs.Telling.{told_by_slot}
+use Rattle.desk_words.specs.Reports.{lines_by_slot}
 use Rattle.fv_report.specs.Holding.{Holds}
 use Rattle.fv_report.proofs.Holding.{holds_next, holds_none, holds_same}
 use Rattle.fv_report.proofs.Players.{told_nothing}
@@ -20,7 +20,7 @@ returns-in_err-drain_slice g c = λ scene h slices lane is holds.
     let all = scene.policy.slices in
     let d = c.loop-slot.invariant.drained scene h slices lane is holds in
     let same = c.slices-slice-items.ensures.value ∙ ap (λ (p : PolicyView). p.slices) is.policy in
-    slot_part g.T.Teller.Tells scene slices all at c.slice-item.result c.as_str.result.now d.0 (told_by_slot scene.place slices 0 all) c.args.self.now c.loop-slot.self c.drain_slice.new.self _ c.from_residual.result
+    slot_part g.T.Teller.Tells scene slices all at c.slice-item.result c.as_str.result.now d.0 (lines_by_slot scene.place slices 0 all) c.args.self.now c.loop-slot.self c.drain_slice.new.self _ c.from_residual.result
     (subst (λ (xs : List Slice). slice_get xs at ≡ Some c.slice-item.result) same (slice_get_read c.slices-slice-items.result.now (length c.slices-slice-items.result.now) at c.slice-item.result refl c.loop-slot-test.true c.slice-item.is)) c.as_str.ensures d.1 d.2 c.from_residual.ensures.1
     (c.in_err-drain_slice.ensures scene h (from_slot at slices) lane d.1.at d.3)
 
@@ -32,7 +32,7 @@ loop-slot-preserved g c = record {
       let d = c.loop-slot.invariant.drained scene h slices lane is holds in
       let same = c.slices-slice-items.ensures.value ∙ ap (λ (p : PolicyView). p.slices) is.policy in
       let told = c.in_ok-drain_slice.ensures scene h (from_slot at slices) lane d.1.at d.3 in
-      let more = slot_more g.T.Teller.Tells scene slices all at c.slice-item.result c.as_str.result.now d.0 (told_by_slot scene.place slices 0 all) c.args.self.now c.loop-slot.self c.drain_slice.new.self tt
+      let more = slot_more g.T.Teller.Tells scene slices all at c.slice-item.result c.as_str.result.now d.0 (lines_by_slot scene.place slices 0 all) c.args.self.now c.loop-slot.self c.drain_slice.new.self tt
       (subst (λ (xs : List Slice). slice_get xs at ≡ Some c.slice-item.result) same (slice_get_read c.slices-slice-items.result.now (length c.slices-slice-items.result.now) at c.slice-item.result refl c.loop-slot-test.true c.slice-item.is)) c.as_str.ensures d.1 d.2 told in
       (more.0, more.1, more.2, holds_next scene.policy h at slices lane c.drain_slice.new.desk told.more);
 }
@@ -45,5 +45,5 @@ returns g c = λ scene h slices lane is holds.
     let within = c.loop-slot.auto.slot-end in
     let same = ap length c.slices-slice-items.ensures.value ∙ ap (λ (q : PolicyView). length q.slices) is.policy in
     let end : c.loop-slot.slot ≡ length p.slices = omega arith in
-    slots_done g.T.Teller.Tells scene slices p.slices c.loop-slot.slot d.0 (told_by_slot scene.place slices 0 p.slices) c.args.self.now c.loop-slot.self tt end d.1 d.2
+    slots_done g.T.Teller.Tells scene slices p.slices c.loop-slot.slot d.0 (lines_by_slot scene.place slices 0 p.slices) c.args.self.now c.loop-slot.self tt end d.1 d.2
     (holds_none p h slices lane c.loop-slot.desk (subst (λ (n : ℕ). Holds p h (from_slot n slices) lane c.loop-slot.desk) end d.3))

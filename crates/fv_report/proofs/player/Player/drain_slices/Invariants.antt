@@ -1,6 +1,6 @@
 use Rattle.std.proofs.Common.{◌≡◌, ◌++◌, ℕ, List, drop, Ok}
 use Rattle.desk_words.specs.declared.event.Timed.{Timed}
-use Rattle.fv_report.specs.Telling.{Line, told_by_slot}
+use Rattle.desk_words.specs.Reports.{Line, lines_by_slot}
 use Rattle.fv_report.specs.Holding.{Holds}
 use Rattle.fv_report.specs.Players.{Scene, IsPlaying, HasTold}
 use Rattle.fv_report.proofs.Slices.{from_slot}
@@ -10,5 +10,5 @@ abbrev pub invariant-loop-slot : goal.invariant-loop-slot
 invariant-loop-slot g l = record {
   drained : (scene : Scene) (h : List Timed) (slices : ℕ → List (List ℕ)) (lane : List (List ℕ)) → IsPlaying scene l.fn.self → Holds scene.policy h slices lane l.fn.desk
       → (done : List Line) × HasTold {A = Unit {0}} g.T.Teller.Tells scene (Unit {0}) (Ok tt) done l.fn.self l.self
-      × (done ++ told_by_slot scene.place slices l.slot (drop l.slot scene.policy.slices) ≡ told_by_slot scene.place slices 0 scene.policy.slices) × Holds scene.policy h (from_slot l.slot slices) lane l.desk;
+      × (done ++ lines_by_slot scene.place slices l.slot (drop l.slot scene.policy.slices) ≡ lines_by_slot scene.place slices 0 scene.policy.slices) × Holds scene.policy h (from_slot l.slot slices) lane l.desk;
 }

@@ -1,9 +1,10 @@
 use Rattle.std.proofs.Common.{◌∷◌, [], sym, ◌∙◌, ap, subst}
 use Rattle.answer_bounds.specs.Bounds.{IsFramed}
 use Rattle.desk_words.specs.declared.event.Event.{Event}
-use Rattle.fv_report.specs.Plays.{event_from, happens, Plays}
+use Rattle.fv_report.specs.Plays.{event_from, Plays}
 use Rattle.fv_report.proofs.Playing.{framed_from, played_none}
 use Rattle.fv_report.proofs.player.Player.hear_one.Goals as goal
+use Rattle.desk_words.specs.Recorded.{happens}
 
 pub returns-then-not-happens : goal.returns-then-not-happens
 returns-then-not-happens g c = λ scene h is quiet framed.

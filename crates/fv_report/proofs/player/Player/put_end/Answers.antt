@@ -1,5 +1,5 @@
 use Rattle.std.proofs.Common.{sym, ◌∙◌, Bool, if◌then◌else◌, [], ◌∷◌, subst, Ok}
-use Rattle.fv_report.specs.Telling.{down_line}
+use Rattle.desk_words.specs.Reports.{down_line}
 use Rattle.fv_report.specs.Players.{HasTold}
 use Rattle.fv_report.proofs.Players.{told_nothing}
 use Rattle.fv_report.proofs.player.Player.put_end.Goals as goal

@@ -1,14 +1,14 @@
 use Rattle.std.proofs.Common.{ℕ, ◌∷◌, true, false, subst}
 use Rattle.desk_words.specs.Recorded.{timed_at}
 use Rattle.desk_words.specs.Sent.{sent_by, lane_by}
-use Rattle.fv_report.specs.Telling.{event_told}
+use Rattle.desk_words.specs.Reports.{event_lines}
 use Rattle.fv_report.proofs.Players.{told_none, memory_on}
 use Rattle.fv_report.proofs.Turning.{Answered, taken_going, taken_closing, refused, told_taken, told_over}
 use Rattle.fv_report.proofs.player.Player.turn.Goals as goal
 
 pub returns-in_err-step : goal.returns-in_err-step
 returns-in_err-step g c = λ scene h is quiet framed one.
-    told_none g.T.Teller.Tells scene c.from_residual.result (event_told scene.policy scene.place h (timed_at scene.moment c.args.event)) c.args.self.now (memory_on _ c.from_residual.result c.from_residual.ensures.1 c.in_err-step.ensures.memory)
+    told_none g.T.Teller.Tells scene c.from_residual.result (event_lines scene.policy scene.place h (timed_at scene.moment c.args.event)) c.args.self.now (memory_on _ c.from_residual.result c.from_residual.ensures.1 c.in_err-step.ensures.memory)
 
 pub returns-in-Go : goal.returns-in-Go
 returns-in-Go g c = λ scene h is quiet framed one.
