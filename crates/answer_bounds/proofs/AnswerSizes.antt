@@ -14,10 +14,10 @@ use Rattle.of10_flow.specs.FlowMods.{spell_flow_mod}
 use Rattle.of10_message.specs.declared.controller.FromController.TheVariants as said
 use Rattle.of10_message.specs.Heads.{xid_of}
 use Rattle.of10_message.specs.Controller.{read_controller}
-use Rattle.of10_config.specs.declared.queues.QueuesQuestion.{QueuesQuestion}
-use Rattle.of10_config.specs.Queues.{port_of_queues, question_bytes, spell_queues_request}
-use Rattle.of10_config.proofs.Again.{padding_read}
-use Rattle.of10_message.proofs.Cases.{queues_as_read, echo_as_read}
+use Rattle.of10_message.specs.declared.queues.QueuesQuestion.{QueuesQuestion}
+use Rattle.of10_message.specs.Queues.{port_of_queues, question_bytes, spell_queues_request}
+use Rattle.of10_message.proofs.ConfigReadAgain.{padding_read}
+use Rattle.of10_message.proofs.ControllerCases.{queues_as_read, echo_as_read}
 use Rattle.stats_filter.specs.Replies.{table_reply}
 use Rattle.of10_port.specs.Ports.{IsPort}
 use Rattle.of10_port.specs.Features.{spell_features}

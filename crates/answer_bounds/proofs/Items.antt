@@ -13,10 +13,10 @@ use Rattle.of10_message.specs.Heads.{xid_of}
 use Rattle.of10_message.specs.declared.fault.Unread.{Unread}
 use Rattle.of10_message.specs.declared.fault.Unread.TheVariants.{BadLength}
 use Rattle.of10_message.specs.Errors.{ErrorMessage, pair_in}
-use Rattle.of10_config.specs.Queues.{QueuesMessage, read_queues}
-use Rattle.of10_switch.specs.Messages as says
-use Rattle.of10_switch.specs.Messages.{SwitchMessage, read_switch}
-use Rattle.of10_switch.proofs.Cases.{of_switch}
+use Rattle.of10_message.specs.Queues.{QueuesMessage, read_queues}
+use Rattle.of10_message.specs.Switch as says
+use Rattle.of10_message.specs.Switch.{SwitchMessage, read_switch}
+use Rattle.of10_message.proofs.SwitchCases.{of_switch}
 use Rattle.of10_stats.specs.declared.reply.StatsPart.{StatsPart}
 use Rattle.of10_port.specs.PortStatus.{read_port_status}
 use Rattle.of10_stats.specs.Replies.{part_of}

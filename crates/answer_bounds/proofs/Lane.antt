@@ -9,9 +9,9 @@ use Rattle.of10_flow.specs.FlowMods.{spell_flow_mod}
 use Rattle.of10_port.specs.declared.features.Features.{Features}
 use Rattle.of10_message.specs.declared.fault.Unread.{Unread}
 use Rattle.of10_message.specs.Heads.{xid_of}
-use Rattle.of10_switch.specs.Messages as says
-use Rattle.of10_switch.specs.Messages.{SwitchMessage, read_switch}
-use Rattle.of10_switch.proofs.Cases.{of_switch}
+use Rattle.of10_message.specs.Switch as says
+use Rattle.of10_message.specs.Switch.{SwitchMessage, read_switch}
+use Rattle.of10_message.proofs.SwitchCases.{of_switch}
 use Rattle.desk_words.specs.declared.event.Event.{Event}
 use Rattle.desk_words.specs.declared.event.Event.TheVariants.{SwitchUp, SwitchMsg, SwitchDown, SliceUp, SliceMsg, SliceDown}
 use Rattle.desk_words.specs.declared.phase.Phase.{Phase}

@@ -15,9 +15,9 @@ use Rattle.of10_port.specs.Features.{has_whole_ports, read_features}
 use Rattle.of10_port.specs.PortStatus.{read_port_status}
 use Rattle.of10_port.proofs.Pieces.{IsPort-ports_in}
 use Rattle.of10_message.specs.declared.fault.Unread.{Unread}
-use Rattle.of10_switch.specs.Messages as says
-use Rattle.of10_switch.specs.Messages.{SwitchMessage, read_switch}
-use Rattle.of10_switch.proofs.Cases.{of_switch}
+use Rattle.of10_message.specs.Switch as says
+use Rattle.of10_message.specs.Switch.{SwitchMessage, read_switch}
+use Rattle.of10_message.proofs.SwitchCases.{of_switch}
 use Rattle.flowspace.specs.declared.rules.Rule.{Rule}
 use Rattle.flowspace.specs.Owners.{is_in_port, has_port}
 use Rattle.flowspace.specs.Policies.{PolicyView}

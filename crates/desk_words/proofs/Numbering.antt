@@ -25,8 +25,8 @@ use Rattle.desk_words.specs.Histories.{is_slot, settings_at, header_in, handed, 
 use Rattle.desk_words.specs.Numbers.{AreNumbered}
 use Rattle.of10_message.specs.declared.fault.Unread.{Unread}
 use Rattle.of10_message.specs.Heads.{xid_of}
-use Rattle.of10_switch.specs.Messages as says
-use Rattle.of10_switch.specs.Messages.{SwitchMessage, read_switch}
+use Rattle.of10_message.specs.Switch as says
+use Rattle.of10_message.specs.Switch.{SwitchMessage, read_switch}
 use Rattle.of10_port.specs.Ports.{port_number}
 use Rattle.of10_port.specs.declared.features.Features.{Features}
 use Rattle.port_view.specs.KnownPorts.{is_kept}

@@ -3,7 +3,7 @@ use Rattle.std.proofs.Common.{◌≡◌, ◌&&◌, ◌||◌, not, Bool, true, fa
 use mathlib.Core.Bool.{or-true}
 use Rattle.std.specs.Option.{option_or}
 use Rattle.of10_port.specs.declared.features.Features.{Features}
-use Rattle.of10_switch.proofs.Cases.{bad_length-read}
+use Rattle.of10_message.proofs.SwitchCases.{bad_length-read}
 use Rattle.desk_words.specs.declared.event.Event.{Event}
 use Rattle.desk_words.specs.declared.event.Event.TheVariants.{SwitchUp, SwitchMsg, SwitchDown, SliceUp, SliceMsg, SliceDown}
 use Rattle.desk_words.specs.declared.event.Timed.{Timed}

@@ -4,16 +4,16 @@ use Rattle.std.specs.List.{list_any}
 use Rattle.std.proofs.lemmas.Bool.{false_from_ne_true, or_parts}
 use Rattle.std.proofs.lemmas.Option.{none-some}
 use Rattle.of10_message.specs.declared.fault.Unread.{Unread}
-use Rattle.of10_switch.specs.Messages as says
-use Rattle.of10_switch.specs.Messages.{SwitchMessage, read_switch}
+use Rattle.of10_message.specs.Switch as says
+use Rattle.of10_message.specs.Switch.{SwitchMessage, read_switch}
 use Rattle.of10_port.specs.declared.features.Features.{Features}
 use Rattle.of10_port.specs.declared.status.PortStatus.{PortStatus}
 use Rattle.of10_port.specs.Ports.{port_number}
 use Rattle.flowspace.specs.declared.rules.Rule.{Rule}
 use Rattle.flowspace.specs.Owners.{has_port}
 use Rattle.flowspace.specs.Policies.{PolicyView}
-use Rattle.port_view.specs.declared.answer.Kept.{Kept as Answer}
-use Rattle.port_view.specs.declared.answer.Kept.TheVariants.{Kept, Ignored, TooManyPorts}
+use Rattle.port_view.specs.declared.kept.Kept.{Kept as Answer}
+use Rattle.port_view.specs.declared.kept.Kept.TheVariants.{Kept, Ignored, TooManyPorts}
 use Rattle.port_view.specs.KnownPorts.{is_kept, IsAscending, first_known, changed, changed_plainly, kept_of, says_kept, known_of as known_by}
 use Rattle.port_view.specs.SlicePorts.{ports_of_slice}
 use Rattle.port_view.proofs.Knowing.{changed-not_kept, IsAscending-changed, IsAscending-none, IsAscending-known_of, few-changed, few-known_of}

@@ -6,11 +6,11 @@ use Rattle.std.specs.declared.alloc.AllocError.{AllocError}
 use Rattle.outbox.specs.Queues.{Queue, no_messages, size, push, push_all, without_first}
 use Rattle.outbox.proofs.Keeping.{push_all-kept}
 use Rattle.desk_words.specs.declared.event.Timed.{Timed}
-use Rattle.desk_words.specs.declared.answer.Dest.{Dest}
-use Rattle.desk_words.specs.declared.answer.Dest.TheVariants.{Switch, Slice}
-use Rattle.desk_words.specs.declared.answer.Verdict.{Verdict}
-use Rattle.desk_words.specs.declared.answer.Taken.{Taken}
-use Rattle.desk_words.specs.declared.answer.Taken.TheVariants.{Message, Nothing, Choked, Ended, NotOpen}
+use Rattle.desk_words.specs.declared.dest.Dest.{Dest}
+use Rattle.desk_words.specs.declared.dest.Dest.TheVariants.{Switch, Slice}
+use Rattle.desk_words.specs.declared.verdict.Verdict.{Verdict}
+use Rattle.desk_words.specs.declared.taken.Taken.{Taken}
+use Rattle.desk_words.specs.declared.taken.Taken.TheVariants.{Message, Nothing, Choked, Ended, NotOpen}
 use Rattle.desk_words.specs.Openings.{phase_of}
 use Rattle.desk_words.specs.Histories.{is_slice_up}
 use Rattle.desk_words.specs.Sent.{sent_by, lane_by}

@@ -18,8 +18,8 @@ use Rattle.slice_words.specs.Alone.{alone}
 use Rattle.desk_words.specs.declared.event.Event.{Event}
 use Rattle.desk_words.specs.declared.event.Event.TheVariants.{SwitchUp, SwitchMsg, SwitchDown, SliceUp, SliceMsg, SliceDown}
 use Rattle.desk_words.specs.declared.event.Timed.{Timed}
-use Rattle.desk_words.specs.declared.answer.Verdict.{Verdict}
-use Rattle.desk_words.specs.declared.answer.Taken.{Taken}
+use Rattle.desk_words.specs.declared.verdict.Verdict.{Verdict}
+use Rattle.desk_words.specs.declared.taken.Taken.{Taken}
 use Rattle.desk_words.specs.Openings.{status_told, phase_of, opening_of, ports_after, switch_of, features_in_event}
 use Rattle.desk_words.specs.Histories.{is_slot, settings_at, own_ports, own_features, side_start, side_of, view_of, is_open, is_slice_up}
 use Rattle.desk_words.specs.Sent.{sent_by, sent, lane_by}

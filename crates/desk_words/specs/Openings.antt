@@ -3,8 +3,8 @@ use Rattle.std.specs.Prelude.{ℕ, Bool, if◌then◌else◌, List, [], ◌∷�
 use Rattle.of10_port.specs.declared.features.Features.{Features}
 use Rattle.of10_port.specs.declared.status.PortStatus.{PortStatus}
 use Rattle.of10_message.specs.declared.fault.Unread.{Unread}
-use Rattle.of10_switch.specs.Messages as says
-use Rattle.of10_switch.specs.Messages.{SwitchMessage, read_switch, has_bad_length}
+use Rattle.of10_message.specs.Switch as says
+use Rattle.of10_message.specs.Switch.{SwitchMessage, read_switch, has_bad_length}
 use Rattle.flowspace.specs.declared.rules.Rule.{Rule}
 use Rattle.flowspace.specs.Order.{rules_on}
 use Rattle.flowspace.specs.Policies.{PolicyView}

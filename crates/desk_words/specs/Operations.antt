@@ -6,12 +6,12 @@ use Rattle.outbox.specs.Queues.{Queue, no_messages, push_all, without_first}
 use Rattle.desk_words.specs.declared.event.Event.{Event}
 use Rattle.desk_words.specs.declared.event.Event.TheVariants.{SliceUp, SliceDown}
 use Rattle.desk_words.specs.declared.event.Timed.{Timed}
-use Rattle.desk_words.specs.declared.answer.Dest.{Dest}
-use Rattle.desk_words.specs.declared.answer.Dest.TheVariants.{Switch, Slice}
-use Rattle.desk_words.specs.declared.answer.Verdict.{Verdict}
-use Rattle.desk_words.specs.declared.answer.Verdict.TheVariants as verdicts
-use Rattle.desk_words.specs.declared.answer.Taken.{Taken}
-use Rattle.desk_words.specs.declared.answer.Taken.TheVariants.{Message, Nothing, Choked, Ended, NotOpen}
+use Rattle.desk_words.specs.declared.dest.Dest.{Dest}
+use Rattle.desk_words.specs.declared.dest.Dest.TheVariants.{Switch, Slice}
+use Rattle.desk_words.specs.declared.verdict.Verdict.{Verdict}
+use Rattle.desk_words.specs.declared.verdict.Verdict.TheVariants as verdicts
+use Rattle.desk_words.specs.declared.taken.Taken.{Taken}
+use Rattle.desk_words.specs.declared.taken.Taken.TheVariants.{Message, Nothing, Choked, Ended, NotOpen}
 use Rattle.desk_words.specs.declared.phase.Phase.{Phase}
 use Rattle.desk_words.specs.Openings.{phase_after, phase_of}
 use Rattle.desk_words.specs.Histories.{is_slot, is_open, is_slice_up}

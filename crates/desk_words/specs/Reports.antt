@@ -1,4 +1,4 @@
--- The report of a recording: of all that happened, a line for each message that is sent (this proxy's own rule). A summary, which counts the same messages and their bytes, stands in `summary_words`.
+-- The report of a recording: of all that happened, a line for each message that is sent (this proxy's own rule). A summary, which counts the same messages and their bytes, stands in `run_words`.
 use Rattle.std.specs.Prelude.{ℕ, not, Bool, if◌then◌else◌, List, [], ◌∷◌, ◌++◌, length, map, slice_get, Option, Some, None, codes, decimal}
 use Rattle.std.specs.List.{flat_map, enumerate_from}
 use Rattle.hex.specs.Hex.{encode_lower}

@@ -8,9 +8,9 @@ use Rattle.of10_flow.specs.FlowMods.{spell_flow_mod}
 use Rattle.of10_port.specs.declared.protocol.TheConstants.{NONE}
 use Rattle.of10_message.specs.declared.fault.Unread.{Unread}
 use Rattle.of10_message.specs.Heads.{xid_of}
-use Rattle.of10_switch.specs.Messages as says
-use Rattle.of10_switch.specs.Messages.{SwitchMessage, read_switch}
-use Rattle.of10_config.specs.Configs.{spell_set_config}
+use Rattle.of10_message.specs.Switch as says
+use Rattle.of10_message.specs.Switch.{SwitchMessage, read_switch}
+use Rattle.of10_message.specs.Configs.{spell_set_config}
 use Rattle.flowspace.specs.Policies.{PolicyView}
 use Rattle.slice_words.specs.Alone.{rendered, sent_for, put_for}
 use Rattle.desk_words.specs.declared.event.Event.{Event}

@@ -6,8 +6,8 @@ use Rattle.desk_words.specs.declared.event.Event.TheVariants.{SwitchUp, SwitchDo
 use Rattle.desk_words.specs.declared.event.Timed.{Timed}
 use Rattle.desk_words.specs.declared.phase.Phase.{Phase}
 use Rattle.desk_words.specs.declared.phase.Phase.TheVariants.{Fresh, Begun, Gone}
-use Rattle.desk_words.specs.declared.answer.Verdict.{Verdict}
-use Rattle.desk_words.specs.declared.answer.Verdict.TheVariants as verdicts
+use Rattle.desk_words.specs.declared.verdict.Verdict.{Verdict}
+use Rattle.desk_words.specs.declared.verdict.Verdict.TheVariants as verdicts
 use Rattle.desk_words.specs.Openings.{phase_of}
 use Rattle.desk_words.specs.Histories.{is_slot, is_slice_up}
 

@@ -7,7 +7,7 @@ ghost use Rattle.flowspace.specs.Policies.{PolicyView};
 ghost use Rattle.recording.specs.Recordings.{Told};
 ghost use Rattle.desk_words.specs.declared.event.Event.TheVariants.{SwitchDown, SliceDown};
 ghost use Rattle.desk_words.specs.declared.event.Timed.{Timed};
-ghost use Rattle.desk_words.specs.declared.answer.Verdict.{Verdict};
+ghost use Rattle.desk_words.specs.declared.verdict.Verdict.{Verdict};
 ghost use Rattle.slice_words.specs.Items.{Settings};
 ghost use Rattle.desk_words.specs.Histories.{is_slot, side_of};
 ghost use Rattle.desk_words.specs.Numbers.{AreNumbered};

@@ -2,11 +2,15 @@
 //! The definitions of what it must answer are in this crate too; `laws` states what follows from them.
 #![tactic(auto)]
 
-mod answer;
+mod dest;
 mod event;
 pub mod laws;
 mod phase;
+mod taken;
+mod verdict;
 
-pub use answer::{Dest, Taken, Verdict};
+pub use dest::Dest;
 pub use event::{Event, Timed};
 pub use phase::Phase;
+pub use taken::Taken;
+pub use verdict::Verdict;

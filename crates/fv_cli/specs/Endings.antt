@@ -13,7 +13,7 @@ use Rattle.recording.specs.Recordings.{read_items}
 use Rattle.fv_report.specs.Writing.{WrotePart}
 use Rattle.desk_words.specs.Recorded.{told_in}
 use Rattle.desk_words.specs.Reports.{report}
-use Rattle.summary_words.specs.Summaries.{summary}
+use Rattle.run_words.specs.Summaries.{summary}
 use Rattle.fv_cli.specs.declared.ending.Ending.{Ending}
 use Rattle.fv_cli.specs.declared.ending.Ending.TheVariants.{Done, Usage, ReadFault, WriteFault, NoMemory, NoMemoryToRun, TooLarge, PolicyRefused, RecordingRefused}
 use Rattle.fv_cli.specs.Lines.{policy_line, recording_line, accepted_line}

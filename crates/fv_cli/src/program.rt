@@ -8,7 +8,7 @@ ghost use Rattle.desk_words.specs.Recorded.{told_in};
 ghost use Rattle.desk_words.specs.Reports.{report};
 ghost use Rattle.fv_generator.specs.Made.{records_of};
 ghost use Rattle.fv_generator.specs.Policies.{the_policy};
-ghost use Rattle.summary_words.specs.Summaries.{summary};
+ghost use Rattle.run_words.specs.Summaries.{summary};
 ghost use Rattle.fv_cli.specs.Endings.{PolicySays, HasRecording, IsLoadCause, IsPolicyCause, IsRecordingCause, IsRunEnding, IsGenEnding, IsCheckCause, IsReplayCause, Causes, is_before_run, CountsReads, CountsPuts, EndedWith, Completes};
 
 use crate::base::{Failed, Files, Form, LoadFault, Sink, Words, WordsFault, load_file, read_words};

@@ -21,7 +21,7 @@ use Rattle.desk_words.specs.Verdicts.{is_over}
 use Rattle.desk_words.specs.Operations.{ends}
 use Rattle.desk_words.specs.Recorded.{next_of, Happened, all_happened}
 use Rattle.desk_words.specs.Reports.{LinePlace, name_at, speaker, Line, Saying, Lane, To, Close, SwitchEnd, lane_lines, slice_lines, lines_by_slot, closing_lines, close_lines, down_line, down_lines, event_lines, lines_from, all_lines, sent_to_switch, sent_to_slice, close_line}
-use Rattle.summary_words.specs.Summaries.{lane_messages, slice_messages, event_count, count_line, summary, summary_text}
+use Rattle.run_words.specs.Summaries.{lane_messages, slice_messages, event_count, count_line, summary, summary_text}
 use Rattle.fv_report.specs.declared.counter.Count.{Count}
 use Rattle.fv_report.specs.declared.counter.Counter.{Counter}
 use Rattle.fv_report.specs.Telling.{Outcome, ToldWhole, HeardPart}

@@ -6,12 +6,12 @@ use Rattle.flowspace.specs.Policies.{PolicyView}
 use Rattle.outbox.specs.Queues.{Queue, no_messages, size, push_all, without_first, waiting}
 use Rattle.outbox.proofs.Keeping.{push_all-kept}
 use Rattle.desk_words.specs.declared.event.Timed.{Timed}
-use Rattle.desk_words.specs.declared.answer.Dest.TheVariants.{Switch, Slice}
-use Rattle.desk_words.specs.declared.answer.Verdict.{Verdict}
-use Rattle.desk_words.specs.declared.answer.Verdict.TheVariants as verdicts
-use Rattle.desk_words.specs.declared.answer.Verdict.TheVariants.{Go, Close}
-use Rattle.desk_words.specs.declared.answer.Taken.{Taken}
-use Rattle.desk_words.specs.declared.answer.Taken.TheVariants.{Message, Nothing, Choked, Ended, NotOpen}
+use Rattle.desk_words.specs.declared.dest.Dest.TheVariants.{Switch, Slice}
+use Rattle.desk_words.specs.declared.verdict.Verdict.{Verdict}
+use Rattle.desk_words.specs.declared.verdict.Verdict.TheVariants as verdicts
+use Rattle.desk_words.specs.declared.verdict.Verdict.TheVariants.{Go, Close}
+use Rattle.desk_words.specs.declared.taken.Taken.{Taken}
+use Rattle.desk_words.specs.declared.taken.Taken.TheVariants.{Message, Nothing, Choked, Ended, NotOpen}
 use Rattle.desk_words.specs.Openings.{phase_of}
 use Rattle.desk_words.specs.Histories.{is_slot, is_open, is_slice_up}
 use Rattle.desk_words.specs.Verdicts.{is_ended, is_fresh, is_over, closes, verdict}
@@ -19,7 +19,7 @@ use Rattle.desk_words.specs.Sent.{sent_by, lane_by}
 use Rattle.desk_words.specs.Operations.{Step, Take, takes_in, events_of, slice_limit, lane_limit, empties_slice, ends, queue_of, lane_of, empty_reply, message_taken}
 use Rattle.answer_bounds.specs.Bounds.{IsFramed, AreFramed}
 use Rattle.answer_bounds.proofs.Fitting.{answers_fit}
-use Rattle.proxy_core.specs.declared.parts.Desk.{Desk}
+use Rattle.proxy_core.specs.declared.desk.Desk.{Desk}
 use Rattle.proxy_core.proofs.Acting.{either_empty}
 use Rattle.proxy_core.specs.Desks.{Takes, Steps, TellsEnd, TellsUp, TellsWaiting}
 use Rattle.fv_report.specs.Holding.{Holds, nothing, IsQuiet, with_waiting, After}

@@ -13,8 +13,8 @@ use Rattle.recording.specs.declared.item.Item.{Item}
 use Rattle.recording.specs.Recordings.{Told, switch_up, switch_bytes, slice_up, slice_bytes}
 use Rattle.desk_words.specs.declared.event.Event.{Event}
 use Rattle.desk_words.specs.declared.event.Timed.{Timed}
-use Rattle.desk_words.specs.declared.answer.Dest.{Dest}
-use Rattle.desk_words.specs.declared.answer.Dest.TheVariants.{Switch as ToSwitch, Slice}
+use Rattle.desk_words.specs.declared.dest.Dest.{Dest}
+use Rattle.desk_words.specs.declared.dest.Dest.TheVariants.{Switch as ToSwitch, Slice}
 use Rattle.desk_words.specs.Recorded.{told_by, begins_stream, is_same_stream, stream_before, completed, happenings, history_of, history_at, events_in, next_after}
 use Rattle.desk_words.proofs.Completed.{frames_first, others_behind}
 use Rattle.answer_bounds.specs.Bounds.{IsFramed, AreFramed}
@@ -25,7 +25,7 @@ use Rattle.fv_report.specs.declared.player.Player.{Player}
 use Rattle.desk_words.specs.Reports.{Line}
 use Rattle.fv_report.specs.Telling.{Outcome, lines_after}
 use Rattle.fv_report.specs.Players.{later, scene_of}
-use Rattle.proxy_core.specs.declared.parts.Desk.{Desk}
+use Rattle.proxy_core.specs.declared.desk.Desk.{Desk}
 use Rattle.fv_report.specs.declared.switch.Switch.{Switch}
 use Rattle.fv_report.specs.declared.streams.Streams.{Streams}
 use Rattle.fv_report.specs.Holding.{IsQuiet}

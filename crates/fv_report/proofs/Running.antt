@@ -17,7 +17,7 @@ use Rattle.fv_report.specs.declared.fault.ReportFault.TheVariants.{Memory}
 use Rattle.fv_report.specs.declared.player.Player.{Player}
 use Rattle.fv_report.specs.Telling.{Outcome, ToldWhole, HeardPart, Tell, lines_after}
 use Rattle.fv_report.specs.Players.{scene_of, IsPlaying, TellsAll}
-use Rattle.summary_words.specs.Summaries.{event_count}
+use Rattle.run_words.specs.Summaries.{event_count}
 use Rattle.desk_words.proofs.Making.{happened_each}
 use Rattle.desk_words.proofs.Reporting.{count_of_each, lines_from_both, happened_after, next_happened, from_none}
 use Rattle.fv_report.specs.declared.switch.Switch.{Switch}

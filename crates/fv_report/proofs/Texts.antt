@@ -11,7 +11,7 @@ use Rattle.fv_report.specs.declared.fault.ReportFault.{ReportFault}
 use Rattle.fv_report.specs.declared.fault.ReportFault.TheVariants.{Memory}
 use Rattle.fv_report.specs.Writing.{WrotePart, Wrote, CountedFault, Counted}
 use Rattle.fv_report.specs.Telling.{Outcome, ToldWhole, HeardPart}
-use Rattle.summary_words.specs.Summaries.{event_count}
+use Rattle.run_words.specs.Summaries.{event_count}
 use Rattle.fv_report.proofs.Writing.{both, none_of, part_of_first, part_of_second, wrote_second, counted_after, fault_after}
 
 pub whole_text : (p : PolicyView) (records : List Told) → flat_map line_text (all_lines p records) ++ last_line (event_count p records) ≡ report p records

@@ -6,14 +6,14 @@ use Rattle.flowspace.specs.Policies.{PolicyView}
 use Rattle.desk_words.specs.declared.event.Timed.{Timed}
 use Rattle.desk_words.specs.Openings.{phase_of}
 use Rattle.desk_words.specs.Histories.{is_slice_up}
-use Rattle.desk_words.specs.declared.answer.Verdict.{Verdict}
-use Rattle.desk_words.specs.declared.answer.Verdict.TheVariants.{Go, Close as ToClose, Ended}
+use Rattle.desk_words.specs.declared.verdict.Verdict.{Verdict}
+use Rattle.desk_words.specs.declared.verdict.Verdict.TheVariants.{Go, Close as ToClose, Ended}
 use Rattle.desk_words.specs.Verdicts.{is_ended, is_over, closes, verdict}
 use Rattle.desk_words.specs.Sent.{sent_by, lane_by}
 use Rattle.desk_words.specs.Recorded.{next_of}
 use Rattle.desk_words.specs.Reports.{LinePlace, name_at, speaker, Line, lane_lines, lines_by_slot, closing_lines, close_lines, down_line, down_lines, event_lines, close_line, closed_lines}
 use Rattle.desk_words.specs.Operations.{takes_in}
-use Rattle.proxy_core.specs.declared.parts.Desk.{Desk}
+use Rattle.proxy_core.specs.declared.desk.Desk.{Desk}
 use Rattle.fv_report.specs.Holding.{Holds, IsQuiet, After}
 use Rattle.desk_words.proofs.Closing.{closed_by_verdict, none_ends}
 use Rattle.fv_report.specs.declared.player.Player.{Player}

@@ -3,7 +3,7 @@ use Rattle.std.specs.Prelude.{ℕ, ◌≡◌, ◌+◌, List, Result, OnOk}
 use Rattle.flowspace.specs.Policies.{PolicyView}
 use Rattle.recording.specs.Recordings.{Told}
 use Rattle.desk_words.specs.Reports.{LinePlace, Line, all_lines}
-use Rattle.summary_words.specs.Summaries.{event_count}
+use Rattle.run_words.specs.Summaries.{event_count}
 use Rattle.fv_report.specs.declared.fault.ReportFault.{ReportFault}
 use Rattle.fv_report.specs.declared.player.Player.{Player}
 use Rattle.fv_report.specs.Lines.{place_of}

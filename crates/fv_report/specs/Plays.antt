@@ -6,12 +6,12 @@ use Rattle.answer_bounds.specs.Bounds.{AreFramed}
 use Rattle.desk_words.specs.declared.event.Event.{Event}
 use Rattle.desk_words.specs.declared.event.Event.TheVariants.{SwitchMsg, SliceMsg}
 use Rattle.desk_words.specs.declared.event.Timed.{Timed}
-use Rattle.desk_words.specs.declared.answer.Dest.{Dest}
-use Rattle.desk_words.specs.declared.answer.Dest.TheVariants.{Switch, Slice}
+use Rattle.desk_words.specs.declared.dest.Dest.{Dest}
+use Rattle.desk_words.specs.declared.dest.Dest.TheVariants.{Switch, Slice}
 use Rattle.desk_words.specs.Recorded.{timed_at, happens, next_of, next_after}
 use Rattle.desk_words.specs.Reports.{Line}
 use Rattle.fv_report.specs.Telling.{Outcome, lines_after}
-use Rattle.proxy_core.specs.declared.parts.Desk.{Desk}
+use Rattle.proxy_core.specs.declared.desk.Desk.{Desk}
 use Rattle.fv_report.specs.declared.player.Player.{Player}
 use Rattle.fv_report.specs.Players.{Scene, later, HasTold}
 use Rattle.fv_report.specs.Holding.{IsQuiet}

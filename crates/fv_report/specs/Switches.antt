@@ -5,8 +5,8 @@ use Rattle.flowspace.specs.Policies.{PolicyView}
 use Rattle.recording.specs.declared.item.Item.{Item}
 use Rattle.recording.specs.Recordings.{Told, switch_up, switch_bytes, slice_up, slice_bytes}
 use Rattle.answer_bounds.specs.Bounds.{AreFramed}
-use Rattle.desk_words.specs.declared.answer.Dest.{Dest}
-use Rattle.desk_words.specs.declared.answer.Dest.TheVariants.{Switch as ToSwitch, Slice}
+use Rattle.desk_words.specs.declared.dest.Dest.{Dest}
+use Rattle.desk_words.specs.declared.dest.Dest.TheVariants.{Switch as ToSwitch, Slice}
 use Rattle.desk_words.specs.Recorded.{history_of, history_at, events_in}
 use Rattle.desk_words.specs.Reports.{Line}
 use Rattle.fv_report.specs.Telling.{Outcome}

@@ -2,7 +2,7 @@
 use Rattle.std.specs.Prelude.{ℕ, ◌≡◌, List, drop, Option, slice_get}
 use Rattle.flowspace.specs.Policies.{PolicyView}
 use Rattle.desk_words.specs.declared.event.Timed.{Timed}
-use Rattle.proxy_core.specs.declared.parts.Desk.{Desk}
+use Rattle.proxy_core.specs.declared.desk.Desk.{Desk}
 use Rattle.fv_report.specs.Holding.{Holds, with_waiting}
 
 -- of what waits for the switch the first was taken

@@ -2,7 +2,7 @@
 
 ghost use Rattle.std.specs.Prelude.{ℕ, ◌≡◌, ◌<◌, List, [], IfSome};
 ghost use Rattle.desk_words.specs.declared.event.Timed.{Timed};
-ghost use Rattle.desk_words.specs.declared.answer.Dest.TheVariants.{Switch, Slice};
+ghost use Rattle.desk_words.specs.declared.dest.Dest.TheVariants.{Switch, Slice};
 ghost use Rattle.desk_words.specs.Reports.{lane_lines, slice_lines, lines_by_slot};
 ghost use Rattle.desk_words.specs.Operations.{message_taken};
 ghost use Rattle.fv_report.specs.Players.{Scene, IsPlaying, HasTold};

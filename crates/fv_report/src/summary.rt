@@ -4,7 +4,7 @@ ghost use Rattle.std.specs.Prelude.{ℕ, ◌≡◌, ◌++◌, List, length, code
 ghost use Rattle.recording.specs.declared.item.Item.{Item};
 ghost use Rattle.recording.specs.Recordings.{read_items};
 ghost use Rattle.desk_words.specs.Recorded.{told_in};
-ghost use Rattle.summary_words.specs.Summaries.{count_line, count_lines, summary, summary_text};
+ghost use Rattle.run_words.specs.Summaries.{count_line, count_lines, summary, summary_text};
 ghost use Rattle.fv_report.specs.Counting.{IsCount, AreCounts, HasCounted};
 ghost use Rattle.fv_report.specs.Writing.{Wrote, Counted};
 

@@ -18,15 +18,15 @@ use Rattle.of10_stats.specs.declared.request.StatsRequest.{StatsRequest}
 use Rattle.of10_stats.specs.declared.request.StatsRequest.TheVariants as statistics
 use Rattle.of10_stats.specs.Requests.{IsRequest, request_of, read_request, spell_request, body_size}
 use Rattle.of10_stats.proofs.Again.{IsOf-request, request_again}
-use Rattle.of10_config.specs.declared.queues.QueuesQuestion.{QueuesQuestion}
-use Rattle.of10_config.specs.Queues.{IsQueuesQuestion, read_queues_request}
-use Rattle.of10_config.proofs.Again.{question_read as queues_told, padding_read, question_kind}
+use Rattle.of10_message.specs.declared.queues.QueuesQuestion.{QueuesQuestion}
+use Rattle.of10_message.specs.Queues.{IsQueuesQuestion, read_queues_request}
+use Rattle.of10_message.proofs.ConfigReadAgain.{question_read as queues_told, padding_read, question_kind}
 use Rattle.of10_message.specs.declared.controller.FromController.{FromController}
 use Rattle.of10_message.specs.declared.controller.FromController.TheVariants as said
 use Rattle.of10_message.specs.Forms.{formed}
 use Rattle.of10_message.specs.Controller.{read_controller}
-use Rattle.of10_message.proofs.Cases.{request_as_read, queues_as_read}
-use Rattle.of10_message.proofs.Typed.{typed_by, request_typed, barrier_typed, question_read}
+use Rattle.of10_message.proofs.ControllerCases.{request_as_read, queues_as_read}
+use Rattle.of10_message.proofs.ControllerTyped.{typed_by, request_typed, barrier_typed, question_read}
 use Rattle.flowspace.specs.declared.rules.Rule.{Rule}
 use Rattle.flowspace.specs.Owners.{HasPort, has_port}
 use Rattle.flowspace.proofs.Owning.{has_port-iff}

@@ -4,7 +4,7 @@ use Rattle.of10_ctl.specs.declared.kind.TheConstants.{BARRIER_REQUEST}
 use Rattle.of10_ctl.specs.Frames.{message_of}
 use Rattle.of10_flow.specs.declared.flow_mod.FlowMod.{FlowMod}
 use Rattle.of10_flow.specs.declared.packet_out.PacketOut.{PacketOut}
-use Rattle.of10_config.specs.Queues.{spell_queues_request}
+use Rattle.of10_message.specs.Queues.{spell_queues_request}
 use Rattle.of10_stats.specs.declared.request.StatsRequest.{StatsRequest}
 use Rattle.of10_stats.specs.Requests.{spell_request}
 use Rattle.of10_message.specs.declared.controller.FromController.{FromController}

@@ -10,8 +10,8 @@ use Rattle.of10_port.specs.declared.features.Features.{Features}
 use Rattle.of10_flow.specs.declared.packet_in.PacketIn.{PacketIn}
 use Rattle.of10_message.specs.declared.fault.Unread.{Unread}
 use Rattle.of10_message.specs.Heads.{xid_of}
-use Rattle.of10_switch.specs.Messages as says
-use Rattle.of10_switch.specs.Messages.{SwitchMessage, read_switch}
+use Rattle.of10_message.specs.Switch as says
+use Rattle.of10_message.specs.Switch.{SwitchMessage, read_switch}
 use Rattle.flowspace.specs.declared.rules.Rule.{Rule}
 use Rattle.flowspace.specs.Order.{rules_on, writer_of, readers_of}
 use Rattle.flowspace.specs.Owners.{Writes}

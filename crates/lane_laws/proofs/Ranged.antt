@@ -18,8 +18,8 @@ use Rattle.of10_flow.specs.declared.packet_in.PacketIn.{PacketIn}
 use Rattle.of10_flow.specs.declared.packet_out.PacketOut.{PacketOut}
 use Rattle.of10_flow.specs.Tables.{is_delete}
 use Rattle.frame_header.specs.Headers.{header_of_packet}
-use Rattle.of10_switch.specs.Messages.{read_switch}
-use Rattle.of10_switch.proofs.Cases.{of_switch}
+use Rattle.of10_message.specs.Switch.{read_switch}
+use Rattle.of10_message.proofs.SwitchCases.{of_switch}
 use Rattle.flowspace.specs.declared.rules.Rule.{Rule}
 use Rattle.flowspace.specs.Rules.{holds}
 use Rattle.flowspace.specs.Order.{in_order, rules_on}

@@ -21,8 +21,8 @@ use Rattle.of10_flow.specs.declared.packet_out.PacketOut.{PacketOut}
 use Rattle.of10_flow.specs.PacketIns.{read_packet_in}
 use Rattle.of10_flow.specs.PacketOuts.{read_packet_out}
 use Rattle.of10_stats.specs.Requests.{read_request}
-use Rattle.of10_config.specs.Configs.{read_config}
-use Rattle.of10_config.specs.Queues.{read_queues_request}
+use Rattle.of10_message.specs.Configs.{read_config}
+use Rattle.of10_message.specs.Queues.{read_queues_request}
 use Rattle.of10_message.specs.declared.controller.FromController.{FromController}
 use Rattle.of10_message.specs.declared.controller.FromController.TheVariants as said
 use Rattle.of10_message.specs.declared.fault.Unread.{Unread}

@@ -29,10 +29,10 @@ use Rattle.slice_words.specs.Questions.{may_ask}
 use Rattle.of10_message.specs.declared.controller.FromController.{FromController}
 use Rattle.of10_message.specs.declared.controller.FromController.TheVariants as said
 use Rattle.of10_message.specs.Controller.{read_controller}
-use Rattle.of10_config.specs.declared.queues.QueuesQuestion.{QueuesQuestion}
-use Rattle.of10_config.specs.Queues.{spell_queues_request}
-use Rattle.of10_config.proofs.Again.{question_passed}
-use Rattle.of10_message.proofs.Cases.{queues_as_read}
+use Rattle.of10_message.specs.declared.queues.QueuesQuestion.{QueuesQuestion}
+use Rattle.of10_message.specs.Queues.{spell_queues_request}
+use Rattle.of10_message.proofs.ConfigReadAgain.{question_passed}
+use Rattle.of10_message.proofs.ControllerCases.{queues_as_read}
 use Rattle.flowspace.specs.declared.slices.Slice.{Slice}
 use Rattle.flowspace.specs.declared.rules.Rule.{Rule}
 use Rattle.flowspace.specs.Policies.{PolicyView, IsPolicy}

@@ -8,7 +8,7 @@ use Rattle.of10_message.specs.declared.controller.FromController.{FromController
 use Rattle.of10_message.specs.declared.controller.FromController.TheVariants as said
 use Rattle.of10_message.specs.declared.fault.Unread.{Unread}
 use Rattle.of10_message.specs.declared.fault.Unread.TheVariants.{BadLength, NoCommonVersion, BadVersion, BadType}
-use Rattle.of10_config.specs.Configs.{read_config}
+use Rattle.of10_message.specs.Configs.{read_config}
 use Rattle.of10_message.specs.Forms.{sized, formed, read_hello}
 use Rattle.of10_message.specs.Controller.{read_typed, read_controller}
 use Rattle.of10_message.specs.Heads.{version_of, is_kind}

@@ -12,7 +12,7 @@ use Rattle.live_desk.specs.declared.object.DeskReply.TheVariants.{Took}
 use Rattle.live_desk.specs.declared.object.DeskObject.{DeskObject}
 use Rattle.turn_desk.specs.declared.view.Member.{Member}
 use Rattle.desk_words.specs.declared.event.Timed.{Timed}
-use Rattle.desk_words.specs.declared.answer.Taken.{Taken}
+use Rattle.desk_words.specs.declared.taken.Taken.{Taken}
 use Rattle.live_desk.specs.Operates.{Operates}
 use Rattle.live_session.specs.Stretches.{ops_of, AreSteps, at_moment, DeskCall, Spot, Went, WentOne}
 use Rattle.turn_desk.proofs.Making.{made_none, made_one, made_more, acted}

@@ -3,9 +3,9 @@ use Rattle.std.proofs.Common.{◌≡◌, ◌≢◌, inl, inr, ◌≤◌, ℕ, �
 use Rattle.std.specs.Prelude.{Option, Some, None}
 use Rattle.fv_live.specs.Live.{count_more}
 use Rattle.live_session.specs.Links.{RoseBy}
-use Rattle.desk_words.specs.declared.answer.Dest.TheVariants.{Slice}
-use Rattle.desk_words.specs.declared.answer.Taken.{Taken}
-use Rattle.desk_words.specs.declared.answer.Taken.TheVariants.{NotOpen}
+use Rattle.desk_words.specs.declared.dest.Dest.TheVariants.{Slice}
+use Rattle.desk_words.specs.declared.taken.Taken.{Taken}
+use Rattle.desk_words.specs.declared.taken.Taken.TheVariants.{NotOpen}
 use Rattle.live_desk.specs.declared.object.DeskOp.TheVariants.{Take}
 use Rattle.live_desk.specs.declared.object.DeskReply.TheVariants.{Took}
 use Rattle.live_session.specs.declared.ends.ReaderEnd.{ReaderEnd}

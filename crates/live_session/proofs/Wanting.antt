@@ -1,8 +1,8 @@
 -- Takes, one after another, and what they gave.
 use Rattle.std.proofs.Common.{◌≡◌, ℕ, ◌+◌, List, [], ◌∷◌, ◌++◌, refl, sym, ap, subst, ◌∙◌, append_assoc, append-nil, arith}
 use Rattle.std.proofs.lemmas.List.{length-append}
-use Rattle.desk_words.specs.declared.answer.Dest.{Dest}
-use Rattle.desk_words.specs.declared.answer.Taken.{Taken}
+use Rattle.desk_words.specs.declared.dest.Dest.{Dest}
+use Rattle.desk_words.specs.declared.taken.Taken.{Taken}
 use Rattle.turn_desk.specs.Histories.{Called}
 use Rattle.live_desk.specs.declared.object.DeskOp.TheVariants.{Take}
 use Rattle.live_desk.specs.declared.object.DeskReply.TheVariants.{Stepped, Took}

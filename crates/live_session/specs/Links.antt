@@ -1,9 +1,9 @@
 -- What a slice's reader asks of a desk: takes until the desk is opened, and then a stretch for each link. This proxy's own rules.
 use Rattle.std.specs.Prelude.{◌≡◌, ◌≢◌, ◌+◌, ◌≤◌, ◌⊎◌, ◌^◌, ◌-◌, ℕ, List, [], ◌∷◌, ◌++◌, Option, Some, None}
 use Rattle.fv_live.specs.Live.{count_more}
-use Rattle.desk_words.specs.declared.answer.Dest.TheVariants.{Slice}
-use Rattle.desk_words.specs.declared.answer.Taken.{Taken}
-use Rattle.desk_words.specs.declared.answer.Taken.TheVariants as taken
+use Rattle.desk_words.specs.declared.dest.Dest.TheVariants.{Slice}
+use Rattle.desk_words.specs.declared.taken.Taken.{Taken}
+use Rattle.desk_words.specs.declared.taken.Taken.TheVariants as taken
 use Rattle.live_desk.specs.declared.object.DeskOp.{DeskOp}
 use Rattle.live_desk.specs.declared.object.DeskReply.TheVariants.{Took}
 use Rattle.live_session.specs.declared.ends.ReaderEnd.{ReaderEnd}

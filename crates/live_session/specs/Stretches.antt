@@ -5,7 +5,7 @@ use Rattle.fv_live.specs.Live.{WasAsked, Moved}
 use Rattle.desk_words.specs.declared.event.Event.{Event}
 use Rattle.desk_words.specs.declared.event.Event.TheVariants.{SwitchUp, SwitchMsg, SwitchDown, SliceUp, SliceMsg, SliceDown}
 use Rattle.desk_words.specs.declared.event.Timed.{Timed}
-use Rattle.desk_words.specs.declared.answer.Verdict.TheVariants as verdict
+use Rattle.desk_words.specs.declared.verdict.Verdict.TheVariants as verdict
 use Rattle.desk_words.specs.Recorded.{timed_at}
 use Rattle.turn_desk.specs.declared.view.Member.{Member}
 use Rattle.live_desk.specs.declared.object.DeskObject.{DeskObject}

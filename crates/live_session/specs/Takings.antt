@@ -1,9 +1,9 @@
 -- What a seat takes of a desk for one destination, and what of it is written. This proxy's own rules.
 use Rattle.std.specs.Prelude.{◌≡◌, ◌+◌, ℕ, List, [], ◌∷◌, ◌++◌, length, Option, unwrap_or}
 use Rattle.fv_base.specs.Told.{appended, IsBeginning}
-use Rattle.desk_words.specs.declared.answer.Dest.{Dest}
-use Rattle.desk_words.specs.declared.answer.Taken.{Taken}
-use Rattle.desk_words.specs.declared.answer.Taken.TheVariants as taken
+use Rattle.desk_words.specs.declared.dest.Dest.{Dest}
+use Rattle.desk_words.specs.declared.taken.Taken.{Taken}
+use Rattle.desk_words.specs.declared.taken.Taken.TheVariants as taken
 use Rattle.desk_words.specs.Operations.{message_taken}
 use Rattle.turn_desk.specs.declared.view.Member.{Member}
 use Rattle.live_desk.specs.declared.object.DeskObject.{DeskObject}

@@ -3,7 +3,7 @@ ghost use Rattle.fv_base.specs.Told.{Rose};
 ghost use Rattle.fv_live.specs.Live.{count_more};
 ghost use Rattle.turn_desk.specs.Seats.{IsSeatOf, SameDesk, view};
 ghost use Rattle.live_session.specs.declared.ends.SliceEnd.TheVariants.{GaveUp};
-ghost use Rattle.desk_words.specs.declared.answer.Taken.TheVariants as takens;
+ghost use Rattle.desk_words.specs.declared.taken.Taken.TheVariants as takens;
 ghost use Rattle.live_session.specs.declared.side.Side.TheVariants as sides;
 ghost use Rattle.live_session.specs.Stretches.{spot, StretchBeforeDown};
 ghost use Rattle.live_session.specs.Takings.{TookOne};

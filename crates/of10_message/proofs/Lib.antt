@@ -1,2 +1,5 @@
-pub mod Cases
-pub mod Typed
+pub mod ConfigReadAgain
+pub mod ControllerCases
+pub mod ControllerTyped
+pub mod SwitchCases
+pub mod SwitchTyped

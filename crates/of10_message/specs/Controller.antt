@@ -1,8 +1,8 @@
 -- What a controller sends to its slice, read from its bytes, or the first thing that is wrong with them (OpenFlow 1.0.0, section 5; the order of what is looked at is this proxy's own rule).
 use Rattle.std.specs.Prelude.{ℕ, if◌then◌else◌, List, drop, Result, Ok, Err}
 use Rattle.of10_ctl.specs.declared.kind.TheConstants.{ERROR, ECHO_REQUEST, ECHO_REPLY, VENDOR, FEATURES_REQUEST, GET_CONFIG_REQUEST, SET_CONFIG, PACKET_OUT, FLOW_MOD, PORT_MOD, STATS_REQUEST, BARRIER_REQUEST, QUEUE_GET_CONFIG_REQUEST}
-use Rattle.of10_config.specs.Configs.{read_config}
-use Rattle.of10_config.specs.Queues.{read_queues_request}
+use Rattle.of10_message.specs.Configs.{read_config}
+use Rattle.of10_message.specs.Queues.{read_queues_request}
 use Rattle.of10_flow.specs.PacketOuts.{read_packet_out}
 use Rattle.of10_flow.specs.FlowMods.{read_flow_mod}
 use Rattle.of10_stats.specs.Requests.{read_request}

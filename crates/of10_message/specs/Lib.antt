@@ -1,4 +1,9 @@
+pub mod Configs
+pub mod Queues
 pub mod Heads
 pub mod Forms
 pub mod Controller
 pub mod Errors
+pub mod Switch
+pub mod SwitchViews
+pub mod SwitchRanges

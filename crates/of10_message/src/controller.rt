@@ -1,4 +1,5 @@
-use of10_config::{QueuesQuestion, SwitchConfig};
+use crate::config::SwitchConfig;
+use crate::queues::QueuesQuestion;
 use of10_ctl::BodyView;
 use of10_flow::{FlowModView, PacketOutView};
 use of10_stats::StatsRequest;

@@ -1,17 +1,25 @@
-//! Messages read once: what a controller sends to its slice, one value for each type of message, or the first thing
-//! that is wrong with its bytes; and the errors of a switch.
+//! The messages of OpenFlow 1.0 read once: what a controller sends to its slice and what a switch sends, one value
+//! for each type of message, or the first thing that is wrong with its bytes; the configuration of a switch and of
+//! its queues, read and spelled; and the errors of a switch.
 #![tactic(auto)]
 
 mod body;
+mod config;
 mod controller;
+mod controller_reading;
 mod error;
 mod fault;
 pub mod laws;
-mod reading;
+mod queues;
+mod switch;
+mod switch_reading;
 
 pub use body::bare;
+pub use config::{SwitchConfig, config_reply, set_config};
 pub use controller::FromController;
+pub use controller_reading::read_controller;
 pub use error::{ErrorView, pair_in};
 pub use fault::Unread;
-pub use of10_config::{QueuesQuestion, QueuesView, SwitchConfig};
-pub use reading::read_controller;
+pub use queues::{QueuesQuestion, QueuesView, queues_reply, queues_request};
+pub use switch::FromSwitch;
+pub use switch_reading::read_switch;

@@ -3,7 +3,7 @@ ghost use Rattle.of10_port.specs.Ports.{port_number};
 ghost use Rattle.port_view.specs.KnownPorts.{IsAscending, is_known, with_port, kept_of, changed_plainly};
 ghost use Rattle.port_view.specs.Places.{IsPlace};
 
-use crate::answer::{DELETE, Kept, answer_to};
+use crate::kept::{DELETE, Kept, answer_to};
 use of10_port::{Port, PortStatus};
 use std::alloc::AllocError;
 

@@ -8,7 +8,7 @@ ghost use Rattle.port_view.specs.KnownPorts.{IsAscending, with_told, first_known
 ghost use Rattle.port_view.specs.Places.{PortsStand};
 ghost use Rattle.port_view.specs.SlicePorts.{ports_of_slice, features_with, flooded};
 
-use crate::answer::Kept;
+use crate::kept::Kept;
 use crate::places::{change, judged, place_of, put};
 use crate::shown::{buffers_for, flood_ports, ports_of};
 use flowspace::{SwitchPolicy, is_in_port};

@@ -16,8 +16,8 @@ use Rattle.desk_words.specs.Sent.{lane_in, put_with}
 use Rattle.desk_words.specs.Verdicts.{is_ended, is_before}
 use Rattle.desk_words.proofs.Alone.{none_in}
 use Rattle.desk_words.specs.Operations.{slice_limit, lane_limit, empties, is_ending}
-use Rattle.proxy_core.specs.declared.parts.Session.{Session}
-use Rattle.proxy_core.specs.declared.parts.Desk.{Desk}
+use Rattle.proxy_core.specs.declared.desk.Session.{Session}
+use Rattle.proxy_core.specs.declared.desk.Desk.{Desk}
 use Rattle.proxy_core.specs.Desks.{SessionStands, Opens, Body, Coherent, sides_after, up_after, queues_after, lane_after}
 use Rattle.of10_model.proofs.Results.{either_none}
 use Rattle.proxy_core.proofs.Lists.{within}

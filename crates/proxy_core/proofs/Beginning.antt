@@ -6,12 +6,12 @@ use Rattle.of10_port.specs.declared.features.Features.{Features}
 use Rattle.of10_message.specs.declared.fault.Unread.{Unread}
 use Rattle.of10_message.specs.declared.fault.Unread.TheVariants.{BadLength}
 use Rattle.of10_message.specs.Heads.{xid_of}
-use Rattle.of10_switch.specs.Messages.{SwitchMessage, read_switch, has_bad_length}
+use Rattle.of10_message.specs.Switch.{SwitchMessage, read_switch, has_bad_length}
 use Rattle.of10_port.specs.declared.features.FeaturesView.{FeaturesView}
-use Rattle.of10_switch.specs.declared.message.FromSwitch.{FromSwitch}
-use Rattle.of10_switch.specs.declared.message.FromSwitch.TheVariants as views
-use Rattle.of10_switch.specs.Views.{said_by}
-use Rattle.of10_switch.proofs.Cases.{bad_read}
+use Rattle.of10_message.specs.declared.switch.FromSwitch.{FromSwitch}
+use Rattle.of10_message.specs.declared.switch.FromSwitch.TheVariants as views
+use Rattle.of10_message.specs.SwitchViews.{said_by}
+use Rattle.of10_message.proofs.SwitchCases.{bad_read}
 use Rattle.flowspace.specs.declared.slices.Slice.{Slice}
 use Rattle.flowspace.specs.Policies.{PolicyView}
 use Rattle.port_view.specs.KnownPorts.{first_known, known_of}
@@ -30,7 +30,7 @@ use Rattle.desk_words.specs.Histories.{is_slot, settings_at, own_features, Slice
 use Rattle.desk_words.specs.Sent.{echo_said, echo_for}
 use Rattle.desk_words.specs.Operations.{slice_limit}
 use Rattle.switch_side.specs.Dispatches.{told_at}
-use Rattle.proxy_core.specs.declared.parts.Session.{Session}
+use Rattle.proxy_core.specs.declared.desk.Session.{Session}
 use Rattle.proxy_core.specs.Desks.{SlotStands, SessionStands, Opens, Coherent, sides_after, queues_after}
 use Rattle.proxy_core.specs.Opening.{Begins}
 use Rattle.proxy_core.proofs.Lists.{there, within}

@@ -15,8 +15,8 @@ use Rattle.desk_words.specs.Sent.{greeting, lane_in, put_with}
 use Rattle.desk_words.specs.Verdicts.{is_fresh, is_ended, is_before, is_switch_up, is_down, is_of_policy, is_connected, is_closing}
 use Rattle.desk_words.specs.Operations.{lane_limit}
 use Rattle.desk_words.proofs.Erasing.{slices_switch}
-use Rattle.proxy_core.specs.declared.parts.Session.{Session}
-use Rattle.proxy_core.specs.declared.parts.Desk.{Desk}
+use Rattle.proxy_core.specs.declared.desk.Session.{Session}
+use Rattle.proxy_core.specs.declared.desk.Desk.{Desk}
 use Rattle.proxy_core.specs.Slots.{HasMore}
 use Rattle.proxy_core.specs.Desks.{Opens, Body, Coherent, sides_after, up_after, queues_after, lane_after, closes_now, Acts, Ends, is_begun, is_begun_with}
 use Rattle.of10_model.proofs.Results.{either_none}

@@ -6,17 +6,17 @@ use Rattle.flowspace.specs.Policies.{PolicyView}
 use Rattle.outbox.specs.Queues.{Queue, without_first}
 use Rattle.desk_words.specs.declared.event.Timed.{Timed}
 use Rattle.desk_words.specs.declared.phase.Phase.{Phase}
-use Rattle.desk_words.specs.declared.answer.Dest.{Dest}
-use Rattle.desk_words.specs.declared.answer.Dest.TheVariants.{Switch, Slice}
-use Rattle.desk_words.specs.declared.answer.Verdict.TheVariants as verdicts
-use Rattle.desk_words.specs.declared.answer.Verdict.TheVariants.{Go, Close}
-use Rattle.desk_words.specs.declared.answer.Taken.{Taken}
-use Rattle.desk_words.specs.declared.answer.Taken.TheVariants.{Message}
+use Rattle.desk_words.specs.declared.dest.Dest.{Dest}
+use Rattle.desk_words.specs.declared.dest.Dest.TheVariants.{Switch, Slice}
+use Rattle.desk_words.specs.declared.verdict.Verdict.TheVariants as verdicts
+use Rattle.desk_words.specs.declared.verdict.Verdict.TheVariants.{Go, Close}
+use Rattle.desk_words.specs.declared.taken.Taken.{Taken}
+use Rattle.desk_words.specs.declared.taken.Taken.TheVariants.{Message}
 use Rattle.desk_words.specs.Openings.{phase_of, switch_of}
 use Rattle.desk_words.specs.Histories.{side_of}
 use Rattle.desk_words.specs.Verdicts.{is_ended, is_over, is_down, closes, verdict}
 use Rattle.desk_words.specs.Operations.{Operation, Step, Take, events_of, queue_of, lane_of, waiting_in, waiting_of, empty_reply}
-use Rattle.proxy_core.specs.declared.parts.Desk.{Desk}
+use Rattle.proxy_core.specs.declared.desk.Desk.{Desk}
 use Rattle.proxy_core.specs.Desks.{Body, Acted, Acts, Stays, DeskStands, Replied, Answered, TakesNext, IsSilence, queues_less, lane_less}
 use Rattle.proxy_core.proofs.Fitting.{coherent}
 

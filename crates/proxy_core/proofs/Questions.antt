@@ -5,13 +5,13 @@ use Rattle.std.proofs.lemmas.Option.{slice_get_past}
 use Rattle.flowspace.specs.Policies.{PolicyView}
 use Rattle.outbox.specs.Queues.{Queue, no_messages, OutboxState}
 use Rattle.slice_words.specs.Items.{is_up}
-use Rattle.desk_words.specs.declared.answer.Dest.TheVariants.{Switch, Slice}
+use Rattle.desk_words.specs.declared.dest.Dest.TheVariants.{Switch, Slice}
 use Rattle.desk_words.specs.Openings.{KnownSwitch as Known, switch_of, phase_of}
 use Rattle.desk_words.specs.Histories.{is_slot, SliceSide, side_of, is_open}
 use Rattle.desk_words.specs.Verdicts.{is_ended}
 use Rattle.desk_words.specs.Operations.{Operation, events_of, queue_of}
-use Rattle.proxy_core.specs.declared.parts.Session.{Session}
-use Rattle.proxy_core.specs.declared.parts.Desk.{Desk}
+use Rattle.proxy_core.specs.declared.desk.Session.{Session}
+use Rattle.proxy_core.specs.declared.desk.Desk.{Desk}
 use Rattle.proxy_core.specs.Desks.{SessionStands, Opens, DeskStands, TellsWaiting, TellsEnd, TellsOpening, TellsUp, left, pending_at}
 use Rattle.proxy_core.specs.Opening.{is_up_at}
 use Rattle.proxy_core.proofs.Standing.{slots_are, slot_there}

@@ -8,7 +8,7 @@ use Rattle.flowspace.specs.declared.slices.Slice.{Slice}
 use Rattle.flow_book.specs.declared.state.SliceState.{SliceState}
 use Rattle.flow_book.specs.States.{IsFreshState}
 use Rattle.outbox.specs.Queues.{Queue, push, push_all, OutboxState}
-use Rattle.proxy_core.specs.declared.parts.Session.{Session}
+use Rattle.proxy_core.specs.declared.desk.Session.{Session}
 use Rattle.proxy_core.specs.Desks.{pending_at}
 use Rattle.proxy_core.specs.Opening.{has_side_at, is_up_at, AtSlot}
 use Rattle.proxy_core.proofs.Lists.{there, within}

@@ -26,8 +26,8 @@ use Rattle.desk_words.specs.Verdicts.{is_fresh, is_ended}
 use Rattle.desk_words.specs.Operations.{slice_limit, lane_limit, empties, is_ending}
 use Rattle.desk_words.proofs.Erasing.{slices_switch}
 use Rattle.switch_side.specs.declared.spare.Spare.{Spare}
-use Rattle.proxy_core.specs.declared.parts.Session.{Session}
-use Rattle.proxy_core.specs.declared.parts.Desk.{Desk}
+use Rattle.proxy_core.specs.declared.desk.Session.{Session}
+use Rattle.proxy_core.specs.declared.desk.Desk.{Desk}
 use Rattle.proxy_core.specs.Slots.{Comes, Keeps, Heard, Hears, SameQueue}
 use Rattle.proxy_core.specs.Desks.{SlotStands, SessionStands, Opens, Body, Coherent, sides_after, up_after, queues_after, lane_after, closes_now, Acts, Stays}
 use Rattle.proxy_core.specs.Opening.{has_side_at, is_up_at, AtSlot, Goes, StandsOn}

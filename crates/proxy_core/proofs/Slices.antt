@@ -16,7 +16,7 @@ use Rattle.desk_words.specs.Histories.{is_slot, settings_at, SliceSide, items_of
 use Rattle.desk_words.specs.Operations.{slice_limit, empties}
 use Rattle.desk_words.proofs.Erasing.{others_items}
 use Rattle.desk_words.proofs.Ends.{down_sent}
-use Rattle.proxy_core.specs.declared.parts.Session.{Session}
+use Rattle.proxy_core.specs.declared.desk.Session.{Session}
 use Rattle.proxy_core.specs.Slots.{Keeps, Comes}
 use Rattle.proxy_core.specs.Desks.{SlotStands, SessionStands, sides_after, up_after, queues_after}
 use Rattle.proxy_core.specs.Opening.{AtSlot, Goes, StandsOn}

@@ -16,7 +16,7 @@ use Rattle.desk_words.specs.Openings.{rules_of, opening_after, known_after, Know
 use Rattle.desk_words.specs.Histories.{is_slot, settings_at, SliceSide, items_of, phase_items, event_items, is_any_given, number_told, came_with, with_shown}
 use Rattle.desk_words.specs.Sent.{sent_with}
 use Rattle.desk_words.specs.Operations.{slice_limit, empties}
-use Rattle.proxy_core.specs.declared.parts.Session.{Session}
+use Rattle.proxy_core.specs.declared.desk.Session.{Session}
 use Rattle.proxy_core.specs.Desks.{SlotStands, SessionStands, sides_after, up_after, queues_after}
 use Rattle.proxy_core.specs.Opening.{has_side_at, AtSlot}
 use Rattle.desk_words.proofs.Ends.{end_sent}

@@ -7,11 +7,11 @@ use Rattle.of10_port.specs.declared.features.Features.{Features}
 use Rattle.of10_port.specs.declared.status.PortStatus.{PortStatus}
 use Rattle.of10_message.specs.declared.fault.Unread.{Unread}
 use Rattle.of10_message.specs.Heads.{xid_of}
-use Rattle.of10_switch.specs.Messages.{SwitchMessage, read_switch, has_bad_length}
-use Rattle.of10_switch.proofs.Cases.{bad_read, bad_length-read}
+use Rattle.of10_message.specs.Switch.{SwitchMessage, read_switch, has_bad_length}
+use Rattle.of10_message.proofs.SwitchCases.{bad_read, bad_length-read}
 use Rattle.flowspace.specs.Policies.{PolicyView}
-use Rattle.port_view.specs.declared.answer.Kept.{Kept as Answer}
-use Rattle.port_view.specs.declared.answer.Kept.TheVariants.{Kept as IsKept, Ignored, TooManyPorts}
+use Rattle.port_view.specs.declared.kept.Kept.{Kept as Answer}
+use Rattle.port_view.specs.declared.kept.Kept.TheVariants.{Kept as IsKept, Ignored, TooManyPorts}
 use Rattle.port_view.specs.KnownPorts.{changed, kept_of}
 use Rattle.port_view.proofs.Knowing.{changed-not_kept}
 use Rattle.flow_book.specs.declared.state.SliceState.{SliceState}
@@ -30,8 +30,8 @@ use Rattle.desk_words.specs.Operations.{slice_limit, lane_limit}
 use Rattle.switch_side.specs.declared.dispatch.Dispatch.{Dispatch}
 use Rattle.switch_side.specs.Changes.{StandOn}
 use Rattle.switch_side.specs.Dispatches.{Surrounds, AllStand, AllNumbered, IsDispatch, AreChanges, told_at, sent_to_all}
-use Rattle.proxy_core.specs.declared.parts.Session.{Session}
-use Rattle.proxy_core.specs.declared.parts.Desk.{Desk}
+use Rattle.proxy_core.specs.declared.desk.Session.{Session}
+use Rattle.proxy_core.specs.declared.desk.Desk.{Desk}
 use Rattle.proxy_core.specs.Slots.{HasOnly, HasMore}
 use Rattle.proxy_core.specs.Handing.{AreSame, AreHanded}
 use Rattle.proxy_core.specs.Desks.{SessionStands, Opens, Body, Coherent, sides_after, up_after, queues_after, Acted, Acts, ActsIn, Ends, PassesOn}

@@ -8,17 +8,17 @@ use Rattle.slice_words.specs.Items.{is_up}
 use Rattle.slice_words.specs.Standing.{SliceStands}
 use Rattle.desk_words.specs.declared.phase.Phase.{Phase}
 use Rattle.desk_words.specs.declared.phase.Phase.TheVariants.{Fresh, Begun, Opened}
-use Rattle.desk_words.specs.declared.answer.Dest.{Dest}
-use Rattle.desk_words.specs.declared.answer.Dest.TheVariants.{Switch, Slice}
-use Rattle.desk_words.specs.declared.answer.Taken.{Taken}
-use Rattle.desk_words.specs.declared.answer.Taken.TheVariants as takens
-use Rattle.desk_words.specs.declared.answer.Taken.TheVariants.{Message, Nothing, Choked, NotOpen}
+use Rattle.desk_words.specs.declared.dest.Dest.{Dest}
+use Rattle.desk_words.specs.declared.dest.Dest.TheVariants.{Switch, Slice}
+use Rattle.desk_words.specs.declared.taken.Taken.{Taken}
+use Rattle.desk_words.specs.declared.taken.Taken.TheVariants as takens
+use Rattle.desk_words.specs.declared.taken.Taken.TheVariants.{Message, Nothing, Choked, NotOpen}
 use Rattle.desk_words.specs.Openings.{KnownSwitch as Known}
 use Rattle.desk_words.specs.Histories.{is_slot, settings_at, SliceSide, is_open}
 use Rattle.desk_words.specs.Verdicts.{is_ended}
 use Rattle.desk_words.specs.Operations.{slice_limit, lane_limit, why_none}
-use Rattle.proxy_core.specs.declared.parts.Session.{Session}
-use Rattle.proxy_core.specs.declared.parts.Desk.{Desk}
+use Rattle.proxy_core.specs.declared.desk.Session.{Session}
+use Rattle.proxy_core.specs.declared.desk.Desk.{Desk}
 use Rattle.proxy_core.specs.Desks.{SessionStands, Opens, up_now, queues_less, TakesNext, silence_before, IsSilence, is_message, Shrinks}
 use Rattle.proxy_core.specs.Opening.{has_side_at, is_up_at, AtSlot, IsNext, silence_at}
 use Rattle.proxy_core.proofs.Standing.{slots_are, slot_becomes, slot_there, change_there}

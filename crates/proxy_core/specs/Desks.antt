@@ -9,20 +9,20 @@ use Rattle.of10_port.specs.declared.features.Features.{Features}
 use Rattle.desk_words.specs.declared.event.Timed.{Timed}
 use Rattle.desk_words.specs.declared.phase.Phase.{Phase}
 use Rattle.desk_words.specs.declared.phase.Phase.TheVariants.{Begun, Opened, Gone}
-use Rattle.desk_words.specs.declared.answer.Dest.{Dest}
-use Rattle.desk_words.specs.declared.answer.Dest.TheVariants.{Switch, Slice}
-use Rattle.desk_words.specs.declared.answer.Taken.{Taken}
-use Rattle.desk_words.specs.declared.answer.Taken.TheVariants as takens
-use Rattle.desk_words.specs.declared.answer.Taken.TheVariants.{Message, NotOpen}
-use Rattle.desk_words.specs.declared.answer.Verdict.{Verdict}
+use Rattle.desk_words.specs.declared.dest.Dest.{Dest}
+use Rattle.desk_words.specs.declared.dest.Dest.TheVariants.{Switch, Slice}
+use Rattle.desk_words.specs.declared.taken.Taken.{Taken}
+use Rattle.desk_words.specs.declared.taken.Taken.TheVariants as takens
+use Rattle.desk_words.specs.declared.taken.Taken.TheVariants.{Message, NotOpen}
+use Rattle.desk_words.specs.declared.verdict.Verdict.{Verdict}
 use Rattle.desk_words.specs.Openings.{ends_switch, rules_of, phase_of, phase_after, KnownSwitch, switch_after, switch_of}
 use Rattle.desk_words.specs.Histories.{is_slot, settings_at, SliceSide, side_start, side_of, is_open, is_slice_up, side_after, is_up_in}
 use Rattle.desk_words.specs.Sent.{sent_with, put_with, lane_in, echo_for}
 use Rattle.desk_words.specs.Verdicts.{is_ended, is_before, is_closing}
 use Rattle.desk_words.specs.Operations.{Operation, Step, Take, events_of, slice_limit, lane_limit, is_slice, is_switch, queue_of, lane_of, waiting_in, why_none, take_reply, IsReply, message_taken, queue_with, lane_with, less_taken, waiting_of}
 use Rattle.desk_words.specs.Laws.{HasSeen}
-use Rattle.proxy_core.specs.declared.parts.Session.{Session}
-use Rattle.proxy_core.specs.declared.parts.Desk.{Desk}
+use Rattle.proxy_core.specs.declared.desk.Session.{Session}
+use Rattle.proxy_core.specs.declared.desk.Desk.{Desk}
 use Rattle.proxy_core.specs.Slots.{HasMore, HasOnly}
 use Rattle.switch_side.specs.Dispatches.{AllNumbered, told_at}
 

@@ -10,15 +10,15 @@ use Rattle.flow_book.specs.States.{IsFreshState}
 use Rattle.outbox.specs.Queues.{Queue, no_messages, without_first, OutboxState, QueueStands}
 use Rattle.slice_words.specs.Items.{Down}
 use Rattle.desk_words.specs.declared.event.Event.TheVariants.{SwitchMsg}
-use Rattle.desk_words.specs.declared.answer.Taken.{Taken}
-use Rattle.desk_words.specs.declared.answer.Taken.TheVariants.{Choked, Nothing, Ended}
+use Rattle.desk_words.specs.declared.taken.Taken.{Taken}
+use Rattle.desk_words.specs.declared.taken.Taken.TheVariants.{Choked, Nothing, Ended}
 use Rattle.desk_words.specs.declared.phase.Phase.TheVariants.{Opened}
 use Rattle.desk_words.specs.Openings.{ends_switch, KnownSwitch, switch_after}
 use Rattle.desk_words.specs.Histories.{SliceSide}
 use Rattle.desk_words.specs.Sent.{echo_for}
 use Rattle.desk_words.specs.Operations.{slice_limit}
 use Rattle.switch_side.specs.Dispatches.{told_at, AllNumbered}
-use Rattle.proxy_core.specs.declared.parts.Session.{Session}
+use Rattle.proxy_core.specs.declared.desk.Session.{Session}
 use Rattle.proxy_core.specs.Slots.{IsSeen, HasOnly, HasMore}
 use Rattle.proxy_core.specs.Desks.{SessionStands, sides_after, queues_after}
 

@@ -1,15 +1,18 @@
 //! The desk of one switch: where its connection and those of its slices' controllers come together.
 #![tactic(auto)]
 
-mod asking;
+mod desk;
+mod desk_events;
 mod indexed;
-mod lane;
-mod opened;
-mod parts;
-mod session;
-mod slots;
-mod step;
+mod known_ports;
+mod own_messages;
+mod queries;
+mod session_events;
+mod session_start;
+mod slice_events;
+mod slice_queues;
 mod take;
+mod waiting;
 
+pub use desk::Desk;
 pub use desk_words::{Dest, Event, Taken, Timed, Verdict, laws};
-pub use parts::Desk;

@@ -1,12 +1,12 @@
 //! What is taken from a desk.
 
 ghost use Rattle.std.specs.Prelude.{◌≡◌, ◌<◌, false, None, Some, if◌then◌else◌, IfSome};
-ghost use Rattle.desk_words.specs.declared.answer.Dest.TheVariants.{Switch, Slice};
-ghost use Rattle.desk_words.specs.declared.answer.Taken.TheVariants.{Nothing, Choked};
+ghost use Rattle.desk_words.specs.declared.dest.Dest.TheVariants.{Switch, Slice};
+ghost use Rattle.desk_words.specs.declared.taken.Taken.TheVariants.{Nothing, Choked};
 ghost use Rattle.proxy_core.specs.Desks.{is_message, TakesNext, IsSilence, left, pending_at, silence_before, Shrinks, Takes};
 ghost use Rattle.proxy_core.specs.Opening.{has_side_at, AtSlot, IsNext, silence_at};
 
-use crate::parts::{Desk, Session};
+use crate::desk::{Desk, Session};
 use desk_words::{Dest, Phase, Taken};
 use of10_ctl::Frame;
 

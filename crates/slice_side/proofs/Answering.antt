@@ -13,7 +13,7 @@ use Rattle.slice_words.specs.Pasts.{Answer, Past, no_answer}
 use Rattle.slice_words.specs.Answers.{unread_answer, rated_answer, read_answer, message_answer}
 use Rattle.slice_words.specs.Alone.{answer_to}
 use Rattle.slice_words.specs.Standing.{SliceStands, past_of}
-use Rattle.slice_side.specs.declared.answered.Reaction.{Reaction}
+use Rattle.slice_side.specs.declared.reaction.Reaction.{Reaction}
 use Rattle.slice_side.specs.Reactions.{Sees, Shown, Follows, IsReaction}
 
 -- what the state and the switch say is what the slice saw

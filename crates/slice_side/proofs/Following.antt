@@ -19,7 +19,7 @@ use Rattle.slice_words.specs.Answers.{error_for, refused, flow_mod_answer, packe
 use Rattle.slice_words.specs.Pasts.{Outgoing, Answer, is_any, forwarded}
 use Rattle.slice_words.specs.Alone.{rendered}
 use Rattle.slice_words.specs.Standing.{past_of}
-use Rattle.slice_side.specs.declared.answered.Reaction.{Reaction}
+use Rattle.slice_side.specs.declared.reaction.Reaction.{Reaction}
 use Rattle.slice_side.specs.declared.change.Change.{Change}
 use Rattle.slice_side.specs.declared.change.Change.TheVariants.{Rated, Modified, SentOut}
 use Rattle.slice_side.specs.declared.change.Modification.{Modification}

@@ -10,7 +10,7 @@ use Rattle.xid_map.specs.declared.asked.Asked.{Asked}
 use Rattle.flow_book.specs.declared.booked.Booked.{Booked}
 use Rattle.stats_filter.specs.Asking.{asked_as, question_for}
 use Rattle.stats_filter.specs.Replies.{table_reply}
-use Rattle.of10_config.specs.declared.queues.QueuesQuestion.{QueuesQuestion}
+use Rattle.of10_message.specs.declared.queues.QueuesQuestion.{QueuesQuestion}
 use Rattle.slice_words.specs.Messages.{Reading, asked_of}
 use Rattle.slice_words.specs.Items.{Settings, Sight, is_own_port}
 use Rattle.slice_words.specs.Pasts.{Inquiry, ForStatistics, Answer, told}
@@ -18,7 +18,7 @@ use Rattle.slice_words.specs.FlowMods.{Ground, not_permitted}
 use Rattle.slice_words.specs.Questions.{may_ask, asking, statistics_asked, queues_asked}
 use Rattle.slice_words.specs.Answers.{refused, statistics_answer, queues_answer}
 use Rattle.slice_words.specs.Alone.{spell_inquiry}
-use Rattle.slice_side.specs.declared.answered.Reaction.{Reaction}
+use Rattle.slice_side.specs.declared.reaction.Reaction.{Reaction}
 use Rattle.slice_side.specs.declared.change.Change.TheVariants.{Inquired}
 use Rattle.slice_side.specs.Reactions.{is_inquiry, Follows}
 use Rattle.slice_side.proofs.Following.{follows_sent}

@@ -23,8 +23,8 @@ use Rattle.slice_words.specs.Buffers.{HeldPacket}
 use Rattle.slice_side.specs.Reactions.{without_physical}
 use Rattle.slice_side.proofs.Packets.{HaveCome, kept_for, carrier_come}
 use Rattle.slice_side.specs.Checking.{not_held_in, flow_mods_from, PassesEarly, HasLists, IsListing, IsListed}
-use Rattle.slice_side.specs.declared.pieces.Listing.{Listing}
-use Rattle.slice_side.specs.declared.pieces.Listing.TheVariants.{Given, TooMany, Forbidden}
+use Rattle.slice_side.specs.declared.checked_actions.Listing.{Listing}
+use Rattle.slice_side.specs.declared.checked_actions.Listing.TheVariants.{Given, TooMany, Forbidden}
 
 -- ---- three lines before others
 

@@ -5,7 +5,7 @@ use Rattle.of10_message.specs.declared.controller.FromController.{FromController
 use Rattle.flowspace.specs.declared.rules.Rule.{Rule}
 use Rattle.flow_book.specs.declared.state.SliceState.{SliceState}
 use Rattle.slice_words.specs.Messages.{Reading}
-use Rattle.slice_side.specs.declared.answered.Reaction.{Reaction}
+use Rattle.slice_side.specs.declared.reaction.Reaction.{Reaction}
 use Rattle.slice_side.specs.Reactions.{ground_at}
 use Rattle.slice_side.specs.Checking.{IsInquirySent, AreSentOn}
 

@@ -15,7 +15,7 @@ use Rattle.of10_ctl.specs.declared.kind.TheConstants.{BARRIER_REQUEST}
 use Rattle.of10_ctl.specs.Frames.{message_of}
 use Rattle.of10_message.specs.declared.controller.FromController.{FromController}
 use Rattle.of10_message.specs.declared.controller.FromController.TheVariants as said
-use Rattle.of10_config.specs.Queues.{spell_queues_request}
+use Rattle.of10_message.specs.Queues.{spell_queues_request}
 use Rattle.flowspace.specs.declared.rules.Rule.{Rule}
 use Rattle.stats_filter.specs.Asking.{question_for}
 use Rattle.buffer_map.specs.declared.held.Held.{Held}
@@ -30,10 +30,10 @@ use Rattle.slice_side.specs.declared.packet_outs.PacketOutcome.{PacketOutcome}
 use Rattle.slice_side.specs.declared.packet_outs.PacketOutcome.TheVariants as packet_outcome
 use Rattle.flowspace.specs.Options.{first_some}
 use Rattle.slice_words.specs.FlowMods.{Ground, pieces_on, first_refusal, is_too_long, first_forbidden, lists_on, packet_at, named_packet, piece_place, carrier_of, wrong_command, emergency, buffer_not_held, outside_flowspace, flow_mod_fault, flow_mods_with, is_not_held}
-use Rattle.slice_side.specs.declared.pieces.Checked.{Checked}
-use Rattle.slice_side.specs.declared.pieces.Checked.TheVariants as checked
-use Rattle.slice_side.specs.declared.pieces.Listing.{Listing}
-use Rattle.slice_side.specs.declared.pieces.Listing.TheVariants as listing
+use Rattle.slice_side.specs.declared.checked_actions.Checked.{Checked}
+use Rattle.slice_side.specs.declared.checked_actions.Checked.TheVariants as checked
+use Rattle.slice_side.specs.declared.checked_actions.Listing.{Listing}
+use Rattle.slice_side.specs.declared.checked_actions.Listing.TheVariants as listing
 use Rattle.slice_side.specs.declared.flow_mods.FlowModOutcome.{FlowModOutcome}
 use Rattle.slice_side.specs.declared.flow_mods.FlowModOutcome.TheVariants as outcome
 

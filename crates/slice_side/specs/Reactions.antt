@@ -24,7 +24,7 @@ use Rattle.slice_words.specs.Buffers.{HeldPacket, is_named, held_packets, has_nu
 use Rattle.slice_words.specs.FlowMods.{Ground}
 use Rattle.slice_words.specs.Alone.{answer_to, rendered}
 use Rattle.slice_words.specs.Standing.{past_of}
-use Rattle.slice_side.specs.declared.answered.Reaction.{Reaction}
+use Rattle.slice_side.specs.declared.reaction.Reaction.{Reaction}
 use Rattle.slice_side.specs.declared.change.Change.{Change}
 use Rattle.slice_side.specs.declared.change.Change.TheVariants.{Heard, Set, Dismissed, Rated, Modified, SentOut, Inquired}
 use Rattle.slice_side.specs.declared.change.Modification.{Modification}

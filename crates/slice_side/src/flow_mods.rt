@@ -11,10 +11,10 @@ ghost use Rattle.flowmod_expand.specs.Pieces.{pieces_of};
 ghost use Rattle.flow_book.specs.Books.{overlaps_in};
 ghost use Rattle.slice_side.specs.Checking.{held_for, not_held_in, IsListed, PassesEarly, IsOutcome, HasDistinctPieces, HasLists};
 
+use crate::around::Around;
+use crate::checked_actions::{Listing, list_pieces, no_actions};
 use crate::held::{carrier, packet_at};
-use crate::pieces::{Listing, list_pieces, no_actions};
 use crate::ports::floods_for;
-use crate::replying::Around;
 use buffer_map::Held;
 use flow_book::SliceState;
 use flowmod_expand::{BuildFault, build, pieces};

@@ -2,23 +2,25 @@
 //! slice's state.
 #![tactic(auto)]
 
-mod answered;
 mod applying;
-mod asking;
+mod around;
 mod change;
+mod checked_actions;
 mod flow_mods;
 mod held;
+mod local_answers;
 mod packet_outs;
-mod pieces;
 mod ports;
-mod questions;
+mod rated_messages;
 mod reacting;
+mod reaction;
+mod refusals;
 mod remembering;
-mod replying;
+mod requests;
 mod reserving;
 
-pub use answered::Reaction;
 pub use applying::{apply, come_up, go_down};
 pub use change::{Change, Modification};
 pub use reacting::react;
+pub use reaction::Reaction;
 pub use reserving::reserve;

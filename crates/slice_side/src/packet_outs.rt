@@ -13,10 +13,10 @@ ghost use Rattle.flowspace.specs.Options.{first_some};
 ghost use Rattle.slice_side.specs.Reactions.{without_physical, ground_at};
 ghost use Rattle.slice_side.specs.Checking.{packet_kept, number_in, IsChecked, early, MayBeSent, IsPacketOutcome};
 
+use crate::around::Around;
+use crate::checked_actions::{Checked, check_actions};
 use crate::held::packet_at;
-use crate::pieces::{Checked, check_actions};
 use crate::ports::floods_for;
-use crate::replying::Around;
 use action_check::{Origin, writes_by_some_port};
 use buffer_map::Held;
 use frame_header::{header_of, probe_trailer};

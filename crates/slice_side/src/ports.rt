@@ -6,7 +6,7 @@ ghost use Rattle.flowspace.specs.Owners.{HasPort};
 ghost use Rattle.port_view.specs.SlicePorts.{ports_of_slice, flooded};
 ghost use Rattle.slice_side.specs.Checking.{is_sent_to, ports_named};
 
-use crate::replying::Around;
+use crate::around::Around;
 use of10_action::Action;
 use of10_port::protocol::{ALL, FLOOD};
 use std::alloc::{AllocError, Global};

@@ -6,9 +6,11 @@ ghost use Rattle.slice_words.specs.Standing.{SliceStands};
 ghost use Rattle.slice_side.specs.Reactions.{Sees, IsReaction, IsSoundChange};
 ghost use Rattle.slice_side.specs.Checking.{AreSentOn};
 
-use crate::answered::Reaction;
-use crate::questions::question;
-use crate::replying::{Around, local, unread};
+use crate::around::Around;
+use crate::local_answers::local;
+use crate::rated_messages::question;
+use crate::reaction::Reaction;
+use crate::refusals::unread;
 use flow_book::SliceState;
 use flowspace::SwitchPolicy;
 use of10_ctl::Frame;

@@ -7,7 +7,7 @@ use Rattle.of10_flow.specs.declared.packet_out.PacketOut.{PacketOut}
 use Rattle.of10_stats.specs.declared.request.StatsRequest.{StatsRequest}
 use Rattle.of10_port.specs.declared.features.Features.{Features}
 use Rattle.of10_port.specs.Features.{spell_features}
-use Rattle.of10_config.specs.declared.queues.QueuesQuestion.{QueuesQuestion}
+use Rattle.of10_message.specs.declared.queues.QueuesQuestion.{QueuesQuestion}
 use Rattle.of10_message.specs.declared.controller.FromController.{FromController}
 use Rattle.of10_message.specs.declared.controller.FromController.TheVariants as said
 use Rattle.of10_message.specs.declared.fault.Unread.TheVariants.{BadLength, NoCommonVersion, BadVersion, BadType, BadForm}

@@ -2,7 +2,7 @@
 use Rattle.std.specs.Prelude.{ℕ, List, [], ◌∷◌, ◌++◌, get_or, reverse, Some, None}
 use Rattle.of10_ctl.specs.declared.kind.TheConstants.{BARRIER_REQUEST}
 use Rattle.of10_ctl.specs.Frames.{message_of}
-use Rattle.of10_config.specs.Queues.{spell_queues_request}
+use Rattle.of10_message.specs.Queues.{spell_queues_request}
 use Rattle.of10_stats.specs.Requests.{spell_request}
 use Rattle.of10_flow.specs.FlowMods.{spell_flow_mod}
 use Rattle.of10_flow.specs.PacketOuts.{spell_packet_out}

@@ -14,13 +14,13 @@ use Rattle.of10_port.specs.Features.{spell_features}
 use Rattle.of10_port.specs.PortStatus.{spell_port_status}
 use Rattle.of10_message.specs.declared.controller.FromController.{FromController}
 use Rattle.of10_message.specs.declared.controller.FromController.TheVariants as said
-use Rattle.of10_config.specs.declared.config.SwitchConfig.{SwitchConfig}
+use Rattle.of10_message.specs.declared.config.SwitchConfig.{SwitchConfig}
 use Rattle.of10_message.specs.declared.fault.Unread.{Unread}
 use Rattle.of10_message.specs.declared.fault.Unread.TheVariants.{BadLength, NoCommonVersion, BadVersion, BadType, BadForm}
 use Rattle.of10_message.specs.Heads.{xid_of}
 use Rattle.of10_message.specs.Controller.{read_controller}
-use Rattle.of10_config.specs.declared.queues.QueuesQuestion.{QueuesQuestion}
-use Rattle.of10_config.specs.Configs.{spell_config_reply}
+use Rattle.of10_message.specs.declared.queues.QueuesQuestion.{QueuesQuestion}
+use Rattle.of10_message.specs.Configs.{spell_config_reply}
 use Rattle.port_view.specs.SlicePorts.{features_with}
 use Rattle.rate_bucket.specs.Rates.{is_accepted}
 use Rattle.xid_map.specs.declared.asked.Issued.{Issued}

@@ -3,7 +3,7 @@ use Rattle.std.specs.Prelude.{ℕ, Bool, true, false, List, [], map, leb, length
 use Rattle.of10_flow.specs.declared.flow_mod.FlowMod.{FlowMod}
 use Rattle.of10_flow.specs.declared.packet_out.PacketOut.{PacketOut}
 use Rattle.of10_stats.specs.declared.request.StatsRequest.{StatsRequest}
-use Rattle.of10_config.specs.declared.queues.QueuesQuestion.{QueuesQuestion}
+use Rattle.of10_message.specs.declared.queues.QueuesQuestion.{QueuesQuestion}
 use Rattle.slice_words.specs.Items.{Item}
 
 -- what the switch is asked for a slice that replies to it: for statistics (OpenFlow 1.0.0, section 5.3.5), that it do all before it first (5.3.7), or for the queues of a port (5.3.4)

@@ -4,7 +4,7 @@ use Rattle.of10_port.specs.declared.protocol.TheConstants.{NONE, ALL}
 use Rattle.of10_stats.specs.declared.request.StatsRequest.{StatsRequest}
 use Rattle.of10_stats.specs.declared.request.StatsRequest.TheVariants as statistics
 use Rattle.of10_message.specs.Heads.{xid_of}
-use Rattle.of10_config.specs.declared.queues.QueuesQuestion.{QueuesQuestion}
+use Rattle.of10_message.specs.declared.queues.QueuesQuestion.{QueuesQuestion}
 use Rattle.stats_filter.specs.Asking.{asked_as}
 use Rattle.stats_filter.specs.Replies.{table_reply}
 use Rattle.slice_words.specs.Items.{is_own_port}

@@ -3,7 +3,7 @@ use Rattle.std.specs.Prelude.{ℕ, ◌==◌, ◌&&◌, not, Bool, true, false, i
 use Rattle.of10_model.specs.Normal.{is_value}
 use Rattle.of10_ctl.specs.declared.kind.TheConstants.{BARRIER_REPLY}
 use Rattle.of10_ctl.specs.Frames.{message_of}
-use Rattle.of10_config.specs.Queues.{port_of_queues, spell_queues_reply}
+use Rattle.of10_message.specs.Queues.{port_of_queues, spell_queues_reply}
 use Rattle.of10_stats.specs.Replies.{flow_of}
 use Rattle.xid_map.specs.declared.asked.Issued.{Issued}
 use Rattle.xid_map.specs.declared.asked.AskKind.{AskKind}

@@ -2,10 +2,10 @@
 use Rattle.std.proofs.Common.{◌≡◌, ℕ, Bool, true, false, List, [], length, refl, ap, subst, sym, ◌∙◌, Option, None, Result, Ok, IfOk}
 use Rattle.of10_message.specs.declared.fault.Unread.{Unread}
 use Rattle.of10_message.specs.Heads.{xid_of}
-use Rattle.of10_switch.specs.Messages as says
-use Rattle.of10_switch.specs.Messages.{SwitchMessage, read_switch}
-use Rattle.of10_switch.specs.Ranges.{IsSaid}
-use Rattle.of10_switch.proofs.Cases.{bad_length-read}
+use Rattle.of10_message.specs.Switch as says
+use Rattle.of10_message.specs.Switch.{SwitchMessage, read_switch}
+use Rattle.of10_message.specs.SwitchRanges.{IsSaid}
+use Rattle.of10_message.proofs.SwitchCases.{bad_length-read}
 use Rattle.flowspace.specs.declared.rules.Rule.{Rule}
 use Rattle.flowspace.specs.declared.slices.Slice.{Slice}
 use Rattle.flowspace.specs.Policies.{PolicyView, SwitchView, IsSwitchPolicy}

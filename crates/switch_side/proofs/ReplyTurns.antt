@@ -5,9 +5,9 @@ use Rattle.std.proofs.lemmas.Bool.{eq-eqb, ltb-true}
 use Rattle.std.proofs.lemmas.Option.{slice_get_within}
 use Rattle.std.proofs.lemmas.List.Elements.{filter_agree}
 use Rattle.of10_message.specs.Heads.{xid_of}
-use Rattle.of10_config.specs.Queues.{QueuesMessage}
-use Rattle.of10_switch.specs.Messages as says
-use Rattle.of10_switch.specs.Messages.{read_switch}
+use Rattle.of10_message.specs.Queues.{QueuesMessage}
+use Rattle.of10_message.specs.Switch as says
+use Rattle.of10_message.specs.Switch.{read_switch}
 use Rattle.of10_stats.specs.declared.reply.StatsPart.{StatsPart}
 use Rattle.flowspace.specs.declared.slices.Slice.{Slice}
 use Rattle.flowspace.specs.declared.rules.Rule.{Rule}

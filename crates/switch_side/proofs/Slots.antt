@@ -10,8 +10,8 @@ use Rattle.of10_port.specs.PortStatus.{spell_port_status}
 use Rattle.of10_message.specs.declared.fault.Unread.{Unread}
 use Rattle.of10_message.specs.declared.fault.Unread.TheVariants.{BadLength}
 use Rattle.of10_message.specs.Heads.{xid_of}
-use Rattle.of10_switch.specs.Messages as says
-use Rattle.of10_switch.specs.Messages.{SwitchMessage, read_switch}
+use Rattle.of10_message.specs.Switch as says
+use Rattle.of10_message.specs.Switch.{SwitchMessage, read_switch}
 use Rattle.flowspace.specs.declared.rules.Rule.{Rule}
 use Rattle.flowspace.specs.Order.{first_rule}
 use Rattle.flowspace.specs.Owners.{has_port}

@@ -10,9 +10,9 @@ use Rattle.of10_flow.specs.PacketIns.{spell_packet_in}
 use Rattle.of10_message.specs.Heads.{xid_of}
 use Rattle.of10_message.specs.declared.fault.Unread.{Unread}
 use Rattle.of10_message.specs.Errors.{ErrorMessage, pair_in}
-use Rattle.of10_config.specs.Queues.{QueuesMessage}
-use Rattle.of10_switch.specs.Messages as says
-use Rattle.of10_switch.specs.Messages.{SwitchMessage, read_switch, has_bad_length}
+use Rattle.of10_message.specs.Queues.{QueuesMessage}
+use Rattle.of10_message.specs.Switch as says
+use Rattle.of10_message.specs.Switch.{SwitchMessage, read_switch, has_bad_length}
 use Rattle.of10_stats.specs.declared.reply.StatsPart.{StatsPart}
 use Rattle.of10_port.specs.declared.status.PortStatus.{PortStatus}
 use Rattle.of10_port.specs.Ports.{port_number}

@@ -2,7 +2,6 @@
 //! the slices' states, and what the switch is.
 #![tactic(auto)]
 
-mod answer;
 mod applying;
 mod audience;
 mod change;
@@ -12,14 +11,15 @@ mod errors;
 mod last_part;
 mod packets;
 mod ports;
+mod reacting;
 mod removals;
 mod replies;
 mod requests;
 mod spare;
 mod statistics;
 
-pub use answer::{react, react_in};
 pub use applying::{apply, apply_all, reserve};
 pub use change::Change;
 pub use dispatch::Dispatch;
+pub use reacting::{react, react_in};
 pub use spare::Spare;

@@ -1,7 +1,7 @@
 //! Replies of a switch to barriers (OpenFlow 1.0.0, section 5.3.7) and to questions for queues (section 5.3.4).
 
 ghost use Rattle.std.specs.Prelude.{ℕ, ◌≡◌, ◌/◌, ◌^◌, [], Some, IfOk};
-ghost use Rattle.of10_config.specs.Queues.{queues_of_view, AreQueues};
+ghost use Rattle.of10_message.specs.Queues.{queues_of_view, AreQueues};
 ghost use Rattle.slice_words.specs.Statistics.{barrier_told, queues_told};
 ghost use Rattle.switch_side.specs.Carrying.{carried, CallsOf, AllCalled, turning, answer_turn, barrier_turn, queues_turn};
 
@@ -10,10 +10,9 @@ use crate::dispatch::{Dispatch, one};
 use crate::requests::{request_seen, slot_of};
 use flow_book::SliceState;
 use flowspace::SwitchPolicy;
-use of10_config::queues_reply;
 use of10_ctl::kind::BARRIER_REPLY;
 use of10_ctl::{Frame, message};
-use of10_message::QueuesView;
+use of10_message::{QueuesView, queues_reply};
 use std::alloc::{AllocError, Global};
 use xid_map::{AskKind, Issued};
 

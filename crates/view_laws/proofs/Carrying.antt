@@ -10,7 +10,7 @@ use Rattle.of10_model.specs.declared.pattern.Pattern.{Pattern}
 use Rattle.of10_ctl.specs.declared.kind.TheConstants.{STATS_REQUEST, BARRIER_REQUEST, QUEUE_GET_CONFIG_REQUEST}
 use Rattle.of10_ctl.specs.Frames.{message_of}
 use Rattle.of10_message.specs.Heads.{xid_of}
-use Rattle.of10_config.specs.Queues.{question_bytes}
+use Rattle.of10_message.specs.Queues.{question_bytes}
 use Rattle.of10_stats.specs.Requests.{statistics_kind, request_body, spell_request}
 use Rattle.of10_flow.specs.declared.flow_mod.FlowMod.{FlowMod}
 use Rattle.of10_flow.specs.declared.packet_out.PacketOut.{PacketOut}

@@ -1,5 +1,5 @@
 use Rattle.std.proofs.Common.{not, ap, ◌∙◌, sym}
-use Rattle.desk_words.specs.declared.answer.Dest.{Dest}
+use Rattle.desk_words.specs.declared.dest.Dest.{Dest}
 use Rattle.fv_report.specs.Plays.{event_from}
 use Rattle.fv_report.proofs.play.happens.Goals as goal
 use Rattle.desk_words.specs.Recorded.{happens}

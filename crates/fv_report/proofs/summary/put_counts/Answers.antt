@@ -1,7 +1,7 @@
 use Rattle.std.proofs.Common.{List, ◌≡◌, ◌++◌, length, refl, subst, ap, Some, slice_get, arith}
 use Rattle.std.proofs.lemmas.Option.{slice_get_read, slice_get-get_or}
 use Rattle.flowspace.specs.declared.slices.Slice.{Slice}
-use Rattle.summary_words.specs.Summaries.{count_lines}
+use Rattle.run_words.specs.Summaries.{count_lines}
 use Rattle.fv_report.proofs.Counting.{line_put}
 use Rattle.fv_report.proofs.summary.put_counts.Goals as goal
 

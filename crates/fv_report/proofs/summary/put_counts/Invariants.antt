@@ -1,5 +1,5 @@
 use Rattle.std.proofs.Common.{◌≡◌, ◌++◌, ℕ, List, drop}
-use Rattle.summary_words.specs.Summaries.{count_lines}
+use Rattle.run_words.specs.Summaries.{count_lines}
 use Rattle.fv_report.specs.Counting.{AreCounts}
 use Rattle.fv_report.proofs.Counting.{counts_from}
 use Rattle.fv_report.proofs.summary.put_counts.Given as goal

@@ -2,7 +2,7 @@ use Rattle.std.proofs.Common.{ℕ, List, ◌≡◌, ◌∙◌, [], Ok, length, a
 use Rattle.flowspace.specs.Policies.{PolicyView}
 use Rattle.recording.specs.Recordings.{read_items}
 use Rattle.desk_words.specs.Recorded.{told_in}
-use Rattle.summary_words.specs.Summaries.{summary, summary_text}
+use Rattle.run_words.specs.Summaries.{summary, summary_text}
 use Rattle.desk_words.specs.Reports.{all_lines}
 use Rattle.fv_report.specs.Writing.{Wrote}
 use Rattle.fv_report.specs.Counting.{HasCounted, CountsLine, lane_told_in, slice_told_in}

@@ -1,5 +1,5 @@
 use Rattle.std.proofs.Common.{◌≡◌, List}
-use Rattle.desk_words.specs.declared.answer.Dest.TheVariants.{Slice}
+use Rattle.desk_words.specs.declared.dest.Dest.TheVariants.{Slice}
 use Rattle.live_session.specs.Stretches.{DeskCall}
 use Rattle.live_session.specs.Takings.{Taking}
 use Rattle.live_session.specs.Links.{AreEarly}

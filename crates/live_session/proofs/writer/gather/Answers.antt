@@ -1,5 +1,5 @@
 use Rattle.std.proofs.Common.{◌++◌, [], ◌∷◌, ap, refl, ◌∙◌, subst}
-use Rattle.desk_words.specs.declared.answer.Taken.TheVariants as taken
+use Rattle.desk_words.specs.declared.taken.Taken.TheVariants as taken
 use Rattle.live_desk.specs.declared.object.DeskOp.TheVariants.{Take}
 use Rattle.live_desk.specs.declared.object.DeskReply.TheVariants.{Took}
 use Rattle.live_session.specs.declared.ends.WriterEnd.TheVariants.{Choked, Ended}

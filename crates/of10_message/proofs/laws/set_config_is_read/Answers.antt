@@ -1,4 +1,4 @@
-use Rattle.of10_message.proofs.Typed.{set_read}
+use Rattle.of10_message.proofs.ControllerTyped.{set_read}
 use Rattle.of10_message.proofs.laws.set_config_is_read.Goals as goal
 
 pub returns : goal.returns

@@ -1,6 +1,6 @@
 use Rattle.std.proofs.Common.{ℕ, List}
 use Rattle.desk_words.specs.declared.event.Timed.{Timed}
-use Rattle.desk_words.specs.declared.answer.Dest.TheVariants.{Switch}
+use Rattle.desk_words.specs.declared.dest.Dest.TheVariants.{Switch}
 use Rattle.proxy_core.specs.Desks.{left}
 use Rattle.desk_words.specs.Reports.{lane_line}
 use Rattle.fv_report.specs.Holding.{Holds}

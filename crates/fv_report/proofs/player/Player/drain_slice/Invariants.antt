@@ -1,6 +1,6 @@
 use Rattle.std.proofs.Common.{ℕ, List}
 use Rattle.desk_words.specs.declared.event.Timed.{Timed}
-use Rattle.desk_words.specs.declared.answer.Dest.TheVariants.{Slice}
+use Rattle.desk_words.specs.declared.dest.Dest.TheVariants.{Slice}
 use Rattle.proxy_core.specs.Desks.{left}
 use Rattle.desk_words.specs.Reports.{slice_line}
 use Rattle.fv_report.specs.Holding.{Holds, with_waiting}

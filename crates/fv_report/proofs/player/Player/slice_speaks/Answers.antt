@@ -1,6 +1,6 @@
 use Rattle.std.proofs.Common.{ℕ, ◌≡◌, ◌<◌, true≢false, arith, length, set, slice_get, Some, ap, sym, subst, refl}
 use Rattle.flowspace.specs.Policies.{PolicyView}
-use Rattle.desk_words.specs.declared.answer.Dest.TheVariants.{Slice}
+use Rattle.desk_words.specs.declared.dest.Dest.TheVariants.{Slice}
 use Rattle.desk_words.specs.Recorded.{stream_before, history_of}
 use Rattle.recording.specs.Recordings.{slice_bytes}
 use Rattle.fv_report.specs.Streams.{connection}

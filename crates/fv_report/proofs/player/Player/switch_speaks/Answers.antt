@@ -1,5 +1,5 @@
 use Rattle.std.proofs.Common.{length, refl}
-use Rattle.desk_words.specs.declared.answer.Dest.TheVariants.{Switch as ToSwitch}
+use Rattle.desk_words.specs.declared.dest.Dest.TheVariants.{Switch as ToSwitch}
 use Rattle.desk_words.specs.Recorded.{stream_before, history_of}
 use Rattle.recording.specs.Recordings.{switch_bytes}
 use Rattle.fv_report.specs.Streams.{connection}

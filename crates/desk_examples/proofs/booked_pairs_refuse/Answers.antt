@@ -1,8 +1,0 @@
-use Rattle.desk_examples.proofs.Shown.{quota_holds_shown, overlap_is_refused_shown}
-use Rattle.desk_examples.proofs.booked_pairs_refuse.Goals as goal
-
-pub returns-clause-quota : goal.returns-clause-quota
-returns-clause-quota c = quota_holds_shown
-
-pub returns-clause-overlap : goal.returns-clause-overlap
-returns-clause-overlap c = overlap_is_refused_shown

@@ -1,8 +1,0 @@
-use Rattle.desk_examples.proofs.Shown.{packet_reaches_shown, packet_passes_shown}
-use Rattle.desk_examples.proofs.packet_reaches_its_writer.Goals as goal
-
-pub returns-clause-alice : goal.returns-clause-alice
-returns-clause-alice c = packet_reaches_shown
-
-pub returns-clause-nobody : goal.returns-clause-nobody
-returns-clause-nobody c = packet_passes_shown

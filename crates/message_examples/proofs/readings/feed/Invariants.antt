@@ -1,5 +1,0 @@
-use Rattle.std.proofs.Common.{length}
-use Rattle.message_examples.proofs.readings.feed.Given as goal
-
-abbrev pub decreases-loop-frame : goal.decreases-loop-frame
-decreases-loop-frame l = length l.framer.left

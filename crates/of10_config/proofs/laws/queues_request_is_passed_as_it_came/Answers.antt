@@ -1,5 +1,0 @@
-use Rattle.of10_config.proofs.Again.{question_passed}
-use Rattle.of10_config.proofs.laws.queues_request_is_passed_as_it_came.Goals as goal
-
-pub returns : goal.returns
-returns c = question_passed

@@ -1,6 +1,0 @@
-use Rattle.std.proofs.Common.{All}
-use Rattle.flowspace.specs.Slices.{IsPlainSlice}
-use Rattle.policy_examples.proofs.tests.given.named.Given as goal
-
-abbrev pub invariant-loop-name : goal.invariant-loop-name
-invariant-loop-name l = All IsPlainSlice l.slices.items

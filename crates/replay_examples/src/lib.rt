@@ -1,6 +1,0 @@
-//! Files, sinks and words by themselves, and the report of a recording in memory. There are tests here alone; whole
-//! calls of the program are played by `case_tables`.
-#![tactic(auto)]
-
-#[cfg(test)]
-mod tests;

@@ -1,3 +1,0 @@
-mod arguments;
-mod outside;
-mod reports;

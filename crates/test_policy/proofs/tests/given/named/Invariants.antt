@@ -1,0 +1,6 @@
+use Rattle.std.proofs.Common.{All}
+use Rattle.flowspace.specs.Slices.{IsPlainSlice}
+use Rattle.test_policy.proofs.tests.given.named.Given as goal
+
+abbrev pub invariant-loop-name : goal.invariant-loop-name
+invariant-loop-name l = All IsPlainSlice l.slices.items

@@ -1,0 +1,4 @@
+mod arguments;
+mod made;
+mod outside;
+mod reports;
