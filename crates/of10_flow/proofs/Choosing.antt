@@ -8,9 +8,9 @@ use Rattle.of10_model.specs.Header.{Header}
 use Rattle.of10_model.specs.Pattern.{Has, has}
 use Rattle.of10_model.proofs.Membership.{has_iff_Has}
 use Rattle.of10_action.specs.declared.action.Action.{Action}
-use Rattle.of10_flow.specs.declared.entry.FlowEntry.{FlowEntry}
+use Rattle.of10_flow.specs.declared.flow_entry.FlowEntry.{FlowEntry}
 use Rattle.of10_flow.specs.Tables.{is_exact_entry, is_highest, having, foremost, Treatment}
-use Rattle.of10_flow.specs.Outside.{IsNoLower, MayBeChosen}
+use Rattle.of10_flow.specs.TableLaws.{IsNoLower, MayBeChosen}
 
 -- ---- elements of lists
 

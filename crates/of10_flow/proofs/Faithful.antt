@@ -7,9 +7,9 @@ use Rattle.std.proofs.lemmas.List.Folds.{list_any_none}
 use Rattle.std.proofs.lemmas.List.Elements.{All-nil, All-cons, Contains-append_left, Contains-append_right, Contains-append_cases, Contains-push, Contains-push_cases}
 use Rattle.of10_model.specs.declared.pattern.Pattern.{Pattern}
 use Rattle.of10_flow.specs.declared.flow_mod.FlowMod.{FlowMod}
-use Rattle.of10_flow.specs.declared.entry.FlowEntry.{FlowEntry}
+use Rattle.of10_flow.specs.declared.flow_entry.FlowEntry.{FlowEntry}
 use Rattle.of10_flow.specs.Tables.{touches, entry_of, with_actions_of, Apply, ApplyAll}
-use Rattle.of10_flow.specs.Outside.{Deletes, Puts, piece_entry, IsSplitTable, TouchAlike, FollowsByPieces, Delete, Change, Add}
+use Rattle.of10_flow.specs.TableLaws.{Deletes, Puts, piece_entry, IsSplitTable, TouchAlike, FollowsByPieces, Delete, Change, Add}
 use Rattle.of10_flow.proofs.Choosing.{Among, Contains-iff, among_filter, filter_among, among_map, map_among}
 use Rattle.of10_flow.proofs.Keeping.{same_pattern}
 use Rattle.of10_flow.proofs.Turns.{Apply-delete, deletes_leave, put_on, taken, touching_change, touching_none}

@@ -11,7 +11,7 @@ use Rattle.of10_model.proofs.Same.{is_same_iff}
 use Rattle.of10_model.proofs.Including.{Has-includes}
 use Rattle.of10_flow.specs.declared.flow_mod.FlowMod.{FlowMod}
 use Rattle.of10_flow.specs.declared.protocol.TheConstants.{ADD, MODIFY, MODIFY_STRICT, DELETE, DELETE_STRICT}
-use Rattle.of10_flow.specs.declared.entry.FlowEntry.{FlowEntry}
+use Rattle.of10_flow.specs.declared.flow_entry.FlowEntry.{FlowEntry}
 use Rattle.of10_flow.specs.Tables.{describes, names_entry, outputs_as_asked, touches, refuses, entry_of, with_actions_of, Apply, having, foremost, Treatment}
 
 -- ---- what is touched lies in the match

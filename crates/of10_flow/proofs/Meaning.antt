@@ -12,9 +12,9 @@ use Rattle.of10_model.proofs.Including.{includes_iff, includes-Includes}
 use Rattle.of10_model.proofs.Disjointness.{is_disjoint_iff, shared}
 use Rattle.of10_flow.specs.declared.flow_mod.FlowMod.{FlowMod}
 use Rattle.of10_flow.specs.declared.protocol.TheConstants.{ADD, MODIFY, MODIFY_STRICT, DELETE}
-use Rattle.of10_flow.specs.declared.entry.FlowEntry.{FlowEntry}
+use Rattle.of10_flow.specs.declared.flow_entry.FlowEntry.{FlowEntry}
 use Rattle.of10_flow.specs.Tables.{names_entry, describes, touches, overlaps, entry_of, Apply}
-use Rattle.of10_flow.specs.Outside.{SharesHeader}
+use Rattle.of10_flow.specs.TableLaws.{SharesHeader}
 
 -- a flow-mod names the entries of its match and priority
 pub names_iff : (m : FlowMod) (e : FlowEntry) → IsTrue (names_entry m e) ↔ ((e.pattern ≡ m.pattern) × (e.priority ≡ m.priority))

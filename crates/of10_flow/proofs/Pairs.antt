@@ -9,9 +9,9 @@ use Rattle.std.proofs.lemmas.List.Folds.{list_any_at}
 use Rattle.of10_model.specs.Normal.{IsNormal}
 use Rattle.of10_flow.specs.declared.flow_mod.FlowMod.{FlowMod}
 use Rattle.of10_flow.specs.declared.protocol.TheConstants.{DELETE}
-use Rattle.of10_flow.specs.declared.entry.FlowEntry.{FlowEntry}
+use Rattle.of10_flow.specs.declared.flow_entry.FlowEntry.{FlowEntry}
 use Rattle.of10_flow.specs.Tables.{touches, refuses, entry_of, with_actions_of, Apply, ApplyAll}
-use Rattle.of10_flow.specs.Outside.{IsSameEntry, HasEachPairOnce}
+use Rattle.of10_flow.specs.TableLaws.{IsSameEntry, HasEachPairOnce}
 use Rattle.of10_flow.proofs.Keeping.{same_pattern, same_priority}
 use Rattle.of10_flow.proofs.Meaning.{names_iff, names-touches}
 

@@ -1,5 +1,5 @@
 -- What 88 bytes say of a removed entry lies in range.
-use Rattle.std.proofs.Common.{ℕ, ◌<◌, List, take, drop, slice_index, arith}
+use Rattle.std.proofs.Common.{ℕ, ◌<◌, List, take, drop, slice_index}
 use Rattle.of10_model.proofs.Ranges.{bytes-drop, bytes-take, number_at-lt}
 use Rattle.of10_model.proofs.Applied.{IsNormal-Norm}
 use Rattle.of10_flow.specs.FlowRemoveds.{IsFlowRemoved, removal_in}

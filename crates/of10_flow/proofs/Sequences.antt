@@ -8,9 +8,9 @@ use Rattle.of10_model.specs.Pattern.{Has}
 use Rattle.of10_model.specs.Same.{is_same}
 use Rattle.of10_model.proofs.Same.{is_same_iff}
 use Rattle.of10_flow.specs.declared.flow_mod.FlowMod.{FlowMod}
-use Rattle.of10_flow.specs.declared.entry.FlowEntry.{FlowEntry}
+use Rattle.of10_flow.specs.declared.flow_entry.FlowEntry.{FlowEntry}
 use Rattle.of10_flow.specs.Tables.{names_entry, Apply, ApplyAll, Treatment}
-use Rattle.of10_flow.specs.Outside.{Cleans}
+use Rattle.of10_flow.specs.TableLaws.{Cleans}
 use Rattle.of10_flow.proofs.Keeping.{Treatment-Apply}
 
 -- a header in the match of none is treated as before

@@ -5,8 +5,8 @@ use Rattle.of10_model.specs.declared.pattern.Pattern.{Pattern}
 use Rattle.of10_model.specs.Header.{Header}
 use Rattle.of10_model.specs.Pattern.{Has}
 use Rattle.of10_model.specs.Normal.{is_exact}
-use Rattle.of10_flow.specs.declared.entry.FlowEntry.{FlowEntry}
-use Rattle.of10_flow.specs.Outside.{IsNoLower, MayBeChosen, HaveSameLists, piece_entry, IsSplit}
+use Rattle.of10_flow.specs.declared.flow_entry.FlowEntry.{FlowEntry}
+use Rattle.of10_flow.specs.TableLaws.{IsNoLower, MayBeChosen, HaveSameLists, piece_entry, IsSplit}
 use Rattle.of10_flow.proofs.Choosing.{Treatment-iff}
 
 -- two entries stand as two others that are all-exact alike and have the same priorities

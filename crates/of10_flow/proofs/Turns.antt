@@ -8,9 +8,9 @@ use Rattle.std.proofs.lemmas.List.Folds.{list_any-append}
 use Rattle.of10_flow.specs.declared.flow_mod.FlowMod.{FlowMod}
 use Rattle.of10_flow.specs.declared.protocol.TheConstants.{ADD, MODIFY, MODIFY_STRICT, DELETE, DELETE_STRICT}
 use Rattle.of10_action.specs.declared.action.Action.{Action}
-use Rattle.of10_flow.specs.declared.entry.FlowEntry.{FlowEntry}
+use Rattle.of10_flow.specs.declared.flow_entry.FlowEntry.{FlowEntry}
 use Rattle.of10_flow.specs.Tables.{touches, overlaps, refuses, entry_of, with_actions_of, Apply, ApplyAll}
-use Rattle.of10_flow.specs.Outside.{Deletes, Puts}
+use Rattle.of10_flow.specs.TableLaws.{Deletes, Puts}
 use Rattle.of10_flow.proofs.Pairs.{pairs_first, pairs_rest}
 use Rattle.of10_flow.proofs.Choosing.{Among, among_filter, filter_among}
 

@@ -3,4 +3,4 @@ pub mod FlowRemoveds
 pub mod PacketIns
 pub mod PacketOuts
 pub mod Tables
-pub mod Outside
+pub mod TableLaws

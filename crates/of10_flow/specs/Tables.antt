@@ -14,7 +14,7 @@ use Rattle.of10_action.specs.declared.action.Action.TheVariants.{Output, SetVlan
 use Rattle.of10_port.specs.declared.protocol.TheConstants.{NONE}
 use Rattle.of10_flow.specs.declared.flow_mod.FlowMod.{FlowMod}
 use Rattle.of10_flow.specs.declared.protocol.TheConstants.{ADD, MODIFY, MODIFY_STRICT, DELETE, DELETE_STRICT, CHECK_OVERLAP}
-use Rattle.of10_flow.specs.declared.entry.FlowEntry.{FlowEntry}
+use Rattle.of10_flow.specs.declared.flow_entry.FlowEntry.{FlowEntry}
 
 -- ---- the entries that a flow-mod touches
 

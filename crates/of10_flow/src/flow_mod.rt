@@ -6,9 +6,12 @@ ghost use Rattle.of10_action.specs.Actions.{IsAction, HasAddress, spelling};
 ghost use Rattle.of10_action.specs.Reading.{Gives, action_at};
 ghost use Rattle.of10_ctl.specs.declared.kind.TheConstants.{FLOW_MOD};
 ghost use Rattle.of10_ctl.specs.Kinds.{IsOf};
+ghost use Rattle.of10_flow.specs.declared.protocol.TheConstants.{SEND_FLOW_REM, CHECK_OVERLAP, EMERG};
+ghost use Rattle.of10_flow.specs.Tables.{is_delete, has_flag};
 ghost use Rattle.of10_flow.specs.FlowMods.{IsFlowMod, flow_mod_with, read_flow_mod, shown_flow_mod, spell_flow_mod};
 
-use crate::fields::{put_buffer, put_entry};
+use crate::protocol::{CHECK_OVERLAP, DELETE, EMERG, SEND_FLOW_REM};
+use crate::shared_fields::{put_buffer, put_entry};
 use of10_action::{Action, Actions, ActionsView, DecodeFault, WireFault, encode_list, list_size};
 use of10_ctl::kind::FLOW_MOD;
 use of10_ctl::{Frame, begin};
@@ -36,31 +39,24 @@ pub struct FlowMod {
     pub buffer: u32,
     /// What a delete asks of an entry: an output to this port, or to any port where this is 0xffff.
     pub out_port: u16,
-    /// Bits such as `protocol::CHECK_OVERLAP`.
+    /// Bits such as `protocol::CHECK_OVERLAP`, which `checks_overlap` and its like ask for.
     pub flags: u16,
     pub actions: Actions,
 }
 
-/// The same with its match and its actions where they stand, as each piece of one is sent: nothing is copied.
+/// The same with its match and its actions where they stand, as each piece of one is sent: nothing is copied. Each
+/// field is `FlowMod`'s of that name.
 #[derive(Clone, Copy)]
 pub struct FlowModParts<'a> {
     pub xid: u32,
     pub pattern: &'a Match,
-    /// A number of the controller's own, which the switch keeps with the entry.
     pub cookie: u64,
-    /// What to do, such as `protocol::ADD`.
     pub command: u16,
-    /// Seconds without a packet after which the entry goes (idle_timeout); 0 for never.
     pub idle: u16,
-    /// Seconds after which the entry goes (hard_timeout); 0 for never.
     pub hard: u16,
-    /// The higher one is looked at first.
     pub priority: u16,
-    /// The buffered packet that the actions are applied to as well (buffer_id), or `protocol::NO_BUFFER`.
     pub buffer: u32,
-    /// What a delete asks of an entry: an output to this port, or to any port where this is 0xffff.
     pub out_port: u16,
-    /// Bits such as `protocol::CHECK_OVERLAP`.
     pub flags: u16,
     pub actions: &'a [Action],
 }
@@ -184,6 +180,46 @@ impl FlowMod {
             Ok(view) => Ok(view.copied(alloc)?),
             Err(fault) => Err(DecodeFault::Wire(fault)),
         }
+    }
+
+    /// Whether it takes entries away: its command is DELETE, DELETE_STRICT or a number above these, which no
+    /// command has (OpenFlow 1.0.0, section 5.3.3).
+    pub fn is_delete(&self) -> bool
+        ensures { result ≡ is_delete self.now }
+    {
+        self.command >= DELETE
+    }
+
+    /// Whether the flag is set, one of those of `protocol`.
+    fn has_flag(&self, flag: u16) -> bool
+        requires { 1 ≤ flag }
+        ensures { result ≡ has_flag flag self.now }
+    {
+        self.flags / flag % 2 == 1
+    }
+
+    /// Whether a flow-removed message is asked for when the entry goes: the flag SEND_FLOW_REM is set
+    /// (OpenFlow 1.0.0, section 5.3.3).
+    pub fn asks_for_removal(&self) -> bool
+        ensures { result ≡ has_flag SEND_FLOW_REM self.now }
+    {
+        self.has_flag(SEND_FLOW_REM)
+    }
+
+    /// Whether it is to be refused where an entry of its priority overlaps it: the flag CHECK_OVERLAP is set
+    /// (OpenFlow 1.0.0, section 5.3.3).
+    pub fn checks_overlap(&self) -> bool
+        ensures { result ≡ has_flag CHECK_OVERLAP self.now }
+    {
+        self.has_flag(CHECK_OVERLAP)
+    }
+
+    /// Whether its entry is for a switch that has lost its controller: the flag EMERG is set (OpenFlow 1.0.0,
+    /// section 5.3.3).
+    pub fn is_emergency(&self) -> bool
+        ensures { result ≡ has_flag EMERG self.now }
+    {
+        self.has_flag(EMERG)
     }
 
     /// The same flow-mod; nothing is copied.

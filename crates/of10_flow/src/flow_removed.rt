@@ -8,7 +8,7 @@ ghost use Rattle.of10_ctl.specs.declared.kind.TheConstants.{FLOW_REMOVED};
 ghost use Rattle.of10_ctl.specs.Kinds.{IsOf};
 ghost use Rattle.of10_flow.specs.FlowRemoveds.{IsFlowRemoved, read_flow_removed, removal_of, spell_flow_removed};
 
-use crate::fields::put_entry;
+use crate::shared_fields::put_entry;
 use of10_action::{DecodeFault, WireFault};
 use of10_ctl::kind::FLOW_REMOVED;
 use of10_ctl::{Frame, begin};

@@ -2,17 +2,17 @@
 //! tables, as definitions with their laws.
 #![tactic(auto)]
 
-mod entry;
-mod fields;
+mod flow_entry;
 mod flow_mod;
 mod flow_removed;
 pub mod laws;
 mod packet_in;
 mod packet_out;
 pub mod protocol;
-pub mod tables;
+mod shared_fields;
+pub mod table_laws;
 
-pub use entry::FlowEntry;
+pub use flow_entry::FlowEntry;
 pub use flow_mod::{FlowMod, FlowModParts, FlowModView};
 pub use flow_removed::{FlowRemoved, FlowRemovedView};
 pub use packet_in::{PacketIn, PacketInView};

@@ -7,7 +7,7 @@ ghost use Rattle.of10_ctl.specs.declared.kind.TheConstants.{PACKET_OUT};
 ghost use Rattle.of10_ctl.specs.Kinds.{IsOf};
 ghost use Rattle.of10_flow.specs.PacketOuts.{IsPacketOut, begins_well, read_packet_out, spell_packet_out};
 
-use crate::fields::put_buffer;
+use crate::shared_fields::put_buffer;
 use of10_action::{Actions, ActionsView, Bytes, DecodeFault, WireFault, encode_list, list_size};
 use of10_ctl::kind::PACKET_OUT;
 use of10_ctl::{Frame, begin};

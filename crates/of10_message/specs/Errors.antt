@@ -5,7 +5,7 @@ use Rattle.of10_model.specs.declared.pattern.Pattern.{Pattern}
 use Rattle.of10_action.specs.declared.fault.WireFault.{WireFault}
 use Rattle.of10_action.specs.declared.fault.WireFault.TheVariants.{Length}
 use Rattle.of10_ctl.specs.declared.kind.TheConstants.{FLOW_MOD}
-use Rattle.of10_message.specs.declared.error.ErrorView.{ErrorView}
+use Rattle.of10_message.specs.declared.switch_error.ErrorView.{ErrorView}
 use Rattle.of10_message.specs.Heads.{version_of, is_kind, xid_of}
 
 -- what an error says: what kind of fault it is, and the message at fault, or its first bytes

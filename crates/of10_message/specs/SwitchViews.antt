@@ -8,12 +8,12 @@ use Rattle.of10_port.specs.PortStatus.{status_of}
 use Rattle.of10_port.specs.Features.{features_of}
 use Rattle.of10_message.specs.declared.fault.Unread.{Unread}
 use Rattle.of10_message.specs.Errors.{error_of_view}
-use Rattle.of10_message.specs.declared.switch.FromSwitch.{FromSwitch}
-use Rattle.of10_message.specs.declared.switch.FromSwitch.TheVariants as views
+use Rattle.of10_message.specs.declared.switch.SwitchMessageView.{SwitchMessageView}
+use Rattle.of10_message.specs.declared.switch.SwitchMessageView.TheVariants as views
 use Rattle.of10_message.specs.Switch.{SwitchMessage, Hello, Error, EchoRequest, EchoReply, Vendor, FeaturesReply, GetConfigReply, PacketIn, FlowRemoved, PortStatus, StatsReply, BarrierReply, QueueGetConfigReply}
 
 -- what a view of a message shows
-abbrev pub said_by : FromSwitch → SwitchMessage
+abbrev pub said_by : SwitchMessageView → SwitchMessage
 said_by views.Hello = Hello
 said_by (views.Error error) = Error (error_of_view error)
 said_by (views.EchoRequest body) = EchoRequest body
@@ -29,5 +29,5 @@ said_by views.BarrierReply = BarrierReply
 said_by (views.QueueGetConfigReply queues) = QueueGetConfigReply (queues_of_view queues)
 
 -- a call that takes no memory answers what is read
-abbrev pub ReadsAsSaid : Result FromSwitch Unread → Result SwitchMessage Unread → Type 0
+abbrev pub ReadsAsSaid : Result SwitchMessageView Unread → Result SwitchMessage Unread → Type 0
 ReadsAsSaid called read = Answers (λ fault told. told ≡ Err fault) said_by called read

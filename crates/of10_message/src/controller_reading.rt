@@ -14,7 +14,7 @@ ghost use Rattle.of10_message.specs.Heads.{version_of};
 ghost use Rattle.of10_message.specs.Forms.{formed};
 ghost use Rattle.of10_message.specs.Controller.{read_typed, read_controller};
 
-use crate::body::bare;
+use crate::bodiless::bare;
 use crate::config::SwitchConfig;
 use crate::controller::FromController;
 use crate::fault::Unread;

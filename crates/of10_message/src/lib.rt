@@ -3,23 +3,23 @@
 //! its queues, read and spelled; and the errors of a switch.
 #![tactic(auto)]
 
-mod body;
+mod bodiless;
 mod config;
 mod controller;
 mod controller_reading;
-mod error;
 mod fault;
 pub mod laws;
 mod queues;
 mod switch;
+mod switch_error;
 mod switch_reading;
 
-pub use body::bare;
+pub use bodiless::bare;
 pub use config::{SwitchConfig, config_reply, set_config};
 pub use controller::FromController;
 pub use controller_reading::read_controller;
-pub use error::{ErrorView, pair_in};
 pub use fault::Unread;
 pub use queues::{QueuesQuestion, QueuesView, queues_reply, queues_request};
-pub use switch::FromSwitch;
+pub use switch::SwitchMessageView;
+pub use switch_error::{ErrorView, pair_in};
 pub use switch_reading::read_switch;

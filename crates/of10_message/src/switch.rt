@@ -1,14 +1,15 @@
 use crate::config::SwitchConfig;
-use crate::error::ErrorView;
 use crate::queues::QueuesView;
+use crate::switch_error::ErrorView;
 use of10_ctl::BodyView;
 use of10_flow::{FlowRemovedView, PacketInView};
 use of10_port::{FeaturesView, PortStatusView};
 use of10_stats::StatsPart;
 
-/// A message that a switch sends (OpenFlow 1.0.0, section 5), but for its head, where it lies.
+/// A message that a switch sends (OpenFlow 1.0.0, section 5), but for its head, where it lies. It shows a
+/// `SwitchMessage` of the definitions (`said_by`).
 #[derive(Drop)]
-pub enum FromSwitch<'a> {
+pub enum SwitchMessageView<'a> {
     /// Section 5.5; any version but 0.
     Hello,
     /// Section 5.4.4.

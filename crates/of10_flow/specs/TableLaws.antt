@@ -1,4 +1,4 @@
--- What the laws of `src/tables.rt` speak of: which entries may be chosen for a header, which entries a table has, and, as this proxy's own rule, tables whose entries are pieces of another one's.
+-- What the laws of `src/table_laws.rt` speak of: which entries may be chosen for a header, which entries a table has, and, as this proxy's own rule, tables whose entries are pieces of another one's.
 use Rattle.std.specs.List.{list_any}
 use Rattle.std.specs.Prelude.{◌≡◌, ◌≤◌, ◌⊎◌, ◌↔◌, true, false, List, map, All, AllPairs, Contains}
 use Rattle.of10_model.specs.declared.pattern.Pattern.{Pattern}
@@ -9,7 +9,7 @@ use Rattle.of10_action.specs.declared.action.Action.{Action}
 use Rattle.of10_flow.specs.declared.flow_mod.FlowMod.{FlowMod}
 use Rattle.of10_flow.specs.declared.protocol.TheConstants.{DELETE_STRICT}
 use Rattle.of10_port.specs.declared.protocol.TheConstants.{NONE}
-use Rattle.of10_flow.specs.declared.entry.FlowEntry.{FlowEntry}
+use Rattle.of10_flow.specs.declared.flow_entry.FlowEntry.{FlowEntry}
 use Rattle.of10_flow.specs.Tables.{touches, is_delete, entry_of, Apply, Treatment}
 
 -- a flow-mod leaves every table treating a header as before

@@ -1,5 +1,5 @@
 use Rattle.of10_flow.proofs.Pairs.{once_empty, once_ApplyAll}
-use Rattle.of10_flow.proofs.tables.each_pair_stays_once.Goals as goal
+use Rattle.of10_flow.proofs.table_laws.each_pair_stays_once.Goals as goal
 
 pub returns-clause-empty : goal.returns-clause-empty
 returns-clause-empty c = once_empty

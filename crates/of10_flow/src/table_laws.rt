@@ -10,9 +10,9 @@ ghost use Rattle.of10_model.specs.Inclusion.{Includes};
 ghost use Rattle.of10_action.specs.declared.action.Action.{Action};
 ghost use Rattle.of10_flow.specs.declared.flow_mod.FlowMod.{FlowMod};
 ghost use Rattle.of10_flow.specs.declared.protocol.TheConstants.{ADD, MODIFY, MODIFY_STRICT};
-ghost use Rattle.of10_flow.specs.declared.entry.FlowEntry.{FlowEntry as Entry};
+ghost use Rattle.of10_flow.specs.declared.flow_entry.FlowEntry.{FlowEntry as Entry};
 ghost use Rattle.of10_flow.specs.Tables.{names_entry, describes, overlaps, touches, having, Apply, ApplyAll, Treatment};
-ghost use Rattle.of10_flow.specs.Outside.{SharesHeader, HasEachPairOnce, HaveSameLists, MayBeChosen, Cleans, IsSplit, IsSplitTable, TouchAlike, FollowsByPieces};
+ghost use Rattle.of10_flow.specs.TableLaws.{SharesHeader, HasEachPairOnce, HaveSameLists, MayBeChosen, Cleans, IsSplit, IsSplitTable, TouchAlike, FollowsByPieces};
 
 /// A flow-mod names the entries of its match and priority, describes those of which its match has all headers,
 /// and those overlap it that have its priority and share a header with it.

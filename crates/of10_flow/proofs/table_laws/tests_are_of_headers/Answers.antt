@@ -1,5 +1,5 @@
 use Rattle.of10_flow.proofs.Meaning.{names_iff, describes_iff, overlaps_iff}
-use Rattle.of10_flow.proofs.tables.tests_are_of_headers.Goals as goal
+use Rattle.of10_flow.proofs.table_laws.tests_are_of_headers.Goals as goal
 
 pub returns-clause-named : goal.returns-clause-named
 returns-clause-named c = names_iff
