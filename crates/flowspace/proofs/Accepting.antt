@@ -257,14 +257,14 @@ fault_of-IsPolicy ss rs ranges h =
     })
 
 by_fault : (ss : List Slice) (rs : List Rule) (o : Option PolicyFault) → fault_of ss rs ≡ o
-    → (load_of ss rs ≡ Ok (record { slices = ss; rules = rs })) ↔ (o ≡ None)
+    → (load_of ss rs ≡ Ok (record { slices = ss; rules = rs; swaps = [] })) ↔ (o ≡ None)
 by_fault ss rs None e = (λ h. refl, λ h. rw (e, load_of) refl)
 by_fault ss rs (Some fault) e =
-    (λ h. let clash : Err fault ≡ Ok (record { slices = ss; rules = rs }) = rw (e, load_of) at h in absurd (cc), λ h. absurd (cc))
+    (λ h. let clash : Err fault ≡ Ok (record { slices = ss; rules = rs; swaps = [] }) = rw (e, load_of) at h in absurd (cc), λ h. absurd (cc))
 
 -- what is loaded is a policy, and a policy is loaded
 pub load_of-iff : (ss : List Slice) (rs : List Rule) → 1 ≤ length ss → All IsPlainSlice ss → All IsPlainRule rs → AreNormal rs
-    → (load_of ss rs ≡ Ok (record { slices = ss; rules = rs })) ↔ IsPolicy ss rs
+    → (load_of ss rs ≡ Ok (record { slices = ss; rules = rs; swaps = [] })) ↔ IsPolicy ss rs
 load_of-iff ss rs some plain_slices plain_rules normal =
     let iff = by_fault ss rs (fault_of ss rs) refl in (
       λ h. IsPolicy-fault_of ss rs some plain_slices plain_rules (iff.0 h),

@@ -47,7 +47,7 @@ found_by ss rs fault h =
 
 -- ---- what each check finds
 
-excess-Some : (what : What) (limit count : ℕ) (fault : PolicyFault) → excess what limit count ≡ Some fault → (limit < count) × (TooMany what count ≡ fault)
+pub excess-Some : (what : What) (limit count : ℕ) (fault : PolicyFault) → excess what limit count ≡ Some fault → (limit < count) × (TooMany what count ≡ fault)
 excess-Some what limit count fault e =
     elim (cases_Bool (nat_lt limit count)) [
       | inl more ↦ let same : Some (TooMany what count) ≡ Some fault = sym (cond-true (nat_lt limit count) _ _ more) ∙ e in (ltb-true limit count more, cc)
@@ -96,7 +96,7 @@ overlap_form later (Some earlier) fault e = (earlier.place, later.place, cc)
 -- ---- the first of a list
 
 -- what holds of each element before a place, beside those before that, holds in the list cut off there
-fine_before : {A : Type 0} (check : List A → A → Option PolicyFault) (xs : List A) (place : ℕ) → place ≤ length xs
+pub fine_before : {A : Type 0} (check : List A → A → Option PolicyFault) (xs : List A) (place : ℕ) → place ≤ length xs
     → ((k : ℕ) (d : A) → k < place → check (take k xs) (get_or xs k d) ≡ None)
     → first_along check [] (take place xs) ≡ None
 fine_before check xs place le fine =
@@ -105,7 +105,7 @@ fine_before check xs place le fine =
     let before : k < place = omega arith in
     rw (take-take k place xs (omega arith), get_or-take place xs k d before) (fine k d before))
 
-there : {A : Type 0} (xs : List A) (place : ℕ) (x : A) → place < length xs → get_or xs place x ≡ x → slice_get xs place ≡ Some x
+pub there : {A : Type 0} (xs : List A) (place : ℕ) (x : A) → place < length xs → get_or xs place x ≡ x → slice_get xs place ≡ Some x
 there xs place x lt is = slice_get-get_or xs place x lt ∙ (let same = is in cc)
 
 first_repeat : (ss : List Slice) (fault : PolicyFault) → first_along name_fault [] ss ≡ Some fault → (place : ℕ) × IsFirstRepeat ss place × (DuplicateSlice place ≡ fault)

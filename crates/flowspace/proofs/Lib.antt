@@ -6,10 +6,13 @@ pub mod Filed
 pub mod Along
 pub mod Refusing
 pub mod Accepting
+pub mod Swapping
+pub mod Exchanging
 pub mod Overlapping
 pub mod Owning
 pub mod Placing
 pub mod Covering
 pub mod Faulty
+pub mod FirstSwaps
 pub mod Naming
 pub mod Improper

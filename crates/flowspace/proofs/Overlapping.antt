@@ -362,7 +362,7 @@ overlap_found ss rs i j h =
     h
 
 pub refused_load : (ss : List Slice) (rs : List Rule) (fault : PolicyFault) (o : Option PolicyFault) → fault_of ss rs ≡ o → load_of ss rs ≡ Err fault → o ≡ Some fault
-refused_load ss rs fault None is e = let loaded : Result PolicyView PolicyFault = Ok (record { slices = ss; rules = rs }) in let clash : loaded ≡ Err fault = rw (is, load_of) at e in absurd (cc)
+refused_load ss rs fault None is e = let loaded : Result PolicyView PolicyFault = Ok (record { slices = ss; rules = rs; swaps = [] }) in let clash : loaded ≡ Err fault = rw (is, load_of) at e in absurd (cc)
 refused_load ss rs fault (Some x) is e = let refused : Result PolicyView PolicyFault = Err x in let same : refused ≡ Err fault = rw (is, load_of) at e in cc
 
 pub IsFirstOverlap-load_of : (ss : List Slice) (rs : List Rule) (i j : ℕ) → AreNormal rs → load_of ss rs ≡ Err (Overlap i j) → IsFirstOverlap rs i j

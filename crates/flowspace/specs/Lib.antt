@@ -1,6 +1,7 @@
 pub mod Options
 pub mod Slices
 pub mod Rules
+pub mod Swaps
 pub mod Order
 pub mod Policies
 pub mod Loading

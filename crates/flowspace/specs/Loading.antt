@@ -4,15 +4,17 @@ use Rattle.std.specs.List.{list_any}
 use Rattle.std.specs.Option.{option_or}
 use Rattle.of10_model.specs.Results.{Answers}
 use Rattle.flowspace.specs.declared.fault.What.{What}
-use Rattle.flowspace.specs.declared.fault.What.TheVariants.{Slices, Rules, Writes}
+use Rattle.flowspace.specs.declared.fault.What.TheVariants.{Slices, Rules, Writes, Swaps}
 use Rattle.flowspace.specs.declared.fault.Field.TheVariants.{Read}
 use Rattle.flowspace.specs.declared.fault.PolicyFault.{PolicyFault}
-use Rattle.flowspace.specs.declared.fault.PolicyFault.TheVariants.{TooMany, DuplicateSlice, UnknownSlice, Improper, Overlap, Memory}
+use Rattle.flowspace.specs.declared.fault.PolicyFault.TheVariants.{TooMany, DuplicateSlice, UnknownSlice, Improper, Overlap, UnknownPortSlice, PortTwice, Memory}
 use Rattle.flowspace.specs.declared.slices.Slice.{Slice}
 use Rattle.flowspace.specs.declared.rules.Rule.{Rule}
 use Rattle.flowspace.specs.declared.order.FiledRule.{FiledRule}
+use Rattle.flowspace.specs.declared.swaps.Swap.{Swap}
 use Rattle.flowspace.specs.Options.{first_some}
 use Rattle.flowspace.specs.Rules.{is_written_by, is_slot_or_none, is_own_reader, is_refused}
+use Rattle.flowspace.specs.Swaps.{share_number}
 use Rattle.flowspace.specs.Order.{ranked}
 use Rattle.flowspace.specs.Policies.{PolicyView}
 
@@ -73,7 +75,29 @@ fault_of slices rules = first_some (faults_before_order slices rules ++ first_al
 
 -- the policy that slices and rules make, or their first fault
 abbrev pub load_of : List Slice → List Rule → Result PolicyView PolicyFault
-load_of slices rules = elim (fault_of slices rules) [ None ↦ Ok (record { slices = slices; rules = rules }) | Some fault ↦ Err fault ]
+load_of slices rules = elim (fault_of slices rules) [ None ↦ Ok (record { slices = slices; rules = rules; swaps = [] }) | Some fault ↦ Err fault ]
+
+-- ---- with swaps
+
+-- a swap's slice is no slot
+abbrev pub swap_slot_fault : ℕ → List Swap → Swap → Option PolicyFault
+swap_slot_fault slots before swap = if nat_lt swap.slice slots then None else Some (UnknownPortSlice (length before))
+
+-- a swap shares a number with one before it
+abbrev pub twice_fault : List Swap → Swap → Option PolicyFault
+twice_fault before swap = if list_any (λ earlier. share_number earlier swap) before then Some (PortTwice (length before)) else None
+
+-- the first fault of swaps: along them a slot that isn't there, too many, and along them a number named twice
+unfoldable pub fault_of_swaps : ℕ → List Swap → Option PolicyFault
+fault_of_swaps slots swaps = first_some (first_along (swap_slot_fault slots) [] swaps ∷ excess Swaps 1024 (length swaps) ∷ first_along twice_fault [] swaps ∷ [])
+
+-- the first fault of slices, rules and swaps
+abbrev pub fault_with_swaps : List Slice → List Rule → List Swap → Option PolicyFault
+fault_with_swaps slices rules swaps = option_or (fault_of slices rules) (fault_of_swaps (length slices) swaps)
+
+-- the policy that slices, rules and swaps make, or their first fault
+abbrev pub load_ports_of : List Slice → List Rule → List Swap → Result PolicyView PolicyFault
+load_ports_of slices rules swaps = elim (fault_with_swaps slices rules swaps) [ None ↦ Ok (record { slices = slices; rules = rules; swaps = swaps }) | Some fault ↦ Err fault ]
 
 -- a call answers what it should, or want of memory
 abbrev pub GivesPolicy : {A : Type 0} → Result A PolicyFault → Result A PolicyFault → Type 0

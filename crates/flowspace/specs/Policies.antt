@@ -3,19 +3,22 @@ use Rattle.std.specs.Prelude.{ℕ, ◌≡◌, ◌≢◌, ◌<◌, ◌≤◌, ◌
 use Rattle.of10_model.specs.Normal.{IsNormal}
 use Rattle.flowspace.specs.declared.slices.Slice.{Slice}
 use Rattle.flowspace.specs.declared.rules.Rule.{Rule}
+use Rattle.flowspace.specs.declared.swaps.Swap.{Swap}
 use Rattle.flowspace.specs.Slices.{IsPlainSlice}
 use Rattle.flowspace.specs.Rules.{IsPlainRule, is_written_by, is_own_reader, have_switch, ShareHeader, Yields}
 use Rattle.flowspace.specs.Order.{HasNoLower, IsAccepted}
 
--- the slices and the rules of a policy, both as they stand in its text
+-- the slices, the rules and the swaps of a policy, all as they stand in its text
 pub record PolicyView : Type 0 where
   pub slices : List Slice
   pub rules : List Rule
+  pub swaps : List Swap
 
--- the slices of a policy, and the rules of one switch in rule order
+-- the slices of a policy, and of one switch the rules in rule order and the swaps
 pub record SwitchView : Type 0 where
   pub slices : List Slice
   pub rules : List Rule
+  pub swaps : List Swap
 
 -- slices and rules as every policy has them: plain parts within the limits, different names, writers and readers that are slots, and no writer who is a reader too
 pub record AreProper (slices : List Slice) (rules : List Rule) : Type 0 where

@@ -1,5 +1,5 @@
 -- Slices, and which values they may have. All of this is the proxy's own rule.
-use Rattle.std.specs.Prelude.{ℕ, ◌≤◌, Bool, ◌||◌, ◌&&◌, ◌==◌, leb, IsTrue, List, length, All}
+use Rattle.std.specs.Prelude.{ℕ, ◌≤◌, Bool, ◌||◌, ◌&&◌, ◌==◌, leb, IsTrue, List, length, All, Option, position, bytes_eq}
 use Rattle.std.specs.List.{list_all}
 use Rattle.flowspace.specs.declared.slices.Slice.{Slice}
 
@@ -27,3 +27,7 @@ pub record IsPlainSlice (s : Slice) : Type 0 where
   pub burst_some : 1 ≤ s.burst
   pub burst_limit : s.burst ≤ 1000000
   pub quota_limit : s.quota ≤ 4096
+
+-- the slot of a name: the place of the first slice that has it
+abbrev pub slot_named : List Slice → List ℕ → Option ℕ
+slot_named slices name = position (λ s. bytes_eq s.name name) slices

@@ -7,6 +7,7 @@ pub enum What {
     Rules,
     /// Rules that one slice may write.
     Writes,
+    Swaps,
 }
 
 /// A part of a rule: its readers, or one of the twelve fields of its match.
@@ -51,7 +52,7 @@ impl fmt::Debug for Field {
     }
 }
 
-/// Why a policy isn't accepted. Slices and rules are named by their place in the policy, from 0.
+/// Why a policy isn't accepted. Slices, rules and swaps are named by their place in the policy, from 0.
 #[derive(Clone, Copy, Debug, PartialEq, Eq)]
 pub enum PolicyFault {
     /// There are so many, which is more than the limit.
@@ -65,6 +66,10 @@ pub enum PolicyFault {
     /// The first rule comes before the second and shares a header with it, and isn't written by the
     /// slice that writes the second.
     Overlap(u64, u64),
+    /// The swap is of a slice that isn't there.
+    UnknownPortSlice(u64),
+    /// The swap names a number that an earlier swap of its slice names on a common switch.
+    PortTwice(u64),
     /// Want of memory.
     Memory,
 }

@@ -1,6 +1,6 @@
 //! Laws of the definitions. Each function's contract is the law; its body does nothing.
 
-ghost use Rattle.std.specs.Prelude.{ℕ, List, ◌≡◌, ◌≤◌, ◌↔◌, length, All, Some, Ok, Err};
+ghost use Rattle.std.specs.Prelude.{ℕ, List, [], ◌≡◌, ◌≤◌, ◌↔◌, ◌⊎◌, length, All, Some, Ok, Err};
 ghost use Rattle.of10_model.specs.declared.pattern.Pattern.{Pattern};
 ghost use Rattle.of10_model.specs.Header.{Header, IsHeader};
 ghost use Rattle.of10_model.specs.Normal.{IsNormal};
@@ -8,18 +8,20 @@ ghost use Rattle.flowspace.specs.declared.fault.PolicyFault.{PolicyFault};
 ghost use Rattle.flowspace.specs.declared.fault.PolicyFault.TheVariants.{Overlap};
 ghost use Rattle.flowspace.specs.declared.slices.Slice.{Slice};
 ghost use Rattle.flowspace.specs.declared.rules.Rule.{Rule};
+ghost use Rattle.flowspace.specs.declared.swaps.Swap.{Swap};
+ghost use Rattle.flowspace.specs.Swaps.{AreSwaps, IsFirstSwapFault, IsPlainSwap, pairs_of, swapped, swaps_on};
 ghost use Rattle.flowspace.specs.Slices.{IsPlainSlice};
 ghost use Rattle.flowspace.specs.Rules.{IsPlainRule};
 ghost use Rattle.flowspace.specs.Order.{rules_on};
 ghost use Rattle.flowspace.specs.Policies.{IsPolicy, IsSwitchPolicy, AreNormal, IsFirstOverlap};
 ghost use Rattle.flowspace.specs.Faults.{IsFirstPolicyFault};
-ghost use Rattle.flowspace.specs.Loading.{load_of};
+ghost use Rattle.flowspace.specs.Loading.{load_of, load_ports_of};
 ghost use Rattle.flowspace.specs.Owners.{Writes, HasWriteRule, owner_of_match, IsOwner, Owns};
 
 /// Plain slices and rules are loaded, and as they are, exactly where they are within their limits, name
 /// their slices and are accepted.
 pub fn what_is_accepted_is_loaded()
-    ensures { (slices : List Slice) (rules : List Rule) → 1 ≤ length slices → All IsPlainSlice slices → All IsPlainRule rules → AreNormal rules → (load_of slices rules ≡ Ok (record { slices = slices; rules = rules })) ↔ IsPolicy slices rules }
+    ensures { (slices : List Slice) (rules : List Rule) → 1 ≤ length slices → All IsPlainSlice slices → All IsPlainRule rules → AreNormal rules → (load_of slices rules ≡ Ok (record { slices = slices; rules = rules; swaps = [] })) ↔ IsPolicy slices rules }
 {}
 
 /// What is refused is refused for its first fault: too many slices, else too many rules, else the first
@@ -47,4 +49,23 @@ pub fn slice_writes_the_union_of_its_rules()
 pub fn match_has_one_owner()
     ensures tested { (slices : List Slice) (rules : List Rule) → IsSwitchPolicy slices rules → (slot : ℕ) (m : Pattern) → IsNormal m → (owner_of_match rules m ≡ Some slot) ↔ IsOwner rules slot m }
     ensures headers { (slices : List Slice) (rules : List Rule) → IsSwitchPolicy slices rules → AreNormal rules → (slot : ℕ) (m : Pattern) → IsNormal m → (owner_of_match rules m ≡ Some slot) ↔ Owns rules slot m }
+{}
+
+/// Plain slices, rules and swaps are loaded, and as they are, exactly where slices and rules make a policy,
+/// the swaps are within their limit and of slices that are there, and no number of a slice is named twice on
+/// a switch.
+pub fn what_is_accepted_with_swaps_is_loaded()
+    ensures { (slices : List Slice) (rules : List Rule) (swaps : List Swap) → 1 ≤ length slices → All IsPlainSlice slices → All IsPlainRule rules → AreNormal rules → All IsPlainSwap swaps → (load_ports_of slices rules swaps ≡ Ok (record { slices = slices; rules = rules; swaps = swaps })) ↔ (IsPolicy slices rules × AreSwaps (length slices) swaps) }
+{}
+
+/// What is refused with swaps is refused for the first fault of its slices and rules; or these are loaded
+/// without the swaps, and it is the swaps' first fault: the first in the file that is of no slice, else too
+/// many, else the first that names a number which an earlier one of its slice names on a common switch.
+pub fn what_is_refused_with_swaps_has_a_first_fault()
+    ensures { (slices : List Slice) (rules : List Rule) (swaps : List Swap) (fault : PolicyFault) → AreNormal rules → load_ports_of slices rules swaps ≡ Err fault → IsFirstPolicyFault slices rules fault ⊎ ((load_of slices rules ≡ Ok (record { slices = slices; rules = rules; swaps = [] })) × IsFirstSwapFault (length slices) swaps fault) }
+{}
+
+/// What a slice's swaps on a switch exchange they exchange back.
+pub fn numbers_are_exchanged_back()
+    ensures { (slots : ℕ) (swaps : List Swap) → AreSwaps slots swaps → (datapath slot port : ℕ) → swapped (pairs_of (swaps_on datapath swaps) slot) (swapped (pairs_of (swaps_on datapath swaps) slot) port) ≡ port }
 {}

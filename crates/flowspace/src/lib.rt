@@ -12,8 +12,10 @@ mod policy;
 mod refusal;
 mod rules;
 mod slices;
+mod swaps;
 mod switch;
 mod text;
+mod turns;
 mod writes;
 
 pub use fault::{Field, PolicyFault, What};
@@ -22,5 +24,6 @@ pub use owners::{is_in_port, takes_from};
 pub use policy::Policy;
 pub use rules::{Rule, first_improper, has_slot, is_vlan, is_written_by};
 pub use slices::{Slice, is_controller, is_name};
+pub use swaps::Swap;
 pub use switch::SwitchPolicy;
 pub use text::Text;

@@ -9,6 +9,9 @@ pub const RULES: usize = 2048;
 /// Rules that one slice writes.
 pub const WRITES: usize = 256;
 
+/// Swaps of port numbers.
+pub const SWAPS: usize = 1024;
+
 /// Bytes of a slice's name.
 pub(crate) const NAME_BYTES: usize = 32;
 

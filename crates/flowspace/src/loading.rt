@@ -14,7 +14,8 @@ use crate::rules::{Rule, has_slot, is_written_by};
 use crate::slices::Slice;
 use std::alloc::{AllocError, Global};
 
-fn excess(what: What, limit: usize, count: usize) -> Option<PolicyFault>
+/// There are more than the limit.
+pub(crate) fn excess(what: What, limit: usize, count: usize) -> Option<PolicyFault>
     ensures { result ≡ excess what limit count }
 {
     (count > limit).then_some(PolicyFault::TooMany(what, count as u64))

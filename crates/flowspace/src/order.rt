@@ -1,7 +1,7 @@
 ghost use Rattle.std.specs.Prelude.{ℕ, List, ◌≡◌, IfOk, filter};
 ghost use Rattle.flowspace.specs.declared.rules.Rule.{Rule as RuleView};
 ghost use Rattle.flowspace.specs.Rules.{holds};
-ghost use Rattle.flowspace.specs.Order.{rules_on, IsRuleOrder};
+ghost use Rattle.flowspace.specs.Order.{in_order, rules_on, IsRuleOrder};
 ghost use Rattle.flowspace.specs.Loading.{filed, filed_in_order};
 
 use crate::rules::{Rule, is_held};
@@ -39,6 +39,21 @@ fn rank(rule: &Rule) -> Reverse<u32>
     Reverse(rule.priority)
 }
 
+fn sorted(rules: Vec<Rule>) -> Result<Vec<Rule>, AllocError>
+    ensures { IfOk result (λ v. v.items ≡ in_order rules.items) }
+{
+    let mut sorted = rules;
+    sorted.sort_by_key(|rule| rank(rule))?;
+    Ok(sorted)
+}
+
+/// The rules in rule order.
+pub(crate) fn in_rule_order(alloc: Global, rules: &[Rule]) -> Result<Vec<Rule>, AllocError>
+    ensures { IfOk result (λ v. v.items ≡ in_order rules.now) }
+{
+    sorted(Vec::from_slice(alloc, rules)?)
+}
+
 /// The rules that hold on a switch, in rule order.
 pub(crate) fn ordered_rules(
     alloc: Global,
@@ -47,9 +62,7 @@ pub(crate) fn ordered_rules(
 ) -> Result<Vec<Rule>, AllocError>
     ensures { IfOk result (λ v. v.items ≡ rules_on datapath rules.now) }
 {
-    let mut held = held_rules(alloc, rules, datapath)?;
-    held.sort_by_key(|rule| rank(rule))?;
-    Ok(held)
+    sorted(held_rules(alloc, rules, datapath)?)
 }
 
 fn filed_rules(alloc: Global, rules: &[Rule]) -> Result<Vec<FiledRule>, AllocError>

@@ -1,6 +1,6 @@
-ghost use Rattle.std.specs.Prelude.{◌≡◌, ◌≤◌, IfOk, IsTrue};
+ghost use Rattle.std.specs.Prelude.{◌≡◌, ◌<◌, ◌≤◌, length, IfOk, IfSome, IsTrue};
 ghost use Rattle.std.specs.List.{list_all};
-ghost use Rattle.flowspace.specs.Slices.{is_controller, is_name, is_name_byte, IsPlainSlice};
+ghost use Rattle.flowspace.specs.Slices.{is_controller, is_name, is_name_byte, IsPlainSlice, slot_named};
 
 use crate::limits::{CONTROLLER_BYTES, NAME_BYTES, QUOTA, RATE};
 use crate::text::Text;
@@ -76,18 +76,27 @@ impl Slice {
     {
         is_name(self.name.as_str()) && is_controller(self.controller.as_str()) && self.has_numbers()
     }
+
+    /// The same slice, with texts of its own.
+    pub fn copy(&self, alloc: Global) -> Result<Slice, AllocError>
+        ensures { IfOk result (λ s. s ≡ self.now) }
+    {
+        Ok(Slice {
+            name: Text::of(alloc, self.name.as_str())?,
+            controller: Text::of(alloc, self.controller.as_str())?,
+            rate: self.rate,
+            burst: self.burst,
+            quota: self.quota,
+        })
+    }
 }
 
-fn copy_of(alloc: Global, slice: &Slice) -> Result<Slice, AllocError>
-    ensures { IfOk result (λ s. s ≡ slice.now) }
+/// The slot of a name: the place of the first slice that has it.
+pub(crate) fn slot_named(slices: &[Slice], name: &str) -> Option<usize>
+    ensures value { result ≡ slot_named slices.now name.now }
+    ensures within { IfSome result (λ slot. slot < length slices.now) }
 {
-    Ok(Slice {
-        name: Text::of(alloc, slice.name.as_str())?,
-        controller: Text::of(alloc, slice.controller.as_str())?,
-        rate: slice.rate,
-        burst: slice.burst,
-        quota: slice.quota,
-    })
+    slices.iter().position(|slice| slice.name.as_str() == name)
 }
 
 /// The same slices, with texts of their own.
@@ -96,7 +105,7 @@ pub(crate) fn copies(alloc: Global, slices: &[Slice]) -> Result<Vec<Slice>, Allo
 {
     let mut copies = Vec::new(alloc);
     for slice in slices {
-        copies.push(copy_of(alloc, slice)?)?;
+        copies.push(slice.copy(alloc)?)?;
     }
     Ok(copies)
 }

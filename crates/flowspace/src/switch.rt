@@ -1,17 +1,22 @@
-ghost use Rattle.std.specs.Prelude.{◌≡◌, ◌<◌, ◌↔◌, false, length, map, filter, slice_get, All, Some, IfOk, IfSome, IfNone, IsTrue, option_map};
+ghost use Rattle.std.specs.Prelude.{◌≡◌, ◌<◌, ◌↔◌, false, leb, nat_lt, length, map, filter, slice_get, All, Some, IfOk, IfSome, IfNone, IsTrue, option_map};
 ghost use Rattle.std.specs.List.{list_any};
 ghost use Rattle.flowspace.specs.Rules.{is_written_by};
 ghost use Rattle.flowspace.specs.Order.{first_of, first_rule, writer_of, readers_of};
 ghost use Rattle.flowspace.specs.Policies.{IsSwitchPolicy};
 ghost use Rattle.flowspace.specs.Owners.{owner_of_match, is_rule_at, has_port, HasPort};
 ghost use Rattle.flowspace.specs.Places.{IsWritesOf, first_cover, first_written};
+ghost use Rattle.flowspace.specs.Slices.{slot_named};
+ghost use Rattle.flowspace.specs.Swaps.{AreSwaps, pairs_of, swapped};
 
 use crate::owners::{is_in_port, owner_of};
 use crate::rules::Rule;
-use crate::slices::Slice;
+use crate::slices::{Slice, slot_named};
+use crate::swaps::Swap;
+use crate::turns::turns_by_slot;
 use crate::writes::{SliceWrites, writes_by_slot};
 use of10_match::{Header12, Match};
 use std::alloc::{AllocError, Global};
+use std::collections::BTreeMap;
 use std::marker::Model;
 
 /// A policy as it holds on one switch.
@@ -19,20 +24,24 @@ use std::marker::Model;
 pub struct SwitchPolicy {
     slices: Vec<Slice>,
     rules: Vec<Rule>,
+    swaps: Vec<Swap>,
     /// What each slice writes, by slots.
     writes: Vec<SliceWrites>,
+    /// For each number that a slice's swaps name the other one, by slots.
+    turns: Vec<BTreeMap<u16, u16>>,
 }
 
 impl Model for SwitchPolicy {
     ghost use Rattle.std.specs.Prelude.{length, ◌≡◌};
     ghost use Rattle.flowspace.specs.Policies.{SwitchView, IsSwitchPolicy};
     ghost use Rattle.flowspace.specs.Places.{AreWrites};
+    ghost use Rattle.flowspace.specs.Swaps.{AreSwaps, AreTurns};
 
     ghost Value = { SwitchView };
 
-    ghost view = { λ p. record { slices = p.slices.items; rules = p.rules.items } };
+    ghost view = { λ p. record { slices = p.slices.items; rules = p.rules.items; swaps = p.swaps.items } };
 
-    ghost invariant = { λ p. IsSwitchPolicy p.slices.items p.rules.items × (length p.writes.items ≡ length p.slices.items) × AreWrites p.rules.items p.writes.items };
+    ghost invariant = { λ p. IsSwitchPolicy p.slices.items p.rules.items × (length p.writes.items ≡ length p.slices.items) × AreWrites p.rules.items p.writes.items × AreSwaps (length p.slices.items) p.swaps.items × (length p.turns.items ≡ length p.slices.items) × AreTurns p.swaps.items p.turns.items };
 }
 
 fn first_place(rules: &[Rule], h: &Header12) -> Option<usize>
@@ -43,20 +52,25 @@ fn first_place(rules: &[Rule], h: &Header12) -> Option<usize>
 }
 
 impl SwitchPolicy {
-    /// The policy of slices and of rules that stand in rule order.
+    /// The policy of slices, of rules that stand in rule order and of swaps.
     pub(crate) fn of(
         alloc: Global,
         slices: Vec<Slice>,
         rules: Vec<Rule>,
+        swaps: Vec<Swap>,
     ) -> Result<SwitchPolicy, AllocError>
-        requires { IsSwitchPolicy slices.items rules.items }
-        ensures { IfOk result (λ p. (p.slices ≡ slices.items) × (p.rules ≡ rules.items)) }
+        requires policy { IsSwitchPolicy slices.items rules.items }
+        requires swaps { AreSwaps (length slices.items) swaps.items }
+        ensures { IfOk result (λ p. (p.slices ≡ slices.items) × (p.rules ≡ rules.items) × (p.swaps ≡ swaps.items)) }
     {
         let writes = writes_by_slot(alloc, &rules, slices.len())?;
+        let turns = turns_by_slot(alloc, &swaps, slices.len())?;
         Ok(SwitchPolicy {
             slices,
             rules,
+            swaps,
             writes,
+            turns,
         })
     }
 
@@ -74,6 +88,41 @@ impl SwitchPolicy {
         ensures policy { IsSwitchPolicy self.now.slices self.now.rules }
     {
         &self.rules
+    }
+
+    /// The slot of the slice that has a name, if one has it.
+    pub fn slot_named(&self, name: &str) -> Option<u8>
+        ensures { result ≡ slot_named self.now.slices name.now }
+    {
+        let slot = slot_named(&self.slices, name)?;
+        Some(slot as u8)
+    }
+
+    /// The swaps that hold on the switch, as they stand in the file.
+    pub fn swaps(&self) -> &[Swap]
+        ensures value { result.now ≡ self.now.swaps }
+        ensures policy { AreSwaps (length self.now.slices) self.now.swaps }
+    {
+        &self.swaps
+    }
+
+    /// Whether a swap of some slice holds on the switch.
+    pub fn has_swaps(&self) -> bool
+        ensures { result ≡ nat_lt 0 (length self.now.swaps) }
+    {
+        !self.swaps.is_empty()
+    }
+
+    /// The number under which a slice sees the port of this number, and that of the port which it sees
+    /// under it: the other one of the slice's swap that names the number. It is the number itself where
+    /// none does, or no slice has the slot.
+    pub fn swapped(&self, slot: u8, port: u16) -> u16
+        ensures { result ≡ swapped (pairs_of self.now.swaps slot) port }
+    {
+        match self.turns.get(usize::from(slot)) {
+            Some(turn) => turn.get(&port).copied().unwrap_or(port),
+            None => port,
+        }
     }
 
     /// The place in rule order of the first rule whose match has the header.

@@ -18,4 +18,5 @@ unfoldable pub the_policy : PolicyView
 the_policy = record {
   slices = slice_with (codes "alice") (codes "127.0.0.1:6633") ∷ slice_with (codes "bob") (codes "127.0.0.1:6634") ∷ [];
   rules = rule_to 100 0 80 ∷ rule_to 50 1 22 ∷ [];
+  swaps = [];
 }

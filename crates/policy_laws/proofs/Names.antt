@@ -15,7 +15,8 @@ use Rattle.flowspace.specs.declared.fault.Field.TheVariants.{DlVlanPcp, NwTos, N
 use Rattle.flowspace.specs.Rules.{first_improper}
 use Rattle.policy_text.specs.declared.fault.ReadFault.{ReadFault}
 use Rattle.policy_text.specs.declared.fault.ReadFault.TheVariants.{Improper, Refused}
-use Rattle.policy_text.specs.Rules.{slot_of, slot_named, writer_slot, slots_of, are_different, no_improper, proper, RuleText, rule_from}
+use Rattle.policy_text.specs.Rules.{known_slot, writer_slot, slots_of, are_different, no_improper, proper, RuleText, rule_from}
+use Rattle.flowspace.specs.Slices.{slot_named}
 use Rattle.policy_text.proofs.Sound.{rule_with}
 use Rattle.policy_laws.proofs.Readers.{named_is, is_itself, later}
 use Rattle.policy_laws.specs.Readers.{with_writer, names_of_rule, NamesNoSlice, NamesSlices, NamesTwice}
@@ -23,24 +24,24 @@ use Rattle.policy_laws.specs.Readers.{with_writer, names_of_rule, NamesNoSlice, 
 -- ---- names and slots
 
 abbrev Slots : List Slice → List (List ℕ) → List ℕ → Type 0
-Slots slices names slots = map (slot_of slices) names ≡ map Some slots
+Slots slices names slots = map (slot_named slices) names ≡ map Some slots
 
 slots_back : (slices : List Slice) (index : ℕ) (names : List (List ℕ)) (slots : List ℕ) → slots_of slices index names ≡ Ok slots → Slots slices names slots
 slots_back slices index [] slots e = ap (map Some) (ok_is [] slots e)
 slots_back slices index (name ∷ names) slots e =
-    let a = bind_ok (slot_named index (slot_of slices name)) _ slots e in
+    let a = bind_ok (known_slot index (slot_named slices name)) _ slots e in
     let b = bind_ok (slots_of slices index names) _ slots a.2 in
     let made = ok_is (a.0 ∷ b.0) slots b.2 in
-    rw (named_is index (slot_of slices name) a.0 a.1, slots_back slices index names b.0 b.1) (ap (map Some) made)
+    rw (named_is index (slot_named slices name) a.0 a.1, slots_back slices index names b.0 b.1) (ap (map Some) made)
 
 slots_there : (slices : List Slice) (index : ℕ) (names : List (List ℕ)) (slots : List ℕ) → Slots slices names slots → slots_of slices index names ≡ Ok slots
 slots_there slices index [] [] e = refl
 slots_there slices index [] (slot ∷ slots) e = absurd cc
 slots_there slices index (name ∷ names) [] e = absurd cc
 slots_there slices index (name ∷ names) (slot ∷ slots) e =
-    let first : slot_of slices name ≡ Some slot = cc in
+    let first : slot_named slices name ≡ Some slot = cc in
     let others : Slots slices names slots = cc in
-    bind_is (slot_named index (slot_of slices name)) _ slot _ (ap (slot_named index) first) (bind_is (slots_of slices index names) _ slots _ (slots_there slices index names slots others) refl)
+    bind_is (known_slot index (slot_named slices name)) _ slot _ (ap (known_slot index) first) (bind_is (slots_of slices index names) _ slots _ (slots_there slices index names slots others) refl)
 
 pub slots_are : (slices : List Slice) (index : ℕ) (names : List (List ℕ)) (slots : List ℕ) → (slots_of slices index names ≡ Ok slots) ↔ Slots slices names slots
 slots_are slices index names slots = (slots_back slices index names slots, slots_there slices index names slots)
@@ -52,7 +53,7 @@ unknown index = Refused (UnknownSlice index)
 
 -- a name is a slice's, or it is refused
 abbrev NameIs : ℕ → Option ℕ → Type 0
-NameIs index o = ((o ≡ None) × (slot_named index o ≡ Err (unknown index))) ⊎ ((slot : ℕ) × (o ≢ None) × (slot_named index o ≡ Ok slot))
+NameIs index o = ((o ≡ None) × (known_slot index o ≡ Err (unknown index))) ⊎ ((slot : ℕ) × (o ≢ None) × (known_slot index o ≡ Ok slot))
 
 name_is : (index : ℕ) (o : Option ℕ) → NameIs index o
 name_is index None = inl (refl, refl)
@@ -60,14 +61,14 @@ name_is index (Some slot) = inr (slot, λ none. cc, refl)
 
 -- a name is of no slice
 abbrev IsNoSlice : List Slice → List ℕ → Type 0
-IsNoSlice slices name = slot_of slices name ≡ None
+IsNoSlice slices name = slot_named slices name ≡ None
 
-one_more : (slices : List Slice) (name : List ℕ) (names : List (List ℕ)) → slot_of slices name ≢ None → NamesSlices slices names → NamesSlices slices (name ∷ names)
+one_more : (slices : List Slice) (name : List ℕ) (names : List (List ℕ)) → slot_named slices name ≢ None → NamesSlices slices names → NamesSlices slices (name ∷ names)
 one_more slices name names here others zero d lt = here
 one_more slices name names here others (suc k) d lt = others k d (omega (arith, lt))
 
 apart : (slices : List Slice) (names : List (List ℕ)) → NamesSlices slices names → NamesNoSlice slices names → ⊥
-apart slices names known h = known h.0 h.1 h.2 (ap (slot_of slices) h.3 ∙ h.4)
+apart slices names known h = known h.0 h.1 h.2 (ap (slot_named slices) h.3 ∙ h.4)
 
 -- the names under `read`: one is of no slice, or all are slices' and have their slots
 abbrev ReadersAre : List Slice → ℕ → List (List ℕ) → Type 0
@@ -76,17 +77,17 @@ ReadersAre slices index names = (NamesNoSlice slices names × (slots_of slices i
 readers_are : (slices : List Slice) (index : ℕ) (names : List (List ℕ)) → ReadersAre slices index names
 readers_are slices index [] = inr ([], λ k d lt. absurd (omega (arith, lt)), refl)
 readers_are slices index (name ∷ names) =
-    elim (name_is index (slot_of slices name)) [
-      | inl here ↦ inl ((0, name, omega arith, refl, here.0), bind_fails (slot_named index (slot_of slices name)) _ (unknown index) here.1)
+    elim (name_is index (slot_named slices name)) [
+      | inl here ↦ inl ((0, name, omega arith, refl, here.0), bind_fails (known_slot index (slot_named slices name)) _ (unknown index) here.1)
       | inr known ↦ elim (readers_are slices index names) [
         | inl there ↦ inl (
           later (IsNoSlice slices) name names there.0,
-          bind_is (slot_named index (slot_of slices name)) _ known.0 _ known.2 (bind_fails (slots_of slices index names) _ (unknown index) there.1),
+          bind_is (known_slot index (slot_named slices name)) _ known.0 _ known.2 (bind_fails (slots_of slices index names) _ (unknown index) there.1),
         )
         | inr all ↦ inr (
           known.0 ∷ all.0,
           one_more slices name names known.1 all.1,
-          bind_is (slot_named index (slot_of slices name)) _ known.0 _ known.2 (bind_is (slots_of slices index names) _ all.0 _ all.2 refl),
+          bind_is (known_slot index (slot_named slices name)) _ known.0 _ known.2 (bind_is (slots_of slices index names) _ all.0 _ all.2 refl),
         )
       ]
     ]
@@ -98,9 +99,9 @@ WriterIs slices index write names = (NamesNoSlice slices (with_writer write name
 writer_is : (slices : List Slice) (index : ℕ) (write : Option (List ℕ)) (names : List (List ℕ)) → WriterIs slices index write names
 writer_is slices index None names = inr (None, refl, λ h. h, λ h. h)
 writer_is slices index (Some name) names =
-    elim (name_is index (slot_of slices name)) [
-      | inl here ↦ inl ((0, name, omega arith, refl, here.0), bind_fails (slot_named index (slot_of slices name)) _ (unknown index) here.1)
-      | inr known ↦ inr (Some (known.0 % 256), bind_is (slot_named index (slot_of slices name)) _ known.0 _ known.2 refl, one_more slices name names known.1, later (IsNoSlice slices) name names)
+    elim (name_is index (slot_named slices name)) [
+      | inl here ↦ inl ((0, name, omega arith, refl, here.0), bind_fails (known_slot index (slot_named slices name)) _ (unknown index) here.1)
+      | inr known ↦ inr (Some (known.0 % 256), bind_is (known_slot index (slot_named slices name)) _ known.0 _ known.2 refl, one_more slices name names known.1, later (IsNoSlice slices) name names)
     ]
 
 -- a rule: one of its names is of no slice, or all are slices' and the rule is what its slots make of it
@@ -177,11 +178,11 @@ twice_differs (slot ∷ slots) zero (suc j) lt within e =
 twice_differs (slot ∷ slots) (suc i) (suc j) lt within e =
     not_both (list_any (nat_eq slot) slots) (are_different slots) (inr (twice_differs slots i j (omega (arith, lt)) (omega (arith, within)) e))
 
-slot_at : (slices : List Slice) (names : List (List ℕ)) (slots : List ℕ) (k : ℕ) → Slots slices names slots → k < length names → k < length slots → slot_of slices (slice_index_or names k []) ≡ Some (slice_index slots k)
-slot_at slices names slots k e lt within = sym (get_or-map (slot_of slices) names k [] None lt) ∙ ap (λ os. slice_index_or os k None) e ∙ get_or-map Some slots k 0 None within
+slot_at : (slices : List Slice) (names : List (List ℕ)) (slots : List ℕ) (k : ℕ) → Slots slices names slots → k < length names → k < length slots → slot_named slices (slice_index_or names k []) ≡ Some (slice_index slots k)
+slot_at slices names slots k e lt within = sym (get_or-map (slot_named slices) names k [] None lt) ∙ ap (λ os. slice_index_or os k None) e ∙ get_or-map Some slots k 0 None within
 
 as_long : (slices : List Slice) (names : List (List ℕ)) (slots : List ℕ) → Slots slices names slots → length names ≡ length slots
-as_long slices names slots e = sym (length-map names (slot_of slices)) ∙ ap length e ∙ length-map slots Some
+as_long slices names slots e = sym (length-map names (slot_named slices)) ∙ ap length e ∙ length-map slots Some
 
 names_twice : (slices : List Slice) (names : List (List ℕ)) (slots : List ℕ) → Slots slices names slots → SlotTwice slots → NamesTwice slices names
 names_twice slices names slots e h =

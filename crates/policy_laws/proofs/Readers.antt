@@ -11,7 +11,8 @@ use Rattle.of10_model.proofs.Results.{bind_ok, ok_is}
 use Rattle.flowspace.specs.declared.rules.Rule.{Rule}
 use Rattle.flowspace.specs.declared.slices.Slice.{Slice}
 use Rattle.policy_laws.specs.Readers.{IsNamedSlot}
-use Rattle.policy_text.specs.Rules.{slot_of, slot_named, slots_of, bits_below, RuleText, rule_from}
+use Rattle.policy_text.specs.Rules.{known_slot, slots_of, bits_below, RuleText, rule_from}
+use Rattle.flowspace.specs.Slices.{slot_named}
 use Rattle.policy_text.proofs.Sound.{rule_from_parts}
 
 -- ---- bits
@@ -49,7 +50,7 @@ bits_are (suc n) k slots lt =
 
 -- ---- names
 
-pub named_is : (index : ℕ) (o : Option ℕ) (slot : ℕ) → slot_named index o ≡ Ok slot → o ≡ Some slot
+pub named_is : (index : ℕ) (o : Option ℕ) (slot : ℕ) → known_slot index o ≡ Ok slot → o ≡ Some slot
 named_is index None slot e = absurd cc
 named_is index (Some x) slot e = ap Some (ok_is x slot e)
 
@@ -73,16 +74,16 @@ slots_named slices index [] slots k e =
     let none = ok_is [] slots e in
     (λ h. absurd (true≢false (sym h ∙ ap (list_any (nat_eq k)) (sym none))), λ h. absurd (omega (arith, h.2)))
 slots_named slices index (name ∷ names) slots k e =
-    let a = bind_ok (slot_named index (slot_of slices name)) _ slots e in
+    let a = bind_ok (known_slot index (slot_named slices name)) _ slots e in
     let b = bind_ok (slots_of slices index names) _ slots a.2 in
     let made = ok_is (a.0 ∷ b.0) slots b.2 in
-    let first = named_is index (slot_of slices name) a.0 a.1 in
+    let first = named_is index (slot_named slices name) a.0 a.1 in
     let more = slots_named slices index names b.0 k b.1 in (
       λ h. elim (or_cases (nat_eq k a.0) (list_any (nat_eq k) b.0) (ap (list_any (nat_eq k)) made ∙ h)) [
         | inl here ↦ (0, name, omega arith, refl, first ∙ ap Some (sym (eqb-true k a.0 here)))
-        | inr there ↦ later (λ other. slot_of slices other ≡ Some k) name names (more.0 there)
+        | inr there ↦ later (λ other. slot_named slices other ≡ Some k) name names (more.0 there)
       ],
-      λ h. ap (list_any (nat_eq k)) (sym made) ∙ either_true (nat_eq k a.0) (list_any (nat_eq k) b.0) (elim (first_or_later (λ other. slot_of slices other ≡ Some k) name names h) [
+      λ h. ap (list_any (nat_eq k)) (sym made) ∙ either_true (nat_eq k a.0) (list_any (nat_eq k) b.0) (elim (first_or_later (λ other. slot_named slices other ≡ Some k) name names h) [
         | inl here ↦ inl (is_itself k a.0 (same_Some a.0 k (sym first ∙ here)))
         | inr there ↦ inr (more.1 there)
       ]),

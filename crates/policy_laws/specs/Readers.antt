@@ -2,11 +2,12 @@
 use Rattle.std.specs.Prelude.{◌≡◌, ◌≢◌, ℕ, ◌<◌, List, [], ◌∷◌, length, slice_index_or, Option, Some, None}
 use Rattle.std.specs.List.{All, Any}
 use Rattle.flowspace.specs.declared.slices.Slice.{Slice}
-use Rattle.policy_text.specs.Rules.{RuleText, slot_of}
+use Rattle.policy_text.specs.Rules.{RuleText}
+use Rattle.flowspace.specs.Slices.{slot_named}
 
 -- some of the names is that of the slice at this slot
 abbrev pub IsNamedSlot : List Slice → List (List ℕ) → ℕ → Type 0
-IsNamedSlot slices names slot = Any (λ name. slot_of slices name ≡ Some slot) names
+IsNamedSlot slices names slot = Any (λ name. slot_named slices name ≡ Some slot) names
 
 -- the names that stand under `write`, where it is there, and under `read`
 abbrev pub with_writer : Option (List ℕ) → List (List ℕ) → List (List ℕ)
@@ -19,12 +20,12 @@ names_of_rule said = with_writer said.write said.read
 
 -- some of the names is that of no slice
 abbrev pub NamesNoSlice : List Slice → List (List ℕ) → Type 0
-NamesNoSlice slices names = Any (λ name. slot_of slices name ≡ None) names
+NamesNoSlice slices names = Any (λ name. slot_named slices name ≡ None) names
 
 -- each of the names is a slice's
 abbrev pub NamesSlices : List Slice → List (List ℕ) → Type 0
-NamesSlices slices names = All (λ name. slot_of slices name ≢ None) names
+NamesSlices slices names = All (λ name. slot_named slices name ≢ None) names
 
 -- two of the names are of one slot
 abbrev pub NamesTwice : List Slice → List (List ℕ) → Type 0
-NamesTwice slices names = (i j : ℕ) × (i < j) × (j < length names) × (slot_of slices (slice_index_or names i []) ≡ slot_of slices (slice_index_or names j []))
+NamesTwice slices names = (i j : ℕ) × (i < j) × (j < length names) × (slot_named slices (slice_index_or names i []) ≡ slot_named slices (slice_index_or names j []))

@@ -15,7 +15,8 @@ ghost use Rattle.policy_text.specs.Keys.{AreKnown, IsLeastUnknown};
 ghost use Rattle.policy_laws.specs.Firsts.{AreReadAs, IsFirstRefused, StandsIn};
 ghost use Rattle.policy_text.specs.Reading.{SectionView, key_place, known_keys};
 ghost use Rattle.policy_laws.specs.Readers.{IsNamedSlot, NamesNoSlice, NamesSlices, NamesTwice, names_of_rule};
-ghost use Rattle.policy_text.specs.Rules.{bits_below, RuleText, rule_from, rule_of, rules_from, slot_of, slots_of};
+ghost use Rattle.policy_text.specs.Rules.{bits_below, RuleText, rule_from, rule_of, rules_from, slots_of};
+ghost use Rattle.flowspace.specs.Slices.{slot_named};
 ghost use Rattle.policy_text.specs.Slices.{slice_of, slices_from};
 
 /// Slices are read exactly where each item is one, in order; else the fault is that of the first item
@@ -61,7 +62,7 @@ pub fn readers_are_the_named_slots()
 /// no slice has exactly where there is one under its `write` or `read`, and for an improper `read` exactly
 /// where all its names are slices' and two under `read` are of one slot.
 pub fn names_are_of_slices()
-    ensures slots { (slices : List Slice) (index : ℕ) (names : List (List ℕ)) (slots : List ℕ) → (slots_of slices index names ≡ Ok slots) ↔ (map (slot_of slices) names ≡ map Some slots) }
+    ensures slots { (slices : List Slice) (index : ℕ) (names : List (List ℕ)) (slots : List ℕ) → (slots_of slices index names ≡ Ok slots) ↔ (map (slot_named slices) names ≡ map Some slots) }
     ensures missing { (slices : List Slice) (index : ℕ) (said : RuleText) → (rule_from slices index said ≡ Err (Refused (UnknownSlice index))) ↔ NamesNoSlice slices (names_of_rule said) }
     ensures repeated { (slices : List Slice) (index : ℕ) (said : RuleText) → (rule_from slices index said ≡ Err (Improper index Read)) ↔ (NamesSlices slices (names_of_rule said) × NamesTwice slices said.read) }
 {}

@@ -16,7 +16,8 @@ use Rattle.policy_text.specs.Keys.{IsKey, IsLeastUnknown, is_needed, has_form}
 use Rattle.policy_text.specs.Places.{field_key}
 use Rattle.policy_text.specs.Reading.{SectionView, key_place, is_known_key, least_text, unknown_keys, no_unknown, known_keys, value_formed, demanded, allowed, required, optional, number, numeral, addresses, text, text_list}
 use Rattle.policy_text.specs.Slices.{slice_section, slice_of_table}
-use Rattle.policy_text.specs.Rules.{link_in, pattern_in, slot_of, slot_named, writer_slot, slots_of, are_different, no_improper, proper, RuleText, names_under, rule_text_in, rule_from, rule_section, rule_in}
+use Rattle.policy_text.specs.Rules.{link_in, pattern_in, known_slot, writer_slot, slots_of, are_different, no_improper, proper, RuleText, names_under, rule_text_in, rule_from, rule_section, rule_in}
+use Rattle.flowspace.specs.Slices.{slot_named}
 use Rattle.policy_text.proofs.Keys.{not_there, IsFor, for_any, TextThere, text_there, same_slots_there, improper_there}
 use Rattle.policy_text.proofs.LeastUnknown.{IsNamed, named as named_least}
 
@@ -127,18 +128,18 @@ pub record OfRule (P : ReadFault → Type 0) (index : ℕ) (ms : Members) : Type
   pub no_slice : IsKey ms (codes "write") ⊎ IsKey ms (codes "read") → P (Refused (UnknownSlice index))
   pub improper : (field : Field) → IsKey ms (field_key field) → P (Improper index field)
 
-named_has : (P : ReadFault → Type 0) (index : ℕ) (o : Option ℕ) → P (Refused (UnknownSlice index)) → Has P (slot_named index o)
+named_has : (P : ReadFault → Type 0) (index : ℕ) (o : Option ℕ) → P (Refused (UnknownSlice index)) → Has P (known_slot index o)
 named_has P index None no_slice = no_slice
 named_has P index (Some slot) no_slice = tt
 
 writer_has : (P : ReadFault → Type 0) (slices : List Slice) (index : ℕ) (ms : Members) (o : Option (List ℕ)) → OfRule P index ms → (is_some o ≡ true → IsKey ms (codes "write")) → Has P (writer_slot slices index o)
 writer_has P slices index ms None h there = tt
-writer_has P slices index ms (Some name) h there = bind_has P (slot_named index (slot_of slices name)) _ (named_has P index (slot_of slices name) (h.no_slice (inl (there refl)))) (λ _. tt)
+writer_has P slices index ms (Some name) h there = bind_has P (known_slot index (slot_named slices name)) _ (named_has P index (slot_named slices name) (h.no_slice (inl (there refl)))) (λ _. tt)
 
 slots_has : (P : ReadFault → Type 0) (slices : List Slice) (index : ℕ) (ms : Members) (names : List (List ℕ)) → OfRule P index ms → IsFor names (IsKey ms (codes "read")) → Has P (slots_of slices index names)
 slots_has P slices index ms [] h there = tt
 slots_has P slices index ms (name ∷ names) h there =
-    bind_has P (slot_named index (slot_of slices name)) _ (named_has P index (slot_of slices name) (h.no_slice (inr there))) (λ _.
+    bind_has P (known_slot index (slot_named slices name)) _ (named_has P index (slot_named slices name) (h.no_slice (inr there))) (λ _.
     bind_has P (slots_of slices index names) _ (slots_has P slices index ms names h (for_any names (IsKey ms (codes "read")) there)) (λ _. tt))
 
 no_improper_has : (P : ReadFault → Type 0) (index : ℕ) (ms : Members) (o : Option Field) → OfRule P index ms → IfSome o (λ field. IsKey ms (field_key field)) → Has P (no_improper index o)

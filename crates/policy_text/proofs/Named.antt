@@ -7,7 +7,8 @@ use Rattle.std.proofs.lemmas.List.{take_more, take-append-drop}
 use Rattle.std.proofs.lemmas.List.Folds.{list_any-append}
 use Rattle.flowspace.specs.declared.slices.Slice.{Slice}
 use Rattle.std.proofs.lemmas.Iterator.Adapters.{position_from-zero}
-use Rattle.policy_text.specs.Rules.{slot_of, are_different}
+use Rattle.policy_text.specs.Rules.{are_different}
+use Rattle.flowspace.specs.Slices.{slot_named}
 
 -- the slot of a name among the slices from a place on
 abbrev pub slot_from : List Slice → ℕ → List ℕ → Option ℕ
@@ -30,7 +31,7 @@ slot_from_put slices at s name bytes before after some within is same found put 
     put ∙ rw (same, found) (sym (rw next at step))
 
 -- all slices are looked through in the end
-pub slot_from_whole : (slices : List Slice) (at : ℕ) (name : List ℕ) → at ≤ 0 → slot_from slices at name ≡ slot_of slices name
+pub slot_from_whole : (slices : List Slice) (at : ℕ) (name : List ℕ) → at ≤ 0 → slot_from slices at name ≡ slot_named slices name
 slot_from_whole slices at name none =
     let zero : at ≡ 0 = omega arith in
     rw zero (sym (position_from-zero (λ s. bytes_eq s.name name) slices))

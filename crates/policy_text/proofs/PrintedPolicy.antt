@@ -225,7 +225,7 @@ tables_are (entries ∷ rest) = tables_are rest
 
 parts_from : (this : SectionView) (items : Items) (others : Option Items) (slices : List Slice) (rules : List Rule) → required (number (Between 1 1)) this (codes "version") ≡ Ok 1 → known_keys this ≡ Ok tt
     → required some_tables this (codes "slice") ≡ Ok items → optional tables this (codes "rule") ≡ Ok others → slices_from 0 items ≡ Ok slices → rules_from slices 0 (unwrap_or others no_items) ≡ Ok rules
-    → parts_in this ≡ Ok (record { slices = slices; rules = rules })
+    → parts_in this ≡ Ok (record { slices = slices; rules = rules; swaps = [] })
 unfolding parts_in
 parts_from this items others slices rules version known slice_tables rule_tables slices_read rules_read =
     bind_is (required (number (Between 1 1)) this (codes "version")) _ 1 _ version
@@ -236,7 +236,7 @@ parts_from this items others slices rules version known slice_tables rule_tables
     (bind_is (rules_from slices 0 (unwrap_or others no_items)) _ rules _ rules_read refl)))))
 
 parts_back : (slice : Slice) (rest : List Slice) (rules : List Rule) → AllByRecursion IsPlainSlice (slice ∷ rest) → AreNamed (slice ∷ rest) → AllByRecursion (IsPrintable (slice ∷ rest)) rules
-    → parts_in (top (said (map table_of (map slice_entries (slice ∷ rest))) (map table_of (map (rule_entries (slice ∷ rest)) rules)))) ≡ Ok (record { slices = slice ∷ rest; rules = rules })
+    → parts_in (top (said (map table_of (map slice_entries (slice ∷ rest))) (map table_of (map (rule_entries (slice ∷ rest)) rules)))) ≡ Ok (record { slices = slice ∷ rest; rules = rules; swaps = [] })
 parts_back slice rest [] plain known each =
     let slices = slice ∷ rest in
     let items = items_of (map table_of (map slice_entries slices)) in
@@ -260,7 +260,7 @@ printable slices [] a b c d = tt
 printable slices (r ∷ rest) a b c d = (record { plain = a.0; held = b.0; writer = c.0; readers = d.0 }, printable slices rest a.1 b.1 c.1 d.1)
 
 read_parts : (slices : List Slice) (rules : List Rule) → IsPolicy slices rules → AllByRecursion IsRuleInRange rules
-    → parts_of (parse_document (document_text (map slice_entries slices) (map (rule_entries slices) rules))) ≡ Ok (record { slices = slices; rules = rules })
+    → parts_of (parse_document (document_text (map slice_entries slices) (map (rule_entries slices) rules))) ≡ Ok (record { slices = slices; rules = rules; swaps = [] })
 read_parts [] rules policy held = absurd (omega (arith, policy.proper.some_slice))
 read_parts (slice ∷ rest) rules policy held =
     let slices = slice ∷ rest in
@@ -278,9 +278,9 @@ held_normal : (rules : List Rule) → AllByRecursion IsRuleInRange rules → All
 held_normal [] held = tt
 held_normal (r ∷ rest) held = (held.0.normal, held_normal rest held.1)
 
-pub printed : (p : PolicyView) → IsPolicy p.slices p.rules → AllByRecursion IsRuleInRange p.rules → IsUtf8 (text_of p) → policy_of (document_of (text_of p)) ≡ Ok p
+pub printed : (p : PolicyView) → IsPolicy p.slices p.rules → AllByRecursion IsRuleInRange p.rules → IsUtf8 (text_of p) → policy_of (document_of (text_of p)) ≡ Ok (record p { swaps = [] })
 printed p policy held utf8 =
     let proper = policy.proper in
-    let read : parts_of (document_of (text_of p)) ≡ Ok p = ap parts_of (document_is (text_of p) utf8 ∙ ap parse_document (text_is p)) ∙ read_parts p.slices p.rules policy held in
+    let read : parts_of (document_of (text_of p)) ≡ Ok (record p { swaps = [] }) = ap parts_of (document_is (text_of p) utf8 ∙ ap parse_document (text_is p)) ∙ read_parts p.slices p.rules policy held in
     let loads = (load_of-iff p.slices p.rules proper.some_slice proper.plain_slices proper.plain_rules (All-from_recursion (λ r. IsNormal r.pattern) p.rules (held_normal p.rules held))).1 policy in
-    bind_is (parts_of (document_of (text_of p))) _ p _ read (ap loaded loads)
+    bind_is (parts_of (document_of (text_of p))) _ (record p { swaps = [] }) _ read (ap loaded loads)

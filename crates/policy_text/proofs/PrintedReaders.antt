@@ -11,7 +11,8 @@ use Rattle.std.proofs.lemmas.Bool.Decides.{nat_tests}
 use Rattle.std.proofs.lemmas.List.Sums.{position_or_len_is}
 use Rattle.std.proofs.lemmas.Nat.{mod-pow-add}
 use Rattle.flowspace.specs.declared.slices.Slice.{Slice}
-use Rattle.policy_text.specs.Rules.{slot_of, slot_named, slots_of, are_different, bits_below}
+use Rattle.policy_text.specs.Rules.{known_slot, slots_of, are_different, bits_below}
+use Rattle.flowspace.specs.Slices.{slot_named}
 use Rattle.policy_text.specs.Printing.{slice_name, names_in}
 use Rattle.of10_model.specs.Normal.{bit}
 use Rattle.of10_model.proofs.Results.{bind_is}
@@ -35,7 +36,7 @@ position_at p xs i d within before here =
     rw (at, lt-ltb i (length xs) within) refl
 
 -- a name is found at its slot
-pub slot_back : (slices : List Slice) (i : ℕ) (d : Slice) → AllPairs (λ s t. s.name ≢ t.name) slices → i < length slices → slot_of slices (get_or slices i d).name ≡ Some i
+pub slot_back : (slices : List Slice) (i : ℕ) (d : Slice) → AllPairs (λ s t. s.name ≢ t.name) slices → i < length slices → slot_named slices (get_or slices i d).name ≡ Some i
 slot_back slices i d differ within =
     let name = (get_or slices i d).name in
     position_at (λ s. bytes_eq s.name name) slices i d within
@@ -56,17 +57,17 @@ slots_in slot bits (s ∷ rest) = cond (bits % 2 == 1) (slot ∷ slots_in (suc s
 
 -- the last slices stand where they stand
 abbrev StandAt : List Slice → ℕ → List Slice → Type 0
-StandAt slices slot rest = (j : ℕ) (d : Slice) → j < length rest → slot_of slices (get_or rest j d).name ≡ Some (slot + j)
+StandAt slices slot rest = (j : ℕ) (d : Slice) → j < length rest → slot_named slices (get_or rest j d).name ≡ Some (slot + j)
 
 slots_back : (slices : List Slice) (index slot bits : ℕ) (rest : List Slice) → StandAt slices slot rest → slots_of slices index (names_in bits rest) ≡ Ok (slots_in slot bits rest)
 unfolding slots_in
 slots_back slices index slot bits [] stand = refl
 slots_back slices index slot bits (s ∷ rest) stand =
-    let here : slot_of slices s.name ≡ Some slot = stand 0 s (omega arith) ∙ ap Some (let same : slot + 0 ≡ slot = omega arith in same) in
+    let here : slot_named slices s.name ≡ Some slot = stand 0 s (omega arith) ∙ ap Some (let same : slot + 0 ≡ slot = omega arith in same) in
     let later : StandAt slices (suc slot) rest = λ j d lt. stand (suc j) d (omega (arith, lt)) ∙ ap Some (let same : slot + suc j ≡ suc slot + j = omega arith in same) in
     let others = slots_back slices index (suc slot) (bits / 2) rest later in
     elim (cases_Bool (bits % 2 == 1)) [
-      | inl set ↦ rw set (bind_is (slot_named index (slot_of slices s.name)) _ slot _ (ap (slot_named index) here) (bind_is (slots_of slices index (names_in (bits / 2) rest)) _ (slots_in (suc slot) (bits / 2) rest) _ others refl))
+      | inl set ↦ rw set (bind_is (known_slot index (slot_named slices s.name)) _ slot _ (ap (known_slot index) here) (bind_is (slots_of slices index (names_in (bits / 2) rest)) _ (slots_in (suc slot) (bits / 2) rest) _ others refl))
       | inr clear ↦ rw clear others
     ]
 

@@ -26,7 +26,8 @@ use Rattle.of10_model.proofs.Results.{bind_is}
 use Rattle.flowspace.specs.Options.{when}
 use Rattle.policy_text.specs.Reading.{SectionView, key_place, least_text, no_unknown, known_keys, value_formed, demanded, allowed, required, optional, is_allowed_number, number, is_text, text, each_text, text_list, numeral, addresses, reads}
 use Rattle.policy_text.specs.Slices.{slice_of_table, slice_of, slices_from}
-use Rattle.policy_text.specs.Rules.{link_in, pattern_in, slot_of, slot_named, writer_slot, are_different, bits_below, no_improper, proper, RuleText, names_under, rule_text_in, rule_from, rule_in, rule_of, rules_from}
+use Rattle.policy_text.specs.Rules.{link_in, pattern_in, known_slot, writer_slot, are_different, bits_below, no_improper, proper, RuleText, names_under, rule_text_in, rule_from, rule_in, rule_of, rules_from}
+use Rattle.flowspace.specs.Slices.{slot_named}
 use Rattle.address_text.specs.Texts.{hex_text, hardware_text, prefix_text}
 use Rattle.policy_text.specs.Printing.{Entry, unless_default, slice_entries, number_value, text_value, slice_name, names_in, names_array, entries_beside, link_entries, network_entries, IsRuleInRange}
 use Rattle.policy_text.proofs.Sound.{rule_from_is}
@@ -219,8 +220,8 @@ writer_back (s ∷ rest) index (Some w) known h =
     let slices = s ∷ rest in
     let name = (get_or slices w s).name in
     let small : w % 256 ≡ w = omega (arith, h, known.few) in
-    let here : slot_named index (slot_of slices name) ≡ Ok w = ap (slot_named index) (slot_back slices w s known.differ h) in
-    ap (writer_slot slices index) (name_at_back slices w s h) ∙ bind_is (slot_named index (slot_of slices name)) _ w _ here (ap (λ x. Ok (Some x)) small)
+    let here : known_slot index (slot_named slices name) ≡ Ok w = ap (known_slot index) (slot_back slices w s known.differ h) in
+    ap (writer_slot slices index) (name_at_back slices w s h) ∙ bind_is (known_slot index (slot_named slices name)) _ w _ here (ap (λ x. Ok (Some x)) small)
 
 -- ---- no improper field
 

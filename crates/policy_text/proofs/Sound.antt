@@ -1,5 +1,5 @@
 -- The slices and the rules that a text says are plain.
-use Rattle.std.proofs.Common.{◌≡◌, ℕ, suc, ◌≤◌, Bool, true, false, ◌&&◌, cond, leb-true, List, ◌∷◌, length, Option, Some, None, IfSome, Ok, codes, unwrap_or, refl, subst, arith}
+use Rattle.std.proofs.Common.{◌≡◌, ℕ, suc, ◌≤◌, Bool, true, false, ◌&&◌, cond, leb-true, List, [], ◌∷◌, length, Option, Some, None, IfSome, Ok, codes, unwrap_or, refl, subst, arith}
 use Rattle.std.specs.List.{AllByRecursion}
 use Rattle.std.proofs.lemmas.Bool.{and_parts}
 use Rattle.std.proofs.lemmas.List.Elements.{All-from_recursion}
@@ -163,7 +163,7 @@ parts_sound this p e =
     let c = bind_ok (optional tables this (codes "rule")) _ p b.2 in
     let d = bind_ok (slices_from 0 b.0) _ p c.2 in
     let f = bind_ok (rules_from d.0 0 (unwrap_or c.0 no_items)) _ p d.2 in
-    let made : PolicyView = record { slices = d.0; rules = f.0 } in
+    let made : PolicyView = record { slices = d.0; rules = f.0; swaps = [] } in
     let some = required_holds (λ items. has_items items ≡ true) some_tables tables_some this (codes "slice") b.0 b.1 in
     subst ArePlain (ok_is made p f.2) (record {
       some_slice = some_slices 0 b.0 d.0 some d.1;

@@ -1,5 +1,5 @@
 -- What a policy text says, from front to back. All of the form is this proxy's own rule.
-use Rattle.std.specs.Prelude.{ℕ, ◌≤◌, All, length, List, Option, Some, None, Result, Ok, Err, codes, unwrap_or, if◌then◌else◌}
+use Rattle.std.specs.Prelude.{ℕ, ◌≤◌, All, length, List, [], Option, Some, None, Result, Ok, Err, codes, unwrap_or, if◌then◌else◌}
 use Rattle.std.specs.Str.{is_utf8}
 use Rattle.toml.specs.Data.{no_items, Members}
 use Rattle.toml.specs.Parse.{parse_document}
@@ -30,7 +30,7 @@ parts_in this = do
   rule_tables ← optional tables this (codes "rule")
   slices ← slices_from 0 slice_tables
   rules ← rules_from slices 0 (unwrap_or rule_tables no_items)
-  Ok (record { slices = slices; rules = rules })
+  Ok (record { slices = slices; rules = rules; swaps = [] })
 
 -- the table that bytes are, where they are TOML in UTF-8
 abbrev pub document_of : List ℕ → Option Members

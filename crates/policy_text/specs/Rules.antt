@@ -1,5 +1,5 @@
 -- The rules that a policy text says. All of it is this proxy's own rule.
-use Rattle.std.specs.Prelude.{ℕ, zero, suc, ◌+◌, ◌%◌, ◌^◌, ◌&&◌, not, nat_eq, Bool, true, List, [], ◌∷◌, Option, Some, None, position, bytes_eq, Result, Ok, Err, codes, unwrap_or, if◌then◌else◌}
+use Rattle.std.specs.Prelude.{ℕ, zero, suc, ◌+◌, ◌%◌, ◌^◌, ◌&&◌, not, nat_eq, Bool, true, List, [], ◌∷◌, Option, Some, None, Result, Ok, Err, codes, unwrap_or, if◌then◌else◌}
 use Rattle.std.specs.List.{list_any}
 use Rattle.toml.specs.Data.{Data, Items, Members}
 use Rattle.of10_model.specs.declared.pattern.Prefix.{Prefix}
@@ -10,6 +10,7 @@ use Rattle.flowspace.specs.declared.fault.PolicyFault.TheVariants.{UnknownSlice}
 use Rattle.flowspace.specs.declared.rules.Rule.{Rule}
 use Rattle.flowspace.specs.declared.slices.Slice.{Slice}
 use Rattle.flowspace.specs.Rules.{first_improper}
+use Rattle.flowspace.specs.Slices.{slot_named}
 use Rattle.policy_text.specs.declared.fault.Part.TheVariants as part
 use Rattle.policy_text.specs.declared.fault.ReadFault.{ReadFault}
 use Rattle.policy_text.specs.declared.fault.ReadFault.TheVariants.{Improper, Refused}
@@ -72,26 +73,22 @@ pattern_in this = do
 
 -- ---- the names
 
--- the slot of a name: the place of the first slice that has it
-abbrev pub slot_of : List Slice → List ℕ → Option ℕ
-slot_of slices name = position (λ s. bytes_eq s.name name) slices
-
 -- a slot that a rule names must be there
-abbrev pub slot_named : ℕ → Option ℕ → Result ℕ ReadFault
-slot_named index None = Err (Refused (UnknownSlice index))
-slot_named index (Some slot) = Ok slot
+abbrev pub known_slot : ℕ → Option ℕ → Result ℕ ReadFault
+known_slot index None = Err (Refused (UnknownSlice index))
+known_slot index (Some slot) = Ok slot
 
 -- the slot of the writer, where one is named, in eight bits. All rules are read before the slices are counted, and a slot
 -- that has more bits is among so many slices that the policy is refused.
 abbrev pub writer_slot : List Slice → ℕ → Option (List ℕ) → Result (Option ℕ) ReadFault
 writer_slot slices index None = Ok None
-writer_slot slices index (Some name) = slot_named index (slot_of slices name) >>= (λ slot. Ok (Some (slot % 256)))
+writer_slot slices index (Some name) = known_slot index (slot_named slices name) >>= (λ slot. Ok (Some (slot % 256)))
 
 -- the slots of the readers
 abbrev pub slots_of : List Slice → ℕ → List (List ℕ) → Result (List ℕ) ReadFault
 slots_of slices index [] = Ok []
 slots_of slices index (name ∷ rest) = do
-  slot ← slot_named index (slot_of slices name)
+  slot ← known_slot index (slot_named slices name)
   others ← slots_of slices index rest
   Ok (slot ∷ others)
 

@@ -1,5 +1,5 @@
 -- The tables of the code, as the definitions see them.
-use Rattle.std.specs.Prelude.{map, option_map}
+use Rattle.std.specs.Prelude.{map, option_map, []}
 use Rattle.toml.specs.View.{table_view}
 use Rattle.flowspace.specs.Policies.{PolicyView}
 use Rattle.policy_text.specs.Reading.{SectionView}
@@ -19,7 +19,7 @@ link_view l = record { in_port = l.in_port; dl_src = l.dl_src; dl_dst = l.dl_dst
 
 -- the slices and the rules
 abbrev pub parts_view : Parts → PolicyView
-parts_view p = record { slices = p.slices.items; rules = p.rules.items }
+parts_view p = record { slices = p.slices.items; rules = p.rules.items; swaps = [] }
 
 -- a rule with its names as bytes
 abbrev pub rule_text_view : RuleText → RuleTextView

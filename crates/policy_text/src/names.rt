@@ -3,7 +3,8 @@
 ghost use Rattle.std.specs.Prelude.{◌≡◌, IfOk, map, nat_eq, option_map};
 ghost use Rattle.std.specs.List.{list_any};
 ghost use Rattle.policy_text.specs.Reading.{GivesAsText};
-ghost use Rattle.policy_text.specs.Rules.{are_different, bits_below, slot_named, slot_of, slots_of, writer_slot};
+ghost use Rattle.policy_text.specs.Rules.{are_different, bits_below, known_slot, slots_of, writer_slot};
+ghost use Rattle.flowspace.specs.Slices.{slot_named};
 
 use crate::fault::ReadFault;
 use flowspace::{PolicyFault, Slice};
@@ -24,13 +25,13 @@ impl<'a> Model for Names<'a> {
     ghost use Rattle.std.specs.Ordering.{nat_cmp};
     ghost use Rattle.std.specs.Cmp.Lexicographic.{slice_cmp};
     ghost use Rattle.flowspace.specs.declared.slices.Slice.{Slice};
-    ghost use Rattle.policy_text.specs.Rules.{slot_of};
+    ghost use Rattle.flowspace.specs.Slices.{slot_named};
 
     ghost Value = { List Slice };
 
     ghost view = { λ n. n.slices.now };
 
-    ghost invariant = { λ n. (name : List ℕ) → get_by (λ k. slice_cmp nat_cmp name k.now) n.slots ≡ slot_of n.slices.now name };
+    ghost invariant = { λ n. (name : List ℕ) → get_by (λ k. slice_cmp nat_cmp name k.now) n.slots ≡ slot_named n.slices.now name };
 }
 
 impl<'a> Names<'a> {
@@ -48,17 +49,17 @@ impl<'a> Names<'a> {
         Ok(Names { slices, slots })
     }
 
-    fn slot_of(&self, name: &'a str) -> Option<usize>
-        ensures { result ≡ slot_of self.now name.now }
+    fn slot_named(&self, name: &'a str) -> Option<usize>
+        ensures { result ≡ slot_named self.now name.now }
     {
         self.slots.get(&name).copied()
     }
 }
 
 fn named_slot<'a>(names: &Names<'a>, index: u64, name: &'a str) -> Result<usize, ReadFault>
-    ensures { GivesAsText (λ slot. slot) result (slot_named index (slot_of names.now name.now)) }
+    ensures { GivesAsText (λ slot. slot) result (known_slot index (slot_named names.now name.now)) }
 {
-    match names.slot_of(name) {
+    match names.slot_named(name) {
         Some(slot) => Ok(slot),
         None => Err(ReadFault::Refused(PolicyFault::UnknownSlice(index))),
     }

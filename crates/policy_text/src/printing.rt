@@ -1,6 +1,6 @@
 //! Printing a policy.
 
-ghost use Rattle.std.specs.Prelude.{◌≡◌, false, ◌++◌, ◌<◌, ◌^◌, Ok, Some, IfOk, IfSome, OnOk, map, option_and_then, option_map, string_bytes};
+ghost use Rattle.std.specs.Prelude.{[], ◌≡◌, false, ◌++◌, ◌<◌, ◌^◌, Ok, Some, IfOk, IfSome, OnOk, map, option_and_then, option_map, string_bytes};
 ghost use Rattle.toml.specs.Data.{string};
 ghost use Rattle.toml.specs.View.{items_of};
 ghost use Rattle.toml_writer.specs.Text.{string_text};
@@ -294,11 +294,12 @@ fn text_of(alloc: Global, policy: &Policy) -> Result<String, AllocError>
     Ok(text)
 }
 
-/// A text of the policy, which is read as this policy again. It has the version, the slices, and the
-/// rules in file order; the fields of each stand in one order, and those with their default are left out.
+/// A text of the policy's slices and rules, which is read as the policy without its swaps. It has the
+/// version, the slices, and the rules in file order; the fields of each stand in one order, and those with
+/// their default are left out.
 pub fn print(alloc: Global, policy: &Policy) -> Result<Bytes, AllocError>
     ensures text { IfOk result (λ b. b ≡ text_of policy.now) }
-    ensures read_again { IfOk result (λ b. policy_of (document_of b) ≡ Ok policy.now) }
+    ensures read_again { IfOk result (λ b. policy_of (document_of b) ≡ Ok (record policy.now { swaps = [] })) }
 {
     let text = text_of(alloc, policy)?;
     Ok(Bytes::from_vec(text.into_bytes()))

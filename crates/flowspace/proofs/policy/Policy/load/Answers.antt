@@ -1,25 +1,7 @@
-use Rattle.std.proofs.Common.{◌≡◌, Option, None, Some, Result, Ok, Err, IfSome}
-use Rattle.flowspace.specs.declared.fault.PolicyFault.{PolicyFault}
-use Rattle.flowspace.specs.Loading.{fault_of}
-use Rattle.flowspace.proofs.Accepting.{IsPolicy-fault_of}
+use Rattle.std.proofs.Common.{subst}
+use Rattle.flowspace.specs.Loading.{GivesPolicy}
+use Rattle.flowspace.proofs.Swapping.{without_swaps}
 use Rattle.flowspace.proofs.policy.Policy.load.Goals as goal
 
--- an early fault is the one that was found, and so the one that is told
-told : {A E : Type 0} (early : Option PolicyFault) (found : Result (Option PolicyFault) E) (given : Result A PolicyFault) → IfSome early (λ fault. found ≡ Ok (Some fault))
-    → ((fault : PolicyFault) → found ≡ Ok (Some fault) → given ≡ Err fault) → IfSome early (λ fault. given ≡ Err fault)
-told None found given is tells = tt
-told (Some fault) found given is tells = tells fault is
-
-pub invariant_of-result : goal.invariant_of-result
-invariant_of-result c =
-    let clear : fault_of c.args.slices.items c.args.rules.items ≡ None = cc c.in-Ok-None.ensures.fault in
-    IsPolicy-fault_of c.args.slices.items c.args.rules.items c.requires.some_slice c.requires.plain_slices c.requires.plain_rules clear
-
-pub returns-in-Ok-None-clause-early : goal.returns-in-Ok-None-clause-early
-returns-in-Ok-None-clause-early c = told _ _ _ (rw (c.deref.ensures.value, c.deref-2.ensures.value) at c.in-Ok-None.ensures.early) (λ fault is. absurd (cc is))
-
-pub returns-in-Ok-Some-clause-early : goal.returns-in-Ok-Some-clause-early
-returns-in-Ok-Some-clause-early c = told _ _ _ (rw (c.deref.ensures.value, c.deref-2.ensures.value) at c.in-Ok-Some.ensures.early) (λ fault is. cc is)
-
-pub returns-in-Err-clause-early : goal.returns-in-Err-clause-early
-returns-in-Err-clause-early c = told _ _ _ (rw (c.deref.ensures.value, c.deref-2.ensures.value) at c.in-Err.ensures.early) (λ fault is. absurd (cc is))
+pub returns-clause-answer : goal.returns-clause-answer
+returns-clause-answer c = subst (GivesPolicy c.load_ports.result) (without_swaps c.args.slices.items c.args.rules.items) (rw c.new.ensures.items at c.load_ports.ensures.answer)
