@@ -105,7 +105,7 @@ module _ (xs ys : List Booked) (same : HaveSame xs ys) where
 abbrev pub same_booked : Booked → Booked → Bool
 same_booked a b = is_same a.pattern b.pattern && a.priority == b.priority && beq a.asked b.asked && a.number == b.number
 
-same_from : (a b : Booked) → same_booked a b ≡ true → a ≡ b
+pub same_from : (a b : Booked) → same_booked a b ≡ true → a ≡ b
 same_from a b e =
     let three = and_parts (is_same a.pattern b.pattern && a.priority == b.priority && beq a.asked b.asked) (a.number == b.number) e in
     let two = and_parts (is_same a.pattern b.pattern && a.priority == b.priority) (beq a.asked b.asked) three.0 in
@@ -116,7 +116,7 @@ same_from a b e =
     let number = eqb-true a.number b.number three.1 in
     λ i. record { pattern = pattern i; priority = priority i; asked = asked i; number = number i }
 
-itself : (a : Booked) → same_booked a a ≡ true
+pub itself : (a : Booked) → same_booked a a ≡ true
 itself a =
     and_from (is_same a.pattern a.pattern && a.priority == a.priority && beq a.asked a.asked) (a.number == a.number)
     (and_from (is_same a.pattern a.pattern && a.priority == a.priority) (beq a.asked a.asked)

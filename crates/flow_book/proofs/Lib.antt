@@ -8,3 +8,4 @@ pub mod Counts
 pub mod Standing
 pub mod Histories
 pub mod Once
+pub mod OneOrder

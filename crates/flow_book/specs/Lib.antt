@@ -1,6 +1,6 @@
+pub mod Books
 pub mod Order
 pub mod Store
-pub mod Books
 pub mod Pairs
 pub mod Adding
 pub mod States

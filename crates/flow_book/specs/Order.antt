@@ -10,6 +10,7 @@ use Rattle.of10_model.specs.declared.pattern.Pattern.{Pattern}
 use Rattle.of10_model.specs.Normal.{IsNormal}
 use Rattle.of10_model.specs.Spelling.{Spell}
 use Rattle.flow_book.specs.declared.booked.Booked.{Booked}
+use Rattle.flow_book.specs.Books.{BookCall, book, HaveSame}
 
 -- how a booked pair stands to another match and priority: by priority first, then by the 40 bytes of the match
 abbrev pub stands_to : Booked → Pattern → ℕ → Ordering
@@ -34,3 +35,7 @@ pub record IsGapFor (pairs : List Booked) (pattern : Pattern) (priority place : 
   pub in_range : place ≤ length pairs
   pub lower_before : AllWithin (λ b. stands_to b pattern priority ≡ Less) pairs 0 place
   pub higher_after : AllWithin (λ b. stands_to b pattern priority ≡ Greater) pairs place (length pairs)
+
+-- what is booked after calls, in a book's order; a law says that there is one such list
+abbrev pub IsBookOf : List BookCall → List Booked → Type 0
+IsBookOf calls pairs = HaveSame (book calls) pairs × ArePairsInOrder pairs

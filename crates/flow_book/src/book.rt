@@ -1,5 +1,6 @@
-ghost use Rattle.std.specs.Prelude.{◌≡◌, ◌≢◌, ◌+◌, ◌^◌, ◌<◌, ◌≤◌, List, [], ◌∷◌, length, find, AllPairs, OnOk, OnErr, if◌then◌else◌};
-ghost use Rattle.flow_book.specs.Order.{ArePairsInOrder};
+ghost use Rattle.std.specs.Prelude.{◌≡◌, ◌≢◌, ◌+◌, ◌^◌, ◌<◌, ◌≤◌, List, [], ◌∷◌, length, find, slice_get, AllPairs, OnOk, OnErr, if◌then◌else◌};
+ghost use Rattle.flow_book.specs.declared.booked.Booked.{Booked as BookedPair};
+ghost use Rattle.flow_book.specs.Order.{ArePairsInOrder, IsBookOf};
 ghost use Rattle.flow_book.specs.Books.{BookCall, Added, Removed, Failed, is_pair, is_first, without, newcomers_in, fits_in, overlaps_in, book, booking, BookStands};
 
 use crate::adding::{book_again, gather, settle_all};
@@ -55,6 +56,19 @@ impl FlowBook {
         ensures value { result ≡ length self.now.booked }
     {
         self.entries.len() as u32
+    }
+
+    /// The pair at an index, from 0, in their order; `None` where there are no more.
+    pub fn at(&self, index: u32) -> Option<Booked>
+        ensures order { ArePairsInOrder self.now.booked }
+        ensures answer { (calls : List BookCall) → BookStands calls self.now → (pairs : List BookedPair) × IsBookOf calls pairs × (result ≡ slice_get pairs index) }
+        ensures value { result ≡ slice_get self.now.booked index }
+    {
+        if index < self.count() {
+            Some(*self.entries.at(index as usize).booked())
+        } else {
+            None
+        }
     }
 
     /// How many of the pieces a flow-mod with this command and priority would book that aren't booked: of

@@ -5,6 +5,7 @@ ghost use Rattle.of10_model.specs.declared.pattern.Pattern.{Pattern};
 ghost use Rattle.of10_model.specs.Normal.{IsNormal};
 ghost use Rattle.flow_book.specs.declared.booked.Booked.{Booked as BookedPair};
 ghost use Rattle.flow_book.specs.Books.{BookCall, is_booked, book, booking};
+ghost use Rattle.flow_book.specs.Order.{IsBookOf};
 ghost use Rattle.flow_book.specs.Pairs.{IsLastBooked, IsFirstBooked, HasPieces, IsSamePair};
 
 /// A pair is booked exactly where the last call that books or releases it books it.
@@ -23,4 +24,9 @@ pub fn booked_pair_is_as_its_calls_say()
 /// twice.
 pub fn each_pair_is_booked_once()
     ensures { (calls : List BookCall) → All HasPieces calls → AllPairs (λ a b. IsSamePair a b → ⊥) (book calls) }
+{}
+
+/// What is booked after some calls has one order.
+pub fn book_has_one_order()
+    ensures { (calls : List BookCall) (xs ys : List BookedPair) → IsBookOf calls xs → IsBookOf calls ys → xs ≡ ys }
 {}

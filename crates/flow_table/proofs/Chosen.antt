@@ -6,7 +6,7 @@ use Rattle.std.proofs.lemmas.List.Elements.{filter_more, filter_agree}
 use Rattle.std.proofs.lemmas.List.Folds.{list_all-append}
 use Rattle.of10_model.specs.Header.{Header}
 use Rattle.of10_model.specs.Pattern.{has}
-use Rattle.of10_flow.specs.declared.entry.FlowEntry.{FlowEntry}
+use Rattle.of10_flow.specs.declared.flow_entry.FlowEntry.{FlowEntry}
 use Rattle.of10_flow.specs.Tables.{is_exact_entry, is_highest, having, Treatment}
 use Rattle.flow_table.specs.Choosing.{is_chosen}
 

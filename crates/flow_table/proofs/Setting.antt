@@ -7,7 +7,7 @@ use Rattle.std.proofs.lemmas.List.Sums.{sum_by-drop_more, length-filter}
 use Rattle.std.proofs.lemmas.List.{get_or-drop, get_or-append_right, length-take-le, length-map}
 use Rattle.of10_flow.specs.declared.flow_mod.FlowMod.{FlowMod}
 use Rattle.of10_flow.specs.declared.protocol.TheConstants.{DELETE}
-use Rattle.of10_flow.specs.declared.entry.FlowEntry.{FlowEntry}
+use Rattle.of10_flow.specs.declared.flow_entry.FlowEntry.{FlowEntry}
 use Rattle.of10_flow.specs.Tables.{touches, with_actions_of, entry_of, refuses, Apply}
 
 -- the count of touched entries from a place on

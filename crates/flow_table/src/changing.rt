@@ -6,7 +6,6 @@ ghost use Rattle.of10_flow.specs.Tables.{touches, refuses, entry_of, with_action
 
 use crate::touching::{touched, touches};
 use of10_action::Actions;
-use of10_flow::protocol::DELETE;
 use of10_flow::{FlowEntry, FlowMod};
 use std::alloc::{AllocError, Global};
 
@@ -112,7 +111,7 @@ pub(crate) fn apply(
     ensures value { OnOk result (entries.new.items ≡ Apply entries.old.items m.now) }
     ensures kept { OnErr result (entries.new.items ≡ entries.old.items) }
 {
-    if m.command >= DELETE {
+    if m.is_delete() {
         remove_touched(entries, m);
         Ok(())
     } else {

@@ -8,3 +8,4 @@ mod table;
 mod touching;
 
 pub use table::{Applied, Table};
+pub use touching::{outputs_as_asked, touches};

@@ -1,4 +1,6 @@
-ghost use Rattle.std.specs.Prelude.{◌≡◌, ◌↔◌, [], IfOk, OnErr, IsTrue};
+ghost use Rattle.std.specs.Prelude.{◌≡◌, ◌↔◌, ◌<◌, [], length, slice_index_or, IfOk, OnErr, IsTrue};
+ghost use Rattle.std.specs.List.{remove};
+ghost use Rattle.of10_flow.specs.declared.flow_entry.FlowEntry.{FlowEntry as Entry};
 ghost use Rattle.of10_flow.specs.Tables.{refuses, Apply, Treatment};
 ghost use Rattle.flow_table.specs.declared.table.Applied.TheVariants.{Overlap};
 
@@ -30,7 +32,7 @@ pub struct Table {
 
 impl Model for Table {
     ghost use Rattle.std.specs.Prelude.{List};
-    ghost use Rattle.of10_flow.specs.declared.entry.FlowEntry.{FlowEntry as Entry};
+    ghost use Rattle.of10_flow.specs.declared.flow_entry.FlowEntry.{FlowEntry as Entry};
 
     ghost Value = { List Entry };
 
@@ -46,6 +48,22 @@ impl Table {
             alloc,
             entries: Vec::new(alloc),
         }
+    }
+
+    /// The entries, in the order in which they came.
+    pub fn entries(&self) -> &[FlowEntry]
+        ensures { result.now ≡ self.now }
+    {
+        &self.entries
+    }
+
+    /// Takes away the entry at a place and answers it.
+    pub fn remove(&mut self, place: usize) -> FlowEntry
+        requires { place < length self.old }
+        ensures value { (d : Entry) → result ≡ slice_index_or self.old place d }
+        ensures left { self.new ≡ remove self.old place }
+    {
+        self.entries.remove(place)
     }
 
     /// Changes the table as the flow-mod says. A command above 4 changes nothing, and the flag EMERG is

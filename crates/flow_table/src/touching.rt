@@ -2,11 +2,11 @@
 
 ghost use Rattle.std.specs.Prelude.{◌≡◌, count_by};
 ghost use Rattle.std.specs.List.{list_any};
-ghost use Rattle.of10_flow.specs.Tables.{describes, names_entry, outputs_to, outputs_as_asked, touches, has_flag, overlaps, refuses};
+ghost use Rattle.of10_flow.specs.Tables.{describes, names_entry, outputs_to, outputs_as_asked, touches, overlaps, refuses};
 
 use match_meet::{disjoint, includes};
 use of10_action::Action;
-use of10_flow::protocol::{ADD, CHECK_OVERLAP, DELETE, DELETE_STRICT, MODIFY, MODIFY_STRICT};
+use of10_flow::protocol::{ADD, DELETE, DELETE_STRICT, MODIFY, MODIFY_STRICT};
 use of10_flow::{FlowEntry, FlowMod};
 use of10_port::protocol::NONE;
 
@@ -37,14 +37,15 @@ fn any_outputs_to(port: u16, actions: &[Action]) -> bool
     actions.iter().any(|action| outputs_to(port, action))
 }
 
-fn outputs_as_asked(m: &FlowMod, entry: &FlowEntry) -> bool
+/// Whether the entry outputs to the flow-mod's out_port, or that is NONE, so that it doesn't count.
+pub fn outputs_as_asked(m: &FlowMod, entry: &FlowEntry) -> bool
     ensures { result ≡ outputs_as_asked m.now entry.now }
 {
     m.out_port == NONE || any_outputs_to(m.out_port, entry.actions.as_slice())
 }
 
 /// Whether the flow-mod changes or takes away the entry.
-pub(crate) fn touches(m: &FlowMod, entry: &FlowEntry) -> bool
+pub fn touches(m: &FlowMod, entry: &FlowEntry) -> bool
     ensures { result ≡ touches m.now entry.now }
 {
     match m.command {
@@ -63,12 +64,6 @@ pub(crate) fn touched(m: &FlowMod, entries: &[FlowEntry]) -> usize
     entries.iter().filter(|entry| touches(m, entry)).count()
 }
 
-fn checks_overlap(m: &FlowMod) -> bool
-    ensures { result ≡ has_flag CHECK_OVERLAP m.now }
-{
-    m.flags / CHECK_OVERLAP % 2 == 1
-}
-
 fn overlaps(m: &FlowMod, entry: &FlowEntry) -> bool
     ensures { result ≡ overlaps m.now entry.now }
 {
@@ -85,5 +80,5 @@ fn any_overlaps(m: &FlowMod, entries: &[FlowEntry]) -> bool
 pub(crate) fn refuses(entries: &[FlowEntry], m: &FlowMod) -> bool
     ensures { result ≡ refuses entries.now m.now }
 {
-    m.command == ADD && checks_overlap(m) && any_overlaps(m, entries)
+    m.command == ADD && m.checks_overlap() && any_overlaps(m, entries)
 }

@@ -9,7 +9,7 @@ use Rattle.of10_model.proofs.Ranges.{number_at-lt}
 use Rattle.recording.specs.declared.item.Item.{Item}
 use Rattle.recording.specs.declared.fault.RecordingFault.{RecordingFault}
 use Rattle.recording.specs.declared.fault.RecordingFault.TheVariants.{Torn, Bad, NotOpen, Memory}
-use Rattle.recording.specs.Recordings.{Told, placed_record, record_bytes, head_spelling, item_at, is_formed, fits, record_at}
+use Rattle.recording.specs.Recordings.{Told, placed_record, record_bytes, head_spelling, item_at, is_formed, fits, record_at, record_in}
 use Rattle.recording.specs.Faults.{HasForm, HasNoForm, IsCutOff, IsUnfit, IsFaultAt}
 use Rattle.recording.proofs.Told.{number_first, number_behind, spell_length, kind_again, switch_again, slot_again, zero_again, size_again, small, head_again, with_rest}
 use Rattle.recording.proofs.Untold.{AreBytes, head_spelled, zero_formed, size_at, told_spelled}
@@ -110,7 +110,7 @@ or_else P true f fault r e stops goes = let is : f ≡ fault = cc in subst P is 
 or_else P false f fault r e stops goes = goes refl e
 
 pub fault_found : (slices : ℕ) (front rest : List ℕ) (before : List Item) (fault : RecordingFault) → AreBytes rest → record_at slices (front ++ rest) before (length front) ≡ Err fault → IsFaultAt slices before (length front) rest fault
-unfolding record_at
+unfolding record_in
 fault_found slices front rest before fault bytes e =
     let all : List ℕ = front ++ rest in
     let place : ℕ = length front in
@@ -132,11 +132,11 @@ fault_found slices front rest before fault bytes e =
 -- ---- and what is wrong is answered
 
 short_torn : (slices : ℕ) (front rest : List ℕ) (before : List Item) → length rest < 16 → record_at slices (front ++ rest) before (length front) ≡ Err (Torn (length front))
-unfolding record_at
+unfolding record_in
 short_torn slices front rest before lt = rw (lt-ltb (length (front ++ rest) - length front) 16 (omega (arith, lt, length-append front rest))) refl
 
 cut_torn : (slices : ℕ) (front rest : List ℕ) (before : List Item) → 16 ≤ length rest → IsCutOff slices (length front) rest → record_at slices (front ++ rest) before (length front) ≡ Err (Torn (length front))
-unfolding record_at
+unfolding record_in
 cut_torn slices front rest before long c =
     let left : ℕ = length (front ++ rest) - length front in
     let count = length-append front rest in
@@ -147,7 +147,7 @@ cut_torn slices front rest before long c =
     rw (le-ltb left 16 (omega (arith, count, long)), head.0, head.1, lt-ltb (left - 16) (length c.told.bytes) lack) refl
 
 form_bad : (slices : ℕ) (front rest : List ℕ) (before : List Item) → AreBytes rest → HasNoForm slices (length front) rest → record_at slices (front ++ rest) before (length front) ≡ Err (Bad (length front))
-unfolding record_at
+unfolding record_in
 form_bad slices front rest before bytes none =
     let left : ℕ = length (front ++ rest) - length front in
     let size : ℕ = number_at rest 4 4 in
@@ -163,7 +163,7 @@ form_bad slices front rest before bytes none =
 
 shut : (slices : ℕ) (front later : List ℕ) (before : List Item) (t : Told) → HasForm slices (length front) t → fits before (placed_record (length front) t) ≡ false
     → record_at slices (front ++ (record_bytes t ++ later)) before (length front) ≡ Err (NotOpen (length front))
-unfolding record_at
+unfolding record_in
 shut slices front later before t form closed =
     let bytes : List ℕ = front ++ (record_bytes t ++ later) in
     let long = with_rest front later t in

@@ -12,7 +12,7 @@ use Rattle.of10_model.proofs.Results.{bind_err, others_wrong}
 use Rattle.recording.specs.declared.item.Item.{Item}
 use Rattle.recording.specs.declared.fault.RecordingFault.{RecordingFault}
 use Rattle.recording.specs.declared.fault.RecordingFault.TheVariants.{Torn, Bad}
-use Rattle.recording.specs.Recordings.{Told, HasMoment, placed_record, all_told, may_be_told, recording, record_bytes, magic, is_formed, fits, record_at, items_from, read_items}
+use Rattle.recording.specs.Recordings.{Told, HasMoment, placed_record, all_told, may_be_told, recording, record_bytes, magic, is_formed, fits, record_at, items_from, read_items, items_in, read_in}
 use Rattle.recording.specs.Faults.{IsFaultAt, IsFirstRecordingFault, IsRefused}
 use Rattle.recording.proofs.Told.{spell_length, record_again, with_rest}
 use Rattle.recording.proofs.Untold.{AreBytes, bytes_of, bytes-behind, Begins, begins, length-begins}
@@ -21,15 +21,15 @@ use Rattle.recording.proofs.Faulty.{or_else, fault_found, fault_answered}
 -- a reading that isn't at the end
 reads_more : (n slices : ℕ) (bytes : List ℕ) (before : List Item) (at : ℕ) → at < length bytes
     → items_from (suc n) slices bytes before at ≡ (record_at slices bytes before at >>= λ r. items_from n slices bytes (r ∷ before) (r.from + r.size) >>= λ others. Ok (r ∷ others))
-unfolding items_from
+unfolding items_in
 reads_more n slices bytes before at h = rw (lt-leb _ _ h) refl
 
 no_more : (slices : ℕ) (bytes : List ℕ) (before : List Item) (at : ℕ) (fault : RecordingFault) → items_from zero slices bytes before at ≡ Err fault → ⊥
-unfolding items_from
+unfolding items_in
 no_more slices bytes before at fault e = cc
 
 at_end : (n slices : ℕ) (bytes : List ℕ) (before : List Item) (at : ℕ) (fault : RecordingFault) → length bytes ≤ at → items_from (suc n) slices bytes before at ≡ Err fault → ⊥
-unfolding items_from
+unfolding items_in
 at_end n slices bytes before at fault le e = let h = rw (le-leb (length bytes) at le) at e in cc
 
 begun_or : (P : RecordingFault → Type 0) (b : Bool) (r : Result (List Item) RecordingFault) (f fault : RecordingFault) → cond b r (Err f) ≡ Err fault → (b ≡ false → P f) → (b ≡ true → r ≡ Err fault → P fault) → P fault
@@ -157,7 +157,7 @@ walk_refused (t ∷ told) (suc n) slices front rest before fault bytes some h m 
 -- ---- the file
 
 read_fault : (slices : ℕ) (bytes : List ℕ) (fault : RecordingFault) → All (λ b. b < 256) bytes → read_items slices bytes ≡ Err fault → IsRefused slices bytes fault
-unfolding read_items
+unfolding read_in
 read_fault slices bytes fault range e =
     let more : List ℕ = drop 8 bytes in
     let all_bytes : AreBytes bytes = bytes_of bytes range in
@@ -180,7 +180,7 @@ read_fault slices bytes fault range e =
     (λ b e2. inr (inr (behind_magic ((bytes_eq-Decides (take 8 bytes) magic).0 b) e2))))
 
 refused_first : (slices : ℕ) (bytes : List ℕ) (fault : RecordingFault) → AreBytes bytes → IsFirstRecordingFault slices bytes fault → read_items slices bytes ≡ Err fault
-unfolding read_items
+unfolding read_in
 refused_first slices bytes fault range f =
     let more : List ℕ = flat_map record_bytes f.told ++ f.rest in
     let split : bytes ≡ magic ++ more = f.splits ∙ append_assoc magic (flat_map record_bytes f.told) f.rest in
@@ -191,7 +191,7 @@ refused_first slices bytes fault range f =
     rw (split, le-ltb (length (magic ++ more)) 8 (omega arith)) walked
 
 fault_read : (slices : ℕ) (bytes : List ℕ) (fault : RecordingFault) → AreBytes bytes → IsRefused slices bytes fault → read_items slices bytes ≡ Err fault
-unfolding read_items
+unfolding read_in
 fault_read slices bytes fault range (inl torn) = rw (lt-ltb (length bytes) 8 torn.0, torn.1) refl
 fault_read slices bytes fault range (inr (inl other)) =
     let another : bytes_eq (take 8 bytes) magic ≡ false = false_from_ne_true _ (λ same. other.1 ((bytes_eq-Decides (take 8 bytes) magic).0 same)) in

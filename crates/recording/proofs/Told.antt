@@ -10,7 +10,7 @@ use Rattle.byteorder.specs.Endian.{big_number, big_bytes}
 use Rattle.byteorder.specs.Numbers.{big_number-reads_back}
 use Rattle.of10_model.specs.Normal.{number_at}
 use Rattle.recording.specs.declared.item.Item.{Item}
-use Rattle.recording.specs.Recordings.{Told, HasMoment, placed_record, all_told, may_be_told, recording, record_bytes, magic, head_spelling, item_at, byte_limit, is_formed, fits, record_at, items_from, read_items}
+use Rattle.recording.specs.Recordings.{Told, HasMoment, placed_record, all_told, may_be_told, recording, record_bytes, magic, head_spelling, item_at, byte_limit, is_formed, fits, record_at, items_from, read_items, record_in, items_in, read_in}
 
 -- a number behind other bytes
 pub number_behind : (front more : List ℕ) (k n : ℕ) → number_at (front ++ more) (length front + k) n ≡ number_at more k n
@@ -84,7 +84,7 @@ small slices reserved r e =
 
 pub record_again : (slices : ℕ) (front rest : List ℕ) (before : List Item) (t : Told) → t.moment < 2 ^ 64 → is_formed slices 0 (placed_record (length front) t) ≡ true → fits before (placed_record (length front) t) ≡ true
     → record_at slices (front ++ (record_bytes t ++ rest)) before (length front) ≡ Ok (placed_record (length front) t)
-unfolding record_at
+unfolding record_in
 record_again slices front rest before t early formed fit =
     let bytes : List ℕ = front ++ (record_bytes t ++ rest) in
     let long = with_rest front rest t in
@@ -92,12 +92,12 @@ record_again slices front rest before t early formed fit =
 
 step : (n slices : ℕ) (bytes : List ℕ) (before : List Item) (at : ℕ) (r : Item) (others : List Item) → at < length bytes → record_at slices bytes before at ≡ Ok r
     → items_from n slices bytes (r ∷ before) (r.from + r.size) ≡ Ok others → items_from (suc n) slices bytes before at ≡ Ok (r ∷ others)
-unfolding items_from
+unfolding items_in
 step n slices bytes before at r others h e f = rw (lt-leb _ _ h, e, f) refl
 
 walk : (told : List Told) (n slices : ℕ) (front : List ℕ) (before : List Item) → length (flat_map record_bytes told) ≤ n → All HasMoment told → may_be_told slices before (all_told (length front) told) ≡ true
     → items_from n slices (front ++ flat_map record_bytes told) before (length front) ≡ Ok (all_told (length front) told)
-unfolding items_from all_told may_be_told
+unfolding items_in all_told may_be_told
 walk [] zero slices front before h m e = refl
 walk [] (suc n) slices front before h m e = rw (append-nil front, le-leb (length front) (length front) (omega arith)) refl
 walk (t ∷ told) zero slices front before h m e = absurd (
@@ -125,7 +125,7 @@ walk (t ∷ told) (suc n) slices front before h m e =
     (rw (← grouped) later))
 
 pub told_again : (slices : ℕ) (told : List Told) → All HasMoment told → may_be_told slices [] (all_told 8 told) ≡ true → read_items slices (recording told) ≡ Ok (all_told 8 told)
-unfolding read_items
+unfolding read_in
 told_again slices told m e =
     let rest : List ℕ = flat_map record_bytes told in
     rw (le-ltb (length (magic ++ rest)) 8 (omega arith))

@@ -14,7 +14,7 @@ use Rattle.of10_model.proofs.Ranges.{bytes-drop, number_at-lt}
 use Rattle.of10_model.proofs.Results.{ok_is, passed, met, bind_ok}
 use Rattle.recording.specs.declared.item.Item.{Item}
 use Rattle.recording.specs.declared.fault.RecordingFault.TheVariants.{Torn, Bad, NotOpen}
-use Rattle.recording.specs.Recordings.{Told, HasMoment, placed_record, all_told, may_be_told, recording, record_bytes, magic, head_spelling, item_at, byte_limit, is_formed, fits, record_at, items_from, read_items}
+use Rattle.recording.specs.Recordings.{Told, HasMoment, placed_record, all_told, may_be_told, recording, record_bytes, magic, head_spelling, item_at, byte_limit, is_formed, fits, record_at, items_from, read_items, record_in, items_in, read_in}
 use Rattle.recording.proofs.Forms.{ended, past}
 use Rattle.recording.proofs.Told.{number_first, number_behind, spell_length}
 
@@ -135,7 +135,7 @@ told_spelled more size bytes is long none =
     sym (rw taken (append_assoc head (take size (drop 16 more)) (drop size (drop 16 more)) ∙ ap (λ l. head ++ l) (take-append-drop size (drop 16 more)) ∙ begins))
 
 pub begins : (slices : ℕ) (front more : List ℕ) (before : List Item) (r : Item) → AreBytes more → record_at slices (front ++ more) before (length front) ≡ Ok r → Begins slices front more before r
-unfolding record_at
+unfolding record_in
 begins slices front more before r bytes e =
     let all : List ℕ = front ++ more in
     let left = length all - length front in
@@ -203,7 +203,7 @@ one_more slices front more before r others b a =
 
 step_back : (n slices : ℕ) (bytes : List ℕ) (before : List Item) (at : ℕ) (items : List Item) → at < length bytes → items_from (suc n) slices bytes before at ≡ Ok items
     → (r : Item) × (others : List Item) × (record_at slices bytes before at ≡ Ok r) × (items_from n slices bytes (r ∷ before) (r.from + r.size) ≡ Ok others) × (r ∷ others ≡ items)
-unfolding items_from
+unfolding items_in
 step_back n slices bytes before at items lt e =
     let go = past (leb (length bytes) at) (Ok []) _ (Ok items) (lt-leb _ _ lt) e in
     let one = bind_ok (record_at slices bytes before at) (λ r. items_from n slices bytes (r ∷ before) (r.from + r.size) >>= λ others. Ok (r ∷ others)) items go in
@@ -211,7 +211,7 @@ step_back n slices bytes before at items lt e =
     (one.0, two.0, one.1, two.1, ok_is (one.0 ∷ two.0) items two.2)
 
 walk_back : (n slices : ℕ) (front more : List ℕ) (before items : List Item) → AreBytes more → length more ≤ n → items_from n slices (front ++ more) before (length front) ≡ Ok items → AreTold slices front more before items
-unfolding items_from
+unfolding items_in
 walk_back zero slices front [] before items bytes h e = none_told slices front before items (sym (ok_is [] items e))
 walk_back (suc n) slices front [] before items bytes h e =
     let long = length-append front [] in
@@ -234,7 +234,7 @@ walk_back (suc n) slices front (m ∷ ms) before items bytes h e =
 
 pub read_is_told : (slices : ℕ) (bytes : List ℕ) (items : List Item) → All (λ b. b < 256) bytes → read_items slices bytes ≡ Ok items
     → (told : List Told) × (bytes ≡ recording told) × (items ≡ all_told 8 told) × All HasMoment told × (may_be_told slices [] items ≡ true)
-unfolding read_items
+unfolding read_in
 read_is_told slices bytes items range e =
     let long = passed (ltb (length bytes) 8) (Torn 0) _ items e in
     let begun = met (bytes_eq (take 8 bytes) magic) (Bad 0) (items_from (length bytes) slices bytes [] 8) items long.1 in

@@ -1,10 +1,12 @@
--- Recordings: the records of a file, of which each must fit those before it (all this proxy's own rule).
+-- Recordings and traces: the records of a file, of which each must fit those before it (all this proxy's own rule).
 use Rattle.std.specs.Prelude.{◌≡◌, ℕ, zero, suc, ◌+◌, ◌-◌, ◌<◌, ◌≤◌, ◌^◌, ◌==◌, ◌||◌, ◌&&◌, not, leb, ltb, Bool, true, false, if◌then◌else◌, List, [], ◌∷◌, ◌++◌, length, take, bytes_eq, Result, Ok, Err}
 use Rattle.std.specs.List.{flat_map}
 use Rattle.byteorder.specs.Endian.{big_bytes}
 use Rattle.of10_model.specs.Normal.{number_at}
 use Rattle.of10_model.specs.Results.{◌>>=◌, Answers}
 use Rattle.recording.specs.declared.item.Item.{Item}
+use Rattle.recording.specs.declared.layout.Layout.{Layout}
+use Rattle.recording.specs.declared.layout.Layout.TheVariants.{Recording, Trace}
 use Rattle.recording.specs.declared.fault.RecordingFault.{RecordingFault}
 use Rattle.recording.specs.declared.fault.RecordingFault.TheVariants.{Torn, Bad, NotOpen, Memory}
 
@@ -100,42 +102,121 @@ fits before r =
     else if r.kind == slice_up then is_switch_open r.switch before && not (is_slice_open r.switch r.slot before)
     else is_slice_open r.switch r.slot before
 
+-- ---- the two layouts of files of records
+
+-- a frame that was sent to a switch for a slice, in a trace
+abbrev pub sent_bytes : ℕ
+sent_bytes = 6
+
+-- the eight bytes that begin a trace
+abbrev pub trace_magic : List ℕ
+trace_magic = 0x46 ∷ 0x56 ∷ 0x54 ∷ 0x52 ∷ 0x43 ∷ 0 ∷ 0 ∷ 1 ∷ []
+
+-- a record of a trace carries a frame
+abbrev pub has_frame : ℕ → Bool
+has_frame kind = kind == switch_bytes || kind == sent_bytes
+
+-- a head of a trace's form: one of its kinds, one of 16 switches, a slot of the policy for what was sent for a slice and slot 0 else, a zero byte, and bytes only where it carries a frame, at most 16 MiB
+abbrev pub is_trace_formed : ℕ → ℕ → Item → Bool
+is_trace_formed slices reserved r =
+    (leb r.kind switch_down || r.kind == sent_bytes) && ltb r.switch 16
+    && (if r.kind == sent_bytes then ltb r.slot slices else r.slot == 0)
+    && reserved == 0
+    && leb r.size (if has_frame r.kind then 16777216 else 0)
+
+-- the bytes of a record are one whole frame: at least a header, whose length counts them all (OpenFlow 1.0.0, section 5.1)
+abbrev pub is_frame_at : List ℕ → Item → Bool
+is_frame_at bytes r = leb 8 r.size && number_at bytes (r.from + 2) 2 == r.size
+
+-- in a trace a switch goes up where it isn't, and all else comes while it is
+abbrev pub fits_trace : List Item → Item → Bool
+fits_trace before r = if r.kind == switch_up then not (is_switch_open r.switch before) else is_switch_open r.switch before
+
+-- the bytes that begin a file
+abbrev pub magic_of : Layout → List ℕ
+magic_of Recording = magic
+magic_of Trace = trace_magic
+
+-- a head is of the form
+abbrev pub has_form : Layout → ℕ → ℕ → Item → Bool
+has_form Recording slices reserved r = is_formed slices reserved r
+has_form Trace slices reserved r = is_trace_formed slices reserved r
+
+-- the bytes of a record are such as its kind carries
+abbrev pub is_whole : Layout → List ℕ → Item → Bool
+is_whole Recording bytes r = true
+is_whole Trace bytes r = not (has_frame r.kind) || is_frame_at bytes r
+
+-- a record may come behind others
+abbrev pub may_follow : Layout → List Item → Item → Bool
+may_follow Recording before r = fits before r
+may_follow Trace before r = fits_trace before r
+
 -- ---- reading
 
 -- the record at a place behind others, or what is wrong with it, in the order of the tests
-unfoldable pub record_at : ℕ → List ℕ → List Item → ℕ → Result Item RecordingFault
-record_at slices bytes before at =
+unfoldable pub record_in : Layout → ℕ → List ℕ → List Item → ℕ → Result Item RecordingFault
+record_in layout slices bytes before at =
     let left = length bytes - at in
     let r = item_at bytes at in
     if ltb left 16 then Err (Torn at)
-    else if not (is_formed slices (number_at bytes (at + 3) 1) r) then Err (Bad at)
+    else if not (has_form layout slices (number_at bytes (at + 3) 1) r) then Err (Bad at)
     else if ltb (left - 16) r.size then Err (Torn at)
-    else if not (fits before r) then Err (NotOpen at)
+    else if not (is_whole layout bytes r) then Err (Bad at)
+    else if not (may_follow layout before r) then Err (NotOpen at)
     else Ok r
 
 -- the records from a place up to the end, at most as many as the count, behind others
-unfoldable pub items_from : ℕ → ℕ → List ℕ → List Item → ℕ → Result (List Item) RecordingFault
-items_from zero slices bytes before at = Ok []
-items_from (suc n) slices bytes before at =
+unfoldable pub items_in : Layout → ℕ → ℕ → List ℕ → List Item → ℕ → Result (List Item) RecordingFault
+items_in layout zero slices bytes before at = Ok []
+items_in layout (suc n) slices bytes before at =
     if leb (length bytes) at then Ok [] else do
-      r ← record_at slices bytes before at
-      others ← items_from n slices bytes (r ∷ before) (r.from + r.size)
+      r ← record_in layout slices bytes before at
+      others ← items_in layout n slices bytes (r ∷ before) (r.from + r.size)
       Ok (r ∷ others)
 
 -- all records of a file behind the bytes that begin it: there are no more than bytes
-unfoldable pub read_items : ℕ → List ℕ → Result (List Item) RecordingFault
-read_items slices bytes =
+unfoldable pub read_in : Layout → ℕ → List ℕ → Result (List Item) RecordingFault
+read_in layout slices bytes =
     if ltb (length bytes) 8 then Err (Torn 0)
-    else if bytes_eq (take 8 bytes) magic then items_from (length bytes) slices bytes [] 8
+    else if bytes_eq (take 8 bytes) (magic_of layout) then items_in layout (length bytes) slices bytes [] 8
     else Err (Bad 0)
 
 -- the record behind the bytes that begin the file is read
-abbrev pub HasFirst : ℕ → List ℕ → Type 0
-HasFirst slices bytes = (first : Item) × (record_at slices bytes [] 8 ≡ Ok first)
+abbrev pub HasFirstIn : Layout → ℕ → List ℕ → Type 0
+HasFirstIn layout slices bytes = (first : Item) × (record_in layout slices bytes [] 8 ≡ Ok first)
+
+-- a file begins as one of the layout does, and its first record is read
+abbrev pub IsBegunIn : Layout → ℕ → List ℕ → Type 0
+IsBegunIn layout slices bytes = (take 8 bytes ≡ magic_of layout) × HasFirstIn layout slices bytes
+
+-- what every record has that is read: it is of the form, its bytes are such as its kind carries, and they lie in the file
+pub record IsRead (layout : Layout) (slices : ℕ) (bytes : List ℕ) (r : Item) : Type 0 where
+  pub form : has_form layout slices 0 r ≡ true
+  pub whole : is_whole layout bytes r ≡ true
+  pub within : r.from + r.size ≤ length bytes
+
+-- ---- of a recording
+
+abbrev pub record_at : ℕ → List ℕ → List Item → ℕ → Result Item RecordingFault
+record_at = record_in Recording
+
+abbrev pub items_from : ℕ → ℕ → List ℕ → List Item → ℕ → Result (List Item) RecordingFault
+items_from = items_in Recording
+
+-- all records of a recording
+abbrev pub read_items : ℕ → List ℕ → Result (List Item) RecordingFault
+read_items = read_in Recording
 
 -- a file begins as a recording does, and its first record is read
 abbrev pub IsBegun : ℕ → List ℕ → Type 0
-IsBegun slices bytes = (take 8 bytes ≡ magic) × HasFirst slices bytes
+IsBegun = IsBegunIn Recording
+
+-- ---- of a trace
+
+-- all records of a trace
+abbrev pub read_trace : ℕ → List ℕ → Result (List Item) RecordingFault
+read_trace = read_in Trace
 
 -- ---- what every record that is read has
 

@@ -1,6 +1,9 @@
 /// The eight bytes that begin a recording.
 pub const MAGIC: [u8; 8] = [0x46, 0x56, 0x52, 0x45, 0x43, 0, 0, 1];
 
+/// The eight bytes that begin a trace.
+pub const TRACE_MAGIC: [u8; 8] = [0x46, 0x56, 0x54, 0x52, 0x43, 0, 0, 1];
+
 /// How many bytes the head of a record has.
 pub const RECORD_HEAD: usize = 16;
 
@@ -28,10 +31,13 @@ pub const SLICE_BYTES: u8 = 4;
 /// A slice's connection for a switch ended.
 pub const SLICE_DOWN: u8 = 5;
 
-/// A record of a recording, and where the bytes stand that it carries.
+/// A frame was sent to a switch for a slice. A trace alone has such records.
+pub const SENT_BYTES: u8 = 6;
+
+/// A record of a recording or of a trace, and where the bytes stand that it carries.
 #[derive(Clone, Copy, Debug, PartialEq, Eq)]
 pub struct Item {
-    /// 0 to 5: the constants of this crate.
+    /// 0 to 6: the constants of this crate.
     pub kind: u8,
     /// Which connection of a switch it is of, 0 to 15.
     pub switch: u8,

@@ -2,10 +2,11 @@
 
 ghost use Rattle.std.specs.Prelude.{◌≡◌, ◌<◌, false, replicate, List, [], ◌∷◌};
 ghost use Rattle.recording.specs.declared.item.Item.{Item};
-ghost use Rattle.recording.specs.Recordings.{fits};
+ghost use Rattle.recording.specs.Recordings.{fits, fits_trace, is_switch_open, may_follow};
 ghost use Rattle.recording.specs.Standing.{TableStands};
 
 use crate::item::{Item, SLICE_DOWN, SLICE_UP, SWITCH_BYTES, SWITCH_DOWN, SWITCH_UP, SWITCHES};
+use crate::layout::Layout;
 
 /// How many slots a byte can name.
 const SLOTS: usize = 256;
@@ -34,8 +35,16 @@ impl Ups {
         }
     }
 
-    /// Whether the record may come next.
-    pub(crate) fn admits(&self, item: &Item) -> bool
+    /// Whether a switch is up.
+    fn is_up(&self, switch: u8) -> bool
+        requires { switch < 16 }
+        ensures { (before : List Item) → TableStands self.now.switches self.now.slices before → result ≡ is_switch_open switch before }
+    {
+        self.switches[usize::from(switch)]
+    }
+
+    /// Whether the record may come next in a recording.
+    fn fits(&self, item: &Item) -> bool
         requires { item.now.switch < 16 }
         ensures { (before : List Item) → TableStands self.now.switches self.now.slices before → result ≡ fits before item.now }
     {
@@ -46,6 +55,30 @@ impl Ups {
             SWITCH_BYTES | SWITCH_DOWN => switch,
             SLICE_UP => switch && !slice,
             _ => slice,
+        }
+    }
+
+    /// Whether the record may come next in a trace.
+    fn fits_trace(&self, item: &Item) -> bool
+        requires { item.now.switch < 16 }
+        ensures { (before : List Item) → TableStands self.now.switches self.now.slices before → result ≡ fits_trace before item.now }
+    {
+        let is_up = self.is_up(item.switch);
+        if item.kind == SWITCH_UP {
+            !is_up
+        } else {
+            is_up
+        }
+    }
+
+    /// Whether the record may come next in a file of the layout.
+    pub(crate) fn admits(&self, layout: Layout, item: &Item) -> bool
+        requires { item.now.switch < 16 }
+        ensures { (before : List Item) → TableStands self.now.switches self.now.slices before → result ≡ may_follow layout before item.now }
+    {
+        match layout {
+            Layout::Recording => self.fits(item),
+            Layout::Trace => self.fits_trace(item),
         }
     }
 

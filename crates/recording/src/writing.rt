@@ -1,7 +1,7 @@
 ghost use Rattle.std.specs.Prelude.{◌≡◌, ◌<◌, ◌≤◌, ◌++◌, OnOk, OnErr, length, take};
-ghost use Rattle.recording.specs.Recordings.{magic, head_spelling, record_spelling};
+ghost use Rattle.recording.specs.Recordings.{magic, trace_magic, head_spelling, record_spelling};
 
-use crate::item::MAGIC;
+use crate::item::{MAGIC, TRACE_MAGIC};
 use of10_model::wire::{put_u32, put_u64};
 use std::alloc::AllocError;
 
@@ -11,6 +11,14 @@ pub fn begin_recording(out: &mut Vec<u8>) -> Result<(), AllocError>
     ensures err { OnErr result (out.new.items ≡ out.old.items) }
 {
     out.extend_from_slice(&MAGIC)
+}
+
+/// Appends the bytes that begin a trace. Where memory runs out, `out` is as before.
+pub fn begin_trace(out: &mut Vec<u8>) -> Result<(), AllocError>
+    ensures ok { OnOk result (out.new.items ≡ out.old.items ++ trace_magic) }
+    ensures err { OnErr result (out.new.items ≡ out.old.items) }
+{
+    out.extend_from_slice(&TRACE_MAGIC)
 }
 
 // Where a call here fails, what was in `out` still stands in front.
