@@ -9,8 +9,8 @@ ghost use Rattle.action_check.specs.Verdicts.{AreVerdicts};
 ghost use Rattle.action_check.specs.Permitted.{first_code, permitted, answer_of, GivesList};
 
 use crate::action_rules::code_of;
-use crate::expansion::{expanded_bytes, expansion};
 use crate::fault::CheckFault;
+use crate::flood_expansion::{expanded_bytes, expansion};
 use crate::origin::{Origin, after};
 use crate::verdicts::Verdicts;
 use flowspace::SwitchPolicy;

@@ -4,8 +4,8 @@
 
 mod action_rules;
 mod checking;
-mod expansion;
 mod fault;
+mod flood_expansion;
 pub mod laws;
 mod origin;
 mod verdicts;

@@ -12,8 +12,8 @@ use Rattle.of10_port.specs.Ports.{port_number}
 use Rattle.flowspace.specs.declared.rules.Rule.{Rule}
 use Rattle.flowspace.specs.Owners.{has_port}
 use Rattle.flowspace.specs.Policies.{PolicyView}
-use Rattle.port_view.specs.declared.kept.Kept.{Kept as Answer}
-use Rattle.port_view.specs.declared.kept.Kept.TheVariants.{Kept, Ignored, TooManyPorts}
+use Rattle.port_view.specs.declared.status_answers.Kept.{Kept as Answer}
+use Rattle.port_view.specs.declared.status_answers.Kept.TheVariants.{Kept, Ignored, TooManyPorts}
 use Rattle.port_view.specs.KnownPorts.{is_kept, IsAscending, first_known, changed, changed_plainly, kept_of, says_kept, known_of as known_by}
 use Rattle.port_view.specs.SlicePorts.{ports_of_slice}
 use Rattle.port_view.proofs.Knowing.{changed-not_kept, IsAscending-changed, IsAscending-none, IsAscending-known_of, few-changed, few-known_of}

@@ -1,6 +1,7 @@
 pub mod Openings
 pub mod Histories
 pub mod Numbers
+pub mod Arrivals
 pub mod Sent
 pub mod Verdicts
 pub mod Operations

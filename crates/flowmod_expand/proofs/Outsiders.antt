@@ -9,10 +9,10 @@ use Rattle.of10_model.specs.Pattern.{Has}
 use Rattle.of10_model.specs.Meet.{meet_of}
 use Rattle.of10_model.proofs.Meeting.{some_meet}
 use Rattle.of10_action.specs.declared.action.Action.{Action}
-use Rattle.of10_flow.specs.declared.entry.FlowEntry.{FlowEntry}
+use Rattle.of10_flow.specs.declared.flow_entry.FlowEntry.{FlowEntry}
 use Rattle.of10_flow.specs.declared.flow_mod.FlowMod.{FlowMod}
 use Rattle.of10_flow.specs.Tables.{ApplyAll, Treatment}
-use Rattle.of10_flow.specs.Outside.{LeavesTreatment}
+use Rattle.of10_flow.specs.TableLaws.{LeavesTreatment}
 use Rattle.of10_flow.proofs.Keeping.{Treatment-Apply}
 use Rattle.of10_flow.proofs.Sequences.{Treatment-ApplyAll}
 use Rattle.flowspace.specs.declared.slices.Slice.{Slice}

@@ -4,11 +4,11 @@
 
 mod fault;
 pub mod laws;
-mod marks;
+mod match_pieces;
 mod messages;
-mod sending;
-mod splitting;
+mod piece_marks;
+mod piece_messages;
 
 pub use fault::BuildFault;
+pub use match_pieces::pieces;
 pub use messages::build;
-pub use splitting::pieces;

@@ -7,7 +7,7 @@ ghost use Rattle.of10_ctl.specs.Kinds.{IsOf};
 ghost use Rattle.flowmod_expand.specs.Messages.{buffer_at, flow_messages, are_too_large, GivesMessages};
 
 use crate::fault::BuildFault;
-use crate::sending::{piece_message, sent_actions};
+use crate::piece_messages::{piece_message, sent_actions};
 use of10_action::{Actions, list_size};
 use of10_ctl::Frame;
 use of10_flow::FlowMod;

@@ -9,4 +9,4 @@ mod network;
 mod probe;
 
 pub use header::header_of;
-pub use probe::{probe_slot, probe_trailer};
+pub use probe::{LLDP, probe_slot, probe_trailer};

@@ -5,7 +5,8 @@ ghost use Rattle.frame_header.specs.Probes.{IsProbe, trailer, trailer_slot, prob
 
 use crate::link::link_of;
 
-const LLDP: u16 = 0x88cc;
+/// The type of a packet of LLDP, by which a controller finds the links between switches.
+pub const LLDP: u16 = 0x88cc;
 
 /// The eight bytes at the end of a probe of the slice with this slot.
 pub fn probe_trailer(slot: u8) -> [u8; 8]

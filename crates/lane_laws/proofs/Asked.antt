@@ -36,7 +36,8 @@ use Rattle.slice_words.specs.Items.{is_own_port}
 use Rattle.slice_words.specs.FlowMods.{Ground}
 use Rattle.slice_words.specs.Questions.{may_ask}
 use Rattle.slice_words.proofs.LoneRules.{same_port}
-use Rattle.lane_laws.specs.Lane.{AsksForReply, AsksOwnPort, MayBeAsked, IsReadAsInquiry}
+use Rattle.flow_facts.specs.Inquiries.{AsksOwnPort, MayBeAsked}
+use Rattle.flow_facts.specs.Messages.{AsksForReply, IsReadAsInquiry}
 use Rattle.slice_side.specs.Checking.{IsInquirySent}
 
 -- ---- ranges

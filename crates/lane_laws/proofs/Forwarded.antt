@@ -10,11 +10,10 @@ use Rattle.of10_stats.specs.Requests.{spell_request}
 use Rattle.of10_message.specs.declared.controller.FromController.{FromController}
 use Rattle.of10_message.specs.declared.controller.FromController.TheVariants as said
 use Rattle.of10_message.specs.Heads.{xid_of}
-use Rattle.of10_message.specs.Controller.{read_controller}
 use Rattle.stats_filter.specs.Asking.{asked_as}
 use Rattle.stats_filter.specs.Replies.{table_reply}
 use Rattle.slice_words.specs.Messages.{Reading, asks_switch}
-use Rattle.slice_words.specs.Items.{Settings, Item}
+use Rattle.slice_words.specs.Items.{Settings, message_read, Item}
 use Rattle.slice_words.specs.Pasts.{Inquiry, ForStatistics, ForBarrier, ForQueues, Outgoing, Asks, Answer, Past, told, forwarded}
 use Rattle.slice_words.specs.FlowMods.{Ground, ground_of, flow_mod_fault, sent_on, not_permitted}
 use Rattle.slice_words.specs.PacketOuts.{packet_out_fault, sent_out}
@@ -68,19 +67,19 @@ module _ (s : Settings) (view : List Item) (past : List Past) (moment : ℕ) (me
 
   -- a flow-mod that is permitted
   pub record Permits (m : FlowMod) : Type 0 where
-    pub read : read_controller message ≡ Ok (said.FlowMod m)
+    pub read : message_read s message ≡ Ok (said.FlowMod m)
     pub rate : keeps_rate s view past moment ≡ true
     pub no_fault : flow_mod_fault (ground_of s view past) m ≡ None
 
   -- a packet-out that is permitted
   pub record PermitsOut (m : PacketOut) : Type 0 where
-    pub read : read_controller message ≡ Ok (said.PacketOut m)
+    pub read : message_read s message ≡ Ok (said.PacketOut m)
     pub rate : keeps_rate s view past moment ≡ true
     pub no_fault : packet_out_fault (ground_of s view past) m ≡ None
 
   -- a question that is permitted
   pub record PermitsInquiry (asked : FromController) (question : List ℕ) : Type 0 where
-    pub read : read_controller message ≡ Ok asked
+    pub read : message_read s message ≡ Ok asked
     pub rate : keeps_rate s view past moment ≡ true
     pub may : IsInquirySent (ground_of s view past) asked question
 
@@ -94,20 +93,20 @@ module _ (s : Settings) (view : List Item) (past : List Past) (moment : ℕ) (me
   abbrev lined_as : List Outgoing → Option (ℕ × ℕ) → Answer
   lined_as messages found = elim found [ Some fault ↦ refused fault message | None ↦ forwarded messages ]
 
-  unrated : (asked : FromController) (rate : Bool) → asks_switch (Ok asked) ≡ true → read_controller message ≡ Ok asked → keeps_rate s view past moment ≡ rate → put ≡ (rated_as asked rate).to_switch
+  unrated : (asked : FromController) (rate : Bool) → asks_switch (Ok asked) ≡ true → message_read s message ≡ Ok asked → keeps_rate s view past moment ≡ rate → put ≡ (rated_as asked rate).to_switch
   unrated asked rate asks read is =
       ap (λ (found : Reading). (read_as found).to_switch) read
       ∙ ap (λ (a : Answer). a.to_switch) (sym (asked_answer s view past moment message asked asks))
       ∙ ap (λ (b : Bool). (rated_as asked b).to_switch) is
 
-  put_lined : (m : FlowMod) (fault : Option (ℕ × ℕ)) → read_controller message ≡ Ok (said.FlowMod m) → keeps_rate s view past moment ≡ true → flow_mod_fault (ground_of s view past) m ≡ fault
+  put_lined : (m : FlowMod) (fault : Option (ℕ × ℕ)) → message_read s message ≡ Ok (said.FlowMod m) → keeps_rate s view past moment ≡ true → flow_mod_fault (ground_of s view past) m ≡ fault
       → put ≡ (lined_as (sent_on (ground_of s view past) m) fault).to_switch
   put_lined m fault read rate is = unrated (said.FlowMod m) true refl read rate ∙ ap (λ (found : Option (ℕ × ℕ)). (lined_as (sent_on (ground_of s view past) m) found).to_switch) is
 
   pub put_whole : (m : FlowMod) → Permits m → put ≡ sent_on (ground_of s view past) m
   put_whole m p = put_lined m None p.read p.rate p.no_fault
 
-  out_lined : (m : PacketOut) (fault : Option (ℕ × ℕ)) → read_controller message ≡ Ok (said.PacketOut m) → keeps_rate s view past moment ≡ true → packet_out_fault (ground_of s view past) m ≡ fault
+  out_lined : (m : PacketOut) (fault : Option (ℕ × ℕ)) → message_read s message ≡ Ok (said.PacketOut m) → keeps_rate s view past moment ≡ true → packet_out_fault (ground_of s view past) m ≡ fault
       → put ≡ (lined_as (sent_out (ground_of s view past) m) fault).to_switch
   out_lined m fault read rate is = unrated (said.PacketOut m) true refl read rate ∙ ap (λ (found : Option (ℕ × ℕ)). (lined_as (sent_out (ground_of s view past) m) found).to_switch) is
 
@@ -122,11 +121,11 @@ module _ (s : Settings) (view : List Item) (past : List Past) (moment : ℕ) (me
 
   -- a message that may be a question
   abbrev MayAsk : Type 0
-  MayAsk = (asked : FromController) × (question : List ℕ) × (read_controller message ≡ Ok asked) × IsInquirySent (ground_of s view past) asked question
+  MayAsk = (asked : FromController) × (question : List ℕ) × (message_read s message ≡ Ok asked) × IsInquirySent (ground_of s view past) asked question
 
   -- another message puts nothing
   abbrev IsOfThese : Answer → Type 0
-  IsOfThese a = (a.to_switch ≡ []) ⊎ (((m : FlowMod) × (read_controller message ≡ Ok (said.FlowMod m))) ⊎ (((m : PacketOut) × (read_controller message ≡ Ok (said.PacketOut m))) ⊎ MayAsk))
+  IsOfThese a = (a.to_switch ≡ []) ⊎ (((m : FlowMod) × (message_read s message ≡ Ok (said.FlowMod m))) ⊎ (((m : PacketOut) × (message_read s message ≡ Ok (said.PacketOut m))) ⊎ MayAsk))
 
   of_these : IsOfThese (message_answer s view past moment message)
   of_these = message_holds (λ (ends : Bool) (a : Answer). IsOfThese a) s view past moment message (record {
@@ -149,12 +148,12 @@ module _ (s : Settings) (view : List Item) (past : List Past) (moment : ℕ) (me
   abbrev pub IsPut : Type 0
   IsPut = (put ≡ []) ⊎ (((m : FlowMod) × Permits m) ⊎ (((m : PacketOut) × PermitsOut m) ⊎ ((asked : FromController) × (question : List ℕ) × PermitsInquiry asked question)))
 
-  by_lines : (m : FlowMod) → read_controller message ≡ Ok (said.FlowMod m) → (rate : Bool) → keeps_rate s view past moment ≡ rate → (fault : Option (ℕ × ℕ)) → flow_mod_fault (ground_of s view past) m ≡ fault → IsPut
+  by_lines : (m : FlowMod) → message_read s message ≡ Ok (said.FlowMod m) → (rate : Bool) → keeps_rate s view past moment ≡ rate → (fault : Option (ℕ × ℕ)) → flow_mod_fault (ground_of s view past) m ≡ fault → IsPut
   by_lines m read false rated fault is = inl (unrated (said.FlowMod m) false refl read rated)
   by_lines m read true rated (Some fault) is = inl (put_lined m (Some fault) read rated is)
   by_lines m read true rated None is = inr (inl (m, record { read = read; rate = rated; no_fault = is }))
 
-  out_by_lines : (m : PacketOut) → read_controller message ≡ Ok (said.PacketOut m) → (rate : Bool) → keeps_rate s view past moment ≡ rate → (fault : Option (ℕ × ℕ)) → packet_out_fault (ground_of s view past) m ≡ fault → IsPut
+  out_by_lines : (m : PacketOut) → message_read s message ≡ Ok (said.PacketOut m) → (rate : Bool) → keeps_rate s view past moment ≡ rate → (fault : Option (ℕ × ℕ)) → packet_out_fault (ground_of s view past) m ≡ fault → IsPut
   out_by_lines m read false rated fault is = inl (unrated (said.PacketOut m) false refl read rated)
   out_by_lines m read true rated (Some fault) is = inl (out_lined m (Some fault) read rated is)
   out_by_lines m read true rated None is = inr (inr (inl (m, record { read = read; rate = rated; no_fault = is })))

@@ -36,7 +36,8 @@ use Rattle.desk_words.specs.Numbers.{AreNumbered}
 use Rattle.desk_words.proofs.Alone.{has_told, opened_told, blind}
 use Rattle.desk_words.proofs.Silence.{none_or, none_both}
 use Rattle.desk_words.proofs.Numbering.{held_in, kept_all, same_count_all, none_given, numbered}
-use Rattle.lane_laws.specs.Lane.{Arrival, arrivals, arrival_under, switch_number}
+use Rattle.desk_words.specs.Arrivals.{Arrival, arrivals, arrival_under}
+use Rattle.lane_laws.specs.Lane.{switch_number}
 
 -- ---- what an event shows a slice
 

@@ -7,6 +7,5 @@ pub mod Forwarded
 pub mod Asked
 pub mod Sent
 pub mod Ranged
-pub mod Told
 pub mod Whole
 pub mod Reacting

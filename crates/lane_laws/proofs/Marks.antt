@@ -11,7 +11,8 @@ use Rattle.of10_flow.specs.declared.protocol.TheConstants.{NO_BUFFER}
 use Rattle.frame_header.specs.Links.{typed, tagged_link, link_of, is_snap}
 use Rattle.frame_header.specs.Headers.{header_of_packet, dl_type_of}
 use Rattle.frame_header.specs.Probes.{trailer, IsProbe}
-use Rattle.slice_words.specs.PacketOuts.{carried_header, is_probe, marked}
+use Rattle.flow_facts.specs.PacketOuts.{carried_header, is_probe}
+use Rattle.slice_words.specs.PacketOuts.{marked}
 
 -- ---- bytes with more behind them
 

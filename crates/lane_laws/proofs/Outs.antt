@@ -36,12 +36,13 @@ use Rattle.slice_words.specs.Items.{lone_rules, is_own_port}
 use Rattle.slice_words.specs.Buffers.{HeldPacket, packet_under}
 use Rattle.flowspace.specs.Options.{first_some}
 use Rattle.slice_words.specs.FlowMods.{Ground, packet_at}
-use Rattle.slice_words.specs.PacketOuts.{is_buffered_out, carried_header, is_probe, marked, origin_with, sent_out_with, names_no_packet, may_come_by, comes_by_another, lies_aside, carries_another, forbidden_out, out_too_large, packet_out_fault}
+use Rattle.flow_facts.specs.PacketOuts.{carried_header, is_probe}
+use Rattle.slice_words.specs.PacketOuts.{is_buffered_out, marked, origin_with, sent_out_with, names_no_packet, may_come_by, comes_by_another, lies_aside, carries_another, forbidden_out, out_too_large, packet_out_fault}
 use Rattle.slice_words.specs.Alone.{number_it_came_with}
 use Rattle.slice_words.proofs.LoneRules.{same_port}
 use Rattle.slice_words.proofs.Holding.{found_holds}
 use Rattle.slice_words.proofs.Forwarding.{not_applying}
-use Rattle.lane_laws.specs.Lane.{MayComeBy, CarriesWritten, SendsOwnPacket, SendsToOwnPort, SendsProbeToOwnPort, SendsToOwnPorts}
+use Rattle.flow_facts.specs.PacketOuts.{MayComeBy, CarriesWritten, SendsOwnPacket, SendsToOwnPort, SendsProbeToOwnPort, SendsToOwnPorts}
 use Rattle.lane_laws.proofs.Marks.{IsProbe-marked}
 use Rattle.lane_laws.proofs.Own.{named_out, named_probe}
 
@@ -172,13 +173,13 @@ came_in g rules slot port on_slot on_patterns may =
           ]
     ]
 
-entry_below : (c : Option ℕ) → IfSome c IsInPort → entry_for c 0 < 2 ^ 16
+pub entry_below : (c : Option ℕ) → IfSome c IsInPort → entry_for c 0 < 2 ^ 16
 entry_below None known = omega arith
 entry_below (Some v) (inl le) = omega (arith, le)
 entry_below (Some v) (inr is) = omega (arith, is)
 
 -- a match that has a packet's header but for its port has it by some port
-has_by : (m : Pattern) (bytes : List ℕ) (in_port : ℕ) → Has (any_in_port m) (header_of_packet in_port bytes) → Has m (header_of_packet (entry_for m.in_port 0) bytes)
+pub has_by : (m : Pattern) (bytes : List ℕ) (in_port : ℕ) → Has (any_in_port m) (header_of_packet in_port bytes) → Has m (header_of_packet (entry_for m.in_port 0) bytes)
 unfolding header_of_packet
 has_by m bytes in_port has = Has-entry m (header_of_packet 0 bytes) (record {
   in_port = tt;

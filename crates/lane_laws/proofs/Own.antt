@@ -24,7 +24,8 @@ use Rattle.action_check.specs.Soundness.{HasWay}
 use Rattle.action_check.proofs.Ways.{permitted-Ok, ways}
 use Rattle.slice_words.specs.Items.{lone_rules}
 use Rattle.slice_words.proofs.LoneRules.{same_permitted}
-use Rattle.lane_laws.specs.Lane.{LiesInFlowspace, NamesOwnPort, SendsToOwnPort, SendsProbeToOwnPort}
+use Rattle.flow_facts.specs.FlowMods.{LiesInFlowspace, NamesOwnPort}
+use Rattle.flow_facts.specs.PacketOuts.{SendsToOwnPort, SendsProbeToOwnPort}
 
 -- ---- one flow-mod for each piece
 

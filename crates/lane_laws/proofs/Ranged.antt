@@ -36,7 +36,8 @@ use Rattle.action_check.proofs.Ways.{permitted-Ok}
 use Rattle.recording.proofs.Untold.{bytes_of}
 use Rattle.slice_words.specs.Buffers.{HeldPacket}
 use Rattle.slice_words.specs.FlowMods.{Ground, named_packet}
-use Rattle.slice_words.specs.PacketOuts.{carried_header, packet_out_fault}
+use Rattle.flow_facts.specs.PacketOuts.{carried_header}
+use Rattle.slice_words.specs.PacketOuts.{packet_out_fault}
 use Rattle.slice_words.proofs.Holding.{found_holds}
 use Rattle.desk_words.specs.declared.event.Event.{Event}
 use Rattle.desk_words.specs.declared.event.Event.TheVariants.{SwitchUp, SwitchMsg, SwitchDown, SliceUp, SliceMsg, SliceDown}
@@ -46,7 +47,12 @@ use Rattle.desk_words.specs.declared.event.Timed.{Timed}
 use Rattle.desk_words.specs.Openings.{phase_of, opening_of}
 use Rattle.desk_words.specs.Histories.{is_slot, header_in, packet_said, number_given, side_of, packet_handed}
 use Rattle.desk_words.specs.Sent.{lane_by}
-use Rattle.lane_laws.specs.Lane.{IsRanged, IsRangedOut, IsEitherThat, AsksForReply, IsSentThat, LiesInFlowspace, OutputsToOwnPorts, LeavesOtherHeaders, SendsOwnPacket, SendsToOwnPorts, ChangesNoTable, IsOfBytes, Arrival, arrivals, arrival_under, IsBufferHeader, CarriesOwnBuffer, SendsOwnBuffer, switch_number, rules_in}
+use Rattle.flow_facts.specs.Ranges.{IsRanged, IsRangedOut}
+use Rattle.flow_facts.specs.FlowMods.{LiesInFlowspace, OutputsToOwnPorts, LeavesOtherHeaders}
+use Rattle.flow_facts.specs.PacketOuts.{SendsOwnPacket, SendsToOwnPorts, ChangesNoTable}
+use Rattle.flow_facts.specs.Messages.{IsEitherThat, AsksForReply, IsSentThat}
+use Rattle.desk_words.specs.Arrivals.{Arrival, arrivals, arrival_under, IsBufferHeader}
+use Rattle.lane_laws.specs.Lane.{IsOfBytes, CarriesOwnBuffer, SendsOwnBuffer, switch_number, rules_in}
 use Rattle.lane_laws.proofs.Reading.{IsRead, IsReadOut, IsReadIn, read_in, read_of, read_out_of}
 use Rattle.lane_laws.proofs.Keeping.{IsKept}
 use Rattle.lane_laws.proofs.Own.{HoldsOfLists}

@@ -38,7 +38,8 @@ use Rattle.recording.proofs.Untold.{bytes_of}
 use Rattle.slice_words.specs.Items.{lone_rules}
 use Rattle.slice_words.specs.Buffers.{HeldPacket, held_packets}
 use Rattle.slice_words.specs.FlowMods.{Ground, pieces_on, packet_at, permitted_on, piece_place}
-use Rattle.slice_words.specs.PacketOuts.{carried_header, is_probe, origin_with, sent_out_with, packet_out_fault}
+use Rattle.flow_facts.specs.PacketOuts.{carried_header, is_probe}
+use Rattle.slice_words.specs.PacketOuts.{origin_with, sent_out_with, packet_out_fault}
 use Rattle.slice_words.specs.Standing.{SliceStands, past_of, held_as}
 use Rattle.slice_words.proofs.Holding.{found_holds}
 use Rattle.slice_side.specs.Reactions.{without_physical, ground_at}
@@ -46,7 +47,11 @@ use Rattle.slice_side.specs.Checking.{packet_kept, held_for, carrier_in, number_
 use Rattle.slice_side.proofs.Packets.{kept_packet}
 use Rattle.desk_words.specs.declared.event.Timed.{Timed}
 use Rattle.desk_words.specs.Histories.{side_of, view_of}
-use Rattle.lane_laws.specs.Lane.{IsRanged, IsRangedOut, IsSentThat, LiesInFlowspace, NamesOwnPort, OutputsToOwnPorts, LeavesOtherHeaders, SendsOwnPacket, SendsToOwnPort, SendsProbeToOwnPort, SendsToOwnPorts, ChangesNoTable, KeepsWritten, KeepsRanged, IsKeptHeader, rules_in, settings_in}
+use Rattle.flow_facts.specs.Ranges.{IsRanged, IsRangedOut}
+use Rattle.flow_facts.specs.FlowMods.{LiesInFlowspace, NamesOwnPort, OutputsToOwnPorts, LeavesOtherHeaders}
+use Rattle.flow_facts.specs.PacketOuts.{SendsOwnPacket, SendsToOwnPort, SendsProbeToOwnPort, SendsToOwnPorts, ChangesNoTable}
+use Rattle.flow_facts.specs.Messages.{IsSentThat}
+use Rattle.lane_laws.specs.Lane.{KeepsWritten, KeepsRanged, IsKeptHeader, rules_in, settings_in}
 use Rattle.lane_laws.proofs.Marks.{IsProbe-marked}
 use Rattle.lane_laws.proofs.Asked.{asks_for_reply}
 use Rattle.lane_laws.proofs.Own.{each_sent, sent_within, permitted_own, permitted_ways, given_holds, sent_holds, named_out, named_probe}

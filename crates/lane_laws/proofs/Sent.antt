@@ -28,7 +28,6 @@ use Rattle.stats_filter.specs.Asking.{asked_as}
 use Rattle.slice_words.specs.Questions.{may_ask}
 use Rattle.of10_message.specs.declared.controller.FromController.{FromController}
 use Rattle.of10_message.specs.declared.controller.FromController.TheVariants as said
-use Rattle.of10_message.specs.Controller.{read_controller}
 use Rattle.of10_message.specs.declared.queues.QueuesQuestion.{QueuesQuestion}
 use Rattle.of10_message.specs.Queues.{spell_queues_request}
 use Rattle.of10_message.proofs.ConfigReadAgain.{question_passed}
@@ -47,7 +46,7 @@ use Rattle.action_check.specs.declared.origin.Origin.{Origin}
 use Rattle.action_check.specs.declared.origin.Origin.TheVariants.{Piece}
 use Rattle.action_check.specs.Permitted.{permitted}
 use Rattle.action_check.specs.Soundness.{HasWay}
-use Rattle.slice_words.specs.Items.{Settings, Sight, lone_rules, Item, Msg, is_up, known_ports}
+use Rattle.slice_words.specs.Items.{Settings, message_read, Sight, lone_rules, Item, Msg, is_up, known_ports}
 use Rattle.slice_words.specs.Pasts.{SendsOut, Answer, no_answer}
 use Rattle.slice_words.specs.Buffers.{HeldPacket, held_packets}
 use Rattle.slice_words.specs.FlowMods.{Ground, ground_of, pieces_on, permitted_on, packet_at, named_packet, piece_place, carrier_of, flow_mod_fault}
@@ -68,7 +67,12 @@ use Rattle.desk_words.specs.Laws.{HasSeen}
 use Rattle.desk_words.proofs.Alone.{has_told, opened_told, blind}
 use Rattle.desk_words.proofs.Silence.{sees_nothing}
 use Rattle.desk_words.proofs.Seen.{seen}
-use Rattle.lane_laws.specs.Lane.{AsksForReply, LiesInFlowspace, NamesOwnPort, OutputsToOwnPorts, LeavesOtherHeaders, SendsOwnPacket, SendsToOwnPorts, ChangesNoTable, IsBufferHeader, CarriesOwnBuffer, SendsOwnBuffer, IsOwnBuffer, HoldsWritten, rules_in, settings_in, ports_shown, ground_in, switch_number, flow_mods_at, packet_out_at, KeepsRate, IsPermitted, IsPermittedOut, IsPermittedInquiry, IsAnyPermitted, AsksOwnPort}
+use Rattle.flow_facts.specs.FlowMods.{LiesInFlowspace, NamesOwnPort, OutputsToOwnPorts, LeavesOtherHeaders}
+use Rattle.flow_facts.specs.PacketOuts.{SendsOwnPacket, SendsToOwnPorts, ChangesNoTable}
+use Rattle.flow_facts.specs.Inquiries.{AsksOwnPort}
+use Rattle.flow_facts.specs.Messages.{AsksForReply}
+use Rattle.desk_words.specs.Arrivals.{IsBufferHeader}
+use Rattle.lane_laws.specs.Lane.{CarriesOwnBuffer, SendsOwnBuffer, IsOwnBuffer, HoldsWritten, rules_in, settings_in, ports_shown, ground_in, switch_number, flow_mods_at, packet_out_at, KeepsRate, IsPermitted, IsPermittedOut, IsPermittedInquiry, IsAnyPermitted}
 use Rattle.lane_laws.proofs.Keeping.{IsKept, kept_now}
 use Rattle.slice_side.specs.Checking.{IsInquirySent}
 use Rattle.lane_laws.proofs.Forwarded.{put_whole, out_whole, question_whole, put_or_none}
@@ -156,7 +160,7 @@ out_lane_whole policy h timed slot message m is up p =
 
 -- a question is sent as it was put
 question_lane_whole : (policy : PolicyView) (h : List Timed) (timed : Timed) (slot : ℕ) (message question : List ℕ) (asked : FromController) → timed.event ≡ SliceMsg slot message → is_slice_up policy slot h ≡ true
-    → read_controller message ≡ Ok asked → KeepsRate policy slot h timed.moment → IsInquirySent (ground_in policy slot h) asked question → lane_by policy h timed ≡ question ∷ []
+    → message_read (settings_in policy slot h) message ≡ Ok asked → KeepsRate policy slot h timed.moment → IsInquirySent (ground_in policy slot h) asked question → lane_by policy h timed ≡ question ∷ []
 question_lane_whole policy h timed slot message question asked is up read rate may =
     let s = settings_in policy slot h in
     let view = view_of policy slot h in
@@ -169,7 +173,7 @@ abbrev IsAnyPut : PolicyView → ℕ → List Timed → ℕ → List ℕ → Typ
 IsAnyPut policy slot h moment message =
     ((m : FlowMod) × IsPermitted policy slot h moment message m)
     ⊎ (((m : PacketOut) × IsPermittedOut policy slot h moment message m)
-    ⊎ ((asked : FromController) × (question : List ℕ) × (read_controller message ≡ Ok asked) × KeepsRate policy slot h moment × IsInquirySent (ground_in policy slot h) asked question))
+    ⊎ ((asked : FromController) × (question : List ℕ) × (message_read (settings_in policy slot h) message ≡ Ok asked) × KeepsRate policy slot h moment × IsInquirySent (ground_in policy slot h) asked question))
 
 lane_or_some : (policy : PolicyView) (h : List Timed) (timed : Timed) (slot : ℕ) (message : List ℕ) → timed.event ≡ SliceMsg slot message
     → (lane_by policy h timed ≡ []) ⊎ ((is_slice_up policy slot h ≡ true) × IsAnyPut policy slot h timed.moment message)
@@ -212,11 +216,11 @@ told_up policy slot h up = some_told (opening_of h) (opened_told h (and_parts (i
 
 -- what holds of all that a slice can have sent: of the flow-mods, of the packet-outs, and of the questions
 pub record HoldsOfSent (P : List Rule → FlowMod → Type 0) (Q : List Rule → PacketOut → Type 0) (R : List Rule → List ℕ → Type 0) (policy : PolicyView) (slot : ℕ) (h : List Timed) (message : List ℕ) : Type 0 where
-  pub flow_mods : (features : Features) → opening_of h ≡ Some features → is_slot policy slot ≡ true → (m : FlowMod) → read_controller message ≡ Ok (said.FlowMod m)
+  pub flow_mods : (features : Features) → opening_of h ≡ Some features → is_slot policy slot ≡ true → (m : FlowMod) → message_read (settings_at policy slot (Some features)) message ≡ Ok (said.FlowMod m)
       → flow_mod_fault (ground_by policy slot h (Some features)) m ≡ None → All (P (rules_on features.datapath policy.rules)) (flow_mods_by policy slot h (ground_by policy slot h (Some features)) m)
-  pub packet_outs : (features : Features) → opening_of h ≡ Some features → is_slot policy slot ≡ true → (m : PacketOut) → read_controller message ≡ Ok (said.PacketOut m)
+  pub packet_outs : (features : Features) → opening_of h ≡ Some features → is_slot policy slot ≡ true → (m : PacketOut) → message_read (settings_at policy slot (Some features)) message ≡ Ok (said.PacketOut m)
       → packet_out_fault (ground_by policy slot h (Some features)) m ≡ None → Q (rules_on features.datapath policy.rules) (packet_out_by policy slot h (ground_by policy slot h (Some features)) m)
-  pub questions : (features : Features) → opening_of h ≡ Some features → is_slot policy slot ≡ true → (asked : FromController) (question : List ℕ) → read_controller message ≡ Ok asked
+  pub questions : (features : Features) → opening_of h ≡ Some features → is_slot policy slot ≡ true → (asked : FromController) (question : List ℕ) → message_read (settings_at policy slot (Some features)) message ≡ Ok asked
       → IsInquirySent (ground_by policy slot h (Some features)) asked question → R (rules_on features.datapath policy.rules) question
 
 -- a message is spelled from a flow-mod of which one thing holds, or from a packet-out of which another does

@@ -33,14 +33,20 @@ use Rattle.recording.proofs.Untold.{bytes_of}
 use Rattle.xid_map.specs.Requests.{physical_of}
 use Rattle.slice_words.specs.Buffers.{HeldPacket}
 use Rattle.slice_words.specs.FlowMods.{Ground, packet_at}
-use Rattle.slice_words.specs.PacketOuts.{carried_header, is_probe, origin_with, sent_out_with, packet_out_on, packet_out_size, packet_out_fault}
+use Rattle.flow_facts.specs.PacketOuts.{carried_header, is_probe}
+use Rattle.slice_words.specs.PacketOuts.{origin_with, sent_out_with, packet_out_on, packet_out_size, packet_out_fault}
 use Rattle.slice_words.proofs.Forwarding.{not_large_numbered, out_not_large}
 use Rattle.desk_words.specs.declared.event.Event.TheVariants.{SliceMsg}
 use Rattle.desk_words.specs.declared.event.Timed.{Timed}
 use Rattle.desk_words.specs.Openings.{opening_of}
 use Rattle.desk_words.specs.Histories.{is_slot, settings_at, header_in, side_of}
 use Rattle.desk_words.specs.Sent.{lane_by}
-use Rattle.lane_laws.specs.Lane.{IsRanged, IsEitherThat, LiesInFlowspace, NamesOwnPort, StaysWithin, SendsWithin, IsHeaderSent, IsReadAsInquiry, IsReadThat, IsOfBytes, Arrival, arrival_under, IsBufferHeader, switch_number, rules_in}
+use Rattle.flow_facts.specs.Ranges.{IsRanged}
+use Rattle.flow_facts.specs.FlowMods.{LiesInFlowspace, NamesOwnPort, StaysWithin}
+use Rattle.flow_facts.specs.PacketOuts.{SendsWithin, IsHeaderSent}
+use Rattle.flow_facts.specs.Messages.{IsEitherThat, IsReadAsInquiry, IsReadThat}
+use Rattle.desk_words.specs.Arrivals.{Arrival, arrival_under, IsBufferHeader}
+use Rattle.lane_laws.specs.Lane.{IsOfBytes, switch_number, rules_in}
 use Rattle.lane_laws.proofs.Reading.{IsRead, IsReadOut, read_of, read_out_of}
 use Rattle.lane_laws.proofs.Marks.{IsProbe-marked}
 use Rattle.lane_laws.proofs.Keeping.{IsKept}

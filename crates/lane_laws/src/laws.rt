@@ -30,7 +30,12 @@ ghost use Rattle.desk_words.specs.declared.event.Event.TheVariants.{SliceMsg};
 ghost use Rattle.desk_words.specs.declared.event.Timed.{Timed};
 ghost use Rattle.desk_words.specs.Histories.{side_of, is_slice_up};
 ghost use Rattle.desk_words.specs.Sent.{lane_by};
-ghost use Rattle.lane_laws.specs.Lane.{IsRanged, IsRangedOut, IsSentThat, LiesInFlowspace, OutputsToOwnPorts, LeavesOtherHeaders, StaysWithin, SendsOwnPacket, SendsToOwnPorts, ChangesNoTable, SendsWithin, IsReadThat, IsOfBytes, IsBufferHeader, CarriesOwnBuffer, SendsOwnBuffer, HoldsWritten, KeepsWritten, KeepsRanged, IsKeptHeader, rules_in, settings_in, ports_shown, ground_in, flow_mods_at, packet_out_at, IsPermitted, IsPermittedOut, IsPermittedInquiry, IsAnyPermitted};
+ghost use Rattle.flow_facts.specs.Ranges.{IsRanged, IsRangedOut};
+ghost use Rattle.flow_facts.specs.FlowMods.{LiesInFlowspace, OutputsToOwnPorts, LeavesOtherHeaders, StaysWithin};
+ghost use Rattle.flow_facts.specs.PacketOuts.{SendsOwnPacket, SendsToOwnPorts, ChangesNoTable, SendsWithin};
+ghost use Rattle.flow_facts.specs.Messages.{IsSentThat, IsReadThat};
+ghost use Rattle.desk_words.specs.Arrivals.{IsBufferHeader};
+ghost use Rattle.lane_laws.specs.Lane.{IsOfBytes, CarriesOwnBuffer, SendsOwnBuffer, HoldsWritten, KeepsWritten, KeepsRanged, IsKeptHeader, rules_in, settings_in, ports_shown, ground_in, flow_mods_at, packet_out_at, IsPermitted, IsPermittedOut, IsPermittedInquiry, IsAnyPermitted};
 
 /// Whatever a message of a slice has sent to the switch is a flow-mod, and the slice writes each header of its
 /// match; or it is a packet-out of a packet that the slice writes, or of a probe with the slice's mark; or it is
@@ -64,13 +69,6 @@ pub fn buffers_are_the_slices_own()
     ensures messages { (policy : PolicyView) → AreNormal policy.rules → (h : List Timed) (timed : Timed) (slot : ℕ) (message : List ℕ) → All (λ t. IsOfBytes t.event) (timed ∷ h)
         → timed.event ≡ SliceMsg slot message → All (IsSentThat (CarriesOwnBuffer policy slot h) (SendsOwnBuffer policy slot h)) (lane_by policy h timed) }
     ensures held { (policy : PolicyView) (h : List Timed) (slot : ℕ) → HoldsWritten (rules_in policy h) slot (settings_in policy slot h) (side_of policy slot h).sight }
-{}
-
-/// From the bytes of a flow-mod of which these laws speak, or of a packet-out of at most 65,535 bytes, a switch
-/// reads just its fields, all but the transaction id. So what they say of a message is said of what a switch reads.
-pub fn messages_tell_their_fields()
-    ensures flow_mods { (m : FlowMod) → IsRanged m → read_flow_mod (spell_flow_mod m) ≡ Ok (record m { xid = xid_of (spell_flow_mod m) }) }
-    ensures packet_outs { (m : PacketOut) → IsRangedOut m → length (spell_packet_out m) ≤ 65535 → read_packet_out (spell_packet_out m) ≡ Ok (record m { xid = xid_of (spell_packet_out m) }) }
 {}
 
 /// Where the messages of the switch and of the slice are of bytes, a switch reads whatever it has sent as a

@@ -5,7 +5,7 @@ use Rattle.std.proofs.lemmas.List.Elements.{filter-append}
 use Rattle.flowspace.proofs.Ranking.{filter-filter, filter-through}
 use Rattle.of10_port.specs.Ports.{port_number}
 use Rattle.of10_port.specs.declared.status.PortStatus.{PortStatus}
-use Rattle.port_view.specs.declared.kept.Kept.TheVariants.{Kept}
+use Rattle.port_view.specs.declared.status_answers.Kept.TheVariants.{Kept}
 use Rattle.port_view.specs.KnownPorts.{IsAscending, ports_below, ports_above, with_port, without_port, kept_of, changed_plainly, changed}
 use Rattle.port_view.proofs.Order.{AreAbove, Rises, Rises-from_pairs}
 use Rattle.port_view.proofs.Cutting.{changed_plainly-delete, changed_plainly-other, by_reason}

@@ -8,8 +8,8 @@ use Rattle.std.proofs.lemmas.List.Filters.{length-filter_both}
 use Rattle.of10_port.specs.Ports.{port_number}
 use Rattle.of10_port.specs.declared.features.Features.{Features}
 use Rattle.of10_port.specs.declared.status.PortStatus.{PortStatus}
-use Rattle.port_view.specs.declared.kept.Kept.{Kept as Answer}
-use Rattle.port_view.specs.declared.kept.Kept.TheVariants.{Kept, Ignored, TooManyPorts}
+use Rattle.port_view.specs.declared.status_answers.Kept.{Kept as Answer}
+use Rattle.port_view.specs.declared.status_answers.Kept.TheVariants.{Kept, Ignored, TooManyPorts}
 use Rattle.port_view.specs.KnownPorts.{IsAscending, is_known, is_ignored, is_too_many, with_port, without_port, with_told, first_known, kept_of, changed_plainly, changed, known_of}
 use Rattle.port_view.specs.Places.{PortsStand}
 use Rattle.port_view.proofs.Order.{Rises-from_pairs, pairs_from_Rises, Rises-filter, Rises-put, length-parts, length-parts_known}

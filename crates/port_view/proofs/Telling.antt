@@ -8,8 +8,8 @@ use Rattle.std.proofs.lemmas.List.Folds.{find-append}
 use Rattle.of10_port.specs.Ports.{port_number}
 use Rattle.of10_port.specs.declared.features.Features.{Features}
 use Rattle.of10_port.specs.declared.status.PortStatus.{PortStatus}
-use Rattle.port_view.specs.declared.kept.Kept.{Kept as Answer}
-use Rattle.port_view.specs.declared.kept.Kept.TheVariants.{Kept, Ignored, TooManyPorts}
+use Rattle.port_view.specs.declared.status_answers.Kept.{Kept as Answer}
+use Rattle.port_view.specs.declared.status_answers.Kept.TheVariants.{Kept, Ignored, TooManyPorts}
 use Rattle.flowspace.specs.Owners.{is_in_port}
 use Rattle.port_view.specs.KnownPorts.{is_of_number, port_of, with_port, without_port, with_told, first_known, kept_of, is_kept, changed_plainly, known_of}
 use Rattle.port_view.specs.Told.{kept_statuses, told_first, port_it_tells, told_last}

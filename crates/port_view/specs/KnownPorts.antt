@@ -6,8 +6,8 @@ use Rattle.of10_port.specs.Ports.{port_number}
 use Rattle.of10_port.specs.declared.features.Features.{Features}
 use Rattle.of10_port.specs.declared.status.PortStatus.{PortStatus}
 use Rattle.flowspace.specs.Owners.{is_in_port}
-use Rattle.port_view.specs.declared.kept.Kept.{Kept as Answer}
-use Rattle.port_view.specs.declared.kept.Kept.TheVariants.{Kept, Ignored, TooManyPorts}
+use Rattle.port_view.specs.declared.status_answers.Kept.{Kept as Answer}
+use Rattle.port_view.specs.declared.status_answers.Kept.TheVariants.{Kept, Ignored, TooManyPorts}
 
 -- a port has a number
 abbrev pub is_of_number : ℕ → List ℕ → Bool

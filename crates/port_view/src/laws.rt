@@ -4,7 +4,7 @@ ghost use Rattle.std.specs.Prelude.{ℕ, Bool, true, false, List, ◌≡◌, ◌
 ghost use Rattle.of10_port.specs.declared.features.Features.{Features};
 ghost use Rattle.of10_port.specs.declared.status.PortStatus.{PortStatus};
 ghost use Rattle.of10_port.specs.Ports.{port_number};
-ghost use Rattle.port_view.specs.declared.kept.Kept.TheVariants.{Kept};
+ghost use Rattle.port_view.specs.declared.status_answers.Kept.TheVariants.{Kept};
 ghost use Rattle.port_view.specs.KnownPorts.{IsAscending, port_of, kept_of, changed_plainly, changed, known_of};
 ghost use Rattle.port_view.specs.Told.{told_last};
 

@@ -1,11 +1,11 @@
 //! The ports of a switch as its messages tell them, and the part of them that a slice is shown.
 #![tactic(auto)]
 
-mod kept;
 pub mod laws;
-mod places;
-mod shown;
+mod slice_ports;
+mod sorted_ports;
+mod status_answers;
 mod view;
 
-pub use kept::Kept;
+pub use status_answers::Kept;
 pub use view::PortView;

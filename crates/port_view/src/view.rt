@@ -8,9 +8,9 @@ ghost use Rattle.port_view.specs.KnownPorts.{IsAscending, with_told, first_known
 ghost use Rattle.port_view.specs.Places.{PortsStand};
 ghost use Rattle.port_view.specs.SlicePorts.{ports_of_slice, features_with, flooded};
 
-use crate::kept::Kept;
-use crate::places::{change, judged, place_of, put};
-use crate::shown::{buffers_for, flood_ports, ports_of};
+use crate::slice_ports::{buffers_for, flood_ports, ports_of};
+use crate::sorted_ports::{change, judged, place_of, put};
+use crate::status_answers::Kept;
 use flowspace::{SwitchPolicy, is_in_port};
 use of10_ctl::Frame;
 use of10_port::{Features, Port, PortStatus, Ports};

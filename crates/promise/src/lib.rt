@@ -15,7 +15,11 @@ ghost use Rattle.desk_words.specs.declared.event.Timed.{Timed};
 ghost use Rattle.desk_words.specs.Histories.{is_slice_up};
 ghost use Rattle.desk_words.specs.Sent.{lane_by};
 ghost use Rattle.desk_words.specs.Laws.{IsAlone, AreAlike, IsErasable};
-ghost use Rattle.lane_laws.specs.Lane.{IsSentThat, LiesInFlowspace, OutputsToOwnPorts, LeavesOtherHeaders, StaysWithin, SendsOwnPacket, SendsToOwnPorts, ChangesNoTable, SendsWithin, IsReadThat, IsOfBytes, IsBufferHeader, CarriesOwnBuffer, SendsOwnBuffer, IsPermitted, flow_mods_at, rules_in};
+ghost use Rattle.flow_facts.specs.FlowMods.{LiesInFlowspace, OutputsToOwnPorts, LeavesOtherHeaders, StaysWithin};
+ghost use Rattle.flow_facts.specs.PacketOuts.{SendsOwnPacket, SendsToOwnPorts, ChangesNoTable, SendsWithin};
+ghost use Rattle.flow_facts.specs.Messages.{IsSentThat, IsReadThat};
+ghost use Rattle.desk_words.specs.Arrivals.{IsBufferHeader};
+ghost use Rattle.lane_laws.specs.Lane.{IsOfBytes, CarriesOwnBuffer, SendsOwnBuffer, IsPermitted, flow_mods_at, rules_in};
 ghost use Rattle.promise.specs.Ups.{IsToldAsAloneAtEachUp};
 
 // A slice is served as by a proxy of its own.
@@ -48,7 +52,7 @@ pub fn slice_is_told_as_alone_at_each_up()
 /// Whatever a message of a slice has sent to the switch is a flow-mod, and the slice writes each header of its
 /// match; or it is a packet-out of a packet that the slice writes, or of a probe with the slice's mark; or it
 /// asks the switch for a reply. The flow-mod's match is normal, and the fields of both lie in their ranges, so that
-/// the message is the bytes of no other (`messages_tell_their_fields` of `lane_laws`). Here and in the next four
+/// the message is the bytes of no other (`messages_tell_their_fields` of `flow_facts`). Here and in the next four
 /// laws the messages are of bytes and the rules' matches are normal, as each `u8` and each `Match` is. A law of
 /// `lane_laws`.
 pub fn messages_lie_in_the_flowspace()

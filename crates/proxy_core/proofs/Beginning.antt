@@ -8,8 +8,8 @@ use Rattle.of10_message.specs.declared.fault.Unread.TheVariants.{BadLength}
 use Rattle.of10_message.specs.Heads.{xid_of}
 use Rattle.of10_message.specs.Switch.{SwitchMessage, read_switch, has_bad_length}
 use Rattle.of10_port.specs.declared.features.FeaturesView.{FeaturesView}
-use Rattle.of10_message.specs.declared.switch.FromSwitch.{FromSwitch}
-use Rattle.of10_message.specs.declared.switch.FromSwitch.TheVariants as views
+use Rattle.of10_message.specs.declared.switch.SwitchMessageView.{SwitchMessageView}
+use Rattle.of10_message.specs.declared.switch.SwitchMessageView.TheVariants as views
 use Rattle.of10_message.specs.SwitchViews.{said_by}
 use Rattle.of10_message.proofs.SwitchCases.{bad_read}
 use Rattle.flowspace.specs.declared.slices.Slice.{Slice}
@@ -56,7 +56,7 @@ other_fault BadLength other = absurd (other refl)
 other_fault fault other = refl
 
 -- only a FEATURES_REPLY tells of the switch
-pub other_said : (said : FromSwitch) → ((told : FeaturesView) → said ≡ views.FeaturesReply told → ⊥) → features_said (Ok (said_by said)) ≡ None
+pub other_said : (said : SwitchMessageView) → ((told : FeaturesView) → said ≡ views.FeaturesReply told → ⊥) → features_said (Ok (said_by said)) ≡ None
 other_said (views.FeaturesReply told) other = absurd (other told refl)
 other_said said other = refl
 

@@ -1,18 +1,21 @@
 -- What a desk tells without a change of it.
-use Rattle.std.proofs.Common.{◌≡◌, ℕ, ◌==◌, ◌&&◌, ltb, not, Bool, true, false, List, length, refl, ap, ap₂, subst, sym, ◌∙◌, Option, Some, None}
-use Rattle.std.proofs.lemmas.Bool.{ltb-false}
-use Rattle.std.proofs.lemmas.Option.{slice_get_past}
+use Rattle.std.proofs.Common.{◌≡◌, ℕ, ◌==◌, ◌&&◌, ltb, not, Bool, true, false, List, length, refl, ap, ap₂, subst, sym, ◌∙◌, Option, Some, None, option_map, slice_get, arith}
+use Rattle.std.proofs.lemmas.Bool.{ltb-false, lt-ltb}
+use Rattle.std.proofs.lemmas.Option.{slice_get_past, slice_get_within}
+use Rattle.of10_port.specs.declared.features.Features.{Features}
 use Rattle.flowspace.specs.Policies.{PolicyView}
+use Rattle.flow_book.specs.declared.state.SliceState.{SliceState}
 use Rattle.outbox.specs.Queues.{Queue, no_messages, OutboxState}
 use Rattle.slice_words.specs.Items.{is_up}
+use Rattle.slice_words.specs.Standing.{SliceStands}
 use Rattle.desk_words.specs.declared.dest.Dest.TheVariants.{Switch, Slice}
 use Rattle.desk_words.specs.Openings.{KnownSwitch as Known, switch_of, phase_of}
-use Rattle.desk_words.specs.Histories.{is_slot, SliceSide, side_of, is_open}
+use Rattle.desk_words.specs.Histories.{is_slot, settings_at, SliceSide, side_of, is_open}
 use Rattle.desk_words.specs.Verdicts.{is_ended}
 use Rattle.desk_words.specs.Operations.{Operation, events_of, queue_of}
 use Rattle.proxy_core.specs.declared.desk.Session.{Session}
 use Rattle.proxy_core.specs.declared.desk.Desk.{Desk}
-use Rattle.proxy_core.specs.Desks.{SessionStands, Opens, DeskStands, TellsWaiting, TellsEnd, TellsOpening, TellsUp, left, pending_at}
+use Rattle.proxy_core.specs.Desks.{SessionStands, Opens, DeskStands, TellsWaiting, TellsEnd, TellsOpening, TellsUp, TellsStates, TellsDatapath, left, pending_at}
 use Rattle.proxy_core.specs.Opening.{is_up_at}
 use Rattle.proxy_core.proofs.Standing.{slots_are, slot_there}
 use Rattle.proxy_core.proofs.Acting.{shut_in}
@@ -74,3 +77,34 @@ end_told desk p ops s = ap is_ended s.body.phase
 
 pub opening_told : (desk : Desk) → TellsOpening desk (is_open desk.phase)
 opening_told desk p ops s = ap is_open s.body.phase
+
+-- ---- what is kept
+
+opened : (desk : Desk) (p : PolicyView) (ops : List Operation) (o : Option Session) → desk.session ≡ o → DeskStands p ops desk → Opens p (switch_of (events_of ops)) (λ i. side_of p i (events_of ops)) (λ i. queue_of p i ops) o
+opened desk p ops o was s = subst (λ (o : Option Session). Opens p (switch_of (events_of ops)) (λ i. side_of p i (events_of ops)) (λ i. queue_of p i ops) o) was s.body.opens
+
+state_kept : (p : PolicyView) (switch : Known) (sides : ℕ → SliceSide) (qs : ℕ → Queue) (a : Session) → SessionStands p switch sides qs a → (slot : ℕ) (state : SliceState) → slice_get a.states.items slot ≡ Some state
+    → SliceStands (settings_at p slot (Some a.features)) (sides slot).sight state
+state_kept p switch sides qs a s slot state is =
+    let within = slice_get_within a.states.items slot state is in
+    let here : is_slot p slot ≡ true = lt-ltb slot (length p.slices) (omega (arith, within, s.states_count)) in
+    let at = slot_there p switch sides qs a slot s here in
+    subst (λ (told : Option Features). SliceStands (settings_at p slot told) (sides slot).sight state) s.told (s.each slot state at.1 is at.3).state_stands
+
+pub states_told : (desk : Desk) (a : Session) → desk.session ≡ Some a → TellsStates desk (Some a.states.items)
+states_told desk a was p ops s =
+    let h = events_of ops in
+    let stands : SessionStands p (switch_of h) (λ i. side_of p i h) (λ i. queue_of p i ops) a = opened desk p ops (Some a) was s in
+    (a.features, stands.told, stands.states_count, state_kept p (switch_of h) (λ i. side_of p i h) (λ i. queue_of p i ops) a stands)
+
+pub nothing_kept : (desk : Desk) → desk.session ≡ None → TellsStates desk None
+nothing_kept desk was p ops s = (opened desk p ops None was s).0
+
+pub datapath_told : (desk : Desk) (a : Session) → desk.session ≡ Some a → TellsDatapath desk (Some a.features.datapath)
+datapath_told desk a was p ops s =
+    let h = events_of ops in
+    let stands : SessionStands p (switch_of h) (λ i. side_of p i h) (λ i. queue_of p i ops) a = opened desk p ops (Some a) was s in
+    sym (ap (option_map (λ (features : Features). features.datapath)) stands.told)
+
+pub no_datapath : (desk : Desk) → desk.session ≡ None → TellsDatapath desk None
+no_datapath desk was p ops s = sym (ap (option_map (λ (features : Features). features.datapath)) (opened desk p ops None was s).0)

@@ -10,8 +10,8 @@ use Rattle.of10_message.specs.Heads.{xid_of}
 use Rattle.of10_message.specs.Switch.{SwitchMessage, read_switch, has_bad_length}
 use Rattle.of10_message.proofs.SwitchCases.{bad_read, bad_length-read}
 use Rattle.flowspace.specs.Policies.{PolicyView}
-use Rattle.port_view.specs.declared.kept.Kept.{Kept as Answer}
-use Rattle.port_view.specs.declared.kept.Kept.TheVariants.{Kept as IsKept, Ignored, TooManyPorts}
+use Rattle.port_view.specs.declared.status_answers.Kept.{Kept as Answer}
+use Rattle.port_view.specs.declared.status_answers.Kept.TheVariants.{Kept as IsKept, Ignored, TooManyPorts}
 use Rattle.port_view.specs.KnownPorts.{changed, kept_of}
 use Rattle.port_view.proofs.Knowing.{changed-not_kept}
 use Rattle.flow_book.specs.declared.state.SliceState.{SliceState}

@@ -1,5 +1,5 @@
 -- When a desk is the one that a list of operations makes of a policy. All of this is this proxy's own rule.
-use Rattle.std.specs.Prelude.{ℕ, ◌≡◌, ◌<◌, ◌==◌, ◌&&◌, not, Bool, true, false, if◌then◌else◌, List, [], ◌∷◌, length, slice_get, Option, Some, None, Result, is_some}
+use Rattle.std.specs.Prelude.{ℕ, ◌≡◌, ◌<◌, ◌==◌, ◌&&◌, not, Bool, true, false, if◌then◌else◌, List, [], ◌∷◌, length, slice_get, Option, Some, None, option_map, Result, is_some}
 use Rattle.std.specs.declared.alloc.AllocError.{AllocError}
 use Rattle.flowspace.specs.Policies.{PolicyView}
 use Rattle.flow_book.specs.declared.state.SliceState.{SliceState}
@@ -15,7 +15,7 @@ use Rattle.desk_words.specs.declared.taken.Taken.{Taken}
 use Rattle.desk_words.specs.declared.taken.Taken.TheVariants as takens
 use Rattle.desk_words.specs.declared.taken.Taken.TheVariants.{Message, NotOpen}
 use Rattle.desk_words.specs.declared.verdict.Verdict.{Verdict}
-use Rattle.desk_words.specs.Openings.{ends_switch, rules_of, phase_of, phase_after, KnownSwitch, switch_after, switch_of}
+use Rattle.desk_words.specs.Openings.{ends_switch, rules_of, opening_of, phase_of, phase_after, KnownSwitch, switch_after, switch_of}
 use Rattle.desk_words.specs.Histories.{is_slot, settings_at, SliceSide, side_start, side_of, is_open, is_slice_up, side_after, is_up_in}
 use Rattle.desk_words.specs.Sent.{sent_with, put_with, lane_in, echo_for}
 use Rattle.desk_words.specs.Verdicts.{is_ended, is_before, is_closing}
@@ -240,3 +240,19 @@ TellsOpening desk open_ = (policy : PolicyView) (operations : List Operation) �
 -- whether the slice at a slot is up, likewise
 abbrev pub TellsUp : Desk → ℕ → Bool → Type 0
 TellsUp desk slot up = (policy : PolicyView) (operations : List Operation) → DeskStands policy operations desk → up ≡ is_slice_up policy slot (events_of operations)
+
+-- what is kept of the slices after a history: none before the switch has told what it is, else for each slice of the policy a state that belongs to what the slice sees
+abbrev pub AreStatesAfter : PolicyView → List Timed → Option (List SliceState) → Type 0
+AreStatesAfter policy h None = opening_of h ≡ None
+AreStatesAfter policy h (Some states) =
+    (features : Features) × (opening_of h ≡ Some features) × (length states ≡ length policy.slices)
+    × ((slot : ℕ) (state : SliceState) → slice_get states slot ≡ Some state → SliceStands (settings_at policy slot (Some features)) (side_of policy slot h).sight state)
+
+-- what is kept of the slices, for every list that the desk stands for
+abbrev pub TellsStates : Desk → Option (List SliceState) → Type 0
+TellsStates desk states = (policy : PolicyView) (operations : List Operation) → DeskStands policy operations desk → AreStatesAfter policy (events_of operations) states
+
+-- the datapath id that the switch told, likewise
+abbrev pub TellsDatapath : Desk → Option ℕ → Type 0
+TellsDatapath desk datapath =
+    (policy : PolicyView) (operations : List Operation) → DeskStands policy operations desk → datapath ≡ option_map (λ (features : Features). features.datapath) (opening_of (events_of operations))

@@ -1,4 +1,4 @@
-use crate::indexed::IndexedPolicy;
+use crate::indexed_policy::IndexedPolicy;
 use desk_words::Phase;
 use flow_book::SliceState;
 use flowspace::Policy;

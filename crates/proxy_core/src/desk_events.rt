@@ -21,7 +21,7 @@ use crate::waiting::{make_room, push_all};
 use desk_words::{Event, Phase, Timed, Verdict};
 use flowspace::Policy;
 use of10_ctl::Frame;
-use of10_message::{FromSwitch, Unread, read_switch};
+use of10_message::{SwitchMessageView, Unread, read_switch};
 use of10_port::FeaturesView;
 use outbox::Outbox;
 use std::alloc::{AllocError, Global};
@@ -114,7 +114,7 @@ impl Desk {
         &mut self,
         alloc: Global,
         xid: u32,
-        said: &FromSwitch<'_>,
+        said: &SwitchMessageView<'_>,
     ) -> Result<bool, AllocError>
         requires { IsSaid (said_by said.now) }
         ensures ok { IfOk result (λ go. (moment : ℕ) (message : List ℕ) → read_switch message ≡ Ok (said_by said.now) → xid_of message ≡ xid → ActsIn Begun self.old (record { event = SwitchMsg message; moment = moment }) go self.new) }
@@ -122,7 +122,7 @@ impl Desk {
         ensures events { self.new.events ≡ self.old.events }
     {
         match said {
-            FromSwitch::FeaturesReply(told) => self.open(alloc, told),
+            SwitchMessageView::FeaturesReply(told) => self.open(alloc, told),
             _ => {
                 let messages = echo(alloc, xid, said)?;
                 self.answer(messages)

@@ -3,7 +3,7 @@
 
 mod desk;
 mod desk_events;
-mod indexed;
+mod indexed_policy;
 mod known_ports;
 mod own_messages;
 mod queries;

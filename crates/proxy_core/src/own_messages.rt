@@ -11,7 +11,7 @@ use of10_ctl::{Frame, echo_reply, message};
 use of10_flow::FlowMod;
 use of10_flow::protocol::{DELETE, NO_BUFFER};
 use of10_match::Match;
-use of10_message::{FromSwitch, SwitchConfig, set_config};
+use of10_message::{SwitchConfig, SwitchMessageView, set_config};
 use of10_port::protocol::NONE;
 use std::alloc::{AllocError, Global};
 
@@ -82,12 +82,16 @@ pub(crate) fn preparation(alloc: Global) -> Result<Vec<Frame>, AllocError>
 
 /// What answers a message under a transaction id: an ECHO_REQUEST its reply (OpenFlow 1.0.0, section 5.5), any
 /// other nothing.
-pub(crate) fn echo(alloc: Global, xid: u32, said: &FromSwitch<'_>) -> Result<Vec<Frame>, AllocError>
+pub(crate) fn echo(
+    alloc: Global,
+    xid: u32,
+    said: &SwitchMessageView<'_>,
+) -> Result<Vec<Frame>, AllocError>
     requires { IsSaid (said_by said.now) }
     ensures { IfOk result (λ v. v.items ≡ echo_said xid (Ok (said_by said.now))) }
 {
     let mut messages = Vec::new(alloc);
-    if let FromSwitch::EchoRequest(body) = said {
+    if let SwitchMessageView::EchoRequest(body) = said {
         messages.push(echo_reply(alloc, xid, body)?)?;
     }
     Ok(messages)

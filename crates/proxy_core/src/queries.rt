@@ -1,13 +1,14 @@
 //! What a desk is asked without a change of it.
 
-ghost use Rattle.std.specs.Prelude.{ℕ, ◌≡◌, ◌==◌, ◌&&◌, not, length, Some};
+ghost use Rattle.std.specs.Prelude.{ℕ, ◌≡◌, ◌==◌, ◌&&◌, not, length, Some, option_map};
 ghost use Rattle.desk_words.specs.Histories.{is_open};
 ghost use Rattle.desk_words.specs.Verdicts.{is_ended};
 ghost use Rattle.desk_words.specs.declared.dest.Dest.TheVariants.{Slice};
-ghost use Rattle.proxy_core.specs.Desks.{TellsEnd, TellsLane, TellsOpening, TellsUp, TellsWaiting, left, pending_at};
+ghost use Rattle.proxy_core.specs.Desks.{TellsDatapath, TellsEnd, TellsLane, TellsOpening, TellsStates, TellsUp, TellsWaiting, left, pending_at};
 
 use crate::desk::{Desk, Session};
 use desk_words::{Dest, Phase};
+use flow_book::SliceState;
 
 impl Session {
     /// Whether a message waits for a slice.
@@ -73,6 +74,28 @@ impl Desk {
         match &self.session {
             Some(session) => self.is_open() && session.is_up(slot),
             None => false,
+        }
+    }
+
+    /// What is kept of the slices, by slots, after the end of the switch's connection too; `None` before
+    /// the switch has told what it is.
+    pub fn states(&self) -> Option<&[SliceState]>
+        ensures { TellsStates self.now (option_map (λ states. states.now) result) }
+    {
+        match &self.session {
+            Some(session) => Some(session.states.as_slice()),
+            None => None,
+        }
+    }
+
+    /// The datapath id that the switch told first (OpenFlow 1.0.0, section 5.3.1), after the end of its
+    /// connection too; `None` before that.
+    pub fn datapath(&self) -> Option<u64>
+        ensures { TellsDatapath self.now result }
+    {
+        match &self.session {
+            Some(session) => Some(session.features.datapath),
+            None => None,
         }
     }
 }

@@ -7,7 +7,7 @@ ghost use Rattle.proxy_core.specs.Opening.{has_side_at, is_up_at, AtSlot, Goes, 
 
 use crate::desk::Session;
 use crate::known_ports::keep;
-use crate::slice_events::{come, go, hear};
+use crate::slice_events::{SliceMessage, SwitchFacts, come, go, hear};
 use crate::slice_queues::{hand_out, make_rooms};
 use crate::waiting::{make_room, push_more};
 use of10_ctl::Frame;
@@ -76,17 +76,23 @@ impl Session {
             return Ok(false);
         }
         let at = usize::from(slot);
-        hear(
-            alloc,
-            self.policy.policy(),
-            &self.ports,
-            &self.features,
-            &mut self.states[at],
-            &mut self.queues[at],
-            lane,
+        let switch = SwitchFacts {
+            policy: self.policy.policy(),
+            ports: &self.ports,
+            features: &self.features,
+        };
+        let message = SliceMessage {
             slot,
             frame,
             moment,
+        };
+        hear(
+            alloc,
+            &switch,
+            &message,
+            &mut self.states[at],
+            &mut self.queues[at],
+            lane,
         )
     }
 

@@ -5,7 +5,7 @@ ghost use Rattle.flowspace.specs.Slices.{IsPlainSlice};
 ghost use Rattle.proxy_core.specs.Opening.{AreFresh, AreEmpty, Begins};
 
 use crate::desk::Session;
-use crate::indexed::IndexedPolicy;
+use crate::indexed_policy::IndexedPolicy;
 use flow_book::SliceState;
 use flowspace::{Policy, Slice};
 use of10_port::Features;

@@ -42,23 +42,46 @@ pub(crate) fn go(state: &mut SliceState, waiting: &mut Outbox)
     waiting.clear();
 }
 
+/// What is known of a switch: the policy's rules there, its ports, and what it told of itself first.
+#[derive(Clone, Copy)]
+pub(crate) struct SwitchFacts<'a> {
+    pub(crate) policy: &'a SwitchPolicy,
+    pub(crate) ports: &'a PortView,
+    pub(crate) features: &'a Features,
+}
+
+/// A message of a slice's controller, and the moment at which it came.
+#[derive(Clone, Copy)]
+pub(crate) struct SliceMessage<'a> {
+    pub(crate) slot: u8,
+    pub(crate) frame: &'a Frame,
+    /// Milliseconds.
+    pub(crate) moment: u64,
+}
+
 /// A message of the slice's controller, which is up. Whether its connection goes on.
 pub(crate) fn hear(
     alloc: Global,
-    policy: &SwitchPolicy,
-    ports: &PortView,
-    features: &Features,
+    switch: &SwitchFacts<'_>,
+    message: &SliceMessage<'_>,
     state: &mut SliceState,
     queue: &mut Outbox,
     lane: &mut Outbox,
-    slot: u8,
-    frame: &Frame,
-    moment: u64,
 ) -> Result<bool, AllocError>
-    ensures ok { IfOk result (λ on. Hears policy.now ports.now features.now slot frame.now moment on state.old queue.old lane.old state.new queue.new lane.new) }
+    ensures ok { IfOk result (λ on. Hears switch.now.policy.now switch.now.ports.now switch.now.features.now message.now.slot message.now.frame.now message.now.moment on state.old queue.old lane.old state.new queue.new lane.new) }
     ensures err { OnErr result (Keeps state.old queue.old state.new queue.new) }
     ensures lane { OnErr result (SameQueue lane.old lane.new) }
 {
+    let SwitchFacts {
+        policy,
+        ports,
+        features,
+    } = *switch;
+    let SliceMessage {
+        slot,
+        frame,
+        moment,
+    } = *message;
     let reaction = react(alloc, policy, ports, features, state, slot, frame, moment)?;
     make_room(queue, reaction.to_slice.len())?;
     make_room(lane, reaction.to_switch.len())?;

@@ -3,12 +3,11 @@ use Rattle.std.proofs.Common.{◌≡◌, ℕ, Bool, true, if◌then◌else◌, L
 use Rattle.of10_port.specs.declared.features.Features.{Features}
 use Rattle.of10_message.specs.declared.controller.FromController.{FromController}
 use Rattle.of10_message.specs.declared.controller.FromController.TheVariants as said
-use Rattle.of10_message.specs.Controller.{read_controller}
 use Rattle.flowspace.specs.Policies.{SwitchView}
 use Rattle.port_view.specs.SlicePorts.{ports_of_slice, features_with}
 use Rattle.flow_book.specs.declared.state.SliceState.{SliceState}
 use Rattle.slice_words.specs.Messages.{Reading, asks_switch}
-use Rattle.slice_words.specs.Items.{Settings, Sight, Item, Msg, is_up}
+use Rattle.slice_words.specs.Items.{Settings, message_read, Sight, Item, Msg, is_up}
 use Rattle.slice_words.specs.Pasts.{Answer, Past, no_answer}
 use Rattle.slice_words.specs.Answers.{unread_answer, rated_answer, read_answer, message_answer}
 use Rattle.slice_words.specs.Alone.{answer_to}
@@ -32,12 +31,12 @@ shown s sight state policy known features slot stands sees = record {
 abbrev pub answer_read : Settings → List Item → ℕ → List ℕ → Reading → Answer
 answer_read s view moment message read = elim read [ Err fault ↦ unread_answer fault message | Ok asked ↦ read_answer s view (past_of s view) moment asked message ]
 
-pub reaction_of : (s : Settings) (sight : Sight) (message : List ℕ) (moment : ℕ) (r : Reaction) (read : Reading) → is_up sight.view ≡ true → read_controller message ≡ read
+pub reaction_of : (s : Settings) (sight : Sight) (message : List ℕ) (moment : ℕ) (r : Reaction) (read : Reading) → is_up sight.view ≡ true → message_read s message ≡ read
     → Follows s sight message read (answer_read s sight.view moment message read) moment r → IsReaction s sight (Msg message moment) r
 reaction_of s sight message moment r read up is follows =
     let same : answer_read s sight.view moment message read ≡ answer_to s sight.view (Msg message moment) =
     ap (answer_read s sight.view moment message) (sym is) ∙ ap (λ (b : Bool). if b then message_answer s sight.view (past_of s sight.view) moment message else no_answer) (sym up) in
-    let so = subst (λ (a : Answer). Follows s sight message (read_controller message) a moment r) same (subst (λ (k : Reading). Follows s sight message k (answer_read s sight.view moment message read) moment r) (sym is) follows) in
+    let so = subst (λ (a : Answer). Follows s sight message (message_read s message) a moment r) same (subst (λ (k : Reading). Follows s sight message k (answer_read s sight.view moment message read) moment r) (sym is) follows) in
     record { to_slice = so.to_slice; to_switch = so.to_switch; close = so.close; change = (up, so.change) }
 
 -- what asks something of the switch is answered by the rate

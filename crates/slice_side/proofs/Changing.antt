@@ -1,14 +1,13 @@
 -- What a message of a slice makes of the calls of the parts of its state.
 use Rattle.std.proofs.Common.{◌≡◌, ℕ, ◌&&◌, not, Bool, true, false, if◌then◌else◌, List, [], ◌∷◌, ◌++◌, max, map, filter, length, le-leb, arith, refl, sym, ap, ap₂, ◌∙◌, subst, Option, Some, None, is_some, unwrap_or, true≢false, Ok, Err}
 use Rattle.of10_message.specs.declared.controller.FromController.TheVariants as said
-use Rattle.of10_message.specs.Controller.{read_controller}
 use Rattle.xid_map.specs.Requests.{RequestCall, Issue, Forget, RequestsStand, issued}
 use Rattle.xid_map.specs.Collections.{CollectionCall, Start, EndAll, Collected, CollectionsStand}
 use Rattle.rate_bucket.specs.Rates.{Bucket, BucketStands}
 use Rattle.flow_book.specs.Books.{BookCall, Added, Book, BookStands}
 use Rattle.flow_book.specs.declared.state.SliceState.{SliceState}
 use Rattle.slice_words.specs.Messages.{Reading, ends_connection, is_dismissing, length_wanted, length_set, asks_switch, is_question, kind_asked, asked_of}
-use Rattle.slice_words.specs.Items.{Settings, Sight, Item, Msg, is_up, latest_moment}
+use Rattle.slice_words.specs.Items.{Settings, message_read, Sight, Item, Msg, is_up, latest_moment}
 use Rattle.buffer_map.specs.declared.held.Held.{Held}
 use Rattle.slice_words.specs.Pasts.{Outgoing, Answer, Past, view_in, is_any, no_answer}
 use Rattle.slice_words.specs.Buffers.{HeldPacket, is_named, held_packets}
@@ -118,17 +117,17 @@ pub record Does (s : Settings) (view : List Item) (message : List ℕ) (moment :
   pub sending : is_any (answer_to s view (Msg message moment)).to_switch ≡ sends
   pub setting : length_set message ≡ set
 
-abbrev requests_made : Bool → Bool → List ℕ → List RequestCall → List RequestCall
-requests_made ends sends message calls = (if ends then Forget ∷ [] else if sends then Issue (asked_of (read_controller message) message) ∷ [] else []) ++ calls
+abbrev requests_made : Bool → Bool → Settings → List ℕ → List RequestCall → List RequestCall
+requests_made ends sends s message calls = (if ends then Forget ∷ [] else if sends then Issue (asked_of (message_read s message) message) ∷ [] else []) ++ calls
 
-abbrev collections_made : Bool → Bool → ℕ → List ℕ → List CollectionCall → List CollectionCall
-collections_made ends sends number message calls = (if ends then EndAll ∷ [] else if sends then begun number (kind_asked (read_controller message)) else []) ++ calls
+abbrev collections_made : Bool → Bool → Settings → ℕ → List ℕ → List CollectionCall → List CollectionCall
+collections_made ends sends s number message calls = (if ends then EndAll ∷ [] else if sends then begun number (kind_asked (message_read s message)) else []) ++ calls
 
 abbrev questions_made : Bool → ℕ → List ℕ → List ℕ
 questions_made asks at asked = if asks then at ∷ asked else asked
 
 abbrev bookings_made : Bool → Settings → ℕ → List ℕ → List BookCall → List BookCall
-bookings_made sends s number message calls = (if sends then bookings s number (read_controller message) else []) ++ calls
+bookings_made sends s number message calls = (if sends then bookings s number (message_read s message) else []) ++ calls
 
 abbrev held_with : Bool → Answer → List HeldPacket → List HeldPacket
 held_with ends a held = if ends then [] else filter (λ packet. not (is_named packet.ordinal a.to_switch)) held
@@ -138,8 +137,8 @@ pub record Changed (s : Settings) (sight : Sight) (message : List ℕ) (moment :
   pub moment_is : new.moment ≡ max moment (latest_moment sight.view)
   pub up_is : new.up ≡ (if ends then false else is_up sight.view)
   pub length_is : new.miss_send_len ≡ (if ends then 128 else unwrap_or set old.miss_send_len)
-  pub requests : RequestsStand s.slot (requests_made ends sends message (request_calls s (past_of s sight.view))) new.xids
-  pub collections : CollectionsStand (collections_made ends sends (issued (request_calls s (past_of s sight.view))) message (collection_calls s (past_of s sight.view))) new.collections
+  pub requests : RequestsStand s.slot (requests_made ends sends s message (request_calls s (past_of s sight.view))) new.xids
+  pub collections : CollectionsStand (collections_made ends sends s (issued (request_calls s (past_of s sight.view))) message (collection_calls s (past_of s sight.view))) new.collections
   pub bucket : BucketStands (questions_made asks (max moment (latest_moment sight.view)) (questions (past_of s sight.view))) new.bucket
   pub rate : new.bucket.rate ≡ old.bucket.rate
   pub burst : new.bucket.burst ≡ old.bucket.burst
@@ -217,7 +216,7 @@ pub set : (s : Settings) (sight : Sight) (item : Item) (t wanted m : ℕ) (old :
     → SliceStands s (with_item item sight) (record old { moment = m; miss_send_len = wanted })
 set s sight (Msg message moment) t wanted m old at stands is =
     let facts = is.1 in
-    let plain = set_is_plain (read_controller message) wanted facts.0 in
+    let plain = set_is_plain (message_read s message) wanted facts.0 in
     stands_with s sight message moment false false false (Some wanted) old (record old { moment = m; miss_send_len = wanted })
     (record { ending = plain.0; asking = no_and (is_up sight.view) (is_question message) plain.1; sending = sends_nothing s sight.view moment message plain.1; setting = facts.0 })
     stands
@@ -239,7 +238,7 @@ pub dismissed : (s : Settings) (sight : Sight) (item : Item) (t m : ℕ) (old ne
     → SliceStands s (with_item item sight) (record new { up = false })
 dismissed s sight (Msg message moment) t m old new at forgot stands is =
     let facts = is.1 in
-    let plain = ending_is_plain (read_controller message) facts.0 in
+    let plain = ending_is_plain (message_read s message) facts.0 in
     stands_with s sight message moment true false false None old (record new { up = false })
     (record { ending = facts.0; asking = no_and (is_up sight.view) (is_question message) plain.0; sending = sends_nothing s sight.view moment message plain.0; setting = plain.1 })
     stands
@@ -268,7 +267,7 @@ pub rated : (s : Settings) (sight : Sight) (item : Item) (t m : ℕ) (old : Slic
     → SliceStands s (with_item item sight) (record old { moment = m; bucket = bucket })
 rated s sight (Msg message moment) t m old bucket at asks stands is =
     let facts = is.1 in
-    let plain = question_is_plain (read_controller message) facts.0 in
+    let plain = question_is_plain (message_read s message) facts.0 in
     let now : m ≡ max moment (latest_moment sight.view) = at ∙ ap₂ max facts.2 stands.moment in
     stands_with s sight message moment false true false None old (record old { moment = m; bucket = bucket })
     (record { ending = plain.0; asking = both_true (is_up sight.view) (is_question message) is.0 facts.0; sending = facts.1; setting = plain.1 })
@@ -297,13 +296,13 @@ added_same made m s number command pieces priority asks = λ i. Added (command i
 
 -- what is sent on for a message changes all but the book and what is collected
 module _ (s : Settings) (sight : Sight) (message : List ℕ) (at : ℕ) (asked : Asked) (used : Option ℕ) (old new : SliceState) where
-  requested : (book : Book) (collections : List Collected) → IsRequested at asked used old new → SliceStands s sight old → is_up sight.view ≡ true → asks_switch (read_controller message) ≡ true → is_any (answer_to s sight.view (Msg message at)).to_switch ≡ true
-      → asked ≡ asked_of (read_controller message) message → Uses used (held_packets (past_of s sight.view)) (answer_to s sight.view (Msg message at)).to_switch
-      → BookStands (bookings s (issued (request_calls s (past_of s sight.view))) (read_controller message) ++ book_calls s (past_of s sight.view)) book
-      → CollectionsStand (begun (issued (request_calls s (past_of s sight.view))) (kind_asked (read_controller message)) ++ collection_calls s (past_of s sight.view)) collections
+  requested : (book : Book) (collections : List Collected) → IsRequested at asked used old new → SliceStands s sight old → is_up sight.view ≡ true → asks_switch (message_read s message) ≡ true → is_any (answer_to s sight.view (Msg message at)).to_switch ≡ true
+      → asked ≡ asked_of (message_read s message) message → Uses used (held_packets (past_of s sight.view)) (answer_to s sight.view (Msg message at)).to_switch
+      → BookStands (bookings s (issued (request_calls s (past_of s sight.view))) (message_read s message) ++ book_calls s (past_of s sight.view)) book
+      → CollectionsStand (begun (issued (request_calls s (past_of s sight.view))) (kind_asked (message_read s message)) ++ collection_calls s (past_of s sight.view)) collections
       → SliceStands s (with_item (Msg message at) sight) (record new { book = book; collections = collections })
   requested book collections made stands up asking sent same uses booked collected =
-      let plain = question_is_plain (read_controller message) asking in
+      let plain = question_is_plain (message_read s message) asking in
       let now : new.moment ≡ max at (latest_moment sight.view) = made.moment ∙ ap (max at) stands.moment in
       let calls = request_calls s (past_of s sight.view) in
       stands_with s sight message at false true true None old (record new { book = book; collections = collections })
@@ -336,24 +335,24 @@ pub modified : (s : Settings) (sight : Sight) (message : List ℕ) (number : ℕ
 modified s sight message number made old new book requests numbers books stands is =
     let so = is.1 in
     let calls = request_calls s (past_of s sight.view) in
-    let asking : asks_switch (read_controller message) ≡ true = ap asks_switch so.is_read in
+    let asking : asks_switch (message_read s message) ≡ true = ap asks_switch so.is_read in
     requested s sight message made.moment made.asked made.used old new book new.collections requests stands is.0 asking so.sent so.asked so.uses
     (subst (λ (added : List BookCall). BookStands (added ++ book_calls s (past_of s sight.view)) book)
     (ap (λ (n : ℕ). Added made.command made.pieces.items made.priority made.asks n ∷ []) (numbers s.slot calls stands.requests)
-    ∙ added_same made so.flow_mod s (issued calls) so.command so.pieces so.priority so.asks ∙ sym (bookings_of s (issued calls) (read_controller message) so.flow_mod so.is_read))
+    ∙ added_same made so.flow_mod s (issued calls) so.command so.pieces so.priority so.asks ∙ sym (bookings_of s (issued calls) (message_read s message) so.flow_mod so.is_read))
     (books (book_calls s (past_of s sight.view)) (subst (λ (b : Book). BookStands (book_calls s (past_of s sight.view)) b) (sym requests.same_book) stands.book)))
-    (none_begun (kind_asked (read_controller message)) (issued calls) (collection_calls s (past_of s sight.view)) old.collections new.collections (ap (λ (r : Reading). type_sent (kind_asked r)) so.is_read) requests.same_collections stands.collections)
+    (none_begun (kind_asked (message_read s message)) (issued calls) (collection_calls s (past_of s sight.view)) old.collections new.collections (ap (λ (r : Reading). type_sent (kind_asked r)) so.is_read) requests.same_collections stands.collections)
 
 pub sent_out : (s : Settings) (sight : Sight) (item : Item) (at : ℕ) (asked : Asked) (used : Option ℕ) (old new : SliceState) → IsRequested at asked used old new → SliceStands s sight old → IsChange s sight item (SentOut at asked used)
     → SliceStands s (with_item item sight) new
 sent_out s sight (Msg message moment) at asked used old new requests stands is =
     let so = is.1 in
-    let asking : asks_switch (read_controller message) ≡ true = ap asks_switch so.is_read in
+    let asking : asks_switch (message_read s message) ≡ true = ap asks_switch so.is_read in
     let same : at ≡ moment = so.same_moment in
     requested s sight message moment asked used old new new.book new.collections (subst (λ (t : ℕ). IsRequested t asked used old new) same requests) stands is.0 asking so.sent so.same_asked so.uses
     (subst (λ (added : List BookCall). BookStands (added ++ book_calls s (past_of s sight.view)) new.book) (sym (ap (bookings s (issued (request_calls s (past_of s sight.view)))) so.is_read))
     (subst (λ (b : Book). BookStands (book_calls s (past_of s sight.view)) b) (sym requests.same_book) stands.book))
-    (none_begun (kind_asked (read_controller message)) (issued (request_calls s (past_of s sight.view))) (collection_calls s (past_of s sight.view)) old.collections new.collections (ap (λ (r : Reading). type_sent (kind_asked r)) so.is_read) requests.same_collections stands.collections)
+    (none_begun (kind_asked (message_read s message)) (issued (request_calls s (past_of s sight.view))) (collection_calls s (past_of s sight.view)) old.collections new.collections (ap (λ (r : Reading). type_sent (kind_asked r)) so.is_read) requests.same_collections stands.collections)
 sent_out s sight item at asked used old new requests stands is = absurd is
 
 -- ---- what asks for a reply
@@ -389,8 +388,8 @@ pub inquired : (s : Settings) (sight : Sight) (item : Item) (number at : ℕ) (a
 inquired s sight (Msg message moment) number at asked old new collections requests numbers begins stands is =
     let so = is.1 in
     let calls = request_calls s (past_of s sight.view) in
-    requested s sight message moment asked None old new new.book collections (subst (λ (t : ℕ). IsRequested t asked None old new) so.same_moment requests) stands is.0 (inquiry_asks (read_controller message) so.inquires) so.sent so.same_asked so.uses
-    (subst (λ (added : List BookCall). BookStands (added ++ book_calls s (past_of s sight.view)) new.book) (sym (inquiry_books s (issued calls) (read_controller message) so.inquires))
+    requested s sight message moment asked None old new new.book collections (subst (λ (t : ℕ). IsRequested t asked None old new) so.same_moment requests) stands is.0 (inquiry_asks (message_read s message) so.inquires) so.sent so.same_asked so.uses
+    (subst (λ (added : List BookCall). BookStands (added ++ book_calls s (past_of s sight.view)) new.book) (sym (inquiry_books s (issued calls) (message_read s message) so.inquires))
     (subst (λ (b : Book). BookStands (book_calls s (past_of s sight.view)) b) (sym requests.same_book) stands.book))
     (subst (λ (started : List CollectionCall). CollectionsStand (started ++ collection_calls s (past_of s sight.view)) collections)
     (ap₂ (λ (n : ℕ) (a : Asked). begun n a.kind) (numbers s.slot calls stands.requests) so.same_asked)

@@ -26,7 +26,8 @@ use Rattle.slice_words.specs.Pasts.{SendsOut}
 use Rattle.slice_words.specs.Buffers.{HeldPacket}
 use Rattle.flowspace.specs.Options.{first_some, when}
 use Rattle.slice_words.specs.FlowMods.{Ground, packet_at, unknown_buffer, bad_action, too_many_actions, is_too_long, not_permitted, code_given}
-use Rattle.slice_words.specs.PacketOuts.{is_buffered_out, carried_header, is_probe, may_come_by, lies_aside, permitted_out, sent_out_with, packet_out_on, sent_out, names_no_packet, comes_by_another, carries_another, packet_out_size, packet_out_fault}
+use Rattle.flow_facts.specs.PacketOuts.{carried_header, is_probe}
+use Rattle.slice_words.specs.PacketOuts.{is_buffered_out, may_come_by, lies_aside, permitted_out, sent_out_with, packet_out_on, sent_out, names_no_packet, comes_by_another, carries_another, packet_out_size, packet_out_fault}
 use Rattle.slice_words.specs.Alone.{rendered}
 use Rattle.slice_words.specs.Standing.{held_as}
 use Rattle.slice_words.proofs.LoneRules.{same_port, any_alone}

@@ -8,7 +8,6 @@ use Rattle.of10_flow.specs.declared.protocol.TheConstants.{SEND_FLOW_REM}
 use Rattle.of10_flow.specs.Tables.{has_flag}
 use Rattle.of10_port.specs.declared.features.Features.{Features}
 use Rattle.of10_message.specs.declared.controller.FromController.TheVariants as said
-use Rattle.of10_message.specs.Controller.{read_controller}
 use Rattle.flowspace.specs.declared.rules.Rule.{Rule}
 use Rattle.flowspace.specs.Policies.{SwitchView}
 use Rattle.flowmod_expand.specs.Pieces.{pieces_within, writes_of}
@@ -18,7 +17,7 @@ use Rattle.buffer_map.specs.declared.held.Held.{Held}
 use Rattle.flow_book.specs.declared.state.SliceState.{SliceState}
 use Rattle.flow_book.specs.Books.{newcomers_in}
 use Rattle.slice_words.specs.Messages.{Reading, ends_connection, length_wanted, asks_switch, asked_of}
-use Rattle.slice_words.specs.Items.{Settings, Sight, Item, Msg, is_up, miss_send_len, features_in, known_ports}
+use Rattle.slice_words.specs.Items.{Settings, message_read, Sight, Item, Msg, is_up, miss_send_len, features_in, known_ports}
 use Rattle.slice_words.specs.Pasts.{Outgoing, Answer, is_any}
 use Rattle.slice_words.specs.Buffers.{HeldPacket, is_named, held_packets, has_number}
 use Rattle.slice_words.specs.FlowMods.{Ground}
@@ -131,7 +130,7 @@ IsChangeFor patterns held message read a moment (Inquired t asked) = IsInquiry h
 abbrev pub IsChange : Settings → Sight → Item → Change → Type 0
 IsChange s sight (Msg message moment) change =
     (is_up sight.view ≡ true)
-    × IsChangeFor s.patterns (held_packets (past_of s sight.view)) message (read_controller message) (answer_to s sight.view (Msg message moment)) moment change
+    × IsChangeFor s.patterns (held_packets (past_of s sight.view)) message (message_read s message) (answer_to s sight.view (Msg message moment)) moment change
 IsChange s sight item change = ⊥
 
 -- ---- reactions

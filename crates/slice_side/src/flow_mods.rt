@@ -25,7 +25,7 @@ use of10_action::error::{
 };
 use of10_ctl::Frame;
 use of10_flow::FlowMod;
-use of10_flow::protocol::{ADD, CHECK_OVERLAP, DELETE, DELETE_STRICT, EMERG, NO_BUFFER};
+use of10_flow::protocol::{ADD, DELETE_STRICT, NO_BUFFER};
 use of10_match::Match;
 use std::alloc::{AllocError, Global};
 
@@ -43,17 +43,11 @@ pub(crate) enum FlowModOutcome {
     },
 }
 
-fn is_delete(m: &FlowMod) -> bool
-    ensures { result ≡ is_delete m.now }
-{
-    m.command >= DELETE
-}
-
 /// The packet that the flow-mod names; a delete's number is disregarded.
 fn packet_for(state: &SliceState, m: &FlowMod) -> Option<Held>
     ensures { result ≡ held_for state.now m.now }
 {
-    if is_delete(m) {
+    if m.is_delete() {
         return None;
     }
     packet_at(state, m.buffer)
@@ -73,7 +67,7 @@ fn has_packet(state: &SliceState, m: &FlowMod) -> bool
 fn names_another(state: &SliceState, m: &FlowMod) -> bool
     ensures { result ≡ not_held_in state.now m.now }
 {
-    !is_delete(m) && m.buffer != NO_BUFFER && !has_packet(state, m)
+    !m.is_delete() && m.buffer != NO_BUFFER && !has_packet(state, m)
 }
 
 /// The lines that look at the flow-mod and its packet alone: its command, its flags and its buffer.
@@ -83,7 +77,7 @@ fn early_fault(state: &SliceState, m: &FlowMod) -> Option<(u16, u16)>
     if m.command > DELETE_STRICT {
         return Some((FLOW_MOD_FAILED, BAD_COMMAND));
     }
-    if m.flags / EMERG % 2 == 1 {
+    if m.is_emergency() {
         return Some((FLOW_MOD_FAILED, FLOW_MOD_NOT_PERMITTED));
     }
     if names_another(state, m) {
@@ -96,14 +90,14 @@ fn early_fault(state: &SliceState, m: &FlowMod) -> Option<(u16, u16)>
 fn is_outside(m: &FlowMod, pieces: &[Match]) -> bool
     ensures { result ≡ (not (is_delete m.now) && length pieces.now == 0) }
 {
-    !is_delete(m) && pieces.is_empty()
+    !m.is_delete() && pieces.is_empty()
 }
 
 /// Whether it asks to be refused where it overlaps, and does.
 fn is_overlapping(state: &SliceState, m: &FlowMod, pieces: &[Match]) -> bool
     ensures { result ≡ (m.now.command == ADD && has_flag CHECK_OVERLAP m.now && overlaps_in pieces.now m.now.priority state.now.book.booked) }
 {
-    m.command == ADD && m.flags / CHECK_OVERLAP % 2 == 1 && state.book.overlaps(pieces, m.priority)
+    m.command == ADD && m.checks_overlap() && state.book.overlaps(pieces, m.priority)
 }
 
 /// The lines that look at the book.
@@ -131,7 +125,7 @@ fn lists(
     requires { pieces.now ≡ pieces_of around.now.policy.now.rules around.now.slot m.now.pattern }
     ensures { (quota xid : ℕ) → IfOk result (IsListed (ground_at around.now.policy.now.rules around.now.slot around.now.ports.now quota xid around.now.state.now) m.now) }
 {
-    if is_delete(m) {
+    if m.is_delete() {
         return Ok(Listing::Given(no_actions(alloc, pieces)?));
     }
     let actions = m.actions.as_slice();

@@ -8,7 +8,8 @@ ghost use Rattle.of10_model.specs.Inclusion.{any_in_port};
 ghost use Rattle.of10_port.specs.declared.protocol.TheConstants.{NONE, CONTROLLER};
 ghost use Rattle.flowspace.specs.Owners.{has_port};
 ghost use Rattle.flowspace.specs.Rules.{is_written_by};
-ghost use Rattle.slice_words.specs.PacketOuts.{is_buffered_out, carried_header, is_probe, marked, origin_with, permitted_out, sent_out_with, packet_out_size};
+ghost use Rattle.flow_facts.specs.PacketOuts.{carried_header, is_probe};
+ghost use Rattle.slice_words.specs.PacketOuts.{is_buffered_out, marked, origin_with, permitted_out, sent_out_with, packet_out_size};
 ghost use Rattle.flowspace.specs.Options.{first_some};
 ghost use Rattle.slice_side.specs.Reactions.{without_physical, ground_at};
 ghost use Rattle.slice_side.specs.Checking.{packet_kept, number_in, IsChecked, early, MayBeSent, IsPacketOutcome};
@@ -19,7 +20,7 @@ use crate::held::packet_at;
 use crate::ports::floods_for;
 use action_check::{Origin, writes_by_some_port};
 use buffer_map::Held;
-use frame_header::{header_of, probe_trailer};
+use frame_header::{LLDP, header_of, probe_trailer};
 use of10_action::error::{
     BAD_ACTION, BAD_REQUEST, REQUEST_NOT_PERMITTED, TOO_MANY_ACTIONS, UNKNOWN_BUFFER,
 };
@@ -30,9 +31,6 @@ use of10_flow::protocol::NO_BUFFER;
 use of10_match::Header12;
 use of10_port::protocol::{CONTROLLER, NONE};
 use std::alloc::{AllocError, Global};
-
-/// The type of a packet by which a controller finds the links between switches.
-const LLDP: u16 = 0x88cc;
 
 /// The fewest bytes of a probe before its trailer.
 const PROBE_BYTES: usize = 52;

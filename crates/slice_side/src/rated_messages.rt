@@ -22,7 +22,6 @@ use crate::remembering::asked;
 use crate::requests::{barrier, queues, statistics};
 use of10_action::error::{BAD_REQUEST, REQUEST_NOT_PERMITTED};
 use of10_ctl::Frame;
-use of10_flow::protocol::SEND_FLOW_REM;
 use of10_flow::{FlowMod, PacketOut};
 use of10_match::Match;
 use of10_message::FromController;
@@ -45,7 +44,7 @@ fn modification(
         command: m.command,
         pieces,
         priority: m.priority,
-        asks: m.flags / SEND_FLOW_REM % 2 == 1,
+        asks: m.asks_for_removal(),
         used,
     }
 }

@@ -7,10 +7,8 @@ ghost use Rattle.slice_side.specs.Reactions.{IsSoundChange, HasRoom};
 
 use crate::change::{Change, Modification};
 use flow_book::SliceState;
+use slice_words::MOST_NUMBERED;
 use std::alloc::AllocError;
-
-/// As many requests as a slice may make; each is an event of its own, of which there are fewer.
-const REQUESTS: u64 = 1 << 62;
 
 /// Makes the room that a flow-mod needs in the book.
 fn reserve_for(state: &mut SliceState, m: &Modification) -> Result<(), AllocError>
@@ -32,7 +30,7 @@ fn reserve_for(state: &mut SliceState, m: &Modification) -> Result<(), AllocErro
 fn reserve_request(state: &SliceState) -> Result<(), AllocError>
     ensures { OnOk result (state.now.xids.issued < 2 ^ 62) }
 {
-    if state.xids.next().0 >= REQUESTS {
+    if state.xids.next().0 >= MOST_NUMBERED {
         return Err(AllocError);
     }
     Ok(())

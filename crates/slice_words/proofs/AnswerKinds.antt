@@ -12,12 +12,11 @@ use Rattle.of10_message.specs.declared.controller.FromController.{FromController
 use Rattle.of10_message.specs.declared.controller.FromController.TheVariants as said
 use Rattle.of10_message.specs.declared.fault.Unread.TheVariants.{BadLength, NoCommonVersion, BadVersion, BadType, BadForm}
 use Rattle.of10_message.specs.Heads.{xid_of}
-use Rattle.of10_message.specs.Controller.{read_controller}
 use Rattle.port_view.specs.SlicePorts.{features_with}
 use Rattle.stats_filter.specs.Asking.{asked_as}
 use Rattle.stats_filter.specs.Replies.{table_reply}
 use Rattle.slice_words.specs.Messages.{Reading, ends_connection, is_dismissing}
-use Rattle.slice_words.specs.Items.{Settings, Item, miss_send_len, features_in, known_ports, is_own_port}
+use Rattle.slice_words.specs.Items.{Settings, message_read, Item, miss_send_len, features_in, known_ports, is_own_port}
 use Rattle.slice_words.specs.Pasts.{ForStatistics, Answer, Past, no_answer, told as answered, dismissal, forwarded}
 use Rattle.slice_words.specs.FlowMods.{ground_of, flow_mod_fault, sent_on, not_permitted}
 use Rattle.slice_words.specs.PacketOuts.{packet_out_fault, sent_out}
@@ -30,15 +29,15 @@ pub record HoldsOfEach (P : Bool → Answer → Type 0) (s : Settings) (view : L
   pub old : P true (dismissal (error_of (xid_of message) no_common_version.0 no_common_version.1 [] ∷ []))
   pub nothing : P false no_answer
   pub refuses : (fault : ℕ × ℕ) → P false (refused fault message)
-  pub echoes : (body : List ℕ) → read_controller message ≡ Ok (said.EchoRequest body) → P false (answered (echo_reply_to (xid_of message) body ∷ []))
+  pub echoes : (body : List ℕ) → message_read s message ≡ Ok (said.EchoRequest body) → P false (answered (echo_reply_to (xid_of message) body ∷ []))
   pub tells_features : (features : Features) → P false (answered (spell_features (features_with features (known_ports view)) (xid_of message) ∷ []))
   pub tells_configuration : P false (answered (config_told (miss_send_len view) message ∷ []))
-  pub forwards : (m : FlowMod) → read_controller message ≡ Ok (said.FlowMod m) → flow_mod_fault (ground_of s view past) m ≡ None → P false (forwarded (sent_on (ground_of s view past) m))
-  pub sends_out : (m : PacketOut) → read_controller message ≡ Ok (said.PacketOut m) → packet_out_fault (ground_of s view past) m ≡ None → P false (forwarded (sent_out (ground_of s view past) m))
+  pub forwards : (m : FlowMod) → message_read s message ≡ Ok (said.FlowMod m) → flow_mod_fault (ground_of s view past) m ≡ None → P false (forwarded (sent_on (ground_of s view past) m))
+  pub sends_out : (m : PacketOut) → message_read s message ≡ Ok (said.PacketOut m) → packet_out_fault (ground_of s view past) m ≡ None → P false (forwarded (sent_out (ground_of s view past) m))
   pub tells_table : P false (answered (table_reply (length (ground_of s view past).booked) s.quota (xid_of message) ∷ []))
-  pub asks_statistics : (request asked : StatsRequest) → read_controller message ≡ Ok (said.StatsRequest request) → may_ask (ground_of s view past) request ≡ true → asked_as request ≡ Some asked → P false (asking (ground_of s view past) (ForStatistics asked))
-  pub asks_barrier : read_controller message ≡ Ok said.BarrierRequest → P false (barrier_asked (ground_of s view past))
-  pub asks_queues : (queues : QueuesQuestion) → read_controller message ≡ Ok (said.QueueGetConfigRequest queues) → is_own_port s.slot s.patterns queues.port ≡ true → P false (queues_asked (ground_of s view past) queues)
+  pub asks_statistics : (request asked : StatsRequest) → message_read s message ≡ Ok (said.StatsRequest request) → may_ask (ground_of s view past) request ≡ true → asked_as request ≡ Some asked → P false (asking (ground_of s view past) (ForStatistics asked))
+  pub asks_barrier : message_read s message ≡ Ok said.BarrierRequest → P false (barrier_asked (ground_of s view past))
+  pub asks_queues : (queues : QueuesQuestion) → message_read s message ≡ Ok (said.QueueGetConfigRequest queues) → is_own_port s.slot s.patterns queues.port ≡ true → P false (queues_asked (ground_of s view past) queues)
 
 features_holds : (P : Bool → Answer → Type 0) (s : Settings) (view : List Item) (past : List Past) (message : List ℕ) (found : Option Features) → HoldsOfEach P s view past message
     → P false (elim found [ None ↦ no_answer | Some features ↦ answered (spell_features (features_with features (known_ports view)) (xid_of message) ∷ []) ])
@@ -46,37 +45,37 @@ features_holds P s view past message None each = each.nothing
 features_holds P s view past message (Some features) each = each.tells_features features
 
 flow_mod_holds : (P : Bool → Answer → Type 0) (s : Settings) (view : List Item) (past : List Past) (message : List ℕ) (m : FlowMod) (fault : Option (ℕ × ℕ)) → HoldsOfEach P s view past message
-    → read_controller message ≡ Ok (said.FlowMod m) → flow_mod_fault (ground_of s view past) m ≡ fault
+    → message_read s message ≡ Ok (said.FlowMod m) → flow_mod_fault (ground_of s view past) m ≡ fault
     → P false (elim fault [ Some found ↦ refused found message | None ↦ forwarded (sent_on (ground_of s view past) m) ])
 flow_mod_holds P s view past message m None each read is = each.forwards m read is
 flow_mod_holds P s view past message m (Some fault) each read is = each.refuses fault
 
 packet_out_holds : (P : Bool → Answer → Type 0) (s : Settings) (view : List Item) (past : List Past) (message : List ℕ) (m : PacketOut) (fault : Option (ℕ × ℕ)) → HoldsOfEach P s view past message
-    → read_controller message ≡ Ok (said.PacketOut m) → packet_out_fault (ground_of s view past) m ≡ fault
+    → message_read s message ≡ Ok (said.PacketOut m) → packet_out_fault (ground_of s view past) m ≡ fault
     → P false (elim fault [ Some found ↦ refused found message | None ↦ forwarded (sent_out (ground_of s view past) m) ])
 packet_out_holds P s view past message m None each read is = each.sends_out m read is
 packet_out_holds P s view past message m (Some fault) each read is = each.refuses fault
 
 asked_holds : (P : Bool → Answer → Type 0) (s : Settings) (view : List Item) (past : List Past) (message : List ℕ) (request : StatsRequest) (asked : Option StatsRequest) → HoldsOfEach P s view past message
-    → read_controller message ≡ Ok (said.StatsRequest request) → may_ask (ground_of s view past) request ≡ true → asked_as request ≡ asked
+    → message_read s message ≡ Ok (said.StatsRequest request) → may_ask (ground_of s view past) request ≡ true → asked_as request ≡ asked
     → P false (elim asked [ None ↦ answered (table_reply (length (ground_of s view past).booked) s.quota (xid_of message) ∷ []) | Some sent ↦ asking (ground_of s view past) (ForStatistics sent) ])
 asked_holds P s view past message request None each read may is = each.tells_table
 asked_holds P s view past message request (Some asked) each read may is = each.asks_statistics request asked read may is
 
 statistics_holds : (P : Bool → Answer → Type 0) (s : Settings) (view : List Item) (past : List Past) (message : List ℕ) (request : StatsRequest) (may : Bool) → HoldsOfEach P s view past message
-    → read_controller message ≡ Ok (said.StatsRequest request) → may_ask (ground_of s view past) request ≡ may
+    → message_read s message ≡ Ok (said.StatsRequest request) → may_ask (ground_of s view past) request ≡ may
     → P false (if may then statistics_asked (ground_of s view past) request message else refused not_permitted message)
 statistics_holds P s view past message request true each read is = asked_holds P s view past message request (asked_as request) each read is refl
 statistics_holds P s view past message request false each read is = each.refuses not_permitted
 
 queues_holds : (P : Bool → Answer → Type 0) (s : Settings) (view : List Item) (past : List Past) (message : List ℕ) (queues : QueuesQuestion) (own : Bool) → HoldsOfEach P s view past message
-    → read_controller message ≡ Ok (said.QueueGetConfigRequest queues) → is_own_port s.slot s.patterns queues.port ≡ own
+    → message_read s message ≡ Ok (said.QueueGetConfigRequest queues) → is_own_port s.slot s.patterns queues.port ≡ own
     → P false (if own then queues_asked (ground_of s view past) queues else refused not_permitted message)
 queues_holds P s view past message queues true each read is = each.asks_queues queues read is
 queues_holds P s view past message queues false each read is = each.refuses not_permitted
 
 forwarded_holds : (P : Bool → Answer → Type 0) (s : Settings) (view : List Item) (past : List Past) (message : List ℕ) (asked : FromController) → HoldsOfEach P s view past message
-    → read_controller message ≡ Ok asked → P false (forwarded_answer s view past asked message)
+    → message_read s message ≡ Ok asked → P false (forwarded_answer s view past asked message)
 forwarded_holds P s view past message said.Hello each read = each.nothing
 forwarded_holds P s view past message said.Error each read = each.nothing
 forwarded_holds P s view past message (said.EchoRequest body) each read = each.nothing
@@ -93,12 +92,12 @@ forwarded_holds P s view past message said.BarrierRequest each read = each.asks_
 forwarded_holds P s view past message (said.QueueGetConfigRequest queues) each read = queues_holds P s view past message queues (is_own_port s.slot s.patterns queues.port) each read refl
 
 rated_holds : (P : Bool → Answer → Type 0) (s : Settings) (view : List Item) (past : List Past) (moment : ℕ) (message : List ℕ) (asked : FromController) → HoldsOfEach P s view past message
-    → read_controller message ≡ Ok asked → P false (rated_answer s view past moment asked message)
+    → message_read s message ≡ Ok asked → P false (rated_answer s view past moment asked message)
 rated_holds P s view past moment message asked each read =
     either (P false) (keeps_rate s view past moment) _ _ (forwarded_holds P s view past message asked each read) (each.refuses not_permitted)
 
 read_holds : (P : Bool → Answer → Type 0) (s : Settings) (view : List Item) (past : List Past) (moment : ℕ) (message : List ℕ) (asked : FromController) → HoldsOfEach P s view past message
-    → read_controller message ≡ Ok asked → P false (read_answer s view past moment asked message)
+    → message_read s message ≡ Ok asked → P false (read_answer s view past moment asked message)
 unfolding read_answer
 read_holds P s view past moment message said.Hello each read = each.nothing
 read_holds P s view past moment message said.Error each read = each.nothing
@@ -116,7 +115,7 @@ read_holds P s view past moment message said.BarrierRequest each read = rated_ho
 read_holds P s view past moment message (said.QueueGetConfigRequest queues) each read = rated_holds P s view past moment message (said.QueueGetConfigRequest queues) each read
 
 by_reading : (P : Bool → Answer → Type 0) (s : Settings) (view : List Item) (past : List Past) (moment : ℕ) (message : List ℕ) (found : Reading) → HoldsOfEach P s view past message
-    → read_controller message ≡ found
+    → message_read s message ≡ found
     → P (ends_connection found) (elim found [ Err fault ↦ unread_answer fault message | Ok asked ↦ read_answer s view past moment asked message ])
 by_reading P s view past moment message (Ok asked) each read = read_holds P s view past moment message asked each read
 by_reading P s view past moment message (Err BadLength) each read = each.bad
@@ -127,4 +126,4 @@ by_reading P s view past moment message (Err (BadForm fault)) each read = each.r
 
 pub message_holds : (P : Bool → Answer → Type 0) (s : Settings) (view : List Item) (past : List Past) (moment : ℕ) (message : List ℕ) → HoldsOfEach P s view past message
     → P (is_dismissing message) (message_answer s view past moment message)
-message_holds P s view past moment message each = by_reading P s view past moment message (read_controller message) each refl
+message_holds P s view past moment message each = by_reading P s view past moment message (message_read s message) each refl

@@ -22,9 +22,8 @@ use Rattle.stats_filter.specs.Keeping.{entries_in}
 use Rattle.stats_filter.specs.Replies.{page_size}
 use Rattle.stats_filter.specs.Laws.{FitPages}
 use Rattle.stats_filter.proofs.Rows.{entries_in-concat}
-use Rattle.of10_message.specs.Controller.{read_controller}
 use Rattle.slice_words.specs.Messages.{is_dismissing, kind_asked}
-use Rattle.slice_words.specs.Items.{Settings, Item, Opened, Up, Down, Msg, Lost, Handed, Removed, Status, Fault, Barrier, Queues, Entry, Last, End}
+use Rattle.slice_words.specs.Items.{Settings, message_read, Item, Opened, Up, Down, Msg, Lost, Handed, Removed, Status, Fault, Barrier, Queues, Entry, Last, End}
 use Rattle.slice_words.specs.Pasts.{Answer, is_any}
 use Rattle.slice_words.specs.Statistics.{asks_statistics, collects, begun, entry_call, entry_kept, finished}
 use Rattle.slice_words.specs.Alone.{answer_to}
@@ -162,7 +161,7 @@ own_collected s requests calls Down answer whole own = own_end requests calls ow
 own_collected s requests calls (Msg message moment) answer whole own =
     let P : List CollectionCall → Type 0 = λ more. AreOwn requests (more ++ calls) in
     either P (is_dismissing message) _ _ (own_end requests calls own)
-    (either P (is_any answer.to_switch) _ _ (own_begun requests (issued requests) (kind_asked (read_controller message)) calls own) own)
+    (either P (is_any answer.to_switch) _ _ (own_begun requests (issued requests) (kind_asked (message_read s message)) calls own) own)
 own_collected s requests calls (Fault x class code pair) answer whole own = own_finished requests (request_for s x requests) calls own
 own_collected s requests calls (Entry x kind entry) answer whole own = own_kept s.slot (physical_of s.slot x) requests (request_for s x requests) kind entry calls refl whole.0 whole.1 own
 own_collected s requests calls (Last x kind) answer whole own =

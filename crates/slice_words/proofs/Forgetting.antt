@@ -3,9 +3,8 @@ use Rattle.std.proofs.Common.{◌≡◌, ℕ, ◌==◌, Bool, true, false, if◌
 use Rattle.std.specs.Prelude.{find}
 use Rattle.xid_map.specs.declared.asked.Issued.{Issued}
 use Rattle.xid_map.specs.Requests.{RequestCall, Issue, MarkDone, Forget, with_mark, with_error, with_reply, requests, remembered, found, physical_of}
-use Rattle.of10_message.specs.Controller.{read_controller}
 use Rattle.slice_words.specs.Messages.{is_dismissing, asked_of}
-use Rattle.slice_words.specs.Items.{Settings, Item, Opened, Up, Down, Msg, Lost, Handed, Removed, Status, Fault, Barrier, Queues, Entry, Last, End, is_up}
+use Rattle.slice_words.specs.Items.{Settings, message_read, Item, Opened, Up, Down, Msg, Lost, Handed, Removed, Status, Fault, Barrier, Queues, Entry, Last, End, is_up}
 use Rattle.slice_words.specs.Pasts.{Answer, is_any, no_answer}
 use Rattle.slice_words.specs.Answers.{answer_up}
 use Rattle.slice_words.specs.Alone.{answer_to}
@@ -29,11 +28,11 @@ reply_none answer (Some request) calls none = done_none (is_any answer.to_slice)
 
 -- what follows from a message of a slice that isn't up, or that ends its connection
 none_asked : (s : Settings) (view : List Item) (message : List ℕ) (moment : ℕ) (up : Bool) (calls : List RequestCall) → up ≡ false → requests calls ≡ []
-    → requests ((if is_any (if up then answer_up s view (past_of s view) (Msg message moment) else no_answer).to_switch then Issue (asked_of (read_controller message) message) ∷ [] else []) ++ calls) ≡ []
+    → requests ((if is_any (if up then answer_up s view (past_of s view) (Msg message moment) else no_answer).to_switch then Issue (asked_of (message_read s message) message) ∷ [] else []) ++ calls) ≡ []
 none_asked s view message moment up calls down none = rw down none
 
 by_end : (s : Settings) (view : List Item) (message : List ℕ) (moment : ℕ) (calls : List RequestCall) (ends : Bool) → (if ends then false else is_up view) ≡ false → (is_up view ≡ false → requests calls ≡ [])
-    → requests ((if ends then Forget ∷ [] else if is_any (if is_up view then answer_up s view (past_of s view) (Msg message moment) else no_answer).to_switch then Issue (asked_of (read_controller message) message) ∷ [] else []) ++ calls) ≡ []
+    → requests ((if ends then Forget ∷ [] else if is_any (if is_up view then answer_up s view (past_of s view) (Msg message moment) else no_answer).to_switch then Issue (asked_of (message_read s message) message) ∷ [] else []) ++ calls) ≡ []
 unfolding requests
 by_end s view message moment calls true is none = refl
 by_end s view message moment calls false is none = none_asked s view message moment (is_up view) calls is (none is)

@@ -18,7 +18,6 @@ use Rattle.of10_message.specs.declared.config.SwitchConfig.{SwitchConfig}
 use Rattle.of10_message.specs.declared.fault.Unread.{Unread}
 use Rattle.of10_message.specs.declared.fault.Unread.TheVariants.{BadLength, NoCommonVersion, BadVersion, BadType, BadForm}
 use Rattle.of10_message.specs.Heads.{xid_of}
-use Rattle.of10_message.specs.Controller.{read_controller}
 use Rattle.of10_message.specs.declared.queues.QueuesQuestion.{QueuesQuestion}
 use Rattle.of10_message.specs.Configs.{spell_config_reply}
 use Rattle.port_view.specs.SlicePorts.{features_with}
@@ -27,7 +26,7 @@ use Rattle.xid_map.specs.declared.asked.Issued.{Issued}
 use Rattle.flow_book.specs.declared.booked.Booked.{Booked}
 use Rattle.flow_book.specs.Books.{booking}
 use Rattle.slice_words.specs.Messages.{quoted}
-use Rattle.slice_words.specs.Items.{Settings, Share, Writer, Reader, Probe, Packet, Item, Up, Msg, Handed, Removed, Status, Fault, Barrier, Queues, Last, is_up, miss_send_len, latest_moment, buffered_count, features_in, known_ports, is_own_port}
+use Rattle.slice_words.specs.Items.{Settings, message_read, Share, Writer, Reader, Probe, Packet, Item, Up, Msg, Handed, Removed, Status, Fault, Barrier, Queues, Last, is_up, miss_send_len, latest_moment, buffered_count, features_in, known_ports, is_own_port}
 use Rattle.slice_words.specs.Pasts.{Answer, Past, no_answer, told, dismissal, forwarded}
 use Rattle.slice_words.specs.Statistics.{barrier_told, queues_told, statistics_told}
 use Rattle.slice_words.specs.Calls.{questions, request_calls, request_for, collection_calls, book_calls}
@@ -142,7 +141,7 @@ read_answer s view past moment asked message = rated_answer s view past moment a
 -- a message of a controller, by what is read of it (this proxy's own rule)
 abbrev pub message_answer : Settings → List Item → List Past → ℕ → List ℕ → Answer
 message_answer s view past moment message =
-    elim (read_controller message) [ Err fault ↦ unread_answer fault message | Ok read ↦ read_answer s view past moment read message ]
+    elim (message_read s message) [ Err fault ↦ unread_answer fault message | Ok read ↦ read_answer s view past moment read message ]
 
 -- ---- packets
 

@@ -4,7 +4,6 @@ use Rattle.of10_model.specs.declared.pattern.Pattern.{Pattern}
 use Rattle.of10_flow.specs.declared.protocol.TheConstants.{SEND_FLOW_REM}
 use Rattle.of10_flow.specs.Tables.{has_flag}
 use Rattle.of10_message.specs.declared.controller.FromController.TheVariants as said
-use Rattle.of10_message.specs.Controller.{read_controller}
 use Rattle.flowmod_expand.specs.Pieces.{pieces_within}
 use Rattle.xid_map.specs.declared.asked.Issued.{Issued}
 use Rattle.xid_map.specs.Requests.{RequestCall, Issue, MarkError, MarkDone, Forget, issued, found, physical_of}
@@ -12,7 +11,7 @@ use Rattle.xid_map.specs.Collections.{CollectionCall, EndAll}
 use Rattle.flow_book.specs.Books.{BookCall}
 use Rattle.flow_book.specs.Books as books
 use Rattle.slice_words.specs.Messages.{Reading, is_dismissing, is_question, kind_asked, asked_of}
-use Rattle.slice_words.specs.Items.{Settings, Item, Up, Down, Msg, Removed, Fault, Barrier, Queues, Entry, Last, is_up, latest_moment}
+use Rattle.slice_words.specs.Items.{Settings, message_read, Item, Up, Down, Msg, Removed, Fault, Barrier, Queues, Entry, Last, is_up, latest_moment}
 use Rattle.slice_words.specs.Pasts.{Answer, Past, view_in, is_any}
 use Rattle.slice_words.specs.Statistics.{begun, entry_kept, finished}
 
@@ -37,7 +36,7 @@ abbrev pub requests_by : Settings → List RequestCall → Item → Answer → L
 requests_by s before Up answer = Forget ∷ []
 requests_by s before Down answer = Forget ∷ []
 requests_by s before (Msg message moment) answer =
-    if is_dismissing message then Forget ∷ [] else if is_any answer.to_switch then Issue (asked_of (read_controller message) message) ∷ [] else []
+    if is_dismissing message then Forget ∷ [] else if is_any answer.to_switch then Issue (asked_of (message_read s message) message) ∷ [] else []
 requests_by s before (Fault x class code pair) answer = error_marks (request_for s x before)
 requests_by s before (Barrier x) answer = reply_marks answer (request_for s x before)
 requests_by s before (Queues x body) answer = reply_marks answer (request_for s x before)
@@ -56,7 +55,7 @@ abbrev pub collected_by : Settings → List RequestCall → List CollectionCall 
 collected_by s requests before Up answer = EndAll ∷ []
 collected_by s requests before Down answer = EndAll ∷ []
 collected_by s requests before (Msg message moment) answer =
-    if is_dismissing message then EndAll ∷ [] else if is_any answer.to_switch then begun (issued requests) (kind_asked (read_controller message)) else []
+    if is_dismissing message then EndAll ∷ [] else if is_any answer.to_switch then begun (issued requests) (kind_asked (message_read s message)) else []
 collected_by s requests before (Fault x class code pair) answer = finished (request_for s x requests)
 collected_by s requests before (Entry x kind entry) answer = entry_kept (request_for s x requests) kind entry before
 collected_by s requests before (Last x kind) answer = if is_any answer.to_slice then finished (request_for s x requests) else []
@@ -93,7 +92,7 @@ failure request pair = []
 
 -- a flow-mod that is sent on, an entry that is gone, and an error that carries a pair
 abbrev pub booked_by : Settings → List RequestCall → Item → Answer → List BookCall
-booked_by s before (Msg message moment) answer = if is_any answer.to_switch then bookings s (issued before) (read_controller message) else []
+booked_by s before (Msg message moment) answer = if is_any answer.to_switch then bookings s (issued before) (message_read s message) else []
 booked_by s before (Removed entry) answer = books.Removed entry.pattern entry.priority ∷ []
 booked_by s before (Fault x class code pair) answer = failure (request_for s x before) pair
 booked_by s before item answer = []

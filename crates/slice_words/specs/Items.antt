@@ -7,10 +7,11 @@ use Rattle.of10_port.specs.declared.status.PortStatus.{PortStatus}
 use Rattle.flowspace.specs.declared.slices.Slice.{Slice}
 use Rattle.flowspace.specs.declared.rules.Rule.{Rule}
 use Rattle.flowspace.specs.Owners.{has_port}
+use Rattle.of10_message.specs.Controller.{read_controller}
 use Rattle.port_view.specs.KnownPorts.{changed_plainly}
 use Rattle.rate_bucket.specs.Rates.{latest as greatest}
 use Rattle.flowmod_expand.specs.Pieces.{writes_of}
-use Rattle.slice_words.specs.Messages.{is_dismissing, length_set}
+use Rattle.slice_words.specs.Messages.{Reading, is_dismissing, length_set}
 
 -- ---- settings
 
@@ -29,6 +30,10 @@ settings_of slice slot rules = record { slot = slot; rate = slice.rate; burst = 
 -- a rule by which a slice alone writes a match
 abbrev pub lone_rule : ℕ → Pattern → Rule
 lone_rule slot m = record { switch = None; priority = 0; pattern = m; writer = Some slot; readers = 0 }
+
+-- what is read of a message of the slice's controller. What is quoted of one, and its transaction id, are of the message as it came
+abbrev pub message_read : Settings → List ℕ → Reading
+message_read s message = read_controller message
 
 -- the rules of a proxy that serves the slice alone
 abbrev pub lone_rules : ℕ → List Pattern → List Rule

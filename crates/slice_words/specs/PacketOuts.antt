@@ -10,8 +10,8 @@ use Rattle.of10_action.specs.Reading.{list_given}
 use Rattle.of10_port.specs.declared.protocol.TheConstants.{NONE, CONTROLLER}
 use Rattle.of10_flow.specs.declared.protocol.TheConstants.{NO_BUFFER}
 use Rattle.of10_flow.specs.declared.packet_out.PacketOut.{PacketOut}
-use Rattle.frame_header.specs.Headers.{header_of_packet}
 use Rattle.frame_header.specs.Probes.{trailer}
+use Rattle.flow_facts.specs.PacketOuts.{carried_header, is_probe}
 use Rattle.action_check.specs.declared.origin.Origin.{Origin}
 use Rattle.action_check.specs.declared.origin.Origin.TheVariants as origins
 use Rattle.action_check.specs.Permitted.{permitted}
@@ -27,14 +27,6 @@ use Rattle.slice_words.specs.FlowMods.{Ground, packet_at, unknown_buffer, bad_ac
 -- it names a packet that the switch has
 abbrev pub is_buffered_out : PacketOut → Bool
 is_buffered_out m = not (m.buffer == NO_BUFFER)
-
--- the header of the packet that it carries itself
-abbrev pub carried_header : PacketOut → Header
-carried_header m = header_of_packet m.in_port m.payload
-
--- a probe carries a packet of LLDP, by which a controller finds the links between switches
-abbrev pub is_probe : PacketOut → Bool
-is_probe m = m.buffer == NO_BUFFER && (carried_header m).dl_type == 0x88cc
 
 -- a probe's packet is filled with zero bytes to 52 bytes, and the slice's mark follows
 abbrev pub marked : ℕ → List ℕ → List ℕ

@@ -3,3 +3,6 @@
 #![tactic(auto)]
 
 pub mod laws;
+mod limits;
+
+pub use limits::MOST_NUMBERED;

@@ -3,10 +3,10 @@
 #![tactic(auto)]
 
 mod asking;
-mod cutting;
 mod keeping;
 pub mod laws;
+mod slice_replies;
 
 pub use asking::{ask, type_sent};
-pub use cutting::{aggregate, replies, table_reply};
 pub use keeping::keep;
+pub use slice_replies::{PAGE, aggregate, replies, table_reply};

@@ -35,7 +35,7 @@ use Rattle.desk_words.specs.Histories.{is_slot, settings_at, SliceSide, removed_
 use Rattle.switch_side.specs.declared.change.Change.TheVariants.{Released}
 use Rattle.switch_side.specs.declared.dispatch.Dispatch.{Dispatch}
 use Rattle.switch_side.specs.Dispatches.{AllStand}
-use Rattle.switch_side.specs.Carrying.{carried, CallsOf, AllCalled, Turn, turning, while_up, removal_turn, owner_turn, removed_turn, failure_turn, request_turn, error_turn}
+use Rattle.switch_side.specs.Carrying.{carried, CallsOf, AllCalled, Turn, turning, while_up, removal_turn, owner_turn, removed_turn, failure_turn, request_turn, error_turn, request_seen}
 use Rattle.switch_side.proofs.MessageTypes.{items_of_said}
 use Rattle.switch_side.proofs.Owning.{is_owner}
 use Rattle.switch_side.proofs.Standing.{fault_stands}
@@ -247,18 +247,22 @@ pub owner_found : (called : ℕ → CallsOf) (states : List SliceState) (slot : 
 owner_found called states slot state entry b r there is ok = rw (there, sym is) ok
 
 pub request_found : (called : ℕ → CallsOf) (states : List SliceState) (xid slot : ℕ) (state : SliceState) (error : ErrorMessage) (request : Issued) (r : Result Dispatch AllocError)
-    → slot ≡ xid / 2 ^ 24 → slice_get states slot ≡ Some state → Some request ≡ found slot xid (called slot).requests
+    → slot ≡ xid / 2 ^ 24 → slice_get states slot ≡ Some state → Some request ≡ request_seen called states xid
     → IfOk r (λ d. carried d ≡ turning (Some (failure_turn xid error slot state request)))
     → IfOk r (λ d. carried d ≡ turning (error_turn called states xid error))
 request_found called states xid slot state error request r top there is ok =
-    subst (λ (n : ℕ). IfOk r (λ d. carried d ≡ turning (option_and_then (λ state. request_turn (called n) xid error n state) (slice_get states n)))) top
-    (rw (there, sym is) ok)
+    let calls : Some request ≡ found (xid / 2 ^ 24) xid (called (xid / 2 ^ 24)).requests = rw (subst (λ (n : ℕ). slice_get states n ≡ Some state) top there) at is in
+    rw (subst (λ (n : ℕ). slice_get states n ≡ Some state) top there, ← calls)
+    (subst (λ (n : ℕ). IfOk r (λ d. carried d ≡ turning (Some (failure_turn xid error n state request)))) top ok)
 
 -- no request is found
-pub request_none : (called : ℕ → CallsOf) (states : List SliceState) (xid slot : ℕ) (state : SliceState) (error : ErrorMessage) → slot ≡ xid / 2 ^ 24 → slice_get states slot ≡ Some state → None ≡ found slot xid (called slot).requests
-    → None ≡ error_turn called states xid error
-request_none called states xid slot state error top there is =
-    subst (λ (n : ℕ). None ≡ option_and_then (λ state. request_turn (called n) xid error n state) (slice_get states n)) top (rw (there, sym is) refl)
+none_sought : (called : CallsOf) (xid : ℕ) (error : ErrorMessage) (top : ℕ) (given : Option SliceState) → None ≡ option_and_then (λ state. found top xid called.requests) given
+    → None ≡ option_and_then (λ state. request_turn called xid error top state) given
+none_sought called xid error top None is = refl
+none_sought called xid error top (Some state) is = ap (option_map (failure_turn xid error top state)) is
+
+pub request_none : (called : ℕ → CallsOf) (states : List SliceState) (xid : ℕ) (error : ErrorMessage) → None ≡ request_seen called states xid → None ≡ error_turn called states xid error
+request_none called states xid error is = none_sought (called (xid / 2 ^ 24)) xid error (xid / 2 ^ 24) (slice_get states (xid / 2 ^ 24)) is
 
 pub removed_found : (called : ℕ → CallsOf) (rules : List Rule) (states : List SliceState) (slot : ℕ) (entry : FlowRemoved) (r : Result Dispatch AllocError) → Some slot ≡ owner_of_match rules entry.pattern
     → IfOk r (λ d. carried d ≡ turning (owner_turn called states entry (Some slot))) → IfOk r (λ d. carried d ≡ turning (removed_turn called rules states entry))

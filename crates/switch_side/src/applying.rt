@@ -15,12 +15,10 @@ use crate::change::Change;
 use crate::collecting::add_all;
 use flow_book::{FlowBook, SliceState};
 use of10_match::{Header12, Match};
+use slice_words::MOST_NUMBERED;
 use std::alloc::{AllocError, Global};
 use std::mem;
 use xid_map::AskKind;
-
-/// How many packets a slice can be given. A desk sees fewer events.
-const GIVEN: u64 = 1 << 62;
 
 /// Takes memory for so many more bytes of what the request of the number collects.
 fn make_space(state: &mut SliceState, number: u64, bytes: usize) -> Result<(), AllocError>
@@ -40,7 +38,7 @@ fn make_room(state: &mut SliceState, change: &Change) -> Result<(), AllocError>
 {
     match change {
         Change::Given { .. } => {
-            if state.buffers.count() >= GIVEN {
+            if state.buffers.count() >= MOST_NUMBERED {
                 return Err(AllocError);
             }
             Ok(())

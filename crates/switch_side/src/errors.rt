@@ -9,12 +9,12 @@ ghost use Rattle.switch_side.specs.Carrying.{carried, CallsOf, AllCalled, while_
 
 use crate::change::Change;
 use crate::dispatch::{Dispatch, one};
-use crate::requests::slot_of;
+use crate::requests::{SeenRequest, request_seen};
 use flow_book::SliceState;
 use of10_ctl::{Frame, error_frame};
 use of10_message::{ErrorView, pair_in};
 use std::alloc::{AllocError, Global};
-use xid_map::{Asked, Issued};
+use xid_map::Asked;
 
 /// The error for a slice's request, under the slice's own transaction id and with the request's first bytes.
 fn own_error(alloc: Global, asked: &Asked, error: &ErrorView<'_>) -> Result<Frame, AllocError>
@@ -33,39 +33,35 @@ fn own_error(alloc: Global, asked: &Asked, error: &ErrorView<'_>) -> Result<Fram
 /// What a slice that is up is told, where it is the first error for the request.
 fn told(
     alloc: Global,
-    state: &SliceState,
-    request: &Issued,
+    seen: &SeenRequest<'_>,
     error: &ErrorView<'_>,
 ) -> Result<Vec<Frame>, AllocError>
-    ensures { IfOk result (λ v. v.items ≡ while_up state.now.up (error_told (Some request.now) error.now.class error.now.code)) }
+    ensures { IfOk result (λ v. v.items ≡ while_up seen.now.state.now.up (error_told (Some seen.now.request) error.now.class error.now.code)) }
 {
-    if !state.up || request.failed {
+    if !seen.state.up || seen.request.failed {
         return Ok(Vec::new(alloc));
     }
-    one(alloc, own_error(alloc, &request.asked, error)?)
+    one(alloc, own_error(alloc, &seen.request.asked, error)?)
 }
 
 /// The request has failed, and with it the pair that the error carries.
 fn failed(
     alloc: Global,
     xid: u32,
-    slot: u8,
-    state: &SliceState,
-    request: &Issued,
+    seen: &SeenRequest<'_>,
     error: &ErrorView<'_>,
 ) -> Result<Dispatch, AllocError>
-    ensures { IfOk result (λ d. carried d ≡ turning (Some (failure_turn xid (error_of_view error.now) slot state.now request.now))) }
+    ensures { IfOk result (λ d. carried d ≡ turning (Some (failure_turn xid (error_of_view error.now) seen.now.slot seen.now.state.now seen.now.request))) }
 {
-    let messages = told(alloc, state, request, error)?;
+    let messages = told(alloc, seen, error)?;
     let change = Change::Failed {
-        number: request.number,
+        number: seen.request.number,
         pair: pair_in(xid, error.cause),
     };
-    Dispatch::turning(alloc, slot, messages, change)
+    Dispatch::turning(alloc, seen.slot, messages, change)
 }
 
-/// What follows from an ERROR under a transaction id: the slice whose slot is the id's top byte is asked for the
-/// request. From one for no request that is remembered nothing follows.
+/// What follows from an ERROR under a transaction id; from one for no request that is remembered nothing.
 pub(crate) fn error(
     alloc: Global,
     states: &[SliceState],
@@ -74,12 +70,8 @@ pub(crate) fn error(
 ) -> Result<Dispatch, AllocError>
     ensures { (called : ℕ → CallsOf) → AllCalled called states.now → IfOk result (λ d. carried d ≡ turning (error_turn called states.now xid (error_of_view error.now))) }
 {
-    let slot = slot_of(xid);
-    let Some(state) = states.get(usize::from(slot)) else {
-        return Ok(Dispatch::nothing(alloc));
-    };
-    match state.xids.find(xid) {
+    match request_seen(states, xid) {
         None => Ok(Dispatch::nothing(alloc)),
-        Some(request) => failed(alloc, xid, slot, state, &request, error),
+        Some(seen) => failed(alloc, xid, &seen, error),
     }
 }

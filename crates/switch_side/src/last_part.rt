@@ -15,12 +15,9 @@ use crate::dispatch::one;
 use of10_ctl::Frame;
 use of10_stats::protocol::FLOW;
 use of10_stats::{entry_size, flow_entry};
-use stats_filter::{aggregate, replies};
+use stats_filter::{PAGE, aggregate, replies};
 use std::alloc::{AllocError, Global};
 use xid_map::{AskKind, Collections, Issued};
-
-/// Bytes of the entries of one reply: 65,535 less its head.
-const PAGE: usize = 65_523;
 
 /// How many bytes of entries, which stand one behind another, have room: those in front of the first that is
 /// too long for the room which those before it leave.

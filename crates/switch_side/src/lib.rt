@@ -3,6 +3,7 @@
 #![tactic(auto)]
 
 mod applying;
+mod around;
 mod audience;
 mod change;
 mod collecting;

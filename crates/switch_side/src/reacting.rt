@@ -11,6 +11,7 @@ ghost use Rattle.flow_book.specs.declared.state.SliceState.{SliceState};
 ghost use Rattle.flowspace.specs.declared.rules.Rule.{Rule};
 ghost use Rattle.switch_side.specs.Carrying.{IsOther, carried, telling, CallsOf, AllCalled, carried_with, carried_for};
 
+use crate::around::Around;
 use crate::dispatch::Dispatch;
 use crate::errors::error;
 use crate::packets::packet_in;
@@ -22,7 +23,7 @@ use crate::statistics::statistics;
 use flow_book::SliceState;
 use flowspace::SwitchPolicy;
 use of10_ctl::{BodyView, Frame, echo_reply};
-use of10_message::{FromSwitch, Unread, read_switch};
+use of10_message::{SwitchMessageView, Unread, read_switch};
 use port_view::PortView;
 use rule_index::RuleIndex;
 use std::alloc::{AllocError, Global};
@@ -39,33 +40,49 @@ fn echo(alloc: Global, xid: u32, body: &BodyView<'_>) -> Result<Dispatch, AllocE
 #[inline(never)]
 fn follow_other(
     alloc: Global,
-    policy: &SwitchPolicy,
-    index: &RuleIndex,
-    ports: &PortView,
-    states: &[SliceState],
+    around: &Around<'_>,
     xid: u32,
-    said: &FromSwitch<'_>,
+    said: &SwitchMessageView<'_>,
 ) -> Result<Dispatch, AllocError>
-    requires few { length states.now ≤ 32 }
-    requires index { index.now ≡ policy.now.rules }
+    requires few { length around.now.states.now ≤ 32 }
+    requires index { around.now.index.now ≡ around.now.policy.now.rules }
     requires said { IsSaid (said_by said.now) }
     requires other { IsOther (said_by said.now) }
-    ensures { (called : ℕ → CallsOf) → AllCalled called states.now → IfOk result (λ d. carried d ≡ carried_with called policy.now.rules ports.now states.now xid (Ok (said_by said.now))) }
+    ensures { (called : ℕ → CallsOf) → AllCalled called around.now.states.now → IfOk result (λ d. carried d ≡ carried_with called around.now.policy.now.rules around.now.ports.now around.now.states.now xid (Ok (said_by said.now))) }
 {
+    let Around {
+        policy,
+        index,
+        ports,
+        states,
+    } = *around;
     match said {
-        FromSwitch::EchoRequest(body) => echo(alloc, xid, body),
-        FromSwitch::FlowRemoved(removal) => flow_removed(alloc, index, states, &removal.entry()),
-        FromSwitch::PortStatus(told) => port_status(alloc, policy, ports, states, &told.status()),
-        FromSwitch::Error(fault) => error(alloc, states, xid, fault),
-        FromSwitch::BarrierReply => barrier(alloc, states, xid),
-        FromSwitch::QueueGetConfigReply(told) => queues(alloc, policy, states, xid, told),
-        FromSwitch::StatsReply(part, body) => statistics(alloc, policy, states, xid, part, body),
-        FromSwitch::PacketIn(_) => unreachable!(),
-        FromSwitch::Hello
-        | FromSwitch::EchoReply
-        | FromSwitch::Vendor
-        | FromSwitch::FeaturesReply(_)
-        | FromSwitch::GetConfigReply(_) => Ok(Dispatch::nothing(alloc)),
+        SwitchMessageView::EchoRequest(body) => echo(alloc, xid, body),
+        SwitchMessageView::FlowRemoved(removal) => flow_removed(
+            alloc,
+            index,
+            states,
+            &removal.entry(),
+        ),
+        SwitchMessageView::PortStatus(told) => port_status(
+            alloc,
+            policy,
+            ports,
+            states,
+            &told.status(),
+        ),
+        SwitchMessageView::Error(fault) => error(alloc, states, xid, fault),
+        SwitchMessageView::BarrierReply => barrier(alloc, states, xid),
+        SwitchMessageView::QueueGetConfigReply(told) => queues(alloc, policy, states, xid, told),
+        SwitchMessageView::StatsReply(part, body) => statistics(
+            alloc, policy, states, xid, part, body,
+        ),
+        SwitchMessageView::PacketIn(_) => unreachable!(),
+        SwitchMessageView::Hello
+        | SwitchMessageView::EchoReply
+        | SwitchMessageView::Vendor
+        | SwitchMessageView::FeaturesReply(_)
+        | SwitchMessageView::GetConfigReply(_) => Ok(Dispatch::nothing(alloc)),
     }
 }
 
@@ -74,22 +91,26 @@ fn follow_other(
 fn follow(
     alloc: Global,
     spare: &mut Spare,
-    policy: &SwitchPolicy,
-    index: &RuleIndex,
-    ports: &PortView,
-    states: &[SliceState],
+    around: &Around<'_>,
     xid: u32,
-    said: &FromSwitch<'_>,
+    said: &SwitchMessageView<'_>,
 ) -> Result<(), AllocError>
-    requires few { length states.now ≤ 32 }
-    requires index { index.now ≡ policy.now.rules }
+    requires few { length around.now.states.now ≤ 32 }
+    requires index { around.now.index.now ≡ around.now.policy.now.rules }
     requires said { IsSaid (said_by said.now) }
-    ensures { (called : ℕ → CallsOf) → AllCalled called states.now → OnOk result (carried spare.new.dispatch ≡ carried_with called policy.now.rules ports.now states.now xid (Ok (said_by said.now))) }
+    ensures { (called : ℕ → CallsOf) → AllCalled called around.now.states.now → OnOk result (carried spare.new.dispatch ≡ carried_with called around.now.policy.now.rules around.now.ports.now around.now.states.now xid (Ok (said_by said.now))) }
 {
     match said {
-        FromSwitch::PacketIn(packet) => packet_in(alloc, spare, policy, index, states, packet),
+        SwitchMessageView::PacketIn(packet) => packet_in(
+            alloc,
+            spare,
+            around.policy,
+            around.index,
+            around.states,
+            packet,
+        ),
         _ => {
-            spare.dispatch = follow_other(alloc, policy, index, ports, states, xid, said)?;
+            spare.dispatch = follow_other(alloc, around, xid, said)?;
             Ok(())
         }
     }
@@ -110,29 +131,17 @@ fn unread(alloc: Global, fault: &Unread) -> Dispatch
 fn dispatch(
     alloc: Global,
     spare: &mut Spare,
-    policy: &SwitchPolicy,
-    index: &RuleIndex,
-    ports: &PortView,
-    states: &[SliceState],
+    around: &Around<'_>,
     frame: &Frame,
 ) -> Result<(), AllocError>
-    requires few { length states.now ≤ 32 }
-    requires index { index.now ≡ policy.now.rules }
-    ensures value { (called : ℕ → CallsOf) → AllCalled called states.now → OnOk result (carried spare.new.dispatch ≡ carried_for called policy.now.rules ports.now states.now frame.now) }
+    requires few { length around.now.states.now ≤ 32 }
+    requires index { around.now.index.now ≡ around.now.policy.now.rules }
+    ensures value { (called : ℕ → CallsOf) → AllCalled called around.now.states.now → OnOk result (carried spare.new.dispatch ≡ carried_for called around.now.policy.now.rules around.now.ports.now around.now.states.now frame.now) }
     ensures right { IfOk (read_switch frame.now) IsSaid }
 {
     let read = read_switch(frame);
     match &read {
-        Ok(said) => follow(
-            alloc,
-            spare,
-            policy,
-            index,
-            ports,
-            states,
-            frame.head().xid,
-            said,
-        ),
+        Ok(said) => follow(alloc, spare, around, frame.head().xid, said),
         Err(fault) => {
             spare.dispatch = unread(alloc, fault);
             Ok(())
@@ -179,5 +188,11 @@ pub fn react_in(
 {
     // A policy has at most 32 slices.
     let _slices = policy.slices();
-    dispatch(alloc, spare, policy, index, ports, states, frame)
+    let around = Around {
+        policy,
+        index,
+        ports,
+        states,
+    };
+    dispatch(alloc, spare, &around, frame)
 }

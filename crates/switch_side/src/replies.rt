@@ -7,7 +7,7 @@ ghost use Rattle.switch_side.specs.Carrying.{carried, CallsOf, AllCalled, turnin
 
 use crate::change::Change;
 use crate::dispatch::{Dispatch, one};
-use crate::requests::{request_seen, slot_of};
+use crate::requests::{SeenRequest, request_seen, slot_of};
 use flow_book::SliceState;
 use flowspace::SwitchPolicy;
 use of10_ctl::kind::BARRIER_REPLY;
@@ -72,7 +72,9 @@ pub(crate) fn barrier(
 {
     match request_seen(states, xid) {
         None => Ok(Dispatch::nothing(alloc)),
-        Some(request) => answered(alloc, xid, barrier_told(alloc, &request)?, request.number),
+        Some(SeenRequest { request, .. }) => {
+            answered(alloc, xid, barrier_told(alloc, &request)?, request.number)
+        }
     }
 }
 
@@ -94,7 +96,7 @@ pub(crate) fn queues(
     }
     match request_seen(states, xid) {
         None => Ok(Dispatch::nothing(alloc)),
-        Some(request) => answered(
+        Some(SeenRequest { request, .. }) => answered(
             alloc,
             xid,
             queues_told(alloc, &request, queues)?,

@@ -12,7 +12,7 @@ ghost use Rattle.switch_side.specs.Carrying.{carried, CallsOf, AllCalled, turnin
 use crate::change::Change;
 use crate::dispatch::Dispatch;
 use crate::last_part::all_replied;
-use crate::requests::slot_of;
+use crate::requests::{SeenRequest, request_seen};
 use flow_book::SliceState;
 use flowspace::SwitchPolicy;
 use of10_action::Bytes;
@@ -62,20 +62,20 @@ fn collects(collections: &Collections, request: &Issued, kind: u16) -> bool
 fn followed(
     alloc: Global,
     policy: &SwitchPolicy,
-    slot: u8,
-    collections: &Collections,
-    request: &Issued,
+    seen: &SeenRequest<'_>,
     part: &StatsPart,
     body: &[u8],
 ) -> Result<Dispatch, AllocError>
-    ensures { (called : CallsOf) → CollectionsStand called.collections collections.now → IfOk result (λ d. carried d ≡ turning (collecting_turn policy.now.rules called slot part.now body.now request.now)) }
+    ensures { (called : CallsOf) → CollectionsStand called.collections seen.now.state.now.collections → IfOk result (λ d. carried d ≡ turning (collecting_turn policy.now.rules called seen.now.slot part.now body.now seen.now.request)) }
 {
+    let request = &seen.request;
+    let collections = &seen.state.collections;
     if !collects(collections, request, part.kind) {
         return Ok(Dispatch::nothing(alloc));
     }
     let number = request.number;
     let kind = request.asked.kind;
-    let kept = kept_entries(alloc, policy, slot, kind, part.kind, body)?;
+    let kept = kept_entries(alloc, policy, seen.slot, kind, part.kind, body)?;
     if part.more {
         let entries = Bytes::from_vec(kept);
         let change = Change::Collected {
@@ -83,14 +83,13 @@ fn followed(
             kind,
             entries,
         };
-        return Dispatch::turning(alloc, slot, Vec::new(alloc), change);
+        return Dispatch::turning(alloc, seen.slot, Vec::new(alloc), change);
     }
     let messages = all_replied(alloc, collections, request, part.kind, &kept)?;
-    Dispatch::turning(alloc, slot, messages, Change::Finished { number })
+    Dispatch::turning(alloc, seen.slot, messages, Change::Finished { number })
 }
 
-/// What follows from a part under a transaction id: the slice whose slot is the id's top byte is asked for the
-/// request.
+/// What follows from a part under a transaction id for the slice whose request has that id.
 fn answered(
     alloc: Global,
     policy: &SwitchPolicy,
@@ -101,21 +100,9 @@ fn answered(
 ) -> Result<Dispatch, AllocError>
     ensures { (called : ℕ → CallsOf) → AllCalled called states.now → IfOk result (λ d. carried d ≡ turning (option_and_then (collecting_turn policy.now.rules (called (xid / 2 ^ 24)) (xid / 2 ^ 24) part.now body.now) (request_seen called states.now xid))) }
 {
-    let slot = slot_of(xid);
-    let Some(state) = states.get(usize::from(slot)) else {
-        return Ok(Dispatch::nothing(alloc));
-    };
-    match state.xids.find(xid) {
+    match request_seen(states, xid) {
         None => Ok(Dispatch::nothing(alloc)),
-        Some(request) => followed(
-            alloc,
-            policy,
-            slot,
-            &state.collections,
-            &request,
-            part,
-            body,
-        ),
+        Some(seen) => followed(alloc, policy, &seen, part, body),
     }
 }
 

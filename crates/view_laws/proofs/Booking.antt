@@ -9,7 +9,6 @@ use Rattle.of10_flow.specs.declared.protocol.TheConstants.{SEND_FLOW_REM}
 use Rattle.of10_flow.specs.declared.flow_mod.FlowMod.{FlowMod}
 use Rattle.of10_flow.specs.Tables.{has_flag}
 use Rattle.of10_message.specs.declared.controller.FromController.TheVariants as said
-use Rattle.of10_message.specs.Controller.{read_controller}
 use Rattle.flowmod_expand.specs.Pieces.{pieces_within}
 use Rattle.xid_map.specs.declared.asked.Issued.{Issued}
 use Rattle.xid_map.specs.Laws.{NoneOf}
@@ -22,7 +21,7 @@ use Rattle.flow_book.proofs.Counts.{found}
 use Rattle.flow_book.proofs.SamePairs.{pair_parts, pair_itself}
 use Rattle.flow_book.proofs.Histories.{history, last_is_booked}
 use Rattle.slice_words.specs.Messages.{Reading}
-use Rattle.slice_words.specs.Items.{Settings, Item, Opened, Up, Down, Msg, Lost, Handed, Removed, Status, Fault, Barrier, Queues, Entry, Last, End}
+use Rattle.slice_words.specs.Items.{Settings, message_read, Item, Opened, Up, Down, Msg, Lost, Handed, Removed, Status, Fault, Barrier, Queues, Entry, Last, End}
 use Rattle.slice_words.specs.Pasts.{is_any}
 use Rattle.slice_words.specs.Calls.{request_for, bookings, failure, booked_by, book_calls}
 use Rattle.slice_words.specs.Alone.{answer_to}
@@ -74,7 +73,7 @@ failure_one (Some request) (Some pair) = inr (books.Failed request.number pair.0
 
 book_one : (s : Settings) (view : List Item) (item : Item) → AtMostOne (book_given s view item)
 book_one s view (Msg message moment) =
-    message_one (is_any (answer_to s view (Msg message moment)).to_switch) _ (read_one s (issued (requests_after s view)) (read_controller message))
+    message_one (is_any (answer_to s view (Msg message moment)).to_switch) _ (read_one s (issued (requests_after s view)) (message_read s message))
 book_one s view (Removed entry) = inr (books.Removed entry.pattern entry.priority, refl)
 book_one s view (Fault x class code pair) = failure_one (request_for s x (requests_after s view)) pair
 book_one s view Up = inl refl
@@ -170,14 +169,14 @@ record IsAdding (s : Settings) (view : List Item) (item : Item) (c : BookCall) :
   moment : ℕ
   m : FlowMod
   is_message : item ≡ Msg message moment
-  read : read_controller message ≡ Ok (said.FlowMod m)
+  read : message_read s message ≡ Ok (said.FlowMod m)
   asks : is_request s view (Msg message moment) ≡ true
   is_call : c ≡ adding_of s m (next_number s view)
 
 message_adds : (s : Settings) (view : List Item) (message : List ℕ) (moment : ℕ) (c : BookCall) → book_given s view (Msg message moment) ≡ c ∷ [] → IsAdding s view (Msg message moment) c
 message_adds s view message moment c is =
-    let put = put_parts (is_any (answer_to s view (Msg message moment)).to_switch) (bookings s (issued (requests_after s view)) (read_controller message)) c is in
-    let h = read_as s (issued (requests_after s view)) (read_controller message) c put.1 in
+    let put = put_parts (is_any (answer_to s view (Msg message moment)).to_switch) (bookings s (issued (requests_after s view)) (message_read s message)) c is in
+    let h = read_as s (issued (requests_after s view)) (message_read s message) c put.1 in
     record {
       message = message;
       moment = moment;
@@ -216,17 +215,17 @@ put_on true these is = refl
 put_on false these is = absurd (true≢false (sym is))
 
 -- a flow-mod that is sent on makes its call
-sent_adds : (s : Settings) (view : List Item) (message : List ℕ) (moment : ℕ) (m : FlowMod) → read_controller message ≡ Ok (said.FlowMod m) → is_request s view (Msg message moment) ≡ true
+sent_adds : (s : Settings) (view : List Item) (message : List ℕ) (moment : ℕ) (m : FlowMod) → message_read s message ≡ Ok (said.FlowMod m) → is_request s view (Msg message moment) ≡ true
     → book_given s view (Msg message moment) ≡ adding_of s m (next_number s view) ∷ []
 sent_adds s view message moment m read asks =
-    put_on (is_any (answer_to s view (Msg message moment)).to_switch) (bookings s (issued (requests_after s view)) (read_controller message)) asks
+    put_on (is_any (answer_to s view (Msg message moment)).to_switch) (bookings s (issued (requests_after s view)) (message_read s message)) asks
     ∙ ap (λ (found_read : Reading). bookings s (issued (requests_after s view)) found_read) read
     ∙ ap (λ (number : ℕ). adding_of s m number ∷ []) (issued-requests s view)
 
 module _ (s : Settings) (pattern : Pattern) (priority : ℕ) where
   -- ---- what books the pair
 
-  called_by : (view : List Item) (message : List ℕ) (moment : ℕ) (m : FlowMod) (number : ℕ) → read_controller message ≡ Ok (said.FlowMod m) → is_request s view (Msg message moment) ≡ true
+  called_by : (view : List Item) (message : List ℕ) (moment : ℕ) (m : FlowMod) (number : ℕ) → message_read s message ≡ Ok (said.FlowMod m) → is_request s view (Msg message moment) ≡ true
       → calls.Books pattern priority (adding_of s m number) (book_after s view) → IsBookedBy s pattern priority m message moment view
   called_by view message moment m number read asks b =
       record { read = read; asks = asks; at_priority = b.0; among = b.1; piece = called_piece s m.command pattern priority view b.2 }

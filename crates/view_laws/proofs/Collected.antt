@@ -3,7 +3,6 @@ use Rattle.std.proofs.Common.{◌≡◌, ◌⊎◌, ℕ, Bool, true, false, if�
 use Rattle.of10_stats.specs.declared.request.StatsRequest.{StatsRequest}
 use Rattle.of10_stats.specs.declared.request.StatsRequest.TheVariants as statistics
 use Rattle.of10_message.specs.declared.controller.FromController.TheVariants as said
-use Rattle.of10_message.specs.Controller.{read_controller}
 use Rattle.xid_map.specs.declared.asked.AskKind.{AskKind}
 use Rattle.xid_map.specs.declared.asked.AskKind.TheVariants as kinds
 use Rattle.xid_map.specs.declared.asked.Issued.{Issued}
@@ -11,7 +10,7 @@ use Rattle.xid_map.specs.Requests.{issued}
 use Rattle.xid_map.specs.Collections.{CollectionCall, Start, Finish, EndAll}
 use Rattle.stats_filter.specs.Asking.{asked_as}
 use Rattle.slice_words.specs.Messages.{Reading, is_dismissing, kind_asked}
-use Rattle.slice_words.specs.Items.{Settings, Item, Opened, Up, Down, Msg, Lost, Handed, Removed, Status, Fault, Barrier, Queues, Entry, Last, End, is_up}
+use Rattle.slice_words.specs.Items.{Settings, message_read, Item, Opened, Up, Down, Msg, Lost, Handed, Removed, Status, Fault, Barrier, Queues, Entry, Last, End, is_up}
 use Rattle.slice_words.specs.Pasts.{Answer, Past, no_answer, is_any}
 use Rattle.slice_words.specs.Statistics.{asks_statistics, collects, begun, entry_call, entry_kept, finished}
 use Rattle.slice_words.specs.Calls.{request_for, collected_by, collection_calls}
@@ -61,7 +60,7 @@ pub collection_one : (s : Settings) (view : List Item) (item : Item) → AtMostO
 collection_one s view Up = inr (EndAll, refl)
 collection_one s view Down = inr (EndAll, refl)
 collection_one s view (Msg message moment) =
-    message_one (is_dismissing message) (is_any (answer_to s view (Msg message moment)).to_switch) (issued (requests_after s view)) (kind_asked (read_controller message))
+    message_one (is_dismissing message) (is_any (answer_to s view (Msg message moment)).to_switch) (issued (requests_after s view)) (kind_asked (message_read s message))
 collection_one s view (Fault x class code pair) = finished_one (request_for s x (requests_after s view))
 collection_one s view (Entry x kind entry) = kept_one (request_for s x (requests_after s view)) kind entry (collections_after s view)
 collection_one s view (Last x kind) = one_if (is_any (answer_to s view (Last x kind)).to_slice) _ (finished_one (request_for s x (requests_after s view)))
@@ -102,7 +101,7 @@ abbrev asks_table : Reading → Bool
 asks_table (Ok (said.StatsRequest statistics.Table)) = true
 asks_table read = false
 
-table_puts_nothing : (s : Settings) (view : List Item) (past : List Past) (moment : ℕ) (message : List ℕ) → asks_table (read_controller message) ≡ true → (message_answer s view past moment message).to_switch ≡ []
+table_puts_nothing : (s : Settings) (view : List Item) (past : List Past) (moment : ℕ) (message : List ℕ) → asks_table (message_read s message) ≡ true → (message_answer s view past moment message).to_switch ≡ []
 table_puts_nothing s view past moment message is =
     message_holds (λ (ends_ : Bool) (a : Answer). a.to_switch ≡ []) s view past moment message (record {
       bad = refl;
@@ -120,7 +119,7 @@ table_puts_nothing s view past moment message is =
       asks_queues = λ queues read own. absurd (true≢false (sym is ∙ ap asks_table read));
     })
   where
-    not_table : (request asked : StatsRequest) → read_controller message ≡ Ok (said.StatsRequest request) → asked_as request ≡ Some asked → ⊥
+    not_table : (request asked : StatsRequest) → message_read s message ≡ Ok (said.StatsRequest request) → asked_as request ≡ Some asked → ⊥
     not_table statistics.Table asked read asks = cc
     not_table statistics.Desc asked read asks = true≢false (sym is ∙ ap asks_table read)
     not_table (statistics.Flow pattern table out_port) asked read asks = true≢false (sym is ∙ ap asks_table read)
@@ -133,7 +132,7 @@ while_up true a nothing = ap is_any nothing
 while_up false a nothing = refl
 
 -- so what is requested of statistics is collected
-kind_collects : (s : Settings) (view : List Item) (message : List ℕ) (moment : ℕ) (request : StatsRequest) → read_controller message ≡ Ok (said.StatsRequest request) → is_request s view (Msg message moment) ≡ true
+kind_collects : (s : Settings) (view : List Item) (message : List ℕ) (moment : ℕ) (request : StatsRequest) → message_read s message ≡ Ok (said.StatsRequest request) → is_request s view (Msg message moment) ≡ true
     → asks_statistics (kind_asked (Ok (said.StatsRequest request))) ≡ true
 kind_collects s view message moment statistics.Table read asks =
     absurd (true≢false (sym asks ∙ while_up (is_up view) _ (table_puts_nothing s view (past_of s view) moment message (ap asks_table read))))
@@ -152,7 +151,7 @@ starting false false number kind nothing asks is = absurd (true≢false (sym ask
 
 pub start_of : (s : Settings) (view : List Item) (message : List ℕ) (moment : ℕ) → IsStatistics s message moment view → collections_given s view (Msg message moment) ≡ Start (next_number s view) ∷ []
 start_of s view message moment h =
-    starting (is_dismissing message) (is_any (answer_to s view (Msg message moment)).to_switch) (issued (requests_after s view)) (kind_asked (read_controller message))
+    starting (is_dismissing message) (is_any (answer_to s view (Msg message moment)).to_switch) (issued (requests_after s view)) (kind_asked (message_read s message))
     (dismissing_asks_nothing s view message moment) h.asks (ap (λ (read : Reading). asks_statistics (kind_asked read)) h.read ∙ kind_collects s view message moment h.request h.read h.asks)
     ∙ ap (λ (n : ℕ). Start n ∷ []) (issued-requests s view)
 
@@ -207,8 +206,8 @@ pub start_from : (s : Settings) (view : List Item) (item : Item) (number : ℕ) 
 start_from s view Up number is = cc
 start_from s view Down number is = cc
 start_from s view (Msg message moment) number is =
-    let parts = message_starts (is_dismissing message) (is_any (answer_to s view (Msg message moment)).to_switch) (issued (requests_after s view)) (kind_asked (read_controller message)) number is in
-    let asked = statistics_read (read_controller message) parts.1 in
+    let parts = message_starts (is_dismissing message) (is_any (answer_to s view (Msg message moment)).to_switch) (issued (requests_after s view)) (kind_asked (message_read s message)) number is in
+    let asked = statistics_read (message_read s message) parts.1 in
     record { message = message; moment = moment; is_message = refl; asks = record { request = asked.0; read = asked.1; asks = parts.0 }; numbered = parts.2 ∙ issued-requests s view }
 start_from s view (Fault x class code pair) number is = absurd (finished_starts_none true (request_for s x (requests_after s view)) number is)
 start_from s view (Entry x kind entry) number is = absurd (kept_starts_none (request_for s x (requests_after s view)) kind entry (collections_after s view) number is)

@@ -12,7 +12,6 @@ use Rattle.std.proofs.lemmas.List.Folds.{concat-append}
 use Rattle.std.proofs.lemmas.List.Sums.{sum_by-cons, sum_by_push}
 use Rattle.of10_model.specs.Normal.{is_value}
 use Rattle.of10_stats.specs.Replies.{flow_of}
-use Rattle.of10_message.specs.Controller.{read_controller}
 use Rattle.xid_map.specs.declared.asked.AskKind.{AskKind}
 use Rattle.xid_map.specs.declared.asked.AskKind.TheVariants as kinds
 use Rattle.xid_map.specs.declared.asked.Asked.{Asked}
@@ -24,7 +23,7 @@ use Rattle.xid_map.proofs.Gathering.{since-goes_on}
 use Rattle.xid_map.proofs.Standing.{begins_not}
 use Rattle.stats_filter.specs.Asking.{type_sent}
 use Rattle.slice_words.specs.Messages.{is_dismissing, kind_asked}
-use Rattle.slice_words.specs.Items.{Settings, Item, Opened, Up, Down, Msg, Lost, Handed, Removed, Status, Fault, Barrier, Queues, Entry, Last, End}
+use Rattle.slice_words.specs.Items.{Settings, message_read, Item, Opened, Up, Down, Msg, Lost, Handed, Removed, Status, Fault, Barrier, Queues, Entry, Last, End}
 use Rattle.slice_words.specs.Pasts.{is_any}
 use Rattle.slice_words.specs.Statistics.{asks_statistics, collects, begun, entry_call, entry_kept, finished}
 use Rattle.slice_words.specs.Calls.{request_for}
@@ -238,7 +237,7 @@ number_below s view x request h =
 -- there is one message for each number
 pub message_of_number : (s : Settings) (view : List Item) (x : ℕ) (request : Issued) → IsRemembered s view x request
     → (later : List Item) (message : List ℕ) (moment : ℕ) (earlier : List Item) → view ≡ later ++ (Msg message moment ∷ earlier) → is_request s earlier (Msg message moment) ≡ true
-    → request.number ≡ next_number s earlier → request.asked.kind ≡ kind_asked (read_controller message)
+    → request.number ≡ next_number s earlier → request.asked.kind ≡ kind_asked (message_read s message)
 message_of_number s view x request h later message moment earlier split asks numbered =
     let one : slice_get (reverse (requests_in s view)) (next_number s earlier) ≡ Some (Msg message moment) =
     subst (λ (v : List Item). slice_get (reverse (requests_in s v)) (next_number s earlier) ≡ Some (Msg message moment)) (sym split) (request-place s later (Msg message moment) earlier asks) in
@@ -247,7 +246,7 @@ message_of_number s view x request h later message moment earlier split asks num
     let both : Some (Msg message moment) ≡ Some (Msg h.message h.moment) =
     sym one ∙ ap (λ (n : ℕ). slice_get (reverse (requests_in s view)) n) (sym numbered ∙ h.numbered) ∙ other in
     let same : h.message ≡ message = cc in
-    ap (λ (a : Asked). a.kind) h.asked ∙ ap (λ (m : List ℕ). kind_asked (read_controller m)) same
+    ap (λ (a : Asked). a.kind) h.asked ∙ ap (λ (m : List ℕ). kind_asked (message_read s m)) same
 
 -- ---- for which request an entry comes
 
@@ -301,9 +300,9 @@ none_before s (item ∷ view) number asked early =
 -- ---- from the message on
 
 module _ (s : Settings) (number : ℕ) (message : List ℕ) (moment : ℕ) (earlier : List Item) (asks : IsStatistics s message moment earlier) (numbered : number ≡ next_number s earlier)
-    (Holds : List (List ℕ) → List (ℕ × ℕ) → List (List ℕ) → Type 0) (keeps : IsKeptBy number (kind_asked (read_controller message)) Holds) where
+    (Holds : List (List ℕ) → List (ℕ × ℕ) → List (List ℕ) → Type 0) (keeps : IsKeptBy number (kind_asked (message_read s message)) Holds) where
   abbrev asked : AskKind
-  asked = kind_asked (read_controller message)
+  asked = kind_asked (message_read s message)
 
   abbrev base : List Item
   base = Msg message moment ∷ earlier
@@ -356,7 +355,7 @@ module _ (s : Settings) (number : ℕ) (message : List ℕ) (moment : ℕ) (earl
   item_more later (Msg m t) own entries is within h =
       let view = later ++ base in
       quiet_more (collections_given s view (Msg m t)) own entries
-      (quiet_message (is_dismissing m) (is_any (answer_to s view (Msg m t)).to_switch) (issued (requests_after s view)) number (kind_asked (read_controller m))) h
+      (quiet_message (is_dismissing m) (is_any (answer_to s view (Msg m t)).to_switch) (issued (requests_after s view)) number (kind_asked (message_read s m))) h
   item_more later (Fault x class code pair) own entries is within h =
       let found = request_for s x (requests_after s (later ++ base)) in
       quiet_more (finished found) own entries (quiet_finished number found) h
@@ -417,7 +416,7 @@ gathered_entries : (number : ℕ) (calls : List CollectionCall) (entries : List 
 unfolding gathered
 gathered_entries number calls entries is = subst (λ (es : List (List ℕ)). IsLongestPrefix es (kept_run (added number (since number calls)))) is (kept-longest (added number (since number calls)))
 
-gathered_so : (s : Settings) (view : List Item) (number : ℕ) (h : IsCollectingIn s number view) (asked : AskKind) → asked ≡ kind_asked (read_controller h.message)
+gathered_so : (s : Settings) (view : List Item) (number : ℕ) (h : IsCollectingIn s number view) (asked : AskKind) → asked ≡ kind_asked (message_read s h.message)
     → ((Holds : List (List ℕ) → List (ℕ × ℕ) → List (List ℕ) → Type 0) → IsKeptBy number asked Holds → Holds (added number (since number (collections_after s view))) (summed number (since number (collections_after s view))) (entries_for s number asked view))
     → IsGatheredOf asked (entries_for s number asked view) (gathered_after s number view)
 gathered_so s view number h asked is holds = elim (cases_kind asked) [
@@ -430,9 +429,9 @@ gathered_so s view number h asked is holds = elim (cases_kind asked) [
 ]
 
 pub collecting-gathered : (s : Settings) (view : List Item) (number : ℕ) (h : IsCollectingIn s number view)
-    → IsGatheredOf (kind_asked (read_controller h.message)) (entries_for s number (kind_asked (read_controller h.message)) view) (gathered_after s number view)
+    → IsGatheredOf (kind_asked (message_read s h.message)) (entries_for s number (kind_asked (message_read s h.message)) view) (gathered_after s number view)
 collecting-gathered s view number h =
-    let asked = kind_asked (read_controller h.message) in
+    let asked = kind_asked (message_read s h.message) in
     gathered_so s view number h asked refl
     (λ Holds keeps.
     subst (λ (v : List Item). Holds (added number (since number (collections_after s v))) (summed number (since number (collections_after s v))) (entries_for s number asked v)) (sym h.split)

@@ -6,7 +6,6 @@ use Rattle.std.proofs.lemmas.Bool.Decides.{eqb_tells}
 use Rattle.std.proofs.lemmas.List.{length-take, get_or-take}
 use Rattle.std.proofs.lemmas.List.Elements.{All-nil, All-cons, All-take, All-filter, All-weaker}
 use Rattle.std.proofs.lemmas.List.Kept.{AllPairs-cons, AllPairs-filter}
-use Rattle.of10_message.specs.Controller.{read_controller}
 use Rattle.xid_map.specs.declared.asked.AskKind.{AskKind}
 use Rattle.xid_map.specs.declared.asked.AskKind.TheVariants as kinds
 use Rattle.xid_map.specs.declared.asked.Issued.{Issued}
@@ -16,7 +15,7 @@ use Rattle.xid_map.specs.Laws as calls
 use Rattle.xid_map.specs.Laws.{NoneOf}
 use Rattle.xid_map.proofs.Collecting.{IsCollecting-collecting, collecting-IsCollecting, newest-first, kept_through}
 use Rattle.slice_words.specs.Messages.{is_dismissing, kind_asked}
-use Rattle.slice_words.specs.Items.{Settings, Item, Opened, Up, Down, Msg, Lost, Handed, Removed, Status, Fault, Barrier, Queues, Entry, Last, End}
+use Rattle.slice_words.specs.Items.{Settings, message_read, Item, Opened, Up, Down, Msg, Lost, Handed, Removed, Status, Fault, Barrier, Queues, Entry, Last, End}
 use Rattle.slice_words.specs.Pasts.{is_any}
 use Rattle.slice_words.specs.Statistics.{asks_statistics, collects, entry_call, entry_kept, finished}
 use Rattle.slice_words.specs.Calls.{request_for}
@@ -165,7 +164,7 @@ ends_called : (s : Settings) (number : ℕ) (item : Item) (view : List Item) →
 ends_called s number Up view is = (EndAll, refl, tt)
 ends_called s number Down view is = (EndAll, refl, tt)
 ends_called s number (Msg message moment) view (inl ending) =
-    (EndAll, ends_all (is_dismissing message) (is_any (answer_to s view (Msg message moment)).to_switch) (issued (requests_after s view)) (kind_asked (read_controller message)) ending, tt)
+    (EndAll, ends_all (is_dismissing message) (is_any (answer_to s view (Msg message moment)).to_switch) (issued (requests_after s view)) (kind_asked (message_read s message)) ending, tt)
 ends_called s number (Msg message moment) view (inr (asks, least)) =
     let made = made_after s view in (
       Start (next_number s view),
@@ -234,11 +233,11 @@ called_ends : (s : Settings) (number : ℕ) (item : Item) (view : List Item) (c 
 called_ends s number Up view c is own ends_ = tt
 called_ends s number Down view c is own ends_ = tt
 called_ends s number (Msg message moment) view c is own ends_ =
-    let this = message_is (is_dismissing message) (is_any (answer_to s view (Msg message moment)).to_switch) (issued (requests_after s view)) (kind_asked (read_controller message)) c is in
+    let this = message_is (is_dismissing message) (is_any (answer_to s view (Msg message moment)).to_switch) (issued (requests_after s view)) (kind_asked (message_read s message)) c is in
     elim this [
       | inl dismissing ↦ inl dismissing
       | inr (puts, asks, starts) ↦
-          let asked = statistics_read (read_controller message) asks in
+          let asked = statistics_read (message_read s message) asks in
           let ends_now = subst (λ (k : CollectionCall). calls.EndsCollecting number k (collections_after s view)) starts ends_ in
           inr (record { request = asked.0; read = asked.1; asks = puts }, record { collects = own; eight = ends_now.1; is_first = least ends_now.2 })
     ]

@@ -5,14 +5,13 @@ use Rattle.std.specs.List.{list_any}
 use Rattle.std.proofs.lemmas.Bool.{cases_Bool, or_parts}
 use Rattle.std.proofs.lemmas.Bool.Decides.{eqb_tells}
 use Rattle.std.proofs.lemmas.List.Elements.{Contains-append_right}
-use Rattle.of10_message.specs.Controller.{read_controller}
 use Rattle.xid_map.specs.declared.asked.Asked.{Asked}
 use Rattle.xid_map.specs.declared.asked.Issued.{Issued}
 use Rattle.xid_map.specs.Requests.{RequestCall, Issue, MarkError, MarkDone, Forget, issued, physical_of, found}
 use Rattle.xid_map.specs.Laws.{IsFoundRequest}
 use Rattle.xid_map.proofs.Finding.{IsFound-found, found-IsFound}
 use Rattle.slice_words.specs.Messages.{is_dismissing, asked_of}
-use Rattle.slice_words.specs.Items.{Settings, Item, Opened, Up, Down, Msg, Lost, Handed, Removed, Status, Fault, Barrier, Queues, Entry, Last, End, is_forgetting}
+use Rattle.slice_words.specs.Items.{Settings, message_read, Item, Opened, Up, Down, Msg, Lost, Handed, Removed, Status, Fault, Barrier, Queues, Entry, Last, End, is_forgetting}
 use Rattle.slice_words.specs.Pasts.{Answer, is_any}
 use Rattle.slice_words.specs.Calls.{error_marks, reply_marks}
 use Rattle.slice_words.specs.Alone.{answer_to}
@@ -206,7 +205,7 @@ item_more : (s : Settings) (x : ℕ) (item : Item) (view : List Item) (r : Issue
 item_more s x Up view r goes_on within h = absurd (true≢false goes_on)
 item_more s x Down view r goes_on within h = absurd (true≢false goes_on)
 item_more s x (Msg message moment) view r goes_on within h =
-    message_more s.slot (physical_of s.slot x) (requests_after s view) (is_dismissing message) (is_any (answer_to s view (Msg message moment)).to_switch) (asked_of (read_controller message) message) r
+    message_more s.slot (physical_of s.slot x) (requests_after s view) (is_dismissing message) (is_any (answer_to s view (Msg message moment)).to_switch) (asked_of (message_read s message) message) r
     goes_on within h
 item_more s x (Fault y class code pair) view r goes_on within h = error_more s.slot x y (requests_after s view) r h
 item_more s x (Opened features) view r goes_on within h = h
@@ -226,7 +225,7 @@ item_more s x End view r goes_on within h = h
 abbrev as_asked : Settings → ℕ → List Item → List ℕ → ℕ → List Item → Issued
 as_asked s x later message moment earlier = record {
   number = next_number s earlier;
-  asked = asked_of (read_controller message) message;
+  asked = asked_of (message_read s message) message;
   failed = list_any (is_fault_for x) later;
   done = is_replied s x later (Msg message moment ∷ earlier);
 }
@@ -240,7 +239,7 @@ just_asked : (s : Settings) (x : ℕ) (message : List ℕ) (moment : ℕ) (earli
 just_asked s x message moment earlier asks low = record {
   later = [];
   earlier = requests_after s earlier;
-  split = all-one RequestCall (requests_given s) (requests_after s) (requests_made s) (Msg message moment) earlier (Issue (asked_of (read_controller message) message)) (issue_of s earlier message moment asks);
+  split = all-one RequestCall (requests_given s) (requests_after s) (requests_made s) (Msg message moment) earlier (Issue (asked_of (message_read s message) message)) (issue_of s earlier message moment asks);
   numbered = sym (issued-requests s earlier);
   seen = low_same s.slot (next_number s earlier) x low;
   not_forgotten = λ c. omega (arith, c.1);
@@ -291,7 +290,7 @@ found_same o a b first second = (let both : Some a ≡ Some b = sym first ∙ se
 -- the message that asked, and what was found, say all of the request
 as_remembered : (s : Settings) (view : List Item) (x : ℕ) (request : Issued) (later : List Item) (message : List ℕ) (moment : ℕ) (earlier : List Item) → view ≡ later ++ (Msg message moment ∷ earlier)
     → is_request s earlier (Msg message moment) ≡ true → request.number ≡ next_number s earlier → request.number % 16777216 ≡ x % 16777216 → list_any is_forgetting later ≡ false
-    → next_number s view ≤ request.number + 4096 → request.asked ≡ asked_of (read_controller message) message → remembered_for s view x ≡ Some request → IsRemembered s view x request
+    → next_number s view ≤ request.number + 4096 → request.asked ≡ asked_of (message_read s message) message → remembered_for s view x ≡ Some request → IsRemembered s view x request
 as_remembered s view x request later message moment earlier split asks numbered low kept recent asked is =
     let there = found_through s x later message moment earlier asks (ap (λ (n : ℕ). n % 16777216) (sym numbered) ∙ low) kept
     (subst (λ (v : List Item). next_number s v ≤ next_number s earlier + 4096) split (omega (arith, recent, numbered))) in

@@ -4,12 +4,11 @@ use Rattle.std.specs.Prelude.{slice_get, reverse}
 use Rattle.std.proofs.lemmas.Bool.{cases_Bool}
 use Rattle.std.proofs.lemmas.List.{reverse-append, length-reverse}
 use Rattle.of10_message.specs.declared.fault.Unread.TheVariants.{BadLength, NoCommonVersion, BadVersion, BadType, BadForm}
-use Rattle.of10_message.specs.Controller.{read_controller}
 use Rattle.xid_map.specs.declared.asked.Asked.{Asked}
 use Rattle.xid_map.specs.declared.asked.Issued.{Issued}
 use Rattle.xid_map.specs.Requests.{RequestCall, Issue, MarkError, MarkDone, Forget, issued}
 use Rattle.slice_words.specs.Messages.{Reading, ends_connection, is_dismissing, asked_of}
-use Rattle.slice_words.specs.Items.{Settings, Item, Opened, Up, Down, Msg, Lost, Handed, Removed, Status, Fault, Barrier, Queues, Entry, Last, End, is_up, is_forgetting}
+use Rattle.slice_words.specs.Items.{Settings, message_read, Item, Opened, Up, Down, Msg, Lost, Handed, Removed, Status, Fault, Barrier, Queues, Entry, Last, End, is_up, is_forgetting}
 use Rattle.slice_words.specs.Pasts.{Answer, Past, Outgoing, no_answer, is_any}
 use Rattle.slice_words.specs.Calls.{request_for, error_marks, reply_marks, requests_by, request_calls}
 use Rattle.slice_words.specs.Answers.{unread_answer, read_answer}
@@ -42,7 +41,7 @@ while_up true a nothing = nothing
 while_up false a nothing = refl
 
 dismissing_puts_nothing : (s : Settings) (view : List Item) (message : List ℕ) (moment : ℕ) → is_dismissing message ≡ true → (answer_to s view (Msg message moment)).to_switch ≡ []
-dismissing_puts_nothing s view message moment ends_ = while_up (is_up view) _ (unread_puts_nothing s view (past_of s view) moment message (read_controller message) ends_)
+dismissing_puts_nothing s view message moment ends_ = while_up (is_up view) _ (unread_puts_nothing s view (past_of s view) moment message (message_read s message) ends_)
 
 nothing_any : (sent : List Outgoing) → sent ≡ [] → is_any sent ≡ false
 nothing_any sent nothing = ap is_any nothing
@@ -93,7 +92,7 @@ reply_one a false (Some request) is = inl (rw is refl)
 request_one : (s : Settings) (view : List Item) (item : Item) → AtMostOne (requests_given s view item)
 request_one s view Up = inr (Forget, refl)
 request_one s view Down = inr (Forget, refl)
-request_one s view (Msg message moment) = message_one (is_dismissing message) (is_any (answer_to s view (Msg message moment)).to_switch) (asked_of (read_controller message) message)
+request_one s view (Msg message moment) = message_one (is_dismissing message) (is_any (answer_to s view (Msg message moment)).to_switch) (asked_of (message_read s message) message)
 request_one s view (Fault x class code pair) = error_one (request_for s x (requests_after s view))
 request_one s view (Opened features) = inl refl
 request_one s view (Lost k) = inl refl
@@ -132,7 +131,7 @@ request_counts : (s : Settings) (view : List Item) (item : Item)
 request_counts s view Up = refl
 request_counts s view Down = refl
 request_counts s view (Msg message moment) =
-    message_counts (is_dismissing message) (is_any (answer_to s view (Msg message moment)).to_switch) (asked_of (read_controller message) message) (requests_after s view)
+    message_counts (is_dismissing message) (is_any (answer_to s view (Msg message moment)).to_switch) (asked_of (message_read s message) message) (requests_after s view)
     (dismissing_asks_nothing s view message moment)
 request_counts s view (Fault x class code pair) = error_counts (request_for s x (requests_after s view)) (requests_after s view)
 request_counts s view (Opened features) = refl
@@ -163,7 +162,7 @@ pub record IsIssue (s : Settings) (view : List Item) (item : Item) (asked : Aske
   pub moment : ℕ
   pub is_message : item ≡ Msg message moment
   pub asks : is_request s view (Msg message moment) ≡ true
-  pub so_asked : asked ≡ asked_of (read_controller message) message
+  pub so_asked : asked ≡ asked_of (message_read s message) message
 
 message_issues : (dismissing puts : Bool) (asked other : Asked) → of_message dismissing puts asked ≡ Issue other ∷ [] → (puts ≡ true) × (other ≡ asked)
 message_issues true puts asked other is = cc
@@ -183,7 +182,7 @@ pub issue_from : (s : Settings) (view : List Item) (item : Item) (asked : Asked)
 issue_from s view Up asked is = cc
 issue_from s view Down asked is = cc
 issue_from s view (Msg message moment) asked is =
-    let parts = message_issues (is_dismissing message) (is_any (answer_to s view (Msg message moment)).to_switch) (asked_of (read_controller message) message) asked is in
+    let parts = message_issues (is_dismissing message) (is_any (answer_to s view (Msg message moment)).to_switch) (asked_of (message_read s message) message) asked is in
     record { message = message; moment = moment; is_message = refl; asks = parts.0; so_asked = parts.1 }
 issue_from s view (Fault x class code pair) asked is = absurd (error_issues_nothing (request_for s x (requests_after s view)) asked is)
 issue_from s view (Opened features) asked is = cc
@@ -203,9 +202,9 @@ asking_issues false true asked nothing asks = refl
 asking_issues false false asked nothing asks = absurd (true≢false (sym asks))
 
 pub issue_of : (s : Settings) (view : List Item) (message : List ℕ) (moment : ℕ) → is_request s view (Msg message moment) ≡ true
-    → requests_given s view (Msg message moment) ≡ Issue (asked_of (read_controller message) message) ∷ []
+    → requests_given s view (Msg message moment) ≡ Issue (asked_of (message_read s message) message) ∷ []
 issue_of s view message moment asks =
-    asking_issues (is_dismissing message) (is_any (answer_to s view (Msg message moment)).to_switch) (asked_of (read_controller message) message)
+    asking_issues (is_dismissing message) (is_any (answer_to s view (Msg message moment)).to_switch) (asked_of (message_read s message) message)
     (dismissing_asks_nothing s view message moment) asks
 
 -- ---- which item forgets
@@ -218,7 +217,7 @@ pub forget_from : (s : Settings) (view : List Item) (item : Item) → is_forgett
 forget_from s view Up is = refl
 forget_from s view Down is = refl
 forget_from s view (Msg message moment) is =
-    message_forgets (is_dismissing message) (is_any (answer_to s view (Msg message moment)).to_switch) (asked_of (read_controller message) message) is
+    message_forgets (is_dismissing message) (is_any (answer_to s view (Msg message moment)).to_switch) (asked_of (message_read s message) message) is
 forget_from s view (Fault x class code pair) is = absurd (true≢false (sym is))
 forget_from s view (Opened features) is = absurd (true≢false (sym is))
 forget_from s view (Lost k) is = absurd (true≢false (sym is))

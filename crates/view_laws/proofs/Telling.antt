@@ -3,13 +3,12 @@ use Rattle.std.proofs.Common.{◌≡◌, ℕ, ◌&&◌, Bool, true, false, if◌
 use Rattle.std.specs.List.{list_any}
 use Rattle.std.proofs.lemmas.Bool.{cases_Bool, and_parts, or_parts, eq-eqb, eqb-true}
 use Rattle.of10_model.specs.Normal.{is_value}
-use Rattle.of10_message.specs.Controller.{read_controller}
 use Rattle.xid_map.specs.declared.asked.AskKind.{AskKind}
 use Rattle.xid_map.specs.declared.asked.Issued.{Issued}
 use Rattle.xid_map.specs.Collections.{CollectionCall, is_among, collecting, gathered}
 use Rattle.stats_filter.specs.Asking.{type_sent}
 use Rattle.slice_words.specs.Messages.{is_dismissing, kind_asked}
-use Rattle.slice_words.specs.Items.{Settings, Item, Opened, Up, Down, Msg, Lost, Handed, Removed, Status, Fault, Barrier, Queues, Entry, Last, End, is_up, is_forgetting}
+use Rattle.slice_words.specs.Items.{Settings, message_read, Item, Opened, Up, Down, Msg, Lost, Handed, Removed, Status, Fault, Barrier, Queues, Entry, Last, End, is_up, is_forgetting}
 use Rattle.slice_words.specs.Pasts.{Answer, no_answer, told, is_any}
 use Rattle.slice_words.specs.Statistics.{collects, collected_replies, statistics_told}
 use Rattle.slice_words.specs.Answers.{message_answer}
@@ -83,7 +82,7 @@ gathered_for : (s : Settings) (view : List Item) (x kind : ℕ) (request : Issue
     → IsGatheredOf request.asked.kind (entries_for s request.number request.asked.kind view) (gathered_after s request.number view)
 gathered_for s view x kind request h =
     let c = IsCollecting-collects s view request.number h.1 in
-    let same : request.asked.kind ≡ kind_asked (read_controller c.message) =
+    let same : request.asked.kind ≡ kind_asked (message_read s c.message) =
     message_of_number s view x request h.0 c.later c.message c.moment c.earlier c.split c.asks.asks c.numbered in
     subst (λ (a : AskKind). IsGatheredOf a (entries_for s request.number a view) (gathered_after s request.number view)) (sym same) (collecting-gathered s view request.number c)
 

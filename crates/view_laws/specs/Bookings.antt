@@ -6,13 +6,12 @@ use Rattle.of10_flow.specs.declared.protocol.TheConstants.{ADD, MODIFY, MODIFY_S
 use Rattle.of10_flow.specs.declared.flow_mod.FlowMod.{FlowMod}
 use Rattle.of10_flow.specs.Tables.{has_flag}
 use Rattle.of10_message.specs.declared.controller.FromController.TheVariants as said
-use Rattle.of10_message.specs.Controller.{read_controller}
 use Rattle.flowmod_expand.specs.Pieces.{pieces_within}
 use Rattle.xid_map.specs.declared.asked.Issued.{Issued}
 use Rattle.xid_map.specs.Laws.{NoneOf}
 use Rattle.flow_book.specs.declared.booked.Booked.{Booked}
 use Rattle.flow_book.specs.Books.{is_booked, book, booking}
-use Rattle.slice_words.specs.Items.{Settings, Item, Msg, Removed, Fault}
+use Rattle.slice_words.specs.Items.{Settings, message_read, Item, Msg, Removed, Fault}
 use Rattle.slice_words.specs.Calls.{book_calls}
 use Rattle.slice_words.specs.Standing.{past_of}
 use Rattle.view_laws.specs.Requests.{is_request, next_number, IsRemembered}
@@ -44,7 +43,7 @@ CommandBooks s command piece priority view =
 
 -- a message after a view is this flow-mod, is sent on, and books the pair as one of its pieces
 pub record IsBookedBy (s : Settings) (pattern : Pattern) (priority : ℕ) (m : FlowMod) (message : List ℕ) (moment : ℕ) (view : List Item) : Type 0 where
-  pub read : read_controller message ≡ Ok (said.FlowMod m)
+  pub read : message_read s message ≡ Ok (said.FlowMod m)
   pub asks : is_request s view (Msg message moment) ≡ true
   pub at_priority : m.priority ≡ priority
   pub among : Contains (pieces_within s.patterns m.pattern) pattern

@@ -2,12 +2,11 @@
 use Rattle.std.specs.Prelude.{ℕ, ◌≡◌, ◌≤◌, ◌⊎◌, true, IsTrue, List, ◌∷◌, ◌++◌, length, Ok}
 use Rattle.of10_stats.specs.declared.request.StatsRequest.{StatsRequest}
 use Rattle.of10_message.specs.declared.controller.FromController.TheVariants as said
-use Rattle.of10_message.specs.Controller.{read_controller}
 use Rattle.xid_map.specs.declared.asked.Issued.{Issued}
 use Rattle.xid_map.specs.Collections.{is_among, collecting}
 use Rattle.xid_map.specs.Laws.{NoneOf}
 use Rattle.slice_words.specs.Messages.{is_dismissing}
-use Rattle.slice_words.specs.Items.{Settings, Item, Up, Down, Msg, Fault, Last}
+use Rattle.slice_words.specs.Items.{Settings, message_read, Item, Up, Down, Msg, Fault, Last}
 use Rattle.slice_words.specs.Pasts.{is_any}
 use Rattle.slice_words.specs.Alone.{answer_to}
 use Rattle.slice_words.specs.Calls.{collection_calls}
@@ -29,7 +28,7 @@ Collects s number view = IsTrue (is_among number (collecting_after s view))
 -- a message after a view is a request for statistics; those of tables are told at once, and are no requests
 pub record IsStatistics (s : Settings) (message : List ℕ) (moment : ℕ) (view : List Item) : Type 0 where
   pub request : StatsRequest
-  pub read : read_controller message ≡ Ok (said.StatsRequest request)
+  pub read : message_read s message ≡ Ok (said.StatsRequest request)
   pub asks : is_request s view (Msg message moment) ≡ true
 
 -- the request that is remembered for the low 24 bits of a transaction id has this number

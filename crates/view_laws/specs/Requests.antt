@@ -2,9 +2,8 @@
 use Rattle.std.specs.Prelude.{ℕ, ◌≡◌, ◌≤◌, ◌+◌, ◌%◌, ◌^◌, ◌==◌, ◌&&◌, ◌||◌, Bool, true, false, if◌then◌else◌, List, [], ◌∷◌, ◌++◌, length, Option}
 use Rattle.std.specs.List.{list_any}
 use Rattle.xid_map.specs.declared.asked.Issued.{Issued}
-use Rattle.of10_message.specs.Controller.{read_controller}
 use Rattle.slice_words.specs.Messages.{asked_of}
-use Rattle.slice_words.specs.Items.{Settings, Item, Msg, Fault, Barrier, Queues, Last, is_forgetting}
+use Rattle.slice_words.specs.Items.{Settings, message_read, Item, Msg, Fault, Barrier, Queues, Last, is_forgetting}
 use Rattle.slice_words.specs.Pasts.{Outgoing, Modifies, SendsOut, Asks, is_any}
 use Rattle.slice_words.specs.Alone.{answer_to}
 use Rattle.slice_words.specs.Calls.{request_calls, request_for}
@@ -71,6 +70,6 @@ pub record IsRemembered (s : Settings) (view : List Item) (x : ℕ) (request : I
   pub low : request.number % 2 ^ 24 ≡ x % 2 ^ 24
   pub not_forgotten : list_any is_forgetting later ≡ false
   pub recent : next_number s view ≤ request.number + 4096
-  pub asked : request.asked ≡ asked_of (read_controller message) message
+  pub asked : request.asked ≡ asked_of (message_read s message) message
   pub failed : request.failed ≡ list_any (is_fault_for x) later
   pub done : request.done ≡ is_replied s x later (Msg message moment ∷ earlier)

@@ -5,14 +5,13 @@ ghost use Rattle.std.specs.Prelude.{ℕ, ◌≡◌, ◌≤◌, ◌<◌, ◌+◌,
 ghost use Rattle.of10_model.specs.declared.pattern.Pattern.{Pattern};
 ghost use Rattle.of10_model.specs.Normal.{IsNormal};
 ghost use Rattle.of10_message.specs.Heads.{xid_of};
-ghost use Rattle.of10_message.specs.Controller.{read_controller};
 ghost use Rattle.rate_bucket.specs.Rates.{Conforms, accepted};
 ghost use Rattle.xid_map.specs.declared.asked.AskKind.{AskKind};
 ghost use Rattle.xid_map.specs.declared.asked.Issued.{Issued};
 ghost use Rattle.xid_map.specs.Requests.{issued};
 ghost use Rattle.flow_book.specs.declared.booked.Booked.{Booked};
 ghost use Rattle.slice_words.specs.Messages.{Reading, kind_asked, asked_of, quoted};
-ghost use Rattle.slice_words.specs.Items.{Settings, Item, Msg, Last, latest_moment};
+ghost use Rattle.slice_words.specs.Items.{Settings, message_read, Item, Msg, Last, latest_moment};
 ghost use Rattle.slice_words.specs.Pasts.{Inquiry};
 ghost use Rattle.slice_words.specs.Buffers.{HeldPacket};
 ghost use Rattle.slice_words.specs.Alone.{answer_to, spell_inquiry};
@@ -59,7 +58,7 @@ pub fn request_collects_until_an_item_ends_it()
 /// within 524,288 bytes. An entry comes for the request that is remembered for its transaction id, and so none
 /// comes for a request before that is made.
 pub fn request_gathers_what_comes_for_it()
-    ensures gathered { (s : Settings) (view : List Item) (number : ℕ) (made : IsCollectingIn s number view) → let asked = kind_asked (read_controller made.message) in IsGatheredOf asked (entries_for s number asked view) (gathered_after s number view) }
+    ensures gathered { (s : Settings) (view : List Item) (number : ℕ) (made : IsCollectingIn s number view) → let asked = kind_asked (message_read s made.message) in IsGatheredOf asked (entries_for s number asked view) (gathered_after s number view) }
     ensures comes { (s : Settings) (x number : ℕ) (view : List Item) → IsTrue (is_for s x number view) ↔ IsFor s x number view }
     ensures since { (s : Settings) (view : List Item) (number : ℕ) (asked : AskKind) → next_number s view ≤ number → entries_for s number asked view ≡ [] }
 {}

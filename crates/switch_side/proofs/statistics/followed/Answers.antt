@@ -10,11 +10,11 @@ use Rattle.switch_side.proofs.statistics.followed.Goals as goal
 
 pub returns : goal.returns
 returns c called stands =
-    let request = c.args.request.now in
+    let request = c.args.seen.now.request in
     let part = c.args.part.now in
     let collects = sym (c.collects.ensures.value called.collections stands) ∙ c.if-not-collects.false in
     let among = (and_parts (is_value part.kind (type_sent request.asked.kind)) (is_among request.number (collecting called.collections)) collects).1 in
     subst (λ turn. IfOk c.turning-2.result (λ d. carried d ≡ turning turn))
-    (ap (λ (messages : List (List ℕ)). let turn : Turn = record { slot = c.args.slot; messages = messages; change = Finished request.number } in Some turn) (c.in_ok-messages.ensures called.collections stands among)
-    ∙ last_turn c.args.policy.now.rules called c.args.slot part c.args.body.now request c.deref.result.now collects c.if-part.false (c.collects.ensures.sent c.if-not-collects.false) (c.deref.ensures.value ∙ c.in_ok-kept.ensures))
+    (ap (λ (messages : List (List ℕ)). let turn : Turn = record { slot = c.args.seen.now.slot; messages = messages; change = Finished request.number } in Some turn) (c.in_ok-messages.ensures called.collections stands among)
+    ∙ last_turn c.args.policy.now.rules called c.args.seen.now.slot part c.args.body.now request c.deref.result.now collects c.if-part.false (c.collects.ensures.sent c.if-not-collects.false) (c.deref.ensures.value ∙ c.in_ok-kept.ensures))
     c.turning-2.ensures

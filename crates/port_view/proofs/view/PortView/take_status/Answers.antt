@@ -1,5 +1,5 @@
 use Rattle.std.proofs.Common.{◌≡◌, ◌≢◌, sym, ap, ◌∙◌, inl, inr}
-use Rattle.port_view.specs.declared.kept.Kept.TheVariants.{Kept, Ignored, TooManyPorts}
+use Rattle.port_view.specs.declared.status_answers.Kept.TheVariants.{Kept, Ignored, TooManyPorts}
 use Rattle.port_view.specs.KnownPorts.{kept_of, changed}
 use Rattle.port_view.proofs.Knowing.{changed-kept, changed-not_kept, kept_of-parts, IsAscending-changed_plainly, few-changed_plainly, PortsStand-taken}
 use Rattle.port_view.proofs.view.PortView.take_status.Goals as goal

@@ -1,0 +1,5 @@
+pub mod Ranges
+pub mod FlowMods
+pub mod PacketOuts
+pub mod Inquiries
+pub mod Messages

@@ -1,0 +1,5 @@
+//! Facts of one message that a slice has sent to the switch, whatever came before it: of a flow-mod, of a packet-out,
+//! and of a question to which the switch replies. `laws` states what follows from the definitions.
+#![tactic(auto)]
+
+pub mod laws;
